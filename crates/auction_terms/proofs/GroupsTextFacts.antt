@@ -1,0 +1,83 @@
+-- What the loop over the names of a line keeps.
+use Rattle.std.proofs.Common.{Bor, Bool, true, false, suc, drop, length, slice_index_or, arith, ◌+◌, ◌++◌, ◌∙◌, ◌<◌, ◌≤◌, append_assoc, add-one, ◌≡◌, ◌∷◌, ◌||◌, ℕ, List, [], Option, Some, Err, map, sym, refl, ap}
+use Rattle.std.specs.Prelude.{not, if◌then◌else◌, All, AllPairs}
+use Rattle.std.proofs.lemmas.List.Elements.{All-cons}
+use Rattle.std.proofs.lemmas.List.Kept.{AllPairs-cons}
+use Rattle.auction_terms.specs.Groups.{IsGroup}
+use Rattle.std.proofs.Math.Seq.{drop-cons}
+use Rattle.std.specs.List.{list_any}
+use Rattle.std.specs.Str.{bytes_eq}
+use Rattle.auction_terms.specs.FirstFault.{first_failed}
+use Rattle.auction_terms.specs.GroupsText.{Answers, Tells, TellsFault, fault_or, name_fault, numbers_from}
+use Rattle.auction_terms.specs.declared.rules.Bidder.{Bidder}
+use Rattle.auction_terms.specs.declared.groups_text.GroupFault.{GroupFault}
+use Rattle.auction_terms.specs.declared.groups_text.GroupFault.TheVariants as fault
+
+list_any-map : {X Y : Type 0} (f : X → Y) (p : Y → Bool) (xs : List X) → list_any p (map f xs) ≡ list_any (λ x. p (f x)) xs
+list_any-map f p [] = refl
+list_any-map f p (x ∷ xs) = ap (λ b. p (f x) || b) (list_any-map f p xs)
+
+-- the fault of a name, by references to the names before it
+pub name_fault-is : (bidders : List Bidder) (place : ℕ) (names : List (Bor (List ℕ))) (name : List ℕ)
+    → name_fault bidders place (map (λ other. other.now) names) name
+    ≡ first_failed ((list_any (λ bidder. bytes_eq bidder.name name) bidders, fault.UnknownBidder place)
+    ∷ (not (list_any (λ other. bytes_eq other.now name) names), fault.RepeatedBidder place) ∷ [])
+name_fault-is bidders place names name = rw (list_any-map (λ (other : Bor (List ℕ)). other.now) (λ other. bytes_eq other name) names) refl
+
+pub answers-fault : {T : Type 0} (U : Type 0) (f : GroupFault) (found outer : Option GroupFault) (x : T) (value : U) → ((g : GroupFault) → found ≡ Some g → outer ≡ Some g)
+    → Tells {T = T} (Err f) found x → Answers {T = U} (Err f) (fault_or outer value)
+answers-fault U fault.OutOfMemory found outer x value same h = tt
+answers-fault U f found outer x value same h = rw (same f h) refl
+
+pub tells-fault : {T : Type 0} (U : Type 0) (f : GroupFault) (found outer : Option GroupFault) (x : T) → ((g : GroupFault) → found ≡ Some g → outer ≡ Some g)
+    → Tells {T = T} (Err f) found x → TellsFault {T = U} (Err f) outer
+tells-fault U fault.OutOfMemory found outer x same h = tt
+tells-fault U f found outer x same h = same f h
+
+-- references to names, and the names
+pub any_name-is : (name : List ℕ) (names : List (Bor (List ℕ))) → list_any (λ other. bytes_eq other name) (map (λ other. other.now) names) ≡ list_any (λ other. bytes_eq other.now name) names
+any_name-is name names = list_any-map (λ (other : Bor (List ℕ)). other.now) (λ other. bytes_eq other name) names
+
+-- the numbers found so far, and those still to find, at the next bidder
+pub numbers-more : (items : List ℕ) (place : ℕ) (bidders : List Bidder) (names : List (List ℕ)) (all : List ℕ) (bidder : Bidder) (found : Bool)
+    → place < length bidders → bidder ≡ slice_index_or bidders place bidder → list_any (λ name. bytes_eq name bidder.name) names ≡ found
+    → items ++ numbers_from (place + 1) (drop place bidders) names ≡ all
+    → (if found then items ++ (place + 1) ∷ [] else items) ++ numbers_from (place + 1 + 1) (drop (place + 1) bidders) names ≡ all
+numbers-more items place bidders names all bidder found small at test so_far =
+    let next : drop place bidders ≡ bidder ∷ drop (place + 1) bidders = rw (add-one place) (drop-cons bidders place bidder small ∙ ap (λ b. b ∷ drop (suc place) bidders) (sym at)) in
+    let told = rw (next, test) at so_far in
+    by found told
+  where
+    by : (b : Bool) → items ++ (if b then (place + 1) ∷ numbers_from (place + 1 + 1) (drop (place + 1) bidders) names else numbers_from (place + 1 + 1) (drop (place + 1) bidders) names) ≡ all
+        → (if b then items ++ (place + 1) ∷ [] else items) ++ numbers_from (place + 1 + 1) (drop (place + 1) bidders) names ≡ all
+    by true e = append_assoc items ((place + 1) ∷ []) _ ∙ e
+    by false e = e
+
+-- numbers from n on, below a bound
+numbers-within : (n : ℕ) (bidders : List Bidder) (names : List (List ℕ)) → All (λ x. (n ≤ x) × (x < n + length bidders)) (numbers_from n bidders names)
+numbers-within n [] names = λ k d small. absurd (omega arith)
+numbers-within n (bidder ∷ more) names = by (list_any (λ name. bytes_eq name bidder.name) names) (λ k d small. (let h = numbers-within (n + 1) more names k d small in (omega arith, omega arith)))
+  where
+    by : (b : Bool) → All (λ x. (n ≤ x) × (x < n + length (bidder ∷ more))) (numbers_from (n + 1) more names)
+        → All (λ x. (n ≤ x) × (x < n + length (bidder ∷ more))) (if b then n ∷ numbers_from (n + 1) more names else numbers_from (n + 1) more names)
+    by true h = All-cons (λ x. (n ≤ x) × (x < n + length (bidder ∷ more))) n (numbers_from (n + 1) more names) (omega arith, omega arith) h
+    by false h = h
+
+numbers-rise : (n : ℕ) (bidders : List Bidder) (names : List (List ℕ)) → AllPairs (λ a b. a < b) (numbers_from n bidders names)
+numbers-rise n [] names = λ i j d less small. absurd (omega arith)
+numbers-rise n (bidder ∷ more) names = by (list_any (λ name. bytes_eq name bidder.name) names) (numbers-rise (n + 1) more names)
+  where
+    above : All (λ x. n < x) (numbers_from (n + 1) more names)
+    above k d small = let h = numbers-within (n + 1) more names k d small in omega arith
+
+    by : (b : Bool) → AllPairs (λ a b. a < b) (numbers_from (n + 1) more names)
+        → AllPairs (λ a b. a < b) (if b then n ∷ numbers_from (n + 1) more names else numbers_from (n + 1) more names)
+    by true h = AllPairs-cons (λ a b. a < b) n (numbers_from (n + 1) more names) above h
+    by false h = h
+
+-- the numbers of named bidders are a group
+pub numbers-IsGroup : (bidders : List Bidder) (names : List (List ℕ)) → length bidders ≤ 256 → IsGroup (numbers_from 1 bidders names)
+numbers-IsGroup bidders names few = record {
+  each = λ k d small. (let h = numbers-within 1 bidders names k d small in record { some = h.0; few = omega arith });
+  rising = numbers-rise 1 bidders names;
+}

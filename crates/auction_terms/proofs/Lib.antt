@@ -1,0 +1,11 @@
+pub mod FirstFaultFacts
+pub mod RecordFacts
+pub mod TermsFacts
+pub mod RulesTextFacts
+pub mod LineFacts
+pub mod GroupsTextFacts
+pub mod PackageLaws
+pub mod AllocationLaws
+pub mod OfferLaws
+pub mod LimitLaws
+pub mod Examples

@@ -1,0 +1,109 @@
+-- Laws of the order of packages: domination leads to a kept bid.
+use Rattle.std.proofs.Common.{◌≡◌, ℕ, zero, suc, ◌<◌, ◌≤◌, Bool, true, false, List, [], ◌∷◌, Some, slice_get, slice_index, refl, arith, leb-true, leb-false, le-leb, lt-ltb, not, nat_lt, ◌&&◌, ◌||◌, ap₂, ⊎_elim, le_refl}
+use Rattle.std.specs.List.{list_any}
+use Rattle.std.proofs.lemmas.Bool.{and_parts, and_right, and_from, and_cases, or_cases, cases_Bool, not-true, not_from_false, both_ways}
+use Rattle.auction_terms.specs.declared.bids.Bid.{Bid}
+use Rattle.auction_terms.specs.Packages.{Lots, fits, size, is_smaller, is_within}
+use Rattle.auction_terms.specs.Domination.{SmallerSizesSuffice, is_no_cheaper, dominates}
+use Rattle.auction_terms.specs.Allocations.{bid_at}
+use Rattle.auction_terms.specs.Keeping.{KeptInstead, KeepsTheBest}
+
+pub within_refl : (p : List ℕ) → is_within p p ≡ true
+within_refl [] = refl
+within_refl (x ∷ p) = and_from _ _ (le-leb x x (le_refl x)) (within_refl p)
+
+pub within_trans : (p q r : List ℕ) → is_within p q ≡ true → is_within q r ≡ true → is_within p r ≡ true
+within_trans [] q r h k = refl
+within_trans (x ∷ p) [] [] h k = h
+within_trans (x ∷ p) [] (z ∷ r) h k =
+    let e = and_parts _ _ h in
+    let a = leb-true x 0 e.0 in
+    and_from _ _ (le-leb x z (omega arith)) (within_trans p [] r e.1 refl)
+within_trans (x ∷ p) (y ∷ q) [] h k =
+    let e = and_parts _ _ h in let f = and_parts _ _ k in
+    let a = leb-true x y e.0 in let b = leb-true y 0 f.0 in
+    and_from _ _ (le-leb x 0 (omega arith)) (within_trans p q [] e.1 f.1)
+within_trans (x ∷ p) (y ∷ q) (z ∷ r) h k =
+    let e = and_parts _ _ h in let f = and_parts _ _ k in
+    let a = leb-true x y e.0 in let b = leb-true y z f.0 in
+    and_from _ _ (le-leb x z (omega arith)) (within_trans p q r e.1 f.1)
+
+-- in each category
+pub within_at : (p q : List ℕ) (c : ℕ) → is_within p q ≡ true → slice_index p c ≤ slice_index q c
+within_at [] q c h = omega arith
+within_at (x ∷ p) [] zero h = leb-true x 0 (and_parts _ _ h).0
+within_at (x ∷ p) [] (suc c) h = within_at p [] c (and_parts _ _ h).1
+within_at (x ∷ p) (y ∷ q) zero h = leb-true x y (and_parts _ _ h).0
+within_at (x ∷ p) (y ∷ q) (suc c) h = within_at p q c (and_parts _ _ h).1
+
+-- a smaller package has a smaller size
+size_le : (p q : List ℕ) → is_within p q ≡ true → size p ≤ size q
+size_le [] q h = omega arith
+size_le (x ∷ p) [] h = let e = and_parts _ _ h in let a = leb-true x 0 e.0 in let b = size_le p [] e.1 in omega arith
+size_le (x ∷ p) (y ∷ q) h = let e = and_parts _ _ h in let a = leb-true x y e.0 in let b = size_le p q e.1 in omega arith
+
+size_lt : (p q : List ℕ) → is_within p q ≡ true → is_within q p ≡ false → size p < size q
+size_lt [] [] h k = absurd (both_ways true k refl)
+size_lt [] (y ∷ q) h k = ⊎_elim
+    (λ l. let a = leb-false y 0 l in omega arith)
+    (λ r. let b = size_lt [] q refl r in omega arith)
+    (and_cases _ _ k)
+size_lt (x ∷ p) [] h k = absurd (both_ways true k refl)
+size_lt (x ∷ p) (y ∷ q) h k =
+    let e = and_parts _ _ h in let a = leb-true x y e.0 in let b = size_le p q e.1 in
+    ⊎_elim
+    (λ l. let c = leb-false y x l in omega arith)
+    (λ r. let c = size_lt p q e.1 r in omega arith)
+    (and_cases _ _ k)
+
+-- an element that passes the test, and where it stands
+found : {X : Type 0} (p : X → Bool) (xs : List X) → list_any p xs ≡ true → (k : ℕ) × (y : X) × (slice_get xs k ≡ Some y) × (p y ≡ true)
+found p [] h = absurd (both_ways false refl h)
+found p (x ∷ xs) h = ⊎_elim
+    (λ l. (0, x, refl, l))
+    (λ r. let w = found p xs r in (suc w.0, w.1, w.2, w.3))
+    (or_cases _ _ h)
+
+-- by falling size of the package
+keeper : (lots : Lots) (form : List Bid) (n : ℕ) (j : ℕ) (x : Bid) → size x.package < n → bid_at form j ≡ Some x → fits lots x.package ≡ true → KeptInstead lots form x
+keeper lots form zero j x less at fit = absurd (omega arith)
+keeper lots form (suc n) j x less at fit = ⊎_elim
+    (λ some.
+    let w = found (λ y. dominates lots y x) form some in
+    let d = and_parts _ _ w.3 in
+    let s = and_parts _ _ d.0 in
+    let shrinks = size_lt w.1.package x.package s.0 (not-true _ s.1) in
+    let k = keeper lots form n (suc w.0) w.1 (omega arith) w.2 (within_trans w.1.package x.package lots.supply s.0 fit) in
+    let a = leb-true x.amount w.1.amount d.1 in
+    let b = leb-true w.1.amount k.bid.amount k.no_cheaper in
+    record {
+      number = k.number;
+      bid = k.bid;
+      stands = k.stands;
+      kept = k.kept;
+      smaller = within_trans k.bid.package w.1.package x.package k.smaller s.0;
+      no_cheaper = le-leb x.amount k.bid.amount (omega arith);
+    })
+    (λ none. record {
+      number = j;
+      bid = x;
+      stands = at;
+      kept = and_from _ _ fit (not_from_false _ none);
+      smaller = within_refl x.package;
+      no_cheaper = le-leb x.amount x.amount (le_refl x.amount);
+    })
+    (cases_Bool (list_any (λ y. dominates lots y x) form))
+
+pub keeps_the_best : KeepsTheBest
+keeps_the_best lots form j x at fit = keeper lots form (suc (size x.package)) j x (omega arith) at fit
+
+smaller_size : (lots : Lots) (x y : Bid) (b : Bool) → dominates lots y x ≡ b → (nat_lt (size y.package) (size x.package) && dominates lots y x) ≡ b
+smaller_size lots x y true d =
+    let e = and_parts (is_smaller y.package x.package) (is_no_cheaper lots y x) d in
+    let s = and_parts (is_within y.package x.package) (not (is_within x.package y.package)) e.0 in
+    and_from _ _ (lt-ltb (size y.package) (size x.package) (size_lt y.package x.package s.0 (not-true (is_within x.package y.package) s.1))) d
+smaller_size lots x y false d = and_right (nat_lt (size y.package) (size x.package)) (dominates lots y x) d
+
+pub smaller_sizes_suffice : SmallerSizesSuffice
+smaller_sizes_suffice lots [] x = refl
+smaller_sizes_suffice lots (y ∷ form) x = ap₂ (λ (a b : Bool). a || b) (smaller_size lots x y (dominates lots y x) refl) (smaller_sizes_suffice lots form x)

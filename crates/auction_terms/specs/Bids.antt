@@ -1,0 +1,23 @@
+-- Bids with their numbers, and lists of kept bids.
+use Rattle.std.specs.Prelude.{◌≡◌, ◌≤◌, ◌<◌, ◌⊎◌, ◌^◌, List, All, AllPairs}
+use Rattle.auction_terms.specs.Packages.{IsPackage}
+use Rattle.auction_terms.specs.declared.bids.KeptBid.{KeptBid}
+
+-- a bid with its numbers, within the limits
+pub record IsKeptBid (kept : KeptBid) : Type 0 where
+  pub some_bidder : 1 ≤ kept.bidder
+  pub bidders : kept.bidder ≤ 256
+  pub some_bid : 1 ≤ kept.bid
+  pub bids : kept.bid ≤ 4000
+  pub quantities : IsPackage kept.offer.now.package
+  pub some_amount : 1 ≤ kept.offer.now.amount
+  pub amounts : kept.offer.now.amount ≤ 10 ^ 12
+
+-- an earlier bidder, or the same with an earlier bid
+abbrev pub Precedes : KeptBid → KeptBid → Type 0
+Precedes a b = (a.bidder < b.bidder) ⊎ ((a.bidder ≡ b.bidder) × (a.bid < b.bid))
+
+-- kept bids in rising order of bidder, then bid
+pub record AreKept (bids : List KeptBid) : Type 0 where
+  pub each : All IsKeptBid bids
+  pub rising : AllPairs Precedes bids

@@ -1,0 +1,63 @@
+-- What presolve keeps of a book, and what stands in for a bid that it drops.
+use Rattle.std.specs.Prelude.{◌≡◌, ℕ, ◌+◌, ◌≤◌, Bool, true, false, not, ◌&&◌, List, [], ◌∷◌, ◌++◌, Some, filter, All}
+use Rattle.std.specs.Option.{option_map_or}
+use Rattle.auction_terms.specs.declared.bids.Bid.{Bid}
+use Rattle.auction_terms.specs.declared.choices.Choice.{Choice}
+use Rattle.auction_terms.specs.Packages.{Lots, is_within, fits}
+use Rattle.auction_terms.specs.Domination.{is_no_cheaper, is_kept}
+use Rattle.auction_terms.specs.Allocations.{Book, form_of, bid_at, bid_of, total, IsFeasible, IsSized}
+
+-- a kept bid of the form, with a package at most that of x, which isn't worth less than x
+pub record KeptInstead (lots : Lots) (form : List Bid) (x : Bid) : Type 0 where
+  pub number : ℕ
+  pub bid : Bid
+  pub stands : bid_at form number ≡ Some bid
+  pub kept : is_kept lots form bid ≡ true
+  pub smaller : is_within bid.package x.package ≡ true
+  pub no_cheaper : is_no_cheaper lots bid x ≡ true
+
+-- every bid that fits is kept, or a kept bid of its form is at least as good
+abbrev pub KeepsTheBest : Type 0
+KeepsTheBest = (lots : Lots) (form : List Bid) (j : ℕ) (x : Bid) → bid_at form j ≡ Some x → fits lots x.package ≡ true → KeptInstead lots form x
+
+-- a bid of the book, with its bidder and its number in the bidder's form
+pub record Offer : Type 0 where
+  pub bidder : ℕ
+  pub number : ℕ
+  pub bid : Bid
+
+abbrev pub choice_of : Offer → Choice
+choice_of o = record { bidder = o.bidder; bid = o.number }
+
+-- the bids of bidder b, numbered from j on
+abbrev pub offers_of_form : ℕ → ℕ → List Bid → List Offer
+offers_of_form b j [] = []
+offers_of_form b j (x ∷ form) = record { bidder = b; number = j; bid = x } ∷ offers_of_form b (j + 1) form
+
+-- the bids of these bidders, numbered from b on
+abbrev pub offers_from : ℕ → Book → List Offer
+offers_from b [] = []
+offers_from b (form ∷ book) = offers_of_form b 1 form ++ offers_from (b + 1) book
+
+-- a bid of a bidder outside the group that fits and is dominated by no bid of its form
+abbrev pub is_kept_offer : Lots → Book → (ℕ → Bool) → Offer → Bool
+is_kept_offer lots book group o = not (group o.bidder) && is_kept lots (form_of book o.bidder) o.bid
+
+-- the kept bids, by rising bidder, then bid
+abbrev pub kept_of : Lots → Book → (ℕ → Bool) → List Offer
+kept_of lots book group = filter (is_kept_offer lots book group) (offers_from 1 book)
+
+-- the choice is of a kept bid
+abbrev pub is_kept_choice : Lots → Book → (ℕ → Bool) → Choice → Bool
+is_kept_choice lots book group c = not (group c.bidder) && option_map_or (λ x. is_kept lots (form_of book c.bidder) x) (bid_of book c) false
+
+-- an allocation of kept bids that is feasible and whose total isn't lower
+pub record KeptAllocation (lots : Lots) (book : Book) (group : ℕ → Bool) (a : List Choice) : Type 0 where
+  pub choices : List Choice
+  pub feasible : IsFeasible lots book group choices
+  pub kept : All (λ c. is_kept_choice lots book group c ≡ true) choices
+  pub no_cheaper : total lots book a ≤ total lots book choices
+
+-- every feasible allocation is matched by one of kept bids
+abbrev pub KeptAreEnough : Type 0
+KeptAreEnough = (lots : Lots) (book : Book) (group : ℕ → Bool) (a : List Choice) → IsSized lots book → IsFeasible lots book group a → KeptAllocation lots book group a

@@ -1,0 +1,17 @@
+pub mod FirstFault
+pub mod Records
+pub mod Names
+pub mod Numbers
+pub mod Terms
+pub mod RulesText
+pub mod Lines
+pub mod Packages
+pub mod Domination
+pub mod Allocations
+pub mod Keeping
+pub mod Limits
+pub mod Offers
+pub mod Bids
+pub mod Groups
+pub mod GroupNames
+pub mod GroupsText

@@ -1,0 +1,156 @@
+//! The text of the bidder groups.
+
+ghost use Rattle.std.specs.Prelude.{◌≡◌, ◌≤◌, ◌<◌, Err, [], ◌∷◌, IfOk, OnOk, length, map, not};
+ghost use Rattle.std.specs.List.{list_any};
+ghost use Rattle.std.specs.Str.{bytes_eq};
+ghost use Rattle.auction_terms.specs.FirstFault.{first_failed, first_fault};
+ghost use Rattle.auction_terms.specs.GroupsText.{Answers, Tells, TellsFault, fault_of_line, group_of, groups_of, line_fault, name_fault, numbers_from};
+ghost use Rattle.auction_terms.specs.GroupNames.{names_in};
+ghost use Rattle.auction_terms.specs.Groups.{IsGroup};
+ghost use Rattle.auction_terms.specs.Lines.{lines_of};
+ghost use Rattle.auction_terms.specs.declared.groups_text.GroupFault.TheVariants as fault;
+
+use crate::group_list::Groups;
+use crate::group_names::NameReader;
+use crate::groups::Group;
+use crate::lines::LineReader;
+use crate::rules::{Bidder, Rules};
+use crate::rules_text::TEXT_LIMIT;
+use std::alloc::{AllocError, Global};
+use thiserror::Error;
+
+/// Why a text is no list of groups. A place is the number of a line, from 1.
+#[derive(Clone, Copy, Debug, PartialEq, Eq, Error)]
+pub enum GroupFault {
+    #[error("the text has more than 4 MiB")]
+    TooLarge,
+    #[error("line {place} is empty")]
+    EmptyLine { place: u32 },
+    #[error("line {place} names an unknown bidder")]
+    UnknownBidder { place: u32 },
+    #[error("line {place} names a bidder twice")]
+    RepeatedBidder { place: u32 },
+    #[error("line {place} is one group too many")]
+    TooManyGroups { place: u32 },
+    #[error("out of memory")]
+    OutOfMemory,
+}
+
+impl From<AllocError> for GroupFault {
+    ghost from_gives = { λ _ e. e ≡ fault.OutOfMemory };
+
+    fn from(_: AllocError) -> GroupFault {
+        GroupFault::OutOfMemory
+    }
+}
+
+fn is_known(bidders: &[Bidder], name: &[u8]) -> bool
+    ensures { result ≡ list_any (λ bidder. bytes_eq bidder.name name.now) bidders.now }
+{
+    bidders.iter().any(|bidder| bidder.name.as_bytes() == name)
+}
+
+fn is_among(names: &[&[u8]], name: &[u8]) -> bool
+    ensures { result ≡ list_any (λ other. bytes_eq other.now name.now) names.now }
+{
+    names.iter().any(|other| *other == name)
+}
+
+// Refuses a name that no bidder has, and one that stood before.
+fn check_name(
+    place: u32,
+    bidders: &[Bidder],
+    before: &[&[u8]],
+    name: &[u8],
+) -> Result<(), GroupFault>
+    ensures { Tells result (first_failed ((list_any (λ bidder. bytes_eq bidder.name name.now) bidders.now, fault.UnknownBidder place) ∷ (not (list_any (λ other. bytes_eq other.now name.now) before.now), fault.RepeatedBidder place) ∷ [])) tt }
+{
+    if !is_known(bidders, name) {
+        return Err(GroupFault::UnknownBidder { place });
+    }
+    if is_among(before, name) {
+        return Err(GroupFault::RepeatedBidder { place });
+    }
+    Ok(())
+}
+
+// The names of a line.
+fn read_names<'a>(
+    alloc: Global,
+    place: u32,
+    bidders: &[Bidder],
+    line: &'a [u8],
+) -> Result<Vec<&'a [u8]>, GroupFault>
+    ensures answer { TellsFault result (first_fault (name_fault bidders.now place) [] (names_in line.now)) }
+    ensures names { IfOk result (λ names. map (λ name. name.now) names.items ≡ names_in line.now) }
+{
+    let mut names = Vec::new(alloc);
+    let mut reader = NameReader::new(line);
+    while let Some(name) = reader.next() {
+        check_name(place, bidders, &names, name)?;
+        if names.push(name).is_err() {
+            return Err(GroupFault::OutOfMemory);
+        }
+    }
+    Ok(names)
+}
+
+// The numbers of the bidders that the names name.
+fn numbers_of(alloc: Global, bidders: &[Bidder], names: &[&[u8]]) -> Result<Vec<u16>, AllocError>
+    requires { length bidders.now ≤ 256 }
+    ensures numbers { IfOk result (λ numbers. numbers.items ≡ numbers_from 1 bidders.now (map (λ name. name.now) names.now)) }
+    ensures group { IfOk result (λ numbers. IsGroup numbers.items) }
+{
+    let mut numbers = Vec::new(alloc);
+    for place in 0..bidders.len() {
+        if is_among(names, bidders[place].name.as_bytes()) {
+            numbers.push(place as u16 + 1)?;
+        }
+    }
+    Ok(numbers)
+}
+
+// The group of a line.
+fn read_group(
+    alloc: Global,
+    place: u32,
+    bidders: &[Bidder],
+    line: &[u8],
+) -> Result<Group, GroupFault>
+    requires { length bidders.now ≤ 256 }
+    ensures answer { Tells result (fault_of_line bidders.now place line.now) (group_of bidders.now line.now) }
+    ensures room { OnOk result (place ≤ 1024) }
+    ensures group { IfOk result IsGroup }
+{
+    if line.is_empty() {
+        return Err(GroupFault::EmptyLine { place });
+    }
+    let names = read_names(alloc, place, bidders, line)?;
+    if place > 1024 {
+        return Err(GroupFault::TooManyGroups { place });
+    }
+    let numbers = numbers_of(alloc, bidders, &names)?;
+    Ok(Group::new(numbers))
+}
+
+/// Reads bidder groups, under rules.
+pub fn read_groups(alloc: Global, bytes: &[u8], rules: &Rules) -> Result<Groups, GroupFault>
+    ensures too_large { 4194304 < length bytes.now → result ≡ Err fault.TooLarge }
+    ensures answer { length bytes.now ≤ 4194304 → Answers result (groups_of rules.now.bidders bytes.now) }
+{
+    if bytes.len() > TEXT_LIMIT {
+        return Err(GroupFault::TooLarge);
+    }
+    let bidders = rules.bidders();
+    let mut groups = Vec::new(alloc);
+    let mut lines = LineReader::new(bytes);
+    let mut count = 0u32;
+    while let Some(line) = lines.next() {
+        let group = read_group(alloc, count + 1, bidders, line)?;
+        if groups.push(group).is_err() {
+            return Err(GroupFault::OutOfMemory);
+        }
+        count += 1;
+    }
+    Ok(Groups::new(groups))
+}

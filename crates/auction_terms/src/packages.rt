@@ -1,0 +1,114 @@
+//! Packages of lots.
+
+use crate::rules::{Category, Rules};
+use std::marker::Model;
+
+/// A quantity per category. Contracts see the list of them.
+#[derive(Drop)]
+pub struct Package {
+    quantities: Vec<u32>,
+}
+
+impl Model for Package {
+    ghost use Rattle.std.specs.Prelude.{List, ℕ};
+    ghost use Rattle.auction_terms.specs.Packages.{IsPackage};
+
+    ghost Value = { List ℕ };
+
+    ghost view = { λ p. p.quantities.items };
+
+    ghost invariant = { λ p. IsPackage p.quantities.items };
+}
+
+impl Package {
+    ghost use Rattle.std.specs.Prelude.{◌≡◌, ◌≤◌, ◌-◌, length, slice_index};
+    ghost use Rattle.auction_terms.specs.Packages.{IsPackage, fits, is_within, size};
+    ghost use Rattle.auction_terms.specs.Terms.{lots_in};
+
+    /// A package of these quantities: 1 to 32 of them, each 0 to 10,000.
+    pub fn new(quantities: Vec<u32>) -> Package
+        requires { IsPackage quantities.items }
+        ensures { result ≡ quantities.items }
+    {
+        Package { quantities }
+    }
+
+    /// The quantities, in the order of the categories.
+    pub fn quantities(&self) -> &[u32]
+        ensures quantities { result.now ≡ self.now }
+        ensures package { IsPackage self.now }
+    {
+        self.quantities.as_slice()
+    }
+
+    /// The quantity of a category, counted from 1.
+    pub fn quantity(&self, category: usize) -> u32
+        requires some { 1 ≤ category }
+        requires within { category ≤ length self.now }
+        ensures { result ≡ slice_index self.now (category - 1) }
+    {
+        self.quantities[category - 1]
+    }
+
+    /// How many lots it has.
+    pub fn size(&self) -> u32
+        ensures { result ≡ size self.now }
+    {
+        sum_of(&self.quantities)
+    }
+
+    /// Whether no category is above its supply.
+    pub fn fits(&self, rules: &Rules) -> bool
+        requires { length self.now ≡ length rules.now.categories }
+        ensures { result ≡ fits (lots_in rules.now) self.now }
+    {
+        within_supply(&self.quantities, rules.categories())
+    }
+
+    /// Whether another package is at most this one in every category.
+    pub fn covers(&self, other: &Package) -> bool
+        requires { length self.now ≡ length other.now }
+        ensures { result ≡ is_within other.now self.now }
+    {
+        all_within(&other.quantities, &self.quantities)
+    }
+}
+
+ghost use Rattle.std.specs.Prelude.{◌≡◌, length, map};
+ghost use Rattle.auction_terms.specs.Packages.{IsPackage, is_within, size};
+
+fn sum_of(quantities: &[u32]) -> u32
+    requires { IsPackage quantities.now }
+    ensures { result ≡ size quantities.now }
+{
+    let mut total = 0;
+    for quantity in quantities {
+        total += *quantity;
+    }
+    total
+}
+
+// Whether each quantity is at most the other.
+fn all_within(smaller: &[u32], greater: &[u32]) -> bool
+    requires { length smaller.now ≡ length greater.now }
+    ensures { result ≡ is_within smaller.now greater.now }
+{
+    for place in 0..smaller.len() {
+        if smaller[place] > greater[place] {
+            return false;
+        }
+    }
+    true
+}
+
+fn within_supply(quantities: &[u32], categories: &[Category]) -> bool
+    requires { length quantities.now ≡ length categories.now }
+    ensures { result ≡ is_within quantities.now (map (λ category. category.supply) categories.now) }
+{
+    for place in 0..quantities.len() {
+        if quantities[place] > categories[place].supply {
+            return false;
+        }
+    }
+    true
+}
