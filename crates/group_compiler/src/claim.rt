@@ -1,0 +1,13 @@
+//! A worker's right to draw group numbers.
+
+ghost use Rattle.std.specs.Prelude.{◌≡◌, []};
+
+use crate::steps::View;
+use atomic_table::Seat;
+
+/// A right to draw, with the numbers that it has drawn, which contracts alone see. It has no bytes.
+#[derive(Drop)]
+pub struct Claim {
+    pub(crate) seat: Seat<u8, View>,
+    ghost bare: { seat.me.1 ≡ [] },
+}

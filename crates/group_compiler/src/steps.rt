@@ -1,0 +1,51 @@
+//! What a claim knows, the rule that ties all claims to the counter, and the kinds of step.
+
+ghost use Rattle.std.specs.Prelude.{[]};
+
+use atomic_table::{Join, Play, Split, TableRule};
+use std::collections::LinkedList;
+
+// The numbers that a claim has drawn, and how many draws it may still make. No value of it is made.
+pub struct View {
+    pub drawn: LinkedList<u64>,
+    pub room: u64,
+}
+
+// The rule of the counter.
+pub struct Counted;
+
+impl TableRule<u8, View, ()> for Counted {
+    ghost use Rattle.group_compiler.specs.Claims.{IsCounted, view};
+
+    ghost holds = { λ _. IsCounted };
+
+    ghost first = { λ _. view [] 65600 };
+}
+
+// A draw appends the number found.
+pub struct Draws;
+
+impl Play<u8, View> for Draws {
+    ghost use Rattle.group_compiler.specs.Claims.{IsDrawn};
+
+    ghost then = { λ _ before found after. IsDrawn before found after };
+}
+
+// A cut gives 1,025 draws away, and a join takes the other's list and draws.
+pub struct Cut;
+
+impl Split<View> for Cut {
+    ghost use Rattle.group_compiler.specs.Claims.{left_of, right_of};
+
+    ghost left = { left_of };
+
+    ghost right = { right_of };
+}
+
+impl Join<View> for Cut {
+    ghost use Rattle.group_compiler.specs.Claims.{joined, view};
+
+    ghost both = { joined };
+
+    ghost spent = { view [] 0 };
+}
