@@ -1,0 +1,122 @@
+-- The fields of a record, one after the other.
+use Rattle.std.proofs.Common.{◌≡◌, ◌<◌, ◌+◌, ◌-◌, ◌∷◌, ◌++◌, ◌∙◌, Bool, true, false, ℕ, zero, suc, List, [], Option, Some, None, add-one, drop, length, map, slice_index_or, refl, sym, ap, arith, ◌&&◌}
+use Rattle.std.specs.Prelude.{All, ◌≤◌, not, nat_le, unwrap_or, if◌then◌else◌}
+use Rattle.std.specs.List.{list_all}
+use Rattle.std.proofs.lemmas.Bool.{le-leb}
+use Rattle.std.proofs.lemmas.List.Elements.{All-push}
+use Rattle.std.proofs.Common.{append_assoc}
+use Rattle.auction_terms.specs.Numbers.{decimal_value, is_number_text, number_of}
+use Rattle.bid_forms.specs.Offers.{are_quantities}
+use Rattle.bid_forms.specs.FormText.{quantities_in}
+use Rattle.std.specs.Str.{bytes_eq}
+use Rattle.std.specs.Cmp.Lexicographic.{pointwise}
+use Rattle.std.proofs.Math.Seq.{drop-cons}
+use Rattle.csv.specs.Records.{field_at}
+use Rattle.auction_terms.specs.RulesText.{field}
+use Rattle.auction_terms.specs.Records.{Record}
+use Rattle.auction_terms.specs.declared.rules.Category.{Category}
+
+-- lists of different length differ
+pub differ-lengths : (xs ys : List (List ℕ)) → (length xs ≡ length ys → ⊥) → pointwise bytes_eq xs ys ≡ false
+differ-lengths [] [] differ = absurd (differ refl)
+differ-lengths [] (y ∷ ys) differ = refl
+differ-lengths (x ∷ xs) [] differ = refl
+differ-lengths (x ∷ xs) (y ∷ ys) differ = by (bytes_eq x y) (differ-lengths xs ys (λ e. differ (ap suc e)))
+  where
+    by : (b : Bool) → pointwise bytes_eq xs ys ≡ false → (b && pointwise bytes_eq xs ys) ≡ false
+    by true h = h
+    by false h = refl
+
+fields-from : (r : Record) (i : ℕ) → i < length r → drop i r ≡ unwrap_or (field_at r i) [] ∷ drop (suc i) r
+unfolding field_at
+fields-from [] i small = absurd (omega arith)
+fields-from (f ∷ r) zero small = refl
+fields-from (f ∷ r) (suc i) small = fields-from r i (omega arith)
+
+-- the fields from a place on
+pub fields-more : (r : Record) (i : ℕ) → i < length r → drop i r ≡ field (i + 1) r ∷ drop (i + 1) r
+fields-more r i small =
+    let place : i + 1 - 1 ≡ i = omega arith in
+    rw (place, add-one i) (fields-from r i small)
+
+-- the names from a place on
+pub names-more : (categories : List Category) (r : Record) (place : ℕ) (category : Category)
+    → place < length categories → place + 1 < length r → category ≡ slice_index_or categories place category
+    → pointwise bytes_eq (drop (place + 1) r) (map (λ c. c.name) (drop place categories))
+    ≡ (bytes_eq (field (place + 2) r) category.name && pointwise bytes_eq (drop (place + 1 + 1) r) (map (λ c. c.name) (drop (place + 1) categories)))
+names-more categories r place category small wide at =
+    let next : drop place categories ≡ category ∷ drop (place + 1) categories = rw (add-one place) (drop-cons categories place category small ∙ ap (λ c. c ∷ drop (suc place) categories) (sym at)) in
+    let field_next : drop (place + 1) r ≡ field (place + 1 + 1) r ∷ drop (place + 1 + 1) r = fields-more r (place + 1) wide in
+    let two : place + 1 + 1 ≡ place + 2 = omega arith in
+    rw (next, field_next, two) refl
+
+pub when-not-true : (b : Bool) → true ≡ not b → b ≡ false
+when-not-true true e = cc e
+when-not-true false e = refl
+
+pub when-not-false : (b : Bool) → false ≡ not b → b ≡ true
+when-not-false true e = refl
+when-not-false false e = cc e
+
+pub no-number : (text : List ℕ) → None ≡ number_of text → is_number_text text ≡ false
+no-number text e = by (is_number_text text) e
+  where
+    by : (b : Bool) → None ≡ (if b then Some (decimal_value text) else None) → b ≡ false
+    by true h = cc h
+    by false h = refl
+
+pub is-number : (text : List ℕ) (value : ℕ) → Some value ≡ number_of text → is_number_text text ≡ true
+is-number text value e = by (is_number_text text) e
+  where
+    by : (b : Bool) → Some value ≡ (if b then Some (decimal_value text) else None) → b ≡ true
+    by true h = refl
+    by false h = cc h
+
+-- the quantities of the fields from a place on
+abbrev pub quantities_from : ℕ → Record → List ℕ
+quantities_from n r = map (λ text. unwrap_or (number_of text) 0) (drop n r)
+
+-- what a loop over the quantities keeps
+abbrev pub QuantitiesSoFar : Record → ℕ → Bool → List ℕ → Type 0
+QuantitiesSoFar r n within items =
+    (list_all is_number_text (drop n r) ≡ list_all is_number_text (drop 1 r))
+    × ((within && are_quantities (quantities_from n r)) ≡ are_quantities (quantities_in r))
+    × (within ≡ true → items ++ quantities_from n r ≡ quantities_in r)
+    × All (λ quantity. quantity ≤ 10000) items
+
+-- the next field is no number
+pub quantities-none : (r : Record) (n : ℕ) (within : Bool) (items : List ℕ) → QuantitiesSoFar r n within items → n < length r → None ≡ number_of (field (n + 1) r)
+    → list_all is_number_text (drop 1 r) ≡ false
+quantities-none r n within items (texts, limits, are, each) small none =
+    let told = rw (fields-more r n small, no-number (field (n + 1) r) none) at texts in
+    sym told
+
+-- the next field is a quantity
+pub quantities-small : (r : Record) (n : ℕ) (within : Bool) (items : List ℕ) (value : ℕ) → QuantitiesSoFar r n within items → n < length r
+    → Some value ≡ number_of (field (n + 1) r) → value ≤ 10000 → QuantitiesSoFar r (n + 1) within (items ++ value ∷ [])
+quantities-small r n within items value (texts, limits, are, each) small some few =
+    let next = fields-more r n small in
+    let is_text = is-number (field (n + 1) r) value some in
+    let test : nat_le value 10000 ≡ true = le-leb value 10000 few in (
+      rw (next, is_text) at texts,
+      rw (next, ← some, test) at limits,
+      λ h. (let told = are h in let more = rw (next, ← some) at told in append_assoc items (value ∷ []) _ ∙ more),
+      All-push (λ quantity. quantity ≤ 10000) items value each few,
+    )
+
+-- the next field is a number above the limit
+pub quantities-great : (r : Record) (n : ℕ) (within : Bool) (items : List ℕ) (value : ℕ) → QuantitiesSoFar r n within items → n < length r
+    → Some value ≡ number_of (field (n + 1) r) → nat_le value 10000 ≡ false → QuantitiesSoFar r (n + 1) false items
+quantities-great r n within items value (texts, limits, are, each) small some great =
+    let next = fields-more r n small in
+    let is_text = is-number (field (n + 1) r) value some in
+    let told = rw (next, ← some, great) at limits in (
+      rw (next, is_text) at texts,
+      never within _ told,
+      λ h. cc h,
+      each,
+    )
+  where
+    never : (b all : Bool) → (b && false) ≡ all → false ≡ all
+    never true all e = e
+    never false all e = e

@@ -1,0 +1,97 @@
+-- What a form says: a bidder and its bids; and when bids meet rules.
+use Rattle.std.specs.Prelude.{◌≡◌, ◌≢◌, ◌≤◌, ◌+◌, ◌-◌, ◌*◌, ◌%◌, ◌^◌, ◌==◌, ◌&&◌, Bool, true, not, ℕ, List, [], ◌∷◌, Option, None, Some, if◌then◌else◌, All, AllPairs, IsTrue, length, map, nat_eq, nat_le, slice_index}
+use Rattle.std.specs.List.{list_all}
+use Rattle.std.specs.Cmp.Lexicographic.{pointwise}
+use Rattle.std.specs.Map.{lookup}
+use Rattle.auction_terms.specs.Packages.{IsPackage}
+use Rattle.auction_terms.specs.RulesText.{is_between}
+use Rattle.auction_terms.specs.Terms.{Terms}
+use Rattle.auction_terms.specs.declared.bids.Bid.{Bid}
+use Rattle.auction_terms.specs.declared.rules.Category.{Category}
+
+-- the number of a bidder, and its bids
+pub record Offers : Type 0 where
+  pub bidder : ℕ
+  pub bids : List Bid
+
+abbrev pub offers : ℕ → List Bid → Offers
+offers bidder bids = record { bidder = bidder; bids = bids }
+
+-- two packages are the same
+abbrev pub is_same : List ℕ → List ℕ → Bool
+is_same = pointwise nat_eq
+
+-- the number of the first of these bids that has the package, where they are numbered from n on
+abbrev pub number_from : ℕ → List ℕ → List Bid → Option ℕ
+number_from n lots [] = None
+number_from n lots (bid ∷ more) = if is_same lots bid.package then Some n else number_from (n + 1) lots more
+
+-- the number, from 1, of the first of these bids that has the package
+abbrev pub number_of_package : List ℕ → List Bid → Option ℕ
+number_of_package lots bids = number_from 1 lots bids
+
+-- the sum of each quantity times a number of its category
+abbrev pub weighted : (Category → ℕ) → List Category → List ℕ → ℕ
+weighted weight [] quantities = 0
+weighted weight (category ∷ more) [] = 0
+weighted weight (category ∷ more) (quantity ∷ rest) = quantity * weight category + weighted weight more rest
+
+-- the eligibility points of a package
+abbrev pub points_of : List Category → List ℕ → ℕ
+points_of categories lots = weighted (λ category. category.points) categories lots
+
+-- the least price of a package
+abbrev pub reserve_of : List Category → List ℕ → ℕ
+reserve_of categories lots = weighted (λ category. category.reserve) categories lots
+
+-- every quantity is 0
+abbrev pub is_empty_package : List ℕ → Bool
+is_empty_package lots = list_all (λ quantity. quantity == 0) lots
+
+abbrev pub are_quantities : List ℕ → Bool
+are_quantities lots = list_all (λ quantity. nat_le quantity 10000) lots
+
+-- the eligibility of a bidder
+abbrev pub eligibility_of : Terms → ℕ → ℕ
+eligibility_of t bidder = slice_index (map (λ bidder. bidder.eligibility) t.bidders) (bidder - 1)
+
+-- what the rules ask of one bid of a bidder with this eligibility
+abbrev pub is_bid_under : Terms → ℕ → Bid → Bool
+is_bid_under t eligibility bid =
+    (length bid.package == length t.categories)
+    && is_between 1 (10 ^ 12) bid.amount
+    && (bid.amount % t.step == 0)
+    && are_quantities bid.package
+    && not (is_empty_package bid.package)
+    && nat_le (points_of t.categories bid.package) eligibility
+    && nat_le (reserve_of t.categories bid.package) bid.amount
+
+-- the packages of no two bids are the same
+abbrev pub PackagesDiffer : List Bid → Type 0
+PackagesDiffer bids = AllPairs (λ x y. x.package ≢ y.package) bids
+
+-- a form meets the rules
+pub record Meets (t : Terms) (o : Offers) : Type 0 where
+  pub some_bidder : 1 ≤ o.bidder
+  pub known_bidder : o.bidder ≤ length t.bidders
+  pub few : length o.bids ≤ 4000
+  pub each : All (λ bid. IsTrue (is_bid_under t (eligibility_of t o.bidder) bid)) o.bids
+  pub differ : PackagesDiffer o.bids
+
+-- a bid with its package and its amount within the limits
+pub record IsWithinLimits (bid : Bid) : Type 0 where
+  pub quantities : IsPackage bid.package
+  pub some_amount : 1 ≤ bid.amount
+  pub amount : bid.amount ≤ 10 ^ 12
+
+-- what a form keeps under any rules
+pub record IsForm (o : Offers) : Type 0 where
+  pub some_bidder : 1 ≤ o.bidder
+  pub bidders : o.bidder ≤ 256
+  pub few : length o.bids ≤ 4000
+  pub each : All IsWithinLimits o.bids
+  pub differ : PackagesDiffer o.bids
+
+-- the entries of a map give each package the number of the first of these bids that has it
+abbrev pub Tracks : {K : Type 0} → (K → List ℕ) → List (K × ℕ) → List Bid → Type 0
+Tracks package_of entries bids = (lots : List ℕ) → lookup (λ key. is_same lots (package_of key)) entries ≡ number_of_package lots bids

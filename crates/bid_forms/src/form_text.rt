@@ -1,0 +1,256 @@
+//! The text of a form.
+
+ghost use Rattle.std.specs.Prelude.{◌≡◌, ◌≤◌, ◌<◌, ◌^◌, ◌+◌, [], ◌∷◌, None, Err, All, IfOk, OnOk, IsTrue, drop, length, map};
+ghost use Rattle.std.specs.Str.{bytes_eq};
+ghost use Rattle.std.specs.Cmp.Lexicographic.{pointwise};
+ghost use Rattle.csv.specs.Records.{fields_of};
+ghost use Rattle.auction_terms.specs.FirstFault.{first_failed, first_fault};
+ghost use Rattle.auction_terms.specs.RulesText.{number_in};
+ghost use Rattle.auction_terms.specs.Terms.{AreTerms};
+ghost use Rattle.bid_forms.specs.Offers.{IsWithinLimits, Meets, Tracks, eligibility_of, is_bid_under, number_of_package, offers};
+ghost use Rattle.bid_forms.specs.FormText.{Answers, Tells, TellsFault, amount_checks, bid_fault, bid_of, bidder_in, fault_of_bid, form_of, header_checks, is_header, package_checks, quantities_in, quantity_checks};
+ghost use Rattle.bid_forms.specs.declared.form_text.FormFault.TheVariants as fault;
+
+use crate::form::{Form, eligibility_of};
+use crate::numbers::{PackageNumbers, add_bid, earlier};
+use crate::sums::{is_empty_package, points_of, reserve_of};
+use auction_terms::{Bid, Category, Package, RecordReader, Rules, TEXT_LIMIT, field, number};
+use csv::ByteRecord;
+use std::alloc::{AllocError, Global};
+use std::collections::HashMap;
+use thiserror::Error;
+
+/// Why a text is no form. A place is the number of a record, from 1.
+#[derive(Clone, Copy, Debug, PartialEq, Eq, Error)]
+pub enum FormFault {
+    #[error("the text has more than 4 MiB")]
+    TooLarge,
+    #[error("record {place} is not a bidder and then the categories in order")]
+    Header { place: u32 },
+    #[error("record {place} names an unknown bidder")]
+    UnknownBidder { place: u32 },
+    #[error("record {place} has not one field more than there are categories")]
+    FieldCount { place: u32 },
+    #[error("the amount of record {place} is not 1 to 18 digits")]
+    AmountText { place: u32 },
+    #[error("the amount of record {place} is outside its limits")]
+    AmountRange { place: u32 },
+    #[error("the amount of record {place} is no multiple of the step")]
+    AmountStep { place: u32 },
+    #[error("a quantity of record {place} is not 1 to 18 digits")]
+    QuantityText { place: u32 },
+    #[error("a quantity of record {place} is outside its limits")]
+    QuantityRange { place: u32 },
+    #[error("record {place} has no lot")]
+    EmptyPackage { place: u32 },
+    #[error("record {place} is over the bidder's eligibility")]
+    OverEligibility { place: u32 },
+    #[error("the amount of record {place} is below the reserve")]
+    BelowReserve { place: u32 },
+    #[error("record {place} repeats the package of bid {earlier}")]
+    RepeatedPackage { place: u32, earlier: u32 },
+    #[error("record {place} is one bid too many")]
+    TooManyBids { place: u32 },
+    #[error("out of memory")]
+    OutOfMemory,
+}
+
+impl From<AllocError> for FormFault {
+    ghost from_gives = { λ _ e. e ≡ fault.OutOfMemory };
+
+    fn from(_: AllocError) -> FormFault {
+        FormFault::OutOfMemory
+    }
+}
+
+macro_rules! refuse {
+    ($fails:expr, $fault:expr) => {
+        if $fails {
+            return Err($fault);
+        }
+    };
+}
+
+macro_rules! field {
+    ($row:expr, $place:expr) => {
+        field($row, $place)
+    };
+}
+
+macro_rules! number {
+    ($row:expr, $place:expr, $fault:expr) => {
+        match number(field!($row, $place)) {
+            Some(value) => value,
+            None => return Err($fault),
+        }
+    };
+}
+
+// Whether the fields after the first are the names of the categories.
+fn is_header(categories: &[Category], row: &ByteRecord) -> bool
+    requires { 1 ≤ length categories.now }
+    ensures { result ≡ is_header categories.now (fields_of row.now) }
+{
+    if row.len() != categories.len() + 1 {
+        return false;
+    }
+    for place in 0..categories.len() {
+        if field!(row, place + 2) != categories[place].name.as_bytes() {
+            return false;
+        }
+    }
+    true
+}
+
+// The bidder that the header names.
+fn read_header(rules: &Rules, row: &ByteRecord) -> Result<u16, FormFault>
+    ensures answer { Tells result (first_failed (header_checks rules.now (fields_of row.now))) (bidder_in rules.now (fields_of row.now)) }
+    ensures some { IfOk result (λ bidder. 1 ≤ bidder) }
+    ensures known { IfOk result (λ bidder. bidder ≤ length rules.now.bidders) }
+{
+    refuse!(
+        !is_header(rules.categories(), row),
+        FormFault::Header { place: 1 }
+    );
+    match rules.bidder_number(field!(row, 1)) {
+        Some(bidder) => Ok(bidder),
+        None => Err(FormFault::UnknownBidder { place: 1 }),
+    }
+}
+
+// The amount of a record.
+fn read_amount(step: u64, place: u32, row: &ByteRecord) -> Result<u64, FormFault>
+    requires { 1 ≤ step }
+    ensures answer { Tells result (first_failed (amount_checks step place (fields_of row.now))) (number_in 1 (fields_of row.now)) }
+    ensures limits { IfOk result (λ amount. (1 ≤ amount) × (amount ≤ 10 ^ 12)) }
+{
+    let amount = number!(row, 1, FormFault::AmountText { place });
+    refuse!(
+        amount < 1 || amount > 1_000_000_000_000,
+        FormFault::AmountRange { place }
+    );
+    refuse!(amount % step != 0, FormFault::AmountStep { place });
+    Ok(amount)
+}
+
+// The quantities of a record.
+fn read_quantities(alloc: Global, place: u32, row: &ByteRecord) -> Result<Vec<u32>, FormFault>
+    ensures answer { TellsFault result (first_failed (quantity_checks place (fields_of row.now))) }
+    ensures quantities { IfOk result (λ quantities. quantities.items ≡ quantities_in (fields_of row.now)) }
+    ensures each { IfOk result (λ quantities. All (λ quantity. quantity ≤ 10000) quantities.items) }
+{
+    let mut quantities = Vec::new(alloc);
+    let mut within = true;
+    for n in 1..row.len() {
+        let value = number!(row, n + 1, FormFault::QuantityText { place });
+        if value <= 10_000 {
+            if quantities.push(value as u32).is_err() {
+                return Err(FormFault::OutOfMemory);
+            }
+        } else {
+            within = false;
+        }
+    }
+    refuse!(!within, FormFault::QuantityRange { place });
+    Ok(quantities)
+}
+
+// Refuses a package that the rules don't allow at this amount.
+fn check_package(
+    rules: &Rules,
+    eligibility: u64,
+    place: u32,
+    quantities: &[u32],
+    amount: u64,
+) -> Result<(), FormFault>
+    requires sized { length quantities.now ≡ length rules.now.categories }
+    requires quantities { All (λ quantity. quantity ≤ 10000) quantities.now }
+    ensures { Tells result (first_failed (package_checks rules.now.categories eligibility place quantities.now amount)) tt }
+{
+    let categories = rules.categories();
+    refuse!(
+        is_empty_package(quantities),
+        FormFault::EmptyPackage { place }
+    );
+    refuse!(
+        points_of(categories, quantities) > eligibility,
+        FormFault::OverEligibility { place }
+    );
+    refuse!(
+        reserve_of(categories, quantities) > amount,
+        FormFault::BelowReserve { place }
+    );
+    Ok(())
+}
+
+// The bid of a record, after those before it.
+fn read_bid(
+    alloc: Global,
+    rules: &Rules,
+    eligibility: u64,
+    place: u32,
+    numbers: &PackageNumbers,
+    before: &[Bid],
+    row: &ByteRecord,
+) -> Result<Bid, FormFault>
+    requires { Tracks (λ key. key.items) numbers.now.entries before.now }
+    ensures answer { Tells result (fault_of_bid rules.now eligibility place before.now (fields_of row.now)) (bid_of (fields_of row.now)) }
+    ensures limits { IfOk result IsWithinLimits }
+    ensures allowed { IfOk result (λ bid. IsTrue (is_bid_under rules.now eligibility bid)) }
+    ensures new { IfOk result (λ bid. number_of_package bid.package before.now ≡ None) }
+    ensures room { OnOk result (length before.now < 4000) }
+{
+    refuse!(
+        row.len() != rules.categories().len() + 1,
+        FormFault::FieldCount { place }
+    );
+    let amount = read_amount(rules.step(), place, row)?;
+    let quantities = read_quantities(alloc, place, row)?;
+    check_package(rules, eligibility, place, &quantities, amount)?;
+    if let Some(earlier) = earlier(numbers, &quantities) {
+        return Err(FormFault::RepeatedPackage { place, earlier });
+    }
+    refuse!(before.len() >= 4000, FormFault::TooManyBids { place });
+    let package = Package::new(quantities);
+    Ok(Bid { package, amount })
+}
+
+// Reads the records after the header.
+fn read_bids(
+    alloc: Global,
+    rules: &Rules,
+    bidder: u16,
+    reader: &mut RecordReader,
+) -> Result<Form, FormFault>
+    requires some { 1 ≤ bidder }
+    requires known { bidder ≤ length rules.now.bidders }
+    requires few { length reader.old ≤ 4194305 }
+    ensures answer { Tells result (first_fault (bid_fault rules.now (eligibility_of rules.now bidder)) [] reader.old) (offers bidder (map bid_of reader.old)) }
+    ensures meets { IfOk result (Meets rules.now) }
+{
+    let eligibility = eligibility_of(rules, bidder);
+    let mut row = ByteRecord::new(alloc);
+    let mut numbers: PackageNumbers = HashMap::new(alloc);
+    let mut bids = Vec::new(alloc);
+    let mut place = 2u32;
+    while reader.next(&mut row)? {
+        let bid = read_bid(alloc, rules, eligibility, place, &numbers, &bids, &row)?;
+        add_bid(alloc, &mut numbers, &mut bids, bid)?;
+        place += 1;
+    }
+    Ok(Form::new(bidder, bids))
+}
+
+/// Reads a form, under rules.
+pub fn read_form(alloc: Global, bytes: &[u8], rules: &Rules) -> Result<Form, FormFault>
+    ensures too_large { 4194304 < length bytes.now → result ≡ Err fault.TooLarge }
+    ensures answer { length bytes.now ≤ 4194304 → Answers result (form_of rules.now bytes.now) }
+    ensures meets { IfOk result (Meets rules.now) }
+{
+    refuse!(bytes.len() > TEXT_LIMIT, FormFault::TooLarge);
+    let mut reader = RecordReader::new(alloc, bytes);
+    let mut row = ByteRecord::new(alloc);
+    refuse!(!reader.next(&mut row)?, FormFault::Header { place: 1 });
+    let bidder = read_header(rules, &row)?;
+    read_bids(alloc, rules, bidder, &mut reader)
+}
