@@ -37,12 +37,12 @@ within_at (x ∷ p) (y ∷ q) zero h = leb-true x y (and_parts _ _ h).0
 within_at (x ∷ p) (y ∷ q) (suc c) h = within_at p q c (and_parts _ _ h).1
 
 -- a smaller package has a smaller size
-size_le : (p q : List ℕ) → is_within p q ≡ true → size p ≤ size q
+pub size_le : (p q : List ℕ) → is_within p q ≡ true → size p ≤ size q
 size_le [] q h = omega arith
 size_le (x ∷ p) [] h = let e = and_parts _ _ h in let a = leb-true x 0 e.0 in let b = size_le p [] e.1 in omega arith
 size_le (x ∷ p) (y ∷ q) h = let e = and_parts _ _ h in let a = leb-true x y e.0 in let b = size_le p q e.1 in omega arith
 
-size_lt : (p q : List ℕ) → is_within p q ≡ true → is_within q p ≡ false → size p < size q
+pub size_lt : (p q : List ℕ) → is_within p q ≡ true → is_within q p ≡ false → size p < size q
 size_lt [] [] h k = absurd (both_ways true k refl)
 size_lt [] (y ∷ q) h k = ⊎_elim
     (λ l. let a = leb-false y 0 l in omega arith)
