@@ -1,0 +1,15 @@
+pub mod SpellingLaws
+pub mod Powers
+mod Examples
+pub mod FaithfulLaws
+pub mod LegalLaws
+pub mod PieceLemmas
+pub mod ColumnLemmas
+pub mod BuildLaws
+pub mod BuiltLaws
+pub mod SumLaws
+pub mod BrokenLaws
+pub mod Folding
+pub mod LineParts
+pub mod NumeralLaws
+pub mod KeptLaws

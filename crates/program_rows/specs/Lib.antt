@@ -1,0 +1,16 @@
+pub mod Program
+pub mod Parts
+pub mod Lines
+pub mod Scaling
+pub mod Numbers
+pub mod Meaning
+pub mod Spelling
+pub mod Points
+pub mod Named
+pub mod Rows
+pub mod Faithful
+pub mod Legal
+pub mod Cut
+pub mod Pieces
+pub mod Joined
+pub mod Building

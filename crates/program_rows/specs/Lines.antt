@@ -1,0 +1,37 @@
+-- The fields of a line, and what a line of an MPS text is.
+use Rattle.std.specs.Prelude.{ℕ, Bool, not, ◌||◌, ◌&&◌, nat_le, List, [], ◌∷◌, length, ◌==◌, if◌then◌else◌, slice_index}
+use Rattle.std.specs.List.{slice_split, filter, list_all}
+
+abbrev pub is_space : ℕ → Bool
+is_space b = (b == 32) || (b == 9)
+
+-- the longest runs of bytes that are no white space
+unfoldable pub fields : List ℕ → List (List ℕ)
+fields line = filter (λ part. not (length part == 0)) (slice_split is_space line)
+
+-- tab and 0x20 to 0x7E
+abbrev pub is_text_byte : ℕ → Bool
+is_text_byte b = (b == 9) || (nat_le 32 b && nat_le b 126)
+
+-- what a line of an MPS text is
+pub data Line : Type 0 where
+  -- a comment, or a line of white space alone
+  Skipped : Line
+  -- a byte that no text has
+  Unprintable : Line
+  -- the word of a header, and its further fields
+  Header : (word : List ℕ) (more : List (List ℕ)) → Line
+  -- the fields of a data line
+  Data : (fields : List (List ℕ)) → Line
+
+abbrev pub header_of : List (List ℕ) → Line
+header_of [] = Skipped
+header_of (word ∷ more) = Header word more
+
+unfoldable pub line_of : List ℕ → Line
+line_of bytes =
+    if slice_index bytes 0 == 42 then Skipped
+    else (if length (fields bytes) == 0 then Skipped
+    else (if not (list_all is_text_byte bytes) then Unprintable
+    else (if is_space (slice_index bytes 0) then Data (fields bytes)
+    else header_of (fields bytes))))

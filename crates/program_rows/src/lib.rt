@@ -1,0 +1,35 @@
+//! A 0-1 program as rows and columns.
+#![tactic(auto)]
+
+mod bounds;
+mod broken;
+mod building;
+mod columns;
+mod costs;
+mod digits;
+mod entries;
+mod fault;
+pub mod laws;
+mod lists;
+mod names;
+mod number;
+mod parts;
+mod point;
+mod program;
+mod row;
+mod row_readers;
+mod row_sums;
+mod rows;
+mod spelling;
+mod token;
+
+pub use bounds::Bounds;
+pub use building::build;
+pub use columns::Columns;
+pub use digits::digits_behind;
+pub use fault::FaultKind;
+pub use number::{NumberFault, scaled};
+pub use parts::ProgramParts;
+pub use point::Point;
+pub use program::Program;
+pub use row::{Row, RowKind};

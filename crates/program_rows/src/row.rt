@@ -1,0 +1,15 @@
+/// How the sum of a row stands to its right side.
+#[derive(Clone, Copy, Debug, PartialEq, Eq)]
+pub enum RowKind {
+    AtMost,
+    AtLeast,
+    Equal,
+}
+
+/// A row of a program. Its name is printable ASCII without white space.
+#[derive(Drop)]
+pub struct Row {
+    pub name: Vec<u8>,
+    pub kind: RowKind,
+    pub right_side: i64,
+}

@@ -1,0 +1,98 @@
+//! The bid that the name of a column spells.
+
+ghost use Rattle.std.specs.Prelude.{◌≡◌, ◌≢◌, ℕ, ◌^◌, ◌<◌, ◌≤◌, decimal, drop, length, take, MatchOption};
+ghost use Rattle.std.specs.List.{position_or_len};
+ghost use Rattle.program_rows.specs.Spelling.{column_bid, is_bar, is_bid};
+
+use crate::digits::digits_behind;
+use crate::token::{are_all_digits, behind};
+use auction_terms::Choice;
+
+/// The number that is spelled by digits without a leading zero, where there are at most four.
+fn number_spelled(text: &[u8]) -> Option<u16>
+    ensures { MatchOption result ((n : ℕ) → 1 ≤ n → n < 10 ^ 4 → decimal n ≢ text.now) (λ n. decimal n ≡ text.now) }
+{
+    if text.is_empty() {
+        return None;
+    }
+    if text.len() > 4 {
+        return None;
+    }
+    if text[0] == b'0' {
+        return None;
+    }
+    if !are_all_digits(text) {
+        return None;
+    }
+    Some(digits_behind(0, 0, text) as u16)
+}
+
+fn is_bar_byte(b: u8) -> bool
+    ensures { result ≡ is_bar b }
+{
+    b == b'_'
+}
+
+/// The place of the first bar, or the length where there is none.
+fn bar_in(bytes: &[u8]) -> usize
+    ensures value { result ≡ position_or_len is_bar bytes.now }
+    ensures within { result ≤ length bytes.now }
+{
+    let mut i = 0;
+    while i < bytes.len() {
+        if is_bar_byte(bytes[i]) {
+            return i;
+        }
+        i += 1;
+    }
+    i
+}
+
+fn is_bid(bidder: u16, bid: u16) -> bool
+    ensures { result ≡ is_bid bidder bid }
+{
+    (1 <= bidder && bidder <= 256) && (1 <= bid && bid <= 4000)
+}
+
+/// What stands behind the letter that a name begins with.
+fn behind_letter(name: &[u8]) -> &[u8]
+    requires { 0 < length name.now }
+    ensures { result.now ≡ drop 1 name.now }
+{
+    &name[1..]
+}
+
+/// What stands before a place.
+fn front(place: usize, bytes: &[u8]) -> &[u8]
+    requires { place ≤ length bytes.now }
+    ensures { result.now ≡ take place bytes.now }
+{
+    &bytes[..place]
+}
+
+/// The bid that a name spells, if it spells one.
+pub fn bid_named(name: &[u8]) -> Option<Choice>
+    ensures { result ≡ column_bid name.now }
+{
+    if name.is_empty() {
+        return None;
+    }
+    if name[0] != b'X' {
+        return None;
+    }
+    let numbers = behind_letter(name);
+    let bar = bar_in(numbers);
+    if bar == numbers.len() {
+        return None;
+    }
+    let Some(bidder) = number_spelled(front(bar, numbers)) else {
+        return None;
+    };
+    let Some(bid) = number_spelled(behind(bar, numbers)) else {
+        return None;
+    };
+    if !is_bid(bidder, bid) {
+        return None;
+    }
+    Some(Choice { bidder, bid })
+}
