@@ -10,6 +10,7 @@ pub mod BuiltLaws
 pub mod SumLaws
 pub mod BrokenLaws
 pub mod Folding
+pub mod TokenForm
 pub mod LineParts
 pub mod NumeralLaws
 pub mod KeptLaws

@@ -3,6 +3,7 @@ pub mod Parts
 pub mod Lines
 pub mod Scaling
 pub mod Numbers
+pub mod Tokens
 pub mod Meaning
 pub mod Spelling
 pub mod Points
@@ -13,4 +14,5 @@ pub mod Legal
 pub mod Cut
 pub mod Pieces
 pub mod Joined
+pub mod Bounded
 pub mod Building

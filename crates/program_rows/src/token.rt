@@ -1,11 +1,16 @@
 //! The parts of a number token.
 
-ghost use Rattle.std.specs.Prelude.{◌≡◌, ◌≤◌, ◌+◌, length, ◌++◌, drop};
-ghost use Rattle.std.specs.List.{position_or_len, list_all, list_any, before_first, after_first};
-ghost use Rattle.program_rows.specs.Numbers.{is_point, is_exponent_mark, is_minus, is_signed, without_sign, mantissa, whole_digits, fraction_digits, exponent_text, exponent_digits, are_digits};
+ghost use Rattle.std.specs.Prelude.{◌≡◌, ◌≤◌, ◌<◌, ◌+◌, ◌^◌, ◌++◌, ◌&&◌, ◌||◌, not, true, nat_lt, length, drop, if◌then◌else◌, IfOk};
+ghost use Rattle.std.specs.List.{position_or_len, list_all, list_any};
+ghost use Rattle.std.specs.Str.Parse.{digits_value};
+ghost use Rattle.program_rows.specs.Numbers.{is_point, is_exponent_mark, is_minus, is_signed, without_sign, whole_digits, fraction_digits, exponent_text, exponent_digits, are_digits, is_number_text, is_too_long};
+ghost use Rattle.program_rows.specs.Tokens.{token_of};
 
-/// Whether it begins with a minus.
-pub fn is_minus_at(token: &[u8]) -> bool
+use crate::digits::digits_behind;
+use crate::token_fault::TokenFault;
+use crate::token_parts::TokenParts;
+
+fn is_minus_at(token: &[u8]) -> bool
     ensures { result ≡ is_minus token.now }
 {
     if token.is_empty() {
@@ -23,7 +28,7 @@ fn is_signed_at(token: &[u8]) -> bool
     token[0] == b'-' || token[0] == b'+'
 }
 
-pub fn after_sign(token: &[u8]) -> &[u8]
+fn after_sign(token: &[u8]) -> &[u8]
     ensures { result.now ≡ without_sign token.now }
 {
     if is_signed_at(token) {
@@ -78,29 +83,13 @@ pub fn are_all_digits(bytes: &[u8]) -> bool
     bytes.iter().all(|b| b.is_ascii_digit())
 }
 
-pub fn has_mark(token: &[u8]) -> bool
+fn has_mark(token: &[u8]) -> bool
     ensures { result ≡ list_any is_exponent_mark token.now }
 {
     token.iter().any(|b| *b == b'e' || *b == b'E')
 }
 
-/// What stands before the exponent, without the sign.
-pub fn mantissa_of(token: &[u8]) -> &[u8]
-    ensures { result.now ≡ mantissa token.now }
-{
-    let unsigned = after_sign(token);
-    &unsigned[..mark_in(unsigned)]
-}
-
-pub fn whole_digits_of(token: &[u8]) -> &[u8]
-    ensures { result.now ≡ whole_digits token.now }
-{
-    let text = mantissa_of(token);
-    &text[..point_in(text)]
-}
-
-/// What stands behind a place.
-pub(crate) fn behind(at: usize, bytes: &[u8]) -> &[u8]
+pub fn behind(at: usize, bytes: &[u8]) -> &[u8]
     ensures { result.now ≡ drop (at + 1) bytes.now }
 {
     if at < bytes.len() {
@@ -109,23 +98,120 @@ pub(crate) fn behind(at: usize, bytes: &[u8]) -> &[u8]
     &bytes[bytes.len()..]
 }
 
-pub fn fraction_digits_of(token: &[u8]) -> &[u8]
-    ensures { result.now ≡ fraction_digits token.now }
-{
-    let text = mantissa_of(token);
-    behind(point_in(text), text)
+/// Where the parts of a token stand.
+#[derive(Clone, Copy)]
+struct Pieces<'t> {
+    whole: &'t [u8],
+    fraction: &'t [u8],
+    /// The exponent with its sign.
+    exponent: &'t [u8],
 }
 
-/// The exponent with its sign.
-pub fn exponent_of(token: &[u8]) -> &[u8]
-    ensures { result.now ≡ exponent_text token.now }
+fn pieces_of(token: &[u8]) -> Pieces<'_>
+    ensures whole { result.whole.now ≡ whole_digits token.now }
+    ensures fraction { result.fraction.now ≡ fraction_digits token.now }
+    ensures exponent { result.exponent.now ≡ exponent_text token.now }
 {
     let unsigned = after_sign(token);
-    behind(mark_in(unsigned), unsigned)
+    let mark = mark_in(unsigned);
+    let mantissa = &unsigned[..mark];
+    let point = point_in(mantissa);
+    Pieces {
+        whole: &mantissa[..point],
+        fraction: behind(point, mantissa),
+        exponent: behind(mark, unsigned),
+    }
 }
 
-pub fn exponent_digits_of(token: &[u8]) -> &[u8]
-    ensures { result.now ≡ exponent_digits token.now }
+/// Whether there is a digit, and all are.
+fn are_some_digits(front: &[u8], back: &[u8]) -> bool
+    ensures { result ≡ (nat_lt 0 (length (front.now ++ back.now)) && are_digits (front.now ++ back.now)) }
 {
-    after_sign(exponent_of(token))
+    if front.is_empty() && back.is_empty() {
+        return false;
+    }
+    are_all_digits(front) && are_all_digits(back)
+}
+
+/// The value of digits, and of others behind them.
+fn value_of(front: &[u8], back: &[u8]) -> u128
+    requires front { are_digits front.now ≡ true }
+    requires back { are_digits back.now ≡ true }
+    requires few { length front.now + length back.now ≤ 30 }
+    ensures value { result ≡ digits_value 10 (front.now ++ back.now) }
+    ensures low { result < 10 ^ 30 }
+{
+    let value = digits_behind(0, 0, front);
+    digits_behind(value, front.len(), back)
+}
+
+fn is_exponent(is_marked: bool, digits: &[u8]) -> bool
+    ensures { result ≡ (not is_marked || (nat_lt 0 (length digits.now) && are_digits digits.now)) }
+{
+    if !is_marked {
+        return true;
+    }
+    digits.len() > 0 && are_all_digits(digits)
+}
+
+/// Whether there are more than 30 bytes.
+fn are_many(front: &[u8], back: &[u8]) -> bool
+    ensures { result ≡ nat_lt 30 (length (front.now ++ back.now)) }
+{
+    if front.len() > 30 {
+        return true;
+    }
+    back.len() > 30 - front.len()
+}
+
+/// The value of an exponent of at most three digits.
+fn exponent_value(digits: &[u8]) -> u32
+    requires digits { are_digits digits.now ≡ true }
+    requires few { length digits.now ≤ 3 }
+    ensures { result ≡ digits_value 10 digits.now }
+{
+    digits_behind(0, 0, digits) as u32
+}
+
+fn places_up(is_negative: bool, places: u32) -> u32
+    ensures { result ≡ (if is_negative then 0 else places) }
+{
+    if is_negative { 0 } else { places }
+}
+
+fn places_down(is_negative: bool, places: u32) -> u32
+    ensures { result ≡ (if is_negative then places else 0) }
+{
+    if is_negative { places } else { 0 }
+}
+
+/// The exact parts of a number token.
+pub fn read_token(bytes: &[u8]) -> Result<TokenParts, TokenFault>
+    ensures parts { result ≡ token_of bytes.now }
+    ensures digits { IfOk result (λ token. token.digits < 10 ^ 30) }
+    ensures up { IfOk result (λ token. token.up ≤ 60) }
+    ensures down { IfOk result (λ token. token.down ≤ 90) }
+{
+    let pieces = pieces_of(bytes);
+    let exponent = after_sign(pieces.exponent);
+    if !are_some_digits(pieces.whole, pieces.fraction) {
+        return Err(TokenFault::NotToken);
+    }
+    if !is_exponent(has_mark(bytes), exponent) {
+        return Err(TokenFault::NotToken);
+    }
+    if are_many(pieces.whole, pieces.fraction) || exponent.len() > 3 {
+        return Err(TokenFault::TooLong);
+    }
+    let places = exponent_value(exponent);
+    if places > 60 {
+        return Err(TokenFault::TooLong);
+    }
+    let is_negative = is_minus_at(pieces.exponent);
+    Ok(TokenParts {
+        minus: is_minus_at(bytes),
+        digits: value_of(pieces.whole, pieces.fraction),
+        up: places_up(is_negative, places),
+        down: pieces.fraction.len() as u32 + places_down(is_negative, places),
+    })
 }

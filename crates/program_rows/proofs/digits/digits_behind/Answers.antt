@@ -1,4 +1,4 @@
-use Rattle.std.proofs.Common.{◌≡◌, ◌+◌, ◌*◌, ◌-◌, ◌<◌, ◌≤◌, ◌^◌, ℕ, slice_index_or, arith, sym, ap, ◌∙◌}
+use Rattle.std.proofs.Common.{◌+◌, ◌*◌, ◌-◌, ◌≤◌, ℕ, slice_index_or, arith, ap, ◌∙◌}
 use Rattle.program_rows.proofs.Folding.{after-next, digit-at, next-low, fits}
 use Rattle.program_rows.proofs.digits.digits_behind.Goals as goal
 

@@ -1,4 +1,4 @@
-use Rattle.std.proofs.Common.{◌∙◌, sym, ap, arith}
+use Rattle.std.proofs.Common.{◌∙◌, sym, ap}
 use Rattle.std.specs.Prelude.{decimal}
 use Rattle.program_rows.proofs.NumeralLaws.{spelled, below_four, is_zero, is_some, not_empty, not_long, no_zero_first, only_digits}
 use Rattle.program_rows.proofs.spelling.number_spelled.Goals as goal
