@@ -1,0 +1,63 @@
+-- The bids of one form by the sizes of their packages.
+use Rattle.std.specs.Prelude.{◌≡◌, ◌⊎◌, ◌<◌, ◌≤◌, ◌+◌, ◌==◌, ◌&&◌, ℕ, Bool, false, not, nat_lt, if◌then◌else◌, List, [], ◌∷◌, length, map, count_by, All, AllPairs, IsPermutation}
+use Rattle.std.specs.Option.{option_map_or}
+use Rattle.auction_terms.specs.declared.bids.Bid.{Bid}
+use Rattle.std.specs.List.{list_any}
+use Rattle.auction_terms.specs.Packages.{Lots, is_within, fits, size}
+use Rattle.auction_terms.specs.Domination.{is_no_cheaper}
+use Rattle.auction_terms.specs.Allocations.{bid_at}
+use Rattle.presolve.specs.declared.order.SizedBid.{SizedBid}
+
+-- how many lots bid j of a form asks for
+abbrev pub size_at : List Bid → ℕ → ℕ
+size_at form j = option_map_or (λ x. size x.package) (bid_at form j) 0
+
+-- the form has a bid j, and it fits
+abbrev pub is_fitting : Lots → List Bid → ℕ → Bool
+is_fitting lots form j = option_map_or (λ x. fits lots x.package) (bid_at form j) false
+
+-- of smaller size, or of the same size and not a higher number
+abbrev pub IsUpTo : ℕ → ℕ → ℕ → ℕ → Type 0
+IsUpTo size number other_size other_number = (size < other_size) ⊎ ((size ≡ other_size) × (number ≤ other_number))
+
+-- the numbers of the bids that fit, each once and no other, by rising size, ties by number
+pub record IsBySize (lots : Lots) (form : List Bid) (numbers : List ℕ) : Type 0 where
+  pub fitting : (j : ℕ) → count_by (λ number. number == j) numbers ≡ (if is_fitting lots form j then 1 else 0)
+  pub rising : AllPairs (λ j k. IsUpTo (size_at form j) j (size_at form k) k) numbers
+
+-- a bid with the size of its package and its number in its form
+pub record Sized : Type 0 where
+  pub size : ℕ
+  pub number : ℕ
+  pub bid : Bid
+
+abbrev pub sized_of : SizedBid → Sized
+sized_of s = record { size = s.size; number = s.number; bid = s.bid.now }
+
+-- those of a form's bids that fit, numbered from j on
+abbrev pub fitting_from : Lots → ℕ → List Bid → List Sized
+fitting_from lots j [] = []
+fitting_from lots j (x ∷ form) =
+    if fits lots x.package
+    then record { size = size x.package; number = j; bid = x } ∷ fitting_from lots (j + 1) form
+    else fitting_from lots (j + 1) form
+
+-- the bids that fit, by rising size, ties by number
+pub record IsOrdered (lots : Lots) (form : List Bid) (bids : List SizedBid) : Type 0 where
+  pub fitting : List SizedBid
+  pub same : map sized_of fitting ≡ fitting_from lots 1 form
+  pub moved : IsPermutation fitting bids
+  pub rising : AllPairs (λ s t. IsUpTo s.size s.number t.size t.number) bids
+
+-- bids with a quantity for each of n categories, by rising size
+pub record AreRivals (n : ℕ) (rivals : List SizedBid) : Type 0 where
+  pub sized : All (λ s. length s.bid.now.package ≡ n) rivals
+  pub rising : AllPairs (λ s t. s.size ≤ t.size) rivals
+
+-- of smaller size than the bid, not worth less, and at most its package in every category
+abbrev pub beats : Lots → Bid → SizedBid → Bool
+beats lots x s = nat_lt s.size (size x.package) && (is_no_cheaper lots s.bid.now x && is_within s.bid.now.package x.package)
+
+-- the bid fits, and none of these beats it
+abbrev pub is_unbeaten : Lots → List SizedBid → Bid → Bool
+is_unbeaten lots rivals x = fits lots x.package && not (list_any (beats lots x) rivals)
