@@ -1,0 +1,16 @@
+//! The desk of a sealed round: the book under a lock, its sessions and its settlement.
+#![tactic(auto)]
+
+mod closed;
+mod desk;
+mod held;
+mod open;
+mod round;
+mod session;
+
+pub use closed::ClosedBook;
+pub use desk::{Desk, Stopped};
+pub use held::{DeskError, Held};
+pub use open::OpenError;
+pub use round::Round;
+pub use session::{Chair, Session};
