@@ -2,11 +2,15 @@
 use Rattle.std.specs.Prelude.{◌≢◌, ℕ, ◌<◌, ◌≤◌, List, [], ◌∷◌, length, map, ℤ, pos, bytes_eq}
 use Rattle.std.specs.List.{AllByRecursion, IsDistinct}
 use Rattle.program_rows.specs.declared.row.Row.{Row}
+use Rattle.program_rows.specs.declared.column.Column.{Column}
 use Rattle.program_rows.specs.declared.parts.ProgramParts.{ProgramParts}
-use Rattle.program_rows.specs.Program.{Table, TableRow}
+use Rattle.program_rows.specs.Program.{Table, TableRow, TableColumn}
 
 abbrev pub shown_row : Row → TableRow
 shown_row r = record { name = r.name.items; kind = r.kind; right_side = r.right_side }
+
+abbrev pub shown_column : Column → TableColumn
+shown_column c = record { name = c.name.now; bounds = c.bounds; cost = c.cost; entries = c.entries.now }
 
 abbrev pub table_of : ProgramParts → Table
 table_of p = record { objective = p.objective_name.items; rows = map shown_row p.rows.items; columns = p.columns }

@@ -4,6 +4,7 @@
 mod bounds;
 mod broken;
 mod building;
+mod column;
 mod columns;
 mod costs;
 mod digits;
@@ -27,6 +28,7 @@ mod token_parts;
 
 pub use bounds::Bounds;
 pub use building::build;
+pub use column::Column;
 pub use columns::Columns;
 pub use digits::digits_behind;
 pub use fault::FaultKind;

@@ -1,0 +1,193 @@
+-- What the lines of COLUMNS say of the columns.
+use Rattle.std.proofs.Common.{◌≡◌, ℕ, Bool, true, false, cond, not, ◌&&◌, List, [], ◌∷◌, ◌++◌, map, refl, sym, subst, ◌∙◌, append_assoc, Option, Some, None}
+use Rattle.std.specs.Prelude.{⊤}
+use Rattle.std.proofs.lemmas.List.{append-nil}
+use Rattle.std.specs.Prelude.{bytes_eq, codes, filter, find, flat_map, option_map}
+use Rattle.std.specs.List.{list_any, AllByRecursion, IsDistinct}
+use Rattle.std.proofs.lemmas.Slice.Eq.{bytes_eq-Decides}
+use Rattle.program_rows.specs.Meaning.{LineFields, field, is_marker, is_integer_open, each_once, Entry, line_entries, names, stands_in_integers}
+use Rattle.mps_text.proofs.RowPhase.{flip}
+use Rattle.mps_text.proofs.ColumnPhase.{Pair, pair_fields, same-name}
+use Rattle.mps_text.proofs.Pushed.{push, push-append}
+
+-- a column by its name and its pairs
+abbrev pub Listed : Type 0
+Listed = List ℕ × List Pair
+
+abbrev pub of_column : List ℕ → Pair → Entry
+of_column name pair = record { column = name; row = pair.0; number = pair.1 }
+
+abbrev pub plain_lines : List Listed → List LineFields
+plain_lines cs = flat_map (λ c. map (pair_fields c.0) c.1) cs
+
+abbrev pub entries_of : List Listed → List Entry
+entries_of cs = flat_map (λ c. map (of_column c.0) c.1) cs
+
+abbrev plain_line : LineFields → Bool
+plain_line fields = not (is_marker fields)
+
+abbrev pub ArePlain : List Pair → Type 0
+ArePlain pairs = AllByRecursion (λ pair. bytes_eq pair.0 (codes "'MARKER'") ≡ false) pairs
+
+-- ---- the lines that are no markers
+
+keeps-pairs : (name : List ℕ) (pairs : List Pair) (before : List LineFields) → ArePlain pairs → filter plain_line (push (map (pair_fields name) pairs) before) ≡ push (map (pair_fields name) pairs) (filter plain_line before)
+keeps-pairs name [] before h = refl
+keeps-pairs name (pair ∷ pairs) before h = keeps-pairs name pairs (pair_fields name pair ∷ before) h.1 ∙ rw h.0 refl
+
+pub keeps-lines : (cs : List Listed) (before : List LineFields) → AllByRecursion (λ c. ArePlain c.1) cs → filter plain_line (push (plain_lines cs) before) ≡ push (plain_lines cs) (filter plain_line before)
+keeps-lines [] before h = refl
+keeps-lines (c ∷ cs) before h =
+    let chunk = map (pair_fields c.0) c.1 in
+    rw (push-append chunk (plain_lines cs) before, push-append chunk (plain_lines cs) (filter plain_line before), keeps-lines cs (push chunk before) h.1, keeps-pairs c.0 c.1 before h.0) refl
+
+-- ---- entries
+
+pairs-entries : (name : List ℕ) (pairs : List Pair) (before : List LineFields) → flat_map line_entries (push (map (pair_fields name) pairs) before) ≡ push (map (of_column name) pairs) (flat_map line_entries before)
+pairs-entries name [] before = refl
+pairs-entries name (pair ∷ pairs) before = pairs-entries name pairs (pair_fields name pair ∷ before)
+
+pub lines-entries : (cs : List Listed) (before : List LineFields) → flat_map line_entries (push (plain_lines cs) before) ≡ push (entries_of cs) (flat_map line_entries before)
+lines-entries [] before = refl
+lines-entries (c ∷ cs) before =
+    let chunk = map (pair_fields c.0) c.1 in
+    rw (push-append chunk (plain_lines cs) before, push-append (map (of_column c.0) c.1) (entries_of cs) (flat_map line_entries before), lines-entries cs (push chunk before), pairs-entries c.0 c.1 before) refl
+
+-- ---- names
+
+-- the names of others aren't this one
+abbrev pub Differs : List ℕ → List Listed → Type 0
+Differs name cs = AllByRecursion (λ c. bytes_eq c.0 name ≡ false) cs
+
+once-more : (name : List ℕ) (pairs : List Pair) (before : List LineFields) → list_any (λ other. bytes_eq name (field 0 other)) before ≡ true → each_once (push (map (pair_fields name) pairs) before) ≡ each_once before
+once-more name [] before h = refl
+once-more name (pair ∷ pairs) before h = once-more name pairs (pair_fields name pair ∷ before) (rw (same-name name) refl) ∙ rw h refl
+
+once-first : (name : List ℕ) (pair : Pair) (pairs : List Pair) (before : List LineFields) → list_any (λ other. bytes_eq name (field 0 other)) before ≡ false → each_once (push (map (pair_fields name) (pair ∷ pairs)) before) ≡ each_once before ++ name ∷ []
+once-first name pair pairs before h = once-more name pairs (pair_fields name pair ∷ before) (rw (same-name name) refl) ∙ rw h refl
+
+not-named : (name other : List ℕ) (pairs : List Pair) (before : List LineFields) → bytes_eq name other ≡ false → list_any (λ f. bytes_eq name (field 0 f)) before ≡ false → list_any (λ f. bytes_eq name (field 0 f)) (push (map (pair_fields other) pairs) before) ≡ false
+not-named name other [] before d h = h
+not-named name other (pair ∷ pairs) before d h = not-named name other pairs (pair_fields other pair ∷ before) d (rw (d, h) refl)
+
+abbrev pub AreUnnamed : List LineFields → List Listed → Type 0
+AreUnnamed before cs = AllByRecursion (λ c. list_any (λ f. bytes_eq c.0 (field 0 f)) before ≡ false) cs
+
+still_unnamed : (name : List ℕ) (pairs : List Pair) (before : List LineFields) (cs : List Listed) → AllByRecursion (λ other. bytes_eq name other ≡ false) (map (λ c. c.0) cs) → AreUnnamed before cs → AreUnnamed (push (map (pair_fields name) pairs) before) cs
+still_unnamed name pairs before [] d h = tt
+still_unnamed name pairs before (c ∷ cs) d h = (not-named c.0 name pairs before (flip name c.0 d.0) h.0, still_unnamed name pairs before cs d.1 h.1)
+
+-- a column has at least the pair of its cost
+abbrev pub IsFilled : List Pair → Type 0
+IsFilled [] = ⊥
+IsFilled (pair ∷ pairs) = ⊤
+
+once-column : (name : List ℕ) (pairs : List Pair) (before : List LineFields) → IsFilled pairs → list_any (λ other. bytes_eq name (field 0 other)) before ≡ false → each_once (push (map (pair_fields name) pairs) before) ≡ each_once before ++ name ∷ []
+once-column name [] before f h = absurd f
+once-column name (pair ∷ pairs) before f h = once-first name pair pairs before h
+
+pub names-once : (cs : List Listed) (before : List LineFields) → IsDistinct bytes_eq (map (λ c. c.0) cs) → AllByRecursion (λ c. IsFilled c.1) cs → AreUnnamed before cs → each_once (push (plain_lines cs) before) ≡ each_once before ++ map (λ c. c.0) cs
+unfolding IsDistinct
+names-once [] before d f h = sym (append-nil (each_once before))
+names-once (c ∷ cs) before d f h =
+    let chunk = map (pair_fields c.0) c.1 in
+    rw (push-append chunk (plain_lines cs) before, names-once cs (push chunk before) d.1 f.1 (still_unnamed c.0 c.1 before cs d.0 h.1), once-column c.0 c.1 before f.0 h.0) (append_assoc (each_once before) (c.0 ∷ []) (map (λ q. q.0) cs))
+
+-- ---- the number of a column and a row
+
+-- the pair of a row
+abbrev pub look : List ℕ → List Pair → Option Pair
+look row pairs = find (λ pair. bytes_eq row pair.0) pairs
+
+other-column : (name row other : List ℕ) (pairs : List Pair) (before : List Entry) → bytes_eq name other ≡ false → find (names name row) (push (map (of_column other) pairs) before) ≡ find (names name row) before
+other-column name row other [] before d = refl
+other-column name row other (pair ∷ pairs) before d = other-column name row other pairs (of_column other pair ∷ before) d ∙ rw d refl
+
+other-rows : (name row : List ℕ) (pairs : List Pair) (before : List Entry) → AllByRecursion (λ q. bytes_eq row q ≡ false) (map (λ pair. pair.0) pairs) → find (names name row) (push (map (of_column name) pairs) before) ≡ find (names name row) before
+other-rows name row [] before d = refl
+other-rows name row (pair ∷ pairs) before d = other-rows name row pairs (of_column name pair ∷ before) d.1 ∙ rw (same-name name, d.0) refl
+
+own-column : (name row : List ℕ) (pairs : List Pair) (before : List Entry) → IsDistinct bytes_eq (map (λ pair. pair.0) pairs) → find (names name row) before ≡ None
+    → find (names name row) (push (map (of_column name) pairs) before) ≡ option_map (of_column name) (look row pairs)
+unfolding IsDistinct
+own-column name row [] before d h = h
+own-column name row (pair ∷ pairs) before d h = by (bytes_eq row pair.0) refl (own-column name row pairs (of_column name pair ∷ before) d.1)
+  where
+    by : (b : Bool) → bytes_eq row pair.0 ≡ b → (find (names name row) (of_column name pair ∷ before) ≡ None → find (names name row) (push (map (of_column name) pairs) (of_column name pair ∷ before)) ≡ option_map (of_column name) (look row pairs))
+        → find (names name row) (push (map (of_column name) pairs) (of_column name pair ∷ before)) ≡ option_map (of_column name) (cond b (Some pair) (look row pairs))
+    by true e more =
+        let same : row ≡ pair.0 = (bytes_eq-Decides row pair.0).0 e in
+        rw same (other-rows name pair.0 pairs (of_column name pair ∷ before) d.0 ∙ rw (same-name name, same-name pair.0) refl)
+    by false e more = more (rw (same-name name, e) h)
+
+-- no pair of these columns stood before
+abbrev pub AreUnlisted : List Entry → List Listed → Type 0
+AreUnlisted before cs = AllByRecursion (λ c. (row : List ℕ) → find (names c.0 row) before ≡ None) cs
+
+still_unlisted : (name : List ℕ) (pairs : List Pair) (before : List Entry) (cs : List Listed) → AllByRecursion (λ other. bytes_eq name other ≡ false) (map (λ c. c.0) cs) → AreUnlisted before cs → AreUnlisted (push (map (of_column name) pairs) before) cs
+still_unlisted name pairs before [] d h = tt
+still_unlisted name pairs before (c ∷ cs) d h = (λ row. other-column c.0 row name pairs before (flip name c.0 d.0) ∙ h.0 row, still_unlisted name pairs before cs d.1 h.1)
+
+other-columns : (name row : List ℕ) (cs : List Listed) (before : List Entry) → AllByRecursion (λ other. bytes_eq name other ≡ false) (map (λ c. c.0) cs) → find (names name row) (push (entries_of cs) before) ≡ find (names name row) before
+other-columns name row [] before d = refl
+other-columns name row (c ∷ cs) before d =
+    rw (push-append (map (of_column c.0) c.1) (entries_of cs) before) (other-columns name row cs (push (map (of_column c.0) c.1) before) d.1 ∙ other-column name row c.0 c.1 before d.0)
+
+-- a pair of a column is found where its row stands in the column
+pub pairs-found : (cs : List Listed) (before : List Entry) → IsDistinct bytes_eq (map (λ c. c.0) cs) → AllByRecursion (λ c. IsDistinct bytes_eq (map (λ pair. pair.0) c.1)) cs → AreUnlisted before cs
+    → AllByRecursion (λ c. (row : List ℕ) → find (names c.0 row) (push (entries_of cs) before) ≡ option_map (of_column c.0) (look row c.1)) cs
+unfolding IsDistinct
+pairs-found [] before d rows h = tt
+pairs-found (c ∷ cs) before d rows h =
+    let chunk = map (of_column c.0) c.1 in
+    subst (λ (w : List Entry). AllByRecursion (λ q. (row : List ℕ) → find (names q.0 row) w ≡ option_map (of_column q.0) (look row q.1)) (c ∷ cs)) (sym (push-append chunk (entries_of cs) before)) (
+      λ row. other-columns c.0 row cs (push chunk before) d.0 ∙ own-column c.0 row c.1 before rows.0 (h.0 row),
+      pairs-found cs (push chunk before) d.1 rows.1 (still_unlisted c.0 c.1 before cs d.0 h.1),
+    )
+
+-- ---- integers
+
+open-pairs : (name : List ℕ) (pairs : List Pair) (before : List LineFields) → ArePlain pairs → is_integer_open (push (map (pair_fields name) pairs) before) ≡ is_integer_open before
+open-pairs name [] before h = refl
+open-pairs name (pair ∷ pairs) before h = open-pairs name pairs (pair_fields name pair ∷ before) h.1 ∙ rw h.0 refl
+
+pub open-lines : (cs : List Listed) (before : List LineFields) → AllByRecursion (λ c. ArePlain c.1) cs → is_integer_open (push (plain_lines cs) before) ≡ is_integer_open before
+open-lines [] before h = refl
+open-lines (c ∷ cs) before h =
+    let chunk = map (pair_fields c.0) c.1 in
+    rw (push-append chunk (plain_lines cs) before) (open-lines cs (push chunk before) h.1 ∙ open-pairs c.0 c.1 before h.0)
+
+stands-other : (name other : List ℕ) (pairs : List Pair) (before : List LineFields) → bytes_eq name other ≡ false → stands_in_integers name (push (map (pair_fields other) pairs) before) ≡ stands_in_integers name before
+stands-other name other [] before d = refl
+stands-other name other (pair ∷ pairs) before d = stands-other name other pairs (pair_fields other pair ∷ before) d ∙ stands-skip
+  where
+    stands-skip : stands_in_integers name (pair_fields other pair ∷ before) ≡ stands_in_integers name before
+    stands-skip = elim (is_marker (pair_fields other pair)) as (λ b. cond (not b && bytes_eq name other) (is_integer_open before) (stands_in_integers name before) ≡ stands_in_integers name before) [
+      | true ↦ refl
+      | false ↦ rw d refl
+    ]
+
+stands-others : (name : List ℕ) (cs : List Listed) (before : List LineFields) → AllByRecursion (λ other. bytes_eq name other ≡ false) (map (λ c. c.0) cs) → stands_in_integers name (push (plain_lines cs) before) ≡ stands_in_integers name before
+stands-others name [] before d = refl
+stands-others name (c ∷ cs) before d =
+    let chunk = map (pair_fields c.0) c.1 in
+    rw (push-append chunk (plain_lines cs) before) (stands-others name cs (push chunk before) d.1 ∙ stands-other name c.0 c.1 before d.0)
+
+stands-more : (name : List ℕ) (pairs : List Pair) (before : List LineFields) → ArePlain pairs → is_integer_open before ≡ true → stands_in_integers name before ≡ true → stands_in_integers name (push (map (pair_fields name) pairs) before) ≡ true
+stands-more name [] before h o s = s
+stands-more name (pair ∷ pairs) before h o s = stands-more name pairs (pair_fields name pair ∷ before) h.1 (rw h.0 o) (rw (h.0, same-name name) o)
+
+stands-own : (name : List ℕ) (pairs : List Pair) (before : List LineFields) → IsFilled pairs → ArePlain pairs → is_integer_open before ≡ true → stands_in_integers name (push (map (pair_fields name) pairs) before) ≡ true
+stands-own name [] before f h o = absurd f
+stands-own name (pair ∷ pairs) before f h o = stands-more name pairs (pair_fields name pair ∷ before) h.1 (rw h.0 o) (rw (h.0, same-name name) o)
+
+pub all-stand : (cs : List Listed) (before : List LineFields) → IsDistinct bytes_eq (map (λ c. c.0) cs) → AllByRecursion (λ c. IsFilled c.1) cs → AllByRecursion (λ c. ArePlain c.1) cs → is_integer_open before ≡ true
+    → AllByRecursion (λ c. stands_in_integers c.0 (push (plain_lines cs) before) ≡ true) cs
+unfolding IsDistinct
+all-stand [] before d f h o = tt
+all-stand (c ∷ cs) before d f h o =
+    let chunk = map (pair_fields c.0) c.1 in
+    subst (λ (w : List LineFields). AllByRecursion (λ q. stands_in_integers q.0 w ≡ true) (c ∷ cs)) (sym (push-append chunk (plain_lines cs) before)) (
+      stands-others c.0 cs (push chunk before) d.0 ∙ stands-own c.0 c.1 before f.0 h.0 o,
+      all-stand cs (push chunk before) d.1 f.1 h.1 (open-pairs c.0 c.1 before h.0 ∙ o),
+    )

@@ -1,0 +1,175 @@
+-- Steps of known bytes.
+use Rattle.std.proofs.Common.{◌≡◌, ℕ, zero, suc, ◌+◌, ◌-◌, ◌<◌, ◌≤◌, List, [], ◌∷◌, ◌++◌, length, take, drop, refl, sym, ap, subst, ◌∙◌, append_assoc, length-append, arith, Option, Some, None, Result, Ok, Err, rules}
+use Rattle.std.specs.Prelude.{OnErr, IsErr}
+use Rattle.std.specs.Io.KnownBytes.{Appends, Keeps, append_known}
+use Rattle.std.proofs.lemmas.List.{append-nil, take-append-drop, take_all, length-drop, take-take, drop-take, take_at}
+use Rattle.std.specs.Prelude.{flat_map, get_or, slice_get}
+use Rattle.mps_text.specs.declared.sink.SinkFailed.{SinkFailed}
+use Rattle.mps_text.specs.declared.block.Block.{Block}
+use Rattle.mps_text.specs.Sinks.{IsFront, Counts, counted, HasFailed, SentFront}
+use Rattle.mps_text.specs.Held.{held}
+use Rattle.mps_text.specs.Adds.{Adds}
+
+pub Appends-nothing : (a : Option (List ℕ)) → Appends a a []
+Appends-nothing None = tt
+Appends-nothing (Some xs) = sym (append-nil xs)
+
+pub Appends-then : (a b c : Option (List ℕ)) (xs ys zs : List ℕ) → xs ++ ys ≡ zs → Appends a b xs → Appends b c ys → Appends a c zs
+Appends-then None b c xs ys zs e p q = tt
+Appends-then (Some us) None c xs ys zs e p q = absurd p
+Appends-then (Some us) (Some vs) None xs ys zs e p q = absurd q
+Appends-then (Some us) (Some vs) (Some ws) xs ys zs e p q = rw (q, p, ← e) (append_assoc us xs ys)
+
+pub Appends-keeps : (a b c : Option (List ℕ)) (xs : List ℕ) → Appends a b xs → Keeps b c → Appends a c xs
+Appends-keeps None b c xs p q = tt
+Appends-keeps (Some us) None c xs p q = absurd p
+Appends-keeps (Some us) (Some vs) None xs p q = absurd q
+Appends-keeps (Some us) (Some vs) (Some ws) xs p q = q ∙ p
+
+pub Counts-from : (a b : Option (List ℕ)) (xs : List ℕ) (old new n : ℕ) → length xs ≡ n → new ≡ counted (old + n) → Appends a b xs → Counts a b old new
+Counts-from None b xs old new n len e p = tt
+Counts-from (Some us) None xs old new n len e p = absurd p
+Counts-from (Some us) (Some vs) xs old new n len e p = let both = ap length p ∙ length-append us xs in (omega arith, omega arith)
+
+-- a front of what waits went out
+pub IsFront-from : (a b : Option (List ℕ)) (front rest xs : List ℕ) → xs ≡ front ++ rest → Appends a b front → IsFront b (append_known a xs)
+IsFront-from None None front rest xs e p = tt
+IsFront-from None (Some vs) front rest xs e p = tt
+IsFront-from (Some us) None front rest xs e p = absurd p
+IsFront-from (Some us) (Some vs) front rest xs e p = (rest, rw (p, e) (sym (append_assoc us front rest)))
+
+pub OnErr-any : {T E : Type 0} (r : Result T E) (P : Type 0) → P → OnErr r P
+OnErr-any (Ok x) P p = tt
+OnErr-any (Err e) P p = p
+
+take-plus : (i n : ℕ) (xs : List ℕ) → take i xs ++ take n (drop i xs) ≡ take (i + n) xs
+take-plus i n xs =
+    let whole = take-append-drop i (take (i + n) xs) in
+    let front : take i (take (i + n) xs) ≡ take i xs = take-take i (i + n) xs (omega arith) in
+    let back = drop-take i n xs in
+    rw (← front, ← back) whole
+
+-- a piece of what is left goes on with what went out
+pub take-step : (i n : ℕ) (xs : List ℕ) → i ≤ length xs → take i xs ++ take n (take (length xs - i) (drop i xs)) ≡ take (i + n) xs
+take-step i n xs h = rw (take_all (length xs - i) (drop i xs) (omega (arith, length-drop i xs))) (take-plus i n xs)
+
+-- a front of what is held is a front of what will be held
+pub IsFront-then : (t h k : Option (List ℕ)) (front rest xs : List ℕ) → xs ≡ front ++ rest → Appends h k front → IsFront t k → IsFront t (append_known h xs)
+IsFront-then None None k front rest xs e p q = tt
+IsFront-then (Some ts) None k front rest xs e p q = tt
+IsFront-then t (Some hs) None front rest xs e p q = absurd p
+IsFront-then None (Some hs) (Some ks) front rest xs e p q = absurd q
+IsFront-then (Some ts) (Some hs) (Some ks) front rest xs e p q =
+    (q.0 ++ rest, rw (e, ← append_assoc hs front rest, ← p, q.1) (append_assoc ts q.0 rest))
+
+-- the same, where a piece was being added behind what is held
+pub IsFront-piece : (t h k : Option (List ℕ)) (front piece rest xs : List ℕ) → xs ≡ front ++ (piece ++ rest) → Appends h k front → IsFront t (append_known k piece) → IsFront t (append_known h xs)
+IsFront-piece None None k front piece rest xs e p q = tt
+IsFront-piece (Some ts) None k front piece rest xs e p q = tt
+IsFront-piece t (Some hs) None front piece rest xs e p q = absurd p
+IsFront-piece None (Some hs) (Some ks) front piece rest xs e p q = absurd q
+IsFront-piece (Some ts) (Some hs) (Some ks) front piece rest xs e p q =
+    let known : (hs ++ front) ++ piece ≡ ts ++ q.0 = rw p at q.1 in
+    (q.0 ++ rest, rw (e, ← append_assoc front piece rest, ← append_assoc hs (front ++ piece) rest, ← append_assoc hs front piece, known) (append_assoc ts q.0 rest))
+
+pub flat_map-split : {X : Type 0} (f : X → List ℕ) (xs : List X) (i : ℕ) (d : X) → i < length xs → flat_map f xs ≡ flat_map f (take i xs) ++ (f (get_or xs i d) ++ flat_map f (drop (suc i) xs))
+flat_map-split f [] i d h = absurd (omega arith)
+flat_map-split f (x ∷ xs) zero d h = refl
+flat_map-split f (x ∷ xs) (suc i) d h = ap (λ (w : List ℕ). f x ++ w) (flat_map-split f xs i d (omega arith)) ∙ sym (append_assoc (f x) (flat_map f (take i xs)) (f (get_or xs i d) ++ flat_map f (drop (suc i) xs)))
+
+pub Counts-then : (a b c : Option (List ℕ)) (x y z : ℕ) → Counts a b x y → Counts b c y z → Counts a c x z
+Counts-then None b c x y z p q = tt
+Counts-then (Some us) None c x y z p q = absurd p
+Counts-then (Some us) (Some vs) None x y z p q = absurd q
+Counts-then (Some us) (Some vs) (Some ws) x y z p q = (omega arith, omega arith)
+
+-- what a failed call promises
+pub Adds-err : (r : Result (Unit {0}) SinkFailed) (t t' : Option (List ℕ)) (b b' : Block) (n n' : ℕ) (bytes : List ℕ) → IsErr r → IsFront t' (append_known (held t b) bytes) → Counts t t' b.sent b'.sent → HasFailed n n' → Adds r t t' b b' n n' bytes
+Adds-err (Ok x) t t' b b' n n' bytes e front count fails = absurd (search rules)
+Adds-err (Err x) t t' b b' n n' bytes e front count fails = record { ok = tt; err = front; counted = count; failed = fails; succeeded = tt }
+
+-- one call behind another
+pub Adds-then : (x : Unit {0}) (r : Result (Unit {0}) SinkFailed) (t u v : Option (List ℕ)) (a b c : Block) (k m n : ℕ) (xs ys zs : List ℕ) → xs ++ ys ≡ zs
+    → Adds (Ok x) t u a b k m xs → Adds r u v b c m n ys → Adds r t v a c k n zs
+Adds-then x (Ok y) t u v a b c k m n xs ys zs e p q = record {
+  ok = Appends-then (held t a) (held u b) (held v c) xs ys zs e p.ok q.ok;
+  err = tt;
+  counted = Counts-then t u v a.sent b.sent c.sent p.counted q.counted;
+  failed = tt;
+  succeeded = q.succeeded ∙ p.succeeded;
+}
+Adds-then x (Err y) t u v a b c k m n xs ys zs e p q = record {
+  ok = tt;
+  err = IsFront-piece v (held t a) (held u b) xs ys [] zs (sym e ∙ ap (λ (w : List ℕ). xs ++ w) (sym (append-nil ys))) p.ok q.err;
+  counted = Counts-then t u v a.sent b.sent c.sent p.counted q.counted;
+  failed = subst (λ (f : ℕ). HasFailed f n) p.succeeded q.failed;
+  succeeded = tt;
+}
+
+-- what a call behind others leaves undone, where one of them failed
+pub Adds-front : (x : SinkFailed) (t u : Option (List ℕ)) (a b : Block) (k m : ℕ) (xs ys zs : List ℕ) → xs ++ ys ≡ zs → Adds (Err x) t u a b k m xs → Adds (Err x) t u a b k m zs
+Adds-front x t u a b k m xs ys zs e p = record { ok = tt; err = longer u (held t a) p.err; counted = p.counted; failed = p.failed; succeeded = tt }
+  where
+    longer : (f h : Option (List ℕ)) → IsFront f (append_known h xs) → IsFront f (append_known h zs)
+    longer None None q = tt
+    longer (Some fs) None q = tt
+    longer None (Some hs) q = absurd q
+    longer (Some fs) (Some hs) q = (q.0 ++ ys, rw (← e, ← append_assoc hs xs ys, q.1) (append_assoc fs q.0 ys))
+
+front-past : (ts xs : List ℕ) (k : ℕ) → length ts ≤ k → take k (ts ++ xs) ≡ ts ++ take (k - length ts) xs
+front-past [] xs k h = ap (λ (n : ℕ). take n xs) (omega arith)
+front-past (t ∷ ts) xs zero h = absurd (omega arith)
+front-past (t ∷ ts) xs (suc k) h = ap (λ (w : List ℕ). t ∷ w) (front-past ts xs k (omega arith) ∙ ap (λ (n : ℕ). ts ++ take n xs) (omega arith))
+
+-- the count of what went out, for a block that was empty
+pub SentFront-from : (t u : Option (List ℕ)) (xs : List ℕ) (sent : ℕ) → IsFront u (append_known t xs) → Counts t u 0 sent → SentFront t u xs sent
+SentFront-from None u xs sent p q = tt
+SentFront-from (Some ts) None xs sent p q = absurd q
+SentFront-from (Some ts) (Some us) xs sent p q =
+    let n = length us - length ts in
+    let whole = ap length p.1 in
+    let sizes : length ts + length xs ≡ length us + length p.0 = sym (length-append ts xs) ∙ whole ∙ length-append us p.0 in
+    let front : us ≡ take (length us) (ts ++ xs) = rw p.1 (sym (take_at us p.0 (length us) refl)) in
+    (n, omega arith, front ∙ front-past ts xs (length us) q.0, q.1 ∙ ap counted (omega arith))
+
+-- an empty block holds nothing
+pub IsFront-empty : (u t : Option (List ℕ)) (xs : List ℕ) → IsFront u (append_known (append_known t []) xs) → IsFront u (append_known t xs)
+IsFront-empty u None xs p = p
+IsFront-empty None (Some ts) xs p = p
+IsFront-empty (Some us) (Some ts) xs p = rw append-nil at p
+
+-- the same for a block that was made empty
+pub front-of_new : (u t : Option (List ℕ)) (b : Block) (xs : List ℕ) → b.waiting.items ≡ [] → IsFront u (append_known (held t b) xs) → IsFront u (append_known t xs)
+front-of_new u t b xs e p = IsFront-empty u t xs (rw e at p)
+
+pub counts-of_new : (t u : Option (List ℕ)) (none sent : ℕ) → none ≡ 0 → Counts t u none sent → Counts t u 0 sent
+counts-of_new t u none sent e p = subst (λ (n : ℕ). Counts t u n sent) e p
+
+-- where the item of a loop stands
+pub flat_map-item : {X : Type 0} (f : X → List ℕ) (xs : List X) (i : ℕ) (x : X) → x ≡ get_or xs i x → i < length xs → flat_map f xs ≡ flat_map f (take i xs) ++ (f x ++ flat_map f (drop (suc i) xs))
+flat_map-item f xs i x e lt = flat_map-split f xs i x lt ∙ ap (λ w. flat_map f (take i xs) ++ (f w ++ flat_map f (drop (suc i) xs))) (sym e)
+
+IsFront-longer : (f h : Option (List ℕ)) (xs ys : List ℕ) → IsFront f (append_known h xs) → IsFront f (append_known h (xs ++ ys))
+IsFront-longer None None xs ys q = tt
+IsFront-longer (Some fs) None xs ys q = tt
+IsFront-longer None (Some hs) xs ys q = absurd q
+IsFront-longer (Some fs) (Some hs) xs ys q = (q.0 ++ ys, rw (← append_assoc hs xs ys, q.1) (append_assoc fs q.0 ys))
+
+-- the first of two calls failed
+pub Adds-first_failed : (r : Result (Unit {0}) SinkFailed) (t u : Option (List ℕ)) (a b : Block) (k m : ℕ) (xs ys : List ℕ) → IsErr r → IsFront u (append_known (held t a) xs) → Counts t u a.sent b.sent → HasFailed k m → Adds r t u a b k m (xs ++ ys)
+Adds-first_failed r t u a b k m xs ys e front count fails = Adds-err r t u a b k m (xs ++ ys) e (IsFront-longer u (held t a) xs ys front) count fails
+
+-- the second of two calls
+pub Adds-second : (r : Result (Unit {0}) SinkFailed) (t u v : Option (List ℕ)) (a b c : Block) (k m n : ℕ) (xs ys : List ℕ) → Appends (held t a) (held u b) xs → Counts t u a.sent b.sent → m ≡ k → Adds r u v b c m n ys → Adds r t v a c k n (xs ++ ys)
+Adds-second r t u v a b c k m n xs ys added count kept second = Adds-then tt r t u v a b c k m n xs ys (xs ++ ys) refl (record { ok = added; err = tt; counted = count; failed = tt; succeeded = kept }) second
+
+-- an item behind those before it
+pub flat_map-there : {X : Type 0} (f : X → List ℕ) (xs : List X) (i : ℕ) (x : X) → slice_get xs i ≡ Some x → flat_map f xs ≡ flat_map f (take i xs) ++ (f x ++ flat_map f (drop (suc i) xs))
+flat_map-there f [] i x e = cc
+flat_map-there f (y ∷ xs) zero x e = let same : y ≡ x = cc in ap (λ w. f w ++ flat_map f xs) same
+flat_map-there f (y ∷ xs) (suc i) x e = ap (λ (w : List ℕ). f y ++ w) (flat_map-there f xs i x e) ∙ sym (append_assoc (f y) (flat_map f (take i xs)) (f x ++ flat_map f (drop (suc i) xs)))
+
+pub flat_map-next : {X : Type 0} (f : X → List ℕ) (xs : List X) (i : ℕ) (x : X) → slice_get xs i ≡ Some x → flat_map f (take i xs) ++ f x ≡ flat_map f (take (suc i) xs)
+flat_map-next f [] i x e = cc
+flat_map-next f (y ∷ xs) zero x e = let same : y ≡ x = cc in sym (ap (λ w. f w ++ []) same ∙ append-nil (f x))
+flat_map-next f (y ∷ xs) (suc i) x e = append_assoc (f y) (flat_map f (take i xs)) (f x) ∙ ap (λ (w : List ℕ). f y ++ w) (flat_map-next f xs i x e)

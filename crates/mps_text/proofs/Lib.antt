@@ -1,0 +1,21 @@
+pub mod Small
+pub mod Lines
+pub mod Numbers
+pub mod Blocks
+pub mod RowPhase
+pub mod RightSidePhase
+pub mod ColumnPhase
+pub mod BoundPhase
+pub mod RowsBack
+pub mod Known
+pub mod Pushed
+pub mod ColumnsBack
+pub mod BoundsBack
+pub mod EntriesBack
+pub mod Listing
+pub mod WrittenLines
+pub mod ProgramBack
+pub mod RoundTrip
+pub mod LineBytes
+pub mod TextBytes
+mod Examples

@@ -1,0 +1,89 @@
+-- The bytes of the sections, one behind the other, are the text.
+use Rattle.std.proofs.Common.{◌≡◌, ℕ, List, [], ◌∷◌, ◌++◌, map, refl, sym, ap, ◌∙◌, append_assoc}
+use Rattle.std.specs.Prelude.{codes, flat_map}
+use Rattle.std.proofs.lemmas.List.{map-append}
+use Rattle.std.proofs.lemmas.Grind.{flat_map-append}
+use Rattle.program_rows.specs.declared.row.Row.{Row}
+use Rattle.program_rows.specs.declared.parts.ProgramParts.{ProgramParts}
+use Rattle.program_rows.specs.Program.{Table, TableRow, TableColumn}
+use Rattle.program_rows.specs.Parts.{shown_row, table_of}
+use Rattle.program_rows.specs.Lines.{Line, Header, Data}
+use Rattle.program_rows.specs.Meaning.{LineFields}
+use Rattle.mps_text.specs.Text.{written, text, block, if_any, row_block, column_block, row_fields, right_side_fields, bound_fields, entry_fields, column_fields, marker_fields}
+use Rattle.mps_text.specs.Bytes.{bound_bytes, column_bytes, cost_bytes, columns_bytes, bounds_bytes, right_sides_bytes, rows_bytes, parts_bytes}
+
+abbrev flat : List LineFields → List ℕ
+flat ls = flat_map written (map Data ls)
+
+flat-append : (xs ys : List LineFields) → flat (xs ++ ys) ≡ flat xs ++ flat ys
+flat-append xs ys = ap (flat_map written) (map-append Data xs ys) ∙ flat_map-append written (map Data xs) (map Data ys)
+
+flat-each : {X : Type 0} (h : X → LineFields) (xs : List X) → flat (map h xs) ≡ flat_map (λ x. written (Data (h x))) xs
+flat-each h [] = refl
+flat-each h (x ∷ xs) = ap (λ (w : List ℕ). written (Data (h x)) ++ w) (flat-each h xs)
+
+flat-rows : (h : TableRow → LineFields) (rows : List Row) → flat (map h (map shown_row rows)) ≡ flat_map (λ r. written (Data (h (shown_row r)))) rows
+flat-rows h [] = refl
+flat-rows h (r ∷ rows) = ap (λ (w : List ℕ). written (Data (h (shown_row r))) ++ w) (flat-rows h rows)
+
+flat-bounds : (cs : List TableColumn) → flat (map bound_fields cs) ≡ flat_map bound_bytes cs
+flat-bounds [] = refl
+flat-bounds (c ∷ cs) = ap (λ (w : List ℕ). bound_bytes c ++ w) (flat-bounds cs)
+
+flat-column : (p : Table) (c : TableColumn) → flat (column_fields p c) ≡ column_bytes p.objective p.rows c
+flat-column p c = ap (λ (w : List ℕ). cost_bytes p.objective c ++ w) (flat-each (entry_fields p.rows c.name) c.entries)
+
+flat-columns : (p : Table) (cs : List TableColumn) → flat (flat_map (column_fields p) cs) ≡ flat_map (column_bytes p.objective p.rows) cs
+flat-columns p [] = refl
+flat-columns p (c ∷ cs) =
+    flat-append (column_fields p c) (flat_map (column_fields p) cs)
+    ∙ ap (λ (w : List ℕ). w ++ flat (flat_map (column_fields p) cs)) (flat-column p c)
+    ∙ ap (λ (w : List ℕ). column_bytes p.objective p.rows c ++ w) (flat-columns p cs)
+
+columns-part : (q : ProgramParts) (cs : List TableColumn) → q.columns ≡ cs → flat (column_block (table_of q)) ≡ columns_bytes q
+columns-part q [] e = rw e refl
+columns-part q (c ∷ cs) e =
+    let p = table_of q in
+    let L = flat_map (column_fields p) (c ∷ cs) in
+    let last = marker_fields (codes "M2") (codes "'INTEND'") in
+    let inner : flat (L ++ last ∷ []) ≡ flat_map (column_bytes p.objective p.rows) (c ∷ cs) ++ codes " M2 'MARKER' 'INTEND'\n" =
+    flat-append L (last ∷ []) ∙ ap (λ (w : List ℕ). w ++ codes " M2 'MARKER' 'INTEND'\n") (flat-columns p (c ∷ cs)) in
+    rw e (ap (λ (w : List ℕ). codes " M1 'MARKER' 'INTORG'\n" ++ w) inner)
+
+bounds-part : (q : ProgramParts) (cs : List TableColumn) → q.columns ≡ cs → flat_map written (if_any cs (block (codes "BOUNDS") (map bound_fields cs))) ≡ bounds_bytes q
+bounds-part q [] e = rw e refl
+bounds-part q (c ∷ cs) e = rw e (ap (λ (w : List ℕ). codes "BOUNDS\n" ++ w) (flat-bounds (c ∷ cs)))
+
+pub text-parts : (q : ProgramParts) → parts_bytes q ≡ text (table_of q)
+unfolding text
+text-parts q = sym (
+    ap (λ (w : List ℕ). codes "NAME wdp\n" ++ w) (
+    flat_map-append written (first ++ second ++ third ++ fourth) last
+    ∙ ap (λ (w : List ℕ). w ++ codes "ENDATA\n") (
+    flat_map-append written (first ++ second ++ third) fourth
+    ∙ ap (λ (w : List ℕ). w ++ flat_map written fourth) (
+    flat_map-append written (first ++ second) third
+    ∙ ap (λ (w : List ℕ). w ++ flat_map written third) (flat_map-append written first second))))
+    ∙ rw (flat-rows row_fields q.rows.items, columns-part q q.columns refl, flat-rows right_side_fields q.rows.items, bounds-part q q.columns refl)
+    (ap (λ (w : List ℕ). w ++ right_sides_bytes q ++ bounds_bytes q ++ codes "ENDATA\n") (sym (append_assoc (rows_bytes q) (codes "COLUMNS\n") (columns_bytes q)))))
+  where
+    p : Table
+    p = table_of q
+
+    first : List Line
+    first = block (codes "ROWS") (row_block p)
+
+    second : List Line
+    second = block (codes "COLUMNS") (column_block p)
+
+    third : List Line
+    third = block (codes "RHS") (map right_side_fields p.rows)
+
+    fourth : List Line
+    fourth = if_any p.columns (block (codes "BOUNDS") (map bound_fields p.columns))
+
+    last : List Line
+    last = Header (codes "ENDATA") [] ∷ []
+
+pub text-of_parts : (q : ProgramParts) (p : Table) → table_of q ≡ p → parts_bytes q ≡ text p
+text-of_parts q p e = text-parts q ∙ ap text e

@@ -1,0 +1,131 @@
+-- Every line of the text of a program is one that is read as it was written.
+use Rattle.std.proofs.Common.{◌≡◌, ℕ, true, ◌&&◌, List, [], ◌∷◌, ◌++◌, length, map, refl, arith}
+use Rattle.std.specs.Prelude.{◌≢◌, codes, flat_map, ℤ, nat_le, nat_lt, slice_index}
+use Rattle.std.specs.List.{list_all, AllByRecursion}
+use Rattle.std.proofs.lemmas.Bool.{and_parts, leb-true, ltb-true}
+use Rattle.program_rows.specs.declared.row.RowKind.{RowKind}
+use Rattle.program_rows.specs.declared.row.RowKind.TheVariants.{AtMost, AtLeast, Equal}
+use Rattle.program_rows.specs.declared.bounds.Bounds.{Bounds}
+use Rattle.program_rows.specs.declared.bounds.Bounds.TheVariants.{ZeroOrOne, Zero, One}
+use Rattle.program_rows.specs.Program.{Table, TableRow, TableColumn}
+use Rattle.program_rows.specs.Parts.{IsProgram, AreEntries, IsName}
+use Rattle.program_rows.specs.Lines.{Line, Header, Data}
+use Rattle.program_rows.specs.Meaning.{LineFields}
+use Rattle.mps_text.specs.Text.{text_lines, row_block, column_block, block, if_any, row_fields, right_side_fields, bound_fields, kind_letter, bound_type, bound_value, column_fields, entry_fields, marker_fields}
+use Rattle.program_rows.specs.Legal.{IsWritable, IsSmall}
+use Rattle.mps_text.proofs.Small.{small_costs, small_entries}
+use Rattle.mps_text.proofs.Lines.{IsField, Printable, IsWritten}
+use Rattle.mps_text.proofs.Numbers.{IsField-signed_decimal}
+use Rattle.mps_text.proofs.Listing.{row_names, at-name}
+
+printables : (bytes : List ℕ) → list_all (λ b. nat_le 33 b && nat_le b 126) bytes ≡ true → AllByRecursion Printable bytes
+printables [] h = tt
+printables (b ∷ bytes) h =
+    let parts = and_parts (nat_le 33 b && nat_le b 126) (list_all (λ q. nat_le 33 q && nat_le q 126) bytes) h in
+    let sides = and_parts (nat_le 33 b) (nat_le b 126) parts.0 in
+    ((leb-true 33 b sides.0, leb-true b 126 sides.1), printables bytes parts.1)
+
+-- known bytes are a field where they compute to be
+known : (bytes : List ℕ) → nat_lt 0 (length bytes) ≡ true → list_all (λ b. nat_le 33 b && nat_le b 126) bytes ≡ true → IsField bytes
+known bytes some all = (ltb-true 0 (length bytes) some, printables bytes all)
+
+abbrev IsDataLine : LineFields → Type 0
+IsDataLine fields = IsWritten (Data fields)
+
+all-data : (ls : List LineFields) → AllByRecursion IsDataLine ls → AllByRecursion IsWritten (map Data ls)
+all-data [] h = tt
+all-data (l ∷ ls) h = (h.0, all-data ls h.1)
+
+then : (xs ys : List Line) → AllByRecursion IsWritten xs → AllByRecursion IsWritten ys → AllByRecursion IsWritten (xs ++ ys)
+then [] ys h k = k
+then (x ∷ xs) ys h k = (h.0, then xs ys h.1 k)
+
+then-data : (xs ys : List LineFields) → AllByRecursion IsDataLine xs → AllByRecursion IsDataLine ys → AllByRecursion IsDataLine (xs ++ ys)
+then-data [] ys h k = k
+then-data (x ∷ xs) ys h k = (h.0, then-data xs ys h.1 k)
+
+letter : (k : RowKind) → IsField (kind_letter k)
+letter AtMost = known (codes "L") refl refl
+letter AtLeast = known (codes "G") refl refl
+letter Equal = known (codes "E") refl refl
+
+type-field : (b : Bounds) → IsField (bound_type b)
+type-field ZeroOrOne = known (codes "UP") refl refl
+type-field Zero = known (codes "FX") refl refl
+type-field One = known (codes "FX") refl refl
+
+value-field : (b : Bounds) → IsField (bound_value b)
+value-field ZeroOrOne = known (codes "1") refl refl
+value-field Zero = known (codes "0") refl refl
+value-field One = known (codes "1") refl refl
+
+row-lines : (rows : List TableRow) → AllByRecursion IsName (row_names rows) → AllByRecursion IsDataLine (map row_fields rows)
+row-lines [] h = tt
+row-lines (r ∷ rows) h = ((letter r.kind, (h.0, tt)), row-lines rows h.1)
+
+side-lines : (rows : List TableRow) → AllByRecursion IsName (row_names rows) → AllByRecursion (λ r. IsSmall r.right_side) rows → AllByRecursion IsDataLine (map right_side_fields rows)
+side-lines [] h s = tt
+side-lines (r ∷ rows) h s = ((known (codes "RHS") refl refl, (h.0, (IsField-signed_decimal r.right_side s.0, tt))), side-lines rows h.1 s.1)
+
+bound-lines : (cs : List TableColumn) → AllByRecursion IsName (map (λ c. c.name) cs) → AllByRecursion IsDataLine (map bound_fields cs)
+bound-lines [] h = tt
+bound-lines (c ∷ cs) h = ((type-field c.bounds, (known (codes "BND") refl refl, (h.0, (value-field c.bounds, tt)))), bound-lines cs h.1)
+
+entry-lines : (rows : List TableRow) (name : List ℕ) (es : List (ℕ × ℤ)) → IsName name → AllByRecursion IsName (row_names rows) → AreEntries (length rows) es → AllByRecursion (λ e. IsSmall e.1) es → AllByRecursion IsDataLine (map (entry_fields rows name) es)
+entry-lines rows name [] n h legal s = tt
+entry-lines rows name (e ∷ es) n h legal s = ((n, (at-name IsName rows e.0 h legal.0, (IsField-signed_decimal e.1 s.0, tt))), entry-lines rows name es n h legal.3 s.1)
+
+column-lines : (p : Table) (cs : List TableColumn) → AllByRecursion IsName (p.objective ∷ row_names p.rows) → AllByRecursion IsName (map (λ c. c.name) cs) → AllByRecursion (λ c. AreEntries (length p.rows) c.entries) cs
+    → AllByRecursion (λ c. IsSmall c.cost) cs → AllByRecursion (λ c. AllByRecursion (λ e. IsSmall e.1) c.entries) cs → AllByRecursion IsDataLine (flat_map (column_fields p) cs)
+column-lines p [] rows names legal cost small = tt
+column-lines p (c ∷ cs) rows names legal cost small =
+    then-data (column_fields p c) (flat_map (column_fields p) cs)
+    ((names.0, (rows.0, (IsField-signed_decimal c.cost cost.0, tt))), entry-lines p.rows c.name c.entries names.0 rows.1 legal.0 small.0)
+    (column-lines p cs rows names.1 legal.1 cost.1 small.1)
+
+header : (word : List ℕ) → slice_index word 0 ≢ 42 → IsField word → IsWritten (Header word [])
+header word star f = (star, (f, tt))
+
+headed : (word : List ℕ) (ls : List LineFields) → slice_index word 0 ≢ 42 → IsField word → AllByRecursion IsDataLine ls → AllByRecursion IsWritten (block word ls)
+headed word ls star f h = (header word star f, all-data ls h)
+
+marker-line : (name word : List ℕ) → IsField name → IsField word → IsDataLine (marker_fields name word)
+marker-line name word n w = (n, (known (codes "'MARKER'") refl refl, (w, tt)))
+
+column-part : (p : Table) (cs : List TableColumn) → AllByRecursion IsDataLine (flat_map (column_fields p) cs) → AllByRecursion IsDataLine (if_any cs (marker_fields (codes "M1") (codes "'INTORG'") ∷ flat_map (column_fields p) cs ++ marker_fields (codes "M2") (codes "'INTEND'") ∷ []))
+column-part p [] h = tt
+column-part p (c ∷ cs) h = (
+  marker-line (codes "M1") (codes "'INTORG'") (known (codes "M1") refl refl) (known (codes "'INTORG'") refl refl),
+  then-data (flat_map (column_fields p) (c ∷ cs)) (marker_fields (codes "M2") (codes "'INTEND'") ∷ []) h
+      (marker-line (codes "M2") (codes "'INTEND'") (known (codes "M2") refl refl) (known (codes "'INTEND'") refl refl), tt),
+)
+
+bound-part : (cs : List TableColumn) → AllByRecursion IsDataLine (map bound_fields cs) → AllByRecursion IsWritten (if_any cs (block (codes "BOUNDS") (map bound_fields cs)))
+bound-part [] h = tt
+bound-part (c ∷ cs) h = headed (codes "BOUNDS") (map bound_fields (c ∷ cs)) (λ e. absurd (omega (arith, e))) (known (codes "BOUNDS") refl refl) h
+
+pub all-written : (p : Table) → IsProgram p → IsWritable p → AllByRecursion IsWritten (text_lines p)
+all-written p legal told =
+    let rest4 : AllByRecursion IsWritten (Header (codes "ENDATA") [] ∷ []) = (header (codes "ENDATA") (λ e. absurd (omega (arith, e))) (known (codes "ENDATA") refl refl), tt) in
+    let bounds = bound-part p.columns (bound-lines p.columns legal.column_names) in
+    let sides = headed (codes "RHS") (map right_side_fields p.rows) (λ e. absurd (omega (arith, e))) (known (codes "RHS") refl refl) (side-lines p.rows legal.row_names.1 told.right_sides) in
+    let columns = headed (codes "COLUMNS") (column_block p) (λ e. absurd (omega (arith, e))) (known (codes "COLUMNS") refl refl) (column-part p p.columns (column-lines p p.columns legal.row_names legal.column_names legal.entries (small_costs p.columns told.numbers) (small_entries p.columns told.numbers))) in
+    let rows = headed (codes "ROWS") (row_block p) (λ e. absurd (omega (arith, e))) (known (codes "ROWS") refl refl) ((known (codes "N") refl refl, (legal.row_names.0, tt)), row-lines p.rows legal.row_names.1) in (
+      ((λ e. absurd (omega (arith, e))), (known (codes "NAME") refl refl, (known (codes "wdp") refl refl, tt))),
+      then (first ++ second ++ third ++ fourth) last (then (first ++ second ++ third) fourth (then (first ++ second) third (then first second rows columns) sides) bounds) rest4,
+    )
+  where
+    first : List Line
+    first = block (codes "ROWS") (row_block p)
+
+    second : List Line
+    second = block (codes "COLUMNS") (column_block p)
+
+    third : List Line
+    third = block (codes "RHS") (map right_side_fields p.rows)
+
+    fourth : List Line
+    fourth = if_any p.columns (block (codes "BOUNDS") (map bound_fields p.columns))
+
+    last : List Line
+    last = Header (codes "ENDATA") [] ∷ []

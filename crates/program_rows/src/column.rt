@@ -1,0 +1,12 @@
+use crate::bounds::Bounds;
+
+/// A column of a program, lent by the list that it stands in.
+#[derive(Clone, Copy)]
+pub struct Column<'c> {
+    /// Printable ASCII without white space.
+    pub name: &'c [u8],
+    pub bounds: Bounds,
+    pub cost: i64,
+    /// Places of rows, rising, and the coefficients there, none of them 0.
+    pub entries: &'c [(usize, i64)],
+}
