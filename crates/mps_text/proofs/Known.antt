@@ -2,8 +2,8 @@
 use Rattle.std.proofs.Common.{◌≡◌, ℕ, zero, suc, ◌+◌, ◌-◌, ◌<◌, ◌≤◌, List, [], ◌∷◌, ◌++◌, length, take, drop, refl, sym, ap, subst, ◌∙◌, append_assoc, length-append, arith, Option, Some, None, Result, Ok, Err, rules}
 use Rattle.std.specs.Prelude.{OnErr, IsErr}
 use Rattle.std.specs.Io.KnownBytes.{Appends, Keeps, append_known}
-use Rattle.std.proofs.lemmas.List.{append-nil, take-append-drop, take_all, length-drop, take-take, drop-take, take_at}
-use Rattle.std.specs.Prelude.{flat_map, get_or, slice_get}
+use Rattle.std.proofs.lemmas.List.{append-nil, take-append-drop, take_all, length-drop, length-take, take-take, drop-take, take_at}
+use Rattle.std.specs.Prelude.{flat_map, get_or, min, slice_get}
 use Rattle.mps_text.specs.declared.sink.SinkFailed.{SinkFailed}
 use Rattle.mps_text.specs.declared.block.Block.{Block}
 use Rattle.mps_text.specs.Sinks.{IsFront, Counts, counted, HasFailed, SentFront}
@@ -50,8 +50,24 @@ take-plus i n xs =
     rw (← front, ← back) whole
 
 -- a piece of what is left goes on with what went out
-pub take-step : (i n : ℕ) (xs : List ℕ) → i ≤ length xs → take i xs ++ take n (take (length xs - i) (drop i xs)) ≡ take (i + n) xs
-take-step i n xs h = rw (take_all (length xs - i) (drop i xs) (omega (arith, length-drop i xs))) (take-plus i n xs)
+module _ (i n m : ℕ) (xs piece : List ℕ) (e : piece ≡ take (min (length (take (length xs - i) (drop i xs))) m) (take (length xs - i) (drop i xs))) (h : n ≤ length piece) where
+  abbrev rest : List ℕ
+  rest = drop i xs
+
+  whole : take (length xs - i) rest ≡ rest
+  whole = take_all (length xs - i) rest (omega (arith, length-drop i xs))
+
+  is_front : piece ≡ take (min (length rest) m) rest
+  is_front = e ∙ ap (λ (ys : List ℕ). take (min (length ys) m) ys) whole
+
+  few : n ≤ min (length rest) m
+  few = omega (arith, ap length is_front, length-take (min (length rest) m) rest)
+
+  pub piece-within : i ≤ length xs → i + n ≤ length xs
+  piece-within l = omega (arith, few, length-drop i xs)
+
+  pub piece-step : take i xs ++ take n piece ≡ take (i + n) xs
+  piece-step = ap (λ (ys : List ℕ). take i xs ++ take n ys) is_front ∙ ap (λ (ys : List ℕ). take i xs ++ ys) (take-take n (min (length rest) m) rest few) ∙ take-plus i n xs
 
 -- a front of what is held is a front of what will be held
 pub IsFront-then : (t h k : Option (List ℕ)) (front rest xs : List ℕ) → xs ≡ front ++ rest → Appends h k front → IsFront t k → IsFront t (append_known h xs)
