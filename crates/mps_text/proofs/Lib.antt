@@ -19,3 +19,5 @@ pub mod RoundTrip
 pub mod LineBytes
 pub mod TextBytes
 mod Examples
+pub mod FaithfulTexts
+mod Worked
