@@ -42,6 +42,13 @@ impl Program {
         Program { parts }
     }
 
+    /// What every program keeps: names are printable, those of rows differ, and so do those of columns; entries stand in row order, and none is 0.
+    pub fn well_formed(&self)
+        ensures { IsProgram self.now }
+    {
+        let _ = &self.parts;
+    }
+
     /// The name of the objective.
     pub fn objective_name(&self) -> &[u8]
         ensures { result.now ≡ self.now.objective }
