@@ -1,0 +1,147 @@
+-- Worked solutions, which the definitions compute.
+use Rattle.std.specs.Fmt.{digits}
+use Rattle.std.specs.Prelude.{◌≡◌, refl, ℕ, List, [], ◌∷◌, Bool, true, false, pos, negsuc, Ok, Err, codes}
+use Rattle.program_rows.specs.declared.row.RowKind.TheVariants.{AtMost}
+use Rattle.program_rows.specs.declared.bounds.Bounds.TheVariants.{ZeroOrOne, One}
+use Rattle.program_rows.specs.Program.{Table, TableRow}
+use Rattle.program_rows.specs.Points.{objective}
+use Rattle.program_rows.specs.Lines.{fields}
+use Rattle.program_rows.specs.Spelling.{column_bid}
+use Rattle.auction_terms.specs.FirstFault.{first_fault}
+use Rattle.auction_terms.specs.declared.choices.Choice.{Choice}
+use Rattle.outcome.specs.declared.fault.ValueFault.TheVariants as value
+use Rattle.outcome.specs.declared.fault.SolutionFault.TheVariants as fault
+use Rattle.outcome.specs.Values.{token_value}
+use Rattle.outcome.specs.Solution.{solution}
+use Rattle.outcome.specs.Winning.{allocation_of}
+
+-- ---- values
+
+near_zero : token_value (codes "1e-5") ≡ Ok false
+unfolding token_value
+near_zero = refl
+
+below_zero : token_value (codes "-0.00001") ≡ Ok false
+unfolding token_value
+below_zero = refl
+
+above_one : token_value (codes "1.00001") ≡ Ok true
+unfolding token_value
+above_one = refl
+
+below_one : token_value (codes "0.99999") ≡ Ok true
+unfolding token_value
+below_one = refl
+
+below_one_long : token_value (codes "0.99999000000000000000000000000") ≡ Ok true
+unfolding token_value
+below_one_long = refl
+
+above_tolerance : token_value (codes "0.00001001") ≡ Err value.NotZeroOne
+unfolding token_value
+above_tolerance = refl
+
+great : token_value (codes "1e60") ≡ Err value.NotZeroOne
+unfolding token_value
+great = refl
+
+too_great : token_value (codes "1e61") ≡ Err value.ValueText
+unfolding token_value
+too_great = refl
+
+below_tolerance : token_value (codes "0.99998999999999999999999999999") ≡ Err value.NotZeroOne
+unfolding token_value
+below_tolerance = refl
+
+minus_one : token_value (codes "-1") ≡ Err value.NotZeroOne
+unfolding token_value
+minus_one = refl
+
+minus_zero : token_value (codes "-0e-60") ≡ Ok false
+unfolding token_value
+minus_zero = refl
+
+word : token_value (codes "one") ≡ Err value.ValueText
+unfolding token_value
+word = refl
+
+-- ---- solutions against the program of three bidders
+
+abbrev at_most : List ℕ → ℕ → TableRow
+at_most name n = record { name = name; kind = AtMost; right_side = pos n }
+
+abbrev three : Table
+three = record {
+  objective = codes "OBJ";
+  rows = at_most (codes "B1") 1 ∷ at_most (codes "B2") 1 ∷ at_most (codes "B3") 1 ∷ at_most (codes "C1") 2 ∷ at_most (codes "C2") 1 ∷ [];
+  columns =
+      record { name = codes "X1_1"; bounds = ZeroOrOne; cost = negsuc 29; entries = (0, pos 1) ∷ (3, pos 1) ∷ [] } ∷
+      record { name = codes "X1_2"; bounds = ZeroOrOne; cost = negsuc 49; entries = (0, pos 1) ∷ (3, pos 2) ∷ (4, pos 1) ∷ [] } ∷
+      record { name = codes "X2_1"; bounds = ZeroOrOne; cost = negsuc 19; entries = (1, pos 1) ∷ (3, pos 1) ∷ [] } ∷
+      record { name = codes "X3_1"; bounds = ZeroOrOne; cost = negsuc 11; entries = (2, pos 1) ∷ (4, pos 1) ∷ [] } ∷ [];
+}
+
+abbrev winners : List Bool
+winners = true ∷ false ∷ true ∷ true ∷ []
+
+won : solution three (codes "X1_1 0.999999\nX2_1 1\nX3_1 1\n") ≡ Ok winners
+unfolding solution fields first_fault token_value
+won = refl
+
+objective_won : objective three winners ≡ negsuc 61
+objective_won = refl
+
+comes_back : allocation_of three winners ≡ record { bidder = 1; bid = 1 } ∷ record { bidder = 2; bid = 1 } ∷ record { bidder = 3; bid = 1 } ∷ []
+unfolding column_bid digits
+comes_back = refl
+
+two_bids : solution three (codes "X1_1 1\nX1_2 1\n") ≡ Err (fault.RowBroken 0)
+unfolding solution fields first_fault token_value
+two_bids = refl
+
+not_zero_one : solution three (codes "X1_1 0.9\n") ≡ Err (fault.NotZeroOne 1)
+unfolding solution fields first_fault token_value
+not_zero_one = refl
+
+end_of_tolerance : solution three (codes "X1_1 0.99999\n") ≡ Ok (true ∷ false ∷ false ∷ false ∷ [])
+unfolding solution fields first_fault token_value
+end_of_tolerance = refl
+
+unknown : solution three (codes "X1_3 1\n") ≡ Err (fault.UnknownColumn 1)
+unfolding solution fields first_fault token_value
+unknown = refl
+
+no_bytes : solution three [] ≡ Ok (false ∷ false ∷ false ∷ false ∷ [])
+unfolding solution fields first_fault token_value
+no_bytes = refl
+
+repeated : solution three (codes "X1_1 1\nX1_1 1") ≡ Err (fault.RepeatedColumn 2)
+unfolding solution fields first_fault token_value
+repeated = refl
+
+three_fields : solution three (codes "X1_1 1 2") ≡ Err (fault.Fields 1)
+unfolding solution fields first_fault token_value
+three_fields = refl
+
+no_number : solution three (codes "X1_1 one") ≡ Err (fault.ValueText 1)
+unfolding solution fields first_fault token_value
+no_number = refl
+
+first_line : solution three (codes "X1_1 0.9\nQ 1\n") ≡ Err (fault.NotZeroOne 1)
+unfolding solution fields first_fault token_value
+first_line = refl
+
+two_returns : solution three (codes "X1_1 1\r\r\n") ≡ Err (fault.ValueText 1)
+unfolding solution fields first_fault token_value
+two_returns = refl
+
+skipped_lines : solution three (codes "# status optimal\n\n \t\r\nX1_1\t1\r\n") ≡ Ok (true ∷ false ∷ false ∷ false ∷ [])
+unfolding solution fields first_fault token_value
+skipped_lines = refl
+
+abbrev fixed : Table
+fixed = record { objective = codes "OBJ"; rows = []; columns = record { name = codes "X1_1"; bounds = One; cost = pos 0; entries = [] } ∷ [] }
+
+bound_broken : solution fixed [] ≡ Err (fault.BoundBroken 0)
+unfolding solution fields first_fault token_value
+bound_broken = refl

@@ -1,0 +1,10 @@
+pub mod NearLaws
+pub mod FieldLaws
+pub mod ColumnLaws
+pub mod SaidLaws
+pub mod ToldLaws
+pub mod PointLaws
+pub mod BackLaws
+pub mod NameLaws
+pub mod BoundLaws
+mod Examples

@@ -1,0 +1,91 @@
+-- What a solution tells is a point.
+use Rattle.std.proofs.Common.{◌≡◌, ℕ, suc, ◌+◌, Bool, true, false, not, cond, List, [], ◌∷◌, Option, Some, None, Ok, refl, ap, subst, arith, length, map}
+use Rattle.std.specs.Prelude.{position, nat_lt}
+use Rattle.std.specs.List.{AllByRecursion, enumerate_from, position_or_len}
+use Rattle.std.proofs.lemmas.Bool.Decides.{nat_tests}
+use Rattle.std.specs.Option.{option_map}
+use Rattle.auction_terms.proofs.OfferLaws.{all_agree}
+use Rattle.auction_terms.specs.FirstFault.{option_or, first_fault}
+use Rattle.program_rows.specs.Program.{Table, TableColumn}
+use Rattle.program_rows.specs.Points.{allows, meets, row_sum, broken_row, AreAllowed, IsPoint}
+use Rattle.auction_terms.specs.Lines.{lines_of}
+use Rattle.outcome.specs.declared.fault.SolutionFault.{SolutionFault}
+use Rattle.outcome.specs.declared.fault.SolutionFault.TheVariants as fault
+use Rattle.outcome.specs.Solution.{solution, solution_limit, told, text_fault, point_fault, column_names, values_of, is_one, broken_bound_from, line_fault}
+use Rattle.outcome.specs.Coming.{SolutionsArePoints}
+
+both_none : {F : Type 0} (a b : Option F) → option_or a b ≡ None → (a ≡ None) × (b ≡ None)
+both_none None b e = (refl, e)
+both_none (Some f) b e = cc e
+
+later : (k n : ℕ) → cond (nat_lt (1 + k) (suc n)) (Some (1 + k)) None ≡ None → cond (nat_lt k n) (Some k) None ≡ None
+later k n e = by (nat_lt k n) refl
+  where
+    by : (b : Bool) → nat_lt k n ≡ b → cond (nat_lt k n) (Some k) None ≡ None
+    by true t = let u : nat_lt (1 + k) (suc n) ≡ true = grind (arith, nat_tests) in let f = rw u at e in cc f
+    by false t = rw t refl
+
+module _ {X : Type 0} (test : X → Bool) where
+  none_passes : (xs : List X) → position test xs ≡ None → AllByRecursion (λ x. test x ≡ false) xs
+  none_passes [] e = tt
+  none_passes (x ∷ xs) e = by (test x) refl (none_passes xs)
+    where
+      by : (b : Bool) → test x ≡ b → (position test xs ≡ None → AllByRecursion (λ x. test x ≡ false) xs) → AllByRecursion (λ x. test x ≡ false) (x ∷ xs)
+      by true t more = let u : nat_lt 0 (suc (length xs)) ≡ true = grind (arith, nat_tests) in let f = rw (t, u) at e in cc f
+      by false t more = (t, more (later (position_or_len test xs) (length xs) (rw t at e)))
+
+module _ (value : TableColumn → Bool) where
+  allowed : (place : ℕ) (columns : List TableColumn) → broken_bound_from place columns (map value columns) ≡ None → AreAllowed columns (map value columns)
+  allowed place [] e = tt
+  allowed place (c ∷ columns) e = by (allows c.bounds (value c)) refl (allowed (place + 1) columns)
+    where
+      by : (b : Bool) → allows c.bounds (value c) ≡ b → (broken_bound_from (place + 1) columns (map value columns) ≡ None → AreAllowed columns (map value columns)) → AreAllowed (c ∷ columns) (map value (c ∷ columns))
+      by true t more = (t, more (rw t at e))
+      by false t more = absurd (let f = rw t at e in cc f)
+
+told_ok : (f : Option SolutionFault) (mine values : List Bool) → told f mine ≡ Ok values → (f ≡ None) × (mine ≡ values)
+told_ok None mine values e = (refl, cc e)
+told_ok (Some x) mine values e = cc e
+
+bound_fault_none : (o : Option ℕ) → option_map fault.BoundBroken o ≡ None → o ≡ None
+bound_fault_none None e = refl
+bound_fault_none (Some x) e = cc e
+
+row_fault_none : (o : Option ℕ) → option_map fault.RowBroken o ≡ None → o ≡ None
+row_fault_none None e = refl
+row_fault_none (Some x) e = cc e
+
+not_failing : (b : Bool) → not b ≡ false → b ≡ true
+not_failing true e = refl
+not_failing false e = cc e
+
+is_point : (p : Table) (value : TableColumn → Bool) → point_fault p (map value p.columns) ≡ None → IsPoint p (map value p.columns)
+is_point p value e =
+    let values = map value p.columns in
+    let both = both_none (option_map fault.BoundBroken (broken_bound_from 0 p.columns values)) (option_map fault.RowBroken (broken_row p values)) e in
+    let rows = none_passes (λ r. not (meets r.1.kind (row_sum p values r.0) r.1.right_side)) (enumerate_from 0 p.rows) (row_fault_none _ both.1) in
+    record {
+      allowed = allowed value 0 p.columns (bound_fault_none _ both.0);
+      met = all_agree (λ r. not (meets r.1.kind (row_sum p values r.0) r.1.right_side) ≡ false) (λ r. meets r.1.kind (row_sum p values r.0) r.1.right_side ≡ true) (enumerate_from 0 p.rows) (λ r. not_failing _) rows;
+    }
+
+map_map : {X Y Z : Type 0} (f : X → Y) (g : Y → Z) (xs : List X) → map g (map f xs) ≡ map (λ x. g (f x)) xs
+map_map f g [] = refl
+map_map f g (x ∷ xs) = ap (λ ys. g (f x) ∷ ys) (map_map f g xs)
+
+pub solutions_are_points : SolutionsArePoints
+unfolding solution
+solutions_are_points p text values e = by (nat_lt solution_limit (length text)) refl
+  where
+    is_point_of : point_fault p (values_of (column_names p) (lines_of text)) ≡ None → IsPoint p (values_of (column_names p) (lines_of text))
+    is_point_of none =
+        let same : values_of (column_names p) (lines_of text) ≡ map (λ c. is_one (lines_of text) c.name) p.columns = map_map (λ (c : TableColumn). c.name) (is_one (lines_of text)) p.columns in
+        rw same (is_point p (λ c. is_one (lines_of text) c.name) (rw same at none))
+
+    by : (b : Bool) → nat_lt solution_limit (length text) ≡ b → IsPoint p values
+    by true t = let f = rw t at e in cc f
+    by false t =
+        let f = rw t at e in
+        let mine = told_ok (text_fault p (lines_of text)) (values_of (column_names p) (lines_of text)) values f in
+        let both = both_none (first_fault (line_fault (column_names p)) [] (lines_of text)) (point_fault p (values_of (column_names p) (lines_of text))) mine.0 in
+        subst (IsPoint p) mine.1 (is_point_of both.1)

@@ -1,0 +1,117 @@
+-- Refusals of a solution, and the answer that they make.
+use Rattle.std.proofs.Common.{◌≡◌, ℕ, suc, ◌+◌, ◌<◌, ◌≤◌, Bool, true, false, List, [], ◌∷◌, Option, Some, None, Result, Ok, Err, length, map, refl, sym, ap, ◌∙◌, arith}
+use Rattle.std.specs.Prelude.{nat_lt}
+use Rattle.std.specs.List.{slice_split}
+use Rattle.std.proofs.lemmas.Bool.{lt-ltb}
+use Rattle.std.proofs.lemmas.Bool.Decides.{nat_tests}
+use Rattle.std.specs.Str.Lines.{strip_carriage_return}
+use Rattle.std.proofs.lemmas.List.{length-map}
+use Rattle.std.proofs.lemmas.List.Sums.{count_by-le-length}
+use Rattle.std.proofs.lemmas.List.Splits.{length-slice_split}
+use Rattle.auction_terms.specs.FirstFault.{option_or, first_fault}
+use Rattle.auction_terms.specs.Lines.{is_line_feed, lines_of, without_empty_last}
+use Rattle.outcome.specs.declared.fault.SolutionFault.{SolutionFault}
+use Rattle.outcome.specs.declared.fault.SolutionFault.TheVariants as fault
+use Rattle.program_rows.specs.Program.{Table}
+use Rattle.outcome.specs.Solution.{told, Answers, column_names, line_fault, values_of, point_fault, text_fault, solution}
+
+module _ {T : Type 0} where
+  pub told_none : (f : Option SolutionFault) (x y : T) → Ok x ≡ told f y → f ≡ None
+  told_none None x y h = refl
+  told_none (Some g) x y h = cc h
+
+  pub told_some : (f : Option SolutionFault) (g : SolutionFault) (y : T) → Err g ≡ told f y → f ≡ Some g
+  told_some None g y h = cc h
+  told_some (Some k) g y h = let same : g ≡ k = cc in rw same refl
+
+  pub told_same : (f : Option SolutionFault) (x y : T) → Ok x ≡ told f y → x ≡ y
+  told_same None x y h = cc h
+  told_same (Some g) x y h = cc h
+
+  pub told_fine : (f : Option SolutionFault) (y : T) → f ≡ None → Ok y ≡ told f y
+  told_fine None y h = refl
+  told_fine (Some g) y h = cc h
+
+  pub told_of : (f : Option SolutionFault) (g : SolutionFault) (y : T) → f ≡ Some g → Err g ≡ told f y
+  told_of None g y h = cc h
+  told_of (Some k) g y h = let same : k ≡ g = cc in rw same refl
+
+  -- a result that is the answer meets it
+  pub answered : (result answer : Result T SolutionFault) → result ≡ answer → Answers result answer
+  answered (Ok x) answer e = e
+  answered (Err fault.TooLarge) answer e = e
+  answered (Err (fault.Fields place)) answer e = e
+  answered (Err (fault.UnknownColumn place)) answer e = e
+  answered (Err (fault.RepeatedColumn place)) answer e = e
+  answered (Err (fault.ValueText place)) answer e = e
+  answered (Err (fault.NotZeroOne place)) answer e = e
+  answered (Err (fault.BoundBroken column)) answer e = e
+  answered (Err (fault.RowBroken row)) answer e = e
+  answered (Err fault.OutOfMemory) answer e = tt
+
+fewer : (parts : List (List ℕ)) → length (without_empty_last parts) ≤ length parts
+fewer [] = omega arith
+fewer ([] ∷ []) = omega arith
+fewer ((b ∷ part) ∷ []) = omega arith
+fewer ([] ∷ next ∷ more) = omega (arith, fewer (next ∷ more))
+fewer ((b ∷ part) ∷ next ∷ more) = omega (arith, fewer (next ∷ more))
+
+-- a text has at most one line more than bytes
+pub line_count : (text : List ℕ) → length (lines_of text) ≤ length text + 1
+line_count text = omega (arith, length-map (without_empty_last (slice_split is_line_feed text)) strip_carriage_return, fewer (slice_split is_line_feed text), length-slice_split is_line_feed text, count_by-le-length is_line_feed text)
+
+-- ---- the answer to a text
+
+option_second : (f g : Option SolutionFault) → f ≡ None → option_or f g ≡ g
+option_second None g h = refl
+option_second (Some x) g h = cc h
+
+option_first : (f g : Option SolutionFault) (x : SolutionFault) → f ≡ Some x → option_or f g ≡ Some x
+option_first None g x h = cc h
+option_first (Some y) g x h = h
+
+-- a fault of a part is that of the whole, or want of memory stands in its place
+answers_more : {T U : Type 0} (f : SolutionFault) (part : Result T SolutionFault) (whole : Result U SolutionFault) → Answers {T = T} (Err f) part → (Err f ≡ part → Err f ≡ whole) → Answers {T = U} (Err f) whole
+answers_more fault.TooLarge part whole h more = more h
+answers_more (fault.Fields place) part whole h more = more h
+answers_more (fault.UnknownColumn place) part whole h more = more h
+answers_more (fault.RepeatedColumn place) part whole h more = more h
+answers_more (fault.ValueText place) part whole h more = more h
+answers_more (fault.NotZeroOne place) part whole h more = more h
+answers_more (fault.BoundBroken column) part whole h more = more h
+answers_more (fault.RowBroken row) part whole h more = more h
+answers_more fault.OutOfMemory part whole h more = tt
+
+module _ (p : Table) (text : List ℕ) where
+  abbrev line_faults : Option SolutionFault
+  line_faults = first_fault (line_fault (column_names p)) [] (lines_of text)
+
+  abbrev values : List Bool
+  values = values_of (column_names p) (lines_of text)
+
+  pub too_long : 67108864 < length text → Err fault.TooLarge ≡ solution p text
+  unfolding solution
+  too_long h = let t : nat_lt 67108864 (length text) ≡ true = lt-ltb _ _ h in rw t refl
+
+  short : length text ≤ 67108864 → solution p text ≡ told (text_fault p (lines_of text)) values
+  unfolding solution
+  short h = let t : nat_lt 67108864 (length text) ≡ false = grind (arith, nat_tests) in rw t refl
+
+  pub faulty_line : (f : SolutionFault) → length text ≤ 67108864 → Answers (Err f) (told line_faults values) → Answers (Err f) (solution p text)
+  faulty_line f small h = answers_more f (told line_faults values) (solution p text) h (λ e.
+      let some = told_some line_faults f values e in
+      told_of (text_fault p (lines_of text)) f values (option_first line_faults (point_fault p values) f some) ∙ sym (short small))
+
+  pub no_point : (f : SolutionFault) (read : List Bool) → length text ≤ 67108864 → Ok read ≡ told line_faults values → Err f ≡ told {T = Unit {0}} (point_fault p read) tt → Answers (Err f) (solution p text)
+  no_point f read small e h =
+      let none = told_none line_faults read values e in
+      let same : read ≡ values = told_same line_faults read values e in
+      let some : point_fault p values ≡ Some f = rw same at (told_some (point_fault p read) f tt h) in
+      answered (Err f) (solution p text) (told_of (text_fault p (lines_of text)) f values (option_second line_faults (point_fault p values) none ∙ some) ∙ sym (short small))
+
+  pub point_told : (read : List Bool) → length text ≤ 67108864 → Ok read ≡ told line_faults values → Ok tt ≡ told {T = Unit {0}} (point_fault p read) tt → Ok read ≡ solution p text
+  point_told read small e h =
+      let none = told_none line_faults read values e in
+      let same : read ≡ values = told_same line_faults read values e in
+      let fine : point_fault p values ≡ None = rw same at (told_none (point_fault p read) tt tt h) in
+      ap (λ (vs : List Bool). Ok vs) same ∙ told_fine (text_fault p (lines_of text)) values (option_second line_faults (point_fault p values) none ∙ fine) ∙ sym (short small)

@@ -1,0 +1,10 @@
+use Rattle.std.proofs.Common.{◌≡◌, ◌∙◌, sym}
+use Rattle.std.proofs.lemmas.Option.{slice_get-map}
+use Rattle.program_rows.specs.Program.{TableColumn}
+use Rattle.outcome.proofs.ColumnLaws.{one_more}
+use Rattle.outcome.proofs.columns.names_of.Goals as goal
+
+pub loop-column-preserved : goal.loop-column-preserved
+loop-column-preserved c =
+    let named = slice_get-map (λ (d : TableColumn). d.name) c.args.program.now.columns c.loop-column.column ∙ c.column_name.ensures in
+    one_more c.args.program.now.columns c.loop-column.names.keys c.insert.new.self.keys c.column_name.result c.loop-column.column c.requires c.loop-column.invariant named c.in_ok-insert.ensures.keys

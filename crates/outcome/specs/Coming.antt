@@ -1,0 +1,31 @@
+-- What the solutions of a program come back to.
+use Rattle.std.specs.Prelude.{◌≡◌, ℕ, Bool, List, pos, neg_ℤ, Ok}
+use Rattle.auction_terms.specs.Packages.{Lots}
+use Rattle.auction_terms.specs.Allocations.{Book, total, IsFeasible}
+use Rattle.program_rows.specs.Program.{Table}
+use Rattle.program_rows.specs.Points.{objective, IsPoint}
+use Rattle.program_rows.specs.Meaning.{meaning}
+use Rattle.program_rows.specs.Faithful.{back, IsFaithful}
+use Rattle.outcome.specs.Solution.{solution}
+use Rattle.outcome.specs.Winning.{allocation_of, IsMap, IsRising}
+
+-- what a solution text tells is a point
+abbrev pub SolutionsArePoints : Type 0
+SolutionsArePoints = (p : Table) (text : List ℕ) (values : List Bool) → solution p text ≡ Ok values → IsPoint p values
+
+-- the point wins an allocation, by rising bidder: feasible, with the total that the objective tells
+pub record ComesBack (lots : Lots) (book : Book) (group : ℕ → Bool) (p : Table) (values : List Bool) : Type 0 where
+  pub map : IsMap (back p.columns values)
+  pub feasible : IsFeasible lots book group (allocation_of p values)
+  pub same_total : pos (total lots book (allocation_of p values)) ≡ neg_ℤ (objective p values)
+  pub rising : IsRising (allocation_of p values)
+
+-- the points of a faithful program come back
+abbrev pub PointsComeBack : Type 0
+PointsComeBack = (lots : Lots) (book : Book) (group : ℕ → Bool) (p : Table) (values : List Bool)
+    → IsFaithful lots book group p → IsPoint p values → ComesBack lots book group p values
+
+-- what a solution text tells against the program of a faithful MPS text comes back
+abbrev pub SolutionsComeBack : Type 0
+SolutionsComeBack = (lots : Lots) (book : Book) (group : ℕ → Bool) (mps text : List ℕ) (p : Table) (values : List Bool)
+    → meaning mps ≡ Ok p → IsFaithful lots book group p → solution p text ≡ Ok values → ComesBack lots book group p values

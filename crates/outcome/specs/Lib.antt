@@ -1,0 +1,5 @@
+pub mod Values
+pub mod Solution
+pub mod Reading
+pub mod Winning
+pub mod Coming

@@ -1,0 +1,42 @@
+//! Allocations as lists of choices.
+
+use auction_terms::Choice;
+use std::marker::Model;
+
+/// Who wins which bid. Contracts see the list of the choices, by rising bidder.
+#[derive(Drop)]
+pub struct Allocation {
+    choices: Vec<Choice>,
+}
+
+impl Model for Allocation {
+    ghost use Rattle.std.specs.Prelude.{List};
+    ghost use Rattle.auction_terms.specs.declared.choices.Choice.{Choice};
+    ghost use Rattle.outcome.specs.Winning.{IsRising};
+
+    ghost Value = { List Choice };
+
+    ghost view = { λ a. a.choices.items };
+
+    ghost invariant = { λ a. IsRising a.choices.items };
+}
+
+impl Allocation {
+    ghost use Rattle.std.specs.Prelude.{◌≡◌};
+    ghost use Rattle.outcome.specs.Winning.{IsRising};
+
+    pub(crate) fn new(choices: Vec<Choice>) -> Allocation
+        requires { IsRising choices.items }
+        ensures { result ≡ choices.items }
+    {
+        Allocation { choices }
+    }
+
+    /// The bidders with the numbers of their bids, by rising bidder.
+    pub fn choices(&self) -> &[Choice]
+        ensures choices { result.now ≡ self.now }
+        ensures rising { IsRising self.now }
+    {
+        self.choices.as_slice()
+    }
+}

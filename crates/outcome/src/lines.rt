@@ -1,0 +1,96 @@
+//! The lines of a solution.
+
+ghost use Rattle.std.specs.Prelude.{◌≡◌, ◌∷◌, ◌++◌, ◌<◌, ◌≤◌, ◌+◌, ◌==◌, [], ℕ, List, length, OnOk, slice_index, true, false, bytes_eq};
+ghost use Rattle.std.specs.List.{IsDistinct};
+ghost use Rattle.auction_terms.specs.FirstFault.{first_fault};
+ghost use Rattle.auction_terms.specs.Lines.{lines_of};
+ghost use Rattle.program_rows.specs.Lines.{fields};
+ghost use Rattle.outcome.specs.Solution.{told, pair_fault, line_fault, is_skipped};
+ghost use Rattle.outcome.specs.Reading.{bytes_of, said_by};
+
+use crate::fault::SolutionFault;
+use crate::fields::next_field;
+use crate::values::{at_line, value_of};
+use auction_terms::LineReader;
+use indexmap::IndexSet;
+
+/// Notes the value that a line gives a column.
+fn take_pair(
+    columns: &IndexSet<&[u8]>,
+    said: &mut [Option<bool>],
+    place: usize,
+    name: &[u8],
+    token: &[u8],
+) -> Result<(), SolutionFault>
+    requires { length said.old ≡ length columns.now.keys }
+    ensures answer { (before : List (List ℕ)) → said.old ≡ said_by (bytes_of columns.now.keys) before → result ≡ told (pair_fault (bytes_of columns.now.keys) before place name.now token.now) tt }
+    ensures kept { OnOk result ((before : List (List ℕ)) (line : List ℕ) → IsDistinct bytes_eq (bytes_of columns.now.keys) → said.old ≡ said_by (bytes_of columns.now.keys) before
+        → is_skipped line ≡ false → fields line ≡ name.now ∷ token.now ∷ [] → said.new ≡ said_by (bytes_of columns.now.keys) (before ++ line ∷ [])) }
+{
+    let Some(column) = columns.get_index_of(name) else {
+        return Err(SolutionFault::UnknownColumn { place });
+    };
+    if said[column].is_some() {
+        return Err(SolutionFault::RepeatedColumn { place });
+    }
+    match value_of(token) {
+        Ok(value) => said[column] = Some(value),
+        Err(fault) => return Err(at_line(fault, place)),
+    }
+    Ok(())
+}
+
+fn is_comment(line: &[u8]) -> bool
+    ensures { result ≡ (slice_index line.now 0 == 35) }
+{
+    !line.is_empty() && line[0] == b'#'
+}
+
+/// Takes a line, of which `place` is the number.
+fn take_line(
+    columns: &IndexSet<&[u8]>,
+    said: &mut [Option<bool>],
+    place: usize,
+    line: &[u8],
+) -> Result<(), SolutionFault>
+    requires { length said.old ≡ length columns.now.keys }
+    ensures answer { (before : List (List ℕ)) → said.old ≡ said_by (bytes_of columns.now.keys) before → place ≡ length before + 1 → result ≡ told (line_fault (bytes_of columns.now.keys) before line.now) tt }
+    ensures kept { OnOk result ((before : List (List ℕ)) → IsDistinct bytes_eq (bytes_of columns.now.keys) → said.old ≡ said_by (bytes_of columns.now.keys) before
+        → said.new ≡ said_by (bytes_of columns.now.keys) (before ++ line.now ∷ [])) }
+{
+    if is_comment(line) {
+        return Ok(());
+    }
+    let Some(name) = next_field(line) else {
+        return Ok(());
+    };
+    let Some(value) = next_field(name.rest) else {
+        return Err(SolutionFault::Fields { place });
+    };
+    if next_field(value.rest).is_some() {
+        return Err(SolutionFault::Fields { place });
+    }
+    take_pair(columns, said, place, name.text, value.text)
+}
+
+/// Takes the lines of a text.
+pub fn take_lines(
+    columns: &IndexSet<&[u8]>,
+    said: &mut [Option<bool>],
+    text: &[u8],
+) -> Result<(), SolutionFault>
+    requires sized { length said.old ≡ length columns.now.keys }
+    requires distinct { IsDistinct bytes_eq (bytes_of columns.now.keys) }
+    requires nothing { said.old ≡ said_by (bytes_of columns.now.keys) [] }
+    requires small { length text.now ≤ 67108864 }
+    ensures answer { result ≡ told (first_fault (line_fault (bytes_of columns.now.keys)) [] (lines_of text.now)) tt }
+    ensures said { OnOk result (said.new ≡ said_by (bytes_of columns.now.keys) (lines_of text.now)) }
+{
+    let mut lines = LineReader::new(text);
+    let mut place = 0;
+    while let Some(line) = lines.next() {
+        place += 1;
+        take_line(columns, said, place, line)?;
+    }
+    Ok(())
+}

@@ -1,0 +1,68 @@
+//! Numbers that count as 0 or 1.
+
+ghost use Rattle.std.specs.Prelude.{◌≡◌, ◌<◌, ◌≤◌, ◌^◌, ◌*◌, if◌then◌else◌, ℤ, pos};
+ghost use Rattle.program_rows.specs.Numbers.{signed};
+ghost use Rattle.outcome.specs.Values.{near_of};
+
+use crate::fault::ValueFault;
+
+/// What digits with the point moved count as.
+pub fn near(minus: bool, digits: u128, up: u32, down: u32) -> Result<bool, ValueFault>
+    requires digits { digits < 10 ^ 30 }
+    requires up { up ≤ 60 }
+    requires down { down ≤ 90 }
+    ensures { result ≡ near_of (signed minus (digits * 10 ^ up)) (10 ^ down) }
+{
+    if up >= down {
+        near_whole(minus, digits, up - down)
+    } else {
+        near_part(minus, digits, down - up)
+    }
+}
+
+/// The same, of a whole number.
+fn near_whole(minus: bool, digits: u128, places: u32) -> Result<bool, ValueFault>
+    requires digits { digits < 10 ^ 30 }
+    ensures { result ≡ near_of (signed minus (digits * 10 ^ places)) 1 }
+{
+    if digits == 0 {
+        return Ok(false);
+    }
+    if minus {
+        return Err(ValueFault::NotZeroOne);
+    }
+    if digits > 1 {
+        return Err(ValueFault::NotZeroOne);
+    }
+    if places > 0 {
+        return Err(ValueFault::NotZeroOne);
+    }
+    Ok(true)
+}
+
+/// The same, with digits behind the point.
+fn near_part(minus: bool, digits: u128, places: u32) -> Result<bool, ValueFault>
+    requires digits { digits < 10 ^ 30 }
+    ensures { result ≡ near_of (signed minus digits) (10 ^ places) }
+{
+    if places >= 35 {
+        return Ok(false);
+    }
+    let unit = 10u128.pow(places);
+    if 100_000 * digits <= unit {
+        return Ok(false);
+    }
+    if minus {
+        return Err(ValueFault::NotZeroOne);
+    }
+    if places > 30 {
+        return Err(ValueFault::NotZeroOne);
+    }
+    if 100_000 * digits < 99_999 * unit {
+        return Err(ValueFault::NotZeroOne);
+    }
+    if 100_000 * digits > 100_001 * unit {
+        return Err(ValueFault::NotZeroOne);
+    }
+    Ok(true)
+}

@@ -1,0 +1,30 @@
+//! The values of number tokens.
+
+ghost use Rattle.std.specs.Prelude.{◌≡◌};
+ghost use Rattle.outcome.specs.Values.{token_value};
+ghost use Rattle.outcome.specs.Solution.{value_fault};
+
+use crate::fault::{SolutionFault, ValueFault};
+use crate::tolerance::near;
+use program_rows::read_token;
+
+/// What a token counts as: 0 or 1.
+#[tactic(auto, unfolding(crate::specs::Values::token_value))]
+pub fn value_of(token: &[u8]) -> Result<bool, ValueFault>
+    ensures { result ≡ token_value token.now }
+{
+    match read_token(token) {
+        Ok(parts) => near(parts.minus, parts.digits, parts.up, parts.down),
+        Err(_) => Err(ValueFault::ValueText),
+    }
+}
+
+/// A fault of a value, at a line.
+pub fn at_line(fault: ValueFault, place: usize) -> SolutionFault
+    ensures { Some result ≡ value_fault place (Err fault) }
+{
+    match fault {
+        ValueFault::ValueText => SolutionFault::ValueText { place },
+        ValueFault::NotZeroOne => SolutionFault::NotZeroOne { place },
+    }
+}

@@ -1,0 +1,77 @@
+//! The allocation that a point wins.
+
+ghost use Rattle.std.specs.Prelude.{◌≡◌, ◌<◌, ◌+◌, ◌==◌, ◌++◌, drop, filter, length, IfOk, OnOk};
+ghost use Rattle.program_rows.specs.Faithful.{back};
+ghost use Rattle.outcome.specs.Winning.{all_bidders, allocation_of, by_bidder, IsMap};
+
+use crate::allocation::Allocation;
+use auction_terms::Choice;
+use program_rows::{Point, Program};
+use std::alloc::{AllocError, Global};
+
+/// Adds the choices of a bidder.
+fn add_choices_of(list: &mut Vec<Choice>, choices: &[Choice], bidder: u16) -> Result<(), AllocError>
+    ensures { OnOk result (list.new.items ≡ list.old.items ++ filter (λ c. c.bidder == bidder) choices.now) }
+{
+    for choice in choices {
+        if choice.bidder == bidder {
+            list.push(*choice)?;
+        }
+    }
+    Ok(())
+}
+
+/// Choices of which no bidder has two, by rising bidder.
+fn by_rising_bidder(alloc: Global, choices: &[Choice]) -> Result<Allocation, AllocError>
+    requires map { IsMap choices.now }
+    ensures { IfOk result (λ a. a ≡ by_bidder all_bidders choices.now) }
+{
+    let mut list = Vec::new(alloc);
+    for k in 0..256u16 {
+        add_choices_of(&mut list, choices, k + 1)?;
+    }
+    Ok(Allocation::new(list))
+}
+
+/// Adds the bid that a column spells, if the column is 1.
+fn add_bid_at(
+    list: &mut Vec<Choice>,
+    program: &Program,
+    point: &Point,
+    column: usize,
+) -> Result<(), AllocError>
+    requires sized { length point.now ≡ length program.now.columns }
+    requires within { column < length program.now.columns }
+    ensures { OnOk result (list.new.items ++ back (drop (column + 1) program.now.columns) (drop (column + 1) point.now) ≡ list.old.items ++ back (drop column program.now.columns) (drop column point.now)) }
+{
+    if !point.value(column) {
+        return Ok(());
+    }
+    let Some(choice) = program.column_bid(column) else {
+        return Ok(());
+    };
+    list.push(choice)?;
+    Ok(())
+}
+
+/// The bids whose columns are 1, in the order of the columns.
+fn bids_at_one(alloc: Global, program: &Program, point: &Point) -> Result<Vec<Choice>, AllocError>
+    requires { length point.now ≡ length program.now.columns }
+    ensures { IfOk result (λ bids. bids.items ≡ back program.now.columns point.now) }
+{
+    let mut bids = Vec::new(alloc);
+    for column in 0..program.column_count() {
+        add_bid_at(&mut bids, program, point, column)?;
+    }
+    Ok(bids)
+}
+
+/// The allocation that a point wins: bidder b gets bid j where the column `Xb_j` is 1.
+pub fn map_back(alloc: Global, program: &Program, point: &Point) -> Result<Allocation, AllocError>
+    requires sized { length point.now ≡ length program.now.columns }
+    requires map { IsMap (back program.now.columns point.now) }
+    ensures { IfOk result (λ a. a ≡ allocation_of program.now point.now) }
+{
+    let bids = bids_at_one(alloc, program, point)?;
+    by_rising_bidder(alloc, &bids)
+}
