@@ -1,64 +1,88 @@
-//! Which bids of a form are kept, computed for each bid by several threads.
+//! Which bids of a closed book are kept. It doesn't depend on who is left out, so one `Flags` serves every group.
 
-ghost use Rattle.std.specs.Prelude.{◌≡◌, ◌≤◌, ◌&&◌, not, All, length, map, IfOk};
-ghost use Rattle.std.specs.List.{list_any};
-ghost use Rattle.auction_terms.specs.Domination.{is_kept};
-ghost use Rattle.auction_terms.specs.Packages.{Lots, fits};
-ghost use Rattle.auction_terms.specs.Terms.{lots_in};
-ghost use Rattle.presolve.specs.Sizes.{AreRivals, beats, is_unbeaten};
-
-use crate::order::{SizedBid, ordered};
-use auction_terms::{Bid, Rules};
-use rayon::prelude::*;
+use crate::form_flags::flags_of_form;
+use crate::keeping::keep_bidder;
+use auction_terms::{Group, Kept};
+use bid_desk::ClosedBook;
 use std::alloc::{AllocError, Global};
+use std::marker::Model;
 use std::thread::Threads;
 
-// Whether one of the bids that fit dominates this one. They stand by rising size, so the first that isn't smaller ends
-// the search; amounts are compared before packages.
-fn is_beaten(rivals: &[SizedBid<'_>], bid: &Bid) -> bool
-    requires { AreRivals (length bid.now.package) rivals.now }
-    ensures { (lots : Lots) → result ≡ list_any (beats lots bid.now) rivals.now }
-{
-    let size = bid.package.size();
-    for rival in rivals {
-        if rival.size >= size {
-            return false;
+/// Whether each bid is kept. Contracts see a list for each bidder, with a flag for each bid of its form.
+#[derive(Drop)]
+pub struct Flags {
+    forms: Vec<Vec<bool>>,
+}
+
+impl Model for Flags {
+    ghost use Rattle.std.specs.Prelude.{List, Bool, map};
+
+    ghost Value = { List (List Bool) };
+
+    ghost view = { λ f. map (λ form. form.items) f.forms.items };
+}
+
+impl Flags {
+    ghost use Rattle.std.specs.Prelude.{◌≡◌, IfOk};
+    ghost use Rattle.auction_terms.specs.Groups.{has};
+    ghost use Rattle.auction_terms.specs.Keeping.{kept_of};
+    ghost use Rattle.auction_terms.specs.Offers.{offers};
+    ghost use Rattle.auction_terms.specs.Terms.{lots_in};
+    ghost use Rattle.bid_desk.specs.Closing.{book_of};
+    ghost use Rattle.presolve.specs.Flags.{flags_of};
+
+    /// The flags of a book, those of each form by several threads.
+    pub fn new(
+        rt: &(impl Threads + Sync),
+        alloc: Global,
+        book: &ClosedBook,
+    ) -> Result<Flags, AllocError>
+        ensures { IfOk result (λ flags. flags ≡ flags_of (lots_in book.now.rules) (book_of book.now)) }
+    {
+        let bidders = book.rules().bidders().len();
+        let mut forms = Vec::with_capacity(alloc, bidders)?;
+        for place in 0..bidders {
+            forms.push(flags_of_bidder(rt, alloc, book, place as u16 + 1)?)?;
         }
-        if bid.amount <= rival.bid.amount && bid.package.covers(&rival.bid.package) {
-            return true;
-        }
+        Ok(Flags { forms })
     }
-    false
+
+    /// The kept bids of a group, by rising bidder, then bid, where these are the flags of the book.
+    pub fn kept<'b>(
+        &self,
+        alloc: Global,
+        book: &'b ClosedBook,
+        group: &Group,
+    ) -> Result<Kept<'b>, AllocError>
+        requires { self.now ≡ flags_of (lots_in book.now.rules) (book_of book.now) }
+        ensures { IfOk result (λ kept. offers kept ≡ kept_of (lots_in book.now.rules) (book_of book.now) (has group.now)) }
+    {
+        let bidders = book.rules().bidders().len();
+        let mut kept = Vec::new(alloc);
+        for place in 0..bidders {
+            keep_bidder(&mut kept, book, group, place as u16 + 1, &self.forms[place])?;
+        }
+        Ok(Kept::new(kept))
+    }
 }
 
-// Whether the bid fits, and none of the bids that fit dominates it.
-fn is_unbeaten(rules: &Rules, rivals: &[SizedBid<'_>], bid: &Bid) -> bool
-    requires rivals { AreRivals (length rules.now.categories) rivals.now }
-    requires sized { length bid.now.package ≡ length rules.now.categories }
-    ensures { result ≡ is_unbeaten (lots_in rules.now) rivals.now bid.now }
-{
-    bid.package.fits(rules) && !is_beaten(rivals, bid)
-}
+ghost use Rattle.std.specs.Prelude.{◌≡◌, IfOk, map};
+ghost use Rattle.auction_terms.specs.Allocations.{form_of};
+ghost use Rattle.auction_terms.specs.Domination.{is_kept};
+ghost use Rattle.auction_terms.specs.Terms.{lots_in};
+ghost use Rattle.bid_desk.specs.Closing.{book_of};
 
-/// Whether each of the bids is kept, in their order.
-pub(crate) fn flags_of(
+// The flags of the form that a bidder leaves standing.
+fn flags_of_bidder(
     rt: &(impl Threads + Sync),
     alloc: Global,
-    rules: &Rules,
-    bids: &[Bid],
+    book: &ClosedBook,
+    bidder: u16,
 ) -> Result<Vec<bool>, AllocError>
-    requires few { length bids.now ≤ 4000 }
-    requires sized { All (λ bid. length bid.package ≡ length rules.now.categories) bids.now }
-    ensures { IfOk result (λ flags. flags.items ≡ map (is_kept (lots_in rules.now) bids.now) bids.now) }
+    ensures { IfOk result (λ flags. flags.items ≡ map (is_kept (lots_in book.now.rules) (form_of (book_of book.now) bidder)) (form_of (book_of book.now) bidder)) }
 {
-    let rivals = ordered(alloc, rules, bids)?;
-    let rivals = rivals.as_slice();
-    bids.par_iter()
-        .map(
-            |bid: &Bid| -> bool
-                requires { AreRivals (length rules.now.categories) rivals.now × (length bid.now.package ≡ length rules.now.categories) }
-                ensures { result ≡ is_unbeaten (lots_in rules.entry.now) rivals.entry.now bid.now }
-            { is_unbeaten(rules, rivals, bid) },
-        )
-        .collect(rt, alloc)
+    match book.form(bidder) {
+        None => Ok(Vec::new(alloc)),
+        Some(form) => flags_of_form(rt, alloc, book.rules(), form.bids()),
+    }
 }

@@ -1,7 +1,11 @@
-//! Presolve: which bids of a form can be left out, since another bid of the form is at least as good.
+//! Presolve: which bids can be left out of the winner determination, since another bid of their form is at least as good.
 #![tactic(auto)]
 
 mod flags;
+mod form_flags;
+mod keeping;
 mod order;
 
+pub use flags::Flags;
+pub use keeping::kept;
 pub use order::by_size;

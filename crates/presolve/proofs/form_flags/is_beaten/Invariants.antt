@@ -2,7 +2,7 @@ use Rattle.std.proofs.Common.{◌≡◌, drop}
 use Rattle.std.specs.List.{list_any}
 use Rattle.auction_terms.specs.Packages.{Lots}
 use Rattle.presolve.specs.Sizes.{beats}
-use Rattle.presolve.proofs.flags.is_beaten.Given as goal
+use Rattle.presolve.proofs.form_flags.is_beaten.Given as goal
 
 -- none of those so far beats the bid
 abbrev pub invariant-loop-rival : goal.invariant-loop-rival

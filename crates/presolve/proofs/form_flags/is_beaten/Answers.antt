@@ -1,6 +1,6 @@
 use Rattle.std.proofs.Common.{◌≤◌, sym, subst, ◌∙◌, ℕ}
 use Rattle.presolve.proofs.FlagLaws.{none_left}
-use Rattle.presolve.proofs.flags.is_beaten.Goals as goal
+use Rattle.presolve.proofs.form_flags.is_beaten.Goals as goal
 
 pub returns-then-rival-size : goal.returns-then-rival-size
 returns-then-rival-size c lots =

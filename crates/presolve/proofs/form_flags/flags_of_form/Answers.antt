@@ -5,7 +5,7 @@ use Rattle.auction_terms.specs.Terms.{lots_in}
 use Rattle.presolve.specs.declared.order.SizedBid.{SizedBid}
 use Rattle.presolve.specs.Sizes.{is_unbeaten, IsOrdered}
 use Rattle.presolve.proofs.FlagLaws.{all_kept_by, are_rivals, answers_are}
-use Rattle.presolve.proofs.flags.flags_of.Goals as goal
+use Rattle.presolve.proofs.form_flags.flags_of_form.Goals as goal
 
 pub collect-requires-clause-ready : goal.collect-requires-clause-ready
 collect-requires-clause-ready g c κs within =

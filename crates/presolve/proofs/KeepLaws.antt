@@ -1,0 +1,113 @@
+-- Laws of the kept bids of a book, bidder by bidder.
+use Rattle.std.proofs.Common.{◌≡◌, ℕ, suc, ◌+◌, ◌<◌, ◌≤◌, Bool, true, false, not, ◌&&◌, cond, List, [], ◌∷◌, ◌++◌, length, drop, map, slice_index_or, get_or, sym, refl, ap, ap₂, ◌∙◌, subst, arith, append_assoc, append-nil}
+use Rattle.std.specs.Prelude.{All, AllPairs, filter}
+use Rattle.std.specs.List.{AllByRecursion}
+use Rattle.std.specs.declared.vec.Vec.{Vec}
+use Rattle.std.specs.Global.{Global}
+use Rattle.std.proofs.lemmas.List.{length-map, map-append, drop_all, get_or-map}
+use Rattle.std.proofs.lemmas.List.Elements.{filter-append, All-from_recursion}
+use Rattle.std.proofs.lemmas.List.FromFn.{length-map-range_with_len}
+use Rattle.std.proofs.lemmas.List.Kept.{AllPairs-cons}
+use Rattle.std.proofs.Math.Seq.{drop-cons}
+use Rattle.auction_terms.specs.declared.bids.Bid.{Bid}
+use Rattle.auction_terms.specs.declared.bids.KeptBid.{KeptBid}
+use Rattle.auction_terms.specs.declared.rules.Bidder.{Bidder}
+use Rattle.auction_terms.specs.Packages.{Lots}
+use Rattle.auction_terms.specs.Terms.{Terms}
+use Rattle.auction_terms.specs.Domination.{is_kept}
+use Rattle.auction_terms.specs.Allocations.{Book, form_of}
+use Rattle.auction_terms.specs.Bids.{IsKeptBid, AreKept, Precedes}
+use Rattle.auction_terms.specs.Keeping.{Offer, offers_of_form, offers_from, is_kept_offer, kept_of}
+use Rattle.auction_terms.specs.Limits.{AreOffers, IsBefore, IsBook}
+use Rattle.auction_terms.specs.Offers.{offers, offer_of}
+use Rattle.auction_terms.proofs.LimitLaws.{kept_are_offers}
+use Rattle.bid_desk.specs.Closing.{Closing, book_of, bids_in, form_standing}
+use Rattle.presolve.specs.Flags.{flags_of, flagged_from}
+
+-- a book has a form for each bidder of its rules
+pub length_book : (c : Closing) (t : Terms) (bidders : List Bidder) → bidders ≡ t.bidders → t ≡ c.rules → length bidders ≡ length (book_of c)
+length_book c t bidders e r =
+    ap (λ (bs : List Bidder). length bs) e ∙ ap (λ (t : Terms). length t.bidders) r ∙ sym (length-map-range_with_len (λ bidder. bids_in (form_standing c.history bidder)) 1 (length c.rules.bidders))
+
+-- the form of the next bidder, and those behind
+pub next_form : (book : Book) (i : ℕ) → i < length book → drop i book ≡ form_of book (i + 1) ∷ drop (i + 1) book
+next_form book i l = drop-cons book i [] l ∙ ap (λ (n : ℕ). form_of book n ∷ drop n book) (let e : suc i ≡ i + 1 = omega arith in e)
+
+module _ (lots : Lots) (book : Book) (group : ℕ → Bool) where
+  pub kept_outside : (b j : ℕ) (form : List Bid) (rest : List Bid) → group b ≡ false → form_of book b ≡ form → flagged_from b j rest (map (is_kept lots form) rest) ≡ filter (is_kept_offer lots book group) (offers_of_form b j rest)
+  kept_outside b j form [] g f = refl
+  kept_outside b j form (x ∷ rest) g f =
+      let test : is_kept lots form x ≡ is_kept_offer lots book group record { bidder = b; number = j; bid = x } = sym (ap₂ (λ (y : Bool) (w : List Bid). not y && is_kept lots w x) g f) in
+      ap₂ (λ (y : Bool) (os : List Offer). cond y (record { bidder = b; number = j; bid = x } ∷ os) os) test (kept_outside b (j + 1) form rest g f)
+
+  pub none_inside : (b j : ℕ) (rest : List Bid) → group b ≡ true → filter (is_kept_offer lots book group) (offers_of_form b j rest) ≡ []
+  none_inside b j [] g = refl
+  none_inside b j (x ∷ rest) g =
+      let test : is_kept_offer lots book group record { bidder = b; number = j; bid = x } ≡ false = ap (λ (y : Bool). not y && is_kept lots (form_of book b) x) g in
+      ap₂ (λ (y : Bool) (os : List Offer). cond y (record { bidder = b; number = j; bid = x } ∷ os) os) test (none_inside b (j + 1) rest g)
+
+  -- what is kept from a bidder on
+  abbrev kept_from : ℕ → ℕ → List Offer
+  kept_from b i = filter (is_kept_offer lots book group) (offers_from b (drop i book))
+
+  pub next_kept : (i : ℕ) → i < length book → kept_from (1 + i) i ≡ filter (is_kept_offer lots book group) (offers_of_form (i + 1) 1 (form_of book (i + 1))) ++ kept_from (1 + (i + 1)) (i + 1)
+  next_kept i l =
+      ap (λ (rest : Book). filter (is_kept_offer lots book group) (offers_from (1 + i) rest)) (next_form book i l)
+      ∙ filter-append (is_kept_offer lots book group) (offers_of_form (1 + i) 1 (form_of book (i + 1))) (offers_from (1 + i + 1) (drop (i + 1) book))
+      ∙ ap₂ (λ (b n : ℕ). filter (is_kept_offer lots book group) (offers_of_form b 1 (form_of book (i + 1))) ++ kept_from n (i + 1)) (let e : 1 + i ≡ i + 1 = omega arith in e) (let e : 1 + i + 1 ≡ 1 + (i + 1) = omega arith in e)
+
+  -- one bidder more
+  pub kept_more : (i : ℕ) (old new : List Offer) → i < length book → old ++ kept_from (1 + i) i ≡ kept_of lots book group → new ≡ old ++ filter (is_kept_offer lots book group) (offers_of_form (i + 1) 1 (form_of book (i + 1)))
+      → new ++ kept_from (1 + (i + 1)) (i + 1) ≡ kept_of lots book group
+  kept_more i old new l h n =
+      let own = filter (is_kept_offer lots book group) (offers_of_form (i + 1) 1 (form_of book (i + 1))) in
+      ap (λ (os : List Offer). os ++ kept_from (1 + (i + 1)) (i + 1)) n ∙ append_assoc old own (kept_from (1 + (i + 1)) (i + 1)) ∙ ap (λ (os : List Offer). old ++ os) (sym (next_kept i l)) ∙ h
+
+  pub all_kept : (i : ℕ) (os : List Offer) → length book ≤ i → os ++ kept_from (1 + i) i ≡ kept_of lots book group → os ≡ kept_of lots book group
+  all_kept i os l h = sym (append-nil os) ∙ ap (λ (rest : Book). os ++ filter (is_kept_offer lots book group) (offers_from (1 + i) rest)) (sym (drop_all i book l)) ∙ h
+
+module _ (lots : Lots) (book : Book) where
+  pub flags_more : (i : ℕ) (forms all : List (Vec Bool Global)) (form : Vec Bool Global) → i < length book → all ≡ forms ++ form ∷ [] → form.items ≡ map (is_kept lots (form_of book (i + 1))) (form_of book (i + 1))
+      → map (λ (f : Vec Bool Global). f.items) forms ++ flags_of lots (drop i book) ≡ flags_of lots book → map (λ (f : Vec Bool Global). f.items) all ++ flags_of lots (drop (i + 1) book) ≡ flags_of lots book
+  flags_more i forms all form l e f h =
+      let rest = flags_of lots (drop (i + 1) book) in
+      let before = map (λ (f : Vec Bool Global). f.items) forms in
+      ap (λ (fs : List (Vec Bool Global)). map (λ (f : Vec Bool Global). f.items) fs ++ rest) e
+      ∙ ap (λ (fs : List (List Bool)). fs ++ rest) (map-append (λ (f : Vec Bool Global). f.items) forms (form ∷ []))
+      ∙ append_assoc before (form.items ∷ []) rest
+      ∙ ap (λ (own : List Bool). before ++ (own ∷ rest)) f
+      ∙ ap (λ (fs : Book). before ++ flags_of lots fs) (sym (next_form book i l)) ∙ h
+
+  pub all_flags : (i : ℕ) (flags : List (List Bool)) → length book ≤ i → flags ++ flags_of lots (drop i book) ≡ flags_of lots book → flags ≡ flags_of lots book
+  all_flags i flags l h = sym (append-nil flags) ∙ ap (λ (rest : Book). flags ++ flags_of lots rest) (sym (drop_all i book l)) ∙ h
+
+  pub length_flags : (forms : List (Vec Bool Global)) → map (λ (f : Vec Bool Global). f.items) forms ≡ flags_of lots book → length forms ≡ length book
+  length_flags forms e = sym (length-map forms (λ (f : Vec Bool Global). f.items)) ∙ ap (λ (fs : List (List Bool)). length fs) e ∙ length-map book (λ (form : List Bid). map (is_kept lots form) form)
+
+  flag_of_form : (b : Book) (i : ℕ) → i < length b → slice_index_or (flags_of lots b) i [] ≡ map (is_kept lots (slice_index_or b i [])) (slice_index_or b i [])
+  flag_of_form b i l = get_or-map (λ (form : List Bid). map (is_kept lots form) form) b i [] [] l
+
+  -- the flags of a bidder's form
+  pub flags_at : (forms : List (Vec Bool Global)) (i : ℕ) (form : Vec Bool Global) → map (λ (f : Vec Bool Global). f.items) forms ≡ flags_of lots book → i < length forms → form ≡ get_or forms i form
+      → (i < length book) × (form.items ≡ map (is_kept lots (form_of book (i + 1))) (form_of book (i + 1)))
+  flags_at forms i form e l at =
+      let long = length_flags forms e in
+      let within : i < length book = omega arith in (
+        within,
+        ap (λ (f : Vec Bool Global). f.items) at ∙ sym (get_or-map (λ (f : Vec Bool Global). f.items) forms i form [] l) ∙ ap (λ (fs : List (List Bool)). slice_index_or fs i []) e
+            ∙ flag_of_form book i within ∙ ap (λ (n : ℕ). map (is_kept lots (form_of book n)) (form_of book n)) (let s : suc i ≡ i + 1 = omega arith in s),
+      )
+
+precedes_all : (k : KeptBid) (ks : List KeptBid) → AllByRecursion (IsBefore (offer_of k)) (offers ks) → AllByRecursion (Precedes k) ks
+precedes_all k [] a = tt
+precedes_all k (l ∷ ks) a = (a.0, precedes_all k ks a.1)
+
+rising : (lots : Lots) (ks : List KeptBid) → AreOffers lots (offers ks) → AllPairs Precedes ks
+rising lots [] a = λ i j d before within. absurd (omega arith)
+rising lots (k ∷ ks) a = AllPairs-cons Precedes k ks (All-from_recursion (Precedes k) ks (precedes_all k ks a.1)) (rising lots ks a.2)
+
+pub are_kept : (lots : Lots) (book : Book) (group : ℕ → Bool) (ks : List KeptBid) → IsBook lots book → All IsKeptBid ks → offers ks ≡ kept_of lots book group → AreKept ks
+are_kept lots book group ks limits each e = record {
+  each = each;
+  rising = rising lots ks (subst (λ (os : List Offer). AreOffers lots os) (sym e) (kept_are_offers lots book group limits));
+}
