@@ -1,1 +1,4 @@
+pub mod SettleLemmas
 pub mod ClosingLemmas
+pub mod SlotLemmas
+pub mod CompareLemmas

@@ -1,9 +1,11 @@
 //! Sessions and the chair, each with the calls that it made.
 ghost use Rattle.std.specs.Prelude.{◌≡◌, ◌*◌, ◌<◌, map, length};
 ghost use Rattle.bid_desk.specs.Holding.{pair_value};
+ghost use Rattle.bid_desk.specs.Slots.{slot_of};
 ghost use Rattle.bid_desk.specs.Sessions.{IsSessionOf};
 
 use crate::round::Round;
+use crate::slots::slot_of;
 use bid_book::{Call, Reply};
 use std::marker::Model;
 use std::sync::ledger::Share;
@@ -42,6 +44,14 @@ impl<L: Round> Session<L> {
         ensures { IsSessionOf L.rules self.now.bidder self.now.session }
     {
         let _ = &self.bidder;
+    }
+
+    /// The place of the session's slot.
+    pub(crate) fn slot(&self) -> usize
+        ensures slot { result ≡ slot_of self.now.bidder self.now.session }
+        ensures known { IsSessionOf L.rules self.now.bidder self.now.session }
+    {
+        slot_of(self.bidder, self.session)
     }
 
     /// The session's number.

@@ -1,0 +1,7 @@
+use Rattle.std.proofs.Common.{ap, refl, ◌∙◌, replicate}
+use Rattle.bid_desk.specs.declared.comparing.Comparison.TheVariants.{Agrees}
+use Rattle.bid_desk.proofs.CompareLemmas.{compared-start}
+use Rattle.bid_desk.proofs.comparing.compare.Goals as goal
+
+pub loop-place-init : goal.loop-place-init
+loop-place-init g c = compared-start c.args.sessions.now c.args.chair.now _ (c.in_ok-vec.ensures.items_if_clones_equal (λ y same. same)) refl

@@ -1,0 +1,58 @@
+use Rattle.std.proofs.Common.{◌≡◌, ℕ, List, length, subst, sym, ap, ◌∙◌, map, true}
+use Rattle.std.specs.Prelude.{All}
+use Rattle.auction_terms.specs.Terms.{Terms}
+use Rattle.bid_forms.specs.Offers.{Offers}
+use Rattle.bid_book.specs.declared.caller.Caller.TheVariants.{Chair}
+use Rattle.bid_book.specs.declared.entry.Entry.{Entry}
+use Rattle.bid_book.specs.History.{entry_value, own_pairs}
+use Rattle.bid_desk.specs.declared.slots.Slot.{Slot}
+use Rattle.bid_desk.specs.Holding.{Holding, IsEntryOf}
+use Rattle.bid_desk.specs.Sessions.{IsSessionOf}
+use Rattle.bid_desk.specs.Settlement.{AgreeAll, IsFirstOfAll}
+use Rattle.bid_desk.specs.Slots.{AllOnce, AreSlots, IsFirstWrong}
+use Rattle.bid_desk.proofs.SettleLemmas.{callers_from_entries, own_from_agrees}
+use Rattle.bid_desk.proofs.SlotLemmas.{first-missing, stand-once}
+use Rattle.bid_desk.proofs.settle.cause_of.Goals as goal
+
+pub missing-requires-clause-eight : goal.missing-requires-clause-eight
+missing-requires-clause-eight g c b s known = c.in_ok-slots.ensures.slots.eight b s (subst (λ (t : Terms). IsSessionOf t b s) c.stopped.invariant known)
+
+pub returns-in-Some-clause-some : goal.returns-in-Some-clause-some
+returns-in-Some-clause-some g c =
+    let t = g.L.Round.rules in
+    let wrong = subst (λ (w : List Slot). IsFirstWrong t w c.in-Some.bidder c.in-Some.session) c.deref.ensures.value (subst (λ (t : Terms). IsFirstWrong t c.deref.result.now c.in-Some.bidder c.in-Some.session) c.stopped.invariant c.in-Some.ensures.some) in
+    (c.requires, first-missing t c.args.sessions.now c.in_ok-slots.slots.items c.in_ok-slots.ensures.slots c.in-Some.bidder c.in-Some.session wrong)
+
+pub differing-requires-clause-once : goal.differing-requires-clause-once
+differing-requires-clause-once g c =
+    let t = g.L.Round.rules in
+    let once = subst (λ (w : List Slot). AllOnce t w) c.deref.ensures.value (subst (λ (t : Terms). AllOnce t c.deref.result.now) c.stopped.invariant c.in_default.ensures.none) in
+    stand-once t c.args.sessions.now c.in_ok-slots.slots.items c.in_ok-slots.ensures.slots once
+
+pub returns-in-Some-2-clause-some : goal.returns-in-Some-2-clause-some
+returns-in-Some-2-clause-some g c =
+    let t = g.L.Round.rules in
+    let once = subst (λ (w : List Slot). AllOnce t w) c.deref.ensures.value (subst (λ (t : Terms). AllOnce t c.deref.result.now) c.stopped.invariant c.in_default.ensures.none) in
+    let differs = rw c.in-Some-2.is at c.in_ok-caller.ensures.differs in
+    let history : map entry_value c.entries-history.result.now ≡ c.args.stopped.now.history = c.entries-history.ensures.entries ∙ ap (λ (h : Holding). h.history) c.stopped.view_is in (
+      c.requires,
+      stand-once t c.args.sessions.now c.in_ok-slots.slots.items c.in_ok-slots.ensures.slots once,
+      subst (λ (w : List (Entry Offers)). IsFirstOfAll t w c.args.chair.now c.args.sessions.now c.in-Some-2.caller c.in-Some-2.place) history differs,
+    )
+
+pub returns-clause-none : goal.returns-clause-none
+returns-clause-none g c =
+    let t = g.L.Round.rules in
+    let h = c.args.stopped.now.history in
+    let once = subst (λ (w : List Slot). AllOnce t w) c.deref.ensures.value (subst (λ (t : Terms). AllOnce t c.deref.result.now) c.stopped.invariant c.in_default.ensures.none) in
+    let history : map entry_value c.entries-history.result.now ≡ h = c.entries-history.ensures.entries ∙ ap (λ (h : Holding). h.history) c.stopped.view_is in
+    let entries = subst (λ (w : Holding). All (IsEntryOf t) w.history) c.stopped.view_is c.entries-history.ensures.rules in
+    let agrees = rw c.in_default-2.is at c.in_ok-caller.ensures.sessions in
+    let chair = rw c.in_default-2.is at c.in_ok-caller.ensures.chair in
+    record {
+      closed = c.requires;
+      once = (stand-once t c.args.sessions.now c.in_ok-slots.slots.items c.in_ok-slots.ensures.slots once).each;
+      own_is = own_from_agrees t h c.args.sessions.now c.know_sessions.ensures (subst (λ (w : List (Entry Offers)). AgreeAll t w c.args.sessions.now) history agrees).each;
+      chair_is = subst (λ (w : List (Entry Offers)). own_pairs w Chair ≡ c.args.chair.now.pairs) history chair;
+      callers = callers_from_entries t h entries;
+    }

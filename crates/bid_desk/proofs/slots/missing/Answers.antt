@@ -1,0 +1,19 @@
+use Rattle.std.proofs.Common.{ℕ, ◌≡◌, ◌*◌, ◌<◌, ◌≤◌, length, ap, sym, ◌∙◌, subst, arith}
+use Rattle.std.specs.Prelude.{slice_index_or}
+use Rattle.bid_desk.proofs.SlotLemmas.{slot-before, slot-within}
+use Rattle.bid_desk.specs.Slots.{empty_slot, slot_at, slot_of}
+use Rattle.bid_desk.proofs.slots.missing.Goals as goal
+
+pub returns-then-slots-place-ne1-clause-some : goal.returns-then-slots-place-ne1-clause-some
+returns-then-slots-place-ne1-clause-some c =
+    let (known, is) = c.in-Some.ensures.some in
+    record {
+      known = known;
+      wrong = λ one. c.if-slots-place-ne1.true (ap (λ m. (slice_index_or c.args.slots.now m empty_slot).times) (sym is) ∙ one);
+      first = λ b s of_rules before. c.loop-place.invariant b s of_rules (subst (λ m. slot_of b s < m) is (slot-before b s c.in-Some.bidder c.in-Some.session of_rules.bidder_least of_rules.session_least (c.requires.eight b s of_rules) known.session_least before));
+    }
+
+pub returns-clause-none : goal.returns-clause-none
+returns-clause-none c b s known =
+    c.loop-place.invariant b s known
+    (let within = slot-within b s (length c.args.rules.now.bidders) known.bidder_least known.bidder_most known.session_least (c.requires.eight b s known) in let size = c.requires.size in let end = c.loop-place-test.false in omega arith)

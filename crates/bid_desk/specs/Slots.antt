@@ -1,0 +1,38 @@
+-- Where each session stands in a list of sessions.
+use Rattle.std.specs.Prelude.{ℕ, ◌+◌, ◌-◌, ◌*◌, ◌≡◌, ◌≢◌, ◌<◌, ◌≤◌, List, length, take, slice_index_or, IsTrue}
+use Rattle.auction_terms.specs.Terms.{Terms}
+use Rattle.bid_desk.specs.declared.slots.Slot.{Slot}
+use Rattle.bid_desk.specs.Holding.{SessionOwn}
+use Rattle.bid_desk.specs.Sessions.{IsSessionOf}
+use Rattle.bid_desk.specs.Settlement.{IsBefore, is_named, times}
+
+-- the place of a session's slot: eight slots for each bidder
+abbrev pub slot_of : ℕ → ℕ → ℕ
+slot_of b s = (b - 1) * 8 + (s - 1)
+
+abbrev pub empty_slot : Slot
+empty_slot = record { times = 0; place = 0 }
+
+abbrev pub slot_at : List Slot → ℕ → ℕ → Slot
+slot_at slots b s = slice_index_or slots (slot_of b s) empty_slot
+
+-- how often each session stands among the first n of a list, and where it stands last
+pub record AreSlots (t : Terms) (sessions : List SessionOwn) (n : ℕ) (slots : List Slot) : Type 0 where
+  pub size : length slots ≡ length t.bidders * 8
+  pub eight : (b s : ℕ) → IsSessionOf t b s → s ≤ 8
+  pub times_are : (b s : ℕ) → IsSessionOf t b s → (slot_at slots b s).times ≡ times b s (take n sessions)
+  pub within : (b s : ℕ) → IsSessionOf t b s → 1 ≤ (slot_at slots b s).times → (slot_at slots b s).place < n
+  pub named : (b s : ℕ) (d : SessionOwn) → IsSessionOf t b s → 1 ≤ (slot_at slots b s).times → IsTrue (is_named b s (slice_index_or sessions (slot_at slots b s).place d))
+  pub taken : (k : ℕ) (d : SessionOwn) → k < n → 1 ≤ (slot_at slots (slice_index_or sessions k d).bidder (slice_index_or sessions k d).session).times
+  pub found : (k : ℕ) (d : SessionOwn) → k < n → (slot_at slots (slice_index_or sessions k d).bidder (slice_index_or sessions k d).session).times ≡ 1
+      → (slot_at slots (slice_index_or sessions k d).bidder (slice_index_or sessions k d).session).place ≡ k
+
+-- each session of the rules stands just once
+abbrev pub AllOnce : Terms → List Slot → Type 0
+AllOnce t slots = (b s : ℕ) → IsSessionOf t b s → (slot_at slots b s).times ≡ 1
+
+-- the first session of the rules that does not
+pub record IsFirstWrong (t : Terms) (slots : List Slot) (bidder session : ℕ) : Type 0 where
+  pub known : IsSessionOf t bidder session
+  pub wrong : (slot_at slots bidder session).times ≢ 1
+  pub first : (b s : ℕ) → IsSessionOf t b s → IsBefore b s bidder session → (slot_at slots b s).times ≡ 1

@@ -1,0 +1,78 @@
+//! Where each session stands in a list of sessions.
+ghost use Rattle.std.specs.Prelude.{ℕ, ◌≡◌, ◌≢◌, ◌*◌, ◌<◌, ◌≤◌, length, IfOk, IfSome, IfNone};
+ghost use Rattle.auction_terms.specs.Terms.{AreTerms};
+ghost use Rattle.bid_desk.specs.Sessions.{IsSessionOf};
+ghost use Rattle.bid_desk.specs.Slots.{AllOnce, AreSlots, IsFirstWrong, slot_of};
+
+use crate::round::Round;
+use crate::session::Session;
+use auction_terms::Rules;
+use std::alloc::{AllocError, Global};
+
+/// How often a session stands in a list, and where it stands last.
+#[derive(Clone, Copy, Debug)]
+pub(crate) struct Slot {
+    pub(crate) times: usize,
+    pub(crate) place: usize,
+}
+
+/// The place of a session's slot: eight slots for each bidder.
+pub(crate) fn slot_of(bidder: u16, session: u8) -> usize
+    requires bidder { 1 ≤ bidder }
+    requires session { 1 ≤ session }
+    ensures { result ≡ slot_of bidder session }
+{
+    (usize::from(bidder) - 1) * 8 + (usize::from(session) - 1)
+}
+
+/// The slots of the sessions of all bidders.
+pub(crate) fn slots_of<L: Round>(
+    alloc: Global,
+    rules: &Rules,
+    sessions: &[Session<L>],
+) -> Result<Vec<Slot>, AllocError>
+    requires { rules.now ≡ L.rules }
+    ensures slots { IfOk result (λ slots. AreSlots L.rules sessions.now (length sessions.now) slots.items) }
+    ensures terms { AreTerms L.rules }
+{
+    let empty = Slot { times: 0, place: 0 };
+    let mut slots = vec![in alloc; empty; rules.bidders().len() * 8]?;
+    for place in 0..sessions.len() {
+        let slot = sessions[place].slot();
+        let times = slots[slot].times + 1;
+        slots[slot] = Slot { times, place };
+    }
+    Ok(slots)
+}
+
+/// The session whose slot is at a place, where the rules name one.
+pub(crate) fn session_at(rules: &Rules, place: usize) -> Option<(u16, u8)>
+    requires { place < length rules.now.bidders * 8 }
+    ensures some { IfSome result (λ x. IsSessionOf rules.now x.0 x.1 × (slot_of x.0 x.1 ≡ place)) }
+    ensures none { IfNone result ((b s : ℕ) → IsSessionOf rules.now b s → slot_of b s ≢ place) }
+{
+    let bidder = place / 8;
+    let session = place % 8 + 1;
+    if session <= usize::from(rules.bidders()[bidder].sessions) {
+        Some((bidder as u16 + 1, session as u8))
+    } else {
+        None
+    }
+}
+
+/// The first session of the rules that does not stand just once.
+pub(crate) fn missing(rules: &Rules, slots: &[Slot]) -> Option<(u16, u8)>
+    requires size { length slots.now ≡ length rules.now.bidders * 8 }
+    requires eight { (b s : ℕ) → IsSessionOf rules.now b s → s ≤ 8 }
+    ensures none { IfNone result (AllOnce rules.now slots.now) }
+    ensures some { IfSome result (λ x. IsFirstWrong rules.now slots.now x.0 x.1) }
+{
+    for place in 0..slots.len() {
+        if let Some((bidder, session)) = session_at(rules, place) {
+            if slots[place].times != 1 {
+                return Some((bidder, session));
+            }
+        }
+    }
+    None
+}
