@@ -1,0 +1,24 @@
+-- What is compiled for a group.
+use Rattle.std.specs.Prelude.{ℕ, List}
+use Rattle.auction_terms.specs.Groups.{has}
+use Rattle.auction_terms.specs.Keeping.{kept_of}
+use Rattle.auction_terms.specs.Terms.{lots_in}
+use Rattle.bid_desk.specs.Closing.{Closing, book_of}
+use Rattle.program_rows.specs.Program.{Table}
+use Rattle.program_rows.specs.Rows.{program_of}
+
+-- the numbers of the bidders that are left out, and a program
+pub record GroupProgram : Type 0 where
+  pub group : List ℕ
+  pub program : Table
+
+abbrev pub group_program : List ℕ → Table → GroupProgram
+group_program group program = record { group = group; program = program }
+
+-- the program of what is kept of a closed book without a group
+abbrev pub program_without : Closing → List ℕ → Table
+program_without book group = program_of (lots_in book.rules) (kept_of (lots_in book.rules) (book_of book) (has group))
+
+-- a group with its program
+abbrev pub compiled : Closing → List ℕ → GroupProgram
+compiled book group = group_program group (program_without book group)
