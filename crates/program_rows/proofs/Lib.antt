@@ -14,3 +14,6 @@ pub mod TokenForm
 pub mod LineParts
 pub mod NumeralLaws
 pub mod KeptLaws
+pub mod LookupLaws
+pub mod NamedItems
+pub mod SameLaws

@@ -7,6 +7,8 @@ pub mod Tokens
 pub mod Meaning
 pub mod Spelling
 pub mod Points
+pub mod Same
+pub mod Comparing
 pub mod Named
 pub mod Rows
 pub mod Faithful

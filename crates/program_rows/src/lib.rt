@@ -1,6 +1,7 @@
 //! A 0-1 program as rows and columns.
 #![tactic(auto)]
 
+mod agreeing;
 mod bounds;
 mod broken;
 mod building;
@@ -12,6 +13,7 @@ mod entries;
 mod fault;
 pub mod laws;
 mod lists;
+mod lookups;
 mod names;
 mod number;
 mod parts;
@@ -21,6 +23,7 @@ mod row;
 mod row_readers;
 mod row_sums;
 mod rows;
+mod same;
 mod spelling;
 mod token;
 mod token_fault;
@@ -37,6 +40,7 @@ pub use parts::ProgramParts;
 pub use point::Point;
 pub use program::Program;
 pub use row::{Row, RowKind};
+pub use same::same_program;
 pub use token::read_token;
 pub use token_fault::TokenFault;
 pub use token_parts::TokenParts;

@@ -156,7 +156,8 @@ impl Program {
 
     /// The name of the objective, the rows and the columns.
     pub fn parts(&self) -> &ProgramParts
-        ensures { table_of result.now ≡ self.now }
+        ensures parts { table_of result.now ≡ self.now }
+        ensures program { IsProgram self.now }
     {
         &self.parts
     }

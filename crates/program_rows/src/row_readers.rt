@@ -5,6 +5,14 @@ ghost use Rattle.program_rows.specs.Parts.{shown_row};
 
 use crate::row::{Row, RowKind};
 
+/// A row.
+pub(crate) fn row_at(rows: &[Row], row: usize) -> &Row
+    requires { row < length rows.now }
+    ensures { slice_get (map shown_row rows.now) row ≡ Some (shown_row result.now) }
+{
+    &rows[row]
+}
+
 /// The name of a row.
 pub(crate) fn name_at(rows: &[Row], row: usize) -> &[u8]
     requires { row < length rows.now }

@@ -1,0 +1,17 @@
+use Rattle.std.proofs.Common.{◌∙◌, ap, map, not, sym, arith}
+use Rattle.std.proofs.lemmas.List.{length-map}
+use Rattle.program_rows.specs.Parts.{shown_row, shown_column}
+use Rattle.program_rows.specs.Comparing as comparing
+use Rattle.program_rows.proofs.LookupLaws.{all_step, all_fails, all_end}
+use Rattle.program_rows.proofs.same.are_rows_among.Goals as goal
+
+pub returns-then-not-is_among_rows : goal.returns-then-not-is_among_rows
+returns-then-not-is_among_rows c = sym (c.loop-i.invariant ∙ all_fails (comparing.row_stands (map shown_row c.args.others.now)) (map shown_row c.args.rows.now) c.loop-i.i (shown_row c.row_at.result.now) c.row_at.ensures (sym c.is_among_rows.ensures ∙ c.if-not-is_among_rows.true))
+
+pub loop-i-preserved : goal.loop-i-preserved
+loop-i-preserved c = c.loop-i.invariant ∙ all_step (comparing.row_stands (map shown_row c.args.others.now)) (map shown_row c.args.rows.now) c.loop-i.i (shown_row c.row_at.result.now) c.row_at.ensures (sym c.is_among_rows.ensures ∙ c.if-not-is_among_rows.false)
+
+pub returns : goal.returns
+returns c =
+    let count = length-map c.args.rows.now shown_row in
+    sym (c.loop-i.invariant ∙ all_end (comparing.row_stands (map shown_row c.args.others.now)) (map shown_row c.args.rows.now) c.loop-i.i (omega arith))
