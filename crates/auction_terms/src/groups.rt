@@ -38,6 +38,14 @@ impl Group {
         self.numbers.contains(&bidder)
     }
 
+    /// The numbers of its bidders, rising.
+    pub fn numbers(&self) -> &[u16]
+        ensures numbers { result.now ≡ self.now }
+        ensures group { IsGroup self.now }
+    {
+        self.numbers.as_slice()
+    }
+
     pub(crate) fn is_empty(&self) -> bool
         ensures { result ≡ (length self.now == 0) }
     {
