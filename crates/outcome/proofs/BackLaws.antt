@@ -1,5 +1,5 @@
 -- The allocation of a point as a list of rising bidders.
-use Rattle.std.proofs.Common.{◌≡◌, ℕ, zero, suc, ◌+◌, ◌<◌, ◌≤◌, Bool, true, false, ◌&&◌, ◌==◌, cond, List, [], ◌∷◌, ◌++◌, Option, Some, None, refl, sym, ap, subst, ◌∙◌, append_assoc, arith, length, eqb-true, pos, drop, slice_get}
+use Rattle.std.proofs.Common.{◌≡◌, ℕ, zero, suc, ◌+◌, ◌<◌, ◌≤◌, Bool, true, false, ◌&&◌, ◌==◌, cond, List, [], ◌∷◌, ◌++◌, Option, Some, None, Ok, refl, sym, ap, subst, ◌∙◌, append_assoc, arith, length, eqb-true, pos, drop, slice_get}
 use Rattle.std.specs.Prelude.{sum_by, filter, nat_le, nat_lt, bytes_eq}
 use Rattle.std.specs.List.{AllByRecursion, range_with_len}
 use Rattle.std.specs.Option.{option_map, option_to_list}
@@ -11,13 +11,19 @@ use Rattle.std.proofs.lemmas.List.Elements.{recursion_from_All, All-from_recursi
 use Rattle.auction_terms.specs.declared.choices.Choice.{Choice}
 use Rattle.auction_terms.specs.Allocations.{amount_of, quantity_of, is_eligible}
 use Rattle.auction_terms.proofs.OfferLaws.{sum_zero, sum_agree, sum_plus, sum_filter, all_agree, all_append, all_filter}
-use Rattle.program_rows.specs.Program.{TableColumn}
+use Rattle.program_rows.specs.Program.{Table, TableColumn}
 use Rattle.auction_terms.proofs.AllocationLaws.{feasible_at, feasible_from}
 use Rattle.program_rows.specs.Spelling.{column_bid, is_bid}
-use Rattle.program_rows.specs.Faithful.{back}
+use Rattle.auction_terms.specs.Keeping.{kept_of}
+use Rattle.program_rows.specs.Rows.{program_of}
+use Rattle.program_rows.specs.Meaning.{meaning}
+use Rattle.program_rows.specs.Faithful.{back, IsFaithful}
+use Rattle.program_rows.proofs.FaithfulLaws.{presolved_is_faithful}
+use Rattle.mps_text.specs.FaithfulText.{presolved_text}
+use Rattle.mps_text.proofs.FaithfulTexts.{presolved_text_is_faithful}
 use Rattle.program_rows.proofs.SpellingLaws.{reads_names_alone}
 use Rattle.outcome.specs.Winning.{by_bidder, all_bidders, allocation_of, IsMap, IsRising}
-use Rattle.outcome.specs.Coming.{PointsComeBack, SolutionsComeBack}
+use Rattle.outcome.specs.Coming.{PointsComeBack, SolutionsComeBack, AnswersOfSolversComeBack}
 use Rattle.outcome.proofs.PointLaws.{solutions_are_points}
 
 -- a bidder that a name can spell
@@ -127,7 +133,18 @@ points_come_back lots book group p values faithful point =
     }
 
 pub solutions_come_back : SolutionsComeBack
-solutions_come_back lots book group mps text p values means faithful told = points_come_back lots book group p values faithful (solutions_are_points p text values told)
+solutions_come_back lots book group solved values within told =
+    let p = program_of lots (kept_of lots book group) in
+    points_come_back lots book group p values (presolved_is_faithful lots book group within) (solutions_are_points p solved values told)
+
+same_program : (p q : Table) (bytes : List ℕ) → meaning bytes ≡ Ok p → meaning bytes ≡ Ok q → p ≡ q
+same_program p q bytes e f = cc
+
+pub answers_of_solvers_come_back : AnswersOfSolversComeBack
+answers_of_solvers_come_back lots book group p solved values limits within meant told =
+    let faithful = presolved_text_is_faithful lots book group limits within in
+    let same : faithful.program ≡ p = same_program faithful.program p (presolved_text lots book group) faithful.meant meant in
+    points_come_back lots book group p values (subst (λ (q : Table). IsFaithful lots book group q) same faithful.faithful) (solutions_are_points p solved values told)
 
 -- ---- one bidder more
 

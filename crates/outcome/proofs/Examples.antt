@@ -8,12 +8,16 @@ use Rattle.program_rows.specs.Points.{objective}
 use Rattle.program_rows.specs.Lines.{fields}
 use Rattle.program_rows.specs.Spelling.{column_bid}
 use Rattle.auction_terms.specs.FirstFault.{first_fault}
+use Rattle.auction_terms.specs.declared.bids.Bid.{Bid}
 use Rattle.auction_terms.specs.declared.choices.Choice.{Choice}
+use Rattle.auction_terms.specs.Packages.{lots_of}
 use Rattle.outcome.specs.declared.fault.ValueFault.TheVariants as value
 use Rattle.outcome.specs.declared.fault.SolutionFault.TheVariants as fault
 use Rattle.outcome.specs.Values.{token_value}
 use Rattle.outcome.specs.Solution.{solution}
 use Rattle.outcome.specs.Winning.{allocation_of}
+use Rattle.outcome.specs.Sale.{Sale}
+use Rattle.outcome.specs.Report.{allocation_text, report_text}
 
 -- ---- values
 
@@ -145,3 +149,43 @@ fixed = record { objective = codes "OBJ"; rows = []; columns = record { name = c
 bound_broken : solution fixed [] ≡ Err (fault.BoundBroken 0)
 unfolding solution fields first_fault token_value
 bound_broken = refl
+
+-- ---- reports
+
+abbrev bid : ℕ → ℕ → ℕ → Bid
+bid amount a b = record { «package» = a ∷ b ∷ []; amount = amount }
+
+abbrev sale : Sale
+sale = record {
+  names = codes "Alpha" ∷ codes "Beta" ∷ codes "Gamma" ∷ [];
+  lots = lots_of (2 ∷ 1 ∷ []);
+  book = (bid 30 1 0 ∷ bid 50 2 1 ∷ bid 28 1 1 ∷ []) ∷ (bid 20 1 0 ∷ bid 45 3 0 ∷ []) ∷ (bid 12 0 1 ∷ []) ∷ [];
+}
+
+abbrev all_win : List Choice
+all_win = record { bidder = 1; bid = 1 } ∷ record { bidder = 2; bid = 1 } ∷ record { bidder = 3; bid = 1 } ∷ []
+
+abbrev alpha_wins : List Choice
+alpha_wins = record { bidder = 1; bid = 2 } ∷ []
+
+abbrev gamma_wins : List Choice
+gamma_wins = record { bidder = 3; bid = 1 } ∷ []
+
+allocation : allocation_text sale all_win ≡ codes "Alpha 1 30\nBeta 1 20\nGamma 1 12\ntotal 62\n"
+unfolding digits
+allocation = refl
+
+report : report_text sale ([] ∷ (2 ∷ []) ∷ []) (all_win ∷ alpha_wins ∷ [])
+    ≡ codes "group 1 -\nAlpha 1 30\nBeta 1 20\nGamma 1 12\ntotal 62\ncost 0\ngroup 2 Beta\nAlpha 2 50\ntotal 50\ncost 8\n"
+unfolding digits
+report = refl
+
+negative_cost : report_text sale ([] ∷ (2 ∷ []) ∷ []) (alpha_wins ∷ gamma_wins ∷ [])
+    ≡ codes "group 1 -\nAlpha 2 50\ntotal 50\ncost 0\ngroup 2 Beta\nGamma 1 12\ntotal 12\ncost -38\n"
+unfolding digits
+negative_cost = refl
+
+two_names : report_text sale ([] ∷ (1 ∷ 3 ∷ []) ∷ []) (alpha_wins ∷ [] ∷ [])
+    ≡ codes "group 1 -\nAlpha 2 50\ntotal 50\ncost 0\ngroup 2 Alpha+Gamma\ntotal 0\ncost 0\n"
+unfolding digits
+two_names = refl

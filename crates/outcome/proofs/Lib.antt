@@ -7,4 +7,6 @@ pub mod PointLaws
 pub mod BackLaws
 pub mod NameLaws
 pub mod BoundLaws
+pub mod CostLaws
+pub mod ReportLaws
 mod Examples

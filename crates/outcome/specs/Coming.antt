@@ -2,10 +2,14 @@
 use Rattle.std.specs.Prelude.{◌≡◌, ℕ, Bool, List, pos, neg_ℤ, Ok}
 use Rattle.auction_terms.specs.Packages.{Lots}
 use Rattle.auction_terms.specs.Allocations.{Book, total, IsFeasible}
+use Rattle.auction_terms.specs.Keeping.{kept_of}
+use Rattle.auction_terms.specs.Limits.{IsBook, IsLots}
 use Rattle.program_rows.specs.Program.{Table}
 use Rattle.program_rows.specs.Points.{objective, IsPoint}
 use Rattle.program_rows.specs.Meaning.{meaning}
+use Rattle.program_rows.specs.Rows.{program_of}
 use Rattle.program_rows.specs.Faithful.{back, IsFaithful}
+use Rattle.mps_text.specs.FaithfulText.{presolved_text}
 use Rattle.outcome.specs.Solution.{solution}
 use Rattle.outcome.specs.Winning.{allocation_of, IsMap, IsRising}
 
@@ -25,7 +29,12 @@ abbrev pub PointsComeBack : Type 0
 PointsComeBack = (lots : Lots) (book : Book) (group : ℕ → Bool) (p : Table) (values : List Bool)
     → IsFaithful lots book group p → IsPoint p values → ComesBack lots book group p values
 
--- what a solution text tells against the program of a faithful MPS text comes back
+-- what solutions tell against the program of the kept bids comes back
 abbrev pub SolutionsComeBack : Type 0
-SolutionsComeBack = (lots : Lots) (book : Book) (group : ℕ → Bool) (mps text : List ℕ) (p : Table) (values : List Bool)
-    → meaning mps ≡ Ok p → IsFaithful lots book group p → solution p text ≡ Ok values → ComesBack lots book group p values
+SolutionsComeBack = (lots : Lots) (book : Book) (group : ℕ → Bool) (solved : List ℕ) (values : List Bool) → IsBook lots book
+    → solution (program_of lots (kept_of lots book group)) solved ≡ Ok values → ComesBack lots book group (program_of lots (kept_of lots book group)) values
+
+-- and so does what they tell against the program that is read from its text
+abbrev pub AnswersOfSolversComeBack : Type 0
+AnswersOfSolversComeBack = (lots : Lots) (book : Book) (group : ℕ → Bool) (p : Table) (solved : List ℕ) (values : List Bool) → IsLots lots → IsBook lots book
+    → meaning (presolved_text lots book group) ≡ Ok p → solution p solved ≡ Ok values → ComesBack lots book group p values

@@ -3,3 +3,7 @@ pub mod Solution
 pub mod Reading
 pub mod Winning
 pub mod Coming
+pub mod Sale
+pub mod Report
+pub mod Costs
+pub mod Reporting

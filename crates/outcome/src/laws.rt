@@ -1,6 +1,7 @@
 //! Laws of the definitions: what a solution comes back to, and what costs say of best allocations.
 
-ghost use Rattle.outcome.specs.Coming.{PointsComeBack, SolutionsArePoints, SolutionsComeBack};
+ghost use Rattle.outcome.specs.Coming.{AnswersOfSolversComeBack, PointsComeBack, SolutionsArePoints, SolutionsComeBack};
+ghost use Rattle.outcome.specs.Costs.{CostsAreBounded};
 ghost use Rattle.outcome.specs.Winning.{TakesWhatIsNamed};
 
 /// The values that a solution tells are a point of the program.
@@ -13,12 +14,22 @@ pub fn a_point_comes_back()
     ensures { PointsComeBack }
 {}
 
-/// So do the values that a solution tells against the program that a faithful MPS text means.
+/// So do the values that a solution tells against the program of a book's kept bids.
 pub fn a_solution_comes_back()
     ensures { SolutionsComeBack }
+{}
+
+/// And so do those that it tells against the program that is read from the program's text.
+pub fn an_answer_of_a_solver_comes_back()
+    ensures { AnswersOfSolversComeBack }
 {}
 
 /// A point takes a bid as often as columns with the bid's name are 1, and takes nothing else.
 pub fn a_point_takes_what_is_named()
     ensures { TakesWhatIsNamed }
+{}
+
+/// Where the allocations are of greatest total, the opportunity cost of a group is at least 0 and at most what the first allocation gives to its bidders, and the total without them isn't higher.
+pub fn a_cost_is_bounded()
+    ensures { CostsAreBounded }
 {}

@@ -3,17 +3,24 @@
 
 mod allocation;
 mod columns;
+mod costs;
 mod fault;
 mod fields;
+mod heading;
 pub mod laws;
 mod lines;
 mod point;
 mod reading;
+mod reporting;
+mod sale;
 mod tolerance;
 mod values;
+mod winners;
 mod winning;
+mod writing;
 
 pub use allocation::Allocation;
 pub use fault::{SolutionFault, ValueFault};
 pub use reading::read_solution;
 pub use winning::map_back;
+pub use writing::{report, write_allocation};

@@ -1,0 +1,19 @@
+-- Opportunity costs of allocations of greatest total.
+use Rattle.std.specs.Prelude.{ℕ, ◌≤◌, false, List, pos, ◌≤ℤ◌}
+use Rattle.auction_terms.specs.Groups.{has}
+use Rattle.auction_terms.specs.declared.choices.Choice.{Choice}
+use Rattle.auction_terms.specs.Packages.{Lots}
+use Rattle.auction_terms.specs.Allocations.{Book, total}
+use Rattle.program_rows.specs.Faithful.{IsGreatest}
+use Rattle.outcome.specs.Report.{amounts_of_group, cost}
+
+-- a cost isn't negative and is at most what the first allocation gives to the group, and leaving the group out never raises the total
+pub record IsCost (lots : Lots) (book : Book) (first : List Choice) (group : List ℕ) (a : List Choice) : Type 0 where
+  pub not_negative : pos 0 ≤ℤ cost lots book first group a
+  pub at_most_amounts : cost lots book first group a ≤ℤ pos (amounts_of_group book group first)
+  pub no_higher_total : total lots book a ≤ total lots book first
+
+-- of allocations of greatest total, with nobody left out and with the group left out
+abbrev pub CostsAreBounded : Type 0
+CostsAreBounded = (lots : Lots) (book : Book) (group : List ℕ) (first a : List Choice)
+    → IsGreatest lots book (λ b. false) first → IsGreatest lots book (has group) a → IsCost lots book first group a

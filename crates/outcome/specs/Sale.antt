@@ -1,0 +1,19 @@
+-- What a report looks up of a closed book.
+use Rattle.std.specs.Prelude.{ℕ, ◌-◌, ◌==◌, List, [], map, slice_get, unwrap_or, if◌then◌else◌}
+use Rattle.auction_terms.specs.Packages.{Lots}
+use Rattle.auction_terms.specs.Terms.{lots_in}
+use Rattle.auction_terms.specs.Allocations.{Book}
+use Rattle.bid_desk.specs.Closing.{Closing, book_of}
+
+pub record Sale : Type 0 where
+  -- the names of the bidders, in the order of their numbers
+  pub names : List (List ℕ)
+  pub lots : Lots
+  pub book : Book
+
+abbrev pub sale_of : Closing → Sale
+sale_of closing = record { names = map (λ bidder. bidder.name) closing.rules.bidders; lots = lots_in closing.rules; book = book_of closing }
+
+-- the name of a bidder by its number
+abbrev pub name_of : List (List ℕ) → ℕ → List ℕ
+name_of names bidder = if bidder == 0 then [] else unwrap_or (slice_get names (bidder - 1)) []

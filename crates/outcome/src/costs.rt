@@ -1,0 +1,47 @@
+//! Totals and opportunity costs.
+
+ghost use Rattle.std.specs.Prelude.{◌≡◌, ◌≤◌, ◌*◌, ◌^◌, length};
+ghost use Rattle.auction_terms.specs.Terms.{lots_in};
+ghost use Rattle.auction_terms.specs.Allocations.{total};
+ghost use Rattle.bid_desk.specs.Closing.{book_of};
+ghost use Rattle.outcome.specs.Report.{amounts_of_group, cost};
+
+use crate::sale::amount_of;
+use auction_terms::{Choice, Group};
+use bid_desk::ClosedBook;
+
+/// The sum of the amounts.
+pub fn total_of(book: &ClosedBook, choices: &[Choice]) -> u128
+    ensures sum { result ≡ total (lots_in book.now.rules) (book_of book.now) choices.now }
+    ensures small { result ≤ length choices.now * 2 ^ 64 }
+{
+    let mut sum: u128 = 0;
+    for choice in choices {
+        sum += u128::from(amount_of(book, *choice));
+    }
+    sum
+}
+
+/// The sum of the amounts of the group's bidders.
+fn amounts_in(book: &ClosedBook, group: &Group, choices: &[Choice]) -> u128
+    ensures sum { result ≡ amounts_of_group (book_of book.now) group.now choices.now }
+    ensures small { result ≤ length choices.now * 2 ^ 64 }
+{
+    let mut sum: u128 = 0;
+    for choice in choices {
+        if group.has(choice.bidder) {
+            sum += u128::from(amount_of(book, *choice));
+        }
+    }
+    sum
+}
+
+/// The total without the group, less what the others have in the first allocation.
+pub fn cost_of(book: &ClosedBook, first: &[Choice], group: &Group, choices: &[Choice]) -> i128
+    ensures { result ≡ cost (lots_in book.now.rules) (book_of book.now) first.now group.now choices.now }
+{
+    let without = total_of(book, choices) as i128;
+    let all = total_of(book, first) as i128;
+    let theirs = amounts_in(book, group, first) as i128;
+    without - (all - theirs)
+}

@@ -1,0 +1,101 @@
+//! Writing allocations and reports.
+
+ghost use Rattle.std.specs.Prelude.{◌≡◌, ◌<◌, [], length, false, true, All, OnOk, OnErr, IfErr};
+ghost use Rattle.std.specs.Io.KnownBytes.{Appends};
+ghost use Rattle.auction_terms.specs.Allocations.{IsFeasible};
+ghost use Rattle.auction_terms.specs.Groups.{starts_empty};
+ghost use Rattle.auction_terms.specs.Terms.{lots_in};
+ghost use Rattle.bid_desk.specs.Closing.{book_of};
+ghost use Rattle.mps_text.specs.Sinks.{HasFailed, SentFront};
+ghost use Rattle.mps_text.specs.Adds.{Adds};
+ghost use Rattle.mps_text.specs.Written.{written_of};
+ghost use Rattle.outcome.specs.Sale.{sale_of};
+ghost use Rattle.outcome.specs.Report.{allocation_text, report_text};
+ghost use Rattle.outcome.specs.Reporting.{AreFeasible, IsOfBidders};
+
+use crate::allocation::Allocation;
+use crate::reporting::add_groups;
+use crate::winners::add_allocation;
+use auction_terms::{Choice, Groups};
+use bid_desk::ClosedBook;
+use mps_text::{Block, Sink, SinkFailed, WriteFault, send};
+
+fn send_allocation<S: Sink>(
+    block: &mut Block,
+    sink: &mut S,
+    book: &ClosedBook,
+    choices: &[Choice],
+) -> Result<(), SinkFailed>
+    ensures adds { Adds result (S.taken sink.old) (S.taken sink.new) block.old block.new (S.failures sink.old) (S.failures sink.new) (allocation_text (sale_of book.now) choices.now) }
+    ensures empty { OnOk result (block.new.waiting.items ≡ []) }
+{
+    add_allocation(block, sink, book, choices)?;
+    send(block, sink)
+}
+
+/// Writes the winners and the total of an allocation that is feasible with nobody left out. It takes no memory.
+pub fn write_allocation<S: Sink>(
+    book: &ClosedBook,
+    allocation: &Allocation,
+    sink: &mut S,
+) -> Result<(), WriteFault>
+    requires feasible { IsFeasible (lots_in book.now.rules) (book_of book.now) (λ b. false) allocation.now }
+    ensures ok { OnOk result (Appends (S.taken sink.old) (S.taken sink.new) (allocation_text (sale_of book.now) allocation.now)) }
+    ensures err { IfErr result (λ e. SentFront (S.taken sink.old) (S.taken sink.new) (allocation_text (sale_of book.now) allocation.now) (written_of e)) }
+    ensures failed { OnErr result (HasFailed (S.failures sink.old) (S.failures sink.new)) }
+{
+    let mut block = Block::new();
+    match send_allocation(&mut block, sink, book, allocation.choices()) {
+        Ok(()) => Ok(()),
+        Err(_) => Err(WriteFault::Sink {
+            written: block.sent,
+        }),
+    }
+}
+
+fn send_report<S: Sink>(
+    block: &mut Block,
+    sink: &mut S,
+    book: &ClosedBook,
+    groups: &Groups,
+    allocations: &[Allocation],
+) -> Result<(), SinkFailed>
+    requires count { length groups.now ≡ length allocations.now }
+    requires some { 0 < length allocations.now }
+    ensures adds { Adds result (S.taken sink.old) (S.taken sink.new) block.old block.new (S.failures sink.old) (S.failures sink.new) (report_text (sale_of book.now) groups.now allocations.now) }
+    ensures empty { OnOk result (block.new.waiting.items ≡ []) }
+{
+    add_groups(
+        block,
+        sink,
+        book,
+        allocations[0].choices(),
+        groups,
+        allocations,
+    )?;
+    send(block, sink)
+}
+
+/// Writes an allocation for each group, the first of them for the empty group: each with its total and the group's opportunity cost. It takes no memory.
+pub fn report<S: Sink>(
+    book: &ClosedBook,
+    groups: &Groups,
+    allocations: &[Allocation],
+    sink: &mut S,
+) -> Result<(), WriteFault>
+    requires count { length groups.now ≡ length allocations.now }
+    requires first { starts_empty groups.now ≡ true }
+    requires bidders { All (IsOfBidders (sale_of book.now)) groups.now }
+    requires feasible { AreFeasible (sale_of book.now) groups.now allocations.now }
+    ensures ok { OnOk result (Appends (S.taken sink.old) (S.taken sink.new) (report_text (sale_of book.now) groups.now allocations.now)) }
+    ensures err { IfErr result (λ e. SentFront (S.taken sink.old) (S.taken sink.new) (report_text (sale_of book.now) groups.now allocations.now) (written_of e)) }
+    ensures failed { OnErr result (HasFailed (S.failures sink.old) (S.failures sink.new)) }
+{
+    let mut block = Block::new();
+    match send_report(&mut block, sink, book, groups, allocations) {
+        Ok(()) => Ok(()),
+        Err(_) => Err(WriteFault::Sink {
+            written: block.sent,
+        }),
+    }
+}
