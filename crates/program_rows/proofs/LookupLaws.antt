@@ -49,10 +49,10 @@ module _ {X : Type 0} (name_of : X → List ℕ) (name : List ℕ) where
       let is : name ≡ n = (bytes_eq-Decides name n).0 f in
       let apart : bytes_eq (name_of y) (name_of x) ≡ false = d.0.0 in
       false_from_ne_true (bytes_eq name (name_of y)) (λ t.
-          let also : name ≡ name_of y = (bytes_eq-Decides name (name_of y)).0 t in
-          let equal : name_of y ≡ name_of x = sym also ∙ is ∙ sym same in
-          let clash = (bytes_eq-Decides (name_of y) (name_of x)).1 equal in
-          cc)
+      let also : name ≡ name_of y = (bytes_eq-Decides name (name_of y)).0 t in
+      let equal : name_of y ≡ name_of x = sym also ∙ is ∙ sym same in
+      let clash = (bytes_eq-Decides (name_of y) (name_of x)).1 equal in
+      cc)
   earlier_differ y (x ∷ xs) (suc i) n d e f = earlier_differ y xs i n (d.0.1, d.1.1) e f
 
   pub guessed : (xs : List X) (i : ℕ) (n : List ℕ) → IsDistinct bytes_eq (map name_of xs) → option_map name_of (slice_get xs i) ≡ Some n → bytes_eq name n ≡ true → i ≡ left xs

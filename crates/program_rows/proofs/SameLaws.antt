@@ -235,8 +235,8 @@ column_stand p q c differ same h = by (column_named q.columns c.name) refl
         let bounds : same_bounds c.bounds d.bounds ≡ true = ap (same_bounds c.bounds) (sym (ap (λ (t : Bounds × ℤ). t.0) terms)) ∙ bounds_itself c.bounds in
         let cost : int_eq c.cost d.cost ≡ true = (Decides-int_eq c.cost d.cost).1 (ap (λ (t : Bounds × ℤ). t.1) terms) in
         let coefficients : (name : List ℕ) → coefficient_in p.rows c name ≡ coefficient_in q.rows d name = λ name.
-            sym (ap (λ (o : Option TableColumn). option_map_or (λ c. coefficient_in p.rows c name) o (pos 0)) h.0) ∙ same.coefficients c.name name
-            ∙ ap (λ (o : Option TableColumn). option_map_or (λ c. coefficient_in q.rows c name) o (pos 0)) e in
+        sym (ap (λ (o : Option TableColumn). option_map_or (λ c. coefficient_in p.rows c name) o (pos 0)) h.0) ∙ same.coefficients c.name name
+        ∙ ap (λ (o : Option TableColumn). option_map_or (λ c. coefficient_in q.rows c name) o (pos 0)) e in
         let entries : list_all (entry_stands p.rows q.rows d) c.entries ≡ true = all_pass (entry_stands p.rows q.rows d) c.entries (entries_stand p.rows q.rows c d c.entries differ coefficients (own_entries (length p.rows) c.entries h.1)) in
         let agree : column_agrees p.rows q.rows c d ≡ true = rw (bounds, cost, entries) refl in
         ap (λ (o : Option TableColumn). option_map_or (column_agrees p.rows q.rows c) o false) e ∙ agree

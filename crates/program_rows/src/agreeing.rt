@@ -105,12 +105,7 @@ fn are_entries_of(
     true
 }
 
-fn agrees_with_column(
-    rows: &[Row],
-    others: &[Row],
-    column: &Column<'_>,
-    other: &Column<'_>,
-) -> bool
+fn agrees_with_column(rows: &[Row], others: &[Row], column: &Column<'_>, other: &Column<'_>) -> bool
     requires { IsDistinct bytes_eq (map (λ r. r.name) (map shown_row others.now)) }
     ensures { result ≡ comparing.column_agrees (map shown_row rows.now) (map shown_row others.now) (shown_column column.now) (shown_column other.now) }
 {

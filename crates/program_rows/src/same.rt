@@ -62,8 +62,10 @@ fn is_same(parts: &ProgramParts, others: &ProgramParts) -> bool
     requires others { IsProgram (table_of others.now) }
     ensures { result ≡ comparing.is_same (table_of parts.now) (table_of others.now) }
 {
-    is_same_name(parts.objective_name.as_slice(), others.objective_name.as_slice())
-        && stands_in(parts, others)
+    is_same_name(
+        parts.objective_name.as_slice(),
+        others.objective_name.as_slice(),
+    ) && stands_in(parts, others)
         && stands_in(others, parts)
 }
 

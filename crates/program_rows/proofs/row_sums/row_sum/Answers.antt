@@ -1,20 +1,21 @@
-use Rattle.std.proofs.Common.{◌≡◌, ◌∙◌, ◌+ℤ◌, ap, cond, pos, slice_index_or, false, rules, w64}
+use Rattle.std.proofs.Common.{◌≡◌, ◌+ℤ◌, cond, pos, slice_index_or, false, rules, arith}
 use Rattle.std.proofs.lemmas.Int.{to_z-of_z}
 use mir.Syntax.{w128}
 use mir.Val.{SFits, to_z, of_z}
 use Rattle.program_rows.specs.Points.{coefficient_at}
-use Rattle.program_rows.proofs.SumLaws.{sum_step, sum_bounds}
+use Rattle.program_rows.proofs.SumLaws.{sum_step, number_there, near_low, near_high}
 use Rattle.program_rows.proofs.row_sums.row_sum.Goals as goal
 
 pub loop-i-preserved : goal.loop-i-preserved
 loop-i-preserved c =
-    let fits : SFits w128 c.add_at_one-sum.result = search rules in
-    let fits_number : SFits w64 c.coefficient.result = search rules in
-    let same : to_z w128 (of_z w128 c.add_at_one-sum.result) ≡ c.add_at_one-sum.result = to_z-of_z w128 c.add_at_one-sum.result fits in
-    let number : to_z w64 (of_z w64 c.coefficient.result) ≡ c.coefficient.result = to_z-of_z w64 c.coefficient.result fits_number in
-    let value = slice_index_or c.args.values.now c.loop-i.i false in
+    let fits : SFits w128 c.add_coefficient-sum.result = search rules in
+    let same : to_z w128 (of_z w128 c.add_coefficient-sum.result) ≡ c.add_coefficient-sum.result = to_z-of_z w128 c.add_coefficient-sum.result fits in
     let sum = to_z w128 c.loop-i.sum-bits in
-    let next : c.add_at_one-sum.result ≡ sum +ℤ cond value c.coefficient.result (pos 0) =
-    c.add_at_one-sum.ensures ∙ ap (λ n. sum +ℤ cond value n (pos 0)) number in
-    let bounds = sum_bounds value c.coefficient.result sum c.add_at_one-sum.result c.loop-i.i c.coefficient.type_inv c.loop-i.invariant.0 c.loop-i.invariant.1 next in
-    rw same (bounds.0, bounds.1, sum_step (coefficient_at c.args.row) c.args.columns.now c.args.values.now c.loop-i.i c.coefficient.result false sum c.add_at_one-sum.result _ c.coefficient.ensures c.loop-i-test.true next c.loop-i.invariant.2)
+    let there = number_there (coefficient_at c.args.row) c.args.columns.now c.loop-i.i (omega arith) in
+    let told = c.add_coefficient-sum.ensures in
+    let next : c.add_coefficient-sum.result ≡ sum +ℤ cond (slice_index_or c.args.values.now c.loop-i.i false) there.0 (pos 0) = told.added there.0 there.1 in
+    rw same (
+      near_low sum c.add_coefficient-sum.result c.loop-i.i c.loop-i.invariant.0 told.low,
+      near_high sum c.add_coefficient-sum.result c.loop-i.i c.loop-i.invariant.1 told.high,
+      sum_step (coefficient_at c.args.row) c.args.columns.now c.args.values.now c.loop-i.i there.0 false sum c.add_coefficient-sum.result _ there.1 c.loop-i-test.true next c.loop-i.invariant.2,
+    )
