@@ -1,0 +1,49 @@
+use crate::bounds::Bounds;
+use crate::building::build;
+use crate::columns::Columns;
+use crate::point::Point;
+use crate::same::same_program;
+use crate::spelling::bid_named;
+use auction_terms::{Choice, Kept, read_rules};
+use std::test::Fail;
+
+const RULES: &[u8] = b"rules,1,1,,\ncategory,A,2,10,1\ncategory,B,1,5,1\nbidder,Alpha,9,2,\n";
+
+#[test]
+fn without_bids_the_categories_have_their_rows(rt: HostRuntime) -> Result<(), Fail> {
+    let Ok(rules) = read_rules(rt.alloc(), RULES) else {
+        return Err(Fail::from("the rules"));
+    };
+    let program = build(rt.alloc(), &rules, &Kept::new(Vec::new(rt.alloc())))?;
+    assert_eq!(rt; program.row_count(), 2);
+    assert_eq!(rt; program.row_name(1), b"C2".as_slice());
+    assert!(rt; same_program(&program, &program));
+    Ok(())
+}
+
+#[test]
+fn columns_lie_side_by_side(rt: HostRuntime) -> Result<(), Fail> {
+    let mut columns = Columns::new(rt.alloc());
+    columns.push(b"X1_1", Bounds::ZeroOrOne, -30, &[(0, 1), (2, 1)])?;
+    columns.push(b"K", Bounds::One, 7, &[])?;
+    assert_eq!(rt; columns.len(), 2);
+    assert_eq!(rt; columns.column(1).name, b"K".as_slice());
+    Ok(())
+}
+
+#[test]
+fn a_point_tells_its_values(rt: HostRuntime) -> Result<(), Fail> {
+    let point = Point::new([false, true].to_vec(rt.alloc())?);
+    assert!(rt; point.value(1));
+    Ok(())
+}
+
+#[test]
+fn names_spell_bids(rt: HostRuntime) {
+    let greatest = Choice {
+        bidder: 256,
+        bid: 4000,
+    };
+    assert!(rt; bid_named(b"X256_4000") == Some(greatest));
+    assert!(rt; bid_named(b"X01_1").is_none());
+}
