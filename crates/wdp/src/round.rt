@@ -1,0 +1,166 @@
+//! The round: every bidder submits its forms, the chair closes, and the desk is settled.
+
+ghost use Rattle.std.specs.Prelude.{◌≡◌, ◌+◌, ◌≤◌, All, IfOk, length};
+ghost use Rattle.auction_terms.specs.Terms.{session_count};
+ghost use Rattle.bid_forms.specs.Offers.{Meets};
+ghost use Rattle.wdp.specs.Submissions.{AreByBidder};
+
+use crate::by_bidder::{by_bidder, take_forms};
+use crate::job::{Done, Job};
+use crate::numbered_form::NumberedForm;
+use auction_terms::Rules;
+use bid_book::Reply;
+use bid_desk::{Cause, Chair, ClosedBook, Desk, Round, Session};
+use bid_forms::Form;
+use std::alloc::{AllocError, Global};
+use std::marker::Brand;
+use std::sync::Wait;
+use std::sync::ledger::Blank;
+use std::thread;
+use std::thread::Threads;
+
+/// Why a round leaves no closed book. Forms count from 1 in the order of the input.
+#[derive(Clone, Copy, Debug, PartialEq, Eq)]
+pub enum RoundFault {
+    /// The first form that its bidder had no call left for.
+    CallLimit { form: usize },
+    /// The desk answered what a round of these calls isn't answered.
+    WrongAnswer,
+    OutOfMemory,
+}
+
+impl From<AllocError> for RoundFault {
+    fn from(_: AllocError) -> RoundFault {
+        RoundFault::OutOfMemory
+    }
+}
+
+/// Runs a round over these forms, one thread for each bidder that has some.
+pub fn close_round<R: Threads + Wait + Sync + AllocGlobal>(
+    rt: &R,
+    rules: Rules,
+    forms: Vec<Form>,
+) -> Result<ClosedBook, RoundFault>
+    requires { All (Meets rules) forms.items }
+    ensures { IfOk result (λ book. book.rules ≡ rules) }
+{
+    let blank = Blank::new(part_count(&rules));
+    close_round_of::<Brand, _>(rt, blank, rules, forms)
+}
+
+// A part of the count of entries for each session, and one for the chair.
+fn part_count(rules: &Rules) -> u64
+    ensures { result ≡ session_count rules.now + 1 }
+{
+    let _within_limits = rules.bidders();
+    rules.session_count() as u64 + 1
+}
+
+// The round whose ledger and rules are those of `L`.
+fn close_round_of<L: Round + Send + Sync, R: Threads + Wait + Sync + AllocGlobal>(
+    rt: &R,
+    blank: Blank,
+    rules: Rules,
+    forms: Vec<Form>,
+) -> Result<ClosedBook, RoundFault>
+    requires name { blank.name ≡ L.name }
+    requires parts { blank.parts ≡ L.parts }
+    requires part_count { (blank.parts ≡ L.part_count) × (L.part_count ≡ session_count rules + 1) }
+    requires rules { rules ≡ L.rules }
+    requires meet { All (Meets L.rules) forms.items }
+    ensures { IfOk result (λ book. book.rules ≡ rules) }
+{
+    let alloc: Global = rt.alloc();
+    let lists = by_bidder::<L>(alloc, rules.bidders().len(), forms)?;
+    let Ok((desk, chair, sessions)) = Desk::<L>::open(alloc, blank, rules) else {
+        return Err(RoundFault::OutOfMemory);
+    };
+    let (jobs, others) = jobs_of(alloc, sessions, lists)?;
+    let done = thread::map_vec(rt, jobs, &|job: Job<L>| job.run(rt, &desk))?;
+    let sessions = sessions_of(done, others)?;
+    settle(rt, desk, chair, sessions)
+}
+
+// The first session of each bidder with forms, with these forms; and the other sessions.
+fn jobs_of<L: Round>(
+    alloc: Global,
+    sessions: Vec<Session<L>>,
+    lists: Vec<Vec<NumberedForm>>,
+) -> Result<(Vec<Job<L>>, Vec<Session<L>>), AllocError>
+    requires { AreByBidder L.rules lists.items }
+{
+    let mut lists = lists;
+    let mut jobs = Vec::new(alloc);
+    let mut others = Vec::new(alloc);
+    for session in sessions {
+        if session.session() != 1 {
+            others.push(session)?;
+            continue;
+        }
+        let forms = take_forms::<L>(alloc, &mut lists, session.bidder());
+        if forms.is_empty() {
+            others.push(session)?;
+        } else {
+            jobs.push(Job::new(session, forms))?;
+        }
+    }
+    Ok((jobs, others))
+}
+
+// All sessions, where every submission was accepted.
+fn sessions_of<L: Round>(
+    done: Vec<Done<L>>,
+    others: Vec<Session<L>>,
+) -> Result<Vec<Session<L>>, RoundFault> {
+    let mut sessions = others;
+    let mut ended = Ok(());
+    for job in done {
+        let Done {
+            session,
+            ended: own,
+        } = job;
+        if sessions.push(session).is_err() {
+            return Err(RoundFault::OutOfMemory);
+        }
+        ended = first_of(ended, own);
+    }
+    ended?;
+    Ok(sessions)
+}
+
+// Of two ends the one to tell: want of memory, else a wrong answer, else the call limit of the earlier form.
+fn first_of(one: Result<(), RoundFault>, other: Result<(), RoundFault>) -> Result<(), RoundFault> {
+    match (one, other) {
+        (Ok(()), end) => end,
+        (end, Ok(())) => end,
+        (Err(RoundFault::CallLimit { form }), Err(RoundFault::CallLimit { form: next })) => {
+            let form = if form < next { form } else { next };
+            Err(RoundFault::CallLimit { form })
+        }
+        (Err(RoundFault::OutOfMemory), _) => Err(RoundFault::OutOfMemory),
+        (_, Err(RoundFault::OutOfMemory)) => Err(RoundFault::OutOfMemory),
+        _ => Err(RoundFault::WrongAnswer),
+    }
+}
+
+// The chair closes, and the desk is settled.
+fn settle<L: Round, R: Wait + AllocGlobal>(
+    rt: &R,
+    desk: Desk<L>,
+    chair: Chair<L>,
+    sessions: Vec<Session<L>>,
+) -> Result<ClosedBook, RoundFault>
+    ensures { IfOk result (λ book. book.rules ≡ L.rules) }
+{
+    let mut chair = chair;
+    match desk.enter(rt).close(&mut chair) {
+        Ok(Reply::Closed { was_open: true }) => {}
+        Ok(_) => return Err(RoundFault::WrongAnswer),
+        Err(_) => return Err(RoundFault::OutOfMemory),
+    }
+    match desk.stop().settle(rt.alloc(), chair, sessions) {
+        Ok(book) => Ok(book),
+        Err(unsettled) if unsettled.cause == Cause::OutOfMemory => Err(RoundFault::OutOfMemory),
+        Err(_) => Err(RoundFault::WrongAnswer),
+    }
+}
