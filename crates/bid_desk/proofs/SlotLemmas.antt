@@ -75,6 +75,7 @@ slots-empty t sessions terms =
       times_are = λ b s known. ap (λ (o : Slot). o.times) (at b s known);
       within = λ b s known some. (let none : (slot_at (replicate n empty_slot) b s).times ≡ 0 = ap (λ (o : Slot). o.times) (at b s known) in absurd (omega arith));
       named = λ b s d known some. (let none : (slot_at (replicate n empty_slot) b s).times ≡ 0 = ap (λ (o : Slot). o.times) (at b s known) in absurd (omega arith));
+      known = λ k d small. absurd (omega arith);
       taken = λ k d small. absurd (omega arith);
       found = λ k d small one. absurd (omega arith);
     }
@@ -128,6 +129,12 @@ module _ (t : Terms) (sessions : List SessionOwn) (n : ℕ) (slots : List Slot) 
       | inr other ↦
           let at = at-other b s other in
           subst (λ (o : Slot). IsTrue (is_named b s (slice_index_or sessions o.place d))) (sym at) (was.named b s d of_rules (subst (λ (o : Slot). 1 ≤ o.times) at some))
+    ];
+    known = λ k d less. elim (cases_lt k n) [
+      | inl before ↦ was.known k d before
+      | inr now ↦
+          let last : k ≡ n = omega arith in
+          subst (λ (z : SessionOwn). IsSessionOf t z.bidder z.session) (sym (ap (λ m. slice_index_or sessions m d) last ∙ here d)) known
     ];
     taken = λ k d less. (
         let y = slice_index_or sessions k d in

@@ -23,7 +23,7 @@ impl Model for ClosedBook {
 }
 
 impl ClosedBook {
-    ghost use Rattle.std.specs.Prelude.{◌≡◌, map, IfSome};
+    ghost use Rattle.std.specs.Prelude.{◌≡◌, length, map, IfSome};
     ghost use Rattle.std.specs.Option.{option_map, option_copied};
     ghost use Rattle.auction_terms.specs.Allocations.{form_of};
     ghost use Rattle.auction_terms.specs.Limits.{IsBook, IsLots};
@@ -44,6 +44,7 @@ impl ClosedBook {
         ensures rules { result.now ≡ self.now.rules }
         ensures lots { IsLots (lots_in self.now.rules) }
         ensures book { IsBook (lots_in self.now.rules) (book_of self.now) }
+        ensures bidders { length (book_of self.now) ≡ length self.now.rules.bidders }
     {
         &self.rules
     }

@@ -9,8 +9,9 @@ ghost use Rattle.bid_desk.specs.Settlement.{IsFirstDifference, StandOnce};
 ghost use Rattle.bid_desk.specs.Slots.{AreSlots};
 ghost use Rattle.bid_desk.specs.Comparing.{AreCompared, IsCompared, IsWithin};
 
+use crate::chair::Chair;
 use crate::round::Round;
-use crate::session::{Chair, Session};
+use crate::session::Session;
 use crate::slots::{Slot, slot_of};
 use bid_book::{Call, Caller, Entry, Reply};
 use std::alloc::{AllocError, Global};

@@ -9,9 +9,10 @@ ghost use Rattle.bid_book.specs.History.{entry_value, call_value, reply_value, s
 ghost use Rattle.bid_desk.specs.Closing.{closing};
 ghost use Rattle.bid_desk.specs.Holding.{caller_of, CallMeets, IsEntryOf, IsRecordedBy, IsRecordedByChair};
 
+use crate::chair::Chair;
 use crate::closed::ClosedBook;
 use crate::round::Round;
-use crate::session::{Chair, Session};
+use crate::session::Session;
 use auction_terms::Rules;
 use bid_book::{Book, Call, Caller, Entry, Reply, Standing, StepError};
 use bid_forms::Form;
@@ -44,19 +45,12 @@ impl<L: Round> Model for Held<L> {
 }
 
 impl<L: Round> Held<L> {
-    /// The entries in order: a legal history, and as many as the count says.
+    /// The entries in order: a legal history under the rules, and as many as the count says.
     pub fn history(&self) -> &[Entry]
         ensures entries { map entry_value result.now ≡ self.now.history }
         ensures legal { IsLegal self.now.history }
-        ensures count { self.now.count ≡ length self.now.history }
-    {
-        self.book.history()
-    }
-
-    /// The same entries; each is one of the rules.
-    pub(crate) fn entries(&self) -> &[Entry]
-        ensures entries { map entry_value result.now ≡ self.now.history }
         ensures rules { All (IsEntryOf L.rules) self.now.history }
+        ensures count { self.now.count ≡ length self.now.history }
     {
         self.book.history()
     }

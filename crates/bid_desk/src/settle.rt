@@ -3,15 +3,15 @@ ghost use Rattle.std.specs.Prelude.{◌≡◌, map, length, true, IfSome, IfNone
 ghost use Rattle.auction_terms.specs.Terms.{AreTerms};
 ghost use Rattle.bid_book.specs.History.{entry_value, is_closed, own_pairs};
 ghost use Rattle.bid_desk.specs.Holding.{IsEntryOf};
-ghost use Rattle.bid_desk.specs.Sessions.{IsSessionOf};
 ghost use Rattle.bid_desk.specs.Settlement.{IsSettled, IsCause, IsFirstOfAll, StandOnce, AgreeAll};
 ghost use Rattle.bid_desk.specs.Slots.{AreSlots};
 
+use crate::chair::Chair;
 use crate::closed::ClosedBook;
 use crate::comparing::compare;
 use crate::desk::Stopped;
 use crate::round::Round;
-use crate::session::{Chair, Session};
+use crate::session::Session;
 use crate::slots::{Slot, missing, session_at, slots_of};
 use auction_terms::Rules;
 use bid_book::{Caller, Entry};
@@ -71,15 +71,6 @@ fn differing<L: Round>(
     }
 }
 
-/// Each session is one of the rules.
-fn know_sessions<L: Round>(sessions: &[Session<L>])
-    ensures { All (λ x. IsSessionOf L.rules x.bidder x.session) sessions.now }
-{
-    for x in sessions {
-        x.know();
-    }
-}
-
 /// The first cause in a closed round, if any.
 fn cause_of<L: Round>(
     alloc: Global,
@@ -97,11 +88,10 @@ fn cause_of<L: Round>(
     if let Some((bidder, session)) = missing(rules, &slots) {
         return Ok(Some(Cause::Sessions { bidder, session }));
     }
-    let history = stopped.held.entries();
+    let history = stopped.history();
     if let Some((caller, place)) = differing(alloc, rules, history, &slots, sessions, chair)? {
         return Ok(Some(Cause::Differs { caller, place }));
     }
-    know_sessions(sessions);
     Ok(None)
 }
 

@@ -1,12 +1,10 @@
 use Rattle.std.proofs.Common.{◌≡◌, ℕ, List, length, subst, sym, ap, ◌∙◌, map, true}
-use Rattle.std.specs.Prelude.{All}
 use Rattle.auction_terms.specs.Terms.{Terms}
 use Rattle.bid_forms.specs.Offers.{Offers}
 use Rattle.bid_book.specs.declared.caller.Caller.TheVariants.{Chair}
 use Rattle.bid_book.specs.declared.entry.Entry.{Entry}
 use Rattle.bid_book.specs.History.{entry_value, own_pairs}
 use Rattle.bid_desk.specs.declared.slots.Slot.{Slot}
-use Rattle.bid_desk.specs.Holding.{Holding, IsEntryOf}
 use Rattle.bid_desk.specs.Sessions.{IsSessionOf}
 use Rattle.bid_desk.specs.Settlement.{AgreeAll, IsFirstOfAll}
 use Rattle.bid_desk.specs.Slots.{AllOnce, AreSlots, IsFirstWrong}
@@ -34,7 +32,7 @@ returns-in-Some-2-clause-some g c =
     let t = g.L.Round.rules in
     let once = subst (λ (w : List Slot). AllOnce t w) c.deref.ensures.value (subst (λ (t : Terms). AllOnce t c.deref.result.now) c.stopped.invariant c.in_default.ensures.none) in
     let differs = rw c.in-Some-2.is at c.in_ok-caller.ensures.differs in
-    let history : map entry_value c.entries-history.result.now ≡ c.args.stopped.now.history = c.entries-history.ensures.entries ∙ ap (λ (h : Holding). h.history) c.stopped.view_is in (
+    let history : map entry_value c.history-history.result.now ≡ c.args.stopped.now.history = c.history-history.ensures.entries in (
       c.requires,
       stand-once t c.args.sessions.now c.in_ok-slots.slots.items c.in_ok-slots.ensures.slots once,
       subst (λ (w : List (Entry Offers)). IsFirstOfAll t w c.args.chair.now c.args.sessions.now c.in-Some-2.caller c.in-Some-2.place) history differs,
@@ -45,14 +43,14 @@ returns-clause-none g c =
     let t = g.L.Round.rules in
     let h = c.args.stopped.now.history in
     let once = subst (λ (w : List Slot). AllOnce t w) c.deref.ensures.value (subst (λ (t : Terms). AllOnce t c.deref.result.now) c.stopped.invariant c.in_default.ensures.none) in
-    let history : map entry_value c.entries-history.result.now ≡ h = c.entries-history.ensures.entries ∙ ap (λ (h : Holding). h.history) c.stopped.view_is in
-    let entries = subst (λ (w : Holding). All (IsEntryOf t) w.history) c.stopped.view_is c.entries-history.ensures.rules in
+    let history : map entry_value c.history-history.result.now ≡ h = c.history-history.ensures.entries in
+    let entries = c.history-history.ensures.rules in
     let agrees = rw c.in_default-2.is at c.in_ok-caller.ensures.sessions in
     let chair = rw c.in_default-2.is at c.in_ok-caller.ensures.chair in
     record {
       closed = c.requires;
       once = (stand-once t c.args.sessions.now c.in_ok-slots.slots.items c.in_ok-slots.ensures.slots once).each;
-      own_is = own_from_agrees t h c.args.sessions.now c.know_sessions.ensures (subst (λ (w : List (Entry Offers)). AgreeAll t w c.args.sessions.now) history agrees).each;
+      own_is = own_from_agrees t h c.args.sessions.now c.in_ok-slots.ensures.slots.known (subst (λ (w : List (Entry Offers)). AgreeAll t w c.args.sessions.now) history agrees).each;
       chair_is = subst (λ (w : List (Entry Offers)). own_pairs w Chair ≡ c.args.chair.now.pairs) history chair;
       callers = callers_from_entries t h entries;
     }

@@ -1,4 +1,6 @@
-use Rattle.bid_desk.specs.Closing.{closing}
+use Rattle.std.proofs.Common.{length}
+use Rattle.std.proofs.lemmas.List.FromFn.{length-map-range_with_len}
+use Rattle.bid_desk.specs.Closing.{bids_in, closing, form_standing}
 use Rattle.bid_desk.proofs.ClosingLemmas.{IsBook-book_of, IsLots-lots_in}
 use Rattle.bid_desk.proofs.closed.ClosedBook.rules.Goals as goal
 
@@ -7,3 +9,7 @@ returns-clause-lots c = rw (← c.self.view_is) (IsLots-lots_in c.self.inside.ru
 
 pub returns-clause-book : goal.returns-clause-book
 returns-clause-book c = rw (← c.self.view_is) (IsBook-book_of (closing c.self.inside.rules c.self.inside.book) c.self.invariant.terms c.self.invariant.entries)
+
+pub returns-clause-bidders : goal.returns-clause-bidders
+returns-clause-bidders c =
+    rw (← c.self.view_is) (length-map-range_with_len (λ bidder. bids_in (form_standing c.self.inside.book bidder)) 1 (length c.self.inside.rules.bidders))

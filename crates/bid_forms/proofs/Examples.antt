@@ -1,0 +1,36 @@
+-- The definitions on small forms.
+use Rattle.std.proofs.Common.{◌≡◌, refl}
+use Rattle.std.specs.Prelude.{[], ◌∷◌, Ok, Err, codes}
+use Rattle.csv.specs.Records.{field_at}
+use Rattle.csv.proofs.OnLiterals.{csv_on_literals}
+use Rattle.auction_terms.specs.FirstFault.{first_fault}
+use Rattle.auction_terms.specs.Terms.{Terms, terms}
+use Rattle.bid_forms.specs.Offers.{offers}
+use Rattle.bid_forms.specs.FormText.{form_of}
+use Rattle.bid_forms.specs.declared.form_text.FormFault.TheVariants as fault
+
+-- two lots of A at 10 each, one of B at 5, and one bidder of eligibility 9
+abbrev rules : Terms
+rules = terms 1
+    (record { name = codes "A"; supply = 2; reserve = 10; points = 1 } ∷ record { name = codes "B"; supply = 1; reserve = 5; points = 1 } ∷ [])
+    (record { name = codes "Alpha"; eligibility = 9; sessions = 2 } ∷ [])
+
+form : form_of rules (codes "Alpha,A,B\n0030,1,0\n") ≡ Ok (offers 1 (record { «package» = 1 ∷ 0 ∷ []; amount = 30 } ∷ []))
+unfolding csv_on_literals first_fault field_at
+form = refl
+
+unknown_bidder : form_of rules (codes "Delta,A,B\n") ≡ Err (fault.UnknownBidder 1)
+unfolding csv_on_literals first_fault field_at
+unknown_bidder = refl
+
+amount_first : form_of rules (codes "Alpha,A,B\n0,0,0\n") ≡ Err (fault.AmountRange 2)
+unfolding csv_on_literals first_fault field_at
+amount_first = refl
+
+below_reserve : form_of rules (codes "Alpha,A,B\n14,1,1\n") ≡ Err (fault.BelowReserve 2)
+unfolding csv_on_literals first_fault field_at
+below_reserve = refl
+
+repeated : form_of rules (codes "Alpha,A,B\n30,1,0\n31,1,0\n") ≡ Err (fault.RepeatedPackage 3 1)
+unfolding csv_on_literals first_fault field_at
+repeated = refl
