@@ -3,13 +3,12 @@ ghost use Rattle.std.specs.Prelude.{◌≡◌, [], Some, min};
 use crate::sink::{Sink, SinkFailed};
 use std::alloc::Global;
 
-/// A sink for tests: it takes at most `most` bytes a put, and fails once it has taken `room` altogether. It notes the longest piece that it was handed.
+/// A sink for tests: it takes at most `most` bytes a put, and fails once it has taken `room` altogether.
 #[derive(Drop)]
 pub struct LimitSink {
     bytes: Vec<u8>,
     room: usize,
     most: usize,
-    longest: usize,
     failures: u64,
 }
 
@@ -23,7 +22,6 @@ impl LimitSink {
             bytes: Vec::new(alloc),
             room,
             most,
-            longest: 0,
             failures: 0,
         }
     }
@@ -33,11 +31,6 @@ impl LimitSink {
         ensures { ⟦<LimitSink as Sink>⟧.taken self.now ≡ Some result.now }
     {
         self.bytes.as_slice()
-    }
-
-    /// The length of the longest piece that it was handed.
-    pub fn longest(&self) -> usize {
-        self.longest
     }
 }
 
@@ -54,7 +47,6 @@ impl Sink for LimitSink {
     ghost failures = { λ s. s.failures };
 
     fn put(&mut self, bytes: &[u8]) -> Result<usize, SinkFailed> {
-        self.longest = self.longest.max(bytes.len());
         let count = share(bytes.len(), self.most, self.room);
         if count > 0 || bytes.is_empty() {
             if let Ok(()) = self.bytes.extend_from_slice(&bytes[..count]) {
