@@ -1,9 +1,6 @@
 -- Worked solutions, which the definitions compute.
 use Rattle.std.specs.Fmt.{digits}
-use Rattle.std.specs.Prelude.{◌≡◌, refl, ℕ, List, [], ◌∷◌, Bool, true, false, pos, negsuc, Ok, Err, codes}
-use Rattle.program_rows.specs.declared.row.RowKind.TheVariants.{AtMost}
-use Rattle.program_rows.specs.declared.bounds.Bounds.TheVariants.{ZeroOrOne, One}
-use Rattle.program_rows.specs.Program.{Table, TableRow}
+use Rattle.std.specs.Prelude.{◌≡◌, refl, ℕ, List, [], ◌∷◌, true, false, negsuc, Ok, Err, codes}
 use Rattle.program_rows.specs.Points.{objective}
 use Rattle.program_rows.specs.Lines.{fields}
 use Rattle.program_rows.specs.Spelling.{column_bid}
@@ -18,6 +15,7 @@ use Rattle.outcome.specs.Solution.{solution}
 use Rattle.outcome.specs.Winning.{allocation_of}
 use Rattle.outcome.specs.Sale.{Sale}
 use Rattle.outcome.specs.Report.{allocation_text, report_text}
+use Rattle.outcome.proofs.Worked.{fixed, three, winners}
 
 -- ---- values
 
@@ -70,23 +68,6 @@ unfolding token_value
 word = refl
 
 -- ---- solutions against the program of three bidders
-
-abbrev at_most : List ℕ → ℕ → TableRow
-at_most name n = record { name = name; kind = AtMost; right_side = pos n }
-
-abbrev three : Table
-three = record {
-  objective = codes "OBJ";
-  rows = at_most (codes "B1") 1 ∷ at_most (codes "B2") 1 ∷ at_most (codes "B3") 1 ∷ at_most (codes "C1") 2 ∷ at_most (codes "C2") 1 ∷ [];
-  columns =
-      record { name = codes "X1_1"; bounds = ZeroOrOne; cost = negsuc 29; entries = (0, pos 1) ∷ (3, pos 1) ∷ [] } ∷
-      record { name = codes "X1_2"; bounds = ZeroOrOne; cost = negsuc 49; entries = (0, pos 1) ∷ (3, pos 2) ∷ (4, pos 1) ∷ [] } ∷
-      record { name = codes "X2_1"; bounds = ZeroOrOne; cost = negsuc 19; entries = (1, pos 1) ∷ (3, pos 1) ∷ [] } ∷
-      record { name = codes "X3_1"; bounds = ZeroOrOne; cost = negsuc 11; entries = (2, pos 1) ∷ (4, pos 1) ∷ [] } ∷ [];
-}
-
-abbrev winners : List Bool
-winners = true ∷ false ∷ true ∷ true ∷ []
 
 won : solution three (codes "X1_1 0.999999\nX2_1 1\nX3_1 1\n") ≡ Ok winners
 unfolding solution fields first_fault token_value
@@ -142,9 +123,6 @@ two_returns = refl
 skipped_lines : solution three (codes "# status optimal\n\n \t\r\nX1_1\t1\r\n") ≡ Ok (true ∷ false ∷ false ∷ false ∷ [])
 unfolding solution fields first_fault token_value
 skipped_lines = refl
-
-abbrev fixed : Table
-fixed = record { objective = codes "OBJ"; rows = []; columns = record { name = codes "X1_1"; bounds = One; cost = pos 0; entries = [] } ∷ [] }
 
 bound_broken : solution fixed [] ≡ Err (fault.BoundBroken 0)
 unfolding solution fields first_fault token_value

@@ -9,4 +9,5 @@ pub mod NameLaws
 pub mod BoundLaws
 pub mod CostLaws
 pub mod ReportLaws
+pub mod Worked
 mod Examples

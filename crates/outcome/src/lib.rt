@@ -24,3 +24,6 @@ pub use fault::{SolutionFault, ValueFault};
 pub use reading::read_solution;
 pub use winning::map_back;
 pub use writing::{report, write_allocation};
+
+#[cfg(test)]
+mod tests;
