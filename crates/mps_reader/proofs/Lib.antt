@@ -1,0 +1,12 @@
+pub mod FieldFacts
+pub mod SectionWords
+pub mod NameFacts
+pub mod LineCases
+pub mod HeaderCases
+pub mod EntryFacts
+pub mod RowSteps
+pub mod StampFacts
+pub mod PairSteps
+pub mod ColumnSteps
+pub mod FitFacts
+pub mod LineCount

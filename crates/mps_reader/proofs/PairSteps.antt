@@ -1,0 +1,111 @@
+-- A pair of row and number more.
+use Rattle.std.proofs.Common.{◌≡◌, ◌≢◌, ℕ, zero, suc, ◌<◌, Bool, true, false, List, [], ◌∷◌, ◌++◌, length, refl, sym, ap, subst, ◌∙◌, arith, Option, Some, None, ℤ, pos, get_or}
+use Rattle.std.specs.Prelude.{◌==◌, slice_get, if◌then◌else◌}
+use Rattle.std.specs.Ordering.{int_eq}
+use Rattle.std.specs.List.{AllByRecursion, slice_set}
+use Rattle.std.proofs.lemmas.Bool.{eqb-false, both_ways, cases_eq, cases_order}
+use mathlib.Core.Logic.{◌⊎◌, inl, inr}
+use Rattle.std.proofs.lemmas.Bool.Decides.{Decides-int_eq}
+use Rattle.program_rows.specs.declared.row.Row.{Row}
+use Rattle.mps_reader.specs.Rows.{AreAt, RowsFit, names_of, row_names}
+use Rattle.mps_reader.specs.declared.row_table.Rows.{Rows}
+use Rattle.mps_reader.specs.declared.open_column.OpenColumn.{OpenColumn}
+use Rattle.mps_reader.specs.Columns.{AreDistinctEntries, IsApart, PairsFit, put_entries}
+use Rattle.mps_reader.proofs.NameFacts.{length-bytes, placed, apart}
+use Rattle.mps_reader.proofs.EntryFacts.{entries-push, none-at-push}
+
+pub get-set : (xs : List ℕ) (i j v : ℕ) → i ≢ j → slice_get (slice_set xs i v) j ≡ slice_get xs j
+get-set [] i j v h = refl
+get-set (x ∷ xs) zero zero v h = absurd (h refl)
+get-set (x ∷ xs) zero (suc j) v h = refl
+get-set (x ∷ xs) (suc i) zero v h = refl
+get-set (x ∷ xs) (suc i) (suc j) v h = get-set xs i j v (λ e. h (ap suc e))
+
+pub get-set-same : (xs : List ℕ) (i v d : ℕ) → slice_get (slice_set xs i v) i ≡ Some d → d ≡ v
+get-set-same [] i v d h = absurd cc
+get-set-same (x ∷ xs) zero v d h = cc
+get-set-same (x ∷ xs) (suc i) v d h = get-set-same xs i v d h
+
+differ : (ns : List (List ℕ)) (ps : List (Option ℕ)) (rows : List (List ℕ)) (i j p q : ℕ) → AreAt 0 ns ps rows → slice_get ps i ≡ Some (Some p) → slice_get ps j ≡ Some (Some q) → i ≢ j → p ≢ q
+differ ns ps rows i j p q at h k ne e = elim (cases_order i j) as (λ _. ⊥) [
+  | inl same ↦ ne same
+  | inr other ↦ elim other as (λ _. ⊥) [
+    | inl less ↦ let up = apart 0 ns ps rows i j p q at h k less in omega arith
+    | inr more ↦ let up = apart 0 ns ps rows j i q p at k h more in omega arith
+  ]
+]
+
+-- the row that has the stamp now is the only one with a new entry
+pub apart-put : (ns : List (List ℕ)) (ps : List (Option ℕ)) (rows : List (List ℕ)) (stamps : List ℕ) (entries : List (ℕ × ℤ)) (i stamp : ℕ) (cost : Bool) (place : Option ℕ) (v : ℤ) → AreAt 0 ns ps rows → slice_get ps i ≡ Some place
+    → IsApart stamps ps stamp entries → IsApart (slice_set stamps i stamp) ps stamp (put_entries cost place v entries)
+apart-put ns ps rows stamps entries i stamp cost place v at here h = λ j q d there stamped other. by j q d there stamped other (cases_eq i j)
+  where
+    put-none : (cost : Bool) (place : Option ℕ) (q : ℕ) → ((p : ℕ) → place ≡ Some p → p ≢ q) → AllByRecursion (λ e. (e.0 == q) ≡ false) entries → AllByRecursion (λ e. (e.0 == q) ≡ false) (put_entries cost place v entries)
+    put-none true place q f a = a
+    put-none false None q f a = a
+    put-none false (Some p) q f a = elim (int_eq v (pos 0)) as (λ b. AllByRecursion (λ e. (e.0 == q) ≡ false) (if b then entries else entries ++ (p, v) ∷ [])) [
+      | true ↦ a
+      | false ↦ none-at-push entries p q v (f p refl) a
+    ]
+
+    by : (j q d : ℕ) → slice_get ps j ≡ Some (Some q) → slice_get (slice_set stamps i stamp) j ≡ Some d → (d == stamp) ≡ false → (i ≡ j) ⊎ (i ≡ j → ⊥) → AllByRecursion (λ e. (e.0 == q) ≡ false) (put_entries cost place v entries)
+    by j q d there stamped other (inl same) =
+        absurd (eqb-false _ _ other (get-set-same stamps i stamp d (subst (λ k. slice_get (slice_set stamps i stamp) k ≡ Some d) (sym same) stamped)))
+    by j q d there stamped other (inr apart-rows) =
+        put-none cost place q (λ p e. differ ns ps rows i j p q at (here ∙ ap (λ o. Some o) e) there apart-rows) (h j q d there (sym (get-set stamps i j stamp apart-rows) ∙ stamped) other)
+
+pub entries-put : (count : ℕ) (entries : List (ℕ × ℤ)) (cost : Bool) (place : Option ℕ) (v : ℤ) → ((p : ℕ) → place ≡ Some p → (p < count) × AllByRecursion (λ e. (e.0 == p) ≡ false) entries) → AreDistinctEntries count entries → AreDistinctEntries count (put_entries cost place v entries)
+entries-put count entries true place v f d = d
+entries-put count entries false None v f d = d
+entries-put count entries false (Some p) v f d = by (int_eq v (pos 0)) refl
+  where
+    by : (b : Bool) → int_eq v (pos 0) ≡ b → AreDistinctEntries count (if b then entries else entries ++ (p, v) ∷ [])
+    by true e = d
+    by false e = entries-push count entries p v (f p refl).0 (λ k. both_ways _ e ((Decides-int_eq v (pos 0)).1 k)) (f p refl).1 d
+
+pub get-below : {A : Type 0} (xs : List A) (i : ℕ) (x : A) → slice_get xs i ≡ Some x → i < length xs
+get-below [] i x h = absurd cc
+get-below (y ∷ xs) zero x h = omega arith
+get-below (y ∷ xs) (suc i) x h = let more = get-below xs i x h in omega arith
+
+pub get-from : {A : Type 0} (xs : List A) (i : ℕ) (x : A) → i < length xs → x ≡ get_or xs i x → slice_get xs i ≡ Some x
+get-from [] i x h e = absurd (omega arith)
+get-from (y ∷ xs) zero x h e = ap (λ z. Some z) (sym e)
+get-from (y ∷ xs) (suc i) x h e = get-from xs i x (omega arith) e
+
+get-some : (xs : List ℕ) (i : ℕ) → i < length xs → slice_get xs i ≡ Some (get_or xs i 0)
+get-some [] i h = absurd (omega arith)
+get-some (y ∷ xs) zero h = refl
+get-some (y ∷ xs) (suc i) h = get-some xs i (omega arith)
+
+pub length-names : (rs : List Row) → length (row_names rs) ≡ length rs
+length-names [] = refl
+length-names (r ∷ rs) = ap suc (length-names rs)
+
+pub stamped-fit : (r new : Rows) → RowsFit r → new ≡ record r { stamps = new.stamps } → length new.stamps.items ≡ length r.stamps.items → RowsFit new
+stamped-fit r new fit same size =
+    let names : new.names ≡ r.names = ap (λ q. q.names) same in
+    let places : new.places ≡ r.places = ap (λ q. q.places) same in
+    let rows : new.rows ≡ r.rows = ap (λ q. q.rows) same in
+    let objective : new.objective ≡ r.objective = ap (λ q. q.objective) same in
+    rw (names, places, rows, objective) (record { distinct = fit.distinct; plain = fit.plain; stamps = size ∙ fit.stamps; places = fit.places; objective = fit.objective })
+
+pub pair-fits : (r new : Rows) (column after : OpenColumn) (stamp i : ℕ) (row : List ℕ) (cost : Bool) (place : Option ℕ) (v : ℤ) → RowsFit r → slice_get (names_of r.names) i ≡ Some row → slice_get r.places.items i ≡ Some place
+    → ((d : ℕ) → slice_get r.stamps.items i ≡ Some d → (d == stamp) ≡ false) → new.places ≡ r.places → new.rows ≡ r.rows → new.stamps.items ≡ slice_set r.stamps.items i stamp → after.entries.items ≡ put_entries cost place v column.entries.items
+    → PairsFit stamp r column → PairsFit stamp new after
+pair-fits r new column after stamp i row cost place v fit at here fresh places rows stamps entries h =
+    let low = get-below (names_of r.names) i row at in
+    let size = length-bytes r.names.keys in
+    let stamped = get-some r.stamps.items i (omega (arith, fit.stamps)) in
+    record {
+      entries = subst (λ q. AreDistinctEntries (length q.items) after.entries.items) (sym rows) (subst (λ es. AreDistinctEntries (length r.rows.items) es) (sym entries) (entries-put (length r.rows.items) column.entries.items cost place v
+          (λ p e. let there = placed 0 (names_of r.names) r.places.items (row_names r.rows.items) i p fit.places (here ∙ ap (λ o. Some o) e) in
+          (omega (arith, there.1, length-names r.rows.items), h.apart i p (get_or r.stamps.items i 0) (here ∙ ap (λ o. Some o) e) stamped (fresh (get_or r.stamps.items i 0) stamped))) h.entries));
+      apart = subst (λ q. IsApart new.stamps.items q.items stamp after.entries.items) (sym places) (subst (λ s. IsApart s r.places.items stamp after.entries.items) (sym stamps) (subst (λ es. IsApart (slice_set r.stamps.items i stamp) r.places.items stamp es) (sym entries)
+          (apart-put (names_of r.names) r.places.items (row_names r.rows.items) r.stamps.items column.entries.items i stamp cost place v fit.places here h.apart)));
+    }
+
+pub length-stamped : (xs : List ℕ) (i v : ℕ) → length (slice_set xs i v) ≡ length xs
+length-stamped [] i v = refl
+length-stamped (x ∷ xs) zero v = refl
+length-stamped (x ∷ xs) (suc i) v = ap suc (length-stamped xs i v)

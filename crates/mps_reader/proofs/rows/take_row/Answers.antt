@@ -1,0 +1,27 @@
+use Rattle.std.proofs.Common.{◌≡◌, ◌++◌, ◌∷◌, [], Bool, false, refl, sym, ap, ◌∙◌, get_or, length, arith}
+use Rattle.std.specs.Prelude.{bytes_eq, if◌then◌else◌}
+use Rattle.std.specs.List.{list_any}
+use Rattle.std.proofs.lemmas.Bool.{not-true}
+use Rattle.mps_reader.specs.Rows.{names_of}
+use Rattle.mps_reader.proofs.RowSteps.{no_name, added-free, added-bound, name-at, grown}
+use Rattle.mps_reader.proofs.rows.take_row.Goals as goal
+
+pub returns-then-is-clause-fit : goal.returns-then-is-clause-fit
+returns-then-is-clause-fit c =
+    let name = (get_or c.args.fields.now 1 no_name).now in
+    let names = c.in_ok-is_new.ensures.names ∙ ap (λ (b : Bool). if b then names_of c.args.rows.now.names ++ name ∷ [] else names_of c.args.rows.now.names) c.if-not-is_new.false in
+    let fresh : list_any (bytes_eq name) (names_of c.args.rows.now.names) ≡ false = not-true _ (sym c.in_ok-is_new.ensures.new ∙ c.if-not-is_new.false) in
+    added-free c.args.rows.now (record c.args.rows.now { names = c.insert_name.new.names }) c.add_free.new.rows name c.requires.fit names fresh c.in_ok-is_new.ensures.distinct (name-at c.args.fields.now 1 (omega arith) c.requires.names) refl refl refl refl c.in_ok-add_free.ensures
+
+pub returns-clause-fit : goal.returns-clause-fit
+returns-clause-fit c =
+    let name = (get_or c.args.fields.now 1 no_name).now in
+    let names = c.in_ok-is_new.ensures.names ∙ ap (λ (b : Bool). if b then names_of c.args.rows.now.names ++ name ∷ [] else names_of c.args.rows.now.names) c.if-not-is_new.false in
+    let fresh : list_any (bytes_eq name) (names_of c.args.rows.now.names) ≡ false = not-true _ (sym c.in_ok-is_new.ensures.new ∙ c.if-not-is_new.false) in
+    added-bound c.args.rows.now (record c.args.rows.now { names = c.insert_name.new.names }) c.add_bound.new.rows (get_or c.args.fields.now 0 no_name).now name c.requires.fit names fresh c.in_ok-is_new.ensures.distinct (name-at c.args.fields.now 1 (omega arith) c.requires.names) refl refl refl refl c.in_ok-add_bound.ensures
+
+pub returns-then-is-clause-grows : goal.returns-then-is-clause-grows
+returns-then-is-clause-grows c = let same = ap (λ rs. length rs.items) c.in_ok-add_free.ensures.rows in omega arith
+
+pub returns-clause-grows : goal.returns-clause-grows
+returns-clause-grows c = grown c.add_bound.new.rows.rows.items c.args.rows.now.rows.items _ c.in_ok-add_bound.ensures.rows

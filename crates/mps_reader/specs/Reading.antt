@@ -1,0 +1,44 @@
+-- What the code holds and answers, as lines and faults of the definitions.
+use Rattle.std.specs.Prelude.{◌≡◌, ℕ, ◌≤◌, Bool, not, List, length, map, take, Option, Some, None, Result, Ok, Err}
+use Rattle.std.specs.List.{AllByRecursion}
+use denote.Ref.{Bor}
+use Rattle.program_rows.specs.Lines as spec
+use Rattle.program_rows.specs.Lines.{fields, is_space, line_of}
+use Rattle.program_rows.specs.Parts.{IsName}
+use Rattle.program_rows.specs.declared.fault.FaultKind.{FaultKind}
+use Rattle.mps_reader.specs.declared.lines.Line.{Line}
+use Rattle.mps_reader.specs.declared.lines.Line.TheVariants.{Skipped, Unprintable, Header, Data}
+use Rattle.mps_reader.specs.declared.refusal.Refusal.{Refusal}
+use Rattle.mps_reader.specs.declared.refusal.Refusal.TheVariants.{Memory, Fault}
+
+abbrev pub bytes_of : List (Bor (List ℕ)) → List (List ℕ)
+bytes_of fields = map (λ f. f.now) fields
+
+-- a byte that is no white space
+abbrev pub is_other : ℕ → Bool
+is_other b = not (is_space b)
+
+-- the first fields of a line: more than five are as good as six
+pub record AreFirst (first : List (List ℕ)) (all : List (List ℕ)) : Type 0 where
+  pub front : first ≡ take 6 all
+  pub some : 1 ≤ length first
+  pub names : AllByRecursion IsName first
+
+-- what the code holds is the line
+abbrev pub IsLine : Line → List ℕ → Type 0
+IsLine Skipped bytes = line_of bytes ≡ spec.Skipped
+IsLine Unprintable bytes = line_of bytes ≡ spec.Unprintable
+IsLine (Header first) bytes = (line_of bytes ≡ spec.header_of (fields bytes)) × AreFirst (bytes_of first.items) (fields bytes)
+IsLine (Data first) bytes = (line_of bytes ≡ spec.Data (fields bytes)) × AreFirst (bytes_of first.items) (fields bytes)
+
+-- Ok where there is no fault, else the fault, unless memory ran out
+abbrev pub Answers : {X : Type 0} → Result X Refusal → Option FaultKind → Type 0
+Answers (Ok x) fault = fault ≡ None
+Answers (Err Memory) fault = Unit {0}
+Answers (Err (Fault kind)) fault = fault ≡ Some kind
+
+-- the same for checks that a last one follows: where they pass, the fault is that of the last
+abbrev pub AnswersUpTo : {X : Type 0} → Result X Refusal → Option FaultKind → Option FaultKind → Type 0
+AnswersUpTo (Ok x) fault last = fault ≡ last
+AnswersUpTo (Err Memory) fault last = Unit {0}
+AnswersUpTo (Err (Fault kind)) fault last = fault ≡ Some kind

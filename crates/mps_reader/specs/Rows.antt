@@ -1,0 +1,80 @@
+-- The rows that the code holds.
+use Rattle.std.specs.Prelude.{◌≡◌, ℕ, zero, suc, Bool, true, false, ◌==◌, List, [], ◌∷◌, ◌++◌, length, map, bytes_eq, Option, Some, None, IfSome, ℤ, pos, is_none, if◌then◌else◌}
+use Rattle.std.specs.List.{AllByRecursion, IsDistinct, list_any}
+use Rattle.std.specs.Option.{option_map}
+use Rattle.std.specs.declared.hash.FoldHasher.{FoldHasher}
+use Rattle.std.specs.declared.hash.BuildHasherDefault.{BuildHasherDefault}
+use denote.Ref.{Bor}
+use Rattle.indexmap.specs.IndexSet.{IndexSet}
+use Rattle.program_rows.specs.declared.row.Row.{Row}
+use Rattle.program_rows.specs.Program.{TableRow}
+use Rattle.program_rows.specs.Parts.{IsName, shown_row}
+use Rattle.program_rows.specs.Meaning.{kind_of}
+use Rattle.mps_reader.specs.Reading.{bytes_of}
+use Rattle.mps_reader.specs.declared.row_table.Rows.{Rows}
+
+abbrev pub NameSet : Type 0
+NameSet = IndexSet (Bor (List ℕ)) (BuildHasherDefault FoldHasher)
+
+-- the names of a set, in order
+abbrev pub names_of : NameSet → List (List ℕ)
+names_of s = bytes_of s.keys
+
+abbrev pub row_names : List Row → List (List ℕ)
+row_names rows = map (λ r. r.name.items) rows
+
+-- the names that have places are those of the rows, whose places rise from p
+abbrev pub AreAt : ℕ → List (List ℕ) → List (Option ℕ) → List (List ℕ) → Type 0
+AreAt p [] [] [] = Unit {0}
+AreAt p (n ∷ ns) (None ∷ ps) rows = AreAt p ns ps rows
+AreAt p (n ∷ ns) (Some q ∷ ps) (r ∷ rows) = (q ≡ p) × (r ≡ n) × AreAt (suc p) ns ps rows
+AreAt p _ _ _ = ⊥
+
+-- the objective is one of the names, and no row
+pub record IsObjective (names rows : List (List ℕ)) (objective : List ℕ) : Type 0 where
+  pub known : list_any (bytes_eq objective) names ≡ true
+  pub name : IsName objective
+  pub apart : AllByRecursion (λ r. bytes_eq objective r ≡ false) rows
+
+pub record RowsFit (r : Rows) : Type 0 where
+  pub distinct : IsDistinct bytes_eq (names_of r.names)
+  pub plain : AllByRecursion IsName (names_of r.names)
+  pub stamps : length r.stamps.items ≡ length r.names.keys
+  pub places : AreAt 0 (names_of r.names) r.places.items (row_names r.rows.items)
+  pub objective : IfSome r.objective (λ o. IsObjective (names_of r.names) (row_names r.rows.items) o.now)
+
+abbrev pub option_now : Option (Bor (List ℕ)) → Option (List ℕ)
+option_now o = option_map (λ n. n.now) o
+
+-- the row whose name was added last is free
+pub record AddsFree (name : List ℕ) (old new : Rows) : Type 0 where
+  pub names : new.names ≡ old.names
+  pub places : new.places.items ≡ old.places.items ++ None ∷ []
+  pub stamps : new.stamps.items ≡ old.stamps.items ++ 0 ∷ []
+  pub rows : new.rows ≡ old.rows
+  pub objective : option_now new.objective ≡ (if is_none old.objective then Some name else option_now old.objective)
+
+-- the row whose name was added last is not
+pub record AddsBound (letter name : List ℕ) (old new : Rows) : Type 0 where
+  pub names : new.names ≡ old.names
+  pub places : new.places.items ≡ old.places.items ++ Some (length old.rows.items) ∷ []
+  pub stamps : new.stamps.items ≡ old.stamps.items ++ 0 ∷ []
+  pub rows : map shown_row new.rows.items ≡ map shown_row old.rows.items ++ record { name = name; kind = kind_of letter; right_side = pos 0 } ∷ []
+  pub objective : new.objective ≡ old.objective
+
+-- the names that have the stamp
+abbrev pub StampsAre : List ℕ → ℕ → List (List ℕ) → (List ℕ → Bool) → Type 0
+StampsAre stamps stamp names has = map (λ s. s == stamp) stamps ≡ map has names
+
+pub record IsEmptyTable (r : Rows) : Type 0 where
+  pub names : r.names.keys ≡ []
+  pub places : r.places.items ≡ []
+  pub stamps : r.stamps.items ≡ []
+  pub rows : r.rows.items ≡ []
+  pub objective : r.objective ≡ None
+
+-- the rows with another right side at a place
+abbrev pub with_side : ℕ → ℤ → List TableRow → List TableRow
+with_side place side [] = []
+with_side zero side (r ∷ rows) = record r { right_side = side } ∷ rows
+with_side (suc place) side (r ∷ rows) = r ∷ with_side place side rows

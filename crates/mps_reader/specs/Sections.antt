@@ -1,0 +1,25 @@
+-- The sections that the code tells apart, by their words.
+use Rattle.std.specs.Prelude.{ℕ, List, [], codes, bytes_eq, if◌then◌else◌}
+use Rattle.mps_reader.specs.declared.sections.Section.{Section}
+use Rattle.mps_reader.specs.declared.sections.Section.TheVariants.{Start, Name, Sense, Rows, Columns, RightSides, Bounds, End}
+
+abbrev pub word_of : Section → List ℕ
+word_of Start = []
+word_of Name = codes "NAME"
+word_of Sense = codes "OBJSENSE"
+word_of Rows = codes "ROWS"
+word_of Columns = codes "COLUMNS"
+word_of RightSides = codes "RHS"
+word_of Bounds = codes "BOUNDS"
+word_of End = codes "ENDATA"
+
+abbrev pub section_named : List ℕ → Section
+section_named word =
+    if bytes_eq word (codes "NAME") then Name
+    else (if bytes_eq word (codes "OBJSENSE") then Sense
+    else (if bytes_eq word (codes "ROWS") then Rows
+    else (if bytes_eq word (codes "COLUMNS") then Columns
+    else (if bytes_eq word (codes "RHS") then RightSides
+    else (if bytes_eq word (codes "BOUNDS") then Bounds
+    else (if bytes_eq word (codes "ENDATA") then End
+    else Start))))))

@@ -1,0 +1,113 @@
+//! Lines of BOUNDS.
+
+ghost use Rattle.std.specs.Prelude.{◌≡◌, ◌≤◌, ◌<◌, ◌+◌, ◌∷◌, [], ◌&&◌, ◌==◌, ℕ, List, not, true, false, codes, bytes_eq, length, nat_le, if◌then◌else◌, IfOk, OnOk};
+ghost use Rattle.program_rows.specs.declared.fault.FaultKind.TheVariants.{BoundType, Fields};
+ghost use Rattle.program_rows.specs.Meaning.{is_one_of, is_binary_bound, field, earliest_fault, when};
+ghost use Rattle.mps_reader.specs.Reading.{bytes_of, Answers};
+ghost use Rattle.mps_reader.specs.Columns.{BothFit};
+ghost use Rattle.mps_reader.specs.declared.row_table.Rows as row_table;
+
+use crate::column_state::ColumnState;
+use crate::column_table::ColumnTable;
+use crate::refusal::Refusal;
+use crate::values::take_bit;
+use crate::words::is;
+use program_rows::FaultKind;
+
+fn is_bound_type(word: &[u8]) -> bool
+    ensures { result ≡ is_one_of word.now (codes "UP" ∷ codes "LO" ∷ codes "FX" ∷ codes "BV" ∷ []) }
+{
+    is(word, b"UP") || is(word, b"LO") || is(word, b"FX") || is(word, b"BV")
+}
+
+fn is_from_to(low: usize, high: usize, count: usize) -> bool
+    ensures value { result ≡ (nat_le low count && nat_le count high) }
+    ensures range { result ≡ true → (low ≤ count) × (count ≤ high) }
+{
+    low <= count && count <= high
+}
+
+fn is_count(is_binary: bool, count: usize) -> bool
+    ensures value { result ≡ (if is_binary then nat_le 2 count && nat_le count 4 else nat_le 3 count && nat_le count 4) }
+    ensures range { result ≡ true → ((if is_binary then 2 else 3) ≤ count) × (count ≤ 4) }
+{
+    if is_binary {
+        return is_from_to(2, 4, count);
+    }
+    is_from_to(3, 4, count)
+}
+
+/// The type and the number of fields of a bound: whether it makes its column binary.
+fn take_bound_type(fields: &[&[u8]]) -> Result<bool, Refusal>
+    requires some { 1 ≤ length fields.now }
+    ensures fault { Answers result (earliest_fault (when (not (is_one_of (field 0 (bytes_of fields.now)) (codes "UP" ∷ codes "LO" ∷ codes "FX" ∷ codes "BV" ∷ []))) BoundType
+        ∷ when (not (if is_binary_bound (bytes_of fields.now) then nat_le 2 (length (bytes_of fields.now)) && nat_le (length (bytes_of fields.now)) 4 else nat_le 3 (length (bytes_of fields.now)) && nat_le (length (bytes_of fields.now)) 4)) Fields ∷ [])) }
+    ensures binary { IfOk result (λ is_binary. is_binary ≡ is_binary_bound (bytes_of fields.now)) }
+    ensures range { IfOk result (λ is_binary. ((if is_binary then 2 else 3) ≤ length fields.now) × (length fields.now ≤ 4)) }
+{
+    refuse!(!is_bound_type(fields[0]), BoundType);
+    let is_binary = is(fields[0], b"BV");
+    refuse!(!is_count(is_binary, fields.len()), Fields);
+    Ok(is_binary)
+}
+
+/// Where the column of a bound stands: behind the name of the set, if there is one.
+fn place_of_column(is_binary: bool, count: usize) -> usize
+    requires range { ((if is_binary then 2 else 3) ≤ count) × (count ≤ 4) }
+    ensures value { result ≡ (if count == (if is_binary then 2 else 3) then 1 else 2) }
+    ensures within { result < count }
+    ensures number { is_binary ≡ false → result + 1 < count }
+{
+    let short = if is_binary { 2 } else { 3 };
+    if count == short {
+        return 1;
+    }
+    2
+}
+
+/// What a bound says of its column.
+fn bounded(word: &[u8], state: ColumnState, token: &[u8]) -> Result<ColumnState, Refusal> {
+    let value = take_bit(token)?;
+    if is(word, b"UP") {
+        return Ok(ColumnState {
+            upper: Some(value),
+            ..state
+        });
+    }
+    if is(word, b"LO") {
+        return Ok(ColumnState {
+            lower: value,
+            ..state
+        });
+    }
+    Ok(ColumnState {
+        lower: value,
+        upper: Some(value),
+        ..state
+    })
+}
+
+/// A line of BOUNDS.
+pub fn take_bound<'t>(columns: &mut ColumnTable<'t>, fields: &[&[u8]]) -> Result<(), Refusal>
+    requires some { 1 ≤ length fields.now }
+    requires states { length columns.old.states.items ≡ length columns.old.names.keys }
+    ensures fit { OnOk result ((r : row_table.Rows) → BothFit r columns.old → BothFit r columns.new) }
+    ensures current { columns.new.current ≡ columns.old.current }
+{
+    let is_binary = take_bound_type(fields)?;
+    let at = place_of_column(is_binary, fields.len());
+    let Some(index) = columns.names.get_index_of(fields[at]) else {
+        return Err(Refusal::Fault(FaultKind::UnknownColumn));
+    };
+    if is_binary {
+        columns.states[index] = ColumnState {
+            is_integer: true,
+            lower: false,
+            upper: Some(true),
+        };
+        return Ok(());
+    }
+    let state = bounded(fields[0], columns.states[index], fields[at + 1])?;
+    columns.states[index] = state;
+    Ok(())
+}

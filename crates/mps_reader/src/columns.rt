@@ -1,0 +1,90 @@
+//! The columns that the lines so far name.
+
+ghost use Rattle.std.specs.Prelude.{◌≡◌, ◌++◌, ◌∷◌, [], ℕ, List, Option, Some, None, length, false, bytes_eq, is_some, OnOk};
+ghost use Rattle.std.specs.List.{list_any};
+ghost use Rattle.std.specs.List.Sorted.{IsPermutation, IsNonDecreasingBy};
+ghost use Rattle.std.specs.Option.{option_map_or};
+ghost use Rattle.program_rows.specs.declared.fault.FaultKind.TheVariants.{ColumnSplit};
+ghost use Rattle.program_rows.specs.Meaning.{when};
+ghost use Rattle.program_rows.specs.Parts.{IsName};
+ghost use Rattle.mps_reader.specs.Reading.{Answers};
+ghost use Rattle.mps_reader.specs.Rows.{names_of, option_now};
+ghost use Rattle.mps_reader.specs.Columns.{ColumnsFit, AddsColumn, IsApart};
+
+use crate::column_state::ColumnState;
+use crate::column_table::ColumnTable;
+use crate::names::insert_name;
+use crate::refusal::Refusal;
+use crate::words::is;
+use program_rows::{Bounds, FaultKind};
+use std::alloc::AllocError;
+
+fn sort_entries(entries: &mut Vec<(usize, i64)>)
+    ensures moved { IsPermutation entries.old.items entries.new.items }
+    ensures sorted { IsNonDecreasingBy (λ entry. entry.0) entries.new.items }
+{
+    entries.sort_unstable_by_key(|entry| entry.0);
+}
+
+/// Ends the current column.
+pub fn close_column<'t>(columns: &mut ColumnTable<'t>) -> Result<(), AllocError>
+    ensures fit { OnOk result ((count : ℕ) → ColumnsFit count columns.old → ColumnsFit count columns.new) }
+    ensures names { columns.new.names ≡ columns.old.names }
+    ensures states { columns.new.states ≡ columns.old.states }
+    ensures begun { columns.new.is_begun ≡ columns.old.is_begun }
+    ensures closed { OnOk result (is_some columns.new.current ≡ false) }
+{
+    let Some(name) = columns.current else {
+        return Ok(());
+    };
+    sort_entries(&mut columns.current_column.entries);
+    columns.done.push(
+        name,
+        Bounds::ZeroOrOne,
+        columns.current_column.cost,
+        columns.current_column.entries.as_slice(),
+    )?;
+    columns.current_column.entries.clear();
+    columns.current_column.cost = 0;
+    columns.current = None;
+    Ok(())
+}
+
+fn is_current(current: Option<&[u8]>, name: &[u8]) -> bool
+    ensures { result ≡ option_map_or (λ other. bytes_eq name.now other.now) current.entry false }
+{
+    match current {
+        Some(other) => is(name, other),
+        None => false,
+    }
+}
+
+fn add_column<'t>(columns: &mut ColumnTable<'t>, name: &'t [u8]) -> Result<(), Refusal>
+    ensures fault { Answers result (when (list_any (bytes_eq name.now) (names_of columns.old.names)) ColumnSplit) }
+    ensures added { OnOk result (AddsColumn name.now columns.old columns.new) }
+{
+    let is_new = insert_name(&mut columns.names, name)?;
+    refuse!(!is_new, ColumnSplit);
+    columns.states.push(ColumnState {
+        is_integer: columns.is_begun,
+        lower: false,
+        upper: None,
+    })?;
+    columns.current = Some(name);
+    Ok(())
+}
+
+/// The column that a line names is the current one from then on.
+pub fn open_column<'t>(columns: &mut ColumnTable<'t>, name: &'t [u8]) -> Result<(), Refusal>
+    requires { IsName name.now }
+    ensures current { OnOk result (option_now columns.new.current ≡ Some name.now) }
+    ensures fit { OnOk result ((count : ℕ) → ColumnsFit count columns.old → ColumnsFit count columns.new) }
+    ensures apart { OnOk result ((count : ℕ) (stamps : List ℕ) (places : List (Option ℕ)) → ColumnsFit count columns.old → IsApart stamps places (length (names_of columns.old.names)) columns.old.current_column.entries.items → IsApart stamps places (length (names_of columns.new.names)) columns.new.current_column.entries.items) }
+{
+    if is_current(columns.current, name) {
+        return Ok(());
+    }
+    close_column(columns)?;
+    add_column(columns, name)?;
+    Ok(())
+}

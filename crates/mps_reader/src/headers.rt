@@ -1,0 +1,93 @@
+//! Headers: the sections and their order.
+
+ghost use Rattle.std.specs.Prelude.{◌≡◌, ◌∷◌, [], ◌==◌, ◌&&◌, ℕ, List, not, codes, nat_lt, length, is_none, bytes_eq, true, IfOk, OnOk, Option, None, if◌then◌else◌};
+ghost use Rattle.program_rows.specs.Lines as spec;
+ghost use Rattle.program_rows.specs.declared.fault.FaultKind.TheVariants.{SectionLeftOut, Section, Fields, NoObjective};
+ghost use Rattle.program_rows.specs.Meaning.{is_one_of, sections_left_out, place_of, section, objective, earliest_fault, when, sense_fault, field, header_fault, not_binary};
+ghost use Rattle.mps_reader.specs.Reading.{bytes_of, Answers, AnswersUpTo};
+ghost use Rattle.mps_reader.specs.Sections.{word_of};
+
+use crate::refusal::Refusal;
+use crate::sections::{Section, place, section_of};
+use crate::senses::take_sense;
+use crate::words::is;
+use program_rows::FaultKind;
+
+fn is_left_out(word: &[u8]) -> bool
+    ensures { result ≡ is_one_of word.now sections_left_out }
+{
+    is(word, b"RANGES")
+        || is(word, b"SOS")
+        || is(word, b"SOS1")
+        || is(word, b"SOS2")
+        || is(word, b"QUADOBJ")
+        || is(word, b"QMATRIX")
+        || is(word, b"QSECTION")
+        || is(word, b"QCMATRIX")
+        || is(word, b"INDICATORS")
+}
+
+fn stands_alone(word: &[u8]) -> bool
+    ensures { result ≡ is_one_of word.now (codes "ROWS" ∷ codes "COLUMNS" ∷ codes "RHS" ∷ codes "BOUNDS" ∷ []) }
+{
+    is(word, b"ROWS") || is(word, b"COLUMNS") || is(word, b"RHS") || is(word, b"BOUNDS")
+}
+
+fn wants_objective(word: &[u8]) -> bool
+    ensures { result ≡ is_one_of word.now (codes "COLUMNS" ∷ codes "RHS" ∷ codes "BOUNDS" ∷ codes "ENDATA" ∷ []) }
+{
+    is(word, b"COLUMNS") || is(word, b"RHS") || is(word, b"BOUNDS") || is(word, b"ENDATA")
+}
+
+fn has_more(word: &[u8], more: &[&[u8]]) -> bool
+    ensures { result ≡ (is_one_of word.now (codes "ROWS" ∷ codes "COLUMNS" ∷ codes "RHS" ∷ codes "BOUNDS" ∷ []) && nat_lt 0 (length (bytes_of more.now))) }
+{
+    stands_alone(word) && more.len() > 0
+}
+
+fn lacks_objective(word: &[u8], has_objective: bool) -> bool
+    ensures { result ≡ (is_one_of word.now (codes "COLUMNS" ∷ codes "RHS" ∷ codes "BOUNDS" ∷ codes "ENDATA" ∷ []) && not has_objective) }
+{
+    wants_objective(word) && !has_objective
+}
+
+/// The sense that a header names, if it does.
+fn take_named_sense(more: &[&[u8]]) -> Result<(), Refusal>
+    ensures { Answers result (earliest_fault (when (nat_lt 1 (length (bytes_of more.now))) Fields ∷ (if length (bytes_of more.now) == 1 then sense_fault (field 0 (bytes_of more.now)) else None) ∷ [])) }
+{
+    refuse!(more.len() > 1, Fields);
+    if more.len() == 1 {
+        return take_sense(more[0]);
+    }
+    Ok(())
+}
+
+fn take_header_sense(word: &[u8], more: &[&[u8]]) -> Result<(), Refusal>
+    ensures { Answers result (if bytes_eq word.now (codes "OBJSENSE") then earliest_fault (when (nat_lt 1 (length (bytes_of more.now))) Fields ∷ (if length (bytes_of more.now) == 1 then sense_fault (field 0 (bytes_of more.now)) else None) ∷ []) else None) }
+{
+    if is(word, b"OBJSENSE") {
+        return take_named_sense(more);
+    }
+    Ok(())
+}
+
+/// A header: the section that it opens. What is left to check at the end is that all columns are binary.
+pub fn take_header(
+    opened: Section,
+    has_objective: bool,
+    word: &[u8],
+    more: &[&[u8]],
+) -> Result<Section, Refusal>
+    ensures fault { (before : List spec.Line) → section before ≡ word_of opened → is_none (objective before) ≡ not has_objective
+        → AnswersUpTo result (header_fault before word.now (bytes_of more.now)) (if bytes_eq word.now (codes "ENDATA") then not_binary before else None) }
+    ensures objective { OnOk result (bytes_eq word.now (codes "ENDATA") ≡ true → has_objective ≡ true) }
+    ensures opened { IfOk result (λ section. word_of section ≡ word.now) }
+{
+    refuse!(is_left_out(word), SectionLeftOut);
+    let section = section_of(word);
+    refuse!(place(opened) >= place(section), Section);
+    refuse!(has_more(word, more), Fields);
+    take_header_sense(word, more)?;
+    refuse!(lacks_objective(word, has_objective), NoObjective);
+    Ok(section)
+}

@@ -1,0 +1,39 @@
+//! Programs read from MPS text.
+#![tactic(auto)]
+
+/// Returns a fault where the test holds.
+macro_rules! refuse {
+    ($test:expr, $kind:ident) => {
+        if $test {
+            return Err(Refusal::Fault(FaultKind::$kind));
+        }
+    };
+}
+
+mod bounds;
+mod column_state;
+mod column_table;
+mod columns;
+mod entries;
+mod fields;
+mod finishing;
+mod headers;
+mod lines;
+mod markers;
+mod mps_fault;
+mod names;
+mod open_column;
+mod reader;
+mod reading;
+mod reading_state;
+mod refusal;
+mod right_sides;
+mod row_table;
+mod rows;
+mod sections;
+mod senses;
+mod values;
+mod words;
+
+pub use mps_fault::MpsFault;
+pub use reader::{TEXT_LIMIT, read_program};

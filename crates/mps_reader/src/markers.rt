@@ -1,0 +1,58 @@
+//! Marker lines of COLUMNS.
+
+ghost use Rattle.std.specs.Prelude.{◌≡◌, ◌∷◌, [], ◌&&◌, List, not, true, codes, bytes_eq, IfOk};
+ghost use Rattle.program_rows.specs.Lines as spec;
+ghost use Rattle.program_rows.specs.Meaning.{is_one_of, section, data_under, is_marker, is_integer_open, marker_fault, field};
+ghost use Rattle.mps_reader.specs.Reading.{bytes_of, Answers};
+
+use crate::refusal::Refusal;
+use crate::words::is;
+use program_rows::FaultKind;
+
+fn is_marker_word(word: &[u8]) -> bool
+    ensures { result ≡ is_one_of word.now (codes "'INTORG'" ∷ codes "'INTEND'" ∷ []) }
+{
+    is(word, b"'INTORG'") || is(word, b"'INTEND'")
+}
+
+fn begins_again(word: &[u8], is_begun: bool) -> bool
+    ensures { result ≡ (bytes_eq word.now (codes "'INTORG'") && is_begun) }
+{
+    is(word, b"'INTORG'") && is_begun
+}
+
+fn ends_none(word: &[u8], is_begun: bool) -> bool
+    ensures { result ≡ (bytes_eq word.now (codes "'INTEND'") && not is_begun) }
+{
+    is(word, b"'INTEND'") && !is_begun
+}
+
+/// Whether a line of COLUMNS is a marker.
+pub fn names_marker(fields: &[&[u8]]) -> bool
+    ensures { result ≡ is_marker (bytes_of fields.now) }
+{
+    if fields.len() < 2 {
+        return false;
+    }
+    is(fields[1], b"'MARKER'")
+}
+
+/// A marker line: whether integers are begun behind it.
+pub fn take_marker(is_begun: bool, fields: &[&[u8]]) -> Result<bool, Refusal>
+    ensures fault { (before : List spec.Line) → is_integer_open (data_under (codes "COLUMNS") before) ≡ is_begun → Answers result (marker_fault before (bytes_of fields.now)) }
+    ensures kept { IfOk result (λ now. (before : List spec.Line) → section before ≡ codes "COLUMNS" → is_marker (bytes_of fields.now) ≡ true → is_integer_open (data_under (codes "COLUMNS") (spec.Data (bytes_of fields.now) ∷ before)) ≡ now) }
+{
+    if fields.len() != 3 {
+        return Err(Refusal::Fault(FaultKind::Marker));
+    }
+    if !is_marker_word(fields[2]) {
+        return Err(Refusal::Fault(FaultKind::Marker));
+    }
+    if begins_again(fields[2], is_begun) {
+        return Err(Refusal::Fault(FaultKind::Marker));
+    }
+    if ends_none(fields[2], is_begun) {
+        return Err(Refusal::Fault(FaultKind::Marker));
+    }
+    Ok(is(fields[2], b"'INTORG'"))
+}

@@ -1,0 +1,68 @@
+//! One pass over the lines of a text.
+
+ghost use Rattle.std.specs.Prelude.{◌≡◌, ◌≤◌, ◌<◌, length, Err, IfErr};
+ghost use Rattle.auction_terms.specs.Lines.{lines_of};
+ghost use Rattle.program_rows.specs.declared.fault.FaultKind.TheVariants.{TooLarge};
+
+use crate::finishing::finished;
+use crate::mps_fault::MpsFault;
+use crate::reading::{start, take_line};
+use crate::refusal::Refusal;
+use auction_terms::LineReader;
+use program_rows::{FaultKind, Program};
+use std::alloc::Global;
+
+/// The most bytes of a text that is read.
+pub const TEXT_LIMIT: usize = 64 * 1024 * 1024;
+
+fn refused(line: usize, refusal: Refusal) -> MpsFault
+    ensures { result.line ≤ line }
+{
+    match refusal {
+        Refusal::Memory => MpsFault {
+            line: 0,
+            kind: FaultKind::OutOfMemory,
+        },
+        Refusal::Fault(kind) => MpsFault { line, kind },
+    }
+}
+
+fn read_lines(alloc: Global, text: &[u8]) -> Result<Program, MpsFault>
+    requires { length text.now ≤ 67108864 }
+    ensures { IfErr result (λ e. e.line ≤ length (lines_of text.now)) }
+{
+    let mut reading = start(alloc);
+    let mut lines = LineReader::new(text);
+    let mut place: usize = 0;
+    while let Some(line) = lines.next() {
+        place += 1;
+        let is_end = match take_line(&mut reading, line) {
+            Ok(is_end) => is_end,
+            Err(refusal) => return Err(refused(place, refusal)),
+        };
+        if is_end {
+            return match finished(alloc, reading) {
+                Ok(program) => Ok(program),
+                Err(_) => Err(refused(place, Refusal::Memory)),
+            };
+        }
+    }
+    Err(MpsFault {
+        line: place,
+        kind: FaultKind::NoEnd,
+    })
+}
+
+/// The program that an MPS text describes, or its first faulty line.
+pub fn read_program(alloc: Global, text: &[u8]) -> Result<Program, MpsFault>
+    ensures too_large { 67108864 < length text.now → result ≡ Err (record { line = 0; kind = TooLarge }) }
+    ensures line { IfErr result (λ e. e.line ≤ length (lines_of text.now)) }
+{
+    if text.len() > TEXT_LIMIT {
+        return Err(MpsFault {
+            line: 0,
+            kind: FaultKind::TooLarge,
+        });
+    }
+    read_lines(alloc, text)
+}

@@ -1,0 +1,95 @@
+//! What the lines so far say.
+
+ghost use Rattle.std.specs.Prelude.{◌≡◌, ◌≤◌, length, true, false, is_some, OnOk, IfOk};
+ghost use Rattle.std.specs.List.{AllByRecursion};
+ghost use Rattle.program_rows.specs.Parts.{IsName};
+ghost use Rattle.mps_reader.specs.Reading.{bytes_of};
+ghost use Rattle.mps_reader.specs.Fit.{ReadingFits};
+
+use crate::bounds::take_bound;
+use crate::column_table::ColumnTable;
+use crate::columns::close_column;
+use crate::entries::take_column_line;
+use crate::finishing::refuse_open;
+use crate::headers::take_header;
+use crate::lines::{Line, read_line};
+use crate::reading_state::Reading;
+use crate::refusal::Refusal;
+use crate::right_sides::take_right_side_line;
+use crate::row_table::Rows;
+use crate::rows::take_row;
+use crate::sections::Section;
+use crate::senses::take_sense_line;
+use crate::words::is;
+use program_rows::FaultKind;
+use std::alloc::Global;
+
+/// Nothing, before the first line.
+pub fn start<'t>(alloc: Global) -> Reading<'t>
+    ensures { ReadingFits result }
+{
+    Reading {
+        section: Section::Start,
+        rows: Rows::new(alloc),
+        columns: ColumnTable::new(alloc),
+    }
+}
+
+fn take_header_line<'t>(reading: &mut Reading<'t>, fields: &[&'t [u8]]) -> Result<bool, Refusal>
+    requires fit { ReadingFits reading.old }
+    requires some { 1 ≤ length fields.now }
+    ensures fit { OnOk result (ReadingFits reading.new) }
+    ensures closed { IfOk result (λ is_end. is_end ≡ true → is_some reading.new.columns.current ≡ false) }
+    ensures objective { IfOk result (λ is_end. is_end ≡ true → is_some reading.new.rows.objective ≡ true) }
+{
+    close_column(&mut reading.columns)?;
+    let has_objective = reading.rows.objective.is_some();
+    reading.section = take_header(reading.section, has_objective, fields[0], &fields[1..])?;
+    if is(fields[0], b"ENDATA") {
+        refuse_open(reading.columns.states.as_slice())?;
+        return Ok(true);
+    }
+    Ok(false)
+}
+
+fn take_data<'t>(reading: &mut Reading<'t>, fields: &[&'t [u8]]) -> Result<(), Refusal>
+    requires fit { ReadingFits reading.old }
+    requires some { 1 ≤ length fields.now }
+    requires names { AllByRecursion IsName (bytes_of fields.now) }
+    ensures fit { OnOk result (ReadingFits reading.new) }
+{
+    match reading.section {
+        Section::Sense => take_sense_line(fields),
+        Section::Rows => {
+            take_row(&mut reading.rows, fields)?;
+            Ok(())
+        }
+        Section::Columns => take_column_line(&mut reading.rows, &mut reading.columns, fields),
+        Section::RightSides => {
+            take_right_side_line(&mut reading.rows, reading.columns.names.len() + 1, fields)
+        }
+        Section::Bounds => {
+            take_bound(&mut reading.columns, fields)?;
+            Ok(())
+        }
+        _ => Err(Refusal::Fault(FaultKind::Section)),
+    }
+}
+
+/// Takes a line, and tells whether it is the end.
+pub fn take_line<'t>(reading: &mut Reading<'t>, line: &'t [u8]) -> Result<bool, Refusal>
+    requires fit { ReadingFits reading.old }
+    ensures fit { OnOk result (ReadingFits reading.new) }
+    ensures closed { IfOk result (λ is_end. is_end ≡ true → is_some reading.new.columns.current ≡ false) }
+    ensures objective { IfOk result (λ is_end. is_end ≡ true → is_some reading.new.rows.objective ≡ true) }
+{
+    match read_line(line) {
+        Line::Skipped => Ok(false),
+        Line::Unprintable => Err(Refusal::Fault(FaultKind::NotText)),
+        Line::Header(fields) => take_header_line(reading, fields.as_slice()),
+        Line::Data(fields) => {
+            take_data(reading, fields.as_slice())?;
+            Ok(false)
+        }
+    }
+}

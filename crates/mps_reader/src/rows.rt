@@ -1,0 +1,114 @@
+//! The rows that the lines so far declare.
+
+ghost use Rattle.std.specs.Prelude.{◌≡◌, ◌≤◌, ◌∷◌, [], ◌++◌, ◌+◌, ◌==◌, ℕ, Bool, List, length, not, true, false, map, bytes_eq, codes, slice_get, Option, Some, None, IfOk, OnOk, is_none, if◌then◌else◌, pos};
+ghost use Rattle.std.specs.List.{list_any, slice_set, AllByRecursion};
+ghost use Rattle.std.specs.Option.{option_map, option_map_or};
+ghost use Rattle.program_rows.specs.declared.fault.FaultKind.TheVariants.{Fields, RowType, RowRepeated, UnknownRow, EntryRepeated};
+ghost use Rattle.program_rows.specs.Meaning.{is_one_of, row_types, kind_of, field, earliest_fault, when};
+ghost use Rattle.program_rows.specs.Parts.{shown_row, IsName};
+ghost use Rattle.mps_reader.specs.Reading.{bytes_of, Answers};
+ghost use Rattle.mps_reader.specs.Rows.{names_of, RowsFit, AddsFree, AddsBound, StampsAre};
+
+use crate::names::insert_name;
+use crate::refusal::Refusal;
+use crate::row_table::Rows;
+use crate::words::is;
+use indexmap::IndexSet;
+use program_rows::{FaultKind, Row, RowKind};
+use std::alloc::{AllocError, Global};
+
+fn is_row_type(letter: &[u8]) -> bool
+    ensures { result ≡ is_one_of letter.now row_types }
+{
+    is(letter, b"N") || is(letter, b"L") || is(letter, b"G") || is(letter, b"E")
+}
+
+fn row_kind(letter: &[u8]) -> RowKind
+    ensures { result ≡ kind_of letter.now }
+{
+    if is(letter, b"L") {
+        return RowKind::AtMost;
+    }
+    if is(letter, b"G") {
+        return RowKind::AtLeast;
+    }
+    RowKind::Equal
+}
+
+fn add_free<'t>(rows: &mut Rows<'t>, name: &'t [u8]) -> Result<(), AllocError>
+    ensures { OnOk result (AddsFree name.now rows.old rows.new) }
+{
+    rows.places.push(None)?;
+    rows.stamps.push(0)?;
+    if rows.objective.is_none() {
+        rows.objective = Some(name);
+    }
+    Ok(())
+}
+
+fn add_bound<'t>(rows: &mut Rows<'t>, letter: &[u8], name: &'t [u8]) -> Result<(), AllocError>
+    ensures { OnOk result (AddsBound letter.now name.now rows.old rows.new) }
+{
+    rows.places.push(Some(rows.rows.len()))?;
+    rows.stamps.push(0)?;
+    rows.rows.push(Row {
+        name: Vec::from_slice(rows.alloc, name)?,
+        kind: row_kind(letter),
+        right_side: 0,
+    })?;
+    Ok(())
+}
+
+/// A line of ROWS.
+pub fn take_row<'t>(rows: &mut Rows<'t>, fields: &[&'t [u8]]) -> Result<(), Refusal>
+    requires fit { RowsFit rows.old }
+    requires names { AllByRecursion IsName (bytes_of fields.now) }
+    ensures fault { Answers result (earliest_fault (when (not (length (bytes_of fields.now) == 2)) Fields
+        ∷ when (not (is_one_of (field 0 (bytes_of fields.now)) row_types)) RowType
+        ∷ when (list_any (bytes_eq (field 1 (bytes_of fields.now))) (names_of rows.old.names)) RowRepeated ∷ [])) }
+    ensures fit { OnOk result (RowsFit rows.new) }
+    ensures grows { OnOk result (length rows.old.rows.items ≤ length rows.new.rows.items) }
+{
+    refuse!(fields.len() != 2, Fields);
+    refuse!(!is_row_type(fields[0]), RowType);
+    let is_new = insert_name(&mut rows.names, fields[1])?;
+    refuse!(!is_new, RowRepeated);
+    if is(fields[0], b"N") {
+        add_free(rows, fields[1])?;
+        return Ok(());
+    }
+    add_bound(rows, fields[0], fields[1])?;
+    Ok(())
+}
+
+/// Stamps the row that a pair names, and gives its place among all.
+pub fn stamp_row<'t>(
+    names: &IndexSet<&'t [u8]>,
+    stamps: &mut Vec<usize>,
+    row: &[u8],
+    stamp: usize,
+) -> Result<usize, Refusal>
+    requires fit { length stamps.old.items ≡ length names.now.keys }
+    ensures fault { (has : List ℕ → Bool) → StampsAre stamps.old.items stamp (names_of names.now) has
+        → Answers result (earliest_fault (when (not (list_any (bytes_eq row.now) (names_of names.now))) UnknownRow ∷ when (has row.now) EntryRepeated ∷ [])) }
+    ensures index { IfOk result (λ i. slice_get (names_of names.now) i ≡ Some row.now) }
+    ensures fresh { IfOk result (λ i. (d : ℕ) → slice_get stamps.old.items i ≡ Some d → (d == stamp) ≡ false) }
+    ensures stamped { IfOk result (λ i. stamps.new.items ≡ slice_set stamps.old.items i stamp) }
+{
+    let Some(index) = names.get_index_of(row) else {
+        return Err(Refusal::Fault(FaultKind::UnknownRow));
+    };
+    refuse!(stamps[index] == stamp, EntryRepeated);
+    stamps[index] = stamp;
+    Ok(index)
+}
+
+/// Whether the row is the objective.
+pub fn is_objective(objective: Option<&[u8]>, row: &[u8]) -> bool
+    ensures { result ≡ option_map_or (λ name. bytes_eq row.now name.now) objective.entry false }
+{
+    match objective {
+        Some(name) => is(row, name),
+        None => false,
+    }
+}

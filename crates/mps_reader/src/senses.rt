@@ -1,0 +1,44 @@
+//! Senses: an objective is minimised.
+
+ghost use Rattle.std.specs.Prelude.{◌≡◌, ◌∷◌, [], codes};
+ghost use Rattle.program_rows.specs.Meaning.{is_one_of, sense_fault, objsense_fault};
+ghost use Rattle.mps_reader.specs.Reading.{bytes_of, Answers};
+
+use crate::refusal::Refusal;
+use crate::words::is;
+use program_rows::FaultKind;
+
+fn is_greatest(word: &[u8]) -> bool
+    ensures { result ≡ is_one_of word.now (codes "MAX" ∷ codes "MAXIMIZE" ∷ []) }
+{
+    is(word, b"MAX") || is(word, b"MAXIMIZE")
+}
+
+fn is_least(word: &[u8]) -> bool
+    ensures { result ≡ is_one_of word.now (codes "MIN" ∷ codes "MINIMIZE" ∷ []) }
+{
+    is(word, b"MIN") || is(word, b"MINIMIZE")
+}
+
+/// A sense.
+pub fn take_sense(word: &[u8]) -> Result<(), Refusal>
+    ensures { Answers result (sense_fault word.now) }
+{
+    if is_greatest(word) {
+        return Err(Refusal::Fault(FaultKind::SenseMax));
+    }
+    if !is_least(word) {
+        return Err(Refusal::Fault(FaultKind::Fields));
+    }
+    Ok(())
+}
+
+/// A line of OBJSENSE.
+pub fn take_sense_line(fields: &[&[u8]]) -> Result<(), Refusal>
+    ensures { Answers result (objsense_fault (bytes_of fields.now)) }
+{
+    if fields.len() != 1 {
+        return Err(Refusal::Fault(FaultKind::Fields));
+    }
+    take_sense(fields[0])
+}

@@ -1,0 +1,31 @@
+//! Numbers of a line.
+
+ghost use Rattle.std.specs.Prelude.{◌≡◌, IfOk};
+ghost use Rattle.program_rows.specs.Meaning.{number_fault, bit_fault, value};
+ghost use Rattle.mps_reader.specs.Reading.{Answers};
+
+use crate::refusal::Refusal;
+use program_rows::{FaultKind, NumberFault, read_number};
+
+/// A number.
+pub fn take_number(token: &[u8]) -> Result<i64, Refusal>
+    ensures fault { Answers result (number_fault token.now) }
+    ensures value { IfOk result (λ n. value token.now ≡ n) }
+{
+    match read_number(token) {
+        Ok(value) => Ok(value),
+        Err(NumberFault::NumberText) => Err(Refusal::Fault(FaultKind::NumberText)),
+        Err(NumberFault::NumberRange) => Err(Refusal::Fault(FaultKind::NumberRange)),
+        Err(NumberFault::NotWhole) => Err(Refusal::Fault(FaultKind::NotWhole)),
+    }
+}
+
+/// A number that is 0 or 1.
+pub fn take_bit(token: &[u8]) -> Result<bool, Refusal> {
+    let value = take_number(token)?;
+    if value == 0 {
+        return Ok(false);
+    }
+    refuse!(value != 1, BoundValue);
+    Ok(true)
+}
