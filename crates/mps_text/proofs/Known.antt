@@ -32,11 +32,11 @@ Counts-from (Some us) None xs old new n len e p = absurd p
 Counts-from (Some us) (Some vs) xs old new n len e p = let both = ap length p ∙ length-append us xs in (omega arith, omega arith)
 
 -- a front of what waits went out
-pub IsFront-from : (a b : Option (List ℕ)) (front rest xs : List ℕ) → xs ≡ front ++ rest → Appends a b front → IsFront b (append_known a xs)
-IsFront-from None None front rest xs e p = tt
-IsFront-from None (Some vs) front rest xs e p = tt
-IsFront-from (Some us) None front rest xs e p = absurd p
-IsFront-from (Some us) (Some vs) front rest xs e p = (rest, rw (p, e) (sym (append_assoc us front rest)))
+pub IsFront-from : (a b : Option (List ℕ)) (front rest xs : List ℕ) → 0 < length rest → xs ≡ front ++ rest → Appends a b front → IsFront b (append_known a xs)
+IsFront-from None None front rest xs some e p = tt
+IsFront-from None (Some vs) front rest xs some e p = tt
+IsFront-from (Some us) None front rest xs some e p = absurd p
+IsFront-from (Some us) (Some vs) front rest xs some e p = (rest, some, rw (p, e) (sym (append_assoc us front rest)))
 
 pub OnErr-any : {T E : Type 0} (r : Result T E) (P : Type 0) → P → OnErr r P
 OnErr-any (Ok x) P p = tt
@@ -69,6 +69,10 @@ module _ (i n m : ℕ) (xs piece : List ℕ) (e : piece ≡ take (min (length (t
   pub piece-step : take i xs ++ take n piece ≡ take (i + n) xs
   piece-step = ap (λ (ys : List ℕ). take i xs ++ take n ys) is_front ∙ ap (λ (ys : List ℕ). take i xs ++ ys) (take-take n (min (length rest) m) rest few) ∙ take-plus i n xs
 
+-- a list that isn't empty stays so
+longer : (xs ys : List ℕ) → 0 < length xs → 0 < length (xs ++ ys)
+longer xs ys h = omega (arith, length-append xs ys)
+
 -- a front of what is held is a front of what will be held
 pub IsFront-then : (t h k : Option (List ℕ)) (front rest xs : List ℕ) → xs ≡ front ++ rest → Appends h k front → IsFront t k → IsFront t (append_known h xs)
 IsFront-then None None k front rest xs e p q = tt
@@ -76,7 +80,7 @@ IsFront-then (Some ts) None k front rest xs e p q = tt
 IsFront-then t (Some hs) None front rest xs e p q = absurd p
 IsFront-then None (Some hs) (Some ks) front rest xs e p q = absurd q
 IsFront-then (Some ts) (Some hs) (Some ks) front rest xs e p q =
-    (q.0 ++ rest, rw (e, ← append_assoc hs front rest, ← p, q.1) (append_assoc ts q.0 rest))
+    (q.0 ++ rest, longer q.0 rest q.1, rw (e, ← append_assoc hs front rest, ← p, q.2) (append_assoc ts q.0 rest))
 
 -- the same, where a piece was being added behind what is held
 pub IsFront-piece : (t h k : Option (List ℕ)) (front piece rest xs : List ℕ) → xs ≡ front ++ (piece ++ rest) → Appends h k front → IsFront t (append_known k piece) → IsFront t (append_known h xs)
@@ -85,8 +89,8 @@ IsFront-piece (Some ts) None k front piece rest xs e p q = tt
 IsFront-piece t (Some hs) None front piece rest xs e p q = absurd p
 IsFront-piece None (Some hs) (Some ks) front piece rest xs e p q = absurd q
 IsFront-piece (Some ts) (Some hs) (Some ks) front piece rest xs e p q =
-    let known : (hs ++ front) ++ piece ≡ ts ++ q.0 = rw p at q.1 in
-    (q.0 ++ rest, rw (e, ← append_assoc front piece rest, ← append_assoc hs (front ++ piece) rest, ← append_assoc hs front piece, known) (append_assoc ts q.0 rest))
+    let known : (hs ++ front) ++ piece ≡ ts ++ q.0 = rw p at q.2 in
+    (q.0 ++ rest, longer q.0 rest q.1, rw (e, ← append_assoc front piece rest, ← append_assoc hs (front ++ piece) rest, ← append_assoc hs front piece, known) (append_assoc ts q.0 rest))
 
 pub flat_map-split : {X : Type 0} (f : X → List ℕ) (xs : List X) (i : ℕ) (d : X) → i < length xs → flat_map f xs ≡ flat_map f (take i xs) ++ (f (get_or xs i d) ++ flat_map f (drop (suc i) xs))
 flat_map-split f [] i d h = absurd (omega arith)
@@ -124,13 +128,13 @@ Adds-then x (Err y) t u v a b c k m n xs ys zs e p q = record {
 
 -- what a call behind others leaves undone, where one of them failed
 pub Adds-front : (x : SinkFailed) (t u : Option (List ℕ)) (a b : Block) (k m : ℕ) (xs ys zs : List ℕ) → xs ++ ys ≡ zs → Adds (Err x) t u a b k m xs → Adds (Err x) t u a b k m zs
-Adds-front x t u a b k m xs ys zs e p = record { ok = tt; err = longer u (held t a) p.err; counted = p.counted; failed = p.failed; succeeded = tt }
+Adds-front x t u a b k m xs ys zs e p = record { ok = tt; err = onto u (held t a) p.err; counted = p.counted; failed = p.failed; succeeded = tt }
   where
-    longer : (f h : Option (List ℕ)) → IsFront f (append_known h xs) → IsFront f (append_known h zs)
-    longer None None q = tt
-    longer (Some fs) None q = tt
-    longer None (Some hs) q = absurd q
-    longer (Some fs) (Some hs) q = (q.0 ++ ys, rw (← e, ← append_assoc hs xs ys, q.1) (append_assoc fs q.0 ys))
+    onto : (f h : Option (List ℕ)) → IsFront f (append_known h xs) → IsFront f (append_known h zs)
+    onto None None q = tt
+    onto (Some fs) None q = tt
+    onto None (Some hs) q = absurd q
+    onto (Some fs) (Some hs) q = (q.0 ++ ys, longer q.0 ys q.1, rw (← e, ← append_assoc hs xs ys, q.2) (append_assoc fs q.0 ys))
 
 front-past : (ts xs : List ℕ) (k : ℕ) → length ts ≤ k → take k (ts ++ xs) ≡ ts ++ take (k - length ts) xs
 front-past [] xs k h = ap (λ (n : ℕ). take n xs) (omega arith)
@@ -143,9 +147,10 @@ SentFront-from None u xs sent p q = tt
 SentFront-from (Some ts) None xs sent p q = absurd q
 SentFront-from (Some ts) (Some us) xs sent p q =
     let n = length us - length ts in
-    let whole = ap length p.1 in
+    let whole = ap length p.2 in
+    let some = p.1 in
     let sizes : length ts + length xs ≡ length us + length p.0 = sym (length-append ts xs) ∙ whole ∙ length-append us p.0 in
-    let front : us ≡ take (length us) (ts ++ xs) = rw p.1 (sym (take_at us p.0 (length us) refl)) in
+    let front : us ≡ take (length us) (ts ++ xs) = rw p.2 (sym (take_at us p.0 (length us) refl)) in
     (n, omega arith, front ∙ front-past ts xs (length us) q.0, q.1 ∙ ap counted (omega arith))
 
 -- an empty block holds nothing
@@ -169,7 +174,7 @@ IsFront-longer : (f h : Option (List ℕ)) (xs ys : List ℕ) → IsFront f (app
 IsFront-longer None None xs ys q = tt
 IsFront-longer (Some fs) None xs ys q = tt
 IsFront-longer None (Some hs) xs ys q = absurd q
-IsFront-longer (Some fs) (Some hs) xs ys q = (q.0 ++ ys, rw (← append_assoc hs xs ys, q.1) (append_assoc fs q.0 ys))
+IsFront-longer (Some fs) (Some hs) xs ys q = (q.0 ++ ys, longer q.0 ys q.1, rw (← append_assoc hs xs ys, q.2) (append_assoc fs q.0 ys))
 
 -- the first of two calls failed
 pub Adds-first_failed : (r : Result (Unit {0}) SinkFailed) (t u : Option (List ℕ)) (a b : Block) (k m : ℕ) (xs ys : List ℕ) → IsErr r → IsFront u (append_known (held t a) xs) → Counts t u a.sent b.sent → HasFailed k m → Adds r t u a b k m (xs ++ ys)
