@@ -69,8 +69,8 @@ fn add_names<S: Sink>(
     }
 }
 
-/// Adds the names of a group, and ends the line.
-fn add_names_line<S: Sink>(
+/// Adds the names of a group by rising number, joined by plus signs, or a dash where nobody is in it, and ends the line.
+pub fn add_names_line<S: Sink>(
     block: &mut Block,
     sink: &mut S,
     book: &ClosedBook,

@@ -21,6 +21,7 @@ mod writing;
 
 pub use allocation::Allocation;
 pub use fault::{SolutionFault, ValueFault};
+pub use heading::add_names_line;
 pub use reading::read_solution;
 pub use winning::map_back;
 pub use writing::{report, write_allocation};
