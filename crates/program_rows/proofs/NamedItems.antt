@@ -1,25 +1,19 @@
 -- Items of a list that are found by their names, and tests of all items.
-use Rattle.std.proofs.Common.{◌≡◌, ◌≢◌, ℕ, zero, suc, ◌<◌, ◌≤◌, Bool, true, false, ◌&&◌, cond, nat_lt, lt-ltb, List, [], ◌∷◌, Option, Some, None, length, map, slice_get, refl, sym, ap, ap₂, subst, ◌∙◌, ◌⊎◌, inl, inr, arith, ℤ, pos, eq-eqb}
-use Rattle.std.specs.Prelude.{◌==◌, bytes_eq, find, position}
-use Rattle.std.specs.Option.{option_map, option_map_or}
+use Rattle.std.proofs.Common.{◌≡◌, ℕ, zero, suc, ◌<◌, ◌≤◌, Bool, true, false, cond, nat_lt, lt-ltb, List, [], ◌∷◌, Option, Some, None, length, map, slice_get, refl, sym, ap, subst, ◌∙◌, arith, pos}
+use Rattle.std.specs.Prelude.{bytes_eq, find, position}
+use Rattle.std.specs.Option.{option_map_or}
 use Rattle.std.specs.List.{AllByRecursion, IsDistinct, list_all, position_or_len}
-use Rattle.std.specs.Ordering.{int_eq}
-use Rattle.std.proofs.lemmas.Bool.{and_parts, false_from_ne_true, cond-true, cond-false, le-ltb, ne_eqb}
-use Rattle.std.proofs.lemmas.Bool.Decides.{Decides-int_eq, nat_tests}
-use Rattle.std.proofs.lemmas.List.{length-map}
+use Rattle.std.proofs.lemmas.Bool.{and_parts, false_from_ne_true, cond-true, cond-false, le-ltb}
 use Rattle.std.proofs.lemmas.List.Folds.{find_at}
-use Rattle.std.proofs.lemmas.Map.Keys.{IsDistinct-tail}
 use Rattle.std.proofs.lemmas.Slice.Eq.{bytes_eq-Decides}
 use Rattle.program_rows.specs.declared.row.RowKind.{RowKind}
 use Rattle.program_rows.specs.declared.row.RowKind.TheVariants.{AtMost, AtLeast, Equal}
 use Rattle.program_rows.specs.declared.bounds.Bounds.{Bounds}
 use Rattle.program_rows.specs.declared.bounds.Bounds.TheVariants.{ZeroOrOne, Zero, One}
-use Rattle.program_rows.specs.Program.{Table, TableRow, TableColumn}
-use Rattle.program_rows.specs.Parts.{IsProgram, AreEntries}
+use Rattle.program_rows.specs.Program.{TableRow, TableColumn}
 use Rattle.program_rows.specs.Points.{coefficient_at}
-use Rattle.program_rows.specs.Same.{row_named, column_named, coefficient_in, coefficient, terms_of, IsSameProgram}
-use Rattle.program_rows.specs.Comparing.{same_kind, same_bounds, row_agrees, row_stands, name_at, entry_stands, column_agrees, column_stands, stands_in, is_same}
-use Rattle.program_rows.proofs.LookupLaws.{guessed}
+use Rattle.program_rows.specs.Same.{row_named, coefficient_in}
+use Rattle.program_rows.specs.Comparing.{same_kind, same_bounds, name_at}
 
 -- ---------- tests ----------
 

@@ -1,4 +1,4 @@
-use Rattle.std.proofs.Common.{◌∙◌, ap, map, not, sym, arith}
+use Rattle.std.proofs.Common.{◌∙◌, map, sym, arith}
 use Rattle.program_rows.specs.Parts.{shown_row, shown_column}
 use Rattle.program_rows.specs.Comparing as comparing
 use Rattle.program_rows.proofs.LookupLaws.{all_step, all_fails, all_end}
