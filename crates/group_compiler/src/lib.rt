@@ -6,13 +6,17 @@ mod claims;
 mod compiled;
 mod compiling;
 mod gate;
+mod ordering;
+mod pool;
 mod steps;
+mod work;
 
 pub use claim::Claim;
 pub use claims::Claims;
 pub use compiled::Compiled;
 pub use compiling::compile_one;
 pub use gate::{Gate, OpenGate};
+pub use pool::compile_all;
 
 #[cfg(test)]
 mod tests;

@@ -1,0 +1,139 @@
+-- Laws of what workers draw.
+use Rattle.std.proofs.Common.{◌≡◌, inl, inr, ℕ, zero, suc, ◌+◌, ◌<◌, ◌≤◌, Bool, true, cond, ◌==◌, nat_lt, ⊎_elim, ltb-true, eq-eqb, ne_eqb, List, [], ◌∷◌, ◌++◌, length, map, sym, refl, ap, ap₂, ◌∙◌, subst, arith, append-nil, lt-ltb, le-ltb, length-append, slice_index_or}
+use Rattle.std.specs.Prelude.{All, Any, Contains, filter}
+use Rattle.std.specs.List.{AllByRecursion}
+use Rattle.std.proofs.lemmas.Bool.{cond-true, cond-false, cond_both, cases_eq, cases_lt}
+use Rattle.std.proofs.lemmas.List.Sums.{sum_by-cons}
+use Rattle.group_compiler.specs.Claims.{times, once_below, IsEachBelow}
+use Rattle.std.proofs.lemmas.List.Elements.{recursion_from_All, All-from_recursion, filter-append, filter_passes}
+use Rattle.group_compiler.specs.declared.work.Numbered.{Numbered}
+use Rattle.group_compiler.specs.Works.{IsFinished}
+
+filter_below : (count : ℕ) (xs : List ℕ) → AllByRecursion (λ n. n < count) xs → filter (λ n. nat_lt n count) xs ≡ xs
+filter_below count [] a = refl
+filter_below count (x ∷ xs) a = cond-true (nat_lt x count) (x ∷ filter (λ n. nat_lt n count) xs) (filter (λ n. nat_lt n count) xs) (lt-ltb x count a.0) ∙ ap (λ (ys : List ℕ). x ∷ ys) (filter_below count xs a.1)
+
+-- all are groups' numbers
+pub kept_all : (count : ℕ) (xs : List ℕ) → All (λ n. n < count) xs → filter (λ n. nat_lt n count) xs ≡ xs
+kept_all count xs a = filter_below count xs (recursion_from_All (λ n. n < count) xs a)
+
+-- all but the last
+pub kept_but_last : (count n : ℕ) (xs : List ℕ) → All (λ n. n < count) xs → count ≤ n → filter (λ n. nat_lt n count) (xs ++ n ∷ []) ≡ xs
+kept_but_last count n xs a above =
+    filter-append (λ n. nat_lt n count) xs (n ∷ []) ∙ ap (λ (ys : List ℕ). filter (λ n. nat_lt n count) xs ++ ys) (cond-false (nat_lt n count) (n ∷ []) [] (le-ltb n count above))
+    ∙ append-nil (filter (λ n. nat_lt n count) xs) ∙ kept_all count xs a
+
+last_at : (xs : List ℕ) (n d : ℕ) → slice_index_or (xs ++ n ∷ []) (length xs) d ≡ n
+last_at [] n d = refl
+last_at (x ∷ xs) n d = last_at xs n d
+
+pub finished_by : (count n : ℕ) (xs : List ℕ) → count ≤ n → IsFinished count (xs ++ n ∷ [])
+finished_by count n xs above =
+    let l = length-append xs (n ∷ []) in
+    inr (length xs, n, (let k : length xs < length (xs ++ n ∷ []) = omega arith in k), last_at xs n n, above)
+
+at_left : (xs ys : List ℕ) (k d : ℕ) → k < length xs → slice_index_or (xs ++ ys) k d ≡ slice_index_or xs k d
+at_left [] ys k d l = absurd (omega arith)
+at_left (x ∷ xs) ys zero d l = refl
+at_left (x ∷ xs) ys (suc k) d l = at_left xs ys k d (omega arith)
+
+any_left : (P : ℕ → Type 0) (xs ys : List ℕ) → Any P xs → Any P (xs ++ ys)
+any_left P xs ys h = let l = length-append xs ys in (h.0, h.1, (let k : h.0 < length (xs ++ ys) = omega arith in k), at_left xs ys h.0 h.1 h.2 ∙ h.3, h.4)
+
+pub finished_left : (count : ℕ) (xs ys : List ℕ) → IsFinished count xs → IsFinished count (xs ++ ys)
+finished_left count xs ys h = let l = length-append xs ys in elim h [ inl more ↦ inl (let k : count < length (xs ++ ys) = omega arith in k) | inr one ↦ inr (any_left (λ n. count ≤ n) xs ys one) ]
+
+pub map_append : {X Y : Type 0} (f : X → Y) (xs ys : List X) → map f (xs ++ ys) ≡ map f xs ++ map f ys
+map_append f [] ys = refl
+map_append f (x ∷ xs) ys = ap (λ zs. f x ∷ zs) (map_append f xs ys)
+
+pub numbers_append : (count : ℕ) (rs ss : List Numbered) (xs ys : List ℕ) → map (λ (r : Numbered). r.number) rs ≡ filter (λ n. nat_lt n count) xs → map (λ (r : Numbered). r.number) ss ≡ filter (λ n. nat_lt n count) ys
+    → map (λ (r : Numbered). r.number) (rs ++ ss) ≡ filter (λ n. nat_lt n count) (xs ++ ys)
+numbers_append count rs ss xs ys a b = map_append (λ (r : Numbered). r.number) rs ss ∙ ap₂ (λ (us vs : List ℕ). us ++ vs) a b ∙ sym (filter-append (λ n. nat_lt n count) xs ys)
+
+-- how often a number stands in a list, and that it stands there
+stands_once : (k : ℕ) (xs : List ℕ) → 0 < times k xs → Contains xs k
+stands_once k [] h = absurd (omega arith)
+stands_once k (x ∷ xs) h = ⊎_elim
+    (λ same. (0, (let l : 0 < length (x ∷ xs) = omega arith in l), same))
+    (λ other.
+    let s : times k (x ∷ xs) ≡ cond (x == k) 1 0 + times k xs = sum_by-cons (λ (y : ℕ). cond (y == k) 1 0) x xs in
+    let o : ℕ = cond (x == k) 1 0 in let z : o ≡ 0 = cond-false (x == k) 1 0 (ne_eqb x k other) in
+    let more : 0 < times k xs = omega arith in
+    let w = stands_once k xs more in
+    (suc w.0, (let l : suc w.0 < length (x ∷ xs) = omega arith in l), w.2))
+    (cases_eq x k)
+
+counted : (n : ℕ) (xs : List ℕ) (k : ℕ) → k < length xs → slice_index_or xs k n ≡ n → 0 < times n xs
+counted n [] k l e = absurd (omega arith)
+counted n (x ∷ xs) zero l e =
+    let s : times n (x ∷ xs) ≡ cond (x == n) 1 0 + times n xs = sum_by-cons (λ (y : ℕ). cond (y == n) 1 0) x xs in
+    let o : ℕ = cond (x == n) 1 0 in let z : o ≡ 1 = cond-true (x == n) 1 0 (eq-eqb x n e) in
+    omega arith
+counted n (x ∷ xs) (suc k) l e =
+    let s : times n (x ∷ xs) ≡ cond (x == n) 1 0 + times n xs = sum_by-cons (λ (y : ℕ). cond (y == n) 1 0) x xs in
+    let r = counted n xs k (omega arith) e in
+    omega arith
+
+filter_times : (p : ℕ → Bool) (k : ℕ) (xs : List ℕ) → p k ≡ true → 0 < times k xs → 0 < times k (filter p xs)
+filter_times p k [] pass h = h
+filter_times p k (x ∷ xs) pass h =
+    let s : times k (x ∷ xs) ≡ cond (x == k) 1 0 + times k xs = sum_by-cons (λ (y : ℕ). cond (y == k) 1 0) x xs in
+    ⊎_elim
+    (λ same.
+    let kept : filter p (x ∷ xs) ≡ x ∷ filter p xs = cond-true (p x) (x ∷ filter p xs) (filter p xs) (ap p same ∙ pass) in
+    let t : times k (x ∷ filter p xs) ≡ cond (x == k) 1 0 + times k (filter p xs) = sum_by-cons (λ (y : ℕ). cond (y == k) 1 0) x (filter p xs) in
+    let o : ℕ = cond (x == k) 1 0 in let z : o ≡ 1 = cond-true (x == k) 1 0 (eq-eqb x k same) in
+    let e : times k (filter p (x ∷ xs)) ≡ times k (x ∷ filter p xs) = ap (times k) kept in
+    let r : 0 < times k (filter p (x ∷ xs)) = omega arith in
+    r)
+    (λ other.
+    let o : ℕ = cond (x == k) 1 0 in let z : o ≡ 0 = cond-false (x == k) 1 0 (ne_eqb x k other) in
+    let rest = filter_times p k xs pass (let m : 0 < times k xs = omega arith in m) in
+    cond_both (p x) (x ∷ filter p xs) (filter p xs) (λ ys. 0 < times k ys)
+    (λ yes. let t : times k (x ∷ filter p xs) ≡ cond (x == k) 1 0 + times k (filter p xs) = sum_by-cons (λ (y : ℕ). cond (y == k) 1 0) x (filter p xs) in let r : 0 < times k (x ∷ filter p xs) = omega arith in r)
+    (λ no. rest))
+    (cases_eq x k)
+
+contains_filter : (p : ℕ → Bool) (xs : List ℕ) (k : ℕ) → p k ≡ true → Contains xs k → Contains (filter p xs) k
+contains_filter p xs k pass h = stands_once k (filter p xs) (filter_times p k xs pass (counted k xs h.0 h.1 h.2))
+
+in_filter : (count k : ℕ) (xs : List ℕ) → k < count → Contains xs k → Contains (filter (λ n. nat_lt n count) xs) k
+in_filter count k xs below h = contains_filter (λ n. nat_lt n count) xs k (lt-ltb k count below) h
+
+below_some : (x n : ℕ) → 0 < once_below x n → x < n
+below_some x n h = ⊎_elim
+    (λ l. l)
+    (λ g. let z : once_below x n ≡ 0 = cond-false (nat_lt x n) 1 0 (le-ltb x n g) in absurd (omega arith))
+    (cases_lt x n)
+
+-- the workers are finished only where every group's number was drawn
+above_count : (count w : ℕ) (xs : List ℕ) → IsEachBelow w xs → length xs ≡ w → IsFinished count xs → count ≤ w
+above_count count w xs each long f = elim f [
+  | inl more ↦ omega arith
+  | inr one ↦
+      let there = counted one.1 xs one.0 one.2 one.3 in
+      let n : ℕ = once_below one.1 w in
+      let e : times one.1 xs ≡ n = each one.1 in
+      let some : 0 < n = omega arith in
+      let low : one.1 < w = below_some one.1 w some in
+      let high = one.4 in
+      omega arith
+]
+
+pub all_drawn : (count w : ℕ) (xs ns : List ℕ) → IsEachBelow w xs → length xs ≡ w → IsFinished count xs → ns ≡ filter (λ n. nat_lt n count) xs → (k : ℕ) → k < count → Contains ns k
+all_drawn count w xs ns each long f e k below =
+    let all = above_count count w xs each long f in
+    let n : ℕ = once_below k w in
+    let one : n ≡ 1 = cond-true (nat_lt k w) 1 0 (lt-ltb k w (omega arith)) in
+    let t : times k xs ≡ n = each k in
+    let some : 0 < times k xs = omega arith in
+    subst (λ (ys : List ℕ). Contains ys k) (sym e) (in_filter count k xs below (stands_once k xs some))
+
+below_each : (count : ℕ) (rs : List Numbered) → AllByRecursion (λ n. nat_lt n count ≡ true) (map (λ (r : Numbered). r.number) rs) → AllByRecursion (λ (r : Numbered). r.number < count) rs
+below_each count [] a = tt
+below_each count (r ∷ rs) a = (ltb-true r.number count a.0, below_each count rs a.1)
+
+pub all_below : (count : ℕ) (xs : List ℕ) (rs : List Numbered) → map (λ (r : Numbered). r.number) rs ≡ filter (λ n. nat_lt n count) xs → All (λ (r : Numbered). r.number < count) rs
+all_below count xs rs e = All-from_recursion (λ (r : Numbered). r.number < count) rs (below_each count rs
+    (subst (λ (ns : List ℕ). AllByRecursion (λ n. nat_lt n count ≡ true) ns) (sym e) (recursion_from_All (λ n. nat_lt n count ≡ true) (filter (λ n. nat_lt n count) xs) (filter_passes (λ n. nat_lt n count) xs))))

@@ -1,0 +1,68 @@
+use Rattle.std.proofs.Common.{◌≡◌, ◌+◌, ◌<◌, ◌≤◌, ◌++◌, ◌∷◌, [], length, ℕ, List, filter, map, nat_lt, inl, sym, ◌∙◌, ap, ap₂, subst, arith, length-append}
+use Rattle.std.specs.Prelude.{All}
+use Rattle.std.proofs.lemmas.List.{map-append}
+use Rattle.std.proofs.lemmas.List.Elements.{All-push}
+use Rattle.group_compiler.specs.Claimed.{drawn, room}
+use Rattle.group_compiler.specs.declared.work.Numbered.{Numbered}
+use Rattle.group_compiler.specs.Works.{IsFinished, IsProgramOf}
+use Rattle.group_compiler.proofs.WorkLaws.{kept_all, kept_but_last, finished_by}
+use Rattle.group_compiler.proofs.work.compile_drawn.Goals as goal
+
+pub loop-turn-preserved : goal.loop-turn-preserved
+loop-turn-preserved g c =
+    let h = c.loop-turn.invariant in
+    let groups = c.args.groups.now in
+    let n = c.draw-number.result in
+    let old = drawn c.loop-turn.claim in
+    let r = c.in_ok-compile_numbered.field-0 in
+    let before = c.loop-turn.results.items in
+    let new : drawn c.draw-number.new.claim ≡ old ++ n ∷ [] = c.draw-number.ensures.drawn in
+    let long : length (drawn c.draw-number.new.claim) ≡ length old + 1 = ap (λ (xs : List ℕ). length xs) new ∙ length-append old (n ∷ []) in
+    let left : room c.draw-number.new.claim + 1 ≡ room c.loop-turn.claim = c.draw-number.ensures.room in
+    let whole : room c.loop-turn.claim + length old ≡ room c.args.claim = h.whole in
+    let turns : length old ≡ c.loop-turn._turn = h.turns in
+    let below : n < length groups = (let t = c.if-number-count.false in let e = c.count-count.ensures.count in omega arith) in
+    let items = c.in_ok-push.ensures.items in
+    record {
+      same = c.draw-number.ensures.same;
+      turns = omega arith;
+      whole = omega arith;
+      numbers = ap (λ (rs : List Numbered). map (λ (r : Numbered). r.number) rs) items ∙ map-append (λ (r : Numbered). r.number) before (r ∷ []) ∙ ap₂ (λ (xs : List ℕ) (k : ℕ). xs ++ k ∷ []) h.numbers c.in_ok-compile_numbered.ensures.number ∙ sym new;
+      below = subst (λ (xs : List ℕ). All (λ k. k < length groups) xs) (sym new) (All-push (λ (k : ℕ). k < length groups) old n h.below below);
+      results = subst (λ (rs : List Numbered). All (IsProgramOf c.args.book.now groups) rs) (sym items) (All-push (IsProgramOf c.args.book.now groups) before r h.results c.in_ok-compile_numbered.ensures.program);
+    }
+
+pub returns-then-number-count : goal.returns-then-number-count
+returns-then-number-count g c =
+    let h = c.loop-turn.invariant in
+    let count = length c.args.groups.now in
+    let n = c.draw-number.result in
+    let old = drawn c.loop-turn.claim in
+    let new : drawn c.draw-number.new.claim ≡ old ++ n ∷ [] = c.draw-number.ensures.drawn in
+    let long : length (drawn c.draw-number.new.claim) ≡ length old + 1 = ap (λ (xs : List ℕ). length xs) new ∙ length-append old (n ∷ []) in
+    let left : room c.draw-number.new.claim + 1 ≡ room c.loop-turn.claim = c.draw-number.ensures.room in
+    let whole : room c.loop-turn.claim + length old ≡ room c.args.claim = h.whole in
+    let above : count ≤ n = subst (λ (m : ℕ). m ≤ n) c.count-count.ensures.count c.if-number-count.true in (
+      record {
+        same = c.draw-number.ensures.same;
+        numbers = h.numbers ∙ sym (kept_but_last count n old h.below above) ∙ ap (λ (xs : List ℕ). filter (λ k. nat_lt k count) xs) (sym new);
+        results = h.results;
+        finished = subst (λ (xs : List ℕ). IsFinished count xs) (sym new) (finished_by count n old above);
+      },
+      omega arith,
+    )
+
+pub returns : goal.returns
+returns g c =
+    let h = c.loop-turn.invariant in
+    let count = length c.args.groups.now in
+    let turns : length (drawn c.loop-turn.claim) ≡ c.loop-turn._turn = h.turns in
+    let over : count + 1 ≤ c.loop-turn._turn = subst (λ (m : ℕ). m + 1 ≤ c.loop-turn._turn) c.count-count.ensures.count c.loop-turn-test.false in (
+      record {
+        same = h.same;
+        numbers = h.numbers ∙ sym (kept_all count (drawn c.loop-turn.claim) h.below);
+        results = h.results;
+        finished = inl (let k : count < length (drawn c.loop-turn.claim) = omega arith in k);
+      },
+      h.whole,
+    )
