@@ -9,12 +9,15 @@ use Rattle.std.proofs.lemmas.List.{append-nil}
 use Rattle.std.proofs.lemmas.List.Sums.{sum_by-append, length-filter}
 use Rattle.std.proofs.lemmas.List.Elements.{recursion_from_All, All-from_recursion}
 use Rattle.auction_terms.specs.declared.choices.Choice.{Choice}
-use Rattle.auction_terms.specs.Allocations.{amount_of, quantity_of, is_eligible}
+use Rattle.auction_terms.specs.Allocations.{Book, amount_of, quantity_of, is_eligible}
 use Rattle.auction_terms.proofs.OfferLaws.{sum_zero, sum_agree, sum_plus, sum_filter, all_agree, all_append, all_filter}
 use Rattle.program_rows.specs.Program.{Table, TableColumn}
 use Rattle.auction_terms.proofs.AllocationLaws.{feasible_at, feasible_from}
 use Rattle.program_rows.specs.Spelling.{column_bid, is_bid}
+use Rattle.auction_terms.specs.Packages.{Lots}
+use Rattle.auction_terms.specs.Limits.{IsBook}
 use Rattle.auction_terms.specs.Keeping.{kept_of}
+use Rattle.program_rows.specs.Points.{IsPoint}
 use Rattle.program_rows.specs.Rows.{program_of}
 use Rattle.program_rows.specs.Meaning.{meaning}
 use Rattle.program_rows.specs.Faithful.{back, IsFaithful}
@@ -23,7 +26,7 @@ use Rattle.mps_text.specs.FaithfulText.{presolved_text}
 use Rattle.mps_text.proofs.FaithfulTexts.{presolved_text_is_faithful}
 use Rattle.program_rows.proofs.SpellingLaws.{reads_names_alone}
 use Rattle.outcome.specs.Winning.{by_bidder, all_bidders, allocation_of, IsMap, IsRising}
-use Rattle.outcome.specs.Coming.{PointsComeBack, SolutionsComeBack, AnswersOfSolversComeBack}
+use Rattle.outcome.specs.Coming.{ComesBack, PointsComeBack, SolutionsComeBack, AnswersOfSolversComeBack}
 use Rattle.outcome.proofs.PointLaws.{solutions_are_points}
 
 -- a bidder that a name can spell
@@ -131,6 +134,10 @@ points_come_back lots book group p values faithful point =
       same_total = ap pos (same_sum (amount_of book) taken inside) ∙ told.same_total;
       rising = rises taken f.one_bid_each 1 256;
     }
+
+-- the points of the program of the kept bids come back
+pub points_of_kept_come_back : (lots : Lots) (book : Book) (group : ℕ → Bool) (values : List Bool) → IsBook lots book → IsPoint (program_of lots (kept_of lots book group)) values → ComesBack lots book group (program_of lots (kept_of lots book group)) values
+points_of_kept_come_back lots book group values within point = points_come_back lots book group (program_of lots (kept_of lots book group)) values (presolved_is_faithful lots book group within) point
 
 pub solutions_come_back : SolutionsComeBack
 solutions_come_back lots book group solved values within told =

@@ -14,7 +14,7 @@ pub fn names_of(alloc: Global, program: &Program) -> Result<IndexSet<&[u8]>, All
     requires { IsDistinct bytes_eq (column_names program.now) }
     ensures { IfOk result (λ names. bytes_of names.keys ≡ column_names program.now) }
 {
-    let mut names = IndexSet::new(alloc);
+    let mut names = IndexSet::with_capacity(alloc, program.column_count())?;
     for column in 0..program.column_count() {
         names.insert(program.column_name(column))?;
     }
