@@ -1,11 +1,10 @@
 -- The columns of a program as the pairs that their lines list.
 use Rattle.std.proofs.Common.{◌≡◌, ℕ, zero, suc, ◌+◌, ◌<◌, Bool, true, false, List, [], ◌∷◌, length, map, refl, sym, ap, subst, ◌∙◌, arith, Some}
-use Rattle.std.specs.Prelude.{◌≢◌, bytes_eq, codes, flat_map, ℤ, slice_get}
+use Rattle.std.specs.Prelude.{bytes_eq, codes, flat_map, ℤ, slice_get}
 use Rattle.std.specs.List.{list_any, AllByRecursion, IsDistinct, enumerate_from}
 use Rattle.std.specs.Fmt.{signed_decimal}
 use Rattle.std.proofs.lemmas.List.{map-append}
-use Rattle.std.proofs.lemmas.Bool.{false_from_ne_true, or_right}
-use Rattle.std.proofs.lemmas.Slice.Eq.{bytes_eq-Decides}
+use Rattle.std.proofs.lemmas.Bool.{or_right}
 use Rattle.program_rows.specs.Program.{Table, TableRow, TableColumn}
 use Rattle.program_rows.specs.Parts.{AreEntries}
 use Rattle.program_rows.specs.Lines.{Data}
