@@ -32,6 +32,8 @@ mod row_table;
 mod rows;
 mod sections;
 mod senses;
+#[cfg(test)]
+mod tests;
 mod values;
 mod words;
 

@@ -1,0 +1,130 @@
+use crate::read_program;
+use program_rows::FaultKind;
+use std::test::Fail;
+
+const PLAIN: &[u8] =
+    b"NAME wdp\nROWS\n N OBJ\n L B3\n L C1\n L C2\nCOLUMNS\n M1 'MARKER' 'INTORG'\n X3_1 OBJ -12\n X3_1 B3 1\n X3_1 C2 1\n M2 'MARKER' 'INTEND'\nRHS\n RHS B3 1\n RHS C1 2\n RHS C2 1\nBOUNDS\n UP BND X3_1 1\nENDATA\n";
+
+const FOREIGN: &[u8] =
+    b"* made elsewhere\r\nNAME\r\nOBJSENSE MIN\r\nROWS\r\n\tN OBJ\r\n N SPARE\r\n L B3\r\n L C1\r\n L C2\r\n\r\nCOLUMNS\r\n X3_1 OBJ -1.2e1 SPARE 7\r\n X3_1 B3 1.0 C2 10e-1\r\nRHS\r\n B3 1 C1 2.0\r\n RHS C2 1\r\nBOUNDS\r\n BV X3_1\r\nENDATA\r\nnot read\r\n";
+
+// The plain text, each line with its line feed, with other bytes in place of one line, counted from 1.
+fn with_line(rt: &HostRuntime, number: usize, line: &[u8]) -> Result<Vec<u8>, Fail> {
+    let mut text = Vec::new(rt.alloc());
+    let mut place: usize = 0;
+    for old in PLAIN.split(|byte| *byte == b'\n') {
+        place = place.saturating_add(1);
+        if place == number {
+            text.extend_from_slice(line)?;
+        } else if !old.is_empty() {
+            text.extend_from_slice(old)?;
+            text.push(b'\n')?;
+        }
+    }
+    Ok(text)
+}
+
+fn fault(rt: &HostRuntime, text: &[u8]) -> Option<(usize, FaultKind)> {
+    match read_program(rt.alloc(), text) {
+        Ok(_) => None,
+        Err(fault) => Some((fault.line, fault.kind)),
+    }
+}
+
+fn fault_with(
+    rt: &HostRuntime,
+    number: usize,
+    line: &[u8],
+) -> Result<Option<(usize, FaultKind)>, Fail> {
+    let text = with_line(rt, number, line)?;
+    Ok(fault(rt, text.as_slice()))
+}
+
+#[test]
+fn reads_a_program(rt: HostRuntime) -> Result<(), Fail> {
+    let program = read_program(rt.alloc(), PLAIN)?;
+    assert_eq!(rt; program.row_count(), 3);
+    assert_eq!(rt; program.column_count(), 1);
+    assert!(rt; program.objective_name() == b"OBJ".as_slice());
+    Ok(())
+}
+
+#[test]
+fn reads_a_text_made_elsewhere(rt: HostRuntime) -> Result<(), Fail> {
+    let program = read_program(rt.alloc(), FOREIGN)?;
+    assert_eq!(rt; program.row_count(), 3);
+    assert_eq!(rt; program.column_count(), 1);
+    Ok(())
+}
+
+#[test]
+fn refuses_lines(rt: HostRuntime) -> Result<(), Fail> {
+    assert!(rt; fault_with(&rt, 19, b"")? == Some((18, FaultKind::NoEnd)));
+    assert!(rt; fault_with(&rt, 10, b" X3_1 B3 0.5\n")? == Some((10, FaultKind::NotWhole)));
+    assert!(rt; fault_with(&rt, 17, b"RANGES\n")? == Some((17, FaultKind::SectionLeftOut)));
+    assert!(rt; fault_with(&rt, 18, b"")? == Some((18, FaultKind::NotBinary { column: 0 })));
+    assert!(rt; fault_with(&rt, 10, b" X3_1 OBJ -12\n")? == Some((10, FaultKind::EntryRepeated)));
+    assert!(rt; fault_with(&rt, 10, b" X3_1 Z 1\n")? == Some((10, FaultKind::UnknownRow)));
+    assert!(rt; fault_with(&rt, 7, b"COLUMNS X\n")? == Some((7, FaultKind::Fields)));
+    assert!(rt; fault_with(&rt, 1, b" N OBJ\n")? == Some((1, FaultKind::Section)));
+    assert!(rt; fault_with(&rt, 4, b" Q B3\n")? == Some((4, FaultKind::RowType)));
+    assert!(rt; fault_with(&rt, 4, b" L OBJ\n")? == Some((4, FaultKind::RowRepeated)));
+    assert!(rt; fault_with(&rt, 3, b"")? == Some((6, FaultKind::NoObjective)));
+    assert!(rt; fault_with(&rt, 2, b"OBJSENSE MAX\nROWS\n")? == Some((2, FaultKind::SenseMax)));
+    assert!(rt; fault_with(&rt, 14, b" RHS OBJ 3\n")? == Some((14, FaultKind::ObjectiveConstant)));
+    assert!(rt; fault_with(&rt, 14, b" RHS OBJ 0\n")? == None);
+    assert!(rt;
+        fault_with(&rt, 12, b" M2 'MARKER' 'INTEND'\n X3_1 C1 1\n")?
+            == Some((13, FaultKind::ColumnSplit))
+    );
+    assert!(rt; fault_with(&rt, 12, b" M2 'MARKER' 'INTORG'\n")? == Some((12, FaultKind::Marker)));
+    assert!(rt; fault_with(&rt, 18, b" UP BND X3_1 2\n")? == Some((18, FaultKind::BoundValue)));
+    assert!(rt; fault_with(&rt, 18, b" MI BND X3_1\n")? == Some((18, FaultKind::BoundType)));
+    assert!(rt; fault_with(&rt, 18, b" UP BND X3_2 1\n")? == Some((18, FaultKind::UnknownColumn)));
+    assert!(rt; fault_with(&rt, 10, b" X3_1 B3\r1\n")? == Some((10, FaultKind::NotText)));
+    assert!(rt; fault_with(&rt, 10, b" X3_1 B3 1\r\r\n")? == Some((10, FaultKind::NotText)));
+    Ok(())
+}
+
+#[test]
+fn reads_numbers(rt: HostRuntime) -> Result<(), Fail> {
+    assert!(rt; fault_with(&rt, 10, b" X3_1 B3 000000000000000000000000000001\n")? == None);
+    assert!(rt; fault_with(&rt, 10, b" X3_1 B3 1000e-3\n")? == None);
+    assert!(rt; fault_with(&rt, 10, b" X3_1 B3 0e-60\n")? == None);
+    assert!(rt; fault_with(&rt, 10, b" X3_1 B3 1000000000000000000\n")? == None);
+    assert!(rt;
+        fault_with(&rt, 10, b" X3_1 B3 0000000000000000000000000000001\n")?
+            == Some((10, FaultKind::NumberRange))
+    );
+    assert!(rt; fault_with(&rt, 10, b" X3_1 B3 1e0060\n")? == Some((10, FaultKind::NumberRange)));
+    assert!(rt;
+        fault_with(&rt, 10, b" X3_1 B3 1000000000000000001\n")?
+            == Some((10, FaultKind::NumberRange))
+    );
+    assert!(rt; fault_with(&rt, 10, b" X3_1 B3 1e-60\n")? == Some((10, FaultKind::NotWhole)));
+    assert!(rt; fault_with(&rt, 10, b" X3_1 B3 --1\n")? == Some((10, FaultKind::NumberText)));
+    Ok(())
+}
+
+#[test]
+fn cuts_at_every_byte(rt: HostRuntime) {
+    for end in 0..PLAIN.len() {
+        let cut = fault(&rt, &PLAIN[..end]);
+        assert!(rt; (cut == None) == (end >= 189));
+    }
+    assert!(rt; fault(&rt, b"") == Some((0, FaultKind::NoEnd)));
+    assert!(rt; fault(&rt, &PLAIN[..3]) == Some((1, FaultKind::Section)));
+    assert!(rt; fault(&rt, &PLAIN[..70]) == Some((9, FaultKind::NoEnd)));
+    assert!(rt; fault(&rt, &PLAIN[..181]) == Some((18, FaultKind::UnknownColumn)));
+    assert!(rt; fault(&rt, &PLAIN[..184]) == Some((19, FaultKind::Section)));
+}
+
+#[test]
+fn refuses_a_text_that_is_too_large(rt: HostRuntime) -> Result<(), Fail> {
+    let mut text = Vec::with_capacity(rt.alloc(), 67_108_865)?;
+    for _ in 0..67_108_865 {
+        text.push(b'\n')?;
+    }
+    assert!(rt; fault(&rt, text.as_slice()) == Some((0, FaultKind::TooLarge)));
+    Ok(())
+}
