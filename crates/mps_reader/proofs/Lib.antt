@@ -10,3 +10,4 @@ pub mod PairSteps
 pub mod ColumnSteps
 pub mod FitFacts
 pub mod LineCount
+pub mod EndFacts

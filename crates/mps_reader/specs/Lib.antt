@@ -4,3 +4,4 @@ pub mod Rows
 pub mod Columns
 pub mod States
 pub mod Fit
+pub mod Ending

@@ -1,7 +1,8 @@
 //! One pass over the lines of a text.
 
-ghost use Rattle.std.specs.Prelude.{◌≡◌, ◌≤◌, ◌<◌, length, Err, IfErr};
+ghost use Rattle.std.specs.Prelude.{◌≡◌, ◌≤◌, ◌<◌, length, Err, IfErr, OnOk};
 ghost use Rattle.auction_terms.specs.Lines.{lines_of};
+ghost use Rattle.mps_reader.specs.Ending.{Ends};
 ghost use Rattle.program_rows.specs.declared.fault.FaultKind.TheVariants.{TooLarge};
 
 use crate::finishing::finished;
@@ -29,7 +30,8 @@ fn refused(line: usize, refusal: Refusal) -> MpsFault
 
 fn read_lines(alloc: Global, text: &[u8]) -> Result<Program, MpsFault>
     requires { length text.now ≤ 67108864 }
-    ensures { IfErr result (λ e. e.line ≤ length (lines_of text.now)) }
+    ensures ends { OnOk result (Ends text.now) }
+    ensures line { IfErr result (λ e. e.line ≤ length (lines_of text.now)) }
 {
     let mut reading = start(alloc);
     let mut lines = LineReader::new(text);
@@ -56,6 +58,7 @@ fn read_lines(alloc: Global, text: &[u8]) -> Result<Program, MpsFault>
 /// The program that an MPS text describes, or its first faulty line.
 pub fn read_program(alloc: Global, text: &[u8]) -> Result<Program, MpsFault>
     ensures too_large { 67108864 < length text.now → result ≡ Err (record { line = 0; kind = TooLarge }) }
+    ensures ends { OnOk result (Ends text.now) }
     ensures line { IfErr result (λ e. e.line ≤ length (lines_of text.now)) }
 {
     if text.len() > TEXT_LIMIT {

@@ -1,7 +1,9 @@
 //! What the lines so far say.
 
-ghost use Rattle.std.specs.Prelude.{◌≡◌, ◌≤◌, length, true, false, is_some, OnOk, IfOk};
+ghost use Rattle.std.specs.Prelude.{◌≡◌, ◌≢◌, ◌≤◌, length, codes, bytes_eq, true, false, is_some, OnOk, IfOk};
 ghost use Rattle.std.specs.List.{AllByRecursion};
+ghost use Rattle.program_rows.specs.Lines.{Unprintable, line_of};
+ghost use Rattle.program_rows.specs.Meaning.{field, is_end};
 ghost use Rattle.program_rows.specs.Parts.{IsName};
 ghost use Rattle.mps_reader.specs.Reading.{bytes_of};
 ghost use Rattle.mps_reader.specs.Fit.{ReadingFits};
@@ -38,6 +40,7 @@ pub fn start<'t>(alloc: Global) -> Reading<'t>
 fn take_header_line<'t>(reading: &mut Reading<'t>, fields: &[&'t [u8]]) -> Result<bool, Refusal>
     requires fit { ReadingFits reading.old }
     requires some { 1 ≤ length fields.now }
+    ensures end { IfOk result (λ is_end. is_end ≡ bytes_eq (field 0 (bytes_of fields.now)) (codes "ENDATA")) }
     ensures fit { OnOk result (ReadingFits reading.new) }
     ensures closed { IfOk result (λ is_end. is_end ≡ true → is_some reading.new.columns.current ≡ false) }
     ensures objective { IfOk result (λ is_end. is_end ≡ true → is_some reading.new.rows.objective ≡ true) }
@@ -79,6 +82,8 @@ fn take_data<'t>(reading: &mut Reading<'t>, fields: &[&'t [u8]]) -> Result<(), R
 /// Takes a line, and tells whether it is the end.
 pub fn take_line<'t>(reading: &mut Reading<'t>, line: &'t [u8]) -> Result<bool, Refusal>
     requires fit { ReadingFits reading.old }
+    ensures end { IfOk result (λ end. end ≡ is_end (line_of line.now)) }
+    ensures text { OnOk result (line_of line.now ≢ Unprintable) }
     ensures fit { OnOk result (ReadingFits reading.new) }
     ensures closed { IfOk result (λ is_end. is_end ≡ true → is_some reading.new.columns.current ≡ false) }
     ensures objective { IfOk result (λ is_end. is_end ≡ true → is_some reading.new.rows.objective ≡ true) }
