@@ -9,3 +9,6 @@ mod order;
 pub use flags::Flags;
 pub use keeping::kept;
 pub use order::by_size;
+
+#[cfg(test)]
+mod tests;
