@@ -6,4 +6,3 @@ pub mod Coming
 pub mod Sale
 pub mod Report
 pub mod Costs
-pub mod Reporting

@@ -1,6 +1,6 @@
 //! Writing allocations and reports.
 
-ghost use Rattle.std.specs.Prelude.{◌≡◌, ◌<◌, [], length, false, true, All, OnOk, OnErr, IfErr};
+ghost use Rattle.std.specs.Prelude.{◌≡◌, ◌<◌, [], length, false, true, OnOk, OnErr, IfErr};
 ghost use Rattle.std.specs.Io.KnownBytes.{Appends};
 ghost use Rattle.auction_terms.specs.Allocations.{IsFeasible};
 ghost use Rattle.auction_terms.specs.Groups.{starts_empty};
@@ -11,7 +11,6 @@ ghost use Rattle.mps_text.specs.Adds.{Adds};
 ghost use Rattle.mps_text.specs.Written.{written_of};
 ghost use Rattle.outcome.specs.Sale.{sale_of};
 ghost use Rattle.outcome.specs.Report.{allocation_text, report_text};
-ghost use Rattle.outcome.specs.Reporting.{AreFeasible, IsOfBidders};
 
 use crate::allocation::Allocation;
 use crate::reporting::add_groups;
@@ -85,8 +84,6 @@ pub fn report<S: Sink>(
 ) -> Result<(), WriteFault>
     requires count { length groups.now ≡ length allocations.now }
     requires first { starts_empty groups.now ≡ true }
-    requires bidders { All (IsOfBidders (sale_of book.now)) groups.now }
-    requires feasible { AreFeasible (sale_of book.now) groups.now allocations.now }
     ensures ok { OnOk result (Appends (S.taken sink.old) (S.taken sink.new) (report_text (sale_of book.now) groups.now allocations.now)) }
     ensures err { IfErr result (λ e. SentFront (S.taken sink.old) (S.taken sink.new) (report_text (sale_of book.now) groups.now allocations.now) (written_of e)) }
     ensures failed { OnErr result (HasFailed (S.failures sink.old) (S.failures sink.new)) }
