@@ -1,3 +1,5 @@
+pub mod GroupTexts
 pub mod Output
 pub mod Parts
+pub mod Requests
 pub mod Submissions

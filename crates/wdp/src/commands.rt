@@ -1,17 +1,29 @@
 //! The commands.
 
-ghost use Rattle.std.specs.Prelude.{◌≡◌, OnErr};
+ghost use Rattle.std.specs.Prelude.{◌≡◌, ◌≤◌, IfOk, OnErr, false, length};
+ghost use Rattle.auction_terms.specs.Allocations.{IsFeasible};
+ghost use Rattle.auction_terms.specs.Terms.{lots_in};
+ghost use Rattle.bid_desk.specs.Closing.{book_of};
 ghost use Rattle.wdp.specs.Output.{IsQuietUnlessFailed};
+ghost use Rattle.wdp.specs.Requests.{IsWithinLimits};
 
+use crate::auction::{Auction, read_auction};
+use crate::compile_run::run_compile;
 use crate::input::read_input;
 use crate::parts::split_parts;
 use crate::reading::{Count, count_parts, read_terms};
-use crate::refusal::Refusal;
+use crate::refusal::{CountedPart, Refusal};
 use crate::request::Request;
 use crate::round::close_round;
+use crate::run_fault::RunFault;
+use crate::sizes::write_sizes;
+use crate::winning::allocation_won;
 use auction_terms::Groups;
-use group_compiler::compile_one;
-use mps_text::Sink;
+use bid_desk::ClosedBook;
+use group_compiler::{OpenGate, compile_one};
+use mps_reader::read_program;
+use mps_text::{Sink, WriteFault};
+use outcome::{Allocation, write_allocation};
 use std::alloc::Global;
 use std::io::Read;
 use std::sync::Wait;
@@ -24,12 +36,49 @@ pub fn answer<R: Threads + Wait + Sync + AllocGlobal, I: Read, S: Sink>(
     input: &mut I,
     out: &mut S,
 ) -> Result<(), Refusal>
+    requires { IsWithinLimits request }
     ensures { OnErr result (IsQuietUnlessFailed (S.taken out.old) (S.taken out.new) (S.failures out.old) (S.failures out.new)) }
 {
     let text = read_input(rt.alloc(), input)?;
     match request {
         Request::Text => write_text(rt, text.as_slice(), out),
+        Request::Compile { workers } => compile(rt, text.as_slice(), workers, out),
+        Request::Check => check(rt.alloc(), text.as_slice(), out),
+        Request::Map { group } => map(rt, text.as_slice(), group, out),
     }
+}
+
+// The programs of all groups.
+fn compile<R: Threads + Wait + Sync + AllocGlobal, S: Sink>(
+    rt: &R,
+    text: &[u8],
+    workers: usize,
+    out: &mut S,
+) -> Result<(), Refusal>
+    requires some { 1 ≤ workers }
+    requires few { workers ≤ 64 }
+    ensures { OnErr result (IsQuietUnlessFailed (S.taken out.old) (S.taken out.new) (S.failures out.old) (S.failures out.new)) }
+{
+    let alloc: Global = rt.alloc();
+    let parts = split_parts(alloc, text)?;
+    count_parts(&parts, 1, Count::Exactly(0))?;
+    let Auction { book, groups } = read_auction(rt, &parts)?;
+    match run_compile(rt, alloc, &book, &groups, workers, &OpenGate, out) {
+        Ok(()) => Ok(()),
+        Err(RunFault::OutOfMemory { written: _ }) => Err(Refusal::OutOfMemory),
+        Err(RunFault::Sink { group: _, written }) => {
+            Err(Refusal::Write(WriteFault::Sink { written }))
+        }
+    }
+}
+
+// The sizes of the program that the input is the text of.
+fn check<S: Sink>(alloc: Global, text: &[u8], out: &mut S) -> Result<(), Refusal>
+    ensures { OnErr result (IsQuietUnlessFailed (S.taken out.old) (S.taken out.new) (S.failures out.old) (S.failures out.new)) }
+{
+    let program = read_program(alloc, text)?;
+    write_sizes(&program, out)?;
+    Ok(())
 }
 
 // The text of the program of the empty group.
@@ -49,4 +98,53 @@ fn write_text<R: Threads + Wait + Sync + AllocGlobal, S: Sink>(
     let compiled = compile_one(rt, alloc, &book, &groups, 1)?;
     compiled.write_to(out)?;
     Ok(())
+}
+
+// What the solution of a group's program wins.
+fn map<R: Threads + Wait + Sync + AllocGlobal, S: Sink>(
+    rt: &R,
+    text: &[u8],
+    k: usize,
+    out: &mut S,
+) -> Result<(), Refusal>
+    requires { 1 ≤ k }
+    ensures { OnErr result (IsQuietUnlessFailed (S.taken out.old) (S.taken out.new) (S.failures out.old) (S.failures out.new)) }
+{
+    let alloc: Global = rt.alloc();
+    let parts = split_parts(alloc, text)?;
+    count_parts(&parts, 1, Count::Exactly(1))?;
+    let [solution] = parts.solutions.as_slice() else {
+        return Err(Refusal::PartCount(CountedPart::Solutions));
+    };
+    let Auction { book, groups } = read_auction(rt, &parts)?;
+    if k > groups.count() {
+        return Err(Refusal::NoGroup { group: k });
+    }
+    let allocation = won_without(rt, &book, &groups, k, *solution)?;
+    write_allocation(&book, &allocation, out)?;
+    Ok(())
+}
+
+// What the solution of the program of group k wins.
+fn won_without<R: Threads + Wait + Sync + AllocGlobal>(
+    rt: &R,
+    book: &ClosedBook,
+    groups: &Groups,
+    k: usize,
+    solution: &[u8],
+) -> Result<Allocation, Refusal>
+    requires some { 1 ≤ k }
+    requires within { k ≤ length groups.now }
+    ensures { IfOk result (λ a. IsFeasible (lots_in book.now.rules) (book_of book.now) (λ b. false) a) }
+{
+    let alloc: Global = rt.alloc();
+    let compiled = compile_one(rt, alloc, book, groups, k)?;
+    allocation_won(
+        alloc,
+        book,
+        groups.group(k),
+        compiled.program(),
+        1,
+        solution,
+    )
 }

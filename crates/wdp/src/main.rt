@@ -1,9 +1,12 @@
 //! The winner determination compiler: the words and the standard streams, handed to `run`.
 #![tactic(auto)]
 
+pub mod auction;
 pub mod by_bidder;
 pub mod commands;
+pub mod compile_run;
 pub mod fault_names;
+pub mod group_texts;
 pub mod input;
 pub mod job;
 pub mod numbered_form;
@@ -15,7 +18,10 @@ pub mod refusal;
 pub mod request;
 pub mod round;
 pub mod run;
+pub mod run_fault;
+pub mod sizes;
 pub mod telling;
+pub mod winning;
 
 use mps_text::{Sink, StdSink};
 use run::run;

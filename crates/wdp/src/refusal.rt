@@ -3,9 +3,11 @@
 use crate::input::InputFault;
 use crate::parts::PartFault;
 use crate::round::RoundFault;
-use auction_terms::RulesFault;
+use auction_terms::{GroupFault, RulesFault};
 use bid_forms::FormFault;
+use mps_reader::MpsFault;
 use mps_text::WriteFault;
+use outcome::SolutionFault;
 use std::alloc::AllocError;
 
 /// The parts of which a command takes a certain number.
@@ -16,16 +18,41 @@ pub enum CountedPart {
     Solutions,
 }
 
-/// Why a run ends without its output, or with a front of it. Forms count from 1.
-#[derive(Clone, Copy, Debug, PartialEq, Eq)]
+/// Why a run ends without its output, or with a front of it. Forms, groups and solutions count from 1.
+#[derive(Drop)]
 pub enum Refusal {
     Input(InputFault),
     Parts(PartFault),
     /// Parts are missing, or there are too many.
     PartCount(CountedPart),
     Rules(RulesFault),
-    Form { form: usize, fault: FormFault },
+    Form {
+        form: usize,
+        fault: FormFault,
+    },
+    Groups(GroupFault),
     Round(RoundFault),
+    /// There is no group of that number.
+    NoGroup {
+        group: usize,
+    },
+    /// The first group of a report is to be empty.
+    FirstGroupNotEmpty,
+    Program(MpsFault),
+    Solution {
+        solution: usize,
+        fault: SolutionFault,
+    },
+    /// A solution that breaks the bounds of the column of that name.
+    BoundBroken {
+        solution: usize,
+        column: Vec<u8>,
+    },
+    /// A solution that doesn't meet the row of that name.
+    RowBroken {
+        solution: usize,
+        row: Vec<u8>,
+    },
     Write(WriteFault),
     OutOfMemory,
 }
@@ -51,6 +78,18 @@ impl From<PartFault> for Refusal {
 impl From<RulesFault> for Refusal {
     fn from(fault: RulesFault) -> Refusal {
         Refusal::Rules(fault)
+    }
+}
+
+impl From<GroupFault> for Refusal {
+    fn from(fault: GroupFault) -> Refusal {
+        Refusal::Groups(fault)
+    }
+}
+
+impl From<MpsFault> for Refusal {
+    fn from(fault: MpsFault) -> Refusal {
+        Refusal::Program(fault)
     }
 }
 

@@ -1,6 +1,7 @@
 //! What the words ask for.
 
-ghost use Rattle.std.specs.Prelude.{◌≤◌};
+ghost use Rattle.std.specs.Prelude.{◌≤◌, IfOk};
+ghost use Rattle.wdp.specs.Requests.{IsWithinLimits};
 
 use clap::{Arg, ArgMatches, Command, Error, value_parser};
 use std::alloc::{AllocError, Global};
@@ -10,24 +11,82 @@ use std::alloc::{AllocError, Global};
 pub enum Request {
     /// The program of the empty group.
     Text,
+    /// The sizes of an MPS text.
+    Check,
+    /// The programs of all groups, by so many workers.
+    Compile { workers: usize },
+    /// What a solution wins without a group, which counts from 1.
+    Map { group: usize },
+}
+
+fn group_option<'a>(alloc: Global) -> Arg<'a> {
+    Arg::new(alloc, "group")
+        .long("group")
+        .value_name("K")
+        .help("The group that is left out, counted from 1")
+        .required(true)
+        .value_parser(value_parser!(u64).range(1..=1024))
+}
+
+fn workers_option<'a>(alloc: Global) -> Arg<'a> {
+    Arg::new(alloc, "workers")
+        .long("workers")
+        .value_name("N")
+        .help("How many workers compile")
+        .value_parser(value_parser!(u64).range(1..=64))
+        .default_value("1")
 }
 
 fn command<'a>(alloc: Global) -> Result<Command<'a>, AllocError> {
+    let text = Command::new(alloc, "text").about(
+        "Prints the program of the empty group, as no command does too",
+    );
+    let compile = Command::new(alloc, "compile")
+        .about("Prints the programs of all groups")
+        .arg(workers_option(alloc))?;
+    let check = Command::new(alloc, "check").about("Prints the sizes of an MPS text");
+    let map = Command::new(alloc, "map")
+        .about("Prints what a solution wins")
+        .arg(group_option(alloc))?;
     Command::new(alloc, "wdp")
         .about("Compiles the winner determination of a combinatorial clock auction")
-        .subcommand(Command::new(alloc, "text").about(
-            "Prints the program of the empty group; no command does so too",
-        ))
+        .subcommand(text)?
+        .subcommand(compile)?
+        .subcommand(check)?
+        .subcommand(map)
 }
 
-fn read(matches: &ArgMatches<'_>) -> Request {
+// A number of an option, which the parser has tested to be within the limits.
+fn number_of(matches: &ArgMatches<'_>, id: &str, most: usize) -> usize
+    requires { 1 ≤ most }
+    ensures least { 1 ≤ result }
+    ensures most { result ≤ most }
+{
+    match matches.get_one::<usize>(id) {
+        Some(number) if 1 <= number && number <= most => number,
+        _ => 1,
+    }
+}
+
+fn read(matches: &ArgMatches<'_>) -> Request
+    ensures { IsWithinLimits result }
+{
     match matches.subcommand() {
+        Some(("compile", found)) => Request::Compile {
+            workers: number_of(found, "workers", 64),
+        },
+        Some(("check", _)) => Request::Check,
+        Some(("map", found)) => Request::Map {
+            group: number_of(found, "group", 1024),
+        },
         _ => Request::Text,
     }
 }
 
 /// The request of the words, the program's own name first.
-pub fn request_of<'a>(alloc: Global, words: &'a [&'a str]) -> Result<Request, Error> {
+pub fn request_of<'a>(alloc: Global, words: &'a [&'a str]) -> Result<Request, Error>
+    ensures { IfOk result IsWithinLimits }
+{
     let matches = command(alloc)?.try_get_matches_from(words)?;
     Ok(read(&matches))
 }

@@ -1,6 +1,9 @@
 //! The line that tells why a run ended.
 
-use crate::fault_names::{FaultName, form_fault_name, rules_fault_name};
+use crate::fault_names::{
+    FaultName, form_fault_name, groups_fault_name, program_fault_name, rules_fault_name,
+    solution_fault_name,
+};
 use crate::input::InputFault;
 use crate::parts::PartFault;
 use crate::pieces::write_pieces;
@@ -8,25 +11,40 @@ use crate::refusal::{CountedPart, Refusal};
 use crate::round::RoundFault;
 use bid_forms::FormFault;
 use itoa::Buffer;
+use mps_reader::MpsFault;
 use mps_text::{Sink, WriteFault};
+use outcome::SolutionFault;
+use program_rows::FaultKind;
 
 /// Puts the line of a refusal. What a sink of such lines doesn't take changes nothing.
 pub fn tell<F: Sink>(refusal: &Refusal, faults: &mut F) {
-    let _ = match *refusal {
-        Refusal::Input(fault) => tell_input(fault, faults),
-        Refusal::Parts(fault) => tell_parts(fault, faults),
-        Refusal::PartCount(part) => tell_count(part, faults),
-        Refusal::Rules(fault) => tell_fault(
-            b"rules",
-            b"",
-            rules_fault_name(fault),
-            b"record ",
+    let _ = match refusal {
+        Refusal::Input(fault) => tell_input(*fault, faults),
+        Refusal::Parts(fault) => tell_parts(*fault, faults),
+        Refusal::PartCount(part) => tell_count(*part, faults),
+        Refusal::Rules(fault) => {
+            tell_fault(b"rules", b"", rules_fault_name(*fault), b"record ", faults)
+        }
+        Refusal::Form { form, fault } => tell_form(*form, *fault, faults),
+        Refusal::Groups(fault) => {
+            tell_fault(b"groups", b"", groups_fault_name(*fault), b"line ", faults)
+        }
+        Refusal::Round(fault) => tell_round(*fault, faults),
+        Refusal::NoGroup { group } => tell_number(b"groups: no group ", *group as u64, b"", faults),
+        Refusal::FirstGroupNotEmpty => tell_text(b"groups: group 1 is not empty", faults),
+        Refusal::Program(fault) => tell_program(*fault, faults),
+        Refusal::Solution { solution, fault } => tell_solution(*solution, *fault, faults),
+        Refusal::BoundBroken { solution, column } => tell_broken(
+            *solution,
+            b": 7 BoundBroken at column ",
+            column.as_slice(),
             faults,
         ),
-        Refusal::Form { form, fault } => tell_form(form, fault, faults),
-        Refusal::Round(fault) => tell_round(fault, faults),
+        Refusal::RowBroken { solution, row } => {
+            tell_broken(*solution, b": 8 RowBroken at row ", row.as_slice(), faults)
+        }
         Refusal::Write(WriteFault::Sink { written }) => {
-            tell_number(b"write failed after ", written, b" bytes", faults)
+            tell_number(b"write failed after ", *written, b" bytes", faults)
         }
         Refusal::OutOfMemory => tell_text(b"out of memory", faults),
     };
@@ -136,6 +154,59 @@ fn tell_repeated<F: Sink>(
         place_digits.format(place).as_bytes(),
         b", earlier bid ",
         earlier_digits.format(earlier).as_bytes(),
+        b"\n",
+    ];
+    write_pieces(&pieces, faults)
+}
+
+fn tell_program<F: Sink>(fault: MpsFault, faults: &mut F) -> Result<(), WriteFault> {
+    match fault.kind {
+        FaultKind::NotBinary { column } => tell_not_binary(fault.line, column, faults),
+        _ => tell_fault(b"program", b"", program_fault_name(fault), b"line ", faults),
+    }
+}
+
+fn tell_not_binary<F: Sink>(line: usize, column: usize, faults: &mut F) -> Result<(), WriteFault> {
+    let mut line_digits = Buffer::new();
+    let mut column_digits = Buffer::new();
+    let pieces: [&[u8]; 5] = [
+        b"wdp: program: 22 NotBinary at line ",
+        line_digits.format(line as u64).as_bytes(),
+        b", column ",
+        column_digits.format(column as u64).as_bytes(),
+        b"\n",
+    ];
+    write_pieces(&pieces, faults)
+}
+
+fn tell_solution<F: Sink>(
+    solution: usize,
+    fault: SolutionFault,
+    faults: &mut F,
+) -> Result<(), WriteFault> {
+    let mut digits = Buffer::new();
+    let solution = digits.format(solution as u64).as_bytes();
+    tell_fault(
+        b"solution ",
+        solution,
+        solution_fault_name(fault),
+        b"line ",
+        faults,
+    )
+}
+
+fn tell_broken<'n, F: Sink>(
+    solution: usize,
+    what: &'n [u8],
+    name: &'n [u8],
+    faults: &mut F,
+) -> Result<(), WriteFault> {
+    let mut digits = Buffer::new();
+    let pieces: [&[u8]; 5] = [
+        b"wdp: solution ",
+        digits.format(solution as u64).as_bytes(),
+        what,
+        name,
         b"\n",
     ];
     write_pieces(&pieces, faults)

@@ -1,0 +1,36 @@
+//! The auction that an input tells.
+
+ghost use Rattle.std.specs.Prelude.{◌≡◌, IfOk, All};
+ghost use Rattle.bid_forms.specs.Offers.{Meets};
+
+use crate::parts::Parts;
+use crate::reading::read_terms;
+use crate::refusal::{CountedPart, Refusal};
+use crate::round::close_round;
+use auction_terms::{Groups, read_groups};
+use bid_desk::ClosedBook;
+use std::alloc::Global;
+use std::sync::Wait;
+use std::thread::Threads;
+
+/// A settled auction, and the groups that are left out of it.
+#[derive(Drop)]
+pub struct Auction {
+    pub book: ClosedBook,
+    pub groups: Groups,
+}
+
+/// Reads the rules, the forms and the groups, and runs the round.
+pub fn read_auction<R: Threads + Wait + Sync + AllocGlobal>(
+    rt: &R,
+    parts: &Parts<'_>,
+) -> Result<Auction, Refusal> {
+    let alloc: Global = rt.alloc();
+    let (rules, forms) = read_terms(alloc, parts)?;
+    let [text] = parts.groups.as_slice() else {
+        return Err(Refusal::PartCount(CountedPart::Groups));
+    };
+    let groups = read_groups(alloc, *text, &rules)?;
+    let book = close_round(rt, rules, forms)?;
+    Ok(Auction { book, groups })
+}
