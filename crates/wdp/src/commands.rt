@@ -1,6 +1,6 @@
 //! The commands.
 
-ghost use Rattle.std.specs.Prelude.{◌≡◌, ◌≤◌, IfOk, OnErr, false, length};
+ghost use Rattle.std.specs.Prelude.{◌≡◌, ◌≤◌, IfOk, OnErr, false, length, vec_len};
 ghost use Rattle.auction_terms.specs.Allocations.{IsFeasible};
 ghost use Rattle.auction_terms.specs.Terms.{lots_in};
 ghost use Rattle.bid_desk.specs.Closing.{book_of};
@@ -13,6 +13,7 @@ use crate::input::read_input;
 use crate::parts::split_parts;
 use crate::reading::{Count, count_parts, read_terms};
 use crate::refusal::{CountedPart, Refusal};
+use crate::report_run::allocations_won;
 use crate::request::Request;
 use crate::round::close_round;
 use crate::run_fault::RunFault;
@@ -20,10 +21,10 @@ use crate::sizes::write_sizes;
 use crate::winning::allocation_won;
 use auction_terms::Groups;
 use bid_desk::ClosedBook;
-use group_compiler::{OpenGate, compile_one};
+use group_compiler::{OpenGate, compile_all, compile_one};
 use mps_reader::read_program;
 use mps_text::{Sink, WriteFault};
-use outcome::{Allocation, write_allocation};
+use outcome::{Allocation, report, write_allocation};
 use std::alloc::Global;
 use std::io::Read;
 use std::sync::Wait;
@@ -45,6 +46,7 @@ pub fn answer<R: Threads + Wait + Sync + AllocGlobal, I: Read, S: Sink>(
         Request::Compile { workers } => compile(rt, text.as_slice(), workers, out),
         Request::Check => check(rt.alloc(), text.as_slice(), out),
         Request::Map { group } => map(rt, text.as_slice(), group, out),
+        Request::Report { workers } => write_report(rt, text.as_slice(), workers, out),
     }
 }
 
@@ -147,4 +149,49 @@ fn won_without<R: Threads + Wait + Sync + AllocGlobal>(
         1,
         solution,
     )
+}
+
+// What the solutions of all groups win, and the groups' opportunity costs.
+fn write_report<R: Threads + Wait + Sync + AllocGlobal, S: Sink>(
+    rt: &R,
+    text: &[u8],
+    workers: usize,
+    out: &mut S,
+) -> Result<(), Refusal>
+    requires some { 1 ≤ workers }
+    requires few { workers ≤ 64 }
+    ensures { OnErr result (IsQuietUnlessFailed (S.taken out.old) (S.taken out.new) (S.failures out.old) (S.failures out.new)) }
+{
+    let alloc: Global = rt.alloc();
+    let parts = split_parts(alloc, text)?;
+    count_parts(&parts, 1, Count::PerGroup)?;
+    let Auction { book, groups } = read_auction(rt, &parts)?;
+    if !groups.starts_empty() {
+        return Err(Refusal::FirstGroupNotEmpty);
+    }
+    if parts.solutions.len() != groups.count() {
+        return Err(Refusal::PartCount(CountedPart::Solutions));
+    }
+    let solutions = parts.solutions.as_slice();
+    let allocations = won_by_all(rt, &book, &groups, workers, solutions)?;
+    report(&book, &groups, allocations.as_slice(), out)?;
+    Ok(())
+}
+
+// What the solution of each group's program wins, in order.
+fn won_by_all<R: Threads + Wait + Sync + AllocGlobal>(
+    rt: &R,
+    book: &ClosedBook,
+    groups: &Groups,
+    workers: usize,
+    solutions: &[&[u8]],
+) -> Result<Vec<Allocation>, Refusal>
+    requires some { 1 ≤ workers }
+    requires few { workers ≤ 64 }
+    requires count { length solutions.now ≡ length groups.now }
+    ensures { IfOk result (λ all. vec_len all ≡ length groups.now) }
+{
+    let alloc: Global = rt.alloc();
+    let programs = compile_all(rt, alloc, book, groups, workers, &OpenGate)?;
+    allocations_won(alloc, book, programs.as_slice(), solutions)
 }

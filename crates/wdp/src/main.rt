@@ -15,6 +15,7 @@ pub mod parts;
 pub mod pieces;
 pub mod reading;
 pub mod refusal;
+pub mod report_run;
 pub mod request;
 pub mod round;
 pub mod run;

@@ -17,6 +17,8 @@ pub enum Request {
     Compile { workers: usize },
     /// What a solution wins without a group, which counts from 1.
     Map { group: usize },
+    /// What the solutions of all groups win, and the groups' opportunity costs, by so many workers.
+    Report { workers: usize },
 }
 
 fn group_option<'a>(alloc: Global) -> Arg<'a> {
@@ -48,12 +50,16 @@ fn command<'a>(alloc: Global) -> Result<Command<'a>, AllocError> {
     let map = Command::new(alloc, "map")
         .about("Prints what a solution wins")
         .arg(group_option(alloc))?;
+    let report = Command::new(alloc, "report")
+        .about("Prints what the solutions of all groups win, and the groups' opportunity costs")
+        .arg(workers_option(alloc))?;
     Command::new(alloc, "wdp")
         .about("Compiles the winner determination of a combinatorial clock auction")
         .subcommand(text)?
         .subcommand(compile)?
         .subcommand(check)?
-        .subcommand(map)
+        .subcommand(map)?
+        .subcommand(report)
 }
 
 // A number of an option, which the parser has tested to be within the limits.
@@ -78,6 +84,9 @@ fn read(matches: &ArgMatches<'_>) -> Request
         Some(("check", _)) => Request::Check,
         Some(("map", found)) => Request::Map {
             group: number_of(found, "group", 1024),
+        },
+        Some(("report", found)) => Request::Report {
+            workers: number_of(found, "workers", 64),
         },
         _ => Request::Text,
     }

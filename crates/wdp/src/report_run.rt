@@ -1,0 +1,51 @@
+//! What the solutions of all groups win, and what each group's opportunity cost is.
+
+ghost use Rattle.std.specs.Prelude.{◌≡◌, ◌+◌, All, IfOk, OnOk, length, vec_len};
+ghost use Rattle.group_compiler.specs.Compiled.{compiled};
+
+use crate::refusal::Refusal;
+use crate::winning::allocation_won;
+use bid_desk::ClosedBook;
+use group_compiler::Compiled;
+use outcome::Allocation;
+use std::alloc::{AllocError, Global};
+
+/// The allocation that each group's solution wins, in order. Each program is that of its group.
+pub fn allocations_won(
+    alloc: Global,
+    book: &ClosedBook,
+    programs: &[Compiled<'_>],
+    solutions: &[&[u8]],
+) -> Result<Vec<Allocation>, Refusal>
+    requires programs { All (λ c. c ≡ compiled book.now c.group) programs.now }
+    requires count { length solutions.now ≡ length programs.now }
+    ensures { IfOk result (λ all. vec_len all ≡ length programs.now) }
+{
+    let mut all = Vec::new(alloc);
+    for place in 0..programs.len() {
+        let allocation = won_by(alloc, book, &programs[place], place + 1, solutions[place])?;
+        add(&mut all, allocation)?;
+    }
+    Ok(all)
+}
+
+fn add(all: &mut Vec<Allocation>, allocation: Allocation) -> Result<(), AllocError>
+    ensures { OnOk result (vec_len all.new ≡ vec_len all.old + 1) }
+{
+    all.push(allocation)?;
+    Ok(())
+}
+
+// The allocation that a solution of a group's program wins.
+fn won_by(
+    alloc: Global,
+    book: &ClosedBook,
+    made: &Compiled<'_>,
+    solution: usize,
+    text: &[u8],
+) -> Result<Allocation, Refusal>
+    requires { made.now ≡ compiled book.now made.now.group }
+{
+    let _rules = book.rules();
+    allocation_won(alloc, book, made.group(), made.program(), solution, text)
+}
