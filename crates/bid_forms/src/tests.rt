@@ -132,7 +132,8 @@ fn same_bid_in_other_digits(rt: HostRuntime) -> Result<(), Fail> {
 fn form_text(alloc: Global, count: u32) -> Result<String, Fail> {
     let mut text = String::new(alloc);
     text.push_str("Alpha,A,B")?;
-    for lots in 1..count + 1 {
+    for bid in 0..count {
+        let lots = bid + 1;
         write!(text, "\n4001,{lots},0")?;
     }
     Ok(text)
