@@ -1,16 +1,17 @@
 -- Laws of the flags: comparing a bid with the fitting bids of smaller size is comparing it with all.
-use Rattle.std.proofs.Common.{◌≡◌, ◌+◌, ◌<◌, ◌≤◌, ◌&&◌, ◌||◌, ⊎_elim, ℕ, zero, suc, Bool, true, false, not, nat_lt, List, [], ◌∷◌, length, map, drop, slice_index_or, get_or, arith, refl, sym, ap, ap₂, ◌∙◌, subst, lt-ltb, le-ltb}
+use Rattle.std.proofs.Common.{◌≡◌, ◌+◌, ◌<◌, ◌≤◌, ◌&&◌, ◌||◌, ⊎_elim, ℕ, zero, suc, Bool, true, false, not, nat_lt, List, [], ◌∷◌, length, map, drop, slice_index_or, get_or, arith, refl, sym, ap, ap₂, ◌∙◌, subst, lt-ltb, le-ltb, slice_index}
 use Rattle.std.specs.Prelude.{All, AllPairs}
 use Rattle.std.specs.List.{AllByRecursion, list_any, AllZip}
-use Rattle.std.proofs.lemmas.Bool.{and_parts, cases_Bool, both_ways, cond-true, cond-false, cond_both}
+use Rattle.std.proofs.lemmas.Bool.{and_parts, cases_Bool, both_ways, cond-true, cond-false, cond_both, and_left, and_right, lt-leb, false_from_ne_true}
+use Rattle.std.proofs.lemmas.List.{at_drop_more}
 use Rattle.std.proofs.lemmas.List.Elements.{recursion_from_All, All-from_recursion}
 use Rattle.std.proofs.lemmas.List.Sorted.{All-permutation, list_any-IsPermutation}
 use Rattle.auction_terms.specs.declared.bids.Bid.{Bid}
 use Rattle.auction_terms.specs.Packages.{Lots, is_within, is_smaller, fits, size}
 use Rattle.auction_terms.specs.Domination.{is_no_cheaper, dominates, is_kept}
-use Rattle.auction_terms.proofs.PackageLaws.{within_trans, size_le, size_lt}
+use Rattle.auction_terms.proofs.PackageLaws.{within_at, within_trans, size_le, size_lt}
 use Rattle.presolve.specs.declared.order.SizedBid.{SizedBid}
-use Rattle.presolve.specs.Sizes.{IsUpTo, Sized, sized_of, fitting_from, IsOrdered, AreRivals, beats, is_unbeaten}
+use Rattle.presolve.specs.Sizes.{IsUpTo, Sized, sized_of, fitting_from, IsOrdered, AreRivals, TellsItsBid, beats, is_unbeaten}
 
 -- behind a bid that isn't smaller there is none that is smaller
 none_below : (n : ℕ) (r : SizedBid) (rivals : List SizedBid) → n ≤ r.size → ((k : ℕ) (d : SizedBid) → k < length rivals → r.size ≤ (slice_index_or rivals k d).size) → AllByRecursion (λ (s : SizedBid). n ≤ s.size) rivals
@@ -32,6 +33,26 @@ none_beats lots x (s ∷ rivals) a =
 -- the search may end at the first bid that isn't smaller
 pub none_left : (lots : Lots) (x : Bid) (rivals : List SizedBid) (i : ℕ) (r : SizedBid) → i < length rivals → r ≡ get_or rivals i r → size x.package ≤ r.size → AllPairs (λ (s t : SizedBid). s.size ≤ t.size) rivals → list_any (beats lots x) (drop i rivals) ≡ false
 none_left lots x rivals i r l e low h = none_beats lots x (drop i rivals) (none_later (size x.package) rivals i r l e low h)
+
+-- a bid that is worth more isn't beaten, nor is one that has less at the rival's peak
+pub none_above : (lots : Lots) (x : Bid) (s : SizedBid) → TellsItsBid s → s.amount < x.amount → beats lots x s ≡ false
+none_above lots x s told more =
+    let a = told.amount in
+    and_right (nat_lt s.size (size x.package)) _ (and_left (is_no_cheaper lots s.bid.now x) (is_within s.bid.now.package x.package) (lt-leb x.amount s.bid.now.amount (omega arith)))
+
+pub none_over_peak : (lots : Lots) (x : Bid) (s : SizedBid) → TellsItsBid s → slice_index x.package s.place < s.most → beats lots x s ≡ false
+none_over_peak lots x s told less =
+    and_right (nat_lt s.size (size x.package)) _ (and_right (is_no_cheaper lots s.bid.now x) (is_within s.bid.now.package x.package)
+    (false_from_ne_true (is_within s.bid.now.package x.package) (λ w. let most = told.most in let within = within_at s.bid.now.package x.package s.place w in absurd (omega arith))))
+
+-- nor is one that doesn't cover the rival
+pub none_uncovered : (lots : Lots) (x : Bid) (s : SizedBid) → is_within s.bid.now.package x.package ≡ false → beats lots x s ≡ false
+none_uncovered lots x s apart = and_right (nat_lt s.size (size x.package)) _ (and_right (is_no_cheaper lots s.bid.now x) (is_within s.bid.now.package x.package) apart)
+
+-- a rival that doesn't beat the bid may be passed over
+pub passed_over : (lots : Lots) (x : Bid) (rivals : List SizedBid) (i : ℕ) (r : SizedBid) → i < length rivals → r ≡ get_or rivals i r → beats lots x r ≡ false → list_any (beats lots x) (drop (i + 1) rivals) ≡ list_any (beats lots x) (drop i rivals)
+passed_over lots x rivals i r l e b =
+    sym (at_drop_more (list_any (beats lots x)) rivals i r l ∙ ap (λ (t : Bool). t || list_any (beats lots x) (drop (i + 1) rivals)) (ap (beats lots x) (sym e) ∙ b))
 
 abbrev beats_sized : Lots → Bid → Sized → Bool
 beats_sized lots x s = nat_lt s.size (size x.package) && (is_no_cheaper lots s.bid x && is_within s.bid.package x.package)
@@ -115,6 +136,7 @@ are_rivals lots n form rivals a o = record {
       (All-from_recursion (λ (s : SizedBid). length s.bid.now.package ≡ n) o.fitting (of_map n o.fitting
       (subst (λ (rs : List Sized). AllByRecursion (λ (s : Sized). length s.bid.package ≡ n) rs) (sym o.same) (fitting_sized lots n 1 form (recursion_from_All (λ (x : Bid). length x.package ≡ n) form a)))));
   rising = λ i j d before within. no_larger (o.rising i j d before within);
+  told = o.told;
 }
   where
     no_larger : {a m b n : ℕ} → IsUpTo a m b n → a ≤ b

@@ -1,3 +1,4 @@
 pub mod SizeLaws
 pub mod FlagLaws
+pub mod ShelfLaws
 pub mod KeepLaws

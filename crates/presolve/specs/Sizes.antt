@@ -1,5 +1,5 @@
 -- The bids of one form by the sizes of their packages.
-use Rattle.std.specs.Prelude.{◌≡◌, ◌⊎◌, ◌<◌, ◌≤◌, ◌+◌, ◌==◌, ◌&&◌, ℕ, Bool, false, not, nat_lt, if◌then◌else◌, List, [], ◌∷◌, length, map, count_by, All, AllPairs, IsPermutation}
+use Rattle.std.specs.Prelude.{◌≡◌, ◌⊎◌, ◌<◌, ◌≤◌, ◌+◌, ◌==◌, ◌&&◌, ℕ, Bool, false, not, nat_lt, if◌then◌else◌, List, [], ◌∷◌, length, map, count_by, slice_index, All, AllPairs, IsPermutation}
 use Rattle.std.specs.Option.{option_map_or}
 use Rattle.auction_terms.specs.declared.bids.Bid.{Bid}
 use Rattle.std.specs.List.{list_any}
@@ -42,17 +42,25 @@ fitting_from lots j (x ∷ form) =
     then record { size = size x.package; number = j; bid = x } ∷ fitting_from lots (j + 1) form
     else fitting_from lots (j + 1) form
 
+-- it tells the amount of its bid, and its peak: a place of its package, with the quantity there
+pub record TellsItsBid (s : SizedBid) : Type 0 where
+  pub amount : s.amount ≡ s.bid.now.amount
+  pub place : s.place < length s.bid.now.package
+  pub most : s.most ≡ slice_index s.bid.now.package s.place
+
 -- the bids that fit, by rising size, ties by number
 pub record IsOrdered (lots : Lots) (form : List Bid) (bids : List SizedBid) : Type 0 where
   pub fitting : List SizedBid
   pub same : map sized_of fitting ≡ fitting_from lots 1 form
   pub moved : IsPermutation fitting bids
   pub rising : AllPairs (λ s t. IsUpTo s.size s.number t.size t.number) bids
+  pub told : All TellsItsBid bids
 
 -- bids with a quantity for each of n categories, by rising size
 pub record AreRivals (n : ℕ) (rivals : List SizedBid) : Type 0 where
   pub sized : All (λ s. length s.bid.now.package ≡ n) rivals
   pub rising : AllPairs (λ s t. s.size ≤ t.size) rivals
+  pub told : All TellsItsBid rivals
 
 -- of smaller size than the bid, not worth less, and at most its package in every category
 abbrev pub beats : Lots → Bid → SizedBid → Bool

@@ -5,26 +5,48 @@ ghost use Rattle.std.specs.List.{list_any};
 ghost use Rattle.auction_terms.specs.Domination.{is_kept};
 ghost use Rattle.auction_terms.specs.Packages.{Lots, fits};
 ghost use Rattle.auction_terms.specs.Terms.{lots_in};
-ghost use Rattle.presolve.specs.Sizes.{AreRivals, beats, is_unbeaten};
+ghost use Rattle.presolve.specs.Shelves.{AreStocked, is_beaten_on, is_unbeaten_on};
+ghost use Rattle.presolve.specs.Sizes.{AreRivals, beats};
 
 use crate::order::{SizedBid, ordered};
+use crate::shelves::{Shelf, shelves};
 use auction_terms::{Bid, Rules};
 use rayon::prelude::*;
 use std::alloc::{AllocError, Global};
 use std::thread::Threads;
 
 // Whether one of the bids that fit dominates this one. They stand by rising size, so the first that isn't smaller ends
-// the search; amounts are compared before packages.
+// the search; amounts and peaks, which need no look at the rival's package, are compared before packages.
 fn is_beaten(rivals: &[SizedBid<'_>], bid: &Bid) -> bool
     requires { AreRivals (length bid.now.package) rivals.now }
     ensures { (lots : Lots) → result ≡ list_any (beats lots bid.now) rivals.now }
 {
     let size = bid.package.size();
+    let quantities = bid.package.quantities();
     for rival in rivals {
         if rival.size >= size {
             return false;
         }
-        if bid.amount <= rival.bid.amount && bid.package.covers(&rival.bid.package) {
+        if bid.amount <= rival.amount
+            && rival.most <= quantities[usize::from(rival.place)]
+            && bid.package.covers(&rival.bid.package)
+        {
+            return true;
+        }
+    }
+    false
+}
+
+// Whether one of the bids on the shelves dominates this one. A shelf is passed over where the bid has less of its
+// category than any bid on it.
+fn is_beaten_on(shelves: &[Shelf<'_>], bid: &Bid) -> bool
+    requires { AreStocked (length bid.now.package) shelves.now }
+    ensures { (lots : Lots) → result ≡ is_beaten_on lots shelves.now bid.now }
+{
+    let quantities = bid.package.quantities();
+    for place in 0..shelves.len() {
+        let shelf = &shelves[place];
+        if shelf.least <= quantities[place] && is_beaten(&shelf.bids, bid) {
             return true;
         }
     }
@@ -32,12 +54,12 @@ fn is_beaten(rivals: &[SizedBid<'_>], bid: &Bid) -> bool
 }
 
 // Whether the bid fits, and none of the bids that fit dominates it.
-fn is_unbeaten(rules: &Rules, rivals: &[SizedBid<'_>], bid: &Bid) -> bool
-    requires rivals { AreRivals (length rules.now.categories) rivals.now }
+fn is_unbeaten(rules: &Rules, shelves: &[Shelf<'_>], bid: &Bid) -> bool
+    requires shelves { AreStocked (length rules.now.categories) shelves.now }
     requires sized { length bid.now.package ≡ length rules.now.categories }
-    ensures { result ≡ is_unbeaten (lots_in rules.now) rivals.now bid.now }
+    ensures { result ≡ is_unbeaten_on (lots_in rules.now) shelves.now bid.now }
 {
-    bid.package.fits(rules) && !is_beaten(rivals, bid)
+    bid.package.fits(rules) && !is_beaten_on(shelves, bid)
 }
 
 // Whether each bid of a form is kept, in the form's order.
@@ -52,13 +74,14 @@ pub(crate) fn flags_of_form(
     ensures { IfOk result (λ flags. flags.items ≡ map (is_kept (lots_in rules.now) bids.now) bids.now) }
 {
     let rivals = ordered(alloc, rules, bids)?;
-    let rivals = rivals.as_slice();
+    let shelves = shelves(alloc, &rivals, rules.categories().len())?;
+    let shelves = shelves.as_slice();
     bids.par_iter()
         .map(
             |bid: &Bid| -> bool
-                requires { AreRivals (length rules.now.categories) rivals.now × (length bid.now.package ≡ length rules.now.categories) }
-                ensures { result ≡ is_unbeaten (lots_in rules.entry.now) rivals.entry.now bid.now }
-            { is_unbeaten(rules, rivals, bid) },
+                requires { AreStocked (length rules.now.categories) shelves.now × (length bid.now.package ≡ length rules.now.categories) }
+                ensures { result ≡ is_unbeaten_on (lots_in rules.entry.now) shelves.entry.now bid.now }
+            { is_unbeaten(rules, shelves, bid) },
         )
         .collect(rt, alloc)
 }

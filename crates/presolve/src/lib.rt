@@ -5,6 +5,7 @@ mod flags;
 mod form_flags;
 mod keeping;
 mod order;
+mod shelves;
 
 pub use flags::Flags;
 pub use keeping::kept;

@@ -1,19 +1,56 @@
 //! The bids of a form in the order of their sizes.
 
-ghost use Rattle.std.specs.Prelude.{◌≡◌, ◌≤◌, All, length, map, IfOk};
+ghost use Rattle.std.specs.Prelude.{◌≡◌, ◌≤◌, ◌<◌, nat_lt, All, length, map, IfOk};
+ghost use Rattle.std.specs.List.{IsFirstBest};
+ghost use Rattle.auction_terms.specs.Packages.{size};
 ghost use Rattle.auction_terms.specs.Terms.{lots_in};
-ghost use Rattle.presolve.specs.Sizes.{fitting_from, sized_of, IsBySize, IsOrdered};
+ghost use Rattle.presolve.specs.Sizes.{fitting_from, sized_of, IsBySize, IsOrdered, TellsItsBid};
 
 use auction_terms::{Bid, Rules};
 use bid_forms::Form;
 use std::alloc::{AllocError, Global};
 
-/// A bid that fits, with the size of its package and its number in its form.
+/// A bid that fits, with the size of its package and its number in its form. Its amount and its peak (a place of its
+/// package, with the quantity there) stand here too, so that most comparisons need no look at the bid itself.
 #[derive(Clone, Copy)]
 pub(crate) struct SizedBid<'b> {
-    pub(crate) size: u32,
-    pub(crate) number: u16,
+    pub(crate) amount: u64,
     pub(crate) bid: &'b Bid,
+    pub(crate) size: u32,
+    pub(crate) most: u32,
+    pub(crate) place: u16,
+    pub(crate) number: u16,
+}
+
+// The first place of the greatest quantity.
+fn peak(quantities: &[u32]) -> usize
+    requires { 0 < length quantities.now }
+    ensures { IsFirstBest (λ x y. nat_lt y x) quantities.now (length quantities.now) result }
+{
+    let mut peak = 0;
+    for place in 1..quantities.len() {
+        if quantities[place] > quantities[peak] {
+            peak = place;
+        }
+    }
+    peak
+}
+
+// A bid with its size, its number and its peak.
+fn sized(bid: &Bid, number: u16) -> SizedBid<'_>
+    ensures same { sized_of result ≡ record { size = size bid.now.package; number = number; bid = bid.now } }
+    ensures told { TellsItsBid result }
+{
+    let quantities = bid.package.quantities();
+    let place = peak(quantities);
+    SizedBid {
+        amount: bid.amount,
+        bid,
+        size: bid.package.size(),
+        most: quantities[place],
+        place: place as u16,
+        number,
+    }
 }
 
 // The bids that fit, with their sizes, by number.
@@ -24,14 +61,13 @@ fn fitting<'b>(
 ) -> Result<Vec<SizedBid<'b>>, AllocError>
     requires few { length bids.now ≤ 4000 }
     requires sized { All (λ bid. length bid.package ≡ length rules.now.categories) bids.now }
-    ensures { IfOk result (λ fitting. map sized_of fitting.items ≡ fitting_from (lots_in rules.now) 1 bids.now) }
+    ensures same { IfOk result (λ fitting. map sized_of fitting.items ≡ fitting_from (lots_in rules.now) 1 bids.now) }
+    ensures told { IfOk result (λ fitting. All TellsItsBid fitting.items) }
 {
     let mut fitting = Vec::new(alloc);
     for (place, bid) in bids.iter().enumerate() {
         if bid.package.fits(rules) {
-            let number = place as u16 + 1;
-            let size = bid.package.size();
-            fitting.push(SizedBid { size, number, bid })?;
+            fitting.push(sized(bid, place as u16 + 1))?;
         }
     }
     Ok(fitting)

@@ -18,6 +18,9 @@ const RULES: &[u8] =
 const WIDE_RULES: &[u8] =
     b"rules,1,1,,\ncategory,A,10000,0,0\ncategory,B,10000,0,0\nbidder,Alpha,0,1,\n";
 
+const FIVE_RULES: &[u8] =
+    b"rules,1,1,,\ncategory,A,3,0,0\ncategory,B,3,0,0\ncategory,C,2,0,0\ncategory,D,3,0,0\ncategory,E,3,0,0\nbidder,Alpha,0,1,\n";
+
 const ALPHA: &[u8] = b"Alpha,A,B\n30,1,0\n50,2,1\n28,1,1\n";
 
 const BETA: &[u8] = b"Beta,A,B\n20,1,0\n45,3,0\n";
@@ -53,6 +56,23 @@ fn form_of_many(alloc: Global, rules: &Rules, many: Many, count: u32) -> Result<
     for j in 1..count.saturating_add(1) {
         let (amount, other) = many.bid(j);
         write!(text, "{amount},{j},{other}\n")?;
+    }
+    Ok(read_form(alloc, text.as_bytes(), rules)?)
+}
+
+// Every package of at most three lots of each of five categories, but the empty one, at amounts that follow no size.
+fn form_of_all_packages(alloc: Global, rules: &Rules) -> Result<Form, Fail>
+    ensures { IfOk result (Meets rules.now) }
+{
+    let mut text = String::new(alloc);
+    text.push_str("Alpha,A,B,C,D,E\n")?;
+    for j in 1..1024u32 {
+        let amount = j * 37 % 101 + 1;
+        write!(text, "{amount}")?;
+        for place in [256u32, 64, 16, 4, 1] {
+            write!(text, ",{}", j / place % 4)?;
+        }
+        text.push_str("\n")?;
     }
     Ok(read_form(alloc, text.as_bytes(), rules)?)
 }
@@ -167,5 +187,16 @@ fn large_forms_keep_what_none_dominates(rt: HostRuntime) -> Result<(), Fail> {
         let plain = kept_by_all_pairs(rt.alloc(), &[10000, 10000], few.bids())?;
         assert!(rt; plain.as_slice() == kept.as_slice());
     }
+    Ok(())
+}
+
+#[test]
+fn forms_with_peaks_everywhere_keep_what_none_dominates(rt: HostRuntime) -> Result<(), Fail> {
+    let rules = read_rules(rt.alloc(), FIVE_RULES)?;
+    let form = form_of_all_packages(rt.alloc(), &rules)?;
+    assert_eq!(rt; form.bids().len(), 1023);
+    let kept = kept_by_flags(&rt, rt.alloc(), &rules, &form)?;
+    let plain = kept_by_all_pairs(rt.alloc(), &[3, 3, 2, 3, 3], form.bids())?;
+    assert!(rt; plain.as_slice() == kept.as_slice());
     Ok(())
 }

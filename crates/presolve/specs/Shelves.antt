@@ -1,0 +1,37 @@
+-- The bids of one form that fit, by the places of their peaks.
+use Rattle.std.specs.Prelude.{◌≡◌, ◌<◌, ◌≤◌, ◌==◌, ◌&&◌, ℕ, Bool, not, List, length, filter, slice_index_or, All}
+use Rattle.std.specs.List.{list_any}
+use Rattle.auction_terms.specs.declared.bids.Bid.{Bid}
+use Rattle.auction_terms.specs.Packages.{Lots, fits}
+use Rattle.presolve.specs.declared.order.SizedBid.{SizedBid}
+use Rattle.presolve.specs.declared.shelves.Shelf.{Shelf}
+use Rattle.presolve.specs.Sizes.{AreRivals, beats}
+
+-- those of some bids whose peak is at the place, none with less there than the least
+pub record IsShelf (rivals : List SizedBid) (place : ℕ) (shelf : Shelf) : Type 0 where
+  pub own : shelf.bids.items ≡ filter (λ s. s.place == place) rivals
+  pub least : All (λ s. shelf.least ≤ s.most) shelf.bids.items
+
+-- a shelf for each of n places
+pub record AreShelves (n : ℕ) (rivals : List SizedBid) (shelves : List Shelf) : Type 0 where
+  pub count : length shelves ≡ n
+  pub each : (k : ℕ) (d : Shelf) → k < n → IsShelf rivals k (slice_index_or shelves k d)
+
+-- bids with a quantity for each of n categories, by rising size, all with their peak at the place and none with less there than the least
+pub record IsStocked (n place : ℕ) (shelf : Shelf) : Type 0 where
+  pub rivals : AreRivals n shelf.bids.items
+  pub here : All (λ s. s.place ≡ place) shelf.bids.items
+  pub least : All (λ s. shelf.least ≤ s.most) shelf.bids.items
+
+-- such a shelf for each of n places
+pub record AreStocked (n : ℕ) (shelves : List Shelf) : Type 0 where
+  pub count : length shelves ≡ n
+  pub each : (k : ℕ) (d : Shelf) → k < n → IsStocked n k (slice_index_or shelves k d)
+
+-- a bid on one of the shelves beats the bid
+abbrev pub is_beaten_on : Lots → List Shelf → Bid → Bool
+is_beaten_on lots shelves x = list_any (λ shelf. list_any (beats lots x) shelf.bids.items) shelves
+
+-- the bid fits, and none of the bids on the shelves beats it
+abbrev pub is_unbeaten_on : Lots → List Shelf → Bid → Bool
+is_unbeaten_on lots shelves x = fits lots x.package && not (is_beaten_on lots shelves x)
