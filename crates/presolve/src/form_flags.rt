@@ -15,6 +15,9 @@ use rayon::prelude::*;
 use std::alloc::{AllocError, Global};
 use std::thread::Threads;
 
+// How few bids are worth a thread: comparing these takes several times what starting one takes.
+const LEAST_PIECE: usize = 500;
+
 // Whether one of the bids that fit dominates this one. They stand by rising size, so the first that isn't smaller ends
 // the search; amounts and peaks, which need no look at the rival's package, are compared before packages.
 fn is_beaten(rivals: &[SizedBid<'_>], bid: &Bid) -> bool
@@ -77,6 +80,7 @@ pub(crate) fn flags_of_form(
     let shelves = shelves(alloc, &rivals, rules.categories().len())?;
     let shelves = shelves.as_slice();
     bids.par_iter()
+        .with_min_len(LEAST_PIECE)
         .map(
             |bid: &Bid| -> bool
                 requires { AreStocked (length rules.now.categories) shelves.now × (length bid.now.package ≡ length rules.now.categories) }

@@ -64,7 +64,7 @@ fn fitting<'b>(
     ensures same { IfOk result (λ fitting. map sized_of fitting.items ≡ fitting_from (lots_in rules.now) 1 bids.now) }
     ensures told { IfOk result (λ fitting. All TellsItsBid fitting.items) }
 {
-    let mut fitting = Vec::new(alloc);
+    let mut fitting = Vec::with_capacity(alloc, bids.len())?;
     for (place, bid) in bids.iter().enumerate() {
         if bid.package.fits(rules) {
             fitting.push(sized(bid, place as u16 + 1))?;

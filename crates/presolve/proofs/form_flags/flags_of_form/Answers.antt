@@ -24,7 +24,7 @@ collect-requires-clause-ready g c κs within =
     let rivals = are_rivals lots (length categories) c.args.bids.now c.deref.result.now c.requires.sized order in
     let shelves = shelves_are c.categories.result.now categories c.deref.result.now c.in_ok-shelves.shelves.items c.as_slice-shelves.result.now c.categories.ensures.value c.as_slice-shelves.ensures.value c.in_ok-shelves.ensures in
     let stock = stocked (length categories) c.deref.result.now c.as_slice-shelves.result.now rivals shelves in
-    let slice = ap (λ it. it.slice.now) c.map.ensures.base ∙ c.par_iter.ensures in
+    let slice = ap (λ it. it.base.slice.now) c.map.ensures.base ∙ ap (λ it. it.slice.now) c.with_min_len.ensures.base ∙ c.par_iter.ensures in
     rw (c.map.ensures.f, slice) (λ k d l x e. ((stock, rw e (c.requires.sized k d l)), λ y p. tt))
 
 pub returns : goal.returns
@@ -34,7 +34,7 @@ returns g c =
     let order : IsOrdered lots c.args.bids.now c.deref.result.now = subst (λ (rs : List SizedBid). IsOrdered lots c.args.bids.now rs) (sym c.deref.ensures.value) c.in_ok-rivals.ensures in
     let rivals = are_rivals lots (length categories) c.args.bids.now c.deref.result.now c.requires.sized order in
     let shelves = shelves_are c.categories.result.now categories c.deref.result.now c.in_ok-shelves.shelves.items c.as_slice-shelves.result.now c.categories.ensures.value c.as_slice-shelves.ensures.value c.in_ok-shelves.ensures in
-    let slice = ap (λ it. it.slice.now) c.map.ensures.base ∙ c.par_iter.ensures in
+    let slice = ap (λ it. it.base.slice.now) c.map.ensures.base ∙ ap (λ it. it.slice.now) c.with_min_len.ensures.base ∙ c.par_iter.ensures in
     let test = is_unbeaten_on lots c.as_slice-shelves.result.now in
     IfOk-then c.collect.result _ _ c.collect.ensures (λ v h.
     let chain = rw c.map.ensures.f at h.1 in

@@ -1,4 +1,4 @@
-use Rattle.std.proofs.Common.{◌≡◌, ◌<◌, ◌≤◌, Bool, false, List, slice_index, sym, subst, ap, ◌∙◌, ℕ}
+use Rattle.std.proofs.Common.{◌≡◌, ◌≤◌, false, sym, subst, ◌∙◌, ℕ}
 use Rattle.presolve.specs.Sizes.{TellsItsBid, beats}
 use Rattle.presolve.proofs.FlagLaws.{none_above, none_left, none_over_peak, none_uncovered, passed_over}
 use Rattle.presolve.proofs.form_flags.is_beaten.Goals as goal
