@@ -73,7 +73,7 @@ get-from [] i x h e = absurd (omega arith)
 get-from (y ∷ xs) zero x h e = ap (λ z. Some z) (sym e)
 get-from (y ∷ xs) (suc i) x h e = get-from xs i x (omega arith) e
 
-get-some : (xs : List ℕ) (i : ℕ) → i < length xs → slice_get xs i ≡ Some (get_or xs i 0)
+pub get-some : (xs : List ℕ) (i : ℕ) → i < length xs → slice_get xs i ≡ Some (get_or xs i 0)
 get-some [] i h = absurd (omega arith)
 get-some (y ∷ xs) zero h = refl
 get-some (y ∷ xs) (suc i) h = get-some xs i (omega arith)

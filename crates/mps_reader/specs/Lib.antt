@@ -5,3 +5,6 @@ pub mod Columns
 pub mod States
 pub mod Fit
 pub mod Ending
+pub mod Told
+pub mod Tracking
+pub mod Answer

@@ -1,10 +1,14 @@
 //! Lines of BOUNDS.
 
-ghost use Rattle.std.specs.Prelude.{◌≡◌, ◌≤◌, ◌<◌, ◌+◌, ◌∷◌, [], ◌&&◌, ◌==◌, ℕ, List, not, true, false, codes, bytes_eq, length, nat_le, if◌then◌else◌, IfOk, OnOk};
+ghost use Rattle.std.specs.Prelude.{◌≡◌, ◌≤◌, ◌<◌, ◌+◌, ◌∷◌, [], ◌&&◌, ◌==◌, ℕ, List, not, true, false, codes, bytes_eq, length, nat_le, if◌then◌else◌, Option, IfOk, OnOk};
 ghost use Rattle.program_rows.specs.declared.fault.FaultKind.TheVariants.{BoundType, Fields};
-ghost use Rattle.program_rows.specs.Meaning.{is_one_of, is_binary_bound, field, earliest_fault, when};
+ghost use Rattle.std.specs.List.{IsDistinct};
+ghost use Rattle.program_rows.specs.Lines.{Line};
+ghost use Rattle.program_rows.specs.Meaning.{LineFields, is_one_of, is_binary_bound, field, value, column_names, earliest_fault, when, bit_fault, bound_fault};
 ghost use Rattle.mps_reader.specs.Reading.{bytes_of, Answers};
 ghost use Rattle.mps_reader.specs.Columns.{BothFit};
+ghost use Rattle.mps_reader.specs.Rows.{names_of};
+ghost use Rattle.mps_reader.specs.Tracking.{ColumnsTell, bit, state_values, bounded_values};
 ghost use Rattle.mps_reader.specs.declared.row_table.Rows as row_table;
 
 use crate::column_state::ColumnState;
@@ -40,6 +44,7 @@ fn is_count(is_binary: bool, count: usize) -> bool
 /// The type and the number of fields of a bound: whether it makes its column binary.
 fn take_bound_type(fields: &[&[u8]]) -> Result<bool, Refusal>
     requires some { 1 ≤ length fields.now }
+    ensures number { IfOk result (λ is_binary. is_binary ≡ false → is_one_of (field 0 (bytes_of fields.now)) (codes "UP" ∷ codes "LO" ∷ codes "FX" ∷ []) ≡ true) }
     ensures fault { Answers result (earliest_fault (when (not (is_one_of (field 0 (bytes_of fields.now)) (codes "UP" ∷ codes "LO" ∷ codes "FX" ∷ codes "BV" ∷ []))) BoundType
         ∷ when (not (if is_binary_bound (bytes_of fields.now) then nat_le 2 (length (bytes_of fields.now)) && nat_le (length (bytes_of fields.now)) 4 else nat_le 3 (length (bytes_of fields.now)) && nat_le (length (bytes_of fields.now)) 4)) Fields ∷ [])) }
     ensures binary { IfOk result (λ is_binary. is_binary ≡ is_binary_bound (bytes_of fields.now)) }
@@ -66,7 +71,11 @@ fn place_of_column(is_binary: bool, count: usize) -> usize
 }
 
 /// What a bound says of its column.
-fn bounded(word: &[u8], state: ColumnState, token: &[u8]) -> Result<ColumnState, Refusal> {
+fn bounded(word: &[u8], state: ColumnState, token: &[u8]) -> Result<ColumnState, Refusal>
+    requires { is_one_of word.now (codes "UP" ∷ codes "LO" ∷ codes "FX" ∷ []) ≡ true }
+    ensures fault { Answers result (bit_fault token.now) }
+    ensures values { IfOk result (λ new. state_values new ≡ bounded_values word.now (value token.now) (state_values state)) }
+{
     let value = take_bit(token)?;
     if is(word, b"UP") {
         return Ok(ColumnState {
@@ -93,6 +102,9 @@ pub fn take_bound<'t>(columns: &mut ColumnTable<'t>, fields: &[&[u8]]) -> Result
     requires states { length columns.old.states.items ≡ length columns.old.names.keys }
     ensures fit { OnOk result ((r : row_table.Rows) → BothFit r columns.old → BothFit r columns.new) }
     ensures current { columns.new.current ≡ columns.old.current }
+    ensures fault { (before : List Line) → names_of columns.old.names ≡ column_names before → Answers result (bound_fault before (bytes_of fields.now)) }
+    ensures tells { OnOk result ((objective : Option (List ℕ)) (rows : List (List ℕ)) (lines bounds : List LineFields) → IsDistinct bytes_eq (names_of columns.old.names)
+        → ColumnsTell objective rows lines bounds columns.old → ColumnsTell objective rows lines (bytes_of fields.now ∷ bounds) columns.new) }
 {
     let is_binary = take_bound_type(fields)?;
     let at = place_of_column(is_binary, fields.len());

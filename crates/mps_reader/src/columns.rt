@@ -1,15 +1,15 @@
 //! The columns that the lines so far name.
 
-ghost use Rattle.std.specs.Prelude.{◌≡◌, ◌++◌, ◌∷◌, [], ℕ, List, Option, Some, None, length, false, bytes_eq, is_some, OnOk};
+ghost use Rattle.std.specs.Prelude.{◌≡◌, ◌++◌, ◌∷◌, [], ℕ, List, Option, Some, None, length, not, true, false, ◌&&◌, bytes_eq, is_some, OnOk};
 ghost use Rattle.std.specs.List.{list_any};
 ghost use Rattle.std.specs.List.Sorted.{IsPermutation, IsNonDecreasingBy};
-ghost use Rattle.std.specs.Option.{option_map_or};
 ghost use Rattle.program_rows.specs.declared.fault.FaultKind.TheVariants.{ColumnSplit};
-ghost use Rattle.program_rows.specs.Meaning.{when};
+ghost use Rattle.program_rows.specs.Meaning.{when, LineFields};
 ghost use Rattle.program_rows.specs.Parts.{IsName};
 ghost use Rattle.mps_reader.specs.Reading.{Answers};
 ghost use Rattle.mps_reader.specs.Rows.{names_of, option_now};
 ghost use Rattle.mps_reader.specs.Columns.{ColumnsFit, AddsColumn, IsApart};
+ghost use Rattle.mps_reader.specs.Tracking.{ColumnsTell, ColumnAdded, is_current};
 
 use crate::column_state::ColumnState;
 use crate::column_table::ColumnTable;
@@ -33,6 +33,7 @@ pub fn close_column<'t>(columns: &mut ColumnTable<'t>) -> Result<(), AllocError>
     ensures states { columns.new.states ≡ columns.old.states }
     ensures begun { columns.new.is_begun ≡ columns.old.is_begun }
     ensures closed { OnOk result (is_some columns.new.current ≡ false) }
+    ensures tells { OnOk result ((objective : Option (List ℕ)) (rows : List (List ℕ)) (lines bounds : List LineFields) → ColumnsFit (length rows) columns.old → ColumnsTell objective rows lines bounds columns.old → ColumnsTell objective rows lines bounds columns.new) }
 {
     let Some(name) = columns.current else {
         return Ok(());
@@ -51,7 +52,7 @@ pub fn close_column<'t>(columns: &mut ColumnTable<'t>) -> Result<(), AllocError>
 }
 
 fn is_current(current: Option<&[u8]>, name: &[u8]) -> bool
-    ensures { result ≡ option_map_or (λ other. bytes_eq name.now other.now) current.entry false }
+    ensures { result ≡ is_current current.entry name.now }
 {
     match current {
         Some(other) => is(name, other),
@@ -79,6 +80,9 @@ pub fn open_column<'t>(columns: &mut ColumnTable<'t>, name: &'t [u8]) -> Result<
     requires { IsName name.now }
     ensures current { OnOk result (option_now columns.new.current ≡ Some name.now) }
     ensures fit { OnOk result ((count : ℕ) → ColumnsFit count columns.old → ColumnsFit count columns.new) }
+    ensures fault { Answers result (when (not (is_current columns.old.current name.now) && list_any (bytes_eq name.now) (names_of columns.old.names)) ColumnSplit) }
+    ensures same { OnOk result (is_current columns.old.current name.now ≡ true → columns.new ≡ columns.old) }
+    ensures added { OnOk result (is_current columns.old.current name.now ≡ false → (objective : Option (List ℕ)) (rows : List (List ℕ)) (lines : List LineFields) → ColumnsFit (length rows) columns.old → ColumnsTell objective rows lines [] columns.old → ColumnAdded objective rows lines name.now columns.new) }
     ensures apart { OnOk result ((count : ℕ) (stamps : List ℕ) (places : List (Option ℕ)) → ColumnsFit count columns.old → IsApart stamps places (length (names_of columns.old.names)) columns.old.current_column.entries.items → IsApart stamps places (length (names_of columns.new.names)) columns.new.current_column.entries.items) }
 {
     if is_current(columns.current, name) {

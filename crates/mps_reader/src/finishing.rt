@@ -1,6 +1,11 @@
 //! The program at the end of a text.
 
-ghost use Rattle.std.specs.Prelude.{◌≡◌, map, true, false, is_some, Some, IfOk};
+ghost use Rattle.std.specs.Prelude.{◌≡◌, List, not, map, true, false, position, option_map, is_some, Some, IfOk};
+ghost use Rattle.program_rows.specs.Lines.{Line};
+ghost use Rattle.program_rows.specs.Meaning.{program};
+ghost use Rattle.program_rows.specs.declared.fault.FaultKind.TheVariants.{NotBinary};
+ghost use Rattle.mps_reader.specs.Reading.{Answers};
+ghost use Rattle.mps_reader.specs.Tracking.{ReadingTells};
 ghost use Rattle.mps_reader.specs.Fit.{ReadingFits};
 ghost use Rattle.mps_reader.specs.Rows.{option_now};
 ghost use Rattle.mps_reader.specs.States.{state_bounds, is_binary_state};
@@ -20,9 +25,17 @@ fn is_binary(state: ColumnState) -> bool
     }
 }
 
+fn first_open(states: &[ColumnState]) -> Option<usize>
+    ensures { result ≡ position (λ state. not (is_binary_state state)) states.now }
+{
+    states.iter().position(|state| !is_binary(*state))
+}
+
 /// Refuses the first column that isn't binary.
-pub fn refuse_open(states: &[ColumnState]) -> Result<(), Refusal> {
-    match states.iter().position(|state| !is_binary(*state)) {
+pub fn refuse_open(states: &[ColumnState]) -> Result<(), Refusal>
+    ensures { Answers result (option_map NotBinary (position (λ state. not (is_binary_state state)) states.now)) }
+{
+    match first_open(states) {
         Some(column) => Err(Refusal::Fault(FaultKind::NotBinary { column })),
         None => Ok(()),
     }
@@ -61,6 +74,7 @@ pub fn finished<'t>(alloc: Global, reading: Reading<'t>) -> Result<Program, Allo
     requires fit { ReadingFits reading }
     requires closed { is_some reading.columns.current ≡ false }
     requires objective { is_some reading.rows.objective ≡ true }
+    ensures { IfOk result (λ made. (before : List Line) → ReadingTells before reading.entry → program before ≡ made) }
 {
     let Reading { rows, columns, .. } = reading;
     let bounds = all_bounds(alloc, columns.states.as_slice())?;

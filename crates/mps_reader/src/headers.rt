@@ -1,6 +1,6 @@
 //! Headers: the sections and their order.
 
-ghost use Rattle.std.specs.Prelude.{◌≡◌, ◌∷◌, [], ◌==◌, ◌&&◌, ℕ, List, not, codes, nat_lt, length, is_none, bytes_eq, true, IfOk, OnOk, Option, None, if◌then◌else◌};
+ghost use Rattle.std.specs.Prelude.{◌≡◌, ◌∷◌, [], ◌==◌, ◌<◌, ◌&&◌, ℕ, List, not, codes, nat_lt, length, is_none, bytes_eq, true, IfOk, OnOk, Option, None, if◌then◌else◌};
 ghost use Rattle.program_rows.specs.Lines as spec;
 ghost use Rattle.program_rows.specs.declared.fault.FaultKind.TheVariants.{SectionLeftOut, Section, Fields, NoObjective};
 ghost use Rattle.program_rows.specs.Meaning.{is_one_of, sections_left_out, place_of, section, objective, earliest_fault, when, sense_fault, field, header_fault, not_binary};
@@ -82,6 +82,7 @@ pub fn take_header(
         → AnswersUpTo result (header_fault before word.now (bytes_of more.now)) (if bytes_eq word.now (codes "ENDATA") then not_binary before else None) }
     ensures objective { OnOk result (bytes_eq word.now (codes "ENDATA") ≡ true → has_objective ≡ true) }
     ensures opened { IfOk result (λ section. word_of section ≡ word.now) }
+    ensures order { IfOk result (λ section. place_of (word_of opened) < place_of (word_of section)) }
 {
     refuse!(is_left_out(word), SectionLeftOut);
     let section = section_of(word);

@@ -2,7 +2,7 @@
 
 ghost use Rattle.std.specs.Prelude.{◌≡◌, ◌∷◌, [], ◌&&◌, List, not, true, codes, bytes_eq, IfOk};
 ghost use Rattle.program_rows.specs.Lines as spec;
-ghost use Rattle.program_rows.specs.Meaning.{is_one_of, section, data_under, is_marker, is_integer_open, marker_fault, field};
+ghost use Rattle.program_rows.specs.Meaning.{is_one_of, data_under, is_marker, is_integer_open, marker_fault, field};
 ghost use Rattle.mps_reader.specs.Reading.{bytes_of, Answers};
 
 use crate::refusal::Refusal;
@@ -40,7 +40,7 @@ pub fn names_marker(fields: &[&[u8]]) -> bool
 /// A marker line: whether integers are begun behind it.
 pub fn take_marker(is_begun: bool, fields: &[&[u8]]) -> Result<bool, Refusal>
     ensures fault { (before : List spec.Line) → is_integer_open (data_under (codes "COLUMNS") before) ≡ is_begun → Answers result (marker_fault before (bytes_of fields.now)) }
-    ensures kept { IfOk result (λ now. (before : List spec.Line) → section before ≡ codes "COLUMNS" → is_marker (bytes_of fields.now) ≡ true → is_integer_open (data_under (codes "COLUMNS") (spec.Data (bytes_of fields.now) ∷ before)) ≡ now) }
+    ensures value { IfOk result (λ now. now ≡ bytes_eq (field 2 (bytes_of fields.now)) (codes "'INTORG'")) }
 {
     if fields.len() != 3 {
         return Err(Refusal::Fault(FaultKind::Marker));

@@ -3,6 +3,8 @@
 ghost use Rattle.std.specs.Prelude.{◌≡◌, ◌≤◌, ◌<◌, length, Err, IfErr, OnOk};
 ghost use Rattle.auction_terms.specs.Lines.{lines_of};
 ghost use Rattle.mps_reader.specs.Ending.{Ends};
+ghost use Rattle.mps_reader.specs.Answer.{IsRead, IsRefused};
+ghost use Rattle.program_rows.specs.Meaning.{meaning};
 ghost use Rattle.program_rows.specs.declared.fault.FaultKind.TheVariants.{TooLarge};
 
 use crate::finishing::finished;
@@ -17,7 +19,8 @@ use std::alloc::Global;
 pub const TEXT_LIMIT: usize = 64 * 1024 * 1024;
 
 fn refused(line: usize, refusal: Refusal) -> MpsFault
-    ensures { result.line ≤ line }
+    ensures line { result.line ≤ line }
+    ensures is { IsRefused line refusal result }
 {
     match refusal {
         Refusal::Memory => MpsFault {
@@ -32,6 +35,7 @@ fn read_lines(alloc: Global, text: &[u8]) -> Result<Program, MpsFault>
     requires { length text.now ≤ 67108864 }
     ensures ends { OnOk result (Ends text.now) }
     ensures line { IfErr result (λ e. e.line ≤ length (lines_of text.now)) }
+    ensures meaning { IsRead result (meaning text.now) }
 {
     let mut reading = start(alloc);
     let mut lines = LineReader::new(text);
@@ -60,6 +64,7 @@ pub fn read_program(alloc: Global, text: &[u8]) -> Result<Program, MpsFault>
     ensures too_large { 67108864 < length text.now → result ≡ Err (record { line = 0; kind = TooLarge }) }
     ensures ends { OnOk result (Ends text.now) }
     ensures line { IfErr result (λ e. e.line ≤ length (lines_of text.now)) }
+    ensures meaning { length text.now ≤ 67108864 → IsRead result (meaning text.now) }
 {
     if text.len() > TEXT_LIMIT {
         return Err(MpsFault {

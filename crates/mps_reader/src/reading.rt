@@ -1,12 +1,14 @@
 //! What the lines so far say.
 
-ghost use Rattle.std.specs.Prelude.{◌≡◌, ◌≢◌, ◌≤◌, length, codes, bytes_eq, true, false, is_some, OnOk, IfOk};
+ghost use Rattle.std.specs.Prelude.{◌≡◌, ◌≢◌, ◌≤◌, ◌∷◌, [], List, length, drop, codes, bytes_eq, true, false, is_some, OnOk, IfOk};
 ghost use Rattle.std.specs.List.{AllByRecursion};
+ghost use Rattle.program_rows.specs.Lines as spec;
 ghost use Rattle.program_rows.specs.Lines.{Unprintable, line_of};
-ghost use Rattle.program_rows.specs.Meaning.{field, is_end};
+ghost use Rattle.program_rows.specs.Meaning.{LineFields, field, is_end, fault, header_fault, data_fault};
 ghost use Rattle.program_rows.specs.Parts.{IsName};
-ghost use Rattle.mps_reader.specs.Reading.{bytes_of};
+ghost use Rattle.mps_reader.specs.Reading.{bytes_of, Answers};
 ghost use Rattle.mps_reader.specs.Fit.{ReadingFits};
+ghost use Rattle.mps_reader.specs.Tracking.{ReadingTells};
 
 use crate::bounds::take_bound;
 use crate::column_table::ColumnTable;
@@ -28,7 +30,8 @@ use std::alloc::Global;
 
 /// Nothing, before the first line.
 pub fn start<'t>(alloc: Global) -> Reading<'t>
-    ensures { ReadingFits result }
+    ensures fit { ReadingFits result }
+    ensures tells { ReadingTells [] result }
 {
     Reading {
         section: Section::Start,
@@ -44,6 +47,8 @@ fn take_header_line<'t>(reading: &mut Reading<'t>, fields: &[&'t [u8]]) -> Resul
     ensures fit { OnOk result (ReadingFits reading.new) }
     ensures closed { IfOk result (λ is_end. is_end ≡ true → is_some reading.new.columns.current ≡ false) }
     ensures objective { IfOk result (λ is_end. is_end ≡ true → is_some reading.new.rows.objective ≡ true) }
+    ensures fault { (before : List spec.Line) → ReadingTells before reading.old → Answers result (header_fault before (field 0 (bytes_of fields.now)) (drop 1 (bytes_of fields.now))) }
+    ensures tells { OnOk result ((before : List spec.Line) (more : LineFields) → ReadingTells before reading.old → ReadingTells (spec.Header (field 0 (bytes_of fields.now)) more ∷ before) reading.new) }
 {
     close_column(&mut reading.columns)?;
     let has_objective = reading.rows.objective.is_some();
@@ -60,6 +65,8 @@ fn take_data<'t>(reading: &mut Reading<'t>, fields: &[&'t [u8]]) -> Result<(), R
     requires some { 1 ≤ length fields.now }
     requires names { AllByRecursion IsName (bytes_of fields.now) }
     ensures fit { OnOk result (ReadingFits reading.new) }
+    ensures fault { (before : List spec.Line) → ReadingTells before reading.old → Answers result (data_fault before (bytes_of fields.now)) }
+    ensures tells { OnOk result ((before : List spec.Line) → ReadingTells before reading.old → ReadingTells (spec.Data (bytes_of fields.now) ∷ before) reading.new) }
 {
     match reading.section {
         Section::Sense => take_sense_line(fields),
@@ -67,9 +74,13 @@ fn take_data<'t>(reading: &mut Reading<'t>, fields: &[&'t [u8]]) -> Result<(), R
             take_row(&mut reading.rows, fields)?;
             Ok(())
         }
-        Section::Columns => take_column_line(&mut reading.rows, &mut reading.columns, fields),
+        Section::Columns => {
+            take_column_line(&mut reading.rows, &mut reading.columns, fields)?;
+            Ok(())
+        }
         Section::RightSides => {
-            take_right_side_line(&mut reading.rows, reading.columns.names.len() + 1, fields)
+            take_right_side_line(&mut reading.rows, reading.columns.names.len() + 1, fields)?;
+            Ok(())
         }
         Section::Bounds => {
             take_bound(&mut reading.columns, fields)?;
@@ -87,11 +98,16 @@ pub fn take_line<'t>(reading: &mut Reading<'t>, line: &'t [u8]) -> Result<bool, 
     ensures fit { OnOk result (ReadingFits reading.new) }
     ensures closed { IfOk result (λ is_end. is_end ≡ true → is_some reading.new.columns.current ≡ false) }
     ensures objective { IfOk result (λ is_end. is_end ≡ true → is_some reading.new.rows.objective ≡ true) }
+    ensures fault { (before : List spec.Line) → ReadingTells before reading.old → Answers result (fault before (line_of line.now)) }
+    ensures tells { OnOk result ((before : List spec.Line) → ReadingTells before reading.old → ReadingTells (line_of line.now ∷ before) reading.new) }
 {
     match read_line(line) {
         Line::Skipped => Ok(false),
         Line::Unprintable => Err(Refusal::Fault(FaultKind::NotText)),
-        Line::Header(fields) => take_header_line(reading, fields.as_slice()),
+        Line::Header(fields) => {
+            let is_end = take_header_line(reading, fields.as_slice())?;
+            Ok(is_end)
+        }
         Line::Data(fields) => {
             take_data(reading, fields.as_slice())?;
             Ok(false)

@@ -1,9 +1,16 @@
 //! Lines of RHS.
 
-ghost use Rattle.std.specs.Prelude.{◌≡◌, ◌≤◌, ◌<◌, ◌==◌, ◌&&◌, not, true, length, map, nat_le, pos, OnOk};
+ghost use Rattle.std.specs.Prelude.{◌≡◌, ◌≤◌, ◌<◌, ◌==◌, ◌&&◌, ◌||◌, ◌∷◌, ◌++◌, ℕ, ℤ, Bool, List, not, true, false, length, map, bytes_eq, nat_le, pos, if◌then◌else◌, OnOk};
+ghost use Rattle.std.specs.List.{list_any};
+ghost use Rattle.std.specs.Option.{option_map_or};
+ghost use Rattle.program_rows.specs.Lines.{Line};
+ghost use Rattle.program_rows.specs.Meaning.{LineFields, pairs, value, is_declared, is_objective, right_sides, right_sides_fault, right_side_fault};
+ghost use Rattle.mps_reader.specs.Reading.{bytes_of, Answers};
 ghost use Rattle.std.specs.Ordering.{int_eq};
 ghost use Rattle.program_rows.specs.Parts.{shown_row};
-ghost use Rattle.mps_reader.specs.Rows.{RowsFit, with_side};
+ghost use Rattle.mps_reader.specs.Rows.{RowsFit, StampsAre, names_of, with_side};
+ghost use Rattle.mps_reader.specs.Told.{rows_by, side_in, side_fault, told_right_sides};
+ghost use Rattle.mps_reader.specs.Tracking.{RowsTell};
 
 use crate::refusal::Refusal;
 use crate::row_table::Rows;
@@ -35,6 +42,11 @@ fn take_right_side<'t>(
     ensures fit { OnOk result (RowsFit rows.new) }
     ensures count { OnOk result (length rows.new.rows.items ≡ length rows.old.rows.items) }
     ensures objective { rows.new.objective ≡ rows.old.objective }
+    ensures names { rows.new.names ≡ rows.old.names }
+    ensures fault { (has : List ℕ → Bool) → StampsAre rows.old.stamps.items stamp (names_of rows.old.names) has
+        → Answers result (side_fault (list_any (bytes_eq row.now) (names_of rows.old.names)) (has row.now) (option_map_or (λ name. bytes_eq row.now name.now) rows.old.objective false) token.now) }
+    ensures stamps { OnOk result ((has : List ℕ → Bool) → StampsAre rows.old.stamps.items stamp (names_of rows.old.names) has → StampsAre rows.new.stamps.items stamp (names_of rows.old.names) (λ name. bytes_eq name row.now || has name)) }
+    ensures rows { OnOk result ((side : List ℕ → ℤ) (lines : List LineFields) → map shown_row rows.old.rows.items ≡ rows_by side lines → map shown_row rows.new.rows.items ≡ rows_by (λ name. if bytes_eq name row.now then value token.now else side name) lines) }
 {
     let index = stamp_row(&rows.names, &mut rows.stamps, row, stamp)?;
     let value = take_number(token)?;
@@ -56,16 +68,27 @@ fn is_two_to_five(count: usize) -> bool
     2 <= count && count <= 5
 }
 
-fn take_right_sides<'t>(rows: &mut Rows<'t>, stamp: usize, pairs: &[&[u8]]) -> Result<(), Refusal>
+fn take_right_sides<'t>(rows: &mut Rows<'t>, stamp: usize, fields: &[&[u8]]) -> Result<(), Refusal>
     requires fit { RowsFit rows.old }
-    requires some { 2 ≤ length pairs.now }
+    requires some { 2 ≤ length fields.now }
+    requires even { ((length fields.now == 2) || (length fields.now == 4)) ≡ true }
     ensures fit { OnOk result (RowsFit rows.new) }
     ensures count { OnOk result (length rows.new.rows.items ≡ length rows.old.rows.items) }
     ensures objective { rows.new.objective ≡ rows.old.objective }
+    ensures names { rows.new.names ≡ rows.old.names }
+    ensures fault { (before : List Line) (earlier : List (List ℕ × List ℕ)) → ((name : List ℕ) → is_declared before name ≡ list_any (bytes_eq name) (names_of rows.old.names))
+        → ((name : List ℕ) → is_objective before name ≡ option_map_or (λ other. bytes_eq name other.now) rows.old.objective false)
+        → StampsAre rows.old.stamps.items stamp (names_of rows.old.names) (λ row. list_any (λ other. bytes_eq row other.0) earlier)
+        → Answers result (right_sides_fault before earlier (pairs (bytes_of fields.now))) }
+    ensures stamps { OnOk result ((earlier : List (List ℕ × List ℕ)) → StampsAre rows.old.stamps.items stamp (names_of rows.old.names) (λ row. list_any (λ other. bytes_eq row other.0) earlier)
+        → StampsAre rows.new.stamps.items stamp (names_of rows.old.names) (λ row. list_any (λ other. bytes_eq row other.0) (pairs (bytes_of fields.now) ++ earlier))) }
+    ensures rows { OnOk result ((earlier : List (List ℕ × List ℕ)) (lines : List LineFields) → StampsAre rows.old.stamps.items stamp (names_of rows.old.names) (λ row. list_any (λ other. bytes_eq row other.0) earlier)
+        → map shown_row rows.old.rows.items ≡ rows_by (side_in earlier) lines → map shown_row rows.new.rows.items ≡ rows_by (side_in (pairs (bytes_of fields.now) ++ earlier)) lines) }
 {
-    take_right_side(rows, stamp, pairs[0], pairs[1])?;
-    if pairs.len() == 4 {
-        return take_right_side(rows, stamp, pairs[2], pairs[3]);
+    take_right_side(rows, stamp, fields[0], fields[1])?;
+    if fields.len() == 4 {
+        take_right_side(rows, stamp, fields[2], fields[3])?;
+        return Ok(());
     }
     Ok(())
 }
@@ -80,7 +103,17 @@ pub fn take_right_side_line<'t>(
     ensures fit { OnOk result (RowsFit rows.new) }
     ensures count { OnOk result (length rows.new.rows.items ≡ length rows.old.rows.items) }
     ensures objective { rows.new.objective ≡ rows.old.objective }
+    ensures names { rows.new.names ≡ rows.old.names }
+    ensures fault { (before : List Line) → ((name : List ℕ) → is_declared before name ≡ list_any (bytes_eq name) (names_of rows.old.names))
+        → ((name : List ℕ) → is_objective before name ≡ option_map_or (λ other. bytes_eq name other.now) rows.old.objective false)
+        → StampsAre rows.old.stamps.items stamp (names_of rows.old.names) (λ row. list_any (λ other. bytes_eq row other.0) (right_sides before))
+        → Answers result (right_side_fault before (bytes_of fields.now)) }
+    ensures stamps { OnOk result ((rights : List LineFields) → StampsAre rows.old.stamps.items stamp (names_of rows.old.names) (λ row. list_any (λ other. bytes_eq row other.0) (told_right_sides rights))
+        → StampsAre rows.new.stamps.items stamp (names_of rows.old.names) (λ row. list_any (λ other. bytes_eq row other.0) (told_right_sides (bytes_of fields.now ∷ rights)))) }
+    ensures tells { OnOk result ((lines rights : List LineFields) → StampsAre rows.old.stamps.items stamp (names_of rows.old.names) (λ row. list_any (λ other. bytes_eq row other.0) (told_right_sides rights))
+        → RowsTell lines rights rows.old → RowsTell lines (bytes_of fields.now ∷ rights) rows.new) }
 {
     refuse!(!is_two_to_five(fields.len()), Fields);
-    take_right_sides(rows, stamp, &fields[fields.len() % 2..])
+    take_right_sides(rows, stamp, &fields[fields.len() % 2..])?;
+    Ok(())
 }

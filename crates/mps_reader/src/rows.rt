@@ -4,10 +4,11 @@ ghost use Rattle.std.specs.Prelude.{◌≡◌, ◌≤◌, ◌∷◌, [], ◌++�
 ghost use Rattle.std.specs.List.{list_any, slice_set, AllByRecursion};
 ghost use Rattle.std.specs.Option.{option_map, option_map_or};
 ghost use Rattle.program_rows.specs.declared.fault.FaultKind.TheVariants.{Fields, RowType, RowRepeated, UnknownRow, EntryRepeated};
-ghost use Rattle.program_rows.specs.Meaning.{is_one_of, row_types, kind_of, field, earliest_fault, when};
+ghost use Rattle.program_rows.specs.Meaning.{is_one_of, row_types, kind_of, field, earliest_fault, when, LineFields};
 ghost use Rattle.program_rows.specs.Parts.{shown_row, IsName};
 ghost use Rattle.mps_reader.specs.Reading.{bytes_of, Answers};
 ghost use Rattle.mps_reader.specs.Rows.{names_of, RowsFit, AddsFree, AddsBound, StampsAre};
+ghost use Rattle.mps_reader.specs.Tracking.{RowsTell, AreStampsUpTo};
 
 use crate::names::insert_name;
 use crate::refusal::Refusal;
@@ -68,6 +69,8 @@ pub fn take_row<'t>(rows: &mut Rows<'t>, fields: &[&'t [u8]]) -> Result<(), Refu
         ∷ when (list_any (bytes_eq (field 1 (bytes_of fields.now))) (names_of rows.old.names)) RowRepeated ∷ [])) }
     ensures fit { OnOk result (RowsFit rows.new) }
     ensures grows { OnOk result (length rows.old.rows.items ≤ length rows.new.rows.items) }
+    ensures tells { OnOk result ((lines : List LineFields) → RowsTell lines [] rows.old → RowsTell (bytes_of fields.now ∷ lines) [] rows.new) }
+    ensures stamps { OnOk result ((most : ℕ) → AreStampsUpTo most rows.old → AreStampsUpTo most rows.new) }
 {
     refuse!(fields.len() != 2, Fields);
     refuse!(!is_row_type(fields[0]), RowType);

@@ -3,6 +3,7 @@
 ghost use Rattle.std.specs.Prelude.{◌≡◌, IfOk};
 ghost use Rattle.program_rows.specs.Meaning.{number_fault, bit_fault, value};
 ghost use Rattle.mps_reader.specs.Reading.{Answers};
+ghost use Rattle.mps_reader.specs.Tracking.{bit};
 
 use crate::refusal::Refusal;
 use program_rows::{FaultKind, NumberFault, read_number};
@@ -21,7 +22,10 @@ pub fn take_number(token: &[u8]) -> Result<i64, Refusal>
 }
 
 /// A number that is 0 or 1.
-pub fn take_bit(token: &[u8]) -> Result<bool, Refusal> {
+pub fn take_bit(token: &[u8]) -> Result<bool, Refusal>
+    ensures fault { Answers result (bit_fault token.now) }
+    ensures value { IfOk result (λ b. value token.now ≡ bit b) }
+{
     let value = take_number(token)?;
     if value == 0 {
         return Ok(false);

@@ -5,8 +5,8 @@ use Rattle.mps_reader.proofs.ColumnSteps.{apart-none}
 use Rattle.mps_reader.proofs.FitFacts.{empty-columns}
 use Rattle.mps_reader.proofs.reading.start.Goals as goal
 
-pub returns : goal.returns
-returns c = record {
+pub returns-clause-fit : goal.returns-clause-fit
+returns-clause-fit c = record {
   rows = c.new.ensures.fit;
   both = record {
     columns = empty-columns (length c.new.result.rows.items) c.new-2.result c.new-2.ensures;

@@ -1,4 +1,13 @@
-use Rattle.std.proofs.Common.{refl}
+use Rattle.std.proofs.Common.{rules, ◌≡◌, ◌∙◌, ap, sym, refl, arith, drop, get_or, Some, None}
+use Rattle.std.specs.Prelude.{Err, option_map, position, not}
+use Rattle.program_rows.specs.declared.fault.FaultKind.TheVariants.{NotBinary}
+use Rattle.program_rows.specs.Meaning.{field, header_fault}
+use Rattle.mps_reader.specs.Reading.{bytes_of}
+use Rattle.mps_reader.specs.States.{is_binary_state}
+use Rattle.mps_reader.proofs.RowSteps.{no_name, field-at}
+use Rattle.mps_reader.proofs.AnswerFacts.{handed-on, handed-up}
+use Rattle.mps_reader.proofs.HeaderTells.{header-more, lacks-objective, first-open, header-tells, end-fault, other-fault}
+use Rattle.mps_reader.specs.declared.sections.Section.{Section}
 use Rattle.mps_reader.proofs.FitFacts.{header-fits}
 use Rattle.mps_reader.proofs.reading.take_header_line.Goals as goal
 
@@ -7,3 +16,53 @@ returns-then-is-clause-fit c = header-fits c.args.reading.now _ c.requires.fit c
 
 pub returns-clause-fit : goal.returns-clause-fit
 returns-clause-fit c = header-fits c.args.reading.now _ c.requires.fit c.in_ok-close_column.ensures.fit c.in_ok-close_column.ensures.closed refl
+
+pub returns-in_err-reading-clause-fault : goal.returns-in_err-reading-clause-fault
+returns-in_err-reading-clause-fault c = λ before h.
+    let word : field 0 (bytes_of c.args.fields.now) ≡ (get_or c.args.fields.now 0 no_name).now = field-at c.args.fields.now 0 (omega (arith, c.requires.some)) in
+    let more = header-more c.args.fields.now in
+    let lacks = lacks-objective before c.args.reading.now h ∙ ap not (sym c.is_some-has_objective.ensures) in
+    let r : c.from_residual-in_err-reading.result ≡ Err c.in_err-reading.field-0.0 = search rules in
+    handed-up Section c.from_residual-in_err-reading.result c.in_err-reading.field-0.0 _ _ _ r
+    (λ kind k. ap (λ w. header_fault before w (drop 1 (bytes_of c.args.fields.now))) word ∙ ap (header_fault before (get_or c.args.fields.now 0 no_name).now) (sym more) ∙ k) (c.in_err-reading.ensures.fault before h.section lacks)
+
+pub returns-in_err-refuse_open-clause-fault : goal.returns-in_err-refuse_open-clause-fault
+returns-in_err-refuse_open-clause-fault c = λ before h.
+    let word : field 0 (bytes_of c.args.fields.now) ≡ (get_or c.args.fields.now 0 no_name).now = field-at c.args.fields.now 0 (omega (arith, c.requires.some)) in
+    let more = header-more c.args.fields.now in
+    let lacks = lacks-objective before c.args.reading.now h ∙ ap not (sym c.is_some-has_objective.ensures) in
+    let left = ap (λ w. header_fault before w (drop 1 (bytes_of c.args.fields.now))) word ∙ ap (header_fault before (get_or c.args.fields.now 0 no_name).now) (sym more) ∙ c.in_ok-reading.ensures.fault before h.section lacks in
+    let states = ap (λ ss. option_map NotBinary (position (λ s. not (is_binary_state s)) ss)) (c.as_slice.ensures.value ∙ ap (λ s. s.items) c.in_ok-close_column.ensures.states) ∙ first-open before c.args.reading.now.columns.states.items h.lines.of_columns.states in
+    let r : c.from_residual-in_err-refuse_open.result ≡ Err c.in_err-refuse_open.field-0.0 = search rules in
+    handed-on (Unit {0}) c.from_residual-in_err-refuse_open.result c.in_err-refuse_open.field-0.0 _ _ r
+    (λ kind k. ap (λ w. header_fault before w (drop 1 (bytes_of c.args.fields.now))) word ∙ end-fault before (get_or c.args.fields.now 0 no_name).now (drop 1 (bytes_of c.args.fields.now)) (Some kind) (sym (ap (λ w. header_fault before w (drop 1 (bytes_of c.args.fields.now))) word) ∙ left) (sym c.is.ensures ∙ c.if-is.true) (sym states ∙ k))
+    c.in_err-refuse_open.ensures
+
+pub returns-then-is-clause-fault : goal.returns-then-is-clause-fault
+returns-then-is-clause-fault c = λ before h.
+    let word : field 0 (bytes_of c.args.fields.now) ≡ (get_or c.args.fields.now 0 no_name).now = field-at c.args.fields.now 0 (omega (arith, c.requires.some)) in
+    let more = header-more c.args.fields.now in
+    let lacks = lacks-objective before c.args.reading.now h ∙ ap not (sym c.is_some-has_objective.ensures) in
+    let left = ap (λ w. header_fault before w (drop 1 (bytes_of c.args.fields.now))) word ∙ ap (header_fault before (get_or c.args.fields.now 0 no_name).now) (sym more) ∙ c.in_ok-reading.ensures.fault before h.section lacks in
+    let states = ap (λ ss. option_map NotBinary (position (λ s. not (is_binary_state s)) ss)) (c.as_slice.ensures.value ∙ ap (λ s. s.items) c.in_ok-close_column.ensures.states) ∙ first-open before c.args.reading.now.columns.states.items h.lines.of_columns.states in
+    ap (λ w. header_fault before w (drop 1 (bytes_of c.args.fields.now))) word
+    ∙ end-fault before (get_or c.args.fields.now 0 no_name).now (drop 1 (bytes_of c.args.fields.now)) None (sym (ap (λ w. header_fault before w (drop 1 (bytes_of c.args.fields.now))) word) ∙ left) (sym c.is.ensures ∙ c.if-is.true) (sym states ∙ c.in_ok-refuse_open.ensures)
+
+pub returns-clause-fault : goal.returns-clause-fault
+returns-clause-fault c = λ before h.
+    let word : field 0 (bytes_of c.args.fields.now) ≡ (get_or c.args.fields.now 0 no_name).now = field-at c.args.fields.now 0 (omega (arith, c.requires.some)) in
+    let more = header-more c.args.fields.now in
+    let lacks = lacks-objective before c.args.reading.now h ∙ ap not (sym c.is_some-has_objective.ensures) in
+    let left = ap (λ w. header_fault before w (drop 1 (bytes_of c.args.fields.now))) word ∙ ap (header_fault before (get_or c.args.fields.now 0 no_name).now) (sym more) ∙ c.in_ok-reading.ensures.fault before h.section lacks in
+    ap (λ w. header_fault before w (drop 1 (bytes_of c.args.fields.now))) word
+    ∙ other-fault before (get_or c.args.fields.now 0 no_name).now (drop 1 (bytes_of c.args.fields.now)) (sym (ap (λ w. header_fault before w (drop 1 (bytes_of c.args.fields.now))) word) ∙ left) (sym c.is.ensures ∙ c.if-is.false)
+
+pub returns-then-is-clause-tells : goal.returns-then-is-clause-tells
+returns-then-is-clause-tells c = λ before more h.
+    let word : field 0 (bytes_of c.args.fields.now) ≡ (get_or c.args.fields.now 0 no_name).now = field-at c.args.fields.now 0 (omega (arith, c.requires.some)) in
+    header-tells before (field 0 (bytes_of c.args.fields.now)) more c.args.reading.now c.in_ok-reading.field-0 c.close_column.new.columns c.in_ok-reading.ensures.order (c.in_ok-reading.ensures.opened ∙ sym word) c.in_ok-close_column.ensures.names c.in_ok-close_column.ensures.closed c.in_ok-close_column.ensures.tells c.requires.fit h
+
+pub returns-clause-tells : goal.returns-clause-tells
+returns-clause-tells c = λ before more h.
+    let word : field 0 (bytes_of c.args.fields.now) ≡ (get_or c.args.fields.now 0 no_name).now = field-at c.args.fields.now 0 (omega (arith, c.requires.some)) in
+    header-tells before (field 0 (bytes_of c.args.fields.now)) more c.args.reading.now c.in_ok-reading.field-0 c.close_column.new.columns c.in_ok-reading.ensures.order (c.in_ok-reading.ensures.opened ∙ sym word) c.in_ok-close_column.ensures.names c.in_ok-close_column.ensures.closed c.in_ok-close_column.ensures.tells c.requires.fit h

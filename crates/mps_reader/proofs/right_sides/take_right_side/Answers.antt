@@ -3,6 +3,19 @@ use Rattle.mps_reader.specs.Rows.{names_of, row_names}
 use Rattle.mps_reader.proofs.NameFacts.{length-places, placed}
 use Rattle.mps_reader.proofs.PairSteps.{get-below, get-from, length-names, length-stamped}
 use Rattle.mps_reader.proofs.FitFacts.{sided-fit, same-names, side-count}
+use Rattle.std.proofs.Common.{rules, ◌≡◌, sym, subst, ℕ, false, map, w64}
+use Rattle.std.specs.Prelude.{Err, bytes_eq, slice_get, ◌||◌, if◌then◌else◌}
+use Rattle.std.specs.List.{list_any, IsDistinct, AllByRecursion}
+use Rattle.std.specs.Option.{option_map_or}
+use Rattle.std.proofs.lemmas.Int.{to_z-of_z}
+use mir.Val.{SFits, to_z, of_z}
+use Rattle.program_rows.specs.Meaning.{field, value}
+use Rattle.mps_reader.specs.Rows.{StampsAre, with_side}
+use Rattle.mps_reader.specs.Told.{rows_by}
+use Rattle.mps_reader.proofs.NameFacts.{distinct-rows}
+use Rattle.mps_reader.proofs.AnswerFacts.{handed-on}
+use Rattle.mps_reader.proofs.PairTells.{stamped-are, row-at, free-apart}
+use Rattle.mps_reader.proofs.SideTells.{row-names-by, none-by, side-by, early-refused}
 use Rattle.mps_reader.proofs.right_sides.take_right_side.Goals as goal
 
 pub index-requires : goal.index-requires
@@ -28,3 +41,42 @@ returns-clause-fit c =
 
 pub returns-clause-count : goal.returns-clause-count
 returns-clause-count c = side-count c.in-Some.place _ c.set_right_side.new.rows.items c.args.rows.now.rows.items c.set_right_side.ensures
+
+pub returns-in_err-index-clause-fault : goal.returns-in_err-index-clause-fault
+returns-in_err-index-clause-fault c = λ has s.
+    let r : c.from_residual.result ≡ Err c.in_err-index.field-0.0 = search rules in
+    handed-on ℕ c.from_residual.result c.in_err-index.field-0.0 _ _ r
+    (λ kind. early-refused (list_any (bytes_eq c.args.row.now) (names_of c.args.rows.now.names)) (has c.args.row.now) (option_map_or (λ name. bytes_eq c.args.row.now name.now) c.args.rows.now.objective false) c.args.token.now kind)
+    (c.in_err-index.ensures.fault has s)
+
+pub returns-in_default-clause-stamps : goal.returns-in_default-clause-stamps
+returns-in_default-clause-stamps c = λ has h.
+    subst (λ s. StampsAre s c.args.stamp (names_of c.args.rows.now.names) (λ name. bytes_eq name c.args.row.now || has name)) (sym c.in_ok-index.ensures.stamped)
+    (stamped-are c.args.stamp has c.args.rows.now.stamps.items (names_of c.args.rows.now.names) c.in_ok-index.index c.args.row.now c.requires.fit.distinct c.in_ok-index.ensures.index h)
+
+pub returns-clause-stamps : goal.returns-clause-stamps
+returns-clause-stamps c = λ has h.
+    subst (λ s. StampsAre s c.args.stamp (names_of c.args.rows.now.names) (λ name. bytes_eq name c.args.row.now || has name)) (sym c.in_ok-index.ensures.stamped)
+    (stamped-are c.args.stamp has c.args.rows.now.stamps.items (names_of c.args.rows.now.names) c.in_ok-index.index c.args.row.now c.requires.fit.distinct c.in_ok-index.ensures.index h)
+
+pub returns-in_default-clause-rows : goal.returns-in_default-clause-rows
+returns-in_default-clause-rows c = λ side lines h.
+    let low = get-below (names_of c.args.rows.now.names) c.in_ok-index.index c.args.row.now c.in_ok-index.ensures.index in
+    let size = length-places 0 (names_of c.args.rows.now.names) c.args.rows.now.places.items (row_names c.args.rows.now.rows.items) c.requires.fit.places in
+    let found : slice_get c.args.rows.now.places.items c.in_ok-index.index ≡ Some c.index.result.now = get-from c.args.rows.now.places.items c.in_ok-index.index c.index.result.now (omega arith) c.index.ensures in
+    let names : row_names c.args.rows.now.rows.items ≡ map (field 1) lines = row-names-by c.args.rows.now.rows.items side lines h in
+    let free = free-apart 0 (names_of c.args.rows.now.names) c.args.rows.now.places.items (row_names c.args.rows.now.rows.items) c.in_ok-index.index c.args.row.now c.requires.fit.places c.requires.fit.distinct c.in_ok-index.ensures.index (found ∙ ap (λ o. Some o) c.in_default.is) in
+    h ∙ none-by side c.args.row.now (value c.args.token.now) lines (subst (λ ns. AllByRecursion (λ n. bytes_eq c.args.row.now n ≡ false) ns) names free)
+
+pub returns-clause-rows : goal.returns-clause-rows
+returns-clause-rows c = λ side lines h.
+    let low = get-below (names_of c.args.rows.now.names) c.in_ok-index.index c.args.row.now c.in_ok-index.ensures.index in
+    let size = length-places 0 (names_of c.args.rows.now.names) c.args.rows.now.places.items (row_names c.args.rows.now.rows.items) c.requires.fit.places in
+    let found : slice_get c.args.rows.now.places.items c.in_ok-index.index ≡ Some c.index.result.now = get-from c.args.rows.now.places.items c.in_ok-index.index c.index.result.now (omega arith) c.index.ensures in
+    let names : row_names c.args.rows.now.rows.items ≡ map (field 1) lines = row-names-by c.args.rows.now.rows.items side lines h in
+    let fits : SFits w64 c.in_ok-value.value = search rules in
+    let same : to_z w64 (of_z w64 c.in_ok-value.value) ≡ c.in_ok-value.value = to_z-of_z w64 c.in_ok-value.value fits in
+    let stands = row-at 0 (names_of c.args.rows.now.names) c.args.rows.now.places.items (row_names c.args.rows.now.rows.items) c.in_ok-index.index c.in-Some.place c.args.row.now c.requires.fit.places c.in_ok-index.ensures.index (found ∙ ap (λ o. Some o) (c.in-Some.is ∙ ap (λ n. Some n) (omega arith))) in
+    c.set_right_side.ensures ∙ ap (with_side c.in-Some.place _) h
+    ∙ side-by side c.args.row.now _ c.in-Some.place lines (subst (λ ns. IsDistinct bytes_eq ns) names (distinct-rows 0 (names_of c.args.rows.now.names) c.args.rows.now.places.items (row_names c.args.rows.now.rows.items) c.requires.fit.places c.requires.fit.distinct)) (subst (λ ns. slice_get ns c.in-Some.place ≡ Some c.args.row.now) names stands)
+    ∙ ap (λ z. rows_by (λ n. if bytes_eq n c.args.row.now then z else side n) lines) (same ∙ sym c.in_ok-value.ensures.value)

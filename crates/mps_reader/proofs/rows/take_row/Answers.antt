@@ -1,9 +1,12 @@
 use Rattle.std.proofs.Common.{◌≡◌, ◌++◌, ◌∷◌, [], Bool, false, refl, sym, ap, ◌∙◌, get_or, length, arith}
-use Rattle.std.specs.Prelude.{bytes_eq, if◌then◌else◌}
+use Rattle.std.specs.Prelude.{bytes_eq, codes, if◌then◌else◌}
 use Rattle.std.specs.List.{list_any}
 use Rattle.std.proofs.lemmas.Bool.{not-true}
 use Rattle.mps_reader.specs.Rows.{names_of}
 use Rattle.mps_reader.proofs.RowSteps.{no_name, added-free, added-bound, name-at, grown}
+use Rattle.mps_reader.specs.Reading.{bytes_of}
+use Rattle.mps_reader.proofs.RowSteps.{field-at}
+use Rattle.mps_reader.proofs.RowTells.{tells-free, tells-bound}
 use Rattle.mps_reader.proofs.rows.take_row.Goals as goal
 
 pub returns-then-is-clause-fit : goal.returns-then-is-clause-fit
@@ -25,3 +28,15 @@ returns-then-is-clause-grows c = let same = ap (λ rs. length rs.items) c.in_ok-
 
 pub returns-clause-grows : goal.returns-clause-grows
 returns-clause-grows c = grown c.add_bound.new.rows.rows.items c.args.rows.now.rows.items _ c.in_ok-add_bound.ensures.rows
+
+pub returns-then-is-clause-tells : goal.returns-then-is-clause-tells
+returns-then-is-clause-tells c = λ lines h.
+    let names = c.in_ok-is_new.ensures.names ∙ ap (λ (b : Bool). if b then names_of c.args.rows.now.names ++ (get_or c.args.fields.now 1 no_name).now ∷ [] else names_of c.args.rows.now.names) c.if-not-is_new.false in
+    let free = ap (λ w. bytes_eq w (codes "N")) (field-at c.args.fields.now 0 (omega arith)) ∙ sym c.is.ensures ∙ c.if-is.true in
+    tells-free (bytes_of c.args.fields.now) lines c.args.rows.now (record c.args.rows.now { names = c.insert_name.new.names }) c.add_free.new.rows (get_or c.args.fields.now 1 no_name).now free (field-at c.args.fields.now 1 (omega arith)) names refl refl c.in_ok-add_free.ensures h
+
+pub returns-clause-tells : goal.returns-clause-tells
+returns-clause-tells c = λ lines h.
+    let names = c.in_ok-is_new.ensures.names ∙ ap (λ (b : Bool). if b then names_of c.args.rows.now.names ++ (get_or c.args.fields.now 1 no_name).now ∷ [] else names_of c.args.rows.now.names) c.if-not-is_new.false in
+    let bound = ap (λ w. bytes_eq w (codes "N")) (field-at c.args.fields.now 0 (omega arith)) ∙ sym c.is.ensures ∙ c.if-is.false in
+    tells-bound (bytes_of c.args.fields.now) lines c.args.rows.now (record c.args.rows.now { names = c.insert_name.new.names }) c.add_bound.new.rows (get_or c.args.fields.now 0 no_name).now (get_or c.args.fields.now 1 no_name).now bound (field-at c.args.fields.now 0 (omega arith)) (field-at c.args.fields.now 1 (omega arith)) names refl refl c.in_ok-add_bound.ensures h

@@ -1,0 +1,218 @@
+-- Right sides are those of the lines so far.
+use Rattle.std.proofs.Common.{◌≡◌, ◌≢◌, ℕ, zero, suc, Bool, true, false, not, ◌||◌, ◌&&◌, List, [], ◌∷◌, ◌++◌, length, map, take, drop, refl, sym, ap, subst, ◌∙◌, arith, Option, Some, None, ℤ, pos}
+use Rattle.std.specs.Prelude.{◌==◌, ◌-◌, ◌%◌, nat_le, slice_get, bytes_eq, find, is_none, if◌then◌else◌}
+use Rattle.std.specs.Ordering.{int_eq}
+use Rattle.std.specs.List.{list_any, AllByRecursion, IsDistinct}
+use Rattle.std.specs.Option.{option_map_or}
+use Rattle.std.proofs.lemmas.Bool.{eqb-true, both_ways}
+use Rattle.std.proofs.lemmas.List.{length-drop}
+use Rattle.std.proofs.Math.Seq.{take-length}
+use denote.Ref.{Bor}
+use Rattle.program_rows.specs.Lines.{Line}
+use Rattle.program_rows.specs.declared.fault.FaultKind.{FaultKind}
+use Rattle.program_rows.specs.declared.fault.FaultKind.TheVariants.{UnknownRow, EntryRepeated, ObjectiveConstant}
+use Rattle.program_rows.specs.declared.row.Row.{Row}
+use Rattle.program_rows.specs.Program.{TableRow}
+use Rattle.program_rows.specs.Parts.{shown_row}
+use Rattle.program_rows.specs.Meaning.{LineFields, field, pairs, kind_of, value, number_fault, earliest_fault, when, is_declared, is_objective, right_sides, line_right_sides, right_sides_fault, right_side_fault}
+use Rattle.mps_reader.specs.Reading.{bytes_of}
+use Rattle.mps_reader.specs.Rows.{StampsAre, row_names, with_side}
+use Rattle.mps_reader.specs.Told.{rows_by, side_in, side_fault}
+use Rattle.mps_reader.proofs.NameFacts.{own_name, same_name, length-bytes}
+use Rattle.mps_reader.proofs.RowSteps.{names-shown}
+use Rattle.mps_reader.proofs.PairTells.{flip-name, all-at}
+use Rattle.mps_reader.proofs.EntriesTell.{stamps-same}
+
+-- ---- one right side
+
+pub names-by : (side : List ℕ → ℤ) (lines : List LineFields) → map (λ (r : TableRow). r.name) (rows_by side lines) ≡ map (field 1) lines
+names-by side [] = refl
+names-by side (f ∷ lines) = ap (λ ns. field 1 f ∷ ns) (names-by side lines)
+
+pub row-names-by : (rows : List Row) (side : List ℕ → ℤ) (lines : List LineFields) → map shown_row rows ≡ rows_by side lines → row_names rows ≡ map (field 1) lines
+row-names-by rows side lines h = names-shown rows ∙ ap (map (λ (r : TableRow). r.name)) h ∙ names-by side lines
+
+pub rows-same : (side other : List ℕ → ℤ) (lines : List LineFields) → ((n : List ℕ) → side n ≡ other n) → rows_by side lines ≡ rows_by other lines
+rows-same side other [] e = refl
+rows-same side other (f ∷ lines) e = rw (e (field 1 f)) (ap (λ rs. record { name = field 1 f; kind = kind_of (field 0 f); right_side = other (field 1 f) } ∷ rs) (rows-same side other lines e))
+
+-- a row that is none of these changes nothing
+pub none-by : (side : List ℕ → ℤ) (row : List ℕ) (v : ℤ) (lines : List LineFields) → AllByRecursion (λ n. bytes_eq row n ≡ false) (map (field 1) lines) → rows_by side lines ≡ rows_by (λ n. if bytes_eq n row then v else side n) lines
+none-by side row v [] h = refl
+none-by side row v (f ∷ lines) h = rw (flip-name row (field 1 f) h.0) (ap (λ rs. record { name = field 1 f; kind = kind_of (field 0 f); right_side = side (field 1 f) } ∷ rs) (none-by side row v lines h.1))
+
+pub side-by : (side : List ℕ → ℤ) (row : List ℕ) (v : ℤ) (place : ℕ) (lines : List LineFields) → IsDistinct bytes_eq (map (field 1) lines) → slice_get (map (field 1) lines) place ≡ Some row → with_side place v (rows_by side lines) ≡ rows_by (λ n. if bytes_eq n row then v else side n) lines
+unfolding IsDistinct
+side-by side row v place [] d e = absurd cc
+side-by side row v zero (f ∷ lines) d e =
+    let same : field 1 f ≡ row = cc in
+    rw (same, own_name row) (ap (λ rs. record { name = row; kind = kind_of (field 0 f); right_side = v } ∷ rs) (none-by side row v lines (subst (λ n. AllByRecursion (λ y. bytes_eq n y ≡ false) (map (field 1) lines)) same d.0)))
+side-by side row v (suc place) (f ∷ lines) d e =
+    rw (all-at (λ y. bytes_eq (field 1 f) y ≡ false) (map (field 1) lines) place row e d.0) (ap (λ rs. record { name = field 1 f; kind = kind_of (field 0 f); right_side = side (field 1 f) } ∷ rs) (side-by side row v place lines d.1 e))
+
+-- ---- the pairs of a line
+
+pub one-pair : (f : LineFields) → length f ≡ 2 → pairs f ≡ (field 0 f, field 1 f) ∷ []
+one-pair [] h = absurd (omega arith)
+one-pair (a ∷ []) h = absurd (omega arith)
+one-pair (a ∷ b ∷ []) h = refl
+one-pair (a ∷ b ∷ c ∷ f) h = absurd (omega arith)
+
+pub two-pairs : (f : LineFields) → length f ≡ 4 → pairs f ≡ (field 0 f, field 1 f) ∷ (field 2 f, field 3 f) ∷ []
+two-pairs [] h = absurd (omega arith)
+two-pairs (a ∷ []) h = absurd (omega arith)
+two-pairs (a ∷ b ∷ []) h = absurd (omega arith)
+two-pairs (a ∷ b ∷ c ∷ []) h = absurd (omega arith)
+two-pairs (a ∷ b ∷ c ∷ d ∷ []) h = refl
+two-pairs (a ∷ b ∷ c ∷ d ∷ e ∷ f) h = absurd (omega arith)
+
+pub record AreOne (f : LineFields) (row number : List ℕ) : Type 0 where
+  pub size : length f ≡ 2
+  pub row-is : field 0 f ≡ row
+  pub number-is : field 1 f ≡ number
+
+pub shown-one : (f : LineFields) (row number : List ℕ) → AreOne f row number → pairs f ≡ (row, number) ∷ []
+shown-one f row number a = one-pair f a.size ∙ rw (a.row-is, a.number-is) refl
+
+pub record AreTwo (f : LineFields) (row number row2 number2 : List ℕ) : Type 0 where
+  pub size : length f ≡ 4
+  pub row-is : field 0 f ≡ row
+  pub number-is : field 1 f ≡ number
+  pub row2-is : field 2 f ≡ row2
+  pub number2-is : field 3 f ≡ number2
+
+pub shown-two : (f : LineFields) (row number row2 number2 : List ℕ) → AreTwo f row number row2 number2 → pairs f ≡ (row, number) ∷ (row2, number2) ∷ []
+shown-two f row number row2 number2 a = two-pairs f a.size ∙ rw (a.row-is, a.number-is, a.row2-is, a.number2-is) refl
+
+abbrev pub has_side : List (List ℕ × List ℕ) → List ℕ → Bool
+has_side earlier row = list_any (λ other. bytes_eq row other.0) earlier
+
+pub one-stamps : (f : LineFields) (row number : List ℕ) (stamps : List ℕ) (stamp : ℕ) (ns : List (List ℕ)) (earlier : List (List ℕ × List ℕ)) → AreOne f row number
+    → StampsAre stamps stamp ns (λ n. bytes_eq n row || has_side earlier n) → StampsAre stamps stamp ns (has_side (pairs f ++ earlier))
+one-stamps f row number stamps stamp ns earlier a h = stamps-same stamps stamp ns (λ n. bytes_eq n row || has_side earlier n) (has_side (pairs f ++ earlier)) (λ n. ap (λ ps. has_side (ps ++ earlier) n) (sym (shown-one f row number a))) h
+
+swap-or : (a b c : Bool) → (a || (b || c)) ≡ (b || (a || c))
+swap-or true true c = refl
+swap-or true false c = refl
+swap-or false true c = refl
+swap-or false false c = refl
+
+pub two-stamps : (f : LineFields) (row number row2 number2 : List ℕ) (stamps : List ℕ) (stamp : ℕ) (ns : List (List ℕ)) (earlier : List (List ℕ × List ℕ)) → AreTwo f row number row2 number2
+    → StampsAre stamps stamp ns (λ n. bytes_eq n row2 || (bytes_eq n row || has_side earlier n)) → StampsAre stamps stamp ns (has_side (pairs f ++ earlier))
+two-stamps f row number row2 number2 stamps stamp ns earlier a h = stamps-same stamps stamp ns (λ n. bytes_eq n row2 || (bytes_eq n row || has_side earlier n)) (has_side (pairs f ++ earlier))
+    (λ n. swap-or (bytes_eq n row2) (bytes_eq n row) (has_side earlier n) ∙ ap (λ ps. has_side (ps ++ earlier) n) (sym (shown-two f row number row2 number2 a))) h
+
+side-one : (row number : List ℕ) (earlier : List (List ℕ × List ℕ)) (n : List ℕ) → (if bytes_eq n row then value number else side_in earlier n) ≡ side_in ((row, number) ∷ earlier) n
+side-one row number earlier n = by (bytes_eq n row)
+  where
+    by : (b : Bool) → (if b then value number else side_in earlier n) ≡ option_map_or (λ (p : List ℕ × List ℕ). value p.1) (if b then Some (row, number) else find (λ (p : List ℕ × List ℕ). bytes_eq n p.0) earlier) (pos 0)
+    by true = refl
+    by false = refl
+
+side-two : (row number row2 number2 : List ℕ) (earlier : List (List ℕ × List ℕ)) → bytes_eq row2 row ≡ false → (n : List ℕ)
+    → (if bytes_eq n row2 then value number2 else side_in ((row, number) ∷ earlier) n) ≡ side_in ((row, number) ∷ (row2, number2) ∷ earlier) n
+side-two row number row2 number2 earlier differ n = by (bytes_eq n row2) (bytes_eq n row) refl refl
+  where
+    by : (a b : Bool) → bytes_eq n row2 ≡ a → bytes_eq n row ≡ b
+        → (if a then value number2 else option_map_or (λ (p : List ℕ × List ℕ). value p.1) (if b then Some (row, number) else find (λ (p : List ℕ × List ℕ). bytes_eq n p.0) earlier) (pos 0))
+        ≡ option_map_or (λ (p : List ℕ × List ℕ). value p.1) (if b then Some (row, number) else (if a then Some (row2, number2) else find (λ (p : List ℕ × List ℕ). bytes_eq n p.0) earlier)) (pos 0)
+    by true true h k = absurd (both_ways _ differ (subst (λ x. bytes_eq x row ≡ true) (same_name n row2 h) k))
+    by true false h k = refl
+    by false true h k = refl
+    by false false h k = refl
+
+pub one-rows : (f : LineFields) (row number : List ℕ) (shown : List TableRow) (earlier : List (List ℕ × List ℕ)) (lines : List LineFields) → AreOne f row number
+    → shown ≡ rows_by (λ n. if bytes_eq n row then value number else side_in earlier n) lines → shown ≡ rows_by (side_in (pairs f ++ earlier)) lines
+one-rows f row number shown earlier lines a h = h ∙ rows-same (λ n. if bytes_eq n row then value number else side_in earlier n) (side_in (pairs f ++ earlier)) lines
+    (λ n. side-one row number earlier n ∙ ap (λ ps. side_in (ps ++ earlier) n) (sym (shown-one f row number a)))
+
+pub two-rows : (f : LineFields) (row number row2 number2 : List ℕ) (shown : List TableRow) (earlier : List (List ℕ × List ℕ)) (lines : List LineFields) → AreTwo f row number row2 number2 → bytes_eq row2 row ≡ false
+    → shown ≡ rows_by (λ n. if bytes_eq n row2 then value number2 else (if bytes_eq n row then value number else side_in earlier n)) lines → shown ≡ rows_by (side_in (pairs f ++ earlier)) lines
+two-rows f row number row2 number2 shown earlier lines a differ h = h ∙ rows-same (λ n. if bytes_eq n row2 then value number2 else (if bytes_eq n row then value number else side_in earlier n)) (side_in (pairs f ++ earlier)) lines
+    (λ n. ap (λ z. if bytes_eq n row2 then value number2 else z) (side-one row number earlier n) ∙ side-two row number row2 number2 earlier differ n ∙ ap (λ ps. side_in (ps ++ earlier) n) (sym (shown-two f row number row2 number2 a)))
+
+-- ---- faults
+
+-- what the checks of a pair find, if they find nothing goes to those of the next
+first-is : (known repeated cost : Bool) (number : List ℕ) (last : Option FaultKind) → (side : Option FaultKind) → side_fault known repeated cost number ≡ side
+    → earliest_fault (when (not known) UnknownRow ∷ when repeated EntryRepeated ∷ number_fault number ∷ when (cost && not (int_eq (value number) (pos 0))) ObjectiveConstant ∷ last ∷ []) ≡ (if is_none side then last else side)
+first-is false r c number last side h = rw (sym h) refl
+first-is true true c number last side h = rw (sym h) refl
+first-is true false c number last side h = by (number_fault number) (c && not (int_eq (value number) (pos 0))) h
+  where
+    last-of : (o : Option FaultKind) → earliest_fault (o ∷ []) ≡ o
+    last-of None = refl
+    last-of (Some k) = refl
+
+    by : (n : Option FaultKind) (b : Bool) → earliest_fault (n ∷ when b ObjectiveConstant ∷ []) ≡ side → earliest_fault (n ∷ when b ObjectiveConstant ∷ last ∷ []) ≡ (if is_none side then last else side)
+    by (Some k) b h = rw (sym h) refl
+    by None true h = rw (sym h) refl
+    by None false h = rw (sym h) (last-of last)
+
+-- the first of the pairs of a line
+pub begins : (before : List Line) (earlier : List (List ℕ × List ℕ)) (row number : List ℕ) (more : List (List ℕ × List ℕ)) (known cost : Bool) (side : Option FaultKind) → is_declared before row ≡ known → is_objective before row ≡ cost
+    → side_fault known (has_side earlier row) cost number ≡ side → right_sides_fault before earlier ((row, number) ∷ more) ≡ (if is_none side then right_sides_fault before ((row, number) ∷ earlier) more else side)
+begins before earlier row number more known cost side d o h = rw (d, o) (first-is known (has_side earlier row) cost number (right_sides_fault before ((row, number) ∷ earlier) more) side h)
+
+pub not-repeated : (known r cost : Bool) (number : List ℕ) → side_fault known r cost number ≡ None → r ≡ false
+not-repeated false r cost number h = absurd cc
+not-repeated true true cost number h = absurd cc
+not-repeated true false cost number h = refl
+
+pub first-refused : (before : List Line) (earlier : List (List ℕ × List ℕ)) (f : LineFields) (row number : List ℕ) (known cost : Bool) (kind : FaultKind) → ((length f == 2) || (length f == 4)) ≡ true → field 0 f ≡ row → field 1 f ≡ number
+    → is_declared before row ≡ known → is_objective before row ≡ cost → side_fault known (has_side earlier row) cost number ≡ Some kind → right_sides_fault before earlier (pairs f) ≡ Some kind
+first-refused before earlier f row number known cost kind count same told d o h = by (length f == 2) refl
+  where
+    by : (b : Bool) → (length f == 2) ≡ b → right_sides_fault before earlier (pairs f) ≡ Some kind
+    by true e =
+        let shown : pairs f ≡ (row, number) ∷ [] = one-pair f (eqb-true _ _ e) ∙ rw (same, told) refl in
+        ap (right_sides_fault before earlier) shown ∙ begins before earlier row number [] known cost (Some kind) d o h
+    by false e =
+        let shown : pairs f ≡ (row, number) ∷ (field 2 f, field 3 f) ∷ [] = two-pairs f (eqb-true _ _ (ap (λ b. b || (length f == 4)) (sym e) ∙ count)) ∙ rw (same, told) refl in
+        ap (right_sides_fault before earlier) shown ∙ begins before earlier row number ((field 2 f, field 3 f) ∷ []) known cost (Some kind) d o h
+
+pub one-told : (before : List Line) (earlier : List (List ℕ × List ℕ)) (f : LineFields) (row number : List ℕ) (known cost : Bool) → AreOne f row number → is_declared before row ≡ known → is_objective before row ≡ cost
+    → side_fault known (has_side earlier row) cost number ≡ None → right_sides_fault before earlier (pairs f) ≡ None
+one-told before earlier f row number known cost a d o h = ap (right_sides_fault before earlier) (shown-one f row number a) ∙ begins before earlier row number [] known cost None d o h
+
+if-none : (side : Option FaultKind) → (if is_none side then None else side) ≡ side
+if-none None = refl
+if-none (Some k) = refl
+
+pub second-told : (before : List Line) (earlier : List (List ℕ × List ℕ)) (f : LineFields) (row number row2 number2 : List ℕ) (known known2 cost cost2 : Bool) → AreTwo f row number row2 number2 → is_declared before row ≡ known → is_declared before row2 ≡ known2
+    → is_objective before row ≡ cost → is_objective before row2 ≡ cost2 → side_fault known (has_side earlier row) cost number ≡ None
+    → right_sides_fault before earlier (pairs f) ≡ side_fault known2 (bytes_eq row2 row || has_side earlier row2) cost2 number2
+second-told before earlier f row number row2 number2 known known2 cost cost2 a d d2 o o2 h =
+    ap (right_sides_fault before earlier) (shown-two f row number row2 number2 a) ∙ begins before earlier row number ((row2, number2) ∷ []) known cost None d o h
+    ∙ begins before ((row, number) ∷ earlier) row2 number2 [] known2 cost2 (side_fault known2 (bytes_eq row2 row || has_side earlier row2) cost2 number2) d2 o2 refl ∙ if-none _
+
+pub two : (n : ℕ) → ((n == 2) || (n == 4)) ≡ true → n ≢ 4 → n ≡ 2
+two n h ne = by (n == 2) refl
+  where
+    by : (b : Bool) → (n == 2) ≡ b → n ≡ 2
+    by true e = eqb-true _ _ e
+    by false e = absurd (ne (eqb-true _ _ (ap (λ b. b || (n == 4)) (sym e) ∙ h)))
+
+pub early-refused : (known r cost : Bool) (number : List ℕ) (kind : FaultKind) → earliest_fault (when (not known) UnknownRow ∷ when r EntryRepeated ∷ []) ≡ Some kind → side_fault known r cost number ≡ Some kind
+early-refused false r cost number kind h = h
+early-refused true true cost number kind h = h
+early-refused true false cost number kind h = absurd cc
+
+-- ---- a whole line
+
+pub bytes-drop : (k : ℕ) (fields : List (Bor (List ℕ))) → bytes_of (drop k fields) ≡ drop k (bytes_of fields)
+bytes-drop zero fields = refl
+bytes-drop (suc k) [] = refl
+bytes-drop (suc k) (f ∷ fields) = bytes-drop k fields
+
+pub line-pairs : (fields : List (Bor (List ℕ))) → line_right_sides (bytes_of fields) ≡ pairs (bytes_of (take (length fields - length fields % 2) (drop (length fields % 2) fields)))
+line-pairs fields =
+    let whole : take (length fields - length fields % 2) (drop (length fields % 2) fields) ≡ drop (length fields % 2) fields = ap (λ n. take n (drop (length fields % 2) fields)) (sym (length-drop (length fields % 2) fields)) ∙ take-length (drop (length fields % 2) fields) in
+    ap (λ n. pairs (drop (n % 2) (bytes_of fields))) (length-bytes fields) ∙ ap pairs (sym (bytes-drop (length fields % 2) fields)) ∙ ap (λ fs. pairs (bytes_of fs)) (sym whole)
+
+pub line-fault : (before : List Line) (f : LineFields) (fault : Option FaultKind) → (nat_le 2 (length f) && nat_le (length f) 5) ≡ true → right_sides_fault before (right_sides before) (line_right_sides f) ≡ fault → right_side_fault before f ≡ fault
+line-fault before f fault count h = rw count (last-of (right_sides_fault before (right_sides before) (line_right_sides f)) h)
+  where
+    last-of : (o : Option FaultKind) → o ≡ fault → earliest_fault (o ∷ []) ≡ fault
+    last-of None e = e
+    last-of (Some k) e = e

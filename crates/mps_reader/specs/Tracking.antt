@@ -1,0 +1,123 @@
+-- What a reading holds of the lines before.
+use Rattle.std.specs.Prelude.{◌≡◌, ℕ, ◌+◌, ◌++◌, ◌≤◌, ◌==◌, Bool, true, false, List, [], ◌∷◌, length, map, slice_get, if◌then◌else◌, ℤ, pos, Option, Some, None, IfSome, is_some, codes, bytes_eq, option_map, unwrap_or}
+use Rattle.std.specs.List.{list_any, AllByRecursion}
+use Rattle.std.specs.Option.{option_map_or}
+use denote.Ref.{Bor}
+use Rattle.program_rows.specs.Lines.{Line}
+use Rattle.program_rows.specs.declared.bounds.Bounds.TheVariants.{ZeroOrOne}
+use Rattle.program_rows.specs.Program.{TableColumn}
+use Rattle.program_rows.specs.Parts.{shown_row}
+use Rattle.program_rows.specs.Meaning.{LineFields, section, data_under, is_integer_open, names}
+use Rattle.mps_reader.specs.Rows.{names_of, option_now, row_names, StampsAre}
+use Rattle.mps_reader.specs.Sections.{word_of}
+use Rattle.mps_reader.specs.Told.{declared_names, told_objective, told_right_sides, told_rows, told_names, told_entries, coefficient_in, entries_at, nearest_column, told_lower, told_upper, told_integer}
+use Rattle.mps_reader.specs.declared.sections.Section.{Section}
+use Rattle.mps_reader.specs.declared.sections.Section.TheVariants as sections
+use Rattle.mps_reader.specs.declared.row_table.Rows.{Rows}
+use Rattle.mps_reader.specs.declared.column_state.ColumnState.{ColumnState}
+use Rattle.mps_reader.specs.declared.column_table.ColumnTable.{ColumnTable}
+use Rattle.mps_reader.specs.declared.open_column.OpenColumn.{OpenColumn}
+use Rattle.mps_reader.specs.declared.reading_state.Reading.{Reading}
+
+pub record RowsTell (rows rights : List LineFields) (r : Rows) : Type 0 where
+  pub names : names_of r.names ≡ declared_names rows
+  pub shown : map shown_row r.rows.items ≡ told_rows rows rights
+  pub objective : option_now r.objective ≡ told_objective rows
+
+-- no stamp is above this one
+abbrev pub AreStampsUpTo : ℕ → Rows → Type 0
+AreStampsUpTo most r = AllByRecursion (λ stamp. stamp ≤ most) r.stamps.items
+
+-- the number at a place, 0 where no entry has it
+abbrev pub worth : ℕ → List (ℕ × ℤ) → ℤ
+worth place [] = pos 0
+worth place (e ∷ entries) = if e.0 == place then e.1 else worth place entries
+
+-- the current column holds these numbers of the rows
+pub record OpenTells (objective : Option (List ℕ)) (rows : List (List ℕ)) (number : List ℕ → ℤ) (column : OpenColumn) : Type 0 where
+  pub cost : column.cost ≡ number (unwrap_or objective [])
+  pub entries : (place : ℕ) (row : List ℕ) → slice_get rows place ≡ Some row → worth place column.entries.items ≡ number row
+
+abbrev pub bit : Bool → ℤ
+bit true = pos 1
+bit false = pos 0
+
+-- whether a column is an integer, and its bounds
+abbrev pub state_values : ColumnState → Bool × ℤ × Option ℤ
+state_values s = (s.is_integer, bit s.lower, option_map bit s.upper)
+
+-- a bound's word and number change them
+abbrev pub bounded_values : List ℕ → ℤ → Bool × ℤ × Option ℤ → Bool × ℤ × Option ℤ
+bounded_values word number v = (v.0, if bytes_eq word (codes "UP") then v.1 else number, if bytes_eq word (codes "LO") then v.2 else Some number)
+
+abbrev pub told_values : List LineFields → List LineFields → List ℕ → Bool × ℤ × Option ℤ
+told_values lines bounds column = (told_integer lines bounds column, told_lower bounds column, told_upper bounds column)
+
+-- a column whose lines are all read, but for its bounds
+abbrev pub told_column : Option (List ℕ) → List (List ℕ) → List LineFields → List ℕ → TableColumn
+told_column objective rows lines name = record { name = name; bounds = ZeroOrOne; cost = coefficient_in (told_entries lines) name (unwrap_or objective []); entries = entries_at 0 (coefficient_in (told_entries lines) name) rows }
+
+pub record ColumnsTell (objective : Option (List ℕ)) (rows : List (List ℕ)) (lines bounds : List LineFields) (c : ColumnTable) : Type 0 where
+  pub names : names_of c.names ≡ told_names lines
+  pub begun : c.is_begun ≡ is_integer_open lines
+  pub states : map state_values c.states.items ≡ map (told_values lines bounds) (told_names lines)
+  pub done : AllByRecursion (λ k. k ≡ told_column objective rows lines k.name) c.done
+  pub opened : IfSome c.current (λ name. OpenTells objective rows (coefficient_in (told_entries lines) name.now) c.current_column)
+  pub closed : is_some c.current ≡ false → c.current_column.cost ≡ pos 0
+
+-- whether the name is that of the current column
+abbrev pub is_current : Option (Bor (List ℕ)) → List ℕ → Bool
+is_current current name = option_map_or (λ other. bytes_eq name other.now) current false
+
+-- the columns of the lines so far, and one more that no line has named yet
+pub record ColumnAdded (objective : Option (List ℕ)) (rows : List (List ℕ)) (lines : List LineFields) (name : List ℕ) (c : ColumnTable) : Type 0 where
+  pub fresh : list_any (bytes_eq name) (told_names lines) ≡ false
+  pub all : names_of c.names ≡ told_names lines ++ name ∷ []
+  pub begun : c.is_begun ≡ is_integer_open lines
+  pub states : map state_values c.states.items ≡ map (told_values lines []) (told_names lines) ++ (is_integer_open lines, pos 0, None) ∷ []
+  pub done : AllByRecursion (λ k. k ≡ told_column objective rows lines k.name) c.done
+  pub cost : c.current_column.cost ≡ pos 0
+  pub entries : c.current_column.entries.items ≡ []
+
+-- the stamps of a line of COLUMNS are those of the rows that the current column has named
+pub record InColumns (lines rights bounds : List LineFields) (r : Rows) (c : ColumnTable) : Type 0 where
+  pub no_rights : rights ≡ []
+  pub no_bounds : bounds ≡ []
+  pub low : AreStampsUpTo (length (names_of c.names)) r
+  pub current : option_now c.current ≡ nearest_column lines
+  pub stamps : IfSome c.current (λ name. StampsAre r.stamps.items (length (names_of c.names)) (names_of r.names) (λ row. list_any (names name.now row) (told_entries lines)))
+
+pub record InRows (lines rights bounds : List LineFields) (r : Rows) (c : ColumnTable) : Type 0 where
+  pub no_lines : lines ≡ []
+  pub no_rights : rights ≡ []
+  pub no_bounds : bounds ≡ []
+  pub low : AreStampsUpTo (length (names_of c.names)) r
+
+pub record BeforeRows (rows lines rights bounds : List LineFields) (r : Rows) (c : ColumnTable) : Type 0 where
+  pub no_rows : rows ≡ []
+  pub after : InRows lines rights bounds r c
+
+-- those of a line of RHS are those of the rows that a right side has named
+pub record InRightSides (rights bounds : List LineFields) (r : Rows) (c : ColumnTable) : Type 0 where
+  pub no_bounds : bounds ≡ []
+  pub stamps : StampsAre r.stamps.items (length (names_of c.names) + 1) (names_of r.names) (λ row. list_any (λ other. bytes_eq row other.0) (told_right_sides rights))
+
+abbrev pub SectionTells : Section → List LineFields → List LineFields → List LineFields → List LineFields → Rows → ColumnTable → Type 0
+SectionTells sections.Start rows lines rights bounds r c = BeforeRows rows lines rights bounds r c
+SectionTells sections.Name rows lines rights bounds r c = BeforeRows rows lines rights bounds r c
+SectionTells sections.Sense rows lines rights bounds r c = BeforeRows rows lines rights bounds r c
+SectionTells sections.Rows rows lines rights bounds r c = InRows lines rights bounds r c
+SectionTells sections.Columns rows lines rights bounds r c = InColumns lines rights bounds r c
+SectionTells sections.RightSides rows lines rights bounds r c = InRightSides rights bounds r c
+SectionTells sections.Bounds rows lines rights bounds r c = Unit {0}
+SectionTells sections.End rows lines rights bounds r c = Unit {0}
+
+-- what the data lines of each section say
+pub record LinesTell (rows lines rights bounds : List LineFields) (r : Reading) : Type 0 where
+  pub of_rows : RowsTell rows rights r.rows
+  pub of_columns : ColumnsTell (option_now r.rows.objective) (row_names r.rows.rows.items) lines bounds r.columns
+  pub of_section : SectionTells r.section rows lines rights bounds r.rows r.columns
+
+pub record ReadingTells (before : List Line) (r : Reading) : Type 0 where
+  pub section : section before ≡ word_of r.section
+  pub lines : LinesTell (data_under (codes "ROWS") before) (data_under (codes "COLUMNS") before) (data_under (codes "RHS") before) (data_under (codes "BOUNDS") before) r
