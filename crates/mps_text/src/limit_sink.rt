@@ -1,4 +1,6 @@
-ghost use Rattle.std.specs.Prelude.{◌≡◌, [], Some, min};
+ghost use Rattle.std.specs.Prelude.{◌≡◌, ◌+◌, ◌<◌, ◌≤◌, [], Some, min, length, take, IfOk, OnOk, OnErr};
+ghost use Rattle.std.specs.Io.KnownBytes.{Appends, Keeps};
+ghost use Rattle.mps_text.specs.Sinks.{one_more};
 
 use crate::sink::{Sink, SinkFailed};
 use std::alloc::Global;
@@ -13,10 +15,14 @@ pub struct LimitSink {
 }
 
 impl LimitSink {
+    ghost use Rattle.mps_text.specs.Limits.{room_of, most_of};
+
     /// A sink without bytes, with room for so many, of which a put takes at most `most`.
     pub fn new(alloc: Global, room: usize, most: usize) -> Self
         ensures taken { ⟦<LimitSink as Sink>⟧.taken result ≡ Some [] }
         ensures failures { ⟦<LimitSink as Sink>⟧.failures result ≡ 0 }
+        ensures room { room_of result ≡ room }
+        ensures most { most_of result ≡ most }
     {
         LimitSink {
             bytes: Vec::new(alloc),
@@ -42,11 +48,24 @@ fn share(piece: usize, most: usize, room: usize) -> usize
 }
 
 impl Sink for LimitSink {
+    ghost use Rattle.mps_text.specs.Limits.{room_of, most_of};
+
     ghost taken = { λ s. Some s.bytes.items };
 
     ghost failures = { λ s. s.failures };
 
-    fn put(&mut self, bytes: &[u8]) -> Result<usize, SinkFailed> {
+    fn put(&mut self, bytes: &[u8]) -> Result<usize, SinkFailed>
+        ensures within { IfOk result (λ n. n ≤ length bytes.now) }
+        ensures some { IfOk result (λ n. 0 < length bytes.now → 0 < n) }
+        ensures took { IfOk result (λ n. Appends (⟦<LimitSink as Sink>⟧.taken self.old) (⟦<LimitSink as Sink>⟧.taken self.new) (take n bytes.now)) }
+        ensures kept { OnErr result (Keeps (⟦<LimitSink as Sink>⟧.taken self.old) (⟦<LimitSink as Sink>⟧.taken self.new)) }
+        ensures succeeded { OnOk result (⟦<LimitSink as Sink>⟧.failures self.new ≡ ⟦<LimitSink as Sink>⟧.failures self.old) }
+        ensures failed { OnErr result (⟦<LimitSink as Sink>⟧.failures self.new ≡ one_more (⟦<LimitSink as Sink>⟧.failures self.old)) }
+        ensures share { IfOk result (λ n. n ≡ min (length bytes.now) (min (most_of self.old) (room_of self.old))) }
+        ensures room { IfOk result (λ n. room_of self.new + n ≡ room_of self.old) }
+        ensures room_kept { OnErr result (room_of self.new ≡ room_of self.old) }
+        ensures most { most_of self.new ≡ most_of self.old }
+    {
         let count = share(bytes.len(), self.most, self.room);
         if count > 0 || bytes.is_empty() {
             if let Ok(()) = self.bytes.extend_from_slice(&bytes[..count]) {
