@@ -34,20 +34,21 @@ none_beats lots x (s ∷ rivals) a =
 pub none_left : (lots : Lots) (x : Bid) (rivals : List SizedBid) (i : ℕ) (r : SizedBid) → i < length rivals → r ≡ get_or rivals i r → size x.package ≤ r.size → AllPairs (λ (s t : SizedBid). s.size ≤ t.size) rivals → list_any (beats lots x) (drop i rivals) ≡ false
 none_left lots x rivals i r l e low h = none_beats lots x (drop i rivals) (none_later (size x.package) rivals i r l e low h)
 
--- a bid that is worth more isn't beaten, nor is one that has less at the rival's peak
+-- a bid that is worth more isn't beaten
 pub none_above : (lots : Lots) (x : Bid) (s : SizedBid) → TellsItsBid s → s.amount < x.amount → beats lots x s ≡ false
 none_above lots x s told more =
     let a = told.amount in
     and_right (nat_lt s.size (size x.package)) _ (and_left (is_no_cheaper lots s.bid.now x) (is_within s.bid.now.package x.package) (lt-leb x.amount s.bid.now.amount (omega arith)))
 
-pub none_over_peak : (lots : Lots) (x : Bid) (s : SizedBid) → TellsItsBid s → slice_index x.package s.place < s.most → beats lots x s ≡ false
-none_over_peak lots x s told less =
-    and_right (nat_lt s.size (size x.package)) _ (and_right (is_no_cheaper lots s.bid.now x) (is_within s.bid.now.package x.package)
-    (false_from_ne_true (is_within s.bid.now.package x.package) (λ w. let most = told.most in let within = within_at s.bid.now.package x.package s.place w in absurd (omega arith))))
-
--- nor is one that doesn't cover the rival
+-- a bid that doesn't cover the rival isn't beaten, nor is one that has less at a place
 pub none_uncovered : (lots : Lots) (x : Bid) (s : SizedBid) → is_within s.bid.now.package x.package ≡ false → beats lots x s ≡ false
 none_uncovered lots x s apart = and_right (nat_lt s.size (size x.package)) _ (and_right (is_no_cheaper lots s.bid.now x) (is_within s.bid.now.package x.package) apart)
+
+pub none_over : (lots : Lots) (x : Bid) (s : SizedBid) (k : ℕ) → slice_index x.package k < slice_index s.bid.now.package k → beats lots x s ≡ false
+none_over lots x s k less = none_uncovered lots x s (false_from_ne_true (is_within s.bid.now.package x.package) (λ w. let within = within_at s.bid.now.package x.package k w in absurd (omega arith)))
+
+pub none_over_peak : (lots : Lots) (x : Bid) (s : SizedBid) → TellsItsBid s → slice_index x.package s.place < s.most → beats lots x s ≡ false
+none_over_peak lots x s told less = none_over lots x s s.place (subst (λ (most : ℕ). slice_index x.package s.place < most) told.most less)
 
 -- a rival that doesn't beat the bid may be passed over
 pub passed_over : (lots : Lots) (x : Bid) (rivals : List SizedBid) (i : ℕ) (r : SizedBid) → i < length rivals → r ≡ get_or rivals i r → beats lots x r ≡ false → list_any (beats lots x) (drop (i + 1) rivals) ≡ list_any (beats lots x) (drop i rivals)

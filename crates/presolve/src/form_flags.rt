@@ -1,9 +1,9 @@
 //! Which bids of a form are kept, computed for each bid by several threads.
 
-ghost use Rattle.std.specs.Prelude.{◌≡◌, ◌≤◌, ◌&&◌, not, All, length, map, IfOk};
+ghost use Rattle.std.specs.Prelude.{◌≡◌, ◌≤◌, ◌<◌, ◌&&◌, not, is_some, All, length, map, IfOk, IfSome};
 ghost use Rattle.std.specs.List.{list_any};
 ghost use Rattle.auction_terms.specs.Domination.{is_kept};
-ghost use Rattle.auction_terms.specs.Packages.{Lots, fits};
+ghost use Rattle.auction_terms.specs.Packages.{Lots, fits, is_within};
 ghost use Rattle.auction_terms.specs.Terms.{lots_in};
 ghost use Rattle.presolve.specs.Shelves.{AreStocked, is_beaten_on, is_unbeaten_on};
 ghost use Rattle.presolve.specs.Sizes.{AreRivals, beats};
@@ -18,23 +18,42 @@ use std::thread::Threads;
 // How few bids are worth a thread: comparing these takes several times what starting one takes.
 const LEAST_PIECE: usize = 500;
 
+// The first place at which a package has more than the other.
+fn first_over(quantities: &[u32], others: &[u32]) -> Option<usize>
+    requires { length quantities.now ≡ length others.now }
+    ensures some { is_some result ≡ not (is_within quantities.now others.now) }
+    ensures place { IfSome result (λ place. place < length quantities.now) }
+{
+    for place in 0..quantities.len() {
+        if quantities[place] > others[place] {
+            return Some(place);
+        }
+    }
+    None
+}
+
 // Whether one of the bids that fit dominates this one. They stand by rising size, so the first that isn't smaller ends
-// the search; amounts and peaks, which need no look at the rival's package, are compared before packages.
+// the search; amounts and peaks, which need no look at the rival's package, are compared before packages, and of these
+// first the place at which the last rival had more.
 fn is_beaten(rivals: &[SizedBid<'_>], bid: &Bid) -> bool
     requires { AreRivals (length bid.now.package) rivals.now }
     ensures { (lots : Lots) → result ≡ list_any (beats lots bid.now) rivals.now }
 {
     let size = bid.package.size();
     let quantities = bid.package.quantities();
+    let mut over = 0;
     for rival in rivals {
         if rival.size >= size {
             return false;
         }
-        if bid.amount <= rival.amount
-            && rival.most <= quantities[usize::from(rival.place)]
-            && bid.package.covers(&rival.bid.package)
-        {
-            return true;
+        if bid.amount <= rival.amount && rival.most <= quantities[usize::from(rival.place)] {
+            let others = rival.bid.package.quantities();
+            if others[over] <= quantities[over] {
+                match first_over(others, quantities) {
+                    None => return true,
+                    Some(place) => over = place,
+                }
+            }
         }
     }
     false
