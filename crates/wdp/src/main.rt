@@ -22,6 +22,8 @@ pub mod run;
 pub mod run_fault;
 pub mod sizes;
 pub mod telling;
+#[cfg(test)]
+mod tests;
 pub mod winning;
 
 use mps_text::{Sink, StdSink};
