@@ -16,3 +16,14 @@ get-after-push [] zero x y is = inr cc
 get-after-push [] (suc k) x y is = cc
 get-after-push (z ∷ xs) zero x y is = inl is
 get-after-push (z ∷ xs) (suc k) x y is = get-after-push xs k x y is
+
+-- what stands in a list stands there with one element more
+pub get-before-push : {X : Type 0} (xs : List X) (k : ℕ) (x y : X) → slice_get xs k ≡ Some y → slice_get (xs ++ x ∷ []) k ≡ Some y
+get-before-push [] k x y is = cc
+get-before-push (z ∷ xs) zero x y is = is
+get-before-push (z ∷ xs) (suc k) x y is = get-before-push xs k x y is
+
+-- the element that came last stands at the end
+pub get-pushed : {X : Type 0} (xs : List X) (x : X) → slice_get (xs ++ x ∷ []) (length xs) ≡ Some x
+get-pushed [] x = refl
+get-pushed (z ∷ xs) x = get-pushed xs x

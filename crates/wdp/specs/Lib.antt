@@ -3,3 +3,4 @@ pub mod Output
 pub mod Parts
 pub mod Requests
 pub mod Submissions
+pub mod Won

@@ -1,11 +1,13 @@
 //! The commands.
 
-ghost use Rattle.std.specs.Prelude.{◌≡◌, ◌≤◌, IfOk, OnErr, false, length, vec_len};
+ghost use Rattle.std.specs.Prelude.{◌≡◌, ◌≤◌, ◌-◌, [], IfOk, OnErr, false, length, map, slice_index_or, vec_len};
 ghost use Rattle.auction_terms.specs.Allocations.{IsFeasible};
 ghost use Rattle.auction_terms.specs.Terms.{lots_in};
 ghost use Rattle.bid_desk.specs.Closing.{book_of};
+ghost use Rattle.group_compiler.specs.Compiled.{compiled, program_without};
 ghost use Rattle.wdp.specs.Output.{IsQuietUnlessFailed};
 ghost use Rattle.wdp.specs.Requests.{IsWithinLimits};
+ghost use Rattle.wdp.specs.Won.{AreWon, IsWon};
 
 use crate::auction::{Auction, read_auction};
 use crate::compile_run::run_compile;
@@ -137,7 +139,8 @@ fn won_without<R: Threads + Wait + Sync + AllocGlobal>(
 ) -> Result<Allocation, Refusal>
     requires some { 1 ≤ k }
     requires within { k ≤ length groups.now }
-    ensures { IfOk result (λ a. IsFeasible (lots_in book.now.rules) (book_of book.now) (λ b. false) a) }
+    ensures feasible { IfOk result (λ a. IsFeasible (lots_in book.now.rules) (book_of book.now) (λ b. false) a) }
+    ensures won { IfOk result (IsWon (program_without book.now (slice_index_or groups.now (k - 1) [])) solution.now) }
 {
     let alloc: Global = rt.alloc();
     let compiled = compile_one(rt, alloc, book, groups, k)?;
@@ -189,7 +192,8 @@ fn won_by_all<R: Threads + Wait + Sync + AllocGlobal>(
     requires some { 1 ≤ workers }
     requires few { workers ≤ 64 }
     requires count { length solutions.now ≡ length groups.now }
-    ensures { IfOk result (λ all. vec_len all ≡ length groups.now) }
+    ensures count { IfOk result (λ all. vec_len all ≡ length groups.now) }
+    ensures won { IfOk result (λ all. AreWon (map (compiled book.now) groups.now) solutions.now all.items) }
 {
     let alloc: Global = rt.alloc();
     let programs = compile_all(rt, alloc, book, groups, workers, &OpenGate)?;

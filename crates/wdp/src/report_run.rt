@@ -1,7 +1,8 @@
 //! What the solutions of all groups win, and what each group's opportunity cost is.
 
-ghost use Rattle.std.specs.Prelude.{◌≡◌, ◌+◌, All, IfOk, OnOk, length, vec_len};
+ghost use Rattle.std.specs.Prelude.{◌≡◌, ◌++◌, ◌∷◌, [], All, IfOk, OnOk, length, vec_len};
 ghost use Rattle.group_compiler.specs.Compiled.{compiled};
+ghost use Rattle.wdp.specs.Won.{AreWon, IsWon};
 
 use crate::refusal::Refusal;
 use crate::winning::allocation_won;
@@ -19,7 +20,8 @@ pub fn allocations_won(
 ) -> Result<Vec<Allocation>, Refusal>
     requires programs { All (λ c. c ≡ compiled book.now c.group) programs.now }
     requires count { length solutions.now ≡ length programs.now }
-    ensures { IfOk result (λ all. vec_len all ≡ length programs.now) }
+    ensures count { IfOk result (λ all. vec_len all ≡ length programs.now) }
+    ensures won { IfOk result (λ all. AreWon programs.now solutions.now all.items) }
 {
     let mut all = Vec::new(alloc);
     for place in 0..programs.len() {
@@ -30,7 +32,7 @@ pub fn allocations_won(
 }
 
 fn add(all: &mut Vec<Allocation>, allocation: Allocation) -> Result<(), AllocError>
-    ensures { OnOk result (vec_len all.new ≡ vec_len all.old + 1) }
+    ensures { OnOk result (all.new.items ≡ all.old.items ++ allocation ∷ []) }
 {
     all.push(allocation)?;
     Ok(())
@@ -45,7 +47,9 @@ fn won_by(
     text: &[u8],
 ) -> Result<Allocation, Refusal>
     requires { made.now ≡ compiled book.now made.now.group }
+    ensures { IfOk result (IsWon made.now.program text.now) }
 {
-    let _rules = book.rules();
+    // Its contract says that the book's forms are within limits, which the program's faithfulness asks for.
+    let _within_limits = book.rules();
     allocation_won(alloc, book, made.group(), made.program(), solution, text)
 }

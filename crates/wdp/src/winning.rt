@@ -6,6 +6,7 @@ ghost use Rattle.auction_terms.specs.Groups.{has};
 ghost use Rattle.auction_terms.specs.Terms.{lots_in};
 ghost use Rattle.bid_desk.specs.Closing.{book_of};
 ghost use Rattle.program_rows.specs.Faithful.{IsFaithful};
+ghost use Rattle.wdp.specs.Won.{IsWon};
 
 use crate::refusal::Refusal;
 use auction_terms::Group;
@@ -24,7 +25,8 @@ pub fn allocation_won(
     text: &[u8],
 ) -> Result<Allocation, Refusal>
     requires { IsFaithful (lots_in book.now.rules) (book_of book.now) (has group.now) program.now }
-    ensures { IfOk result (λ a. IsFeasible (lots_in book.now.rules) (book_of book.now) (has group.now) a) }
+    ensures feasible { IfOk result (λ a. IsFeasible (lots_in book.now.rules) (book_of book.now) (has group.now) a) }
+    ensures won { IfOk result (IsWon program.now text.now) }
 {
     match read_solution(alloc, text, program) {
         Ok(point) => Ok(map_back(alloc, program, &point)?),

@@ -1,11 +1,22 @@
+use Rattle.std.proofs.Common.{◌≡◌, ◌∙◌, ◌-◌, [], ap, subst, IfOk, slice_index_or}
 use Rattle.auction_terms.specs.Allocations.{IsFeasible}
 use Rattle.auction_terms.specs.Groups.{has}
 use Rattle.auction_terms.specs.Terms.{lots_in}
 use Rattle.bid_desk.specs.Closing.{book_of}
+use Rattle.group_compiler.specs.Compiled.{GroupProgram, program_without}
 use Rattle.std.specs.Prelude.{false}
+use Rattle.wdp.specs.Won.{IsWon}
 use Rattle.wdp.proofs.WinningFacts.{feasible-for_all, if-ok-weaker}
 use Rattle.wdp.proofs.commands.won_without.Goals as goal
 
 pub returns : goal.returns
-returns g c = if-ok-weaker (IsFeasible (lots_in c.args.book.now.rules) (book_of c.args.book.now) (has c.group.result.now)) (IsFeasible (lots_in c.args.book.now.rules) (book_of c.args.book.now) (λ b. false))
-    c.allocation_won.result (feasible-for_all (lots_in c.args.book.now.rules) (book_of c.args.book.now) (has c.group.result.now)) c.allocation_won.ensures
+returns g c =
+    let lots = lots_in c.args.book.now.rules in
+    let book = book_of c.args.book.now in
+    let group = has c.group.result.now in
+    let program : c.program.result.now ≡ program_without c.args.book.now (slice_index_or c.args.groups.now (c.args.k - 1) []) =
+    c.program.ensures ∙ ap (λ (x : GroupProgram). x.program) c.in_ok-compiled.ensures.compiled in
+    record {
+      feasible = if-ok-weaker (IsFeasible lots book group) (IsFeasible lots book (λ b. false)) c.allocation_won.result (feasible-for_all lots book group) c.allocation_won.ensures.feasible;
+      won = subst (λ p. IfOk c.allocation_won.result (IsWon p c.args.solution.now)) program c.allocation_won.ensures.won;
+    }

@@ -10,4 +10,4 @@ pub allocation_won-requires : goal.allocation_won-requires
 allocation_won-requires c =
     let group = c.args.made.now.group in
     let program : c.program.result.now ≡ program_without c.args.book.now group = c.program.ensures ∙ ap (λ (x : GroupProgram). x.program) c.requires in
-    rw (program, c.group.ensures) (presolved_is_faithful (lots_in c.args.book.now.rules) (book_of c.args.book.now) (has group) c.rules-rules.ensures.book)
+    rw (program, c.group.ensures) (presolved_is_faithful (lots_in c.args.book.now.rules) (book_of c.args.book.now) (has group) c.rules-within_limits.ensures.book)

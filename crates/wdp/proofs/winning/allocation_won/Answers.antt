@@ -18,4 +18,7 @@ returns-in_ok-map_back-in-Ok c =
     let p = c.args.program.now in
     let point = c.in-Ok.ensures.point in
     let comes = points_come_back (lots_in c.args.book.now.rules) (book_of c.args.book.now) (has c.args.group.now) p c.in-Ok.point c.requires point in
-    rw c.in_ok-map_back-in-Ok.ensures comes.feasible
+    record {
+      feasible = rw c.in_ok-map_back-in-Ok.ensures comes.feasible;
+      won = (c.in-Ok.point, sym c.in-Ok.ensures.answer, c.in_ok-map_back-in-Ok.ensures);
+    }
