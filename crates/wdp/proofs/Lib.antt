@@ -1,4 +1,5 @@
 pub mod GroupTextFacts
+mod InputTextFacts
 pub mod ListFacts
 pub mod PartFacts
 pub mod ReportFacts

@@ -1,4 +1,5 @@
 pub mod GroupTexts
+pub mod InputTexts
 pub mod Output
 pub mod Parts
 pub mod Requests

@@ -1,7 +1,7 @@
 //! The auction that an input tells.
 
-ghost use Rattle.std.specs.Prelude.{◌≡◌, IfOk, All};
-ghost use Rattle.bid_forms.specs.Offers.{Meets};
+ghost use Rattle.std.specs.Prelude.{IfOk};
+ghost use Rattle.wdp.specs.InputTexts.{TellsGroups, TellsRules};
 
 use crate::parts::Parts;
 use crate::reading::read_terms;
@@ -24,9 +24,12 @@ pub struct Auction {
 pub fn read_auction<R: Threads + Wait + Sync + AllocGlobal>(
     rt: &R,
     parts: &Parts<'_>,
-) -> Result<Auction, Refusal> {
+) -> Result<Auction, Refusal>
+    ensures rules { IfOk result (λ auction. TellsRules parts.now.rules.items auction.book.rules) }
+    ensures groups { IfOk result (λ auction. TellsGroups auction.book.rules parts.now.groups.items auction.groups) }
+{
     let alloc: Global = rt.alloc();
-    let (rules, forms) = read_terms(alloc, parts)?;
+    let (rules, forms) = read_terms(rt, alloc, parts)?;
     let [text] = parts.groups.as_slice() else {
         return Err(Refusal::PartCount(CountedPart::Groups));
     };

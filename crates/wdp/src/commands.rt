@@ -96,7 +96,7 @@ fn write_text<R: Threads + Wait + Sync + AllocGlobal, S: Sink>(
     let alloc: Global = rt.alloc();
     let parts = split_parts(alloc, text)?;
     count_parts(&parts, 0, Count::Exactly(0))?;
-    let (rules, forms) = read_terms(alloc, &parts)?;
+    let (rules, forms) = read_terms(rt, alloc, &parts)?;
     let book = close_round(rt, rules, forms)?;
     let groups = Groups::only_empty(alloc)?;
     let compiled = compile_one(rt, alloc, &book, &groups, 1)?;

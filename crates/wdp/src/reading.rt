@@ -1,13 +1,17 @@
 //! Reading the parts of the input.
 
-ghost use Rattle.std.specs.Prelude.{All, IfOk, OnOk};
+ghost use Rattle.std.specs.Prelude.{◌≡◌, ◌++◌, ◌∷◌, [], All, IfErr, IfOk, Ok, OnOk, map};
+ghost use Rattle.std.specs.List.{AllZip};
 ghost use Rattle.bid_forms.specs.Offers.{Meets};
+ghost use Rattle.wdp.specs.InputTexts.{IsAnswer, IsFirstErr, RefusesForms, TellForms, TellsRules};
 
 use crate::parts::Parts;
 use crate::refusal::{CountedPart, Refusal};
 use auction_terms::{Rules, read_rules};
-use bid_forms::{Form, read_form};
+use bid_forms::{Form, FormFault, read_form};
+use rayon::prelude::*;
 use std::alloc::{AllocError, Global};
+use std::thread::Threads;
 
 /// How many parts of a kind a command takes.
 #[derive(Clone, Copy, Debug, PartialEq, Eq)]
@@ -33,27 +37,70 @@ pub fn count_parts(parts: &Parts<'_>, groups: usize, solutions: Count) -> Result
     }
 }
 
-/// Reads the rules, and then the forms in order.
-pub fn read_terms(alloc: Global, parts: &Parts<'_>) -> Result<(Rules, Vec<Form>), Refusal>
-    ensures { IfOk result (λ read. All (Meets read.0) read.1.items) }
+/// Reads the rules, and then the forms, side by side. A refusal is that of the first part that has a fault.
+pub fn read_terms(
+    rt: &(impl Threads + Sync),
+    alloc: Global,
+    parts: &Parts<'_>,
+) -> Result<(Rules, Vec<Form>), Refusal>
+    ensures rules { IfOk result (λ read. TellsRules parts.now.rules.items read.0) }
+    ensures forms { IfOk result (λ read. TellForms read.0 parts.now.forms.items read.1.items) }
+    ensures meet { IfOk result (λ read. All (Meets read.0) read.1.items) }
 {
     let [text] = parts.rules.as_slice() else {
         return Err(Refusal::PartCount(CountedPart::Rules));
     };
     let rules = read_rules(alloc, *text)?;
-    let forms = read_forms(alloc, parts.forms.as_slice(), &rules)?;
+    let forms = read_forms(rt, alloc, parts.forms.as_slice(), &rules)?;
     Ok((rules, forms))
 }
 
-fn read_forms(alloc: Global, texts: &[&[u8]], rules: &Rules) -> Result<Vec<Form>, Refusal>
-    ensures { IfOk result (λ forms. All (Meets rules.now) forms.items) }
+/// Reads forms, side by side.
+pub fn read_forms(
+    rt: &(impl Threads + Sync),
+    alloc: Global,
+    texts: &[&[u8]],
+    rules: &Rules,
+) -> Result<Vec<Form>, Refusal>
+    ensures forms { IfOk result (λ forms. TellForms rules.now texts.now forms.items) }
+    ensures meet { IfOk result (λ forms. All (Meets rules.now) forms.items) }
+    ensures first { IfErr result (RefusesForms rules.now texts.now) }
+{
+    let answers = read_each(rt, alloc, texts, rules)?;
+    in_order(alloc, answers)
+}
+
+// What each text tells. Reading a form is worth a thread, however few there are.
+fn read_each(
+    rt: &(impl Threads + Sync),
+    alloc: Global,
+    texts: &[&[u8]],
+    rules: &Rules,
+) -> Result<Vec<Result<Form, FormFault>>, AllocError>
+    ensures { IfOk result (λ answers. AllZip (IsAnswer rules.now) texts.now answers.items) }
+{
+    texts
+        .par_iter()
+        .with_min_len(1)
+        .map(
+            |text: &&[u8]| -> Result<Form, FormFault>
+                ensures { IsAnswer rules.entry.now text.now result }
+            { read_form(alloc, *text, rules) },
+        )
+        .collect(rt, alloc)
+}
+
+// The forms, where each answer is one, or else the first fault.
+fn in_order(alloc: Global, answers: Vec<Result<Form, FormFault>>) -> Result<Vec<Form>, Refusal>
+    ensures forms { IfOk result (λ forms. answers.items ≡ map (λ form. Ok form) forms.items) }
+    ensures first { IfErr result (IsFirstErr answers.items) }
 {
     let mut forms = Vec::new(alloc);
-    for place in 0..texts.len() {
-        match read_form(alloc, texts[place], rules) {
-            Ok(form) => add_form(&mut forms, form, rules)?,
+    for answer in answers {
+        match answer {
+            Ok(form) => add_form(&mut forms, form)?,
             Err(fault) => {
-                let form = place + 1;
+                let form = forms.len() + 1;
                 return Err(Refusal::Form { form, fault });
             }
         }
@@ -61,11 +108,8 @@ fn read_forms(alloc: Global, texts: &[&[u8]], rules: &Rules) -> Result<Vec<Form>
     Ok(forms)
 }
 
-// Adds a form that meets the rules to others.
-fn add_form(forms: &mut Vec<Form>, form: Form, rules: &Rules) -> Result<(), AllocError>
-    requires meets { Meets rules.now form }
-    requires others { All (Meets rules.now) forms.old.items }
-    ensures { OnOk result (All (Meets rules.now) forms.new.items) }
+fn add_form(forms: &mut Vec<Form>, form: Form) -> Result<(), AllocError>
+    ensures { OnOk result (forms.new.items ≡ forms.old.items ++ form ∷ []) }
 {
     forms.push(form)?;
     Ok(())
