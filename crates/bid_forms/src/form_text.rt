@@ -139,7 +139,7 @@ fn read_quantities(alloc: Global, place: u32, row: &ByteRecord) -> Result<Vec<u3
     ensures quantities { IfOk result (λ quantities. quantities.items ≡ quantities_in (fields_of row.now)) }
     ensures each { IfOk result (λ quantities. All (λ quantity. quantity ≤ 10000) quantities.items) }
 {
-    let mut quantities = Vec::new(alloc);
+    let mut quantities = Vec::with_capacity(alloc, row.len())?;
     let mut within = true;
     for n in 1..row.len() {
         let value = number!(row, n + 1, FormFault::QuantityText { place });

@@ -1,7 +1,8 @@
 -- Laws of the kept bids of a book, bidder by bidder.
 use Rattle.std.proofs.Common.{◌≡◌, ℕ, suc, ◌+◌, ◌<◌, ◌≤◌, Bool, true, false, not, ◌&&◌, cond, List, [], ◌∷◌, ◌++◌, length, drop, map, slice_index_or, get_or, sym, refl, ap, ap₂, ◌∙◌, subst, arith, append_assoc, append-nil}
-use Rattle.std.specs.Prelude.{All, AllPairs, filter}
-use Rattle.std.specs.List.{AllByRecursion}
+use Rattle.std.specs.Prelude.{All, AllPairs, Contains, filter, IfOk, MatchResult, Result, Ok, Err, zero}
+use Rattle.std.specs.List.{AllByRecursion, AllZip, range_with_len}
+use Rattle.std.specs.declared.alloc.AllocError.{AllocError}
 use Rattle.std.specs.declared.vec.Vec.{Vec}
 use Rattle.std.specs.Global.{Global}
 use Rattle.std.proofs.lemmas.List.{length-map, map-append, drop_all, get_or-map}
@@ -22,7 +23,7 @@ use Rattle.auction_terms.specs.Limits.{AreOffers, IsBefore, IsBook}
 use Rattle.auction_terms.specs.Offers.{offers, offer_of}
 use Rattle.auction_terms.proofs.LimitLaws.{kept_are_offers}
 use Rattle.bid_desk.specs.Closing.{Closing, book_of, bids_in, form_standing}
-use Rattle.presolve.specs.Flags.{flags_of, flagged_from}
+use Rattle.presolve.specs.Flags.{flags_of, flags_of_form, flagged_from}
 
 -- a book has a form for each bidder of its rules
 pub length_book : (c : Closing) (t : Terms) (bidders : List Bidder) → bidders ≡ t.bidders → t ≡ c.rules → length bidders ≡ length (book_of c)
@@ -67,20 +68,6 @@ module _ (lots : Lots) (book : Book) (group : ℕ → Bool) where
   all_kept i os l h = sym (append-nil os) ∙ ap (λ (rest : Book). os ++ filter (is_kept_offer lots book group) (offers_from (1 + i) rest)) (sym (drop_all i book l)) ∙ h
 
 module _ (lots : Lots) (book : Book) where
-  pub flags_more : (i : ℕ) (forms all : List (Vec Bool Global)) (form : Vec Bool Global) → i < length book → all ≡ forms ++ form ∷ [] → form.items ≡ map (is_kept lots (form_of book (i + 1))) (form_of book (i + 1))
-      → map (λ (f : Vec Bool Global). f.items) forms ++ flags_of lots (drop i book) ≡ flags_of lots book → map (λ (f : Vec Bool Global). f.items) all ++ flags_of lots (drop (i + 1) book) ≡ flags_of lots book
-  flags_more i forms all form l e f h =
-      let rest = flags_of lots (drop (i + 1) book) in
-      let before = map (λ (f : Vec Bool Global). f.items) forms in
-      ap (λ (fs : List (Vec Bool Global)). map (λ (f : Vec Bool Global). f.items) fs ++ rest) e
-      ∙ ap (λ (fs : List (List Bool)). fs ++ rest) (map-append (λ (f : Vec Bool Global). f.items) forms (form ∷ []))
-      ∙ append_assoc before (form.items ∷ []) rest
-      ∙ ap (λ (own : List Bool). before ++ (own ∷ rest)) f
-      ∙ ap (λ (fs : Book). before ++ flags_of lots fs) (sym (next_form book i l)) ∙ h
-
-  pub all_flags : (i : ℕ) (flags : List (List Bool)) → length book ≤ i → flags ++ flags_of lots (drop i book) ≡ flags_of lots book → flags ≡ flags_of lots book
-  all_flags i flags l h = sym (append-nil flags) ∙ ap (λ (rest : Book). flags ++ flags_of lots rest) (sym (drop_all i book l)) ∙ h
-
   pub length_flags : (forms : List (Vec Bool Global)) → map (λ (f : Vec Bool Global). f.items) forms ≡ flags_of lots book → length forms ≡ length book
   length_flags forms e = sym (length-map forms (λ (f : Vec Bool Global). f.items)) ∙ ap (λ (fs : List (List Bool)). length fs) e ∙ length-map book (λ (form : List Bid). map (is_kept lots form) form)
 
@@ -111,3 +98,36 @@ are_kept lots book group ks limits each e = record {
   each = each;
   rising = rising lots ks (subst (λ (os : List Offer). AreOffers lots os) (sym e) (kept_are_offers lots book group limits));
 }
+
+-- the forms of the bidders from one on are those of the book from there on
+forms_from : (book : Book) (i n : ℕ) → i + n ≡ length book → map (form_of book) (range_with_len (i + 1) n) ≡ drop i book
+forms_from book i zero e = sym (drop_all i book (omega arith))
+forms_from book i (suc n) e =
+    let next : (i + 1) + n ≡ length book = omega arith in
+    ap (λ (rest : Book). form_of book (i + 1) ∷ rest) (forms_from book (i + 1) n next) ∙ sym (next_form book i (omega arith))
+
+flags_each : (lots : Lots) (book : Book) (bidders : List ℕ) → map (λ bidder. flags_of_form lots (form_of book bidder)) bidders ≡ map (flags_of_form lots) (map (form_of book) bidders)
+flags_each lots book [] = refl
+flags_each lots book (bidder ∷ bidders) = ap (λ (rest : List (List Bool)). flags_of_form lots (form_of book bidder) ∷ rest) (flags_each lots book bidders)
+
+module _ (lots : Lots) (book : Book) where
+  -- the flags of a bidder's form, where they were made
+  abbrev pub IsFlagged : ℕ → Result (Vec Bool Global) AllocError → Type 0
+  IsFlagged bidder made = IfOk made (λ flags. flags.items ≡ flags_of_form lots (form_of book bidder))
+
+  each_flagged : (bidders : List ℕ) (forms : List (Vec Bool Global)) → AllZip IsFlagged bidders (map (λ form. Ok form) forms) → map (λ (form : Vec Bool Global). form.items) forms ≡ map (λ bidder. flags_of_form lots (form_of book bidder)) bidders
+  each_flagged [] [] each = refl
+  each_flagged [] (form ∷ forms) each = absurd each
+  each_flagged (bidder ∷ bidders) [] each = absurd each
+  each_flagged (bidder ∷ bidders) (form ∷ forms) each = ap₂ (λ x xs. x ∷ xs) each.0 (each_flagged bidders forms each.1)
+
+  -- flags that are made for each bidder are those of the book
+  pub flags_by_bidders : (made : Result (Vec (Vec Bool Global) Global) AllocError) (answers : List (Result (Vec Bool Global) AllocError)) → AllZip IsFlagged (range_with_len 1 (length book)) answers
+      → MatchResult made (λ all. (forms : List (Vec Bool Global)) × (answers ≡ map (λ form. Ok form) forms) × (all.items ≡ forms)) (λ e. Contains answers (Err e))
+      → IfOk made (λ all. map (λ (form : Vec Bool Global). form.items) all.items ≡ flags_of lots book)
+  flags_by_bidders (Ok all) answers each (forms, are, all_is) =
+      ap (map (λ (form : Vec Bool Global). form.items)) all_is
+      ∙ each_flagged (range_with_len 1 (length book)) forms (rw are at each)
+      ∙ flags_each lots book (range_with_len 1 (length book))
+      ∙ ap (map (flags_of_form lots)) (forms_from book 0 (length book) (omega arith))
+  flags_by_bidders (Err e) answers each h = tt

@@ -6,9 +6,13 @@ use Rattle.auction_terms.specs.Domination.{is_kept}
 use Rattle.auction_terms.specs.Allocations.{Book}
 use Rattle.auction_terms.specs.Keeping.{Offer}
 
+-- whether each bid of a form is kept
+abbrev pub flags_of_form : Lots → List Bid → List Bool
+flags_of_form lots form = map (is_kept lots form) form
+
 -- whether each bid of each form is kept
 abbrev pub flags_of : Lots → Book → List (List Bool)
-flags_of lots book = map (λ form. map (is_kept lots form) form) book
+flags_of lots book = map (flags_of_form lots) book
 
 -- the bids of bidder b whose flag is set, numbered from j on
 abbrev pub flagged_from : ℕ → ℕ → List Bid → List Bool → List Offer

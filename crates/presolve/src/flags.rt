@@ -4,6 +4,7 @@ use crate::form_flags::flags_of_form;
 use crate::keeping::keep_bidder;
 use auction_terms::{Group, Kept};
 use bid_desk::ClosedBook;
+use rayon::prelude::*;
 use std::alloc::{AllocError, Global};
 use std::marker::Model;
 use std::thread::Threads;
@@ -31,7 +32,7 @@ impl Flags {
     ghost use Rattle.bid_desk.specs.Closing.{book_of};
     ghost use Rattle.presolve.specs.Flags.{flags_of};
 
-    /// The flags of a book, those of each form by several threads.
+    /// The flags of a book, by several threads.
     pub fn new(
         rt: &(impl Threads + Sync),
         alloc: Global,
@@ -39,11 +40,7 @@ impl Flags {
     ) -> Result<Flags, AllocError>
         ensures { IfOk result (λ flags. flags ≡ flags_of (lots_in book.now.rules) (book_of book.now)) }
     {
-        let bidders = book.rules().bidders().len();
-        let mut forms = Vec::with_capacity(alloc, bidders)?;
-        for place in 0..bidders {
-            forms.push(flags_of_bidder(rt, alloc, book, place as u16 + 1)?)?;
-        }
+        let forms = flags_by_bidder(rt, alloc, book)??;
         Ok(Flags { forms })
     }
 
@@ -68,9 +65,29 @@ impl Flags {
 
 ghost use Rattle.std.specs.Prelude.{◌≡◌, IfOk, map};
 ghost use Rattle.auction_terms.specs.Allocations.{form_of};
-ghost use Rattle.auction_terms.specs.Domination.{is_kept};
 ghost use Rattle.auction_terms.specs.Terms.{lots_in};
 ghost use Rattle.bid_desk.specs.Closing.{book_of};
+ghost use Rattle.presolve.specs.Flags.{flags_of, flags_of_form};
+
+// The flags of every form, by rising bidder. A form is worth a thread, however few there are.
+fn flags_by_bidder(
+    rt: &(impl Threads + Sync),
+    alloc: Global,
+    book: &ClosedBook,
+) -> Result<Result<Vec<Vec<bool>>, AllocError>, AllocError>
+    ensures { IfOk result (λ made. IfOk made (λ forms. map (λ form. form.items) forms.items ≡ flags_of (lots_in book.now.rules) (book_of book.now))) }
+{
+    let end = book.rules().bidders().len() as u16 + 1;
+    (1..end)
+        .into_par_iter()
+        .with_min_len(1)
+        .map(
+            |bidder: u16| -> Result<Vec<bool>, AllocError>
+                ensures { IfOk result (λ flags. flags.items ≡ flags_of_form (lots_in book.entry.now.rules) (form_of (book_of book.entry.now) bidder)) }
+            { flags_of_bidder(rt, alloc, book, bidder) },
+        )
+        .collect(rt, alloc)
+}
 
 // The flags of the form that a bidder leaves standing.
 fn flags_of_bidder(
@@ -79,7 +96,7 @@ fn flags_of_bidder(
     book: &ClosedBook,
     bidder: u16,
 ) -> Result<Vec<bool>, AllocError>
-    ensures { IfOk result (λ flags. flags.items ≡ map (is_kept (lots_in book.now.rules) (form_of (book_of book.now) bidder)) (form_of (book_of book.now) bidder)) }
+    ensures { IfOk result (λ flags. flags.items ≡ flags_of_form (lots_in book.now.rules) (form_of (book_of book.now) bidder)) }
 {
     match book.form(bidder) {
         None => Ok(Vec::new(alloc)),
