@@ -8,6 +8,7 @@ pub mod ColumnPhase
 pub mod BoundPhase
 pub mod RowsBack
 pub mod Known
+mod LineBytes
 pub mod Pushed
 pub mod ColumnsBack
 pub mod BoundsBack
@@ -16,7 +17,6 @@ pub mod Listing
 pub mod WrittenLines
 pub mod ProgramBack
 pub mod RoundTrip
-pub mod LineBytes
 pub mod TextBytes
 mod Examples
 pub mod FaithfulTexts
