@@ -1,5 +1,5 @@
 -- What the answers to the texts of forms tell together.
-use Rattle.std.proofs.Common.{◌≡◌, ◌+◌, ◌++◌, ◌∷◌, [], ◌∙◌, ℕ, Bool, true, false, List, Option, None, Some, Result, Ok, Err, length, length-append, map, refl, ap, ap₂, sym, arith, inl, inr, ◌≤◌, ◌<◌, slice_index_or}
+use Rattle.std.proofs.Common.{◌≡◌, ◌+◌, ◌++◌, ◌∷◌, [], ℕ, Bool, true, false, List, Some, Result, Ok, Err, length, length-append, map, refl, ap₂, sym, arith, inl, inr, ◌≤◌, ◌<◌, slice_index_or}
 use Rattle.std.specs.Prelude.{All, IfOk, IfErr}
 use Rattle.std.specs.List.{AllZip}
 use Rattle.std.specs.declared.alloc.Global.{Global}
@@ -18,7 +18,7 @@ use Rattle.bid_forms.specs.declared.form_text.FormFault.{FormFault}
 use Rattle.bid_forms.specs.declared.form_text.FormFault.TheVariants as fault
 use Rattle.wdp.specs.declared.refusal.Refusal.{Refusal}
 use Rattle.wdp.specs.declared.refusal.Refusal.TheVariants as refusal
-use Rattle.wdp.specs.InputTexts.{groups_in, IsAnswer, IsFirst, IsFirstErr, RefusesForms, TellForms, fault_in, fault_of_text, form_in}
+use Rattle.wdp.specs.InputTexts.{groups_in, IsAnswer, IsFirst, IsFirstErr, RefusesForms, TellForms, fault_of_text, form_in}
 
 abbrev pub Text : Type 0
 Text = Bor (List ℕ)

@@ -1,5 +1,5 @@
 -- Lists of which one element is written, or that grow by one.
-use Rattle.std.proofs.Common.{◌≡◌, ◌<◌, ◌++◌, ◌∷◌, ◌⊎◌, [], List, ℕ, zero, suc, Some, length, refl, ap, inl, inr, arith}
+use Rattle.std.proofs.Common.{◌≡◌, ◌++◌, ◌∷◌, ◌⊎◌, [], List, ℕ, zero, suc, Some, length, refl, ap, inl, inr}
 use Rattle.std.specs.Prelude.{slice_get, slice_set}
 
 -- what stands in a list after a write stood there before, or is what was written

@@ -1,5 +1,5 @@
 -- What is kept while forms are put with those of their bidder.
-use Rattle.std.proofs.Common.{◌≡◌, ◌<◌, ◌++◌, ◌∷◌, [], List, ℕ, Some, length, refl, sym, inl, inr, arith, subst}
+use Rattle.std.proofs.Common.{◌≡◌, ◌<◌, ◌++◌, ◌∷◌, [], List, ℕ, Some, length, sym, inl, inr, arith}
 use Rattle.std.specs.Prelude.{All, slice_get, slice_index_or, slice_set}
 use Rattle.std.proofs.Common.{◌≤◌, ◌∙◌, ap}
 use Rattle.std.proofs.lemmas.List.Elements.{All-append}

@@ -1,6 +1,6 @@
 -- What a point of a program wins.
 use Rattle.std.proofs.Common.{◌≡◌, ◌<◌, ◌+◌, ◌++◌, ◌∙◌, ℕ, Bool, true, false, List, [], ◌∷◌, Some, length, refl, ap, sym, suc, inl, inr, arith}
-use Rattle.std.specs.Prelude.{not, ◌&&◌, is_some, All, slice_get, slice_index_or, IfOk, OnErr, Result, Ok, Err}
+use Rattle.std.specs.Prelude.{not, ◌&&◌, is_some, slice_get, slice_index_or, IfOk, OnErr, Result, Ok, Err}
 use Rattle.std.proofs.lemmas.Bool.Decides.{leb_tells}
 use denote.Ref.{Bor}
 use Rattle.auction_terms.specs.declared.choices.Choice.{Choice}

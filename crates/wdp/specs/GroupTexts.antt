@@ -1,5 +1,5 @@
 -- What is written for all groups: for each in order a line with its number and names, and then the text of its program.
-use Rattle.std.specs.Prelude.{◌≡◌, ◌≤◌, ◌<◌, ◌+◌, ◌-◌, ⊤, ℕ, List, [], ◌∷◌, ◌++◌, Option, None, Some, codes, decimal, length, map, take}
+use Rattle.std.specs.Prelude.{◌≡◌, ◌≤◌, ◌<◌, ◌+◌, ◌-◌, ⊤, ℕ, List, [], ◌∷◌, ◌++◌, Option, None, Some, codes, decimal, length, take}
 use Rattle.bid_desk.specs.Closing.{Closing}
 use Rattle.outcome.specs.Report.{group_names}
 use Rattle.outcome.specs.Sale.{sale_of}

@@ -1,4 +1,4 @@
-use Rattle.std.proofs.Common.{◌≡◌, [], ◌∷◌, Err, None, rules, length, map}
+use Rattle.std.proofs.Common.{◌≡◌, [], ◌∷◌, Err, rules, map}
 use Rattle.csv.specs.Records.{fields_of}
 use Rattle.auction_terms.proofs.FirstFaultFacts.{tells-err}
 use Rattle.bid_forms.proofs.FormFacts.{bids-all, bids-fault, bids-more}

@@ -1,4 +1,4 @@
-use Rattle.std.proofs.Common.{◌≡◌, ◌+◌, ◌<◌, ◌∙◌, Some, None, false, refl, sym, arith, length, rules, ◌++◌, ◌∷◌, []}
+use Rattle.std.proofs.Common.{◌≡◌, ◌+◌, ◌<◌, Some, None, false, refl, arith, length, rules, ◌++◌, ◌∷◌, []}
 use Rattle.std.specs.Prelude.{nat_le}
 use Rattle.csv.specs.Records.{fields_of}
 use Rattle.auction_terms.specs.RulesText.{field}

@@ -1,4 +1,4 @@
-use Rattle.mps_text.proofs.Known.{Adds-first_failed, Adds-second}
+use Rattle.mps_text.proofs.Known.{Adds-first_failed}
 use Rattle.mps_text.proofs.data_lines.add_field.Goals as goal
 
 pub returns-in_err-add : goal.returns-in_err-add

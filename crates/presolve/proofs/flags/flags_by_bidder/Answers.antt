@@ -1,4 +1,4 @@
-use Rattle.std.proofs.Common.{◌≡◌, ◌+◌, ◌-◌, ap, ap₂, ◌∙◌, sym, subst, length, List, ℕ, arith}
+use Rattle.std.proofs.Common.{◌≡◌, ◌+◌, ◌-◌, ap, ap₂, ◌∙◌, subst, length, arith}
 use Rattle.std.specs.List.{AllZip, range_with_len}
 use Rattle.rayon.proofs.ListFacts.{IfOk-then}
 use Rattle.auction_terms.specs.Terms.{lots_in}

@@ -1,11 +1,11 @@
-use Rattle.std.proofs.Common.{◌≡◌, ◌∙◌, ◌∷◌, [], Bor, List, ℕ, sym, subst, slice_index_or}
+use Rattle.std.proofs.Common.{◌∙◌, [], Bor, List, ℕ, sym, subst, slice_index_or}
 use Rattle.wdp.specs.InputTexts.{TellsGroups}
 use Rattle.wdp.proofs.InputTextFacts.{groups-tell, only-text}
 use Rattle.wdp.proofs.auction.read_auction.Goals as goal
 
 pub returns-clause-groups : goal.returns-clause-groups
 returns-clause-groups g c =
-    let nothing : Bor (List ℕ) = record { ref_ptr = (0, 0); now = []; } in
+    let nothing : Bor (List ℕ) = record { ref_ptr = (0, 0); now = [] } in
     let texts = c.as_slice.result.now in
     let text = slice_index_or texts 0 nothing in
     let only = only-text texts nothing c.in-len1.len_at_least c.in-len1.len_below in

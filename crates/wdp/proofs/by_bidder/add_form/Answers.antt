@@ -1,5 +1,4 @@
-use Rattle.std.proofs.Common.{◌≡◌, ◌<◌, ◌∙◌, ap, sym, length, arith}
-use Rattle.std.specs.Prelude.{vec_len}
+use Rattle.std.proofs.Common.{◌≡◌, ◌<◌, ◌∙◌, ap, length}
 use Rattle.std.proofs.Common.{rules}
 use Rattle.wdp.specs.declared.numbered_form.NumberedForm.{NumberedForm}
 use Rattle.wdp.specs.Submissions.{IsFormOf}

@@ -1,4 +1,4 @@
-use Rattle.std.proofs.Common.{◌≡◌, ◌+◌, ◌≤◌, vec_len, length}
+use Rattle.std.proofs.Common.{◌≡◌, ◌+◌, vec_len, length}
 use Rattle.wdp.specs.Submissions.{AreByBidder}
 use Rattle.wdp.proofs.by_bidder.by_bidder.Given as goal
 

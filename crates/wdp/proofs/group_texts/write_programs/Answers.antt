@@ -1,10 +1,8 @@
-use Rattle.std.proofs.Common.{◌≡◌, ◌<◌, ◌≤◌, ◌+◌, ◌-◌, ◌++◌, ◌∙◌, ℕ, List, [], length, take, drop, sym, ap, arith, refl}
-use Rattle.std.specs.Io.KnownBytes.{Appends}
-use Rattle.mps_text.specs.Sinks.{HasFailed}
+use Rattle.std.proofs.Common.{◌≡◌, ◌+◌, ◌++◌, ◌∙◌, ℕ, List, length, take, drop, sym, arith, refl}
 use Rattle.mps_text.proofs.Known.{Appends-then, Counts-then, front-of_new}
 use Rattle.group_compiler.specs.Compiled.{GroupProgram}
-use Rattle.wdp.specs.GroupTexts.{EndsIn, in_turn, program_bytes, programs_bytes}
-use Rattle.wdp.proofs.GroupTextFacts.{EndsWithin, appends-sent, ends-in, ends-within, in_turn-more, in_turn-rest}
+use Rattle.wdp.specs.GroupTexts.{in_turn, program_bytes}
+use Rattle.wdp.proofs.GroupTextFacts.{appends-sent, ends-in, ends-within, in_turn-more, in_turn-rest}
 use Rattle.wdp.proofs.group_texts.write_programs.Goals as goal
 
 pub loop-place-preserved : goal.loop-place-preserved

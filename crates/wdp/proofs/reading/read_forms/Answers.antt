@@ -1,4 +1,3 @@
-use Rattle.std.proofs.Common.{◌≡◌}
 use Rattle.wdp.proofs.InputTextFacts.{all-tell, all-meet, refused}
 use Rattle.wdp.proofs.reading.read_forms.Goals as goal
 

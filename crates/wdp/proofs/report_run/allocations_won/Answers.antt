@@ -1,6 +1,6 @@
-use Rattle.std.proofs.Common.{◌≡◌, ◌++◌, ◌∷◌, [], ◌+◌, ◌<◌, ◌∙◌, Some, Bor, List, ℕ, length, length-append, refl, ap, arith, rules, slice_get, slice_index_or}
+use Rattle.std.proofs.Common.{◌≡◌, ◌∷◌, [], ◌+◌, ◌<◌, ◌∙◌, Some, Bor, List, ℕ, length, length-append, refl, ap, arith, rules, slice_get, slice_index_or}
 use Rattle.std.proofs.lemmas.Option.{slice_get-get_or, slice_get_read, slice_get_within}
-use Rattle.wdp.proofs.WinningFacts.{WonBefore, won-more}
+use Rattle.wdp.proofs.WinningFacts.{won-more}
 use Rattle.wdp.proofs.report_run.allocations_won.Goals as goal
 
 pub loop-place-preserved : goal.loop-place-preserved
