@@ -3,5 +3,6 @@ mod InputTextFacts
 pub mod ListFacts
 pub mod PartFacts
 pub mod ReportFacts
+mod SizeFacts
 pub mod SubmissionFacts
 pub mod WinningFacts

@@ -1,7 +1,9 @@
 pub mod GroupTexts
 pub mod InputTexts
 pub mod Output
+pub mod Outputs
 pub mod Parts
 pub mod Requests
+pub mod Sizes
 pub mod Submissions
 pub mod Won

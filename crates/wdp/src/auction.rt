@@ -1,7 +1,8 @@
 //! The auction that an input tells.
 
-ghost use Rattle.std.specs.Prelude.{IfOk};
-ghost use Rattle.wdp.specs.InputTexts.{TellsGroups, TellsRules};
+ghost use Rattle.std.specs.Prelude.{IfOk, List};
+ghost use Rattle.bid_forms.specs.Offers.{Offers};
+ghost use Rattle.wdp.specs.InputTexts.{TellForms, TellsGroups, TellsRules};
 
 use crate::parts::Parts;
 use crate::reading::read_terms;
@@ -26,6 +27,7 @@ pub fn read_auction<R: Threads + Wait + Sync + AllocGlobal>(
     parts: &Parts<'_>,
 ) -> Result<Auction, Refusal>
     ensures rules { IfOk result (λ auction. TellsRules parts.now.rules.items auction.book.rules) }
+    ensures forms { IfOk result (λ auction. (forms : List Offers) × TellForms auction.book.rules parts.now.forms.items forms) }
     ensures groups { IfOk result (λ auction. TellsGroups auction.book.rules parts.now.groups.items auction.groups) }
 {
     let alloc: Global = rt.alloc();

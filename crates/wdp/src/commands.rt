@@ -1,11 +1,12 @@
 //! The commands.
 
-ghost use Rattle.std.specs.Prelude.{◌≡◌, ◌≤◌, ◌-◌, [], IfOk, OnErr, false, length, map, slice_index_or, vec_len};
+ghost use Rattle.std.specs.Prelude.{◌≡◌, ◌≤◌, ◌-◌, [], IfOk, OnErr, OnOk, false, length, map, slice_index_or, vec_len};
 ghost use Rattle.auction_terms.specs.Allocations.{IsFeasible};
 ghost use Rattle.auction_terms.specs.Terms.{lots_in};
 ghost use Rattle.bid_desk.specs.Closing.{book_of};
 ghost use Rattle.group_compiler.specs.Compiled.{compiled, program_without};
 ghost use Rattle.wdp.specs.Output.{IsQuietUnlessFailed};
+ghost use Rattle.wdp.specs.Outputs.{IsAnswered, WritesPrograms, WritesReport, WritesSizes, WritesText, WritesWinners};
 ghost use Rattle.wdp.specs.Requests.{IsWithinLimits};
 ghost use Rattle.wdp.specs.Won.{AreWon, IsWon};
 
@@ -40,7 +41,8 @@ pub fn answer<R: Threads + Wait + Sync + AllocGlobal, I: Read, S: Sink>(
     out: &mut S,
 ) -> Result<(), Refusal>
     requires { IsWithinLimits request }
-    ensures { OnErr result (IsQuietUnlessFailed (S.taken out.old) (S.taken out.new) (S.failures out.old) (S.failures out.new)) }
+    ensures answered { OnOk result (IsAnswered request (I.remaining input.old) (I.remaining input.new) (S.taken out.old) (S.taken out.new)) }
+    ensures refused { OnErr result (IsQuietUnlessFailed (S.taken out.old) (S.taken out.new) (S.failures out.old) (S.failures out.new)) }
 {
     let text = read_input(rt.alloc(), input)?;
     match request {
@@ -61,7 +63,8 @@ fn compile<R: Threads + Wait + Sync + AllocGlobal, S: Sink>(
 ) -> Result<(), Refusal>
     requires some { 1 ≤ workers }
     requires few { workers ≤ 64 }
-    ensures { OnErr result (IsQuietUnlessFailed (S.taken out.old) (S.taken out.new) (S.failures out.old) (S.failures out.new)) }
+    ensures answer { OnOk result (WritesPrograms text.now (S.taken out.old) (S.taken out.new)) }
+    ensures refused { OnErr result (IsQuietUnlessFailed (S.taken out.old) (S.taken out.new) (S.failures out.old) (S.failures out.new)) }
 {
     let alloc: Global = rt.alloc();
     let parts = split_parts(alloc, text)?;
@@ -78,7 +81,8 @@ fn compile<R: Threads + Wait + Sync + AllocGlobal, S: Sink>(
 
 // The sizes of the program that the input is the text of.
 fn check<S: Sink>(alloc: Global, text: &[u8], out: &mut S) -> Result<(), Refusal>
-    ensures { OnErr result (IsQuietUnlessFailed (S.taken out.old) (S.taken out.new) (S.failures out.old) (S.failures out.new)) }
+    ensures answer { OnOk result (WritesSizes text.now (S.taken out.old) (S.taken out.new)) }
+    ensures refused { OnErr result (IsQuietUnlessFailed (S.taken out.old) (S.taken out.new) (S.failures out.old) (S.failures out.new)) }
 {
     let program = read_program(alloc, text)?;
     write_sizes(&program, out)?;
@@ -91,7 +95,8 @@ fn write_text<R: Threads + Wait + Sync + AllocGlobal, S: Sink>(
     text: &[u8],
     out: &mut S,
 ) -> Result<(), Refusal>
-    ensures { OnErr result (IsQuietUnlessFailed (S.taken out.old) (S.taken out.new) (S.failures out.old) (S.failures out.new)) }
+    ensures answer { OnOk result (WritesText text.now (S.taken out.old) (S.taken out.new)) }
+    ensures refused { OnErr result (IsQuietUnlessFailed (S.taken out.old) (S.taken out.new) (S.failures out.old) (S.failures out.new)) }
 {
     let alloc: Global = rt.alloc();
     let parts = split_parts(alloc, text)?;
@@ -112,7 +117,8 @@ fn map<R: Threads + Wait + Sync + AllocGlobal, S: Sink>(
     out: &mut S,
 ) -> Result<(), Refusal>
     requires { 1 ≤ k }
-    ensures { OnErr result (IsQuietUnlessFailed (S.taken out.old) (S.taken out.new) (S.failures out.old) (S.failures out.new)) }
+    ensures answer { OnOk result (WritesWinners k text.now (S.taken out.old) (S.taken out.new)) }
+    ensures refused { OnErr result (IsQuietUnlessFailed (S.taken out.old) (S.taken out.new) (S.failures out.old) (S.failures out.new)) }
 {
     let alloc: Global = rt.alloc();
     let parts = split_parts(alloc, text)?;
@@ -163,7 +169,8 @@ fn write_report<R: Threads + Wait + Sync + AllocGlobal, S: Sink>(
 ) -> Result<(), Refusal>
     requires some { 1 ≤ workers }
     requires few { workers ≤ 64 }
-    ensures { OnErr result (IsQuietUnlessFailed (S.taken out.old) (S.taken out.new) (S.failures out.old) (S.failures out.new)) }
+    ensures answer { OnOk result (WritesReport text.now (S.taken out.old) (S.taken out.new)) }
+    ensures refused { OnErr result (IsQuietUnlessFailed (S.taken out.old) (S.taken out.new) (S.failures out.old) (S.failures out.new)) }
 {
     let alloc: Global = rt.alloc();
     let parts = split_parts(alloc, text)?;

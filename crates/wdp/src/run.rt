@@ -1,7 +1,9 @@
 //! The program on its words, its input and two sinks.
 
-ghost use Rattle.std.specs.Prelude.{◌≡◌, ◌≤◌};
+ghost use Rattle.std.specs.Prelude.{◌≡◌, ◌≤◌, List, ℕ};
+ghost use Rattle.std.specs.Io.KnownBytes.{Appends};
 ghost use Rattle.wdp.specs.Output.{IsQuietUnlessFailed};
+ghost use Rattle.wdp.specs.Outputs.{IsDone};
 
 use crate::commands::answer;
 use crate::pieces::write_pieces;
@@ -26,6 +28,7 @@ pub fn run<'a, R: Threads + Wait + Sync + AllocGlobal, I: Read, S: Sink, F: Sink
     faults: &mut F,
 ) -> u8
     ensures status { result ≤ 2 }
+    ensures done { result ≡ 0 → IsDone (I.remaining input.old) (I.remaining input.new) (S.taken out.old) (S.taken out.new) }
     ensures refused { result ≡ 1 → IsQuietUnlessFailed (S.taken out.old) (S.taken out.new) (S.failures out.old) (S.failures out.new) }
     ensures words_refused { result ≡ 2 → S.taken out.new ≡ S.taken out.old }
 {
@@ -46,6 +49,7 @@ pub fn run<'a, R: Threads + Wait + Sync + AllocGlobal, I: Read, S: Sink, F: Sink
 // Help goes to the output; a fault of the words to the faults.
 fn tell_words<S: Sink, F: Sink>(alloc: Global, error: &Error, out: &mut S, faults: &mut F) -> u8
     ensures status { result ≤ 2 }
+    ensures help { result ≡ 0 → (help : List ℕ) × Appends (S.taken out.old) (S.taken out.new) help }
     ensures refused { result ≡ 1 → IsQuietUnlessFailed (S.taken out.old) (S.taken out.new) (S.failures out.old) (S.failures out.new) }
     ensures words_refused { result ≡ 2 → S.taken out.new ≡ S.taken out.old }
 {

@@ -1,7 +1,9 @@
 //! The sizes of a program.
 
-ghost use Rattle.std.specs.Prelude.{◌≡◌, OnErr};
+ghost use Rattle.std.specs.Prelude.{◌≡◌, OnErr, OnOk};
+ghost use Rattle.std.specs.Io.KnownBytes.{Appends};
 ghost use Rattle.mps_text.specs.Sinks.{HasFailed};
+ghost use Rattle.wdp.specs.Sizes.{entry_count, sizes_text};
 
 use crate::pieces::write_pieces;
 use itoa::Buffer;
@@ -9,7 +11,9 @@ use mps_text::{Sink, WriteFault};
 use program_rows::Program;
 
 // How many entries the columns have outside the objective.
-fn entry_count(program: &Program) -> u64 {
+fn entry_count(program: &Program) -> u64
+    ensures { result ≡ entry_count program.now.columns }
+{
     let mut count: u64 = 0;
     for column in 0..program.column_count() {
         count = count.saturating_add(program.entries(column).len() as u64);
@@ -19,7 +23,8 @@ fn entry_count(program: &Program) -> u64 {
 
 /// Writes how many rows beside the objective, columns and entries outside the objective there are. It takes no memory.
 pub fn write_sizes<S: Sink>(program: &Program, out: &mut S) -> Result<(), WriteFault>
-    ensures { OnErr result (HasFailed (S.failures out.old) (S.failures out.new)) }
+    ensures ok { OnOk result (Appends (S.taken out.old) (S.taken out.new) (sizes_text program.now)) }
+    ensures failed { OnErr result (HasFailed (S.failures out.old) (S.failures out.new)) }
 {
     let mut rows = Buffer::new();
     let mut columns = Buffer::new();

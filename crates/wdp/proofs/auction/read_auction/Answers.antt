@@ -1,5 +1,5 @@
 use Rattle.std.proofs.Common.{◌∙◌, [], Bor, List, ℕ, sym, subst, slice_index_or}
-use Rattle.wdp.specs.InputTexts.{TellsGroups}
+use Rattle.wdp.specs.InputTexts.{TellForms, TellsGroups}
 use Rattle.wdp.proofs.InputTextFacts.{groups-tell, only-text}
 use Rattle.wdp.proofs.auction.read_auction.Goals as goal
 
@@ -13,3 +13,8 @@ returns-clause-groups g c =
     let told = groups-tell t.bidders text.now c.in_ok-groups.groups c.in_ok-groups.ensures.too_large c.in_ok-groups.ensures.answer in
     let groups : TellsGroups t c.args.parts.now.groups.items c.in_ok-groups.groups = (text, sym c.as_slice.ensures.value ∙ only, told) in
     subst (λ t. TellsGroups t c.args.parts.now.groups.items c.in_ok-groups.groups) (sym c.in_ok-book.ensures) groups
+
+pub returns-clause-forms : goal.returns-clause-forms
+returns-clause-forms g c =
+    let forms = c.in_ok-rules.forms.items in
+    (forms, subst (λ t. TellForms t c.args.parts.now.forms.items forms) (sym c.in_ok-book.ensures) c.in_ok-rules.ensures.forms)
