@@ -69,7 +69,7 @@ ghost use Rattle.auction_terms.specs.Terms.{lots_in};
 ghost use Rattle.bid_desk.specs.Closing.{book_of};
 ghost use Rattle.presolve.specs.Flags.{flags_of, flags_of_form};
 
-// The flags of every form, by rising bidder. A form is worth a thread, however few there are.
+// The flags of every form, by rising bidder, or a form's own want of memory. A form is worth a thread, however few there are.
 fn flags_by_bidder(
     rt: &(impl Threads + Sync),
     alloc: Global,
