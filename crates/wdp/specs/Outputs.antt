@@ -54,7 +54,7 @@ pub record WritesPrograms (input : List ℕ) (taken taken' : Option (List ℕ)) 
   pub written : Appends taken taken' (programs_bytes book (map (compiled book) groups))
   pub faithful : All (IsFaithfulWithout book) groups
 
--- what the one solution wins without group k
+-- what the one solution wins without group k, which is there
 pub record WritesWinners (k : ℕ) (input : List ℕ) (taken taken' : Option (List ℕ)) : Type 0 where
   pub parts : Parts
   pub forms : List Offers
@@ -67,6 +67,7 @@ pub record WritesWinners (k : ℕ) (input : List ℕ) (taken taken' : Option (Li
   pub rules_are : TellsRules parts.rules.items book.rules
   pub forms_are : TellForms book.rules parts.forms.items forms
   pub groups_are : TellsGroups book.rules parts.groups.items groups
+  pub within : k ≤ length groups
   pub solution_is : parts.solutions.items ≡ solution ∷ []
   pub won : IsWon (program_without book (slice_index_or groups (k - 1) [])) solution.now allocation
   pub written : Appends taken taken' (allocation_text (sale_of book) allocation)

@@ -22,6 +22,7 @@ returns-clause-answer g c =
       rules_are = c.in_ok-book.ensures.rules;
       forms_are = c.in_ok-book.ensures.forms.1;
       groups_are = c.in_ok-book.ensures.groups;
+      within = search rules;
       solution_is = sym c.as_slice.ensures.value ∙ only-text texts nothing c.in-len1.len_at_least c.in-len1.len_below;
       won = c.in_ok-allocation.ensures.won;
       written = c.in_ok-write_allocation.ensures.ok;
