@@ -1,4 +1,5 @@
 pub mod SizeLaws
 pub mod FlagLaws
+pub mod GreatestLaws
 pub mod ShelfLaws
 pub mod KeepLaws

@@ -1,11 +1,11 @@
 -- Laws of the shelves: looking at every shelf is looking at every bid that fits.
-use Rattle.std.proofs.Common.{◌≡◌, ◌+◌, ◌<◌, ◌≤◌, ◌==◌, ◌&&◌, ◌||◌, ℕ, suc, Bool, true, false, not, nat_le, List, [], ◌∷◌, length, map, filter, cond, slice_index, slice_index_or, get_or, drop, arith, refl, sym, ap, ap₂, ◌∙◌, subst}
+use Rattle.std.proofs.Common.{◌≡◌, ◌≢◌, ◌+◌, ◌++◌, ◌<◌, ◌≤◌, ◌==◌, ◌&&◌, ◌||◌, ℕ, suc, Bool, true, false, not, nat_le, List, [], ◌∷◌, length, map, filter, cond, slice_index, slice_index_or, get_or, drop, arith, refl, sym, ap, ap₂, ◌∙◌, subst, eq-eqb, ne_eqb}
 use Rattle.std.specs.Prelude.{All}
 use Rattle.std.specs.List.{list_any}
 use Rattle.std.proofs.lemmas.Bool.{eqb-true, lt-leb}
 use Rattle.std.proofs.lemmas.Bool.Decides.{nat_tests}
-use Rattle.std.proofs.lemmas.List.{at_drop_more}
-use Rattle.std.proofs.lemmas.List.Elements.{All-filter, All-weaker, All-head, All-tail, filter_passes}
+use Rattle.std.proofs.lemmas.List.{append_assoc, at_drop_more}
+use Rattle.std.proofs.lemmas.List.Elements.{All-append, All-filter, All-weaker, All-head, All-tail, filter_passes}
 use Rattle.std.proofs.lemmas.List.Folds.{list_any_none}
 use Rattle.std.proofs.lemmas.List.Kept.{AllPairs-filter}
 use Rattle.std.proofs.lemmas.Map.Views.{any-filter_same}
@@ -21,6 +21,33 @@ use Rattle.presolve.proofs.FlagLaws.{none_over_peak}
 abbrev at : ℕ → SizedBid → Bool
 at k s = s.place == k
 
+filter_at : (k : ℕ) (rivals : List SizedBid) (i : ℕ) (s : SizedBid) → i < length rivals → s ≡ get_or rivals i s → filter (at k) (drop i rivals) ≡ cond (at k s) (s ∷ filter (at k) (drop (i + 1) rivals)) (filter (at k) (drop (i + 1) rivals))
+filter_at k rivals i s within is =
+    at_drop_more (filter (at k)) rivals i s within
+    ∙ ap (λ (t : SizedBid). cond (at k t) (t ∷ filter (at k) (drop (i + 1) rivals)) (filter (at k) (drop (i + 1) rivals))) (sym is)
+
+-- a rival with its peak at the place is shelved, and another one is not
+pub shelved : (k : ℕ) (bids rivals : List SizedBid) (i : ℕ) (s : SizedBid) → i < length rivals → s ≡ get_or rivals i s → s.place ≡ k → bids ++ filter (at k) (drop i rivals) ≡ filter (at k) rivals → (bids ++ s ∷ []) ++ filter (at k) (drop (i + 1) rivals) ≡ filter (at k) rivals
+shelved k bids rivals i s within is here so_far =
+    let rest = filter (at k) (drop (i + 1) rivals) in
+    append_assoc bids (s ∷ []) rest
+    ∙ ap (λ (xs : List SizedBid). bids ++ xs) (sym (filter_at k rivals i s within is ∙ ap (λ (b : Bool). cond b (s ∷ rest) rest) (eq-eqb s.place k here)))
+    ∙ so_far
+
+pub not_shelved : (k : ℕ) (bids rivals : List SizedBid) (i : ℕ) (s : SizedBid) → i < length rivals → s ≡ get_or rivals i s → s.place ≢ k → bids ++ filter (at k) (drop i rivals) ≡ filter (at k) rivals → bids ++ filter (at k) (drop (i + 1) rivals) ≡ filter (at k) rivals
+not_shelved k bids rivals i s within is elsewhere so_far =
+    let rest = filter (at k) (drop (i + 1) rivals) in
+    ap (λ (xs : List SizedBid). bids ++ xs) (sym (filter_at k rivals i s within is ∙ ap (λ (b : Bool). cond b (s ∷ rest) rest) (ne_eqb s.place k elsewhere)))
+    ∙ so_far
+
+-- the least is at most that of a rival more
+pub least_more : (bids : List SizedBid) (s : SizedBid) (before least : ℕ) → All (λ (t : SizedBid). before ≤ t.most) bids → least ≤ before → least ≤ s.most → All (λ (t : SizedBid). least ≤ t.most) (bids ++ s ∷ [])
+least_more bids s before least all less own =
+    let one : All (λ (t : SizedBid). least ≤ t.most) (s ∷ []) = (λ k d within. let first : k ≡ 0 = omega arith in rw first own) in
+    All-append (λ (t : SizedBid). least ≤ t.most) bids (s ∷ [])
+    (All-weaker (λ (t : SizedBid). before ≤ t.most) (λ (t : SizedBid). least ≤ t.most) (λ t l. omega arith) bids all)
+    one
+
 stocked_at : (n k : ℕ) (rivals : List SizedBid) (shelf : Shelf) → AreRivals n rivals → IsShelf rivals k shelf → IsStocked n k shelf
 stocked_at n k rivals shelf r s =
     let own : AreRivals n (filter (at k) rivals) = record {
@@ -33,6 +60,7 @@ stocked_at n k rivals shelf r s =
       rivals = subst (λ (bids : List SizedBid). AreRivals n bids) (sym s.own) own;
       here = subst (λ (bids : List SizedBid). All (λ (s : SizedBid). s.place ≡ k) bids) (sym s.own) here;
       least = s.least;
+      greatest = s.greatest;
     }
 
 -- shelves of rivals have rivals on them

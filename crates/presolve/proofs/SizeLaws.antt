@@ -1,11 +1,11 @@
 -- Laws of the order by size.
-use Rattle.std.proofs.Common.{◌≡◌, ◌+◌, ◌<◌, ◌≤◌, ◌==◌, ⊎_elim, ℕ, zero, suc, Bool, true, false, cond, List, [], ◌∷◌, Option, length, map, take, slice_get, slice_index_or, nat_cmp, is_lt, arith, refl, sym, ap, ◌∙◌, subst, eq-eqb, ne_eqb, take_all}
+use Rattle.std.proofs.Common.{◌≡◌, ◌+◌, ◌<◌, ◌≤◌, ◌==◌, ⊎_elim, ℕ, zero, suc, Bool, true, false, cond, List, [], ◌∷◌, ◌++◌, Option, get_or, drop, length, map, take, slice_get, slice_index_or, nat_cmp, is_lt, arith, refl, sym, ap, ◌∙◌, subst, eq-eqb, ne_eqb, take_all}
 use Rattle.std.specs.Prelude.{All, AllPairs, count_by}
 use Rattle.std.specs.List.{AllByRecursion}
 use Rattle.std.specs.Option.{option_map_or}
 use Rattle.std.specs.Ordering.{ordering_then}
 use Rattle.std.proofs.lemmas.Bool.{cases_lt, cond_both, cond-true, cond-false}
-use Rattle.std.proofs.lemmas.List.{get_or-map, length-map}
+use Rattle.std.proofs.lemmas.List.{append_assoc, at_drop_more, get_or-map, length-map, map-append}
 use Rattle.std.proofs.lemmas.List.Elements.{All-from_recursion}
 use Rattle.std.proofs.lemmas.List.Sorted.{All-permutation, sum_by-IsPermutation}
 use Rattle.std.proofs.lemmas.List.Sums.{sum_by-cons}
@@ -149,3 +149,34 @@ is_by_size lots form bids o =
 
 pub whole : (items taken : List SizedBid) (i : ℕ) (numbers : List ℕ) → taken ≡ items → length taken ≤ i → numbers ≡ map (λ (s : SizedBid). s.number) (take i taken) → numbers ≡ map (λ (s : SizedBid). s.number) items
 whole items taken i numbers e l h = h ∙ ap (map (λ (s : SizedBid). s.number)) (take_all i taken l ∙ e)
+
+abbrev sized : ℕ → Bid → Sized
+sized j y = record { size = size y.package; number = j; bid = y }
+
+fitting_at : (lots : Lots) (bids : List Bid) (i : ℕ) (x : Bid) → i < length bids → x ≡ get_or bids i x
+    → fitting_from lots (1 + i) (drop i bids) ≡ cond (fits lots x.package) (sized (1 + i) x ∷ fitting_from lots (1 + (i + 1)) (drop (i + 1) bids)) (fitting_from lots (1 + (i + 1)) (drop (i + 1) bids))
+fitting_at lots bids i x within is =
+    let next : 1 + i + 1 ≡ 1 + (i + 1) = omega arith in
+    at_drop_more (fitting_from lots (1 + i)) bids i x within
+    ∙ ap (λ (y : Bid). cond (fits lots y.package) (sized (1 + i) y ∷ fitting_from lots (1 + i + 1) (drop (i + 1) bids)) (fitting_from lots (1 + i + 1) (drop (i + 1) bids))) (sym is)
+    ∙ ap (λ (n : ℕ). cond (fits lots x.package) (sized (1 + i) x ∷ fitting_from lots n (drop (i + 1) bids)) (fitting_from lots n (drop (i + 1) bids))) next
+
+-- a bid that fits is taken, and another one is not
+pub fitting_more : (lots : Lots) (bids : List Bid) (i : ℕ) (x : Bid) (s : SizedBid) (made : List SizedBid) → i < length bids → x ≡ get_or bids i x → fits lots x.package ≡ true → sized_of s ≡ sized (i + 1) x
+    → map sized_of made ++ fitting_from lots (1 + i) (drop i bids) ≡ fitting_from lots 1 bids → map sized_of (made ++ s ∷ []) ++ fitting_from lots (1 + (i + 1)) (drop (i + 1) bids) ≡ fitting_from lots 1 bids
+fitting_more lots bids i x s made within is fit same so_far =
+    let rest = fitting_from lots (1 + (i + 1)) (drop (i + 1) bids) in
+    let number : i + 1 ≡ 1 + i = omega arith in
+    let own : sized_of s ≡ sized (1 + i) x = same ∙ ap (λ n. sized n x) number in
+    ap (λ (xs : List Sized). xs ++ rest) (map-append sized_of made (s ∷ []))
+    ∙ append_assoc (map sized_of made) (sized_of s ∷ []) rest
+    ∙ ap (λ (t : Sized). map sized_of made ++ t ∷ rest) own
+    ∙ ap (λ (xs : List Sized). map sized_of made ++ xs) (sym (fitting_at lots bids i x within is ∙ ap (λ (b : Bool). cond b (sized (1 + i) x ∷ rest) rest) fit))
+    ∙ so_far
+
+pub fitting_less : (lots : Lots) (bids : List Bid) (i : ℕ) (x : Bid) (made : List SizedBid) → i < length bids → x ≡ get_or bids i x → fits lots x.package ≡ false
+    → map sized_of made ++ fitting_from lots (1 + i) (drop i bids) ≡ fitting_from lots 1 bids → map sized_of made ++ fitting_from lots (1 + (i + 1)) (drop (i + 1) bids) ≡ fitting_from lots 1 bids
+fitting_less lots bids i x made within is unfit so_far =
+    let rest = fitting_from lots (1 + (i + 1)) (drop (i + 1) bids) in
+    ap (λ (xs : List Sized). map sized_of made ++ xs) (sym (fitting_at lots bids i x within is ∙ ap (λ (b : Bool). cond b (sized (1 + i) x ∷ rest) rest) unfit))
+    ∙ so_far

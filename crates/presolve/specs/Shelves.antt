@@ -1,27 +1,34 @@
 -- The bids of one form that fit, by the places of their peaks.
-use Rattle.std.specs.Prelude.{◌≡◌, ◌<◌, ◌≤◌, ◌==◌, ◌&&◌, ℕ, Bool, not, List, length, filter, slice_index_or, All}
-use Rattle.std.specs.List.{list_any}
+use Rattle.std.specs.Prelude.{◌≡◌, ◌<◌, ◌≤◌, ◌==◌, ◌&&◌, ℕ, Bool, not, List, length, filter, slice_index_or, All, AllPairs}
+use Rattle.std.specs.List.{AllZip, list_any}
 use Rattle.auction_terms.specs.declared.bids.Bid.{Bid}
 use Rattle.auction_terms.specs.Packages.{Lots, fits}
 use Rattle.presolve.specs.declared.order.SizedBid.{SizedBid}
 use Rattle.presolve.specs.declared.shelves.Shelf.{Shelf}
 use Rattle.presolve.specs.Sizes.{AreRivals, beats}
 
--- those of some bids whose peak is at the place, none with less there than the least
+-- rising amounts, none below that of the bid at its place
+pub record AreGreatest (bids : List SizedBid) (greatest : List ℕ) : Type 0 where
+  pub each : AllZip (λ s amount. s.amount ≤ amount) bids greatest
+  pub rising : AllPairs (λ x y. x ≤ y) greatest
+
+-- those of some bids whose peak is at the place, none with less there than the least, and greatest amounts
 pub record IsShelf (rivals : List SizedBid) (place : ℕ) (shelf : Shelf) : Type 0 where
   pub own : shelf.bids.items ≡ filter (λ s. s.place == place) rivals
   pub least : All (λ s. shelf.least ≤ s.most) shelf.bids.items
+  pub greatest : AreGreatest shelf.bids.items shelf.greatest.items
 
 -- a shelf for each of n places
 pub record AreShelves (n : ℕ) (rivals : List SizedBid) (shelves : List Shelf) : Type 0 where
   pub count : length shelves ≡ n
   pub each : (k : ℕ) (d : Shelf) → k < n → IsShelf rivals k (slice_index_or shelves k d)
 
--- bids with a quantity for each of n categories, by rising size, all with their peak at the place and none with less there than the least
+-- bids with a quantity for each of n categories, by rising size, all with their peak at the place and none with less there than the least, and greatest amounts
 pub record IsStocked (n place : ℕ) (shelf : Shelf) : Type 0 where
   pub rivals : AreRivals n shelf.bids.items
   pub here : All (λ s. s.place ≡ place) shelf.bids.items
   pub least : All (λ s. shelf.least ≤ s.most) shelf.bids.items
+  pub greatest : AreGreatest shelf.bids.items shelf.greatest.items
 
 -- such a shelf for each of n places
 pub record AreStocked (n : ℕ) (shelves : List Shelf) : Type 0 where

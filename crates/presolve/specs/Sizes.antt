@@ -42,11 +42,13 @@ fitting_from lots j (x ∷ form) =
     then record { size = size x.package; number = j; bid = x } ∷ fitting_from lots (j + 1) form
     else fitting_from lots (j + 1) form
 
--- it tells the amount of its bid, and its peak: a place of its package, with the quantity there
+-- it tells the amount of its bid, and its peaks: places of its package, with the quantities there
 pub record TellsItsBid (s : SizedBid) : Type 0 where
   pub amount : s.amount ≡ s.bid.now.amount
   pub place : s.place < length s.bid.now.package
   pub most : s.most ≡ slice_index s.bid.now.package s.place
+  pub next_place : s.next_place < length s.bid.now.package
+  pub next_most : s.next_most ≡ slice_index s.bid.now.package s.next_place
 
 -- the bids that fit, by rising size, ties by number
 pub record IsOrdered (lots : Lots) (form : List Bid) (bids : List SizedBid) : Type 0 where

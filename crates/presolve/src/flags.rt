@@ -84,22 +84,17 @@ fn flags_by_bidder(
         .map(
             |bidder: u16| -> Result<Vec<bool>, AllocError>
                 ensures { IfOk result (λ flags. flags.items ≡ flags_of_form (lots_in book.entry.now.rules) (form_of (book_of book.entry.now) bidder)) }
-            { flags_of_bidder(rt, alloc, book, bidder) },
+            { flags_of_bidder(alloc, book, bidder) },
         )
         .collect(rt, alloc)
 }
 
 // The flags of the form that a bidder leaves standing.
-fn flags_of_bidder(
-    rt: &(impl Threads + Sync),
-    alloc: Global,
-    book: &ClosedBook,
-    bidder: u16,
-) -> Result<Vec<bool>, AllocError>
+fn flags_of_bidder(alloc: Global, book: &ClosedBook, bidder: u16) -> Result<Vec<bool>, AllocError>
     ensures { IfOk result (λ flags. flags.items ≡ flags_of_form (lots_in book.now.rules) (form_of (book_of book.now) bidder)) }
 {
     match book.form(bidder) {
         None => Ok(Vec::new(alloc)),
-        Some(form) => flags_of_form(rt, alloc, book.rules(), form.bids()),
+        Some(form) => flags_of_form(alloc, book.rules(), form.bids()),
     }
 }

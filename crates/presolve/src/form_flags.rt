@@ -1,22 +1,18 @@
-//! Which bids of a form are kept, computed for each bid by several threads.
+//! Which bids of a form are kept.
 
-ghost use Rattle.std.specs.Prelude.{◌≡◌, ◌≤◌, ◌<◌, ◌&&◌, not, is_some, All, length, map, IfOk, IfSome};
+ghost use Rattle.std.specs.Prelude.{◌≡◌, ◌≤◌, ◌<◌, ◌&&◌, false, not, nat_lt, is_some, drop, take, All, AllPairs, length, map, IfOk, IfSome, IsTrue};
 ghost use Rattle.std.specs.List.{list_any};
 ghost use Rattle.auction_terms.specs.Domination.{is_kept};
+ghost use Rattle.auction_terms.specs.Packages;
 ghost use Rattle.auction_terms.specs.Packages.{Lots, fits, is_within};
 ghost use Rattle.auction_terms.specs.Terms.{lots_in};
-ghost use Rattle.presolve.specs.Shelves.{AreStocked, is_beaten_on, is_unbeaten_on};
-ghost use Rattle.presolve.specs.Sizes.{AreRivals, beats};
+ghost use Rattle.presolve.specs.Shelves.{AreGreatest, AreStocked, is_beaten_on, is_unbeaten_on};
+ghost use Rattle.presolve.specs.Sizes.{AreRivals, TellsItsBid, beats};
 
 use crate::order::{SizedBid, ordered};
 use crate::shelves::{Shelf, shelves};
 use auction_terms::{Bid, Rules};
-use rayon::prelude::*;
 use std::alloc::{AllocError, Global};
-use std::thread::Threads;
-
-// How few bids are worth a thread: comparing these takes several times what starting one takes.
-const LEAST_PIECE: usize = 500;
 
 // The first place at which a package has more than the other.
 fn first_over(quantities: &[u32], others: &[u32]) -> Option<usize>
@@ -32,21 +28,34 @@ fn first_over(quantities: &[u32], others: &[u32]) -> Option<usize>
     None
 }
 
-// Whether one of the bids that fit dominates this one. They stand by rising size, so the first that isn't smaller ends
-// the search; amounts and peaks, which need no look at the rival's package, are compared before packages, and of these
-// first the place at which the last rival had more.
-fn is_beaten(rivals: &[SizedBid<'_>], bid: &Bid) -> bool
-    requires { AreRivals (length bid.now.package) rivals.now }
+// Whether the rival is worth less than the bid, or has more at one of its peaks. All is asked at once, since none of it
+// is likely enough to be worth a branch.
+fn is_out_of_reach(rival: &SizedBid<'_>, bid: &Bid) -> bool
+    requires told { TellsItsBid rival.now }
+    requires sized { length rival.now.bid.now.package ≡ length bid.now.package }
+    ensures beyond { (lots : Lots) → IsTrue result → beats lots bid.now rival.now ≡ false }
+    ensures worth { result ≡ false → bid.now.amount ≤ rival.now.amount }
+{
+    let quantities = bid.package.quantities();
+    (rival.amount < bid.amount)
+        | (rival.most > quantities[usize::from(rival.place)])
+        | (rival.next_most > quantities[usize::from(rival.next_place)])
+}
+
+// Whether one of the bids that fit dominates this one, which has this size. They stand by rising size, so the first that
+// isn't smaller ends the search; of those within reach, first the place is compared at which the last one had more.
+fn is_beaten(rivals: &[SizedBid<'_>], bid: &Bid, size: u32) -> bool
+    requires rivals { AreRivals (length bid.now.package) rivals.now }
+    requires size { size ≡ Packages.size bid.now.package }
     ensures { (lots : Lots) → result ≡ list_any (beats lots bid.now) rivals.now }
 {
-    let size = bid.package.size();
     let quantities = bid.package.quantities();
     let mut over = 0;
     for rival in rivals {
         if rival.size >= size {
             return false;
         }
-        if bid.amount <= rival.amount && rival.most <= quantities[usize::from(rival.place)] {
+        if !is_out_of_reach(rival, bid) {
             let others = rival.bid.package.quantities();
             if others[over] <= quantities[over] {
                 match first_over(others, quantities) {
@@ -59,16 +68,48 @@ fn is_beaten(rivals: &[SizedBid<'_>], bid: &Bid) -> bool
     false
 }
 
+// Whether one of the bids on a shelf dominates this one. Up to the first one with an amount as great, all are worth less.
+fn is_beaten_at(shelf: &Shelf<'_>, bid: &Bid, size: u32) -> bool
+    requires size { size ≡ Packages.size bid.now.package }
+    requires rivals { AreRivals (length bid.now.package) shelf.now.bids.items }
+    requires greatest { AreGreatest shelf.now.bids.items shelf.now.greatest.items }
+    ensures { (lots : Lots) → result ≡ list_any (beats lots bid.now) shelf.now.bids.items }
+{
+    let first = first_as_great(&shelf.greatest, bid.amount);
+    is_beaten(bids_from(&shelf.bids, first), bid, size)
+}
+
+fn bids_from<'s, 'b>(bids: &'s [SizedBid<'b>], first: usize) -> &'s [SizedBid<'b>]
+    requires { first ≤ length bids.now }
+    ensures { result.now ≡ drop first bids.now }
+{
+    &bids[first..]
+}
+
+// The first place of an amount that is at least this one, where they rise; all are less where there is none.
+fn first_as_great(rising: &[u64], amount: u64) -> usize
+    requires { AllPairs (λ x y. x ≤ y) rising.now }
+    ensures within { result ≤ length rising.now }
+    ensures less { All (λ x. x < amount) (take result rising.now) }
+{
+    rising.partition_point(
+        |x: &u64| -> bool
+            ensures { result ≡ nat_lt x.now amount }
+        { *x < amount },
+    )
+}
+
 // Whether one of the bids on the shelves dominates this one. A shelf is passed over where the bid has less of its
 // category than any bid on it.
 fn is_beaten_on(shelves: &[Shelf<'_>], bid: &Bid) -> bool
     requires { AreStocked (length bid.now.package) shelves.now }
     ensures { (lots : Lots) → result ≡ is_beaten_on lots shelves.now bid.now }
 {
+    let size = bid.package.size();
     let quantities = bid.package.quantities();
     for place in 0..shelves.len() {
         let shelf = &shelves[place];
-        if shelf.least <= quantities[place] && is_beaten(&shelf.bids, bid) {
+        if shelf.least <= quantities[place] && is_beaten_at(shelf, bid, size) {
             return true;
         }
     }
@@ -86,7 +127,6 @@ fn is_unbeaten(rules: &Rules, shelves: &[Shelf<'_>], bid: &Bid) -> bool
 
 // Whether each bid of a form is kept, in the form's order.
 pub(crate) fn flags_of_form(
-    rt: &(impl Threads + Sync),
     alloc: Global,
     rules: &Rules,
     bids: &[Bid],
@@ -97,14 +137,9 @@ pub(crate) fn flags_of_form(
 {
     let rivals = ordered(alloc, rules, bids)?;
     let shelves = shelves(alloc, &rivals, rules.categories().len())?;
-    let shelves = shelves.as_slice();
-    bids.par_iter()
-        .with_min_len(LEAST_PIECE)
-        .map(
-            |bid: &Bid| -> bool
-                requires { AreStocked (length rules.now.categories) shelves.now × (length bid.now.package ≡ length rules.now.categories) }
-                ensures { result ≡ is_unbeaten_on (lots_in rules.entry.now) shelves.entry.now bid.now }
-            { is_unbeaten(rules, shelves, bid) },
-        )
-        .collect(rt, alloc)
+    let mut flags = Vec::with_capacity(alloc, bids.len())?;
+    for bid in bids {
+        flags.push(is_unbeaten(rules, &shelves, bid))?;
+    }
+    Ok(flags)
 }

@@ -10,15 +10,17 @@ use auction_terms::{Bid, Rules};
 use bid_forms::Form;
 use std::alloc::{AllocError, Global};
 
-/// A bid that fits, with the size of its package and its number in its form. Its amount and its peak (a place of its
-/// package, with the quantity there) stand here too, so that most comparisons need no look at the bid itself.
+/// A bid that fits, with the size of its package and its number in its form. Its amount and two peaks (places of its
+/// package, with the quantities there) stand here too, so that most comparisons need no look at the bid itself.
 #[derive(Clone, Copy)]
 pub(crate) struct SizedBid<'b> {
     pub(crate) amount: u64,
     pub(crate) bid: &'b Bid,
     pub(crate) size: u32,
     pub(crate) most: u32,
+    pub(crate) next_most: u32,
     pub(crate) place: u16,
+    pub(crate) next_place: u16,
     pub(crate) number: u16,
 }
 
@@ -36,19 +38,40 @@ fn peak(quantities: &[u32]) -> usize
     peak
 }
 
-// A bid with its size, its number and its peak.
+// A place of the greatest quantity but that at the peak, if there is another place.
+fn next_peak(quantities: &[u32], peak: usize) -> usize
+    requires { peak < length quantities.now }
+    ensures { result < length quantities.now }
+{
+    let mut next = if peak == 0 && quantities.len() > 1 {
+        1
+    } else {
+        0
+    };
+    for place in 0..quantities.len() {
+        if place != peak && quantities[place] > quantities[next] {
+            next = place;
+        }
+    }
+    next
+}
+
+// A bid with its size, its number and its peaks.
 fn sized(bid: &Bid, number: u16) -> SizedBid<'_>
     ensures same { sized_of result ≡ record { size = size bid.now.package; number = number; bid = bid.now } }
     ensures told { TellsItsBid result }
 {
     let quantities = bid.package.quantities();
     let place = peak(quantities);
+    let next_place = next_peak(quantities, place);
     SizedBid {
         amount: bid.amount,
         bid,
         size: bid.package.size(),
         most: quantities[place],
+        next_most: quantities[next_place],
         place: place as u16,
+        next_place: next_place as u16,
         number,
     }
 }

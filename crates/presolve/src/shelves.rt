@@ -6,11 +6,13 @@ ghost use Rattle.presolve.specs.Shelves.{AreShelves, IsShelf};
 use crate::order::SizedBid;
 use std::alloc::{AllocError, Global};
 
-/// The bids whose peak is at one place, in their order, and the least quantity that one of them has there.
+/// The bids whose peak is at one place, in their order, with the least quantity that one of them has there, and for each
+/// bid the greatest amount up to it.
 #[derive(Drop)]
 pub(crate) struct Shelf<'b> {
     pub(crate) least: u32,
     pub(crate) bids: Vec<SizedBid<'b>>,
+    pub(crate) greatest: Vec<u64>,
 }
 
 // The bids whose peak is at this place.
@@ -22,14 +24,22 @@ fn shelf_at<'b>(
     ensures { IfOk result (IsShelf rivals.now place) }
 {
     let mut least = u32::MAX;
+    let mut amount = 0;
     let mut bids = Vec::new(alloc);
+    let mut greatest = Vec::new(alloc);
     for rival in rivals {
         if usize::from(rival.place) == place {
             bids.push(*rival)?;
             least = least.min(rival.most);
+            amount = rival.amount.max(amount);
+            greatest.push(amount)?;
         }
     }
-    Ok(Shelf { least, bids })
+    Ok(Shelf {
+        least,
+        bids,
+        greatest,
+    })
 }
 
 // The shelves of this many places.

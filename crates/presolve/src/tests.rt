@@ -10,7 +10,6 @@ use bid_forms::{Form, read_form};
 use std::alloc::Global;
 use std::fmt::Write;
 use std::test::Fail;
-use std::thread::Threads;
 
 const RULES: &[u8] =
     b"rules,1,1,,\ncategory,A,2,10,1\ncategory,B,1,5,1\nbidder,Alpha,9,2,\nbidder,Beta,9,1,\nbidder,Gamma,9,1,\n";
@@ -107,17 +106,12 @@ fn kept_by_all_pairs(alloc: Global, supply: &[u32], bids: &[Bid]) -> Result<Vec<
 }
 
 // The numbers of the bids that the flags keep.
-fn kept_by_flags(
-    rt: &(impl Threads + Sync),
-    alloc: Global,
-    rules: &Rules,
-    form: &Form,
-) -> Result<Vec<u16>, Fail>
+fn kept_by_flags(alloc: Global, rules: &Rules, form: &Form) -> Result<Vec<u16>, Fail>
     requires { Meets rules.now form.now }
 {
     let mut kept = Vec::new(alloc);
     let mut number = 0u16;
-    for flag in &flags_of_form(rt, alloc, rules, form.bids())? {
+    for flag in &flags_of_form(alloc, rules, form.bids())? {
         number = number.saturating_add(1);
         if *flag {
             kept.push(number)?;
@@ -159,10 +153,7 @@ fn small_forms_keep_what_none_dominates(rt: HostRuntime) -> Result<(), Fail> {
     ];
     for (text, kept) in &rows {
         let form = read_form(rt.alloc(), *text, &rules)?;
-        assert_eq!(rt;
-            kept_by_flags(&rt, rt.alloc(), &rules, &form)?.as_slice(),
-            *kept
-        );
+        assert_eq!(rt; kept_by_flags(rt.alloc(), &rules, &form)?.as_slice(), *kept);
         let plain = kept_by_all_pairs(rt.alloc(), &[2, 1], form.bids())?;
         assert_eq!(rt; plain.as_slice(), *kept);
     }
@@ -180,10 +171,10 @@ fn large_forms_keep_what_none_dominates(rt: HostRuntime) -> Result<(), Fail> {
     ];
     for (many, count) in &rows {
         let form = form_of_many(rt.alloc(), &rules, *many, 4000)?;
-        let kept = kept_by_flags(&rt, rt.alloc(), &rules, &form)?;
+        let kept = kept_by_flags(rt.alloc(), &rules, &form)?;
         assert_eq!(rt; kept.len(), *count);
         let few = form_of_many(rt.alloc(), &rules, *many, 200)?;
-        let kept = kept_by_flags(&rt, rt.alloc(), &rules, &few)?;
+        let kept = kept_by_flags(rt.alloc(), &rules, &few)?;
         let plain = kept_by_all_pairs(rt.alloc(), &[10000, 10000], few.bids())?;
         assert!(rt; plain.as_slice() == kept.as_slice());
     }
@@ -195,7 +186,7 @@ fn forms_with_peaks_everywhere_keep_what_none_dominates(rt: HostRuntime) -> Resu
     let rules = read_rules(rt.alloc(), FIVE_RULES)?;
     let form = form_of_all_packages(rt.alloc(), &rules)?;
     assert_eq!(rt; form.bids().len(), 1023);
-    let kept = kept_by_flags(&rt, rt.alloc(), &rules, &form)?;
+    let kept = kept_by_flags(rt.alloc(), &rules, &form)?;
     let plain = kept_by_all_pairs(rt.alloc(), &[3, 3, 2, 3, 3], form.bids())?;
     assert!(rt; plain.as_slice() == kept.as_slice());
     Ok(())
