@@ -9,6 +9,7 @@ pub mod BoundPhase
 pub mod RowsBack
 pub mod Known
 mod LineBytes
+mod ShortLines
 pub mod Pushed
 pub mod ColumnsBack
 pub mod BoundsBack

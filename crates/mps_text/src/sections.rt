@@ -1,6 +1,6 @@
 //! The lines of each section on their way to a sink.
 
-ghost use Rattle.std.specs.Prelude.{◌≡◌, ◌∷◌, [], ◌++◌, codes, flat_map, map};
+ghost use Rattle.std.specs.Prelude.{◌≡◌, ◌≤◌, ◌≤ℤ◌, ◌<ℤ◌, ◌∷◌, [], ◌++◌, codes, flat_map, length, map, pos, take, true};
 ghost use Rattle.std.specs.Fmt.{signed_decimal};
 ghost use Rattle.program_rows.specs.Lines.{Data};
 ghost use Rattle.program_rows.specs.Parts.{shown_row, shown_column};
@@ -8,8 +8,10 @@ ghost use Rattle.mps_text.specs.Text.{written, row_fields, right_side_fields, bo
 ghost use Rattle.mps_text.specs.Adds.{Adds};
 ghost use Rattle.mps_text.specs.Bytes.{row_bytes, right_side_bytes, bound_bytes, entry_bytes, cost_bytes, column_bytes};
 
+use crate::adding::add;
 use crate::block::Block;
-use crate::data_lines::{add_four, add_three, add_two};
+use crate::data_lines::{add_three, add_two};
+use crate::line::{LINE_LEN, write_entry, write_front};
 use crate::sink::{Sink, SinkFailed};
 use itoa::Buffer;
 use program_rows::{Bounds, Column, Columns, Row, RowKind};
@@ -24,21 +26,23 @@ fn letter(kind: RowKind) -> &'static [u8]
     }
 }
 
-fn type_of_bound(bounds: Bounds) -> &'static [u8]
-    ensures { result.now ≡ bound_type bounds }
+/// What stands before the name of a column in the line of its bounds.
+fn before_bound(bounds: Bounds) -> &'static [u8]
+    ensures { result.now ≡ 32 ∷ (bound_type bounds ++ codes " BND ") }
 {
     match bounds {
-        Bounds::ZeroOrOne => b"UP",
-        Bounds::Zero | Bounds::One => b"FX",
+        Bounds::ZeroOrOne => b" UP BND ",
+        Bounds::Zero | Bounds::One => b" FX BND ",
     }
 }
 
-fn value_of_bound(bounds: Bounds) -> &'static [u8]
-    ensures { result.now ≡ bound_value bounds }
+/// What stands behind the name of a column in the line of its bounds.
+fn behind_bound(bounds: Bounds) -> &'static [u8]
+    ensures { result.now ≡ 32 ∷ (bound_value bounds ++ 10 ∷ []) }
 {
     match bounds {
-        Bounds::Zero => b"0",
-        Bounds::ZeroOrOne | Bounds::One => b"1",
+        Bounds::Zero => b" 0\n",
+        Bounds::ZeroOrOne | Bounds::One => b" 1\n",
     }
 }
 
@@ -84,17 +88,13 @@ fn add_bound<S: Sink>(
 ) -> Result<(), SinkFailed>
     ensures { Adds result (S.taken sink.old) (S.taken sink.new) block.old block.new (S.failures sink.old) (S.failures sink.new) (bound_bytes (shown_column column.now)) }
 {
-    add_four(
-        block,
-        sink,
-        type_of_bound(column.bounds),
-        b"BND",
-        column.name,
-        value_of_bound(column.bounds),
-    )
+    add(block, sink, before_bound(column.bounds))?;
+    add(block, sink, column.name)?;
+    add(block, sink, behind_bound(column.bounds))
 }
 
-fn add_entry<S: Sink>(
+/// Adds the line of an entry field by field.
+fn add_long_entry<S: Sink>(
     block: &mut Block,
     sink: &mut S,
     rows: &[Row],
@@ -104,6 +104,36 @@ fn add_entry<S: Sink>(
     ensures { Adds result (S.taken sink.old) (S.taken sink.new) block.old block.new (S.failures sink.old) (S.failures sink.new) (entry_bytes (map shown_row rows.now) name.now entry.now) }
 {
     add_number(block, sink, name, name_at(rows, entry.0), entry.1)
+}
+
+/// Whether an entry is short: a row's name of two to four bytes, and a number below 100.
+fn is_short(row: &[u8], number: i64) -> bool
+    ensures { result ≡ true → (2 ≤ length row.now) × (length row.now ≤ 4) × (pos 0 ≤ℤ number) × (number <ℤ pos 100) }
+{
+    2 <= row.len() && row.len() <= 4 && 0 <= number && number < 100
+}
+
+/// Adds the line of an entry of a column whose name stands at the head of the line, in one piece where the entry is short.
+fn add_entry<S: Sink>(
+    block: &mut Block,
+    sink: &mut S,
+    rows: &[Row],
+    name: &[u8],
+    line: &mut [u8; LINE_LEN],
+    front: usize,
+    entry: &(usize, i64),
+) -> Result<(), SinkFailed>
+    requires within { front ≤ 42 }
+    requires front { take front line.old ≡ 32 ∷ (name.now ++ 32 ∷ []) }
+    ensures adds { Adds result (S.taken sink.old) (S.taken sink.new) block.old block.new (S.failures sink.old) (S.failures sink.new) (entry_bytes (map shown_row rows.now) name.now entry.now) }
+    ensures front { take front line.new ≡ take front line.old }
+{
+    let row = name_at(rows, entry.0);
+    if is_short(row, entry.1) {
+        let end = write_entry(line, front, row, entry.1 as u8);
+        return add(block, sink, &line[..end]);
+    }
+    add_long_entry(block, sink, rows, name, entry)
 }
 
 /// Adds the lines of the rows.
@@ -147,8 +177,8 @@ pub fn add_bounds<S: Sink>(
     Ok(())
 }
 
-/// Adds the lines of the entries of a column.
-pub fn add_entries<S: Sink>(
+/// Adds the lines of entries of a column whose name is too long for the head of a line.
+fn add_long_entries<S: Sink>(
     block: &mut Block,
     sink: &mut S,
     rows: &[Row],
@@ -159,9 +189,45 @@ pub fn add_entries<S: Sink>(
 {
     let _known = block.sent;
     for entry in entries {
-        add_entry(block, sink, rows, name, entry)?;
+        add_long_entry(block, sink, rows, name, entry)?;
     }
     Ok(())
+}
+
+/// Adds the lines of entries of a column with a short name, which is written once at the head of the line.
+fn add_short_entries<S: Sink>(
+    block: &mut Block,
+    sink: &mut S,
+    rows: &[Row],
+    name: &[u8],
+    entries: &[(usize, i64)],
+) -> Result<(), SinkFailed>
+    requires { length name.now ≤ 40 }
+    ensures { Adds result (S.taken sink.old) (S.taken sink.new) block.old block.new (S.failures sink.old) (S.failures sink.new) (flat_map (entry_bytes (map shown_row rows.now) name.now) entries.now) }
+{
+    let _known = block.sent;
+    let mut line = [0; LINE_LEN];
+    let front = write_front(&mut line, name);
+    for entry in entries {
+        add_entry(block, sink, rows, name, &mut line, front, entry)?;
+    }
+    Ok(())
+}
+
+/// Adds the lines of the entries of a column.
+pub fn add_entries<S: Sink>(
+    block: &mut Block,
+    sink: &mut S,
+    rows: &[Row],
+    name: &[u8],
+    entries: &[(usize, i64)],
+) -> Result<(), SinkFailed>
+    ensures { Adds result (S.taken sink.old) (S.taken sink.new) block.old block.new (S.failures sink.old) (S.failures sink.new) (flat_map (entry_bytes (map shown_row rows.now) name.now) entries.now) }
+{
+    if name.len() <= 40 {
+        return add_short_entries(block, sink, rows, name, entries);
+    }
+    add_long_entries(block, sink, rows, name, entries)
 }
 
 fn add_cost<S: Sink>(

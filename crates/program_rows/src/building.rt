@@ -10,8 +10,8 @@ ghost use Rattle.program_rows.specs.Rows.{program_of};
 
 use crate::bounds::Bounds;
 use crate::columns::Columns;
-use crate::entries::write_entries;
-use crate::names::{objective_name, write_bid_name};
+use crate::entries::{MOST_ENTRIES, write_entries};
+use crate::names::{NAME_LEN, objective_name, write_bid_name};
 use crate::parts::ProgramParts;
 use crate::program::Program;
 use crate::rows::{add_category_rows, bidder_rows};
@@ -35,8 +35,8 @@ fn next_place(last: u16, place: usize, bidder: u16) -> usize
 /// Adds the column of a kept bid.
 fn add_column(
     columns: &mut Columns,
-    name: &mut String,
-    entries: &mut Vec<(usize, i64)>,
+    name: &mut [u8; NAME_LEN],
+    entries: &mut [(usize, i64); MOST_ENTRIES],
     first: usize,
     place: usize,
     bidder: u16,
@@ -44,16 +44,17 @@ fn add_column(
     offer: &Bid,
 ) -> Result<(), AllocError>
     requires amount { offer.now.amount ≤ 10 ^ 12 }
-    requires rows { first + length offer.now.«package» < 2 ^ 32 }
+    requires categories { length offer.now.«package» ≤ 32 }
+    requires rows { first < 2 ^ 31 }
     ensures { OnOk result (columns.new ≡ columns.old ++ built_column first place (record { bidder = bidder; number = bid; bid = offer.now }) ∷ []) }
 {
-    write_bid_name(name, bidder, bid)?;
-    write_entries(entries, place, first, offer.package.quantities())?;
+    let start = write_bid_name(name, bidder, bid);
+    let count = write_entries(entries, place, first, offer.package.quantities());
     columns.push(
-        name.as_bytes(),
+        &name[start..],
         Bounds::ZeroOrOne,
         -(offer.amount as i64),
-        entries.as_slice(),
+        &entries[..count],
     )
 }
 
@@ -64,8 +65,8 @@ fn columns(alloc: Global, first: usize, kept: &[KeptBid<'_>]) -> Result<Columns,
     ensures { IfOk result (λ columns. columns ≡ built_columns first 0 0 (offers kept.now)) }
 {
     let mut columns = Columns::new(alloc);
-    let mut name = String::new(alloc);
-    let mut entries = Vec::new(alloc);
+    let mut name = [0; NAME_LEN];
+    let mut entries = [(0, 0); MOST_ENTRIES];
     let mut last = 0;
     let mut place = 0;
     for i in 0..kept.len() {

@@ -1,9 +1,12 @@
 // The names of rows and columns.
-ghost use Rattle.std.specs.Prelude.{◌≡◌, ◌∷◌, IfOk, codes, decimal};
-ghost use Rattle.std.specs.String.{string_bytes};
+ghost use Rattle.std.specs.Prelude.{◌≡◌, ◌≤◌, ◌+◌, ◌∷◌, ◌++◌, IfOk, codes, decimal, drop, length};
 ghost use Rattle.program_rows.specs.Spelling.{bid_name};
 
+use itoa::write_digits;
 use std::alloc::{AllocError, Global};
+
+/// The longest name of a bid's column: two letters and two numbers of up to five digits.
+pub(crate) const NAME_LEN: usize = 12;
 
 /// The name of the objective.
 pub(crate) fn objective_name(alloc: Global) -> Result<Vec<u8>, AllocError>
@@ -29,10 +32,25 @@ pub(crate) fn category_row_name(alloc: Global, number: usize) -> Result<Vec<u8>,
     Ok(name.into_bytes())
 }
 
-/// Writes the name of the column of a bid.
-pub(crate) fn write_bid_name(name: &mut String, bidder: u16, bid: u16) -> Result<(), AllocError>
-    ensures { IfOk result (λ u. string_bytes name.new ≡ bid_name bidder bid) }
+/// Writes a letter and a number so that they end at `end`, and tells where they begin.
+fn write_numbered(name: &mut [u8], letter: u8, number: u16, end: usize) -> usize
+    requires room { 6 ≤ end }
+    requires within { end ≤ length name.old }
+    ensures written { drop result name.new ≡ letter ∷ (decimal number ++ drop end name.old) }
+    ensures start { end ≤ result + 6 }
+    ensures before { result ≤ end }
+    ensures length { length name.new ≡ length name.old }
 {
-    name.clear();
-    write!(name, "X{bidder}_{bid}")
+    let at = write_digits(u64::from(number), name, end);
+    name[at - 1] = letter;
+    at - 1
+}
+
+/// Writes the name of the column of a bid at the end of a block, and tells where it begins.
+pub(crate) fn write_bid_name(name: &mut [u8; NAME_LEN], bidder: u16, bid: u16) -> usize
+    ensures name { drop result name.new ≡ bid_name bidder bid }
+    ensures within { result ≤ 12 }
+{
+    let bid_at = write_numbered(name, b'_', bid, NAME_LEN);
+    write_numbered(name, b'X', bidder, bid_at)
 }

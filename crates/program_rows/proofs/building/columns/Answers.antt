@@ -6,8 +6,5 @@ use Rattle.program_rows.proofs.building.columns.Goals as goal
 pub add_column-requires-clause-amount : goal.add_column-requires-clause-amount
 add_column-requires-clause-amount c = (offer_at IsFitting c.args.kept.now c.loop-i.i c.index-kept-i-in-loop-i-4.result c.requires.kept (omega arith)).amount
 
-pub add_column-requires-clause-rows : goal.add_column-requires-clause-rows
-add_column-requires-clause-rows c =
-    let few = (offer_at IsFitting c.args.kept.now c.loop-i.i c.index-kept-i-in-loop-i-4.result c.requires.kept (omega arith)).categories in
-    let low = c.requires.first in
-    omega arith
+pub add_column-requires-clause-categories : goal.add_column-requires-clause-categories
+add_column-requires-clause-categories c = (offer_at IsFitting c.args.kept.now c.loop-i.i c.index-kept-i-in-loop-i-4.result c.requires.kept (omega arith)).categories

@@ -5,7 +5,7 @@ use Rattle.program_rows.specs.Parts.{shown_row}
 use Rattle.mps_text.specs.Bytes.{entry_bytes}
 use Rattle.mps_text.specs.Sinks.{Counts}
 use Rattle.mps_text.specs.Held.{held}
-use Rattle.mps_text.proofs.sections.add_entries.Given as goal
+use Rattle.mps_text.proofs.sections.add_long_entries.Given as goal
 
 -- the lines so far are added
 abbrev pub invariant-loop-entry : goal.invariant-loop-entry

@@ -1,0 +1,8 @@
+use Rattle.std.proofs.Common.{arith}
+use Rattle.mps_text.proofs.ShortLines.{front_written}
+use Rattle.mps_text.proofs.line.write_front.Goals as goal
+
+pub returns-clause-written : goal.returns-clause-written
+returns-clause-written c =
+    let room = c.told-line in
+    front_written c.args.line.now c.copy_from_slice.new.self c.args.name.now (omega arith) c.requires.short c.copy_from_slice.ensures.after
