@@ -1,12 +1,10 @@
 -- The first line of a text, and what is before the next part.
-use Rattle.std.proofs.Common.{◌≡◌, ◌≤◌, ◌<◌, ◌+◌, ◌∷◌, ◌++◌, ◌∙◌, Bool, true, false, ℕ, zero, suc, List, [], drop, take, length, refl, sym, ap, arith}
+use Rattle.std.proofs.Common.{◌≡◌, ◌≤◌, ◌<◌, ◌+◌, ◌∷◌, ◌++◌, ◌∙◌, Bool, true, false, ℕ, zero, suc, List, [], drop, take, length, refl, ap, subst, arith}
 use Rattle.std.specs.Prelude.{◌==◌, slice_index}
-use Rattle.std.proofs.Common.{◌⊎◌, inl, inr, append_assoc}
+use Rattle.std.proofs.Common.{◌⊎◌, inl, inr}
 use Rattle.auction_terms.specs.FirstFault.{first_fault}
 use Rattle.wdp.specs.declared.parts.PartFault.TheVariants as fault
-use Rattle.std.proofs.Math.Seq.{take-add}
 use Rattle.std.proofs.lemmas.Bool.Decides.{Decides-eqb}
-use Rattle.std.proofs.lemmas.List.{drop-drop, length-drop}
 use Rattle.auction_terms.specs.Lines.{is_line_feed}
 use Rattle.std.specs.Prelude.{None, Some}
 use Rattle.std.specs.Prelude.{cond, filter, map}
@@ -14,7 +12,8 @@ use Rattle.std.proofs.lemmas.List.{append-nil, map-append}
 use Rattle.std.proofs.lemmas.List.Elements.{filter-append}
 use Rattle.wdp.specs.declared.part_kind.PartKind.{PartKind}
 use Rattle.wdp.specs.declared.part_kind.PartKind.TheVariants as kind
-use Rattle.wdp.specs.Parts.{Part, added, bytes_before, bytes_of_kind, is_of_kind, is_same_kind, cut_lines, heads_part, input_fault, kind_named, name_of, part, part_fault, parts_in, split}
+use Rattle.memchr.specs.Find.{FindsNeedle, OccursAt}
+use Rattle.wdp.specs.Parts.{Part, added, bytes_before, bytes_of_kind, first_line, onto_first_line, is_of_kind, is_same_kind, cut_lines, heads_part, input_fault, kind_named, name_of, part, part_fault, parts_in, split}
 
 -- a text with a line feed, none before it
 pub cut-at : (text : List ℕ) (end : ℕ) → end < length text → ((k : ℕ) → k < end → is_line_feed (slice_index text k) ≡ false) → is_line_feed (slice_index text end) ≡ true
@@ -41,35 +40,6 @@ not-percent b differs = by (b == 37) refl
     by : (t : Bool) → (b == 37) ≡ t → t ≡ false
     by true h = absurd (differs ((Decides-eqb b 37).0 h))
     by false h = refl
-
-plain-line : (text : List ℕ) (n : ℕ) → 0 < n → 0 < length text → (slice_index text 0 ≡ 37 → ⊥) → heads_part (take n text) ≡ false
-plain-line [] n some full differs = absurd (omega arith)
-plain-line (b ∷ text) zero some full differs = absurd (omega arith)
-plain-line (b ∷ text) (suc n) some full differs = not-percent b differs
-
-first-dropped : (text : List ℕ) (end : ℕ) → slice_index (drop end text) 0 ≡ slice_index text end
-first-dropped [] zero = refl
-first-dropped [] (suc end) = refl
-first-dropped (b ∷ text) zero = refl
-first-dropped (b ∷ text) (suc end) = first-dropped text end
-
--- what a scan for the next part keeps
-abbrev pub ScannedSoFar : List ℕ → ℕ → Type 0
-ScannedSoFar text end = (end ≤ length text) × (bytes_before (cut_lines text) ≡ take end text ++ bytes_before (cut_lines (drop end text))) × (parts_in (cut_lines text) ≡ parts_in (cut_lines (drop end text)))
-
--- one more line that heads no part
-pub scanned-more : (text : List ℕ) (end n : ℕ) → ScannedSoFar text end → end < length text → (slice_index text end ≡ 37 → ⊥)
-    → 0 < n → n ≤ length (drop end text) → cut_lines (drop end text) ≡ take n (drop end text) ∷ cut_lines (drop n (drop end text))
-    → ScannedSoFar text (end + n)
-scanned-more text end n (within, bytes, parts) small differs some few cut =
-    let size = length-drop end text in
-    let plain : heads_part (take n (drop end text)) ≡ false = plain-line (drop end text) n some (omega arith) (λ e. differs (sym (first-dropped text end) ∙ e)) in
-    let told = rw (cut, plain, drop-drop n end text) at bytes in
-    let others = rw (cut, plain, drop-drop n end text) at parts in (
-      omega arith,
-      told ∙ sym (append_assoc (take end text) (take n (drop end text)) _) ∙ ap (λ xs. xs ++ bytes_before (cut_lines (drop (end + n) text))) (sym (take-add end n text)),
-      others,
-    )
 
 -- the byte at a place that begins the rest
 pub heads-at : (text : List ℕ) (end : ℕ) → end < length text → slice_index text end ≡ 37 → heads_part (drop end text) ≡ true
@@ -140,3 +110,120 @@ none-left (x ∷ xs) is = (let e : length (x ∷ xs) ≡ 0 = (Decides-eqb (lengt
 -- a part of no known kind
 pub unknown-part : (before : List Part) (p : Part) → kind_named (name_of p.head) ≡ None → part_fault before p ≡ Some (fault.PartName (length before + 1))
 unknown-part before p is = rw is refl
+
+-- the lines after the first one
+abbrev pub rest_of : List (List ℕ) → List (List ℕ)
+rest_of [] = []
+rest_of (line ∷ more) = more
+
+onto-first : (b : ℕ) (lines : List (List ℕ)) → first_line (onto_first_line b lines) ≡ b ∷ first_line lines
+onto-first b [] = refl
+onto-first b (line ∷ more) = refl
+
+onto-rest : (b : ℕ) (lines : List (List ℕ)) → rest_of (onto_first_line b lines) ≡ rest_of lines
+onto-rest b [] = refl
+onto-rest b (line ∷ more) = refl
+
+-- the first line of a text begins as the text does
+starts-alike : (text : List ℕ) → heads_part (first_line (cut_lines text)) ≡ heads_part text
+starts-alike [] = refl
+starts-alike (b ∷ rest) = by (is_line_feed b) refl
+  where
+    by : (t : Bool) → is_line_feed b ≡ t → heads_part (first_line (cut_lines (b ∷ rest))) ≡ heads_part (b ∷ rest)
+    by true is = rw is refl
+    by false is = rw is (ap heads_part (onto-first b (cut_lines rest)))
+
+-- nothing is before a part that begins the text
+none-before : (lines : List (List ℕ)) → heads_part (first_line lines) ≡ true → bytes_before lines ≡ []
+none-before [] is = refl
+none-before (line ∷ more) is = rw is refl
+
+-- a first line that heads no part
+plain-first : (lines : List (List ℕ)) → heads_part (first_line lines) ≡ false
+    → (bytes_before lines ≡ first_line lines ++ bytes_before (rest_of lines)) × (parts_in lines ≡ parts_in (rest_of lines))
+plain-first [] is = (refl, refl)
+plain-first (line ∷ more) is = (rw is refl, rw is refl)
+
+-- the first line, and what is before the next part after it, are so many bytes
+abbrev pub IsBody : List ℕ → ℕ → Type 0
+IsBody text n = (first_line (cut_lines text) ++ bytes_before (rest_of (cut_lines text)) ≡ take n text) × (parts_in (rest_of (cut_lines text)) ≡ parts_in (cut_lines (drop n text)))
+
+-- the same of a text that begins with no part
+abbrev pub IsBefore : List ℕ → ℕ → Type 0
+IsBefore text n = (bytes_before (cut_lines text) ≡ take n text) × (parts_in (cut_lines text) ≡ parts_in (cut_lines (drop n text)))
+
+plain-body : (text : List ℕ) (n : ℕ) → heads_part text ≡ false → IsBody text n → IsBefore text n
+plain-body text n plain (bytes, parts) =
+    let first = plain-first (cut_lines text) (starts-alike text ∙ plain) in
+    (first.0 ∙ bytes, first.1 ∙ parts)
+
+-- with one more byte in front
+body-more : (b : ℕ) (rest : List ℕ) (n : ℕ) → (is_line_feed b ≡ true → heads_part rest ≡ false) → IsBody rest n → IsBody (b ∷ rest) (suc n)
+body-more b rest n plain body = by (is_line_feed b) refl
+  where
+    by : (t : Bool) → is_line_feed b ≡ t → IsBody (b ∷ rest) (suc n)
+    by true is =
+        let before = plain-body rest n (plain is) body in
+        (rw is (ap (λ xs. b ∷ xs) before.0), rw is before.1)
+    by false is =
+        let (bytes, parts) = body in (
+          rw (is, onto-first b (cut_lines rest), onto-rest b (cut_lines rest)) (ap (λ xs. b ∷ xs) bytes),
+          rw (is, onto-rest b (cut_lines rest)) parts,
+        )
+
+-- a line feed at a place, and a percent sign after it
+abbrev pub EndsBody : List ℕ → ℕ → Type 0
+EndsBody text k = (suc k < length text) × (slice_index text k ≡ 10) × (slice_index text (suc k) ≡ 37)
+
+plain-after : (b : ℕ) (rest : List ℕ) → (EndsBody (b ∷ rest) 0 → ⊥) → is_line_feed b ≡ true → heads_part rest ≡ false
+plain-after b [] none feed = refl
+plain-after b (c ∷ rest) none feed = not-percent c (λ is. none (omega arith, (Decides-eqb b 10).0 feed, is))
+
+-- up to the first such place, and that line feed
+body-found : (text : List ℕ) (k : ℕ) → EndsBody text k → ((j : ℕ) → j < k → EndsBody text j → ⊥) → IsBody text (suc k)
+body-found [] k (small, feed, percent) none = absurd (omega arith)
+body-found (b ∷ rest) zero (small, feed, percent) none =
+    let is : is_line_feed b ≡ true = rw feed refl in
+    let next : heads_part rest ≡ true = heads-at rest 0 (omega arith) percent in
+    let nothing = none-before (cut_lines rest) (starts-alike rest ∙ next) in
+    (rw is (ap (λ xs. b ∷ xs) nothing), rw is refl)
+body-found (b ∷ rest) (suc k) (small, feed, percent) none =
+    body-more b rest (suc k) (plain-after b rest (none 0 (omega arith)))
+    (body-found rest k (omega arith, feed, percent) (λ j less (within, f, p). none (suc j) (omega arith) (omega arith, f, p)))
+
+-- or all of a text without one
+body-all : (text : List ℕ) → ((j : ℕ) → EndsBody text j → ⊥) → IsBody text (length text)
+body-all [] none = (refl, refl)
+body-all (b ∷ rest) none =
+    body-more b rest (length rest) (plain-after b rest (none 0))
+    (body-all rest (λ j (within, f, p). none (suc j) (omega arith, f, p)))
+
+module _ (text : List ℕ) (k : ℕ) where
+  ends-occurs : EndsBody text k → OccursAt text (10 ∷ 37 ∷ []) k
+  ends-occurs (within, feed, percent) = record { fits = omega arith; reads = reads }
+    where
+      reads : (j : ℕ) → j < 2 → slice_index text (k + j) ≡ slice_index (10 ∷ 37 ∷ []) j
+      reads zero small = (let e : k + 0 ≡ k = omega arith in rw e feed)
+      reads (suc zero) small = (let e : k + 1 ≡ suc k = omega arith in rw e percent)
+      reads (suc (suc j)) small = absurd (omega arith)
+
+  occurs-ends : OccursAt text (10 ∷ 37 ∷ []) k → EndsBody text k
+  occurs-ends occurs =
+      let fits = occurs.fits in
+      let feed = occurs.reads 0 (omega arith) in
+      let percent = occurs.reads 1 (omega arith) in
+      (omega arith, subst (λ m. slice_index text m ≡ 10) (omega arith) feed, subst (λ m. slice_index text m ≡ 37) (omega arith) percent)
+
+-- what a search for a line feed with a percent sign after it finds
+pub found-before : (text : List ℕ) (k : ℕ) → heads_part text ≡ false → FindsNeedle text (10 ∷ 37 ∷ []) 0 (Some k)
+    → IsBefore text (k + 1) × (heads_part (drop (k + 1) text) ≡ true)
+found-before text k plain (first, occurs) =
+    let ends = occurs-ends text k occurs in
+    let one : k + 1 ≡ suc k = omega arith in
+    let within = ends.0 in
+    let earlier : (j : ℕ) → j < k → EndsBody text j → ⊥ = λ j less there. first.before j (omega arith) less (ends-occurs text j there) in
+    (rw one (plain-body text (suc k) plain (body-found text k ends earlier)), rw one (heads-at text (suc k) within ends.2))
+
+pub none-found-before : (text : List ℕ) → heads_part text ≡ false → FindsNeedle text (10 ∷ 37 ∷ []) 0 None → IsBefore text (length text)
+none-found-before text plain none =
+    plain-body text (length text) plain (body-all text (λ j there. let within = there.0 in none j (omega arith) (omega arith) (ends-occurs text j there)))

@@ -9,6 +9,7 @@ use Rattle.auction_terms.specs.Packages.{Lots}
 use Rattle.program_rows.specs.Points.{AreAllowed}
 use Rattle.program_rows.specs.Program.{TableColumn}
 use Rattle.group_compiler.specs.Compiled.{GroupProgram}
+use Rattle.wdp.specs.Refusals.{TellPoints}
 use Rattle.wdp.specs.Won.{IsWon}
 use Rattle.wdp.proofs.ListFacts.{get-before-push, get-pushed}
 
@@ -67,3 +68,9 @@ won-more programs solutions n all more c text a count before program solution wo
       let text_is : told ≡ text = some-same told text (sym at_solution ∙ ap (slice_get solutions) same ∙ solution) in
       (a, ap (λ xs. slice_get xs i) added ∙ ap (slice_get (all ++ a ∷ [])) last ∙ get-pushed all a, rw (c_is, text_is) won))
 ]
+
+-- a solution that wins tells a point
+pub points-told : (n : ℕ) (programs : List GroupProgram) (solutions : List (Bor (List ℕ))) (all : List (List Choice)) → WonBefore n programs solutions all → TellPoints n programs solutions
+points-told n programs solutions all before i c text small at_program at_solution =
+    let (a, stands, (point, tells, wins)) = before i c text small at_program at_solution in
+    (point, tells)

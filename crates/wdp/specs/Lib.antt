@@ -3,6 +3,7 @@ pub mod InputTexts
 pub mod Output
 pub mod Outputs
 pub mod Parts
+pub mod Refusals
 pub mod Requests
 pub mod Sizes
 pub mod Submissions

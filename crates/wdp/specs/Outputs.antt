@@ -1,4 +1,4 @@
--- What each command writes, from its input. The book is a settled one, legal and closed, under the rules that the input tells.
+-- What each command writes, from its input. The book is a settled one, legal and closed, under the rules that the input tells; it holds the forms that the input tells, submitted in order, and the last form of each bidder stands.
 use Rattle.std.specs.Prelude.{◌≡◌, ◌≤◌, ◌-◌, ◌⊎◌, ℕ, All, List, [], ◌∷◌, Ok, Option, length, map, slice_index_or}
 use Rattle.std.specs.Io.KnownBytes.{Appends, Consumes, IsAtEnd}
 use denote.Ref.{Bor}
@@ -19,6 +19,7 @@ use Rattle.program_rows.specs.Program.{Table}
 use Rattle.wdp.specs.Parts.{Tells}
 use Rattle.wdp.specs.Requests.{IsWithinLimits}
 use Rattle.wdp.specs.Sizes.{sizes_text}
+use Rattle.wdp.specs.Submissions.{AreSubmitted}
 use Rattle.wdp.specs.Won.{AreWon, IsWon}
 use Rattle.wdp.specs.declared.parts.Parts.{Parts}
 use Rattle.wdp.specs.declared.request.Request.{Request}
@@ -37,6 +38,7 @@ pub record WritesText (input : List ℕ) (taken taken' : Option (List ℕ)) : Ty
   pub settled : IsClosing book
   pub rules_are : TellsRules parts.rules.items book.rules
   pub forms_are : TellForms book.rules parts.forms.items forms
+  pub submitted : AreSubmitted forms book
   pub written : Appends taken taken' (text (program_without book []))
   pub faithful : IsFaithfulWithout book []
 
@@ -50,6 +52,7 @@ pub record WritesPrograms (input : List ℕ) (taken taken' : Option (List ℕ)) 
   pub settled : IsClosing book
   pub rules_are : TellsRules parts.rules.items book.rules
   pub forms_are : TellForms book.rules parts.forms.items forms
+  pub submitted : AreSubmitted forms book
   pub groups_are : TellsGroups book.rules parts.groups.items groups
   pub written : Appends taken taken' (programs_bytes book (map (compiled book) groups))
   pub faithful : All (IsFaithfulWithout book) groups
@@ -66,6 +69,7 @@ pub record WritesWinners (k : ℕ) (input : List ℕ) (taken taken' : Option (Li
   pub settled : IsClosing book
   pub rules_are : TellsRules parts.rules.items book.rules
   pub forms_are : TellForms book.rules parts.forms.items forms
+  pub submitted : AreSubmitted forms book
   pub groups_are : TellsGroups book.rules parts.groups.items groups
   pub within : k ≤ length groups
   pub solution_is : parts.solutions.items ≡ solution ∷ []
@@ -83,6 +87,7 @@ pub record WritesReport (input : List ℕ) (taken taken' : Option (List ℕ)) : 
   pub settled : IsClosing book
   pub rules_are : TellsRules parts.rules.items book.rules
   pub forms_are : TellForms book.rules parts.forms.items forms
+  pub submitted : AreSubmitted forms book
   pub groups_are : TellsGroups book.rules parts.groups.items groups
   pub won : AreWon (map (compiled book) groups) parts.solutions.items allocations
   pub written : Appends taken taken' (report_text (sale_of book) groups allocations)

@@ -1,8 +1,10 @@
 //! The auction that an input tells.
 
-ghost use Rattle.std.specs.Prelude.{IfOk, List};
+ghost use Rattle.std.specs.Prelude.{IfErr, IfOk, List};
 ghost use Rattle.bid_forms.specs.Offers.{Offers};
 ghost use Rattle.wdp.specs.InputTexts.{TellForms, TellsGroups, TellsRules};
+ghost use Rattle.wdp.specs.Refusals.{RefusesAuction};
+ghost use Rattle.wdp.specs.Submissions.{AreSubmitted};
 
 use crate::parts::Parts;
 use crate::reading::read_terms;
@@ -27,8 +29,9 @@ pub fn read_auction<R: Threads + Wait + Sync + AllocGlobal>(
     parts: &Parts<'_>,
 ) -> Result<Auction, Refusal>
     ensures rules { IfOk result (λ auction. TellsRules parts.now.rules.items auction.book.rules) }
-    ensures forms { IfOk result (λ auction. (forms : List Offers) × TellForms auction.book.rules parts.now.forms.items forms) }
+    ensures forms { IfOk result (λ auction. (forms : List Offers) × TellForms auction.book.rules parts.now.forms.items forms × AreSubmitted forms auction.book) }
     ensures groups { IfOk result (λ auction. TellsGroups auction.book.rules parts.now.groups.items auction.groups) }
+    ensures refuses { IfErr result (RefusesAuction parts.now) }
 {
     let alloc: Global = rt.alloc();
     let (rules, forms) = read_terms(rt, alloc, parts)?;

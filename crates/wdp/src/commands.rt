@@ -1,12 +1,13 @@
 //! The commands.
 
-ghost use Rattle.std.specs.Prelude.{◌≡◌, ◌≤◌, ◌-◌, [], IfOk, OnErr, OnOk, false, length, map, slice_index_or, vec_len};
+ghost use Rattle.std.specs.Prelude.{◌≡◌, ◌≤◌, ◌-◌, [], IfErr, IfOk, OnErr, OnOk, false, length, map, slice_index_or, vec_len};
 ghost use Rattle.auction_terms.specs.Allocations.{IsFeasible};
 ghost use Rattle.auction_terms.specs.Terms.{lots_in};
 ghost use Rattle.bid_desk.specs.Closing.{book_of};
 ghost use Rattle.group_compiler.specs.Compiled.{compiled, program_without};
 ghost use Rattle.wdp.specs.Output.{IsQuietUnlessFailed};
 ghost use Rattle.wdp.specs.Outputs.{IsAnswered, WritesPrograms, WritesReport, WritesSizes, WritesText, WritesWinners};
+ghost use Rattle.wdp.specs.Refusals.{IsRefused, Refuses, RefusesSolution, RefusesSolutions};
 ghost use Rattle.wdp.specs.Requests.{IsWithinLimits};
 ghost use Rattle.wdp.specs.Won.{AreWon, IsWon};
 
@@ -30,6 +31,7 @@ use mps_text::{Sink, WriteFault};
 use outcome::{Allocation, report, write_allocation};
 use std::alloc::Global;
 use std::io::Read;
+use std::mem;
 use std::sync::Wait;
 use std::thread::Threads;
 
@@ -43,6 +45,7 @@ pub fn answer<R: Threads + Wait + Sync + AllocGlobal, I: Read, S: Sink>(
     requires { IsWithinLimits request }
     ensures answered { OnOk result (IsAnswered request (I.remaining input.old) (I.remaining input.new) (S.taken out.old) (S.taken out.new)) }
     ensures refused { OnErr result (IsQuietUnlessFailed (S.taken out.old) (S.taken out.new) (S.failures out.old) (S.failures out.new)) }
+    ensures refuses { IfErr result (IsRefused request (I.remaining input.old) (I.remaining input.new) (S.failures out.old) (S.failures out.new)) }
 {
     let text = read_input(rt.alloc(), input)?;
     match request {
@@ -65,13 +68,17 @@ fn compile<R: Threads + Wait + Sync + AllocGlobal, S: Sink>(
     requires few { workers ≤ 64 }
     ensures answer { OnOk result (WritesPrograms text.now (S.taken out.old) (S.taken out.new)) }
     ensures refused { OnErr result (IsQuietUnlessFailed (S.taken out.old) (S.taken out.new) (S.failures out.old) (S.failures out.new)) }
+    ensures refuses { IfErr result (Refuses (S.failures out.old) (S.failures out.new) (Request.Compile workers) text.now) }
 {
     let alloc: Global = rt.alloc();
     let parts = split_parts(alloc, text)?;
     count_parts(&parts, 1, Count::Exactly(0))?;
     let Auction { book, groups } = read_auction(rt, &parts)?;
     match run_compile(rt, alloc, &book, &groups, workers, &OpenGate, out) {
-        Ok(()) => Ok(()),
+        Ok(()) => {
+            keep_to_the_end(book);
+            Ok(())
+        }
         Err(RunFault::OutOfMemory { written: _ }) => Err(Refusal::OutOfMemory),
         Err(RunFault::Sink { group: _, written }) => {
             Err(Refusal::Write(WriteFault::Sink { written }))
@@ -83,6 +90,7 @@ fn compile<R: Threads + Wait + Sync + AllocGlobal, S: Sink>(
 fn check<S: Sink>(alloc: Global, text: &[u8], out: &mut S) -> Result<(), Refusal>
     ensures answer { OnOk result (WritesSizes text.now (S.taken out.old) (S.taken out.new)) }
     ensures refused { OnErr result (IsQuietUnlessFailed (S.taken out.old) (S.taken out.new) (S.failures out.old) (S.failures out.new)) }
+    ensures refuses { IfErr result (Refuses (S.failures out.old) (S.failures out.new) Request.Check text.now) }
 {
     let program = read_program(alloc, text)?;
     write_sizes(&program, out)?;
@@ -97,6 +105,7 @@ fn write_text<R: Threads + Wait + Sync + AllocGlobal, S: Sink>(
 ) -> Result<(), Refusal>
     ensures answer { OnOk result (WritesText text.now (S.taken out.old) (S.taken out.new)) }
     ensures refused { OnErr result (IsQuietUnlessFailed (S.taken out.old) (S.taken out.new) (S.failures out.old) (S.failures out.new)) }
+    ensures refuses { IfErr result (Refuses (S.failures out.old) (S.failures out.new) Request.Text text.now) }
 {
     let alloc: Global = rt.alloc();
     let parts = split_parts(alloc, text)?;
@@ -106,7 +115,13 @@ fn write_text<R: Threads + Wait + Sync + AllocGlobal, S: Sink>(
     let groups = Groups::only_empty(alloc)?;
     let compiled = compile_one(rt, alloc, &book, &groups, 1)?;
     compiled.write_to(out)?;
+    keep_to_the_end(book);
     Ok(())
+}
+
+// Leaves a book to the end of the process: giving its many small blocks back one by one takes a tenth of a large run.
+fn keep_to_the_end(book: ClosedBook) {
+    mem::forget(book);
 }
 
 // What the solution of a group's program wins.
@@ -119,6 +134,7 @@ fn map<R: Threads + Wait + Sync + AllocGlobal, S: Sink>(
     requires { 1 ≤ k }
     ensures answer { OnOk result (WritesWinners k text.now (S.taken out.old) (S.taken out.new)) }
     ensures refused { OnErr result (IsQuietUnlessFailed (S.taken out.old) (S.taken out.new) (S.failures out.old) (S.failures out.new)) }
+    ensures refuses { IfErr result (Refuses (S.failures out.old) (S.failures out.new) (Request.Map k) text.now) }
 {
     let alloc: Global = rt.alloc();
     let parts = split_parts(alloc, text)?;
@@ -147,6 +163,7 @@ fn won_without<R: Threads + Wait + Sync + AllocGlobal>(
     requires within { k ≤ length groups.now }
     ensures feasible { IfOk result (λ a. IsFeasible (lots_in book.now.rules) (book_of book.now) (λ b. false) a) }
     ensures won { IfOk result (IsWon (program_without book.now (slice_index_or groups.now (k - 1) [])) solution.now) }
+    ensures refuses { IfErr result (RefusesSolution (program_without book.now (slice_index_or groups.now (k - 1) [])) solution.now 1) }
 {
     let alloc: Global = rt.alloc();
     let compiled = compile_one(rt, alloc, book, groups, k)?;
@@ -171,6 +188,7 @@ fn write_report<R: Threads + Wait + Sync + AllocGlobal, S: Sink>(
     requires few { workers ≤ 64 }
     ensures answer { OnOk result (WritesReport text.now (S.taken out.old) (S.taken out.new)) }
     ensures refused { OnErr result (IsQuietUnlessFailed (S.taken out.old) (S.taken out.new) (S.failures out.old) (S.failures out.new)) }
+    ensures refuses { IfErr result (Refuses (S.failures out.old) (S.failures out.new) (Request.Report workers) text.now) }
 {
     let alloc: Global = rt.alloc();
     let parts = split_parts(alloc, text)?;
@@ -201,6 +219,7 @@ fn won_by_all<R: Threads + Wait + Sync + AllocGlobal>(
     requires count { length solutions.now ≡ length groups.now }
     ensures count { IfOk result (λ all. vec_len all ≡ length groups.now) }
     ensures won { IfOk result (λ all. AreWon (map (compiled book.now) groups.now) solutions.now all.items) }
+    ensures refuses { IfErr result (RefusesSolutions (map (compiled book.now) groups.now) solutions.now) }
 {
     let alloc: Global = rt.alloc();
     let programs = compile_all(rt, alloc, book, groups, workers, &OpenGate)?;

@@ -1,7 +1,7 @@
 //! What a bidder's thread does.
 
-ghost use Rattle.std.specs.Prelude.{◌≡◌};
-ghost use Rattle.wdp.specs.Submissions.{AreFormsOf};
+ghost use Rattle.std.specs.Prelude.{◌≡◌, [], OnOk, map};
+ghost use Rattle.wdp.specs.Submissions.{AreAccepted, AreFormsOf, ComesTo, form_values};
 
 use crate::numbered_form::NumberedForm;
 use crate::round::RoundFault;
@@ -10,22 +10,22 @@ use bid_desk::{Desk, DeskError, Round, Session};
 use std::marker::Model;
 use std::sync::Wait;
 
-/// A session, and the forms that it submits.
+/// A session that made no call yet, and the forms of its bidder that it is to submit.
 #[derive(Drop)]
-pub struct Job<L: Round> {
+pub struct Job<'f, L: Round> {
     session: Session<L>,
-    forms: Vec<NumberedForm>,
+    forms: &'f [NumberedForm],
 }
 
-impl<L: Round> Model for Job<L> {
-    ghost use Rattle.bid_desk.specs.Holding.{SessionOwn};
-    ghost use Rattle.wdp.specs.Submissions.{AreFormsOf};
+impl<'f, L: Round> Model for Job<'f, L> {
+    ghost use Rattle.std.specs.Prelude.{◌≡◌, []};
+    ghost use Rattle.wdp.specs.Submissions.{AreFormsOf, JobOwn, form_values};
 
-    ghost Value = { SessionOwn };
+    ghost Value = { JobOwn };
 
-    ghost view = { λ j. j.session };
+    ghost view = { λ j. record { session = j.session; forms = form_values j.forms.now } };
 
-    ghost invariant = { λ j. AreFormsOf L.rules j.session.bidder j.forms.items };
+    ghost invariant = { λ j. AreFormsOf L.rules j.session.bidder (form_values j.forms.now) × (j.session.pairs ≡ []) };
 }
 
 /// The session of a job that was done, and how its submissions ended.
@@ -35,20 +35,24 @@ pub struct Done<L: Round> {
     pub ended: Result<(), RoundFault>,
 }
 
-impl<L: Round> Job<L> {
-    /// A session, and forms of its bidder that meet the rules.
-    pub fn new(session: Session<L>, forms: Vec<NumberedForm>) -> Job<L>
-        requires { AreFormsOf L.rules session.bidder forms.items }
-        ensures { result ≡ session }
+impl<'f, L: Round> Job<'f, L> {
+    /// A session that made no call, and forms of its bidder that meet the rules.
+    pub fn new(session: Session<L>, forms: &'f [NumberedForm]) -> Job<'f, L>
+        requires fresh { session.pairs ≡ [] }
+        requires forms { AreFormsOf L.rules session.bidder (form_values forms.now) }
+        ensures session { result.session ≡ session }
+        ensures forms { result.forms ≡ form_values forms.now }
     {
         Job { session, forms }
     }
 
     /// Submits the forms in order, each over the number accepted last.
-    pub fn run<R: Wait>(self, rt: &R, desk: &Desk<L>) -> Done<L> {
+    pub fn run<R: Wait>(self, rt: &R, desk: &Desk<L>) -> Done<L>
+        ensures { ComesTo self.entry result.session result.ended }
+    {
         let Job { session, forms } = self;
         let mut session = session;
-        let ended = submit_each(rt, desk, &mut session, forms.as_slice());
+        let ended = submit_each(rt, desk, &mut session, forms);
         Done { session, ended }
     }
 }
@@ -59,7 +63,10 @@ fn submit_each<L: Round, R: Wait>(
     session: &mut Session<L>,
     forms: &[NumberedForm],
 ) -> Result<(), RoundFault>
-    requires { AreFormsOf L.rules session.old.bidder forms.now }
+    requires own { AreFormsOf L.rules session.old.bidder (form_values forms.now) }
+    requires fresh { session.old.pairs ≡ [] }
+    ensures accepted { OnOk result (AreAccepted (form_values forms.now) session.new.pairs) }
+    ensures same { (session.new.bidder ≡ session.old.bidder) × (session.new.session ≡ session.old.session) }
 {
     let mut over = None;
     for place in 0..forms.len() {

@@ -5,6 +5,7 @@ ghost use Rattle.wdp.specs.Parts.{Tells, added, heads_part, bytes_before, cut_li
 
 use crate::part_kind::{PartKind, kind_named};
 use auction_terms::LineReader;
+use memchr::memmem;
 use std::alloc::{AllocError, Global};
 
 /// The bytes of the parts of each kind, in the order of the input.
@@ -49,6 +50,13 @@ fn line_end(text: &[u8]) -> usize
     text.len()
 }
 
+// Whether a text begins with a line that heads a part.
+fn is_headed(text: &[u8]) -> bool
+    ensures { result ≡ heads_part text.now }
+{
+    text.starts_with(b"%")
+}
+
 // How many bytes there are before the next line that heads a part.
 fn body_end(text: &[u8]) -> usize
     ensures within { result ≤ length text.now }
@@ -56,14 +64,13 @@ fn body_end(text: &[u8]) -> usize
     ensures parts { parts_in (cut_lines text.now) ≡ parts_in (cut_lines (drop result text.now)) }
     ensures next { result < length text.now → heads_part (drop result text.now) ≡ true }
 {
-    let mut end = 0;
-    while end < text.len() {
-        if text[end] == b'%' {
-            return end;
-        }
-        end += line_end(&text[end..]);
+    if is_headed(text) {
+        return 0;
     }
-    end
+    match memmem::find(text, b"\n%") {
+        Some(feed) => feed + 1,
+        None => text.len(),
+    }
 }
 
 // The name in the line that heads a part.

@@ -4,6 +4,7 @@ ghost use Rattle.std.specs.Prelude.{◌≡◌, ◌++◌, ◌∷◌, [], All, IfE
 ghost use Rattle.std.specs.List.{AllZip};
 ghost use Rattle.bid_forms.specs.Offers.{Meets};
 ghost use Rattle.wdp.specs.InputTexts.{IsAnswer, IsFirstErr, RefusesForms, TellForms, TellsRules};
+ghost use Rattle.wdp.specs.Refusals.{RefusesTerms, counted_as, miscounted};
 
 use crate::parts::Parts;
 use crate::refusal::{CountedPart, Refusal};
@@ -22,7 +23,9 @@ pub enum Count {
 }
 
 /// Tests the numbers of parts: one with rules, and as many with groups and with solutions as the command takes.
-pub fn count_parts(parts: &Parts<'_>, groups: usize, solutions: Count) -> Result<(), Refusal> {
+pub fn count_parts(parts: &Parts<'_>, groups: usize, solutions: Count) -> Result<(), Refusal>
+    ensures { result ≡ counted_as (miscounted groups solutions parts.now) }
+{
     if parts.rules.len() != 1 {
         return Err(Refusal::PartCount(CountedPart::Rules));
     }
@@ -46,6 +49,7 @@ pub fn read_terms(
     ensures rules { IfOk result (λ read. TellsRules parts.now.rules.items read.0) }
     ensures forms { IfOk result (λ read. TellForms read.0 parts.now.forms.items read.1.items) }
     ensures meet { IfOk result (λ read. All (Meets read.0) read.1.items) }
+    ensures refuses { IfErr result (RefusesTerms parts.now) }
 {
     let [text] = parts.rules.as_slice() else {
         return Err(Refusal::PartCount(CountedPart::Rules));

@@ -69,42 +69,77 @@ impl From<AllocError> for Refusal {
 }
 
 impl From<InputFault> for Refusal {
+    ghost use Rattle.std.specs.Prelude.{◌≡◌};
+    ghost use Rattle.wdp.specs.declared.refusal.Refusal.TheVariants.{Input};
+
+    ghost from_gives = { λ fault e. e ≡ Input fault };
+
     fn from(fault: InputFault) -> Refusal {
         Refusal::Input(fault)
     }
 }
 
 impl From<PartFault> for Refusal {
+    ghost use Rattle.std.specs.Prelude.{◌≡◌};
+    ghost use Rattle.wdp.specs.declared.refusal.Refusal.TheVariants.{Parts};
+
+    ghost from_gives = { λ fault e. e ≡ Parts fault };
+
     fn from(fault: PartFault) -> Refusal {
         Refusal::Parts(fault)
     }
 }
 
 impl From<RulesFault> for Refusal {
+    ghost use Rattle.std.specs.Prelude.{◌≡◌};
+    ghost use Rattle.wdp.specs.declared.refusal.Refusal.TheVariants.{Rules};
+
+    ghost from_gives = { λ fault e. e ≡ Rules fault };
+
     fn from(fault: RulesFault) -> Refusal {
         Refusal::Rules(fault)
     }
 }
 
 impl From<GroupFault> for Refusal {
+    ghost use Rattle.std.specs.Prelude.{◌≡◌};
+    ghost use Rattle.wdp.specs.declared.refusal.Refusal.TheVariants.{Groups};
+
+    ghost from_gives = { λ fault e. e ≡ Groups fault };
+
     fn from(fault: GroupFault) -> Refusal {
         Refusal::Groups(fault)
     }
 }
 
 impl From<MpsFault> for Refusal {
+    ghost use Rattle.std.specs.Prelude.{◌≡◌};
+    ghost use Rattle.wdp.specs.declared.refusal.Refusal.TheVariants.{Program};
+
+    ghost from_gives = { λ fault e. e ≡ Program fault };
+
     fn from(fault: MpsFault) -> Refusal {
         Refusal::Program(fault)
     }
 }
 
 impl From<RoundFault> for Refusal {
+    ghost use Rattle.std.specs.Prelude.{◌≡◌};
+    ghost use Rattle.wdp.specs.declared.refusal.Refusal.TheVariants.{Round};
+
+    ghost from_gives = { λ fault e. e ≡ Round fault };
+
     fn from(fault: RoundFault) -> Refusal {
         Refusal::Round(fault)
     }
 }
 
 impl From<WriteFault> for Refusal {
+    ghost use Rattle.std.specs.Prelude.{◌≡◌};
+    ghost use Rattle.wdp.specs.declared.refusal.Refusal.TheVariants.{Write};
+
+    ghost from_gives = { λ fault e. e ≡ Write fault };
+
     fn from(fault: WriteFault) -> Refusal {
         Refusal::Write(fault)
     }

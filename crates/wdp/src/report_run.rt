@@ -1,7 +1,8 @@
 //! What the solutions of all groups win, and what each group's opportunity cost is.
 
-ghost use Rattle.std.specs.Prelude.{◌≡◌, ◌++◌, ◌∷◌, [], All, IfOk, OnOk, length, vec_len};
+ghost use Rattle.std.specs.Prelude.{◌≡◌, ◌++◌, ◌∷◌, [], All, IfErr, IfOk, OnOk, length, vec_len};
 ghost use Rattle.group_compiler.specs.Compiled.{compiled};
+ghost use Rattle.wdp.specs.Refusals.{RefusesSolution, RefusesSolutions};
 ghost use Rattle.wdp.specs.Won.{AreWon, IsWon};
 
 use crate::refusal::Refusal;
@@ -22,6 +23,7 @@ pub fn allocations_won(
     requires count { length solutions.now ≡ length programs.now }
     ensures count { IfOk result (λ all. vec_len all ≡ length programs.now) }
     ensures won { IfOk result (λ all. AreWon programs.now solutions.now all.items) }
+    ensures refuses { IfErr result (RefusesSolutions programs.now solutions.now) }
 {
     let mut all = Vec::new(alloc);
     for place in 0..programs.len() {
@@ -47,7 +49,8 @@ fn won_by(
     text: &[u8],
 ) -> Result<Allocation, Refusal>
     requires { made.now ≡ compiled book.now made.now.group }
-    ensures { IfOk result (IsWon made.now.program text.now) }
+    ensures won { IfOk result (IsWon made.now.program text.now) }
+    ensures refuses { IfErr result (RefusesSolution made.now.program text.now solution) }
 {
     // Its contract says that the book's forms are within limits, which the program's faithfulness asks for.
     let _within_limits = book.rules();

@@ -1,11 +1,14 @@
 //! The round: every bidder submits its forms, the chair closes, and the desk is settled.
 
-ghost use Rattle.std.specs.Prelude.{◌≡◌, ◌+◌, ◌≤◌, All, IfOk, length};
+ghost use Rattle.std.specs.Prelude.{◌≡◌, ◌+◌, ◌++◌, ℕ, [], All, IfOk, Ok, OnOk, map};
+ghost use Rattle.std.specs.List.{AllZip};
 ghost use Rattle.auction_terms.specs.Terms.{session_count};
+ghost use Rattle.bid_desk.specs.Holding.{ChairOwn};
+ghost use Rattle.bid_desk.specs.Settlement.{IsSettled};
 ghost use Rattle.bid_forms.specs.Offers.{Meets};
-ghost use Rattle.wdp.specs.Submissions.{AreByBidder};
+ghost use Rattle.wdp.specs.Submissions.{AreFormsOf, AreSubmitted, ComesTo, IsFirstJob, IsIdle, forms_in};
 
-use crate::by_bidder::{by_bidder, take_forms};
+use crate::by_bidder::{by_bidder, forms_in};
 use crate::job::{Done, Job};
 use crate::numbered_form::NumberedForm;
 use auction_terms::Rules;
@@ -42,7 +45,8 @@ pub fn close_round<R: Threads + Wait + Sync + AllocGlobal>(
     forms: Vec<Form>,
 ) -> Result<ClosedBook, RoundFault>
     requires { All (Meets rules) forms.items }
-    ensures { IfOk result (λ book. book.rules ≡ rules) }
+    ensures rules { IfOk result (λ book. book.rules ≡ rules) }
+    ensures submitted { IfOk result (AreSubmitted forms.items) }
 {
     let blank = Blank::new(part_count(&rules));
     close_round_of::<Brand, _>(rt, blank, rules, forms)
@@ -68,28 +72,31 @@ fn close_round_of<L: Round + Send + Sync, R: Threads + Wait + Sync + AllocGlobal
     requires part_count { (blank.parts ≡ L.part_count) × (L.part_count ≡ session_count rules + 1) }
     requires rules { rules ≡ L.rules }
     requires meet { All (Meets L.rules) forms.items }
-    ensures { IfOk result (λ book. book.rules ≡ rules) }
+    ensures rules { IfOk result (λ book. book.rules ≡ rules) }
+    ensures submitted { IfOk result (AreSubmitted forms.items) }
 {
     let alloc: Global = rt.alloc();
-    let lists = by_bidder::<L>(alloc, rules.bidders().len(), forms)?;
+    let lists = by_bidder(alloc, rules.bidders().len(), forms)?;
     let Ok((desk, chair, sessions)) = Desk::<L>::open(alloc, blank, rules) else {
         return Err(RoundFault::OutOfMemory);
     };
-    let (jobs, others) = jobs_of(alloc, sessions, lists)?;
-    let done = thread::map_vec(rt, jobs, &|job: Job<L>| job.run(rt, &desk))?;
+    let (jobs, others) = jobs_of(alloc, sessions, lists.as_slice())?;
+    let done = run_each(rt, &desk, jobs)?;
     let sessions = sessions_of(done, others)?;
     settle(rt, desk, chair, sessions)
 }
 
 // The first session of each bidder with forms, with these forms; and the other sessions.
-fn jobs_of<L: Round>(
+fn jobs_of<'f, L: Round>(
     alloc: Global,
     sessions: Vec<Session<L>>,
-    lists: Vec<Vec<NumberedForm>>,
-) -> Result<(Vec<Job<L>>, Vec<Session<L>>), AllocError>
-    requires { AreByBidder L.rules lists.items }
+    lists: &'f [Vec<NumberedForm>],
+) -> Result<(Vec<Job<'f, L>>, Vec<Session<L>>), AllocError>
+    requires fresh { All (λ session. session.pairs ≡ []) sessions.items }
+    requires own { (b : ℕ) → AreFormsOf L.rules b (forms_in lists.now b) }
+    ensures jobs { IfOk result (λ made. All (IsFirstJob lists.now) made.0.items) }
+    ensures others { IfOk result (λ made. All (IsIdle lists.now) made.1.items) }
 {
-    let mut lists = lists;
     let mut jobs = Vec::new(alloc);
     let mut others = Vec::new(alloc);
     for session in sessions {
@@ -97,7 +104,7 @@ fn jobs_of<L: Round>(
             others.push(session)?;
             continue;
         }
-        let forms = take_forms::<L>(alloc, &mut lists, session.bidder());
+        let forms = forms_in(lists, session.bidder());
         if forms.is_empty() {
             others.push(session)?;
         } else {
@@ -107,11 +114,31 @@ fn jobs_of<L: Round>(
     Ok((jobs, others))
 }
 
+// Does each job, in a thread of its own.
+fn run_each<L: Round + Send + Sync, R: Threads + Wait + Sync + AllocGlobal>(
+    rt: &R,
+    desk: &Desk<L>,
+    jobs: Vec<Job<'_, L>>,
+) -> Result<Vec<Done<L>>, AllocError>
+    ensures { IfOk result (λ done. AllZip (λ job end. ComesTo job end.session end.ended) jobs.entry.items done.items) }
+{
+    thread::map_vec(
+        rt,
+        jobs,
+        &|job: Job<'_, L>| -> Done<L>
+            ensures { ComesTo job.entry result.session result.ended }
+        { job.run(rt, desk) },
+    )
+}
+
 // All sessions, where every submission was accepted.
 fn sessions_of<L: Round>(
     done: Vec<Done<L>>,
     others: Vec<Session<L>>,
-) -> Result<Vec<Session<L>>, RoundFault> {
+) -> Result<Vec<Session<L>>, RoundFault>
+    ensures ended { OnOk result (All (λ job. job.ended ≡ Ok tt) done.items) }
+    ensures sessions { IfOk result (λ sessions. sessions.items ≡ others.items ++ map (λ job. job.session) done.items) }
+{
     let mut sessions = others;
     let mut ended = Ok(());
     for job in done {
@@ -129,7 +156,9 @@ fn sessions_of<L: Round>(
 }
 
 // Of two ends the one to tell: want of memory, else a wrong answer, else the call limit of the earlier form.
-fn first_of(one: Result<(), RoundFault>, other: Result<(), RoundFault>) -> Result<(), RoundFault> {
+fn first_of(one: Result<(), RoundFault>, other: Result<(), RoundFault>) -> Result<(), RoundFault>
+    ensures { OnOk result ((one ≡ Ok tt) × (other ≡ Ok tt)) }
+{
     match (one, other) {
         (Ok(()), end) => end,
         (end, Ok(())) => end,
@@ -150,7 +179,8 @@ fn settle<L: Round, R: Wait + AllocGlobal>(
     chair: Chair<L>,
     sessions: Vec<Session<L>>,
 ) -> Result<ClosedBook, RoundFault>
-    ensures { IfOk result (λ book. book.rules ≡ L.rules) }
+    ensures rules { IfOk result (λ book. book.rules ≡ L.rules) }
+    ensures settled { IfOk result (λ book. (chair : ChairOwn) × IsSettled L.rules book.history chair sessions.items) }
 {
     let mut chair = chair;
     match desk.enter(rt).close(&mut chair) {

@@ -4,6 +4,7 @@ ghost use Rattle.std.specs.Prelude.{◌≡◌, ◌≤◌, List, ℕ};
 ghost use Rattle.std.specs.Io.KnownBytes.{Appends};
 ghost use Rattle.wdp.specs.Output.{IsQuietUnlessFailed};
 ghost use Rattle.wdp.specs.Outputs.{IsDone};
+ghost use Rattle.wdp.specs.Refusals.{IsRunRefused};
 
 use crate::commands::answer;
 use crate::pieces::write_pieces;
@@ -30,6 +31,7 @@ pub fn run<'a, R: Threads + Wait + Sync + AllocGlobal, I: Read, S: Sink, F: Sink
     ensures status { result ≤ 2 }
     ensures done { result ≡ 0 → IsDone (I.remaining input.old) (I.remaining input.new) (S.taken out.old) (S.taken out.new) }
     ensures refused { result ≡ 1 → IsQuietUnlessFailed (S.taken out.old) (S.taken out.new) (S.failures out.old) (S.failures out.new) }
+    ensures refuses { result ≡ 1 → IsRunRefused (I.remaining input.old) (I.remaining input.new) (S.failures out.old) (S.failures out.new) }
     ensures words_refused { result ≡ 2 → S.taken out.new ≡ S.taken out.old }
 {
     let alloc: Global = rt.alloc();

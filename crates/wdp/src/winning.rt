@@ -1,11 +1,12 @@
 //! What a solution wins.
 
-ghost use Rattle.std.specs.Prelude.{IfOk};
+ghost use Rattle.std.specs.Prelude.{IfErr, IfOk};
 ghost use Rattle.auction_terms.specs.Allocations.{IsFeasible};
 ghost use Rattle.auction_terms.specs.Groups.{has};
 ghost use Rattle.auction_terms.specs.Terms.{lots_in};
 ghost use Rattle.bid_desk.specs.Closing.{book_of};
 ghost use Rattle.program_rows.specs.Faithful.{IsFaithful};
+ghost use Rattle.wdp.specs.Refusals.{IsToldAs, RefusesSolution};
 ghost use Rattle.wdp.specs.Won.{IsWon};
 
 use crate::refusal::Refusal;
@@ -27,6 +28,7 @@ pub fn allocation_won(
     requires { IsFaithful (lots_in book.now.rules) (book_of book.now) (has group.now) program.now }
     ensures feasible { IfOk result (λ a. IsFeasible (lots_in book.now.rules) (book_of book.now) (has group.now) a) }
     ensures won { IfOk result (IsWon program.now text.now) }
+    ensures refuses { IfErr result (RefusesSolution program.now text.now solution) }
 {
     match read_solution(alloc, text, program) {
         Ok(point) => Ok(map_back(alloc, program, &point)?),
@@ -40,7 +42,9 @@ fn refused(
     program: &Program,
     solution: usize,
     fault: SolutionFault,
-) -> Result<Refusal, AllocError> {
+) -> Result<Refusal, AllocError>
+    ensures { IfOk result (IsToldAs program.now solution fault) }
+{
     match fault {
         SolutionFault::BoundBroken { column } if column < program.column_count() => {
             let column = Vec::from_slice(alloc, program.column_name(column))?;

@@ -1,6 +1,6 @@
-use Rattle.std.proofs.Common.{◌≡◌, vec_len}
+use Rattle.std.proofs.Common.{◌≡◌, [], vec_len}
 use Rattle.wdp.specs.Submissions.{AreByBidder}
 use Rattle.wdp.proofs.by_bidder.empty_lists.Given as goal
 
 abbrev pub invariant-loop : goal.invariant-loop
-invariant-loop g l = (vec_len l.lists ≡ l.counter) × AreByBidder g.L.Round.rules l.lists.items
+invariant-loop l = (vec_len l.lists ≡ l.counter) × AreByBidder [] l.lists.items

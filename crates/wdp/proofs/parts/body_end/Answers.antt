@@ -1,13 +1,18 @@
-use Rattle.std.proofs.Common.{◌≡◌, ◌-◌, take, drop, length, arith}
-use Rattle.std.proofs.lemmas.List.{length-drop, take_all}
-use Rattle.wdp.proofs.PartFacts.{scanned-more}
+use Rattle.std.proofs.Common.{sym, ◌∙◌}
+use Rattle.wdp.proofs.PartFacts.{found-before, none-found-before}
 use Rattle.wdp.proofs.parts.body_end.Goals as goal
 
-pub loop-end-preserved : goal.loop-end-preserved
-loop-end-preserved c =
-    let text = c.args.text.now in
-    let end = c.loop-end.end in
-    let rest : take (length text - end) (drop end text) ≡ drop end text = (let l = length-drop end text in take_all _ _ (omega arith)) in
-    let few = rw rest at c.line_end-end.ensures.within in
-    let cut = rw rest at c.line_end-end.ensures.cut in
-    scanned-more text end c.line_end-end.result c.loop-end.invariant c.loop-end-test.true c.if-text-end-eq37.false c.line_end-end.ensures.some few cut
+pub returns-in-Some-clause-bytes : goal.returns-in-Some-clause-bytes
+returns-in-Some-clause-bytes c = (found-before c.args.text.now c.in-Some.feed (sym c.is_headed.ensures ∙ c.if-is_headed.false) (rw c.in-Some.is at c.find.ensures)).0.0
+
+pub returns-in-Some-clause-parts : goal.returns-in-Some-clause-parts
+returns-in-Some-clause-parts c = (found-before c.args.text.now c.in-Some.feed (sym c.is_headed.ensures ∙ c.if-is_headed.false) (rw c.in-Some.is at c.find.ensures)).0.1
+
+pub returns-in-Some-clause-next : goal.returns-in-Some-clause-next
+returns-in-Some-clause-next c = λ _. (found-before c.args.text.now c.in-Some.feed (sym c.is_headed.ensures ∙ c.if-is_headed.false) (rw c.in-Some.is at c.find.ensures)).1
+
+pub returns-in-None-clause-bytes : goal.returns-in-None-clause-bytes
+returns-in-None-clause-bytes c = (none-found-before c.args.text.now (sym c.is_headed.ensures ∙ c.if-is_headed.false) (rw c.in-None.is at c.find.ensures)).0
+
+pub returns-in-None-clause-parts : goal.returns-in-None-clause-parts
+returns-in-None-clause-parts c = (none-found-before c.args.text.now (sym c.is_headed.ensures ∙ c.if-is_headed.false) (rw c.in-None.is at c.find.ensures)).1
