@@ -28,6 +28,7 @@ use Rattle.program_rows.specs.declared.fault.FaultKind.TheVariants as kind
 use Rattle.wdp.specs.InputTexts.{RefusesForms, TellForms, TellsGroups, TellsRules, groups_in, rules_in}
 use Rattle.wdp.specs.Parts.{Tells}
 use Rattle.wdp.specs.Requests.{IsWithinLimits}
+use Rattle.wdp.specs.Submissions.{AreSubmitted}
 use Rattle.wdp.specs.Won.{AreWon, IsWon}
 use Rattle.wdp.specs.declared.input.InputFault.{InputFault}
 use Rattle.wdp.specs.declared.input.InputFault.TheVariants as input_fault
@@ -143,11 +144,12 @@ pub record TellsParts (asked : Request) (input : List ℕ) (parts : Parts) : Typ
   pub parts_are : Tells (Ok parts) input
   pub counted : miscounted (groups_taken asked) (solutions_taken asked) parts ≡ None
 
--- the input tells these parts, this settled auction and these groups
+-- the input tells these parts, these groups and this settled auction, whose book holds just the forms that it tells
 pub record TellsAuction (asked : Request) (input : List ℕ) (parts : Parts) (book : Closing) (groups : List (List ℕ)) : Type 0 where
   pub parts_are : TellsParts asked input parts
   pub settled : IsClosing book
   pub terms_are : TellsTerms parts book.rules
+  pub submitted : AreSubmitted terms_are.forms book
   pub groups_are : TellsGroups book.rules parts.groups.items groups
 
 -- what the text of a program tells, its size included

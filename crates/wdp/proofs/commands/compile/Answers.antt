@@ -59,6 +59,7 @@ returns-clause-refuses g c =
       parts_are = parts_are;
       settled = settled;
       terms_are = record { forms = c.in_ok-book.ensures.forms.0; rules_are = c.in_ok-book.ensures.rules; forms_are = c.in_ok-book.ensures.forms.1 };
+      submitted = c.in_ok-book.ensures.forms.2;
       groups_are = c.in_ok-book.ensures.groups;
     } in
     let failed = subst (FailsAsTold (g.S.Sink.failures c.args.out.now) (g.S.Sink.failures c.run_compile.new.out)) c.in-Err-Sink.field-0-is c.in-Err-Sink.ensures.failed in

@@ -67,6 +67,7 @@ returns-then-k-count-clause-refuses g c =
       parts_are = parts_are;
       settled = settled;
       terms_are = record { forms = c.in_ok-book.ensures.forms.0; rules_are = c.in_ok-book.ensures.rules; forms_are = c.in_ok-book.ensures.forms.1 };
+      submitted = c.in_ok-book.ensures.forms.2;
       groups_are = c.in_ok-book.ensures.groups;
     } in
     let few : length groups < c.args.k = search rules in
@@ -85,6 +86,7 @@ returns-in_err-allocation-clause-refuses g c =
       parts_are = parts_are;
       settled = settled;
       terms_are = record { forms = c.in_ok-book.ensures.forms.0; rules_are = c.in_ok-book.ensures.rules; forms_are = c.in_ok-book.ensures.forms.1 };
+      submitted = c.in_ok-book.ensures.forms.2;
       groups_are = c.in_ok-book.ensures.groups;
     } in
     let nothing : Bor (List ℕ) = record { ref_ptr = (0, 0); now = [] } in
@@ -106,6 +108,7 @@ returns-in_err-write_allocation-clause-refuses g c =
       parts_are = parts_are;
       settled = settled;
       terms_are = record { forms = c.in_ok-book.ensures.forms.0; rules_are = c.in_ok-book.ensures.rules; forms_are = c.in_ok-book.ensures.forms.1 };
+      submitted = c.in_ok-book.ensures.forms.2;
       groups_are = c.in_ok-book.ensures.groups;
     } in
     let nothing : Bor (List ℕ) = record { ref_ptr = (0, 0); now = [] } in

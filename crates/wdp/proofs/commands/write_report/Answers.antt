@@ -67,6 +67,7 @@ returns-then-not-starts_empty-clause-refuses g c =
       parts_are = parts_are;
       settled = settled;
       terms_are = record { forms = c.in_ok-book.ensures.forms.0; rules_are = c.in_ok-book.ensures.rules; forms_are = c.in_ok-book.ensures.forms.1 };
+      submitted = c.in_ok-book.ensures.forms.2;
       groups_are = c.in_ok-book.ensures.groups;
     } in
     let some : starts_empty groups ≡ false = sym c.starts_empty.ensures ∙ c.if-not-starts_empty.true in
@@ -83,6 +84,7 @@ returns-then-len-count-clause-refuses g c =
       parts_are = parts_are;
       settled = settled;
       terms_are = record { forms = c.in_ok-book.ensures.forms.0; rules_are = c.in_ok-book.ensures.rules; forms_are = c.in_ok-book.ensures.forms.1 };
+      submitted = c.in_ok-book.ensures.forms.2;
       groups_are = c.in_ok-book.ensures.groups;
     } in
     let empty : starts_empty groups ≡ true = search rules in
@@ -102,6 +104,7 @@ returns-in_err-allocations-clause-refuses g c =
       parts_are = parts_are;
       settled = settled;
       terms_are = record { forms = c.in_ok-book.ensures.forms.0; rules_are = c.in_ok-book.ensures.rules; forms_are = c.in_ok-book.ensures.forms.1 };
+      submitted = c.in_ok-book.ensures.forms.2;
       groups_are = c.in_ok-book.ensures.groups;
     } in
     let empty : starts_empty groups ≡ true = search rules in
@@ -121,6 +124,7 @@ returns-in_err-report-clause-refuses g c =
       parts_are = parts_are;
       settled = settled;
       terms_are = record { forms = c.in_ok-book.ensures.forms.0; rules_are = c.in_ok-book.ensures.rules; forms_are = c.in_ok-book.ensures.forms.1 };
+      submitted = c.in_ok-book.ensures.forms.2;
       groups_are = c.in_ok-book.ensures.groups;
     } in
     let empty : starts_empty groups ≡ true = search rules in
