@@ -24,7 +24,7 @@ pub use groups_text::{GroupFault, read_groups};
 pub use lines::LineReader;
 pub use names::Name;
 pub use numbers::number;
-pub use packages::Package;
+pub use packages::{Package, Quantities};
 pub use records::RecordReader;
 pub use rules::{Bidder, Category, Rules};
 pub use rules_text::{RulesFault, TEXT_LIMIT, field, read_rules};

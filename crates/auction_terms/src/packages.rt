@@ -1,12 +1,17 @@
 //! Packages of lots.
 
 use crate::rules::{Category, Rules};
+use arrayvec::ArrayVec;
 use std::marker::Model;
+
+/// Room for a quantity of each category: at most 32, each at most 10,000. It stands in the package itself, so that a bid
+/// takes no memory of its own.
+pub type Quantities = ArrayVec<u16, 32>;
 
 /// A quantity per category. Contracts see the list of them.
 #[derive(Drop)]
 pub struct Package {
-    quantities: Vec<u32>,
+    quantities: Quantities,
 }
 
 impl Model for Package {
@@ -30,11 +35,21 @@ impl Package {
         requires { IsPackage quantities.items }
         ensures { result ≡ quantities.items }
     {
+        Package {
+            quantities: quantities_of(&quantities),
+        }
+    }
+
+    /// A package of these quantities, as `new` makes it.
+    pub fn of(quantities: Quantities) -> Package
+        requires { IsPackage quantities.items }
+        ensures { result ≡ quantities.items }
+    {
         Package { quantities }
     }
 
     /// The quantities, in the order of the categories.
-    pub fn quantities(&self) -> &[u32]
+    pub fn quantities(&self) -> &[u16]
         ensures quantities { result.now ≡ self.now }
         ensures package { IsPackage self.now }
     {
@@ -47,7 +62,7 @@ impl Package {
         requires within { category ≤ length self.now }
         ensures { result ≡ slice_index self.now (category - 1) }
     {
-        self.quantities[category - 1]
+        u32::from(self.quantities[category - 1])
     }
 
     /// How many lots it has.
@@ -77,19 +92,31 @@ impl Package {
 ghost use Rattle.std.specs.Prelude.{◌≡◌, length, map};
 ghost use Rattle.auction_terms.specs.Packages.{IsPackage, is_within, size};
 
-fn sum_of(quantities: &[u32]) -> u32
+// The quantities, each in two bytes.
+fn quantities_of(quantities: &[u32]) -> Quantities
+    requires { IsPackage quantities.now }
+    ensures { result.items ≡ quantities.now }
+{
+    let mut room = ArrayVec::new();
+    for quantity in quantities {
+        room.push(*quantity as u16);
+    }
+    room
+}
+
+fn sum_of(quantities: &[u16]) -> u32
     requires { IsPackage quantities.now }
     ensures { result ≡ size quantities.now }
 {
     let mut total = 0;
     for quantity in quantities {
-        total += *quantity;
+        total += u32::from(*quantity);
     }
     total
 }
 
 // Whether each quantity is at most the other.
-fn all_within(smaller: &[u32], greater: &[u32]) -> bool
+fn all_within(smaller: &[u16], greater: &[u16]) -> bool
     requires { length smaller.now ≡ length greater.now }
     ensures { result ≡ is_within smaller.now greater.now }
 {
@@ -101,12 +128,12 @@ fn all_within(smaller: &[u32], greater: &[u32]) -> bool
     true
 }
 
-fn within_supply(quantities: &[u32], categories: &[Category]) -> bool
+fn within_supply(quantities: &[u16], categories: &[Category]) -> bool
     requires { length quantities.now ≡ length categories.now }
     ensures { result ≡ is_within quantities.now (map (λ category. category.supply) categories.now) }
 {
     for place in 0..quantities.len() {
-        if quantities[place] > categories[place].supply {
+        if u32::from(quantities[place]) > categories[place].supply {
             return false;
         }
     }
