@@ -83,18 +83,25 @@ QuantitiesSoFar r n within items =
     × ((within && are_quantities (quantities_from n r)) ≡ are_quantities (quantities_in r))
     × (within ≡ true → items ++ quantities_from n r ≡ quantities_in r)
     × All (λ quantity. quantity ≤ 10000) items
+    × (length items < n)
 
 -- the next field is no number
 pub quantities-none : (r : Record) (n : ℕ) (within : Bool) (items : List ℕ) → QuantitiesSoFar r n within items → n < length r → None ≡ number_of (field (n + 1) r)
     → list_all is_number_text (drop 1 r) ≡ false
-quantities-none r n within items (texts, limits, are, each) small none =
+quantities-none r n within items (texts, limits, are, each, few) small none =
     let told = rw (fields-more r n small, no-number (field (n + 1) r) none) at texts in
     sym told
+
+-- a list with one more element
+one-more : (items : List ℕ) (value n : ℕ) → length items < n → length (items ++ value ∷ []) < n + 1
+one-more [] value n fewer = omega arith
+one-more (item ∷ items) value zero fewer = absurd (omega arith)
+one-more (item ∷ items) value (suc n) fewer = (let more = one-more items value n (omega arith) in omega arith)
 
 -- the next field is a quantity
 pub quantities-small : (r : Record) (n : ℕ) (within : Bool) (items : List ℕ) (value : ℕ) → QuantitiesSoFar r n within items → n < length r
     → Some value ≡ number_of (field (n + 1) r) → value ≤ 10000 → QuantitiesSoFar r (n + 1) within (items ++ value ∷ [])
-quantities-small r n within items value (texts, limits, are, each) small some few =
+quantities-small r n within items value (texts, limits, are, each, fewer) small some few =
     let next = fields-more r n small in
     let is_text = is-number (field (n + 1) r) value some in
     let test : nat_le value 10000 ≡ true = le-leb value 10000 few in (
@@ -102,12 +109,13 @@ quantities-small r n within items value (texts, limits, are, each) small some fe
       rw (next, ← some, test) at limits,
       λ h. (let told = are h in let more = rw (next, ← some) at told in append_assoc items (value ∷ []) _ ∙ more),
       All-push (λ quantity. quantity ≤ 10000) items value each few,
+      one-more items value n fewer,
     )
 
 -- the next field is a number above the limit
 pub quantities-great : (r : Record) (n : ℕ) (within : Bool) (items : List ℕ) (value : ℕ) → QuantitiesSoFar r n within items → n < length r
     → Some value ≡ number_of (field (n + 1) r) → nat_le value 10000 ≡ false → QuantitiesSoFar r (n + 1) false items
-quantities-great r n within items value (texts, limits, are, each) small some great =
+quantities-great r n within items value (texts, limits, are, each, fewer) small some great =
     let next = fields-more r n small in
     let is_text = is-number (field (n + 1) r) value some in
     let told = rw (next, ← some, great) at limits in (
@@ -115,6 +123,7 @@ quantities-great r n within items value (texts, limits, are, each) small some gr
       never within _ told,
       λ h. cc h,
       each,
+      omega arith,
     )
   where
     never : (b all : Bool) → (b && false) ≡ all → false ≡ all

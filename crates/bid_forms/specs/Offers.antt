@@ -2,7 +2,6 @@
 use Rattle.std.specs.Prelude.{◌≡◌, ◌≢◌, ◌≤◌, ◌+◌, ◌-◌, ◌*◌, ◌%◌, ◌^◌, ◌==◌, ◌&&◌, Bool, not, ℕ, List, [], ◌∷◌, Option, None, Some, if◌then◌else◌, All, AllPairs, IsTrue, length, map, nat_eq, nat_le, slice_index}
 use Rattle.std.specs.List.{list_all}
 use Rattle.std.specs.Cmp.Lexicographic.{pointwise}
-use Rattle.std.specs.Map.{lookup}
 use Rattle.auction_terms.specs.Packages.{IsPackage}
 use Rattle.auction_terms.specs.RulesText.{is_between}
 use Rattle.auction_terms.specs.Terms.{Terms}
@@ -91,7 +90,3 @@ pub record IsForm (o : Offers) : Type 0 where
   pub few : length o.bids ≤ 4000
   pub each : All IsWithinLimits o.bids
   pub differ : PackagesDiffer o.bids
-
--- the entries of a map give each package the number of the first of these bids that has it
-abbrev pub Tracks : {K : Type 0} → (K → List ℕ) → List (K × ℕ) → List Bid → Type 0
-Tracks package_of entries bids = (lots : List ℕ) → lookup (λ key. is_same lots (package_of key)) entries ≡ number_of_package lots bids

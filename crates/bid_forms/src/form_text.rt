@@ -1,23 +1,27 @@
 //! The text of a form.
 
-ghost use Rattle.std.specs.Prelude.{◌≡◌, ◌≤◌, ◌<◌, ◌^◌, ◌+◌, [], ◌∷◌, None, Err, All, IfOk, OnOk, IsTrue, drop, length, map};
+ghost use Rattle.std.specs.Prelude.{◌≡◌, ◌≤◌, ◌<◌, ◌^◌, ◌+◌, ◌++◌, [], ◌∷◌, None, Err, All, IfOk, OnOk, IsTrue, drop, length, map};
 ghost use Rattle.std.specs.Str.{bytes_eq};
 ghost use Rattle.std.specs.Cmp.Lexicographic.{pointwise};
 ghost use Rattle.csv.specs.Records.{fields_of};
 ghost use Rattle.auction_terms.specs.FirstFault.{first_failed, first_fault};
 ghost use Rattle.auction_terms.specs.RulesText.{number_in};
 ghost use Rattle.auction_terms.specs.Terms.{AreTerms};
-ghost use Rattle.bid_forms.specs.Offers.{IsWithinLimits, Meets, Tracks, eligibility_of, is_bid_under, number_of_package, offers};
+ghost use Rattle.bid_forms.specs.Fingerprints.{AreSeen};
+ghost use Rattle.bid_forms.specs.Offers.{IsWithinLimits, Meets, eligibility_of, is_bid_under, number_of_package, offers};
 ghost use Rattle.bid_forms.specs.FormText.{Answers, Tells, TellsFault, amount_checks, bid_fault, bid_of, bidder_in, fault_of_bid, form_of, header_checks, is_header, package_checks, quantities_in, quantity_checks};
 ghost use Rattle.bid_forms.specs.declared.form_text.FormFault.TheVariants as fault;
 
 use crate::form::{Form, eligibility_of};
-use crate::numbers::{PackageNumbers, add_bid, earlier};
+use crate::seen::{Seen, earlier};
 use crate::sums::{is_empty_package, points_of, reserve_of};
-use auction_terms::{Bid, Category, Package, RecordReader, Rules, TEXT_LIMIT, field, number};
+use arrayvec::ArrayVec;
+use auction_terms::{
+    Bid, Category, Package, Quantities, RecordReader, Rules, TEXT_LIMIT, field, number,
+};
 use csv::ByteRecord;
 use std::alloc::{AllocError, Global};
-use std::collections::HashMap;
+use std::collections::HashSet;
 use thiserror::Error;
 
 /// Why a text is no form. A place is the number of a record, from 1.
@@ -134,19 +138,18 @@ fn read_amount(step: u64, place: u32, row: &ByteRecord) -> Result<u64, FormFault
 }
 
 // The quantities of a record.
-fn read_quantities(alloc: Global, place: u32, row: &ByteRecord) -> Result<Vec<u32>, FormFault>
+fn read_quantities(place: u32, row: &ByteRecord) -> Result<Quantities, FormFault>
+    requires { length (fields_of row.now) ≤ 33 }
     ensures answer { TellsFault result (first_failed (quantity_checks place (fields_of row.now))) }
     ensures quantities { IfOk result (λ quantities. quantities.items ≡ quantities_in (fields_of row.now)) }
     ensures each { IfOk result (λ quantities. All (λ quantity. quantity ≤ 10000) quantities.items) }
 {
-    let mut quantities = Vec::with_capacity(alloc, row.len())?;
+    let mut quantities = ArrayVec::new();
     let mut within = true;
     for n in 1..row.len() {
         let value = number!(row, n + 1, FormFault::QuantityText { place });
         if value <= 10_000 {
-            if quantities.push(value as u32).is_err() {
-                return Err(FormFault::OutOfMemory);
-            }
+            quantities.push(value as u16);
         } else {
             within = false;
         }
@@ -160,7 +163,7 @@ fn check_package(
     rules: &Rules,
     eligibility: u64,
     place: u32,
-    quantities: &[u32],
+    quantities: &[u16],
     amount: u64,
 ) -> Result<(), FormFault>
     requires sized { length quantities.now ≡ length rules.now.categories }
@@ -185,33 +188,34 @@ fn check_package(
 
 // The bid of a record, after those before it.
 fn read_bid(
-    alloc: Global,
     rules: &Rules,
     eligibility: u64,
     place: u32,
-    numbers: &PackageNumbers,
+    seen: &mut Seen,
     before: &[Bid],
     row: &ByteRecord,
 ) -> Result<Bid, FormFault>
-    requires { Tracks (λ key. key.items) numbers.now.entries before.now }
+    requires seen { AreSeen seen.old.keys before.now }
+    requires few { length before.now ≤ 4000 }
     ensures answer { Tells result (fault_of_bid rules.now eligibility place before.now (fields_of row.now)) (bid_of (fields_of row.now)) }
     ensures limits { IfOk result IsWithinLimits }
     ensures allowed { IfOk result (λ bid. IsTrue (is_bid_under rules.now eligibility bid)) }
     ensures new { IfOk result (λ bid. number_of_package bid.package before.now ≡ None) }
     ensures room { OnOk result (length before.now < 4000) }
+    ensures seen { IfOk result (λ bid. AreSeen seen.new.keys (before.now ++ bid ∷ [])) }
 {
     refuse!(
         row.len() != rules.categories().len() + 1,
         FormFault::FieldCount { place }
     );
     let amount = read_amount(rules.step(), place, row)?;
-    let quantities = read_quantities(alloc, place, row)?;
-    check_package(rules, eligibility, place, &quantities, amount)?;
-    if let Some(earlier) = earlier(numbers, &quantities) {
+    let quantities = read_quantities(place, row)?;
+    check_package(rules, eligibility, place, quantities.as_slice(), amount)?;
+    if let Some(earlier) = earlier(seen, before, quantities.as_slice())? {
         return Err(FormFault::RepeatedPackage { place, earlier });
     }
     refuse!(before.len() >= 4000, FormFault::TooManyBids { place });
-    let package = Package::new(quantities);
+    let package = Package::of(quantities);
     Ok(Bid { package, amount })
 }
 
@@ -230,12 +234,14 @@ fn read_bids(
 {
     let eligibility = eligibility_of(rules, bidder);
     let mut row = ByteRecord::new(alloc);
-    let mut numbers: PackageNumbers = HashMap::new(alloc);
+    let mut seen: Seen = HashSet::new(alloc);
     let mut bids = Vec::new(alloc);
     let mut place = 2u32;
     while reader.next(&mut row)? {
-        let bid = read_bid(alloc, rules, eligibility, place, &numbers, &bids, &row)?;
-        add_bid(alloc, &mut numbers, &mut bids, bid)?;
+        let bid = read_bid(rules, eligibility, place, &mut seen, &bids, &row)?;
+        if bids.push(bid).is_err() {
+            return Err(FormFault::OutOfMemory);
+        }
         place += 1;
     }
     Ok(Form::new(bidder, bids))

@@ -1,4 +1,4 @@
-use Rattle.std.proofs.Common.{◌≡◌, [], ◌∷◌, Err, rules, map}
+use Rattle.std.proofs.Common.{◌≡◌, [], ◌∷◌, ◌++◌, Err, rules, map}
 use Rattle.csv.specs.Records.{fields_of}
 use Rattle.auction_terms.proofs.FirstFaultFacts.{tells-err}
 use Rattle.bid_forms.proofs.FormFacts.{bids-all, bids-fault, bids-more}
@@ -25,10 +25,12 @@ loop-bids-preserved c =
     let told = rw (c.deref.ensures.value, c.eligibility_of-eligibility.ensures.value) at c.in_ok-bid.ensures.answer in
     let allowed = rw c.eligibility_of-eligibility.ensures.value at c.in_ok-bid.ensures.allowed in
     let fresh = rw c.deref.ensures.value at c.in_ok-bid.ensures.new in
-    let room = rw c.deref.ensures.value at c.in_ok-bid.ensures.room in (
-      bids-more t (eligibility_of t c.args.bidder) c.args.reader.now c.loop-bids.reader c.next.new.self c.loop-bids.place c.loop-bids.bids.items c.add_bid.new.bids.items (fields_of c.next.new.row) c.in_ok-bid.bid
-          so_far next told.0 told.1 c.in_ok-add_bid.ensures.added c.in_ok-bid.ensures.limits allowed fresh room,
-      c.in_ok-add_bid.ensures.tracked,
+    let room = rw c.deref.ensures.value at c.in_ok-bid.ensures.room in
+    let seen = rw c.deref.ensures.value at c.in_ok-bid.ensures.seen in
+    let added : c.push.new.self.items ≡ c.loop-bids.bids.items ++ c.in_ok-bid.bid ∷ [] = search rules in (
+      bids-more t (eligibility_of t c.args.bidder) c.args.reader.now c.loop-bids.reader c.next.new.self c.loop-bids.place c.loop-bids.bids.items c.push.new.self.items (fields_of c.next.new.row) c.in_ok-bid.bid
+          so_far next told.0 told.1 added c.in_ok-bid.ensures.limits allowed fresh room,
+      rw added seen,
     )
 
 pub new-requires : goal.new-requires

@@ -1,0 +1,7 @@
+use Rattle.std.proofs.Common.{◌≡◌, drop}
+use Rattle.std.specs.Prelude.{◌+◌, ◌*◌, ◌%◌, ◌^◌, fold}
+use Rattle.bid_forms.specs.Fingerprints.{fingerprint}
+use Rattle.bid_forms.proofs.seen.fingerprint.Given as goal
+
+abbrev pub invariant-loop-quantity : goal.invariant-loop-quantity
+invariant-loop-quantity l = fold (λ sum quantity. (sum * 11400714819323198485 % 2 ^ 64 + quantity) % 2 ^ 64) l.sum (drop l.quantity-index l.quantities) ≡ fingerprint l.quantities
