@@ -1,17 +1,19 @@
 -- Laws of the flags: comparing a bid with the fitting bids of smaller size is comparing it with all.
-use Rattle.std.proofs.Common.{◌≡◌, ◌+◌, ◌<◌, ◌≤◌, ◌&&◌, ◌||◌, ⊎_elim, ℕ, zero, suc, Bool, true, false, not, nat_lt, List, [], ◌∷◌, ◌++◌, length, map, drop, slice_index_or, get_or, arith, refl, sym, ap, ap₂, ◌∙◌, subst, lt-ltb, le-ltb, le-leb, slice_index}
+use Rattle.std.proofs.Common.{◌≡◌, ◌≢◌, ◌+◌, ◌<◌, ◌≤◌, ◌&&◌, ◌||◌, ⊎_elim, ℕ, zero, suc, Bool, true, false, not, nat_lt, List, [], ◌∷◌, length, map, drop, slice_index_or, get_or, arith, refl, sym, ap, ap₂, ◌∙◌, subst, lt-ltb, le-ltb, le-leb, slice_index}
 use Rattle.std.specs.Prelude.{All, AllPairs, IsTrue}
+use Rattle.std.specs.Int.Bits.{bit_and}
 use Rattle.std.specs.List.{AllByRecursion, list_any}
 use Rattle.std.proofs.lemmas.Bool.{and_parts, cases_Bool, both_ways, cond-true, cond-false, cond_both, and_left, and_right, lt-leb, false_from_ne_true}
-use Rattle.std.proofs.Math.ListN.{drop_of_length-le}
-use Rattle.std.proofs.lemmas.List.{append-nil, at_drop_more}
+use Rattle.std.proofs.lemmas.List.{at_drop_more}
 use Rattle.std.proofs.lemmas.List.Elements.{recursion_from_All, All-from_recursion}
 use Rattle.std.proofs.lemmas.List.Sorted.{All-permutation, list_any-IsPermutation}
 use Rattle.auction_terms.specs.declared.bids.Bid.{Bid}
 use Rattle.auction_terms.specs.Packages.{Lots, is_within, is_smaller, fits, size}
 use Rattle.auction_terms.specs.Domination.{is_no_cheaper, dominates, is_kept}
 use Rattle.auction_terms.proofs.PackageLaws.{within_at, within_trans, size_le, size_lt}
+use Rattle.presolve.proofs.MaskLaws.{apart}
 use Rattle.presolve.specs.declared.order.SizedBid.{SizedBid}
+use Rattle.presolve.specs.Masks.{lacking_of}
 use Rattle.presolve.specs.Sizes.{IsUpTo, Sized, sized_of, fitting_from, IsOrdered, AreRivals, TellsItsBid, beats, is_unbeaten}
 
 -- behind a bid that isn't smaller there is none that is smaller
@@ -51,18 +53,22 @@ none_over lots x s k less = none_uncovered lots x s (false_from_ne_true (is_with
 pub none_over_peak : (lots : Lots) (x : Bid) (s : SizedBid) → TellsItsBid s → slice_index x.package s.place < s.most → beats lots x s ≡ false
 none_over_peak lots x s told less = none_over lots x s s.place (subst (λ (most : ℕ). slice_index x.package s.place < most) told.most less)
 
--- nor is one that is worth more, or has less at one of the rival's peaks
-pub out_of_reach : (lots : Lots) (x : Bid) (s : SizedBid) (more peak next : Bool) → TellsItsBid s → (more ≡ true → s.amount < x.amount) → (peak ≡ true → slice_index x.package s.place < s.most) → (next ≡ true → slice_index x.package s.next_place < s.next_most)
-    → IsTrue ((more || peak) || next) → beats lots x s ≡ false
-out_of_reach lots x s true peak next told a b c t = none_above lots x s told (a refl)
-out_of_reach lots x s false true next told a b c t = none_over_peak lots x s told (b refl)
-out_of_reach lots x s false false true told a b c t = none_over lots x s s.next_place (subst (λ (most : ℕ). slice_index x.package s.next_place < most) told.next_most (c refl))
+-- nor is one that lacks a category of the rival
+none_lacking : (lots : Lots) (x : Bid) (s : SizedBid) → TellsItsBid s → bit_and s.mask (lacking_of x.package) ≢ 0 → beats lots x s ≡ false
+none_lacking lots x s told lacks = none_uncovered lots x s (false_from_ne_true (is_within s.bid.now.package x.package) (λ w. lacks (ap (λ (m : ℕ). bit_and m (lacking_of x.package)) told.mask ∙ apart s.bid.now.package x.package w)))
+
+-- so none of these three may be
+pub out_of_reach : (lots : Lots) (x : Bid) (s : SizedBid) (more lacks peak : Bool) → TellsItsBid s → (more ≡ true → s.amount < x.amount) → (lacks ≡ true → bit_and s.mask (lacking_of x.package) ≢ 0) → (peak ≡ true → slice_index x.package s.place < s.most)
+    → IsTrue ((more || lacks) || peak) → beats lots x s ≡ false
+out_of_reach lots x s true lacks peak told a b c t = none_above lots x s told (a refl)
+out_of_reach lots x s false true peak told a b c t = none_lacking lots x s told (b refl)
+out_of_reach lots x s false false true told a b c t = none_over_peak lots x s told (c refl)
 out_of_reach lots x s false false false told a b c t = absurd (both_ways false refl t)
 
 -- one that is in reach isn't worth less
-pub within_reach : (s x : ℕ) (more peak next : Bool) → (more ≡ false → x ≤ s) → ((more || peak) || next) ≡ false → x ≤ s
-within_reach s x false peak next a t = a refl
-within_reach s x true peak next a t = absurd (both_ways true t refl)
+pub within_reach : (s x : ℕ) (more lacks peak : Bool) → (more ≡ false → x ≤ s) → ((more || lacks) || peak) ≡ false → x ≤ s
+within_reach s x false lacks peak a t = a refl
+within_reach s x true lacks peak a t = absurd (both_ways true t refl)
 
 -- a smaller rival within the bid that isn't worth less beats it
 pub beaten_at : (lots : Lots) (x : Bid) (rivals : List SizedBid) (i : ℕ) (r : SizedBid) → i < length rivals → r ≡ get_or rivals i r → TellsItsBid r → r.size < size x.package → x.amount ≤ r.amount → is_within r.bid.now.package x.package ≡ true
@@ -166,8 +172,3 @@ are_rivals lots n form rivals a o = record {
   where
     no_larger : {a m b n : ℕ} → IsUpTo a m b n → a ≤ b
     no_larger h = ⊎_elim (λ l. omega arith) (λ e. let s = e.0 in omega arith) h
-
--- where no element is left, all have their answer
-pub all_flagged : {X : Type 0} (f : X → Bool) (flags : List Bool) (xs : List X) (i : ℕ) → length xs ≤ i → flags ++ map f (drop i xs) ≡ map f xs → flags ≡ map f xs
-all_flagged f flags xs i end so_far =
-    sym (append-nil flags) ∙ ap (λ rest. flags ++ map f rest) (sym (drop_of_length-le xs end)) ∙ so_far

@@ -1,8 +1,14 @@
 -- Laws of greatest amounts: the bids up to the first amount that is as great may be passed over.
-use Rattle.std.proofs.Common.{◌≡◌, ◌<◌, ◌≤◌, ◌||◌, ⊎_elim, ℕ, zero, suc, Bool, true, nat_lt, List, [], ◌∷◌, ◌++◌, length, slice_index_or, take, drop, arith, refl, sym, ap, ◌∙◌, subst, ltb-true, lt-ltb}
+use Rattle.std.proofs.Common.{◌≡◌, ◌+◌, ◌-◌, ◌*◌, ◌^◌, ◌%◌, ◌<◌, ◌≤◌, ◌||◌, ⊎_elim, ℕ, zero, suc, Bool, true, false, List, [], ◌∷◌, ◌++◌, length, slice_index, slice_index_or, take, drop, arith, refl, sym, ap, ◌∙◌, subst}
 use Rattle.std.specs.Prelude.{All, AllPairs}
+use Rattle.std.specs.Int.{from_bool}
 use Rattle.std.specs.List.{AllZip, list_any}
-use Rattle.std.proofs.Math.Nat.{eq-or-lt_of_le}
+use Rattle.std.proofs.Math.Nat.{one-le-pow}
+use Rattle.std.proofs.Math.Pow.{pow_mono}
+use Rattle.std.proofs.lemmas.Bool.{cases_lt}
+use Rattle.std.proofs.lemmas.Grind.{get_or_default_zero}
+use Rattle.std.proofs.lemmas.List.{get_or-take, length-take-le}
+use Rattle.std.proofs.lemmas.Nat.{one_shl}
 use Rattle.std.proofs.lemmas.List.Elements.{All-drop, All-head, All-tail}
 use Rattle.std.proofs.lemmas.List.Quantifiers.{all_pairs_push}
 use Rattle.rayon.proofs.ListFacts.{AllZip-append}
@@ -20,12 +26,14 @@ greatest_more bids greatest s most amount before below up own = record {
   rising = all_pairs_push (λ (x y : ℕ). x ≤ y) greatest amount before.rising (λ k d within. let b = below k d within in omega arith);
 }
 
--- none of them is above it then
-pub below_more : (greatest : List ℕ) (most amount : ℕ) → All (λ x. x ≤ most) greatest → most ≤ amount → All (λ x. x ≤ amount) (greatest ++ amount ∷ [])
-below_more [] most amount below up zero d within = omega arith
-below_more [] most amount below up (suc k) d within = absurd (omega arith)
-below_more (x ∷ greatest) most amount below up zero d within = (let b = below 0 d (omega arith) in omega arith)
-below_more (x ∷ greatest) most amount below up (suc k) d within = below_more greatest most amount (λ i e w. below (suc i) e (omega arith)) up k d (omega arith)
+-- none of rising amounts is above the last one
+pub below_last : (rising : List ℕ) (last : ℕ) → AllPairs (λ x y. x ≤ y) rising → last ≡ slice_index_or rising (length rising - 1) 0 → All (λ x. x ≤ last) rising
+below_last rising last h e k d within =
+    let end = get_or_default_zero rising (length rising - 1) d (omega arith) in
+    ⊎_elim
+    (λ (l : k < length rising - 1). let up = h k (length rising - 1) d l (omega arith) in omega arith)
+    (λ (l : length rising - 1 ≤ k). let same : slice_index_or rising k d ≡ slice_index_or rising (length rising - 1) d = ap (λ (i : ℕ). slice_index_or rising i d) (let t : k ≡ length rising - 1 = omega arith in t) in omega arith)
+    (cases_lt k (length rising - 1))
 
 -- bids whose greatest amounts are all less than that of this bid don't beat it
 pub none_up_to : (lots : Lots) (x : Bid) (bids : List SizedBid) (greatest : List ℕ) (n : ℕ) → All TellsItsBid bids → AllZip (λ (s : SizedBid) (amount : ℕ). s.amount ≤ amount) bids greatest → n ≤ length greatest → All (λ amount. amount < x.amount) (take n greatest)
@@ -53,21 +61,35 @@ rivals_from n k rivals r = record {
   told = All-drop TellsItsBid k rivals r.told;
 }
 
--- where amounts rise, those that are less than one come first
-pub less_first : (amount : ℕ) (rising : List ℕ) → AllPairs (λ (x y : ℕ). x ≤ y) rising → (i j : ℕ) (d : ℕ) → i ≤ j → j < length rising → nat_lt (slice_index_or rising j d) amount ≡ true → nat_lt (slice_index_or rising i d) amount ≡ true
-less_first amount rising h i j d up within less =
-    let later : slice_index_or rising j d < amount = ltb-true (slice_index_or rising j d) amount less in
-    ⊎_elim
-    (λ (e : i ≡ j). subst (λ (k : ℕ). nat_lt (slice_index_or rising k d) amount ≡ true) (sym e) less)
-    (λ (l : i < j). let first = h i j d l within in lt-ltb (slice_index_or rising i d) amount (omega arith))
-    (eq-or-lt_of_le up)
+-- a power of two that is added or not
+abbrev pub step_of : ℕ → ℕ
+step_of k = 1 * 2 ^ k % 2 ^ 64
 
--- what a partition point says of the amounts before it
-pub less_up_to : (amount : ℕ) (rising : List ℕ) (n : ℕ) → n ≤ length rising → ((k d : ℕ) → 0 ≤ k → k < n → nat_lt (slice_index_or rising k d) amount ≡ true) → All (λ x. x < amount) (take n rising)
-less_up_to amount rising zero within less k d small = absurd (omega arith)
-less_up_to amount [] (suc n) within less k d small = absurd (omega arith)
-less_up_to amount (x ∷ rising) (suc n) within less zero d small = ltb-true x amount (less 0 d (omega arith) (omega arith))
-less_up_to amount (x ∷ rising) (suc n) within less (suc k) d small = less_up_to amount rising n (omega arith) (λ i e a b. less (suc i) e (omega arith) (omega arith)) k d (omega arith)
+abbrev pub taken : Bool → ℕ → ℕ
+taken b k = from_bool b * 2 ^ k % 2 ^ 64
+
+pub step_some : (k : ℕ) → k < 12 → 1 ≤ step_of k
+step_some k small = (let e = one_shl k 64 (omega arith) in let some = one-le-pow k 2 (omega arith) in omega arith)
+
+pub step_small : (k : ℕ) → k < 12 → step_of k ≤ 2048
+step_small k small = (let e = one_shl k 64 (omega arith) in let most = pow_mono {i = k} {j = 11} (omega arith) in omega arith)
+
+-- where amounts rise, all before one that is less are less
+less_up_to : (amount : ℕ) (rising : List ℕ) (n : ℕ) → AllPairs (λ (x y : ℕ). x ≤ y) rising → 1 ≤ n → n ≤ length rising → slice_index rising (n - 1) < amount → All (λ x. x < amount) (take n rising)
+less_up_to amount rising n h some within less k d small =
+    let long = length-take-le n rising within in
+    let here : k < n = omega arith in
+    let own = get_or-take n rising k d here in
+    let last = get_or_default_zero rising (n - 1) d (omega arith) in
+    ⊎_elim
+    (λ (l : k < n - 1). let up = h k (n - 1) d l (omega arith) in omega arith)
+    (λ (l : n - 1 ≤ k). let e : k ≡ n - 1 = omega arith in let same : slice_index_or rising k d ≡ slice_index_or rising (n - 1) d = ap (λ (i : ℕ). slice_index_or rising i d) e in omega arith)
+    (cases_lt k (n - 1))
+
+pub less_more : (amount : ℕ) (rising : List ℕ) (first k : ℕ) (b : Bool) → k < 12 → AllPairs (λ (x y : ℕ). x ≤ y) rising → first ≤ length rising → All (λ x. x < amount) (take first rising) → first + step_of k ≤ length rising
+    → (b ≡ true → slice_index rising (first + step_of k - 1) < amount) → (first + taken b k ≤ length rising) × All (λ x. x < amount) (take (first + taken b k) rising)
+less_more amount rising first k false small h before so_far within less = (let e : first + taken false k ≡ first = omega arith in subst (λ (n : ℕ). (n ≤ length rising) × All (λ x. x < amount) (take n rising)) (sym e) (before, so_far))
+less_more amount rising first k true small h before so_far within less = (within, less_up_to amount rising (first + step_of k) h (let some = step_some k small in omega arith) within (less refl))
 
 -- there is an amount for each bid
 pub as_many : (bids : List SizedBid) (greatest : List ℕ) → AllZip (λ (s : SizedBid) (amount : ℕ). s.amount ≤ amount) bids greatest → length greatest ≡ length bids

@@ -5,7 +5,7 @@ use Rattle.std.specs.List.{AllByRecursion, AllZip, range_with_len}
 use Rattle.std.specs.declared.alloc.AllocError.{AllocError}
 use Rattle.std.specs.declared.vec.Vec.{Vec}
 use Rattle.std.specs.Global.{Global}
-use Rattle.std.proofs.lemmas.List.{length-map, drop_all, get_or-map}
+use Rattle.std.proofs.lemmas.List.{length-map, map-append, drop_all, get_or-map}
 use Rattle.std.proofs.lemmas.List.Elements.{filter-append, All-from_recursion}
 use Rattle.std.proofs.lemmas.List.FromFn.{length-map-range_with_len}
 use Rattle.std.proofs.lemmas.List.Kept.{AllPairs-cons}
@@ -23,7 +23,7 @@ use Rattle.auction_terms.specs.Limits.{AreOffers, IsBefore, IsBook}
 use Rattle.auction_terms.specs.Offers.{offers, offer_of}
 use Rattle.auction_terms.proofs.LimitLaws.{kept_are_offers}
 use Rattle.bid_desk.specs.Closing.{Closing, book_of, bids_in, form_standing}
-use Rattle.presolve.specs.Flags.{flags_of, flags_of_form, flagged_from}
+use Rattle.presolve.specs.Flags.{flags_of, flags_of_bidders, flags_of_form, flagged_from}
 
 -- a book has a form for each bidder of its rules
 pub length_book : (c : Closing) (t : Terms) (bidders : List Bidder) → bidders ≡ t.bidders → t ≡ c.rules → length bidders ≡ length (book_of c)
@@ -121,13 +121,31 @@ module _ (lots : Lots) (book : Book) where
   each_flagged (bidder ∷ bidders) [] each = absurd each
   each_flagged (bidder ∷ bidders) (form ∷ forms) each = ap₂ (λ x xs. x ∷ xs) each.0 (each_flagged bidders forms each.1)
 
-  -- flags that are made for each bidder are those of the book
-  pub flags_by_bidders : (made : Result (Vec (Vec Bool Global) Global) AllocError) (answers : List (Result (Vec Bool Global) AllocError)) → AllZip IsFlagged (range_with_len 1 (length book)) answers
+  -- flags that are made for each of these bidders are those of their forms
+  pub flags_for_each : (bidders : List ℕ) (made : Result (Vec (Vec Bool Global) Global) AllocError) (answers : List (Result (Vec Bool Global) AllocError)) → AllZip IsFlagged bidders answers
       → MatchResult made (λ all. (forms : List (Vec Bool Global)) × (answers ≡ map (λ form. Ok form) forms) × (all.items ≡ forms)) (λ e. Contains answers (Err e))
-      → IfOk made (λ all. map (λ (form : Vec Bool Global). form.items) all.items ≡ flags_of lots book)
-  flags_by_bidders (Ok all) answers each (forms, are, all_is) =
+      → IfOk made (λ all. map (λ (form : Vec Bool Global). form.items) all.items ≡ flags_of_bidders lots book bidders)
+  flags_for_each bidders (Ok all) answers each (forms, are, all_is) =
       ap (map (λ (form : Vec Bool Global). form.items)) all_is
-      ∙ each_flagged (range_with_len 1 (length book)) forms (rw are at each)
+      ∙ each_flagged bidders forms (rw are at each)
+  flags_for_each bidders (Err e) answers each h = tt
+
+  -- the bidders from one on are those of two ranges, one behind the other
+  ranges_joined : (first front back : ℕ) → range_with_len first (front + back) ≡ range_with_len first front ++ range_with_len (first + front) back
+  ranges_joined first zero back = ap (range_with_len first) (let e : 0 + back ≡ back = omega arith in e) ∙ ap (λ (n : ℕ). range_with_len n back) (let e : first ≡ first + 0 = omega arith in e)
+  ranges_joined first (suc front) back =
+      ap (range_with_len first) (let e : suc front + back ≡ suc (front + back) = omega arith in e)
+      ∙ ap (λ (ns : List ℕ). first ∷ ns) (ranges_joined (first + 1) front back ∙ ap (λ (n : ℕ). range_with_len (first + 1) front ++ range_with_len n back) (let e : first + 1 + front ≡ first + suc front = omega arith in e))
+
+  -- the flags of two ranges of bidders, one behind the other, are those of the book
+  pub flags_joined : (front back : ℕ) (forms others : List (Vec Bool Global)) → front + back ≡ length book
+      → map (λ (form : Vec Bool Global). form.items) forms ≡ flags_of_bidders lots book (range_with_len 1 front)
+      → map (λ (form : Vec Bool Global). form.items) others ≡ flags_of_bidders lots book (range_with_len (1 + front) back)
+      → map (λ (form : Vec Bool Global). form.items) (forms ++ others) ≡ flags_of lots book
+  flags_joined front back forms others count are_front are_back =
+      map-append (λ (form : Vec Bool Global). form.items) forms others
+      ∙ ap₂ (λ (xs ys : List (List Bool)). xs ++ ys) are_front are_back
+      ∙ sym (map-append (λ bidder. flags_of_form lots (form_of book bidder)) (range_with_len 1 front) (range_with_len (1 + front) back))
+      ∙ ap (flags_of_bidders lots book) (sym (ranges_joined 1 front back) ∙ ap (range_with_len 1) count)
       ∙ flags_each lots book (range_with_len 1 (length book))
       ∙ ap (map (flags_of_form lots)) (forms_from book 0 (length book) (omega arith))
-  flags_by_bidders (Err e) answers each h = tt

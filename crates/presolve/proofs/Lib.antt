@@ -1,4 +1,6 @@
 pub mod SizeLaws
+pub mod MaskLaws
+pub mod NumberLaws
 pub mod FlagLaws
 pub mod GreatestLaws
 pub mod ShelfLaws

@@ -1,44 +1,27 @@
 -- Laws of the shelves: looking at every shelf is looking at every bid that fits.
-use Rattle.std.proofs.Common.{◌≡◌, ◌≢◌, ◌+◌, ◌++◌, ◌<◌, ◌≤◌, ◌==◌, ◌&&◌, ◌||◌, ℕ, suc, Bool, true, false, not, nat_le, List, [], ◌∷◌, length, map, filter, cond, slice_index, slice_index_or, get_or, drop, arith, refl, sym, ap, ap₂, ◌∙◌, subst, eq-eqb, ne_eqb}
+use Rattle.std.proofs.Common.{◌≡◌, ◌≢◌, ◌+◌, ◌-◌, ◌++◌, ◌<◌, ◌≤◌, ◌==◌, ◌&&◌, ◌||◌, ⊎_elim, ℕ, suc, Bool, true, false, not, nat_le, List, [], ◌∷◌, length, map, filter, cond, slice_index, slice_index_or, get_or, set, take, drop, length-append, arith, refl, sym, ap, ap₂, ◌∙◌, subst, eq-eqb, ne_eqb}
 use Rattle.std.specs.Prelude.{All}
 use Rattle.std.specs.List.{list_any}
-use Rattle.std.proofs.lemmas.Bool.{eqb-true, lt-leb}
+use Rattle.std.proofs.lemmas.Bool.{cases_eq, cases_lt, eqb-true, lt-leb}
 use Rattle.std.proofs.lemmas.Bool.Decides.{nat_tests}
-use Rattle.std.proofs.lemmas.List.{append_assoc, at_drop_more}
-use Rattle.std.proofs.lemmas.List.Elements.{All-append, All-filter, All-weaker, All-head, All-tail, filter_passes}
+use Rattle.std.proofs.lemmas.List.{append-nil, at_drop_more, get_or-set_other, get_or-set_same, get_or_append_left, length-set, take_more}
+use Rattle.std.proofs.lemmas.List.Elements.{All-append, All-filter, All-nil, All-weaker, All-head, All-tail, filter-append, filter_passes}
 use Rattle.std.proofs.lemmas.List.Folds.{list_any_none}
 use Rattle.std.proofs.lemmas.List.Kept.{AllPairs-filter}
 use Rattle.std.proofs.lemmas.Map.Views.{any-filter_same}
 use Rattle.std.proofs.Math.Dec.{leb-zero}
+use Rattle.std.proofs.Math.Seq.{get_or-append_seam}
 use Rattle.auction_terms.specs.declared.bids.Bid.{Bid}
 use Rattle.auction_terms.specs.Packages.{Lots, fits}
 use Rattle.presolve.specs.declared.order.SizedBid.{SizedBid}
 use Rattle.presolve.specs.declared.shelves.Shelf.{Shelf}
 use Rattle.presolve.specs.Sizes.{AreRivals, TellsItsBid, beats, is_unbeaten}
-use Rattle.presolve.specs.Shelves.{IsShelf, AreShelves, IsStocked, AreStocked, is_beaten_on, is_unbeaten_on}
+use Rattle.presolve.specs.Shelves.{AreGreatest, IsShelf, AreShelves, IsStocked, AreStocked, is_beaten_on, is_unbeaten_on}
 use Rattle.presolve.proofs.FlagLaws.{none_over_peak}
+use Rattle.presolve.proofs.GreatestLaws.{below_last, greatest_more}
 
 abbrev at : ℕ → SizedBid → Bool
 at k s = s.place == k
-
-filter_at : (k : ℕ) (rivals : List SizedBid) (i : ℕ) (s : SizedBid) → i < length rivals → s ≡ get_or rivals i s → filter (at k) (drop i rivals) ≡ cond (at k s) (s ∷ filter (at k) (drop (i + 1) rivals)) (filter (at k) (drop (i + 1) rivals))
-filter_at k rivals i s within is =
-    at_drop_more (filter (at k)) rivals i s within
-    ∙ ap (λ (t : SizedBid). cond (at k t) (t ∷ filter (at k) (drop (i + 1) rivals)) (filter (at k) (drop (i + 1) rivals))) (sym is)
-
--- a rival with its peak at the place is shelved, and another one is not
-pub shelved : (k : ℕ) (bids rivals : List SizedBid) (i : ℕ) (s : SizedBid) → i < length rivals → s ≡ get_or rivals i s → s.place ≡ k → bids ++ filter (at k) (drop i rivals) ≡ filter (at k) rivals → (bids ++ s ∷ []) ++ filter (at k) (drop (i + 1) rivals) ≡ filter (at k) rivals
-shelved k bids rivals i s within is here so_far =
-    let rest = filter (at k) (drop (i + 1) rivals) in
-    append_assoc bids (s ∷ []) rest
-    ∙ ap (λ (xs : List SizedBid). bids ++ xs) (sym (filter_at k rivals i s within is ∙ ap (λ (b : Bool). cond b (s ∷ rest) rest) (eq-eqb s.place k here)))
-    ∙ so_far
-
-pub not_shelved : (k : ℕ) (bids rivals : List SizedBid) (i : ℕ) (s : SizedBid) → i < length rivals → s ≡ get_or rivals i s → s.place ≢ k → bids ++ filter (at k) (drop i rivals) ≡ filter (at k) rivals → bids ++ filter (at k) (drop (i + 1) rivals) ≡ filter (at k) rivals
-not_shelved k bids rivals i s within is elsewhere so_far =
-    let rest = filter (at k) (drop (i + 1) rivals) in
-    ap (λ (xs : List SizedBid). bids ++ xs) (sym (filter_at k rivals i s within is ∙ ap (λ (b : Bool). cond b (s ∷ rest) rest) (ne_eqb s.place k elsewhere)))
-    ∙ so_far
 
 -- the least is at most that of a rival more
 pub least_more : (bids : List SizedBid) (s : SizedBid) (before least : ℕ) → All (λ (t : SizedBid). before ≤ t.most) bids → least ≤ before → least ≤ s.most → All (λ (t : SizedBid). least ≤ t.most) (bids ++ s ∷ [])
@@ -47,6 +30,82 @@ least_more bids s before least all less own =
     All-append (λ (t : SizedBid). least ≤ t.most) bids (s ∷ [])
     (All-weaker (λ (t : SizedBid). before ≤ t.most) (λ (t : SizedBid). least ≤ t.most) (λ t l. omega arith) bids all)
     one
+
+-- a rival is put onto the shelf of its place
+pub put_on : (before : List SizedBid) (s : SizedBid) (shelf after : Shelf) (last amount : ℕ) → IsShelf before s.place shelf → last ≡ slice_index_or shelf.greatest.items (length shelf.greatest.items - 1) 0
+    → after.bids.items ≡ shelf.bids.items ++ s ∷ [] → after.greatest.items ≡ shelf.greatest.items ++ amount ∷ [] → after.least ≤ shelf.least → after.least ≤ s.most → last ≤ amount → s.amount ≤ amount → IsShelf (before ++ s ∷ []) s.place after
+put_on before s shelf after last amount h last_is bids_are greatest_are down least up greatest = record {
+  own = bids_are ∙ ap (λ (bids : List SizedBid). bids ++ s ∷ []) h.own
+      ∙ sym (filter-append (at s.place) before (s ∷ []) ∙ ap (λ (b : Bool). filter (at s.place) before ++ cond b (s ∷ []) []) (eq-eqb s.place s.place refl));
+  least = subst (λ (bids : List SizedBid). All (λ (t : SizedBid). after.least ≤ t.most) bids) (sym bids_are) (least_more shelf.bids.items s shelf.least after.least h.least down least);
+  greatest = subst (λ (bids : List SizedBid). AreGreatest bids after.greatest.items) (sym bids_are)
+      (subst (λ (amounts : List ℕ). AreGreatest (shelf.bids.items ++ s ∷ []) amounts) (sym greatest_are)
+      (greatest_more shelf.bids.items shelf.greatest.items s last amount h.greatest (below_last shelf.greatest.items last h.greatest.rising last_is) up greatest));
+}
+
+-- another shelf stays as it is
+not_put_on : (before : List SizedBid) (s : SizedBid) (k : ℕ) (shelf : Shelf) → s.place ≢ k → IsShelf before k shelf → IsShelf (before ++ s ∷ []) k shelf
+not_put_on before s k shelf elsewhere h = record {
+  own = h.own ∙ sym (filter-append (at k) before (s ∷ []) ∙ ap (λ (b : Bool). filter (at k) before ++ cond b (s ∷ []) []) (ne_eqb s.place k elsewhere) ∙ append-nil (filter (at k) before));
+  least = h.least;
+  greatest = h.greatest;
+}
+
+-- the shelves with the one that the rival is put onto
+pub shelves_more : (n : ℕ) (before : List SizedBid) (s : SizedBid) (shelves : List Shelf) (after : Shelf) → s.place < length shelves → IsShelf (before ++ s ∷ []) s.place after → AreShelves n before shelves → AreShelves n (before ++ s ∷ []) (set shelves s.place after)
+shelves_more n before s shelves after here own h = record {
+  count = length-set shelves s.place after ∙ h.count;
+  each = λ k d within.
+      ⊎_elim
+      (λ (e : s.place ≡ k). subst (λ (i : ℕ). IsShelf (before ++ s ∷ []) i (slice_index_or (set shelves s.place after) i d)) e
+      (subst (λ (shelf : Shelf). IsShelf (before ++ s ∷ []) s.place shelf) (sym (get_or-set_same shelves s.place after d here)) own))
+      (λ (e : s.place ≢ k). subst (λ (shelf : Shelf). IsShelf (before ++ s ∷ []) k shelf) (sym (get_or-set_other shelves s.place k after d (λ t. e (sym t))))
+      (not_put_on before s k (slice_index_or shelves k d) e (h.each k d within)))
+      (cases_eq s.place k);
+}
+
+-- the same, where the shelf is found by its place and changed
+pub shelves_put : (n i : ℕ) (before : List SizedBid) (s : SizedBid) (shelves : List Shelf) (shelf after : Shelf) → i ≡ s.place → i < length shelves → shelf ≡ slice_index_or shelves i shelf → (IsShelf before s.place shelf → IsShelf (before ++ s ∷ []) s.place after) → AreShelves n before shelves
+    → AreShelves n (before ++ s ∷ []) (set shelves i after)
+shelves_put n i before s shelves shelf after here within is puts h =
+    let count = h.count in
+    let found : IsShelf before i shelf = subst (λ (t : Shelf). IsShelf before i t) (sym is) (h.each i shelf (omega arith)) in
+    subst (λ (k : ℕ). AreShelves n (before ++ s ∷ []) (set shelves k after)) (sym here)
+    (shelves_more n before s shelves after (omega arith) (puts (subst (λ (k : ℕ). IsShelf before k shelf) here found)) h)
+
+-- a rival whose place has no shelf is on none
+pub shelves_same : (n : ℕ) (before : List SizedBid) (s : SizedBid) (shelves : List Shelf) → length shelves ≤ s.place → AreShelves n before shelves → AreShelves n (before ++ s ∷ []) shelves
+shelves_same n before s shelves none h = record {
+  count = h.count;
+  each = λ k d within. not_put_on before s k (slice_index_or shelves k d) (λ e. let c = h.count in absurd (omega arith)) (h.each k d within);
+}
+
+-- the rivals up to one more
+pub one_more : (n i : ℕ) (rivals : List SizedBid) (s : SizedBid) (shelves : List Shelf) → i < length rivals → s ≡ get_or rivals i s → AreShelves n (take i rivals ++ s ∷ []) shelves → AreShelves n (take (i + 1) rivals) shelves
+one_more n i rivals s shelves within is h =
+    subst (λ (before : List SizedBid). AreShelves n before shelves) (sym (take_more rivals i s within ∙ ap (λ (t : SizedBid). take i rivals ++ t ∷ []) (sym is))) h
+
+-- an empty shelf has no rival
+pub no_rival : (k : ℕ) (shelf : Shelf) → shelf.bids.items ≡ [] → shelf.greatest.items ≡ [] → IsShelf [] k shelf
+no_rival k shelf none no_amount = record {
+  own = none;
+  least = subst (λ (bids : List SizedBid). All (λ (s : SizedBid). shelf.least ≤ s.most) bids) (sym none) (All-nil (λ (s : SizedBid). shelf.least ≤ s.most));
+  greatest = subst (λ (bids : List SizedBid). AreGreatest bids shelf.greatest.items) (sym none)
+      (subst (λ (amounts : List ℕ). AreGreatest [] amounts) (sym no_amount) (record { each = tt; rising = λ i j d before within. absurd (omega arith) }));
+}
+
+-- an empty shelf more
+pub empty_more : (n : ℕ) (shelves : List Shelf) (shelf : Shelf) → shelf.bids.items ≡ [] → shelf.greatest.items ≡ [] → AreShelves n [] shelves → AreShelves (n + 1) [] (shelves ++ shelf ∷ [])
+empty_more n shelves shelf none no_amount h = record {
+  count = (let l = length-append shelves (shelf ∷ []) in let c = h.count in omega arith);
+  each = λ k d within.
+      let c = h.count in
+      ⊎_elim
+      (λ (l : k < n). subst (λ (t : Shelf). IsShelf [] k t) (sym (get_or_append_left shelves (shelf ∷ []) d k (omega arith))) (h.each k d l))
+      (λ (l : n ≤ k). subst (λ (i : ℕ). IsShelf [] i (slice_index_or (shelves ++ shelf ∷ []) i d)) (let e : length shelves ≡ k = omega arith in e)
+      (subst (λ (t : Shelf). IsShelf [] (length shelves) t) (sym (get_or-append_seam shelves shelf [] d)) (no_rival (length shelves) shelf none no_amount)))
+      (cases_lt k n);
+}
 
 stocked_at : (n k : ℕ) (rivals : List SizedBid) (shelf : Shelf) → AreRivals n rivals → IsShelf rivals k shelf → IsStocked n k shelf
 stocked_at n k rivals shelf r s =

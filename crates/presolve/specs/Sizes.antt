@@ -7,6 +7,7 @@ use Rattle.auction_terms.specs.Packages.{Lots, is_within, fits, size}
 use Rattle.auction_terms.specs.Domination.{is_no_cheaper}
 use Rattle.auction_terms.specs.Allocations.{bid_at}
 use Rattle.presolve.specs.declared.order.SizedBid.{SizedBid}
+use Rattle.presolve.specs.Masks.{mask_of}
 
 -- how many lots bid j of a form asks for
 abbrev pub size_at : List Bid → ℕ → ℕ
@@ -42,13 +43,12 @@ fitting_from lots j (x ∷ form) =
     then record { size = size x.package; number = j; bid = x } ∷ fitting_from lots (j + 1) form
     else fitting_from lots (j + 1) form
 
--- it tells the amount of its bid, and its peaks: places of its package, with the quantities there
+-- it tells the amount of its bid, the categories of which it has some, and a place of its package with the quantity there
 pub record TellsItsBid (s : SizedBid) : Type 0 where
   pub amount : s.amount ≡ s.bid.now.amount
+  pub mask : s.mask ≡ mask_of s.bid.now.package
   pub place : s.place < length s.bid.now.package
   pub most : s.most ≡ slice_index s.bid.now.package s.place
-  pub next_place : s.next_place < length s.bid.now.package
-  pub next_most : s.next_most ≡ slice_index s.bid.now.package s.next_place
 
 -- the bids that fit, by rising size, ties by number
 pub record IsOrdered (lots : Lots) (form : List Bid) (bids : List SizedBid) : Type 0 where

@@ -7,7 +7,7 @@ use bid_desk::ClosedBook;
 use rayon::prelude::*;
 use std::alloc::{AllocError, Global};
 use std::marker::Model;
-use std::thread::Threads;
+use std::thread::{Threads, join};
 
 /// Whether each bid is kept. Contracts see a list for each bidder, with a flag for each bid of its form.
 #[derive(Drop)]
@@ -40,7 +40,7 @@ impl Flags {
     ) -> Result<Flags, AllocError>
         ensures { IfOk result (λ flags. flags ≡ flags_of (lots_in book.now.rules) (book_of book.now)) }
     {
-        let forms = flags_by_bidder(rt, alloc, book)??;
+        let forms = flags_by_bidder(rt, alloc, book)?;
         Ok(Flags { forms })
     }
 
@@ -63,22 +63,51 @@ impl Flags {
     }
 }
 
-ghost use Rattle.std.specs.Prelude.{◌≡◌, IfOk, map};
+ghost use Rattle.std.specs.Prelude.{◌≡◌, ◌≤◌, ◌-◌, IfOk, map};
+ghost use Rattle.std.specs.List.{range_with_len};
 ghost use Rattle.auction_terms.specs.Allocations.{form_of};
 ghost use Rattle.auction_terms.specs.Terms.{lots_in};
 ghost use Rattle.bid_desk.specs.Closing.{book_of};
-ghost use Rattle.presolve.specs.Flags.{flags_of, flags_of_form};
+ghost use Rattle.presolve.specs.Flags.{flags_of, flags_of_bidders, flags_of_form};
 
-// The flags of every form, by rising bidder, or a form's own want of memory. A form is worth a thread, however few there are.
+// The flags of every form, by rising bidder. Both halves of the bidders are flagged side by side, each by as many threads
+// as `rayon` takes: with fewer, longer pieces more processors would be without work at the end.
 fn flags_by_bidder(
     rt: &(impl Threads + Sync),
     alloc: Global,
     book: &ClosedBook,
-) -> Result<Result<Vec<Vec<bool>>, AllocError>, AllocError>
-    ensures { IfOk result (λ made. IfOk made (λ forms. map (λ form. form.items) forms.items ≡ flags_of (lots_in book.now.rules) (book_of book.now))) }
+) -> Result<Vec<Vec<bool>>, AllocError>
+    ensures { IfOk result (λ forms. map (λ form. form.items) forms.items ≡ flags_of (lots_in book.now.rules) (book_of book.now)) }
 {
-    let end = book.rules().bidders().len() as u16 + 1;
-    (1..end)
+    let bidders = book.rules().bidders().len() as u16;
+    let middle = bidders / 2 + 1;
+    let end = bidders + 1;
+    let (front, back) = join(
+        rt,
+        move || -> Result<Vec<Vec<bool>>, AllocError>
+            ensures { IfOk result (λ forms. map (λ form. form.items) forms.items ≡ flags_of_bidders (lots_in book.entry.now.rules) (book_of book.entry.now) (range_with_len 1 (middle - 1))) }
+        { flags_between(rt, alloc, book, 1, middle) },
+        move || -> Result<Vec<Vec<bool>>, AllocError>
+            ensures { IfOk result (λ forms. map (λ form. form.items) forms.items ≡ flags_of_bidders (lots_in book.entry.now.rules) (book_of book.entry.now) (range_with_len middle (end - middle))) }
+        { flags_between(rt, alloc, book, middle, end) },
+    );
+    let mut forms = front?;
+    let mut others = back?;
+    forms.append(&mut others)?;
+    Ok(forms)
+}
+
+// The flags of the forms of bidders from the first up to the end. A form is worth a thread, however few there are.
+fn flags_between(
+    rt: &(impl Threads + Sync),
+    alloc: Global,
+    book: &ClosedBook,
+    first: u16,
+    end: u16,
+) -> Result<Vec<Vec<bool>>, AllocError>
+    ensures { IfOk result (λ forms. map (λ form. form.items) forms.items ≡ flags_of_bidders (lots_in book.now.rules) (book_of book.now) (range_with_len first (end - first))) }
+{
+    let made: Result<Vec<Vec<bool>>, AllocError> = (first..end)
         .into_par_iter()
         .with_min_len(1)
         .map(
@@ -86,7 +115,8 @@ fn flags_by_bidder(
                 ensures { IfOk result (λ flags. flags.items ≡ flags_of_form (lots_in book.entry.now.rules) (form_of (book_of book.entry.now) bidder)) }
             { flags_of_bidder(alloc, book, bidder) },
         )
-        .collect(rt, alloc)
+        .collect(rt, alloc)?;
+    made
 }
 
 // The flags of the form that a bidder leaves standing.

@@ -1,21 +1,23 @@
 //! Which bids of a form are kept.
 
-ghost use Rattle.std.specs.Prelude.{◌≡◌, ◌≤◌, ◌<◌, ◌&&◌, false, not, nat_lt, is_some, drop, take, All, AllPairs, length, map, IfOk, IfSome, IsTrue};
+ghost use Rattle.std.specs.Prelude.{◌≡◌, ◌≤◌, ◌<◌, false, not, nat_lt, is_some, drop, take, All, AllPairs, length, map, IfOk, IfSome, IsTrue};
 ghost use Rattle.std.specs.List.{list_any};
 ghost use Rattle.auction_terms.specs.Domination.{is_kept};
 ghost use Rattle.auction_terms.specs.Packages;
 ghost use Rattle.auction_terms.specs.Packages.{Lots, fits, is_within};
 ghost use Rattle.auction_terms.specs.Terms.{lots_in};
-ghost use Rattle.presolve.specs.Shelves.{AreGreatest, AreStocked, is_beaten_on, is_unbeaten_on};
+ghost use Rattle.presolve.specs.Masks.{lacking_of};
+ghost use Rattle.presolve.specs.Shelves.{AreGreatest, AreStocked, is_beaten_on};
 ghost use Rattle.presolve.specs.Sizes.{AreRivals, TellsItsBid, beats};
 
+use crate::masks::lacking_of;
 use crate::order::{SizedBid, ordered};
 use crate::shelves::{Shelf, shelves};
 use auction_terms::{Bid, Rules};
 use std::alloc::{AllocError, Global};
 
 // The first place at which a package has more than the other.
-fn first_over(quantities: &[u32], others: &[u32]) -> Option<usize>
+fn first_over(quantities: &[u16], others: &[u16]) -> Option<usize>
     requires { length quantities.now ≡ length others.now }
     ensures some { is_some result ≡ not (is_within quantities.now others.now) }
     ensures place { IfSome result (λ place. place < length quantities.now) }
@@ -28,25 +30,28 @@ fn first_over(quantities: &[u32], others: &[u32]) -> Option<usize>
     None
 }
 
-// Whether the rival is worth less than the bid, or has more at one of its peaks. All is asked at once, since none of it
-// is likely enough to be worth a branch.
-fn is_out_of_reach(rival: &SizedBid<'_>, bid: &Bid) -> bool
+// Whether the rival is worth less than the bid, has a category that the bid lacks, or has more at its peak. All is asked
+// at once, since none of it is likely enough to be worth a branch.
+fn is_out_of_reach(rival: &SizedBid<'_>, bid: &Bid, lacking: u32) -> bool
     requires told { TellsItsBid rival.now }
     requires sized { length rival.now.bid.now.package ≡ length bid.now.package }
+    requires lacking { lacking ≡ lacking_of bid.now.package }
     ensures beyond { (lots : Lots) → IsTrue result → beats lots bid.now rival.now ≡ false }
     ensures worth { result ≡ false → bid.now.amount ≤ rival.now.amount }
 {
     let quantities = bid.package.quantities();
     (rival.amount < bid.amount)
+        | (rival.mask & lacking != 0)
         | (rival.most > quantities[usize::from(rival.place)])
-        | (rival.next_most > quantities[usize::from(rival.next_place)])
 }
 
-// Whether one of the bids that fit dominates this one, which has this size. They stand by rising size, so the first that
-// isn't smaller ends the search; of those within reach, first the place is compared at which the last one had more.
-fn is_beaten(rivals: &[SizedBid<'_>], bid: &Bid, size: u32) -> bool
+// Whether one of the bids that fit dominates this one, which has this size and lacks these categories. They stand by
+// rising size, so the first that isn't smaller ends the search; of those within reach, first the place is compared at
+// which the last one had more.
+fn is_beaten(rivals: &[SizedBid<'_>], bid: &Bid, size: u32, lacking: u32) -> bool
     requires rivals { AreRivals (length bid.now.package) rivals.now }
     requires size { size ≡ Packages.size bid.now.package }
+    requires lacking { lacking ≡ lacking_of bid.now.package }
     ensures { (lots : Lots) → result ≡ list_any (beats lots bid.now) rivals.now }
 {
     let quantities = bid.package.quantities();
@@ -55,7 +60,7 @@ fn is_beaten(rivals: &[SizedBid<'_>], bid: &Bid, size: u32) -> bool
         if rival.size >= size {
             return false;
         }
-        if !is_out_of_reach(rival, bid) {
+        if !is_out_of_reach(rival, bid, lacking) {
             let others = rival.bid.package.quantities();
             if others[over] <= quantities[over] {
                 match first_over(others, quantities) {
@@ -69,14 +74,15 @@ fn is_beaten(rivals: &[SizedBid<'_>], bid: &Bid, size: u32) -> bool
 }
 
 // Whether one of the bids on a shelf dominates this one. Up to the first one with an amount as great, all are worth less.
-fn is_beaten_at(shelf: &Shelf<'_>, bid: &Bid, size: u32) -> bool
+fn is_beaten_at(shelf: &Shelf<'_>, bid: &Bid, size: u32, lacking: u32) -> bool
     requires size { size ≡ Packages.size bid.now.package }
+    requires lacking { lacking ≡ lacking_of bid.now.package }
     requires rivals { AreRivals (length bid.now.package) shelf.now.bids.items }
     requires greatest { AreGreatest shelf.now.bids.items shelf.now.greatest.items }
     ensures { (lots : Lots) → result ≡ list_any (beats lots bid.now) shelf.now.bids.items }
 {
     let first = first_as_great(&shelf.greatest, bid.amount);
-    is_beaten(bids_from(&shelf.bids, first), bid, size)
+    is_beaten(bids_from(&shelf.bids, first), bid, size, lacking)
 }
 
 fn bids_from<'s, 'b>(bids: &'s [SizedBid<'b>], first: usize) -> &'s [SizedBid<'b>]
@@ -86,17 +92,21 @@ fn bids_from<'s, 'b>(bids: &'s [SizedBid<'b>], first: usize) -> &'s [SizedBid<'b
     &bids[first..]
 }
 
-// The first place of an amount that is at least this one, where they rise; all are less where there is none.
+// The first place of an amount that is at least this one, where they rise; all are less where there is none. It is found
+// bit by bit (there are at most 4,000 amounts), with no branch on an amount, since none could be foreseen.
 fn first_as_great(rising: &[u64], amount: u64) -> usize
     requires { AllPairs (λ x y. x ≤ y) rising.now }
     ensures within { result ≤ length rising.now }
     ensures less { All (λ x. x < amount) (take result rising.now) }
 {
-    rising.partition_point(
-        |x: &u64| -> bool
-            ensures { result ≡ nat_lt x.now amount }
-        { *x < amount },
-    )
+    let mut first = 0;
+    for bit in (0..12u32).rev() {
+        let end = first + (1usize << bit);
+        if end <= rising.len() {
+            first += usize::from(rising[end - 1] < amount) << bit;
+        }
+    }
+    first
 }
 
 // Whether one of the bids on the shelves dominates this one. A shelf is passed over where the bid has less of its
@@ -107,25 +117,18 @@ fn is_beaten_on(shelves: &[Shelf<'_>], bid: &Bid) -> bool
 {
     let size = bid.package.size();
     let quantities = bid.package.quantities();
+    let lacking = lacking_of(quantities);
     for place in 0..shelves.len() {
         let shelf = &shelves[place];
-        if shelf.least <= quantities[place] && is_beaten_at(shelf, bid, size) {
+        if shelf.least <= quantities[place] && is_beaten_at(shelf, bid, size, lacking) {
             return true;
         }
     }
     false
 }
 
-// Whether the bid fits, and none of the bids that fit dominates it.
-fn is_unbeaten(rules: &Rules, shelves: &[Shelf<'_>], bid: &Bid) -> bool
-    requires shelves { AreStocked (length rules.now.categories) shelves.now }
-    requires sized { length bid.now.package ≡ length rules.now.categories }
-    ensures { result ≡ is_unbeaten_on (lots_in rules.now) shelves.now bid.now }
-{
-    bid.package.fits(rules) && !is_beaten_on(shelves, bid)
-}
-
-// Whether each bid of a form is kept, in the form's order.
+// Whether each bid of a form is kept, in the form's order. They are asked by rising size, so that one searches much as
+// the one before it did.
 pub(crate) fn flags_of_form(
     alloc: Global,
     rules: &Rules,
@@ -137,9 +140,11 @@ pub(crate) fn flags_of_form(
 {
     let rivals = ordered(alloc, rules, bids)?;
     let shelves = shelves(alloc, &rivals, rules.categories().len())?;
-    let mut flags = Vec::with_capacity(alloc, bids.len())?;
-    for bid in bids {
-        flags.push(is_unbeaten(rules, &shelves, bid))?;
+    let mut flags = vec![in alloc; false; bids.len()]?;
+    for rival in &rivals {
+        if !is_beaten_on(&shelves, rival.bid) {
+            flags[usize::from(rival.number) - 1] = true;
+        }
     }
     Ok(flags)
 }

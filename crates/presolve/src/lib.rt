@@ -4,6 +4,7 @@
 mod flags;
 mod form_flags;
 mod keeping;
+mod masks;
 mod order;
 mod shelves;
 

@@ -1,77 +1,58 @@
 //! The bids of a form in the order of their sizes.
 
-ghost use Rattle.std.specs.Prelude.{◌≡◌, ◌≤◌, ◌<◌, nat_lt, All, length, map, IfOk};
-ghost use Rattle.std.specs.List.{IsFirstBest};
+ghost use Rattle.std.specs.Prelude.{◌≡◌, ◌≤◌, ◌<◌, All, length, map, slice_index, IfOk};
 ghost use Rattle.auction_terms.specs.Packages.{size};
 ghost use Rattle.auction_terms.specs.Terms.{lots_in};
 ghost use Rattle.presolve.specs.Sizes.{fitting_from, sized_of, IsBySize, IsOrdered, TellsItsBid};
 
+use crate::masks::mask_of;
 use auction_terms::{Bid, Rules};
 use bid_forms::Form;
 use std::alloc::{AllocError, Global};
 
-/// A bid that fits, with the size of its package and its number in its form. Its amount and two peaks (places of its
-/// package, with the quantities there) stand here too, so that most comparisons need no look at the bid itself.
+/// A bid that fits, with the size of its package and its number in its form. Its amount, the mask of the categories of
+/// which it has some and its peak (a place of its package, with the quantity there) stand here too, so that most
+/// comparisons need no look at the bid itself.
 #[derive(Clone, Copy)]
 pub(crate) struct SizedBid<'b> {
     pub(crate) amount: u64,
     pub(crate) bid: &'b Bid,
     pub(crate) size: u32,
-    pub(crate) most: u32,
-    pub(crate) next_most: u32,
+    pub(crate) mask: u32,
+    pub(crate) most: u16,
     pub(crate) place: u16,
-    pub(crate) next_place: u16,
     pub(crate) number: u16,
 }
 
-// The first place of the greatest quantity.
-fn peak(quantities: &[u32]) -> usize
-    requires { 0 < length quantities.now }
-    ensures { IsFirstBest (λ x y. nat_lt y x) quantities.now (length quantities.now) result }
+// A place of the greatest quantity. A quantity and its place stand in one number, so that the greatest is found with no
+// branch on a quantity, since none could be foreseen.
+fn peak(quantities: &[u16]) -> usize
+    requires some { 0 < length quantities.now }
+    requires few { length quantities.now ≤ 32 }
+    ensures within { result < length quantities.now }
+    ensures greatest { All (λ quantity. quantity ≤ slice_index quantities.now result) quantities.now }
 {
-    let mut peak = 0;
-    for place in 1..quantities.len() {
-        if quantities[place] > quantities[peak] {
-            peak = place;
-        }
-    }
-    peak
-}
-
-// A place of the greatest quantity but that at the peak, if there is another place.
-fn next_peak(quantities: &[u32], peak: usize) -> usize
-    requires { peak < length quantities.now }
-    ensures { result < length quantities.now }
-{
-    let mut next = if peak == 0 && quantities.len() > 1 {
-        1
-    } else {
-        0
-    };
+    let mut greatest = 0;
     for place in 0..quantities.len() {
-        if place != peak && quantities[place] > quantities[next] {
-            next = place;
-        }
+        greatest = greatest.max(u32::from(quantities[place]) * 32 + place as u32);
     }
-    next
+    (greatest % 32) as usize
 }
 
-// A bid with its size, its number and its peaks.
+// A bid with its size, its number, its mask and its peak.
 fn sized(bid: &Bid, number: u16) -> SizedBid<'_>
     ensures same { sized_of result ≡ record { size = size bid.now.package; number = number; bid = bid.now } }
     ensures told { TellsItsBid result }
 {
     let quantities = bid.package.quantities();
     let place = peak(quantities);
-    let next_place = next_peak(quantities, place);
     SizedBid {
         amount: bid.amount,
         bid,
         size: bid.package.size(),
+        mask: mask_of(quantities),
         most: quantities[place],
-        next_most: quantities[next_place],
         place: place as u16,
-        next_place: next_place as u16,
         number,
     }
 }

@@ -1,6 +1,6 @@
 //! The bids of a form that fit, by the places of their peaks.
 
-ghost use Rattle.std.specs.Prelude.{IfOk};
+ghost use Rattle.std.specs.Prelude.{List, [], ◌∷◌, ◌++◌, IfOk};
 ghost use Rattle.presolve.specs.Shelves.{AreShelves, IsShelf};
 
 use crate::order::SizedBid;
@@ -10,36 +10,37 @@ use std::alloc::{AllocError, Global};
 /// bid the greatest amount up to it.
 #[derive(Drop)]
 pub(crate) struct Shelf<'b> {
-    pub(crate) least: u32,
+    pub(crate) least: u16,
     pub(crate) bids: Vec<SizedBid<'b>>,
     pub(crate) greatest: Vec<u64>,
 }
 
-// The bids whose peak is at this place.
-fn shelf_at<'b>(
-    alloc: Global,
-    rivals: &[SizedBid<'b>],
-    place: usize,
-) -> Result<Shelf<'b>, AllocError>
-    ensures { IfOk result (IsShelf rivals.now place) }
+// Puts a bid onto the shelf of its place, behind those that stand there.
+fn put<'b>(shelf: &mut Shelf<'b>, rival: &SizedBid<'b>) -> Result<(), AllocError>
+    ensures { IfOk result (λ _. (before : List SizedBid)
+        → IsShelf before rival.now.place shelf.old
+        → IsShelf (before ++ rival.now ∷ []) rival.now.place shelf.new) }
 {
-    let mut least = u32::MAX;
-    let mut amount = 0;
-    let mut bids = Vec::new(alloc);
-    let mut greatest = Vec::new(alloc);
-    for rival in rivals {
-        if usize::from(rival.place) == place {
-            bids.push(*rival)?;
-            least = least.min(rival.most);
-            amount = rival.amount.max(amount);
-            greatest.push(amount)?;
-        }
+    let amount = shelf.greatest.last().copied().unwrap_or(0);
+    shelf.bids.push(*rival)?;
+    shelf.least = shelf.least.min(rival.most);
+    shelf.greatest.push(rival.amount.max(amount))?;
+    Ok(())
+}
+
+// Shelves of this many places, with no bid yet.
+fn empty_shelves<'b>(alloc: Global, places: usize) -> Result<Vec<Shelf<'b>>, AllocError>
+    ensures { IfOk result (λ shelves. AreShelves places [] shelves.items) }
+{
+    let mut shelves = Vec::with_capacity(alloc, places)?;
+    for _ in 0..places {
+        shelves.push(Shelf {
+            least: u16::MAX,
+            bids: Vec::new(alloc),
+            greatest: Vec::new(alloc),
+        })?;
     }
-    Ok(Shelf {
-        least,
-        bids,
-        greatest,
-    })
+    Ok(shelves)
 }
 
 // The shelves of this many places.
@@ -50,9 +51,11 @@ pub(crate) fn shelves<'b>(
 ) -> Result<Vec<Shelf<'b>>, AllocError>
     ensures { IfOk result (λ shelves. AreShelves places rivals.now shelves.items) }
 {
-    let mut shelves = Vec::with_capacity(alloc, places)?;
-    for place in 0..places {
-        shelves.push(shelf_at(alloc, rivals, place)?)?;
+    let mut shelves = empty_shelves(alloc, places)?;
+    for rival in rivals {
+        if let Some(shelf) = shelves.get_mut(usize::from(rival.place)) {
+            put(shelf, rival)?;
+        }
     }
     Ok(shelves)
 }

@@ -97,7 +97,7 @@ fn kept_by_all_pairs(alloc: Global, supply: &[u32], bids: &[Bid]) -> Result<Vec<
             .quantities()
             .iter()
             .zip(supply.iter())
-            .all(|(quantity, most)| *quantity <= *most);
+            .all(|(quantity, most)| u32::from(*quantity) <= *most);
         if fits && !bids.iter().any(|other| is_beaten_by(bid, other)) {
             kept.push(number)?;
         }

@@ -1,20 +1,25 @@
-use Rattle.std.proofs.Common.{◌≡◌, ◌+◌, ◌-◌, ap, ap₂, ◌∙◌, subst, length, arith}
-use Rattle.std.specs.List.{AllZip, range_with_len}
-use Rattle.rayon.proofs.ListFacts.{IfOk-then}
+use Rattle.std.proofs.Common.{◌≡◌, ◌-◌, ◌+◌, ◌/◌, ℕ, Vec, Global, Bool, ap, arith, length, map, ◌∙◌}
+use Rattle.std.specs.List.{range_with_len}
 use Rattle.auction_terms.specs.Terms.{lots_in}
 use Rattle.bid_desk.specs.Closing.{book_of}
-use Rattle.presolve.proofs.KeepLaws.{IsFlagged, flags_by_bidders, length_book}
+use Rattle.presolve.specs.Flags.{flags_of_bidders}
+use Rattle.presolve.proofs.KeepLaws.{flags_joined, length_book}
 use Rattle.presolve.proofs.flags.flags_by_bidder.Goals as goal
 
 pub returns : goal.returns
 returns g c =
     let book = c.args.book.now in
-    let bidders : length c.bidders.result.now ≡ length (book_of book) = length_book book c.rules.result.now c.bidders.result.now c.bidders.ensures.value c.rules.ensures.rules in
-    let range = ap (λ it. it.base) c.map.ensures.base ∙ c.with_min_len.ensures.base in
-    let start : c.map.result.base.base.start ≡ 1 = ap (λ it. it.start) range ∙ c.into_par_iter.ensures.0 in
-    let end : c.map.result.base.base.end ≡ length c.bidders.result.now + 1 = ap (λ it. it.end) range ∙ c.into_par_iter.ensures.1 in
-    let count : c.map.result.base.base.end - c.map.result.base.base.start ≡ length (book_of book) = omega arith in
-    IfOk-then c.collect.result _ _ c.collect.ensures (λ made h.
-    let chain = rw c.map.ensures.f at h.1 in
-    let every : chain.0 ≡ range_with_len 1 (length (book_of book)) = chain.1 ∙ ap₂ range_with_len start count in
-    flags_by_bidders (lots_in book.rules) (book_of book) made h.0 (subst (λ bidders. AllZip (IsFlagged (lots_in book.rules) (book_of book)) bidders h.0) every chain.2) h.2)
+    let lots = lots_in book.rules in
+    let count = length c.bidders.result.now in
+    let half = count / 2 in
+    let rest = count + 1 - (half + 1) in
+    let bidders : count ≡ length (book_of book) = length_book book c.rules.result.now c.bidders.result.now c.bidders.ensures.value c.rules.ensures.rules in
+    let whole : half + rest ≡ length (book_of book) = (let e : half + rest ≡ count = omega arith in e ∙ bidders) in
+    let front = rw c.in_ok-forms.was at c.join-front.ensures.first in
+    let back = rw c.in_ok-others.was at c.join-front.ensures.second in
+    let front_len : half + 1 - 1 ≡ half = omega arith in
+    let back_start : half + 1 ≡ 1 + half = omega arith in
+    ap (map (λ (form : Vec Bool Global). form.items)) c.in_ok-append.ensures.items
+    ∙ flags_joined lots (book_of book) half rest c.in_ok-forms.forms.items c.in_ok-others.others.items whole
+    (front ∙ ap (λ (n : ℕ). flags_of_bidders lots (book_of book) (range_with_len 1 n)) front_len)
+    (back ∙ ap (λ (n : ℕ). flags_of_bidders lots (book_of book) (range_with_len n rest)) back_start)

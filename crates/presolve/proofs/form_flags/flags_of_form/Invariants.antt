@@ -1,9 +1,13 @@
-use Rattle.std.proofs.Common.{◌≡◌, ◌++◌, drop, map}
+use Rattle.std.proofs.Common.{◌≡◌, ◌+◌, ◌<◌, ◌||◌, ℕ, false, not, drop, length, slice_index_or}
+use Rattle.std.specs.List.{list_any}
 use Rattle.auction_terms.specs.Terms.{lots_in}
-use Rattle.presolve.specs.Shelves.{is_unbeaten_on}
+use Rattle.presolve.specs.Shelves.{is_beaten_on}
+use Rattle.presolve.proofs.NumberLaws.{passes}
 use Rattle.presolve.proofs.form_flags.flags_of_form.Given as goal
 
--- the flags so far, followed by those of the bids that are left, are all
-abbrev pub invariant-loop-bid : goal.invariant-loop-bid
-invariant-loop-bid l =
-    l.flags.items ++ map (is_unbeaten_on (lots_in l.rules) l.shelves.items) (drop l.bid-index l.bids) ≡ map (is_unbeaten_on (lots_in l.rules) l.shelves.items) l.bids
+-- each flag is set where a bid so far with its number is unbeaten, or one that is left makes it so
+abbrev pub invariant-loop-rival : goal.invariant-loop-rival
+invariant-loop-rival l = record {
+  count : length l.flags.items ≡ length l.bids;
+  each : (i : ℕ) → i < length l.bids → (slice_index_or l.flags.items i false || list_any (passes (λ x. not (is_beaten_on (lots_in l.rules) l.shelves.items x)) (1 + i)) (drop l.rival-index l.rival-items)) ≡ list_any (passes (λ x. not (is_beaten_on (lots_in l.rules) l.shelves.items x)) (1 + i)) l.rival-items;
+}

@@ -24,6 +24,7 @@ is_beaten-requires c =
     record {
       rivals = subst (λ (xs : List SizedBid). AreRivals n xs) (sym lent) (rivals_from n first shelf.bids.items c.requires.rivals);
       size = c.requires.size;
+      lacking = c.requires.lacking;
     }
 
 pub returns : goal.returns

@@ -1,6 +1,7 @@
+use Rattle.std.proofs.Common.{take}
 use Rattle.presolve.specs.Shelves.{AreShelves}
 use Rattle.presolve.proofs.shelves.shelves.Given as goal
 
--- a shelf for each place so far
-abbrev pub invariant-loop-place : goal.invariant-loop-place
-invariant-loop-place l = AreShelves l.place l.rivals l.shelves.items
+-- the shelves of the rivals so far
+abbrev pub invariant-loop-rival : goal.invariant-loop-rival
+invariant-loop-rival l = AreShelves l.places (take l.rival-index l.rivals) l.shelves.items
