@@ -2,7 +2,8 @@
 use Rattle.std.proofs.Common.{◌≡◌, ℕ, zero, suc, ◌+◌, ◌-◌, ◌<◌, ◌≤◌, ◌∙◌, List, [], ◌∷◌, ◌++◌, length, take, slice_index, slice_set, refl, sym, ap, arith}
 use borrow.Rule.Slice.PartMut.{mid_len, mid_of, put_mid, same_len_mid}
 use Rattle.std.proofs.lemmas.Slice.{take-put_mid}
-use Rattle.std.proofs.lemmas.List.{length-set}
+use Rattle.std.proofs.lemmas.List.{length-set, length-take-le, take-take}
+use Rattle.std.proofs.Math.Seq.{take-append-add}
 use Rattle.std.proofs.lemmas.Grind.{take-set_at}
 use native.Mathlib.Numerals.{unary_clauses}
 use Rattle.std.specs.Prelude.{◌/◌, ◌%◌, decimal}
@@ -88,8 +89,8 @@ two_digits at xs n large small room =
     ∙ ap (λ (digits : List ℕ). take at xs ++ (32 ∷ (digits ++ 10 ∷ []))) (sym (digits_of_two n large small))
 
 -- the blank behind the name has room
-put_within : (line new name : List ℕ) → 42 ≤ length line → length name ≤ 40 → new ≡ name → 1 + length name < length (put_mid 1 (1 + length name - 1) (slice_set line 0 32) new)
-put_within line new name room short same =
+put_within : (line new name : List ℕ) → length name + 2 ≤ length line → new ≡ name → 1 + length name < length (put_mid 1 (1 + length name - 1) (slice_set line 0 32) new)
+put_within line new name room same =
     let begun : List ℕ = slice_set line 0 32 in
     let begun_length : length begun ≡ length line = length-set line 0 32 in
     let new_length : length new ≡ length name = ap length same in
@@ -98,13 +99,27 @@ put_within line new name room short same =
     omega arith
 
 -- a name between blanks
-pub front_written : (line new name : List ℕ) → 42 ≤ length line → length name ≤ 40 → new ≡ name
+pub front_written : (line new name : List ℕ) → length name + 2 ≤ length line → new ≡ name
     → take (1 + length name + 1) (slice_set (put_mid 1 (1 + length name - 1) (slice_set line 0 32) new) (1 + length name) 32) ≡ 32 ∷ (name ++ 32 ∷ [])
-front_written line new name room short same =
+front_written line new name room same =
     let begun : List ℕ = slice_set line 0 32 in
     let begun_length : length begun ≡ length line = length-set line 0 32 in
     let ends : 1 + length name ≡ 1 + length new = ap (λ (ys : List ℕ). 1 + length ys) (sym same) in
     let front = take-put_mid 1 (1 + length name - 1) begun new (1 + length name) ends (omega arith) in
     let blank : take 1 begun ≡ 32 ∷ [] = take-set_at line 0 1 32 refl (omega arith) in
-    take-set_at (put_mid 1 (1 + length name - 1) begun new) (1 + length name) (1 + length name + 1) 32 refl (put_within line new name room short same)
+    take-set_at (put_mid 1 (1 + length name - 1) begun new) (1 + length name) (1 + length name + 1) 32 refl (put_within line new name room same)
     ∙ ap (λ (ys : List ℕ). ys ++ 32 ∷ []) (front ∙ ap (λ (ys : List ℕ). ys ++ new) blank ∙ ap (λ (ys : List ℕ). 32 ∷ ys) same)
+
+-- a front that was copied with all of its room, as far as it counts
+pub front_copied : (at count : ℕ) (lines front new : List ℕ) → length front ≡ 16 → at + 16 ≤ length lines → count ≤ 16 → new ≡ front
+    → take (at + count) (put_mid at (at + 16 - at) lines new) ≡ take at lines ++ take count front
+front_copied at count lines front new long room few same =
+    let copied : List ℕ = put_mid at (at + 16 - at) lines new in
+    let ends : at + 16 ≡ at + length new = ap (λ (n : ℕ). at + n) (sym (ap length same ∙ long)) in
+    let whole : take (at + 16) copied ≡ take at lines ++ new = take-put_mid at (at + 16 - at) lines new (at + 16) ends (omega arith) in
+    let before : length (take at lines) ≡ at = length-take-le at lines (omega arith) in
+    sym (take-take (at + count) (at + 16) copied (omega arith))
+    ∙ ap (λ (xs : List ℕ). take (at + count) xs) whole
+    ∙ ap (λ (n : ℕ). take (n + count) (take at lines ++ new)) (sym before)
+    ∙ take-append-add (take at lines) new count
+    ∙ ap (λ (xs : List ℕ). take at lines ++ take count xs) same

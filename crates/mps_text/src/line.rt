@@ -1,9 +1,12 @@
-//! A short line, put together before it is added. Its front stays from one line to the next.
+//! Short lines, put together one behind the other before they are added.
 
 ghost use Rattle.std.specs.Prelude.{◌≡◌, ◌≤◌, ◌<◌, ◌+◌, ◌∷◌, [], ◌++◌, decimal, length, take};
 
-/// How long a short line is at most.
-pub const LINE_LEN: usize = 64;
+/// How many bytes of lines stand together at most.
+pub const LINES_LEN: usize = 1024;
+
+/// How long the front of a line is at most: a blank, a name and a blank.
+pub const FRONT_LEN: usize = 16;
 
 /// Writes a name of two to four bytes from a place on: its first two bytes and its last two, with no branch on how many it has.
 fn write_name(line: &mut [u8], at: usize, name: &[u8])
@@ -41,30 +44,40 @@ fn write_end(line: &mut [u8], at: usize, number: u8) -> usize
     at + 4
 }
 
-/// Writes the name of a row and a number behind the front of a line, and tells where the line ends.
+/// Writes the front of a line, the name of a row and a number from a place on, and tells where the line ends. The front is copied with all of its room, which takes no loop; what stands behind its end is written over.
 #[inline(always)]
-pub fn write_entry(line: &mut [u8; LINE_LEN], front: usize, name: &[u8], number: u8) -> usize
-    requires front { front ≤ 48 }
+pub fn write_line(
+    lines: &mut [u8],
+    at: usize,
+    front: &[u8; FRONT_LEN],
+    front_len: usize,
+    name: &[u8],
+    number: u8,
+) -> usize
+    requires front { front_len ≤ 16 }
     requires some { 2 ≤ length name.now }
     requires few { length name.now ≤ 4 }
     requires small { number < 100 }
-    ensures written { take result line.new ≡ take front line.old ++ (name.now ++ (32 ∷ (decimal number ++ 10 ∷ []))) }
-    ensures kept { take front line.new ≡ take front line.old }
-    ensures within { result ≤ 64 }
+    requires room { at + 24 ≤ length lines.old }
+    ensures written { take result lines.new ≡ take at lines.old ++ (take front_len front.now ++ (name.now ++ (32 ∷ (decimal number ++ 10 ∷ [])))) }
+    ensures within { result ≤ at + 24 }
+    ensures length { length lines.new ≡ length lines.old }
 {
-    write_name(line, front, name);
-    write_end(line, front + name.len(), number)
+    lines[at..at + FRONT_LEN].copy_from_slice(front);
+    let end = at + front_len;
+    write_name(lines, end, name);
+    write_end(lines, end + name.len(), number)
 }
 
-/// Writes a blank, a name and a blank at the head of a line, and tells where they end.
-pub fn write_front(line: &mut [u8; LINE_LEN], name: &[u8]) -> usize
-    requires short { length name.now ≤ 40 }
-    ensures written { take result line.new ≡ 32 ∷ (name.now ++ 32 ∷ []) }
-    ensures within { result ≤ 42 }
+/// Writes a blank, a name and a blank, and tells where they end.
+pub fn write_front(front: &mut [u8; FRONT_LEN], name: &[u8]) -> usize
+    requires short { length name.now ≤ 14 }
+    ensures written { take result front.new ≡ 32 ∷ (name.now ++ 32 ∷ []) }
+    ensures within { result ≤ 16 }
 {
     let end = 1 + name.len();
-    line[0] = b' ';
-    line[1..end].copy_from_slice(name);
-    line[end] = b' ';
+    front[0] = b' ';
+    front[1..end].copy_from_slice(name);
+    front[end] = b' ';
     end + 1
 }

@@ -1,6 +1,6 @@
 //! The lines of each section on their way to a sink.
 
-ghost use Rattle.std.specs.Prelude.{◌≡◌, ◌≤◌, ◌≤ℤ◌, ◌<ℤ◌, ◌∷◌, [], ◌++◌, codes, flat_map, length, map, pos, take, true};
+ghost use Rattle.std.specs.Prelude.{IfSome, ◌≡◌, ◌≤◌, ◌≤ℤ◌, ◌<ℤ◌, ◌∷◌, [], ◌++◌, codes, flat_map, length, map, pos, take, true};
 ghost use Rattle.std.specs.Fmt.{signed_decimal};
 ghost use Rattle.program_rows.specs.Lines.{Data};
 ghost use Rattle.program_rows.specs.Parts.{shown_row, shown_column};
@@ -11,7 +11,7 @@ ghost use Rattle.mps_text.specs.Bytes.{row_bytes, right_side_bytes, bound_bytes,
 use crate::adding::add;
 use crate::block::Block;
 use crate::data_lines::{add_three, add_two};
-use crate::line::{LINE_LEN, write_entry, write_front};
+use crate::line::{FRONT_LEN, LINES_LEN, write_front, write_line};
 use crate::sink::{Sink, SinkFailed};
 use itoa::Buffer;
 use program_rows::{Bounds, Column, Columns, Row, RowKind};
@@ -113,27 +113,48 @@ fn is_short(row: &[u8], number: i64) -> bool
     2 <= row.len() && row.len() <= 4 && 0 <= number && number < 100
 }
 
-/// Adds the line of an entry of a column whose name stands at the head of the line, in one piece where the entry is short.
-fn add_entry<S: Sink>(
-    block: &mut Block,
-    sink: &mut S,
+/// Writes the line of an entry behind other lines, and tells where it ends, where it is short and has room.
+#[inline(always)]
+fn write_entry(
+    lines: &mut [u8; LINES_LEN],
+    at: usize,
+    rows: &[Row],
+    front: &[u8; FRONT_LEN],
+    front_len: usize,
+    name: &[u8],
+    entry: &(usize, i64),
+) -> Option<usize>
+    requires within { front_len ≤ 16 }
+    requires front { take front_len front.now ≡ 32 ∷ (name.now ++ 32 ∷ []) }
+    ensures written { IfSome result (λ end. take end lines.new ≡ take at lines.old ++ entry_bytes (map shown_row rows.now) name.now entry.now) }
+    ensures within { IfSome result (λ end. end ≤ 1024) }
+{
+    let _of_the_front = name;
+    let row = name_at(rows, entry.0);
+    if at <= LINES_LEN - 24 && is_short(row, entry.1) {
+        return Some(write_line(lines, at, front, front_len, row, entry.1 as u8));
+    }
+    None
+}
+
+/// Writes the lines of the entries of a column with a short name one behind the other, and tells where they end, where each is short and they have room.
+fn write_entries(
+    lines: &mut [u8; LINES_LEN],
     rows: &[Row],
     name: &[u8],
-    line: &mut [u8; LINE_LEN],
-    front: usize,
-    entry: &(usize, i64),
-) -> Result<(), SinkFailed>
-    requires within { front ≤ 42 }
-    requires front { take front line.old ≡ 32 ∷ (name.now ++ 32 ∷ []) }
-    ensures adds { Adds result (S.taken sink.old) (S.taken sink.new) block.old block.new (S.failures sink.old) (S.failures sink.new) (entry_bytes (map shown_row rows.now) name.now entry.now) }
-    ensures front { take front line.new ≡ take front line.old }
+    entries: &[(usize, i64)],
+) -> Option<usize>
+    requires { length name.now ≤ 14 }
+    ensures written { IfSome result (λ end. take end lines.new ≡ flat_map (entry_bytes (map shown_row rows.now) name.now) entries.now) }
+    ensures within { IfSome result (λ end. end ≤ 1024) }
 {
-    let row = name_at(rows, entry.0);
-    if is_short(row, entry.1) {
-        let end = write_entry(line, front, row, entry.1 as u8);
-        return add(block, sink, &line[..end]);
+    let mut front = [0; FRONT_LEN];
+    let front_len = write_front(&mut front, name);
+    let mut at = 0;
+    for entry in entries {
+        at = write_entry(lines, at, rows, &front, front_len, name, entry)?;
     }
-    add_long_entry(block, sink, rows, name, entry)
+    Some(at)
 }
 
 /// Adds the lines of the rows.
@@ -177,7 +198,7 @@ pub fn add_bounds<S: Sink>(
     Ok(())
 }
 
-/// Adds the lines of entries of a column whose name is too long for the head of a line.
+/// Adds the lines of entries of a column one by one.
 fn add_long_entries<S: Sink>(
     block: &mut Block,
     sink: &mut S,
@@ -194,38 +215,21 @@ fn add_long_entries<S: Sink>(
     Ok(())
 }
 
-/// Adds the lines of entries of a column with a short name, which is written once at the head of the line.
-fn add_short_entries<S: Sink>(
-    block: &mut Block,
-    sink: &mut S,
-    rows: &[Row],
-    name: &[u8],
-    entries: &[(usize, i64)],
-) -> Result<(), SinkFailed>
-    requires { length name.now ≤ 40 }
-    ensures { Adds result (S.taken sink.old) (S.taken sink.new) block.old block.new (S.failures sink.old) (S.failures sink.new) (flat_map (entry_bytes (map shown_row rows.now) name.now) entries.now) }
-{
-    let _known = block.sent;
-    let mut line = [0; LINE_LEN];
-    let front = write_front(&mut line, name);
-    for entry in entries {
-        add_entry(block, sink, rows, name, &mut line, front, entry)?;
-    }
-    Ok(())
-}
-
-/// Adds the lines of the entries of a column.
+/// Adds the lines of the entries of a column, in one piece where they are short.
 pub fn add_entries<S: Sink>(
     block: &mut Block,
     sink: &mut S,
+    lines: &mut [u8; LINES_LEN],
     rows: &[Row],
     name: &[u8],
     entries: &[(usize, i64)],
 ) -> Result<(), SinkFailed>
     ensures { Adds result (S.taken sink.old) (S.taken sink.new) block.old block.new (S.failures sink.old) (S.failures sink.new) (flat_map (entry_bytes (map shown_row rows.now) name.now) entries.now) }
 {
-    if name.len() <= 40 {
-        return add_short_entries(block, sink, rows, name, entries);
+    if name.len() <= 14 {
+        if let Some(end) = write_entries(lines, rows, name, entries) {
+            return add(block, sink, &lines[..end]);
+        }
     }
     add_long_entries(block, sink, rows, name, entries)
 }
@@ -244,18 +248,20 @@ fn add_cost<S: Sink>(
 fn add_column_entries<S: Sink>(
     block: &mut Block,
     sink: &mut S,
+    lines: &mut [u8; LINES_LEN],
     rows: &[Row],
     column: &Column<'_>,
 ) -> Result<(), SinkFailed>
     ensures { Adds result (S.taken sink.old) (S.taken sink.new) block.old block.new (S.failures sink.old) (S.failures sink.new) (flat_map (entry_bytes (map shown_row rows.now) column.now.name.now) column.now.entries.now) }
 {
-    add_entries(block, sink, rows, column.name, column.entries)
+    add_entries(block, sink, lines, rows, column.name, column.entries)
 }
 
 /// Adds the lines of a column.
 pub fn add_column<S: Sink>(
     block: &mut Block,
     sink: &mut S,
+    lines: &mut [u8; LINES_LEN],
     objective: &[u8],
     rows: &[Row],
     column: &Column<'_>,
@@ -263,7 +269,7 @@ pub fn add_column<S: Sink>(
     ensures { Adds result (S.taken sink.old) (S.taken sink.new) block.old block.new (S.failures sink.old) (S.failures sink.new) (column_bytes objective.now (map shown_row rows.now) (shown_column column.now)) }
 {
     add_cost(block, sink, objective, column)?;
-    add_column_entries(block, sink, rows, column)
+    add_column_entries(block, sink, lines, rows, column)
 }
 
 /// Adds the lines of the columns.
@@ -277,8 +283,16 @@ pub fn add_columns<S: Sink>(
     ensures { Adds result (S.taken sink.old) (S.taken sink.new) block.old block.new (S.failures sink.old) (S.failures sink.new) (flat_map (column_bytes objective.now (map shown_row rows.now)) columns.now) }
 {
     let _known = block.sent;
+    let mut lines = [0; LINES_LEN];
     for place in 0..columns.len() {
-        add_column(block, sink, objective, rows, &columns.column(place))?;
+        add_column(
+            block,
+            sink,
+            &mut lines,
+            objective,
+            rows,
+            &columns.column(place),
+        )?;
     }
     Ok(())
 }

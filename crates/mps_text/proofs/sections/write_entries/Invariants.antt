@@ -1,0 +1,14 @@
+use Rattle.std.proofs.Common.{◌≡◌, ◌≤◌, ◌∷◌, ◌++◌, [], take, map}
+use Rattle.std.specs.Prelude.{flat_map}
+use Rattle.program_rows.specs.Parts.{shown_row}
+use Rattle.mps_text.specs.Bytes.{entry_bytes}
+use Rattle.mps_text.proofs.sections.write_entries.Given as goal
+
+-- the lines so far stand one behind the other
+abbrev pub invariant-loop-entry : goal.invariant-loop-entry
+invariant-loop-entry l = record {
+  lines : take l.at l.lines ≡ flat_map (entry_bytes (map shown_row l.rows) l.name) (take l.entry-index l.entries);
+  front : take l.front_len l.front ≡ 32 ∷ (l.name ++ 32 ∷ []);
+  within : l.front_len ≤ 16;
+  room : l.at ≤ 1024;
+}
