@@ -12,7 +12,7 @@ use auction_terms::{Rules, read_rules};
 use bid_forms::{Form, FormFault, read_form};
 use rayon::prelude::*;
 use std::alloc::{AllocError, Global};
-use std::thread::Threads;
+use std::thread::{Threads, join};
 
 /// How many parts of a kind a command takes.
 #[derive(Clone, Copy, Debug, PartialEq, Eq)]
@@ -74,8 +74,34 @@ pub fn read_forms(
     in_order(alloc, answers)
 }
 
-// What each text tells. Reading a form is worth a thread, however few there are.
+// What each text tells. Both halves of the texts are read side by side, each by as many threads as `rayon` takes: with
+// fewer, longer pieces more processors would be without work at the end.
 fn read_each(
+    rt: &(impl Threads + Sync),
+    alloc: Global,
+    texts: &[&[u8]],
+    rules: &Rules,
+) -> Result<Vec<Result<Form, FormFault>>, AllocError>
+    ensures { IfOk result (λ answers. AllZip (IsAnswer rules.now) texts.now answers.items) }
+{
+    let (first, second) = texts.split_at(texts.len() / 2);
+    let (front, back) = join(
+        rt,
+        move || -> Result<Vec<Result<Form, FormFault>>, AllocError>
+            ensures { IfOk result (λ answers. AllZip (IsAnswer rules.entry.now) first.entry.now answers.items) }
+        { read_half(rt, alloc, first, rules) },
+        move || -> Result<Vec<Result<Form, FormFault>>, AllocError>
+            ensures { IfOk result (λ answers. AllZip (IsAnswer rules.entry.now) second.entry.now answers.items) }
+        { read_half(rt, alloc, second, rules) },
+    );
+    let mut answers = front?;
+    let mut others = back?;
+    answers.append(&mut others)?;
+    Ok(answers)
+}
+
+// What each of these texts tells. Reading a form is worth a thread, however few there are.
+fn read_half(
     rt: &(impl Threads + Sync),
     alloc: Global,
     texts: &[&[u8]],

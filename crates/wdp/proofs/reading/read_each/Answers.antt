@@ -1,13 +1,17 @@
-use Rattle.std.proofs.Common.{ap, ◌∙◌, sym, subst}
+use Rattle.std.proofs.Common.{◌≡◌, ◌++◌, ap₂, ◌∙◌, subst}
 use Rattle.std.specs.List.{AllZip}
-use Rattle.rayon.proofs.ListFacts.{IfOk-then}
-use Rattle.rayon.proofs.ToStd.{slice-AllZip}
+use Rattle.std.proofs.lemmas.List.{take-append-drop}
+use Rattle.rayon.proofs.ListFacts.{AllZip-append}
 use Rattle.wdp.specs.InputTexts.{IsAnswer}
 use Rattle.wdp.proofs.reading.read_each.Goals as goal
 
 pub returns : goal.returns
 returns g c =
-    let slice = ap (λ it. it.base.slice.now) c.map.ensures.base ∙ ap (λ it. it.slice.now) c.with_min_len.ensures.base ∙ c.par_iter.ensures in
-    IfOk-then c.collect.result _ _ c.collect.ensures (λ v h.
-    let chain = rw c.map.ensures.f at h.1 in
-    subst (AllZip (IsAnswer c.args.rules.now) c.args.texts.now) (sym h.2) (slice-AllZip chain.0 c.args.texts.now (chain.1 ∙ slice) (IsAnswer c.args.rules.now) h.0 chain.2))
+    let rules = c.args.rules.now in
+    let texts = c.args.texts.now in
+    let first = c.split_at.result.0.now in
+    let second = c.split_at.result.1.now in
+    let front : AllZip (IsAnswer rules) first c.in_ok-answers.answers.items = rw c.in_ok-answers.was at c.join-front.ensures.first in
+    let back : AllZip (IsAnswer rules) second c.in_ok-others.others.items = rw c.in_ok-others.was at c.join-front.ensures.second in
+    let whole : first ++ second ≡ texts = ap₂ (λ xs ys. xs ++ ys) c.split_at.ensures.front c.split_at.ensures.back ∙ take-append-drop _ texts in
+    rw (c.in_ok-append.ensures.items, ← whole) (AllZip-append (IsAnswer rules) first second c.in_ok-answers.answers.items c.in_ok-others.others.items front back)
