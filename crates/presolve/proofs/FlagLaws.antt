@@ -11,9 +11,8 @@ use Rattle.auction_terms.specs.declared.bids.Bid.{Bid}
 use Rattle.auction_terms.specs.Packages.{Lots, is_within, is_smaller, fits, size}
 use Rattle.auction_terms.specs.Domination.{is_no_cheaper, dominates, is_kept}
 use Rattle.auction_terms.proofs.PackageLaws.{within_at, within_trans, size_le, size_lt}
-use Rattle.presolve.proofs.MaskLaws.{apart}
+use Rattle.presolve.proofs.MaskLaws.{mask_within}
 use Rattle.presolve.specs.declared.order.SizedBid.{SizedBid}
-use Rattle.presolve.specs.Masks.{lacking_of}
 use Rattle.presolve.specs.Sizes.{IsUpTo, Sized, sized_of, fitting_from, IsOrdered, AreRivals, TellsItsBid, beats, is_unbeaten}
 
 -- behind a bid that isn't smaller there is none that is smaller
@@ -54,16 +53,17 @@ pub none_over_peak : (lots : Lots) (x : Bid) (s : SizedBid) → TellsItsBid s �
 none_over_peak lots x s told less = none_over lots x s s.place (subst (λ (most : ℕ). slice_index x.package s.place < most) told.most less)
 
 -- nor is one that lacks a category of the rival
-none_lacking : (lots : Lots) (x : Bid) (s : SizedBid) → TellsItsBid s → bit_and s.mask (lacking_of x.package) ≢ 0 → beats lots x s ≡ false
-none_lacking lots x s told lacks = none_uncovered lots x s (false_from_ne_true (is_within s.bid.now.package x.package) (λ w. lacks (ap (λ (m : ℕ). bit_and m (lacking_of x.package)) told.mask ∙ apart s.bid.now.package x.package w)))
+none_lacking : (lots : Lots) (x s : SizedBid) → TellsItsBid s → TellsItsBid x → length s.bid.now.package ≡ length x.bid.now.package → bit_and s.mask x.mask ≢ s.mask → beats lots x.bid.now s ≡ false
+none_lacking lots x s told own long lacks = none_uncovered lots x.bid.now s (false_from_ne_true (is_within s.bid.now.package x.bid.now.package) (λ w. lacks (ap₂ bit_and told.mask own.mask ∙ mask_within s.bid.now.package x.bid.now.package long w ∙ sym told.mask)))
 
 -- so none of these three may be
-pub out_of_reach : (lots : Lots) (x : Bid) (s : SizedBid) (more lacks peak : Bool) → TellsItsBid s → (more ≡ true → s.amount < x.amount) → (lacks ≡ true → bit_and s.mask (lacking_of x.package) ≢ 0) → (peak ≡ true → slice_index x.package s.place < s.most)
-    → IsTrue ((more || lacks) || peak) → beats lots x s ≡ false
-out_of_reach lots x s true lacks peak told a b c t = none_above lots x s told (a refl)
-out_of_reach lots x s false true peak told a b c t = none_lacking lots x s told (b refl)
-out_of_reach lots x s false false true told a b c t = none_over_peak lots x s told (c refl)
-out_of_reach lots x s false false false told a b c t = absurd (both_ways false refl t)
+pub out_of_reach : (lots : Lots) (x s : SizedBid) (more lacks peak : Bool) → TellsItsBid s → TellsItsBid x → length s.bid.now.package ≡ length x.bid.now.package
+    → (more ≡ true → s.amount < x.amount) → (lacks ≡ true → bit_and s.mask x.mask ≢ s.mask) → (peak ≡ true → slice_index x.bid.now.package s.place < s.most)
+    → IsTrue ((more || lacks) || peak) → beats lots x.bid.now s ≡ false
+out_of_reach lots x s true lacks peak told own long a b c t = (let less = a refl in let amount = own.amount in none_above lots x.bid.now s told (omega arith))
+out_of_reach lots x s false true peak told own long a b c t = none_lacking lots x s told own long (b refl)
+out_of_reach lots x s false false true told own long a b c t = none_over_peak lots x.bid.now s told (c refl)
+out_of_reach lots x s false false false told own long a b c t = absurd (both_ways false refl t)
 
 -- one that is in reach isn't worth less
 pub within_reach : (s x : ℕ) (more lacks peak : Bool) → (more ≡ false → x ≤ s) → ((more || lacks) || peak) ≡ false → x ≤ s

@@ -1,35 +1,28 @@
--- Laws of masks: what is within a package has no category that the package lacks.
-use Rattle.std.proofs.Common.{◌≡◌, ◌+◌, ◌*◌, ◌<◌, ◌≤◌, ◌^◌, ◌==◌, ℕ, zero, suc, Bool, true, false, cond, nat_le, List, [], ◌∷◌, length, drop, arith, ap, ap₂, ◌∙◌, ne_eqb}
-use Rattle.std.specs.Int.{from_bool}
+-- Laws of masks: what is within a package has no category but those of the package, and a walk by the bits comes to every place that has one.
+use Rattle.std.proofs.Common.{◌≡◌, ◌≢◌, ◌⊎◌, ⊎_elim, inl, inr, ◌+◌, ◌-◌, ◌*◌, ◌/◌, ◌%◌, ◌<◌, ◌≤◌, ◌^◌, ◌==◌, ℕ, zero, suc, Bool, true, false, cond, nat_le, List, [], ◌∷◌, length, slice_index, drop, arith, refl, sym, ap, ap₂, ◌∙◌, ne_eqb}
+use Rattle.std.specs.Int.{bit_at, from_bool, trailing_zeros, w32}
 use Rattle.std.specs.Int.Bits.{bit_and}
-use Rattle.std.proofs.lemmas.Bool.{and_parts, both_ways, cond-false, lt-leb}
+use Rattle.std.proofs.lemmas.Bool.{and_parts, both_ways, cases_eq, cases_lt, cond-false, lt-leb}
 use Rattle.std.proofs.lemmas.List.{length-drop}
 use Rattle.std.proofs.Math.Nat.{pow-suc}
 use Rattle.std.proofs.Math.Pow.{pow_mono}
-use Rattle.std.proofs.lemmas.Nat.{and_block, and_le_l, and_le_r}
+use Rattle.std.proofs.lemmas.Nat.{and_block, and_le_l}
+use Rattle.std.proofs.lemmas.Nat.Bits.{bit_at-suc, bit_at-trailing_zeros, bit_at_above, bit_at_and, bit_at_lowest}
 use Rattle.auction_terms.specs.Packages.{is_within}
-use Rattle.presolve.specs.Masks.{lacking_of, mask_of}
+use Rattle.presolve.specs.Masks.{mask_of}
 
-bit : (b : Bool) → cond b 1 0 ≤ 1
-bit true = omega arith
-bit false = omega arith
-
-other_bit : (b : Bool) → cond b 0 1 ≤ 1
-other_bit true = omega arith
-other_bit false = omega arith
+one_bit : (b : Bool) → cond b 0 1 ≤ 1
+one_bit true = omega arith
+one_bit false = omega arith
 
 pub one_at_most : (n : ℕ) (b : Bool) → n ≡ from_bool b → n ≤ 1
 one_at_most n true e = omega arith
 one_at_most n false e = omega arith
 
 -- a bit for each category
-mask_below : (xs : List ℕ) → mask_of xs < 2 ^ length xs
+pub mask_below : (xs : List ℕ) → mask_of xs < 2 ^ length xs
 mask_below [] = omega arith
-mask_below (x ∷ xs) = (let rest = mask_below xs in let more = pow-suc 2 (length xs) in let low = other_bit (x == 0) in omega arith)
-
-lacking_below : (xs : List ℕ) → lacking_of xs < 2 ^ length xs
-lacking_below [] = omega arith
-lacking_below (x ∷ xs) = (let rest = lacking_below xs in let more = pow-suc 2 (length xs) in let low = bit (x == 0) in omega arith)
+mask_below (x ∷ xs) = (let rest = mask_below xs in let more = pow-suc 2 (length xs) in let low = one_bit (x == 0) in omega arith)
 
 short : (k : ℕ) (xs : List ℕ) → 1 ≤ k → length xs ≤ 32 → 2 ^ length (drop k xs) ≤ 2 ^ 31
 short k xs some few = pow_mono {i = length (drop k xs)} {j = 31} (let l = length-drop k xs in omega arith)
@@ -38,33 +31,72 @@ short k xs some few = pow_mono {i = length (drop k xs)} {j = 31} (let l = length
 pub mask_room : (k : ℕ) (xs : List ℕ) → 1 ≤ k → length xs ≤ 32 → mask_of (drop k xs) < 2 ^ 31
 mask_room k xs some few = (let below = mask_below (drop k xs) in let least = short k xs some few in omega arith)
 
-pub lacking_room : (k : ℕ) (xs : List ℕ) → 1 ≤ k → length xs ≤ 32 → lacking_of (drop k xs) < 2 ^ 31
-lacking_room k xs some few = (let below = lacking_below (drop k xs) in let least = short k xs some few in omega arith)
-
--- masks whose lowest bits differ
-low_apart : (m n r s : ℕ) → bit_and m n ≡ 0 → r < 2 → s < 2 → bit_and r s ≡ 0 → bit_and (m * 2 + r) (n * 2 + s) ≡ 0
-low_apart m n r s rest a b low =
-    let block = and_block 1 m n r s a b in
-    block ∙ ap₂ (λ (x y : ℕ). x * 2 + y) rest low
-
--- the bits of one category
+-- the bit of one category
 abbrev some_bit : ℕ → ℕ
 some_bit x = cond (x == 0) 0 1
 
-abbrev none_bit : ℕ → ℕ
-none_bit x = cond (x == 0) 1 0
+some_of : (x : ℕ) → some_bit (suc x) ≡ 1
+some_of x = cond-false (suc x == 0) 0 1 (ne_eqb (suc x) 0 (λ e. absurd (omega arith)))
 
-none_of : (x : ℕ) → none_bit (suc x) ≡ 0
-none_of x = cond-false (suc x == 0) 1 0 (ne_eqb (suc x) 0 (λ e. absurd (omega arith)))
+bit_within : (x y : ℕ) → nat_le x y ≡ true → bit_and (some_bit x) (some_bit y) ≡ some_bit x
+bit_within zero y within = (let low = and_le_l 0 (some_bit y) in omega arith)
+bit_within (suc x) zero within = absurd (both_ways (nat_le (suc x) 0) (lt-leb (suc x) 0 (omega arith)) within)
+bit_within (suc x) (suc y) within = ap₂ (λ (m n : ℕ). bit_and m n) (some_of x) (some_of y) ∙ sym (some_of x)
 
-bits_apart : (x y : ℕ) → nat_le x y ≡ true → bit_and (some_bit x) (none_bit y) ≡ 0
-bits_apart zero y within = (let low = and_le_l 0 (none_bit y) in omega arith)
-bits_apart (suc x) zero within = absurd (both_ways (nat_le (suc x) 0) (lt-leb (suc x) 0 (omega arith)) within)
-bits_apart (suc x) (suc y) within = ap (λ (s : ℕ). bit_and (some_bit (suc x)) s) (none_of y) ∙ (let low = and_le_r (some_bit (suc x)) 0 in omega arith)
-
-pub apart : (xs ys : List ℕ) → is_within xs ys ≡ true → bit_and (mask_of xs) (lacking_of ys) ≡ 0
-apart [] ys within = (let low = and_le_l 0 (lacking_of ys) in omega arith)
-apart (x ∷ xs) [] within = (let low = and_le_r (mask_of (x ∷ xs)) 0 in omega arith)
-apart (x ∷ xs) (y ∷ ys) within =
+pub mask_within : (xs ys : List ℕ) → length xs ≡ length ys → is_within xs ys ≡ true → bit_and (mask_of xs) (mask_of ys) ≡ mask_of xs
+mask_within [] ys long within = (let low = and_le_l 0 (mask_of ys) in omega arith)
+mask_within (x ∷ xs) [] long within = absurd (omega arith)
+mask_within (x ∷ xs) (y ∷ ys) long within =
     let parts = and_parts (nat_le x y) (is_within xs ys) within in
-    low_apart (mask_of xs) (lacking_of ys) (some_bit x) (none_bit y) (apart xs ys parts.1) (let low = other_bit (x == 0) in omega arith) (let low = bit (y == 0) in omega arith) (bits_apart x y parts.0)
+    let own = one_bit (x == 0) in
+    let other = one_bit (y == 0) in
+    let block = and_block 1 (mask_of xs) (mask_of ys) (some_bit x) (some_bit y) (omega arith) (omega arith) in
+    block ∙ ap₂ (λ (m n : ℕ). m * 2 + n) (mask_within xs ys (omega arith) parts.1) (bit_within x y parts.0)
+
+-- the bits of a number with one more, the lowest
+pub first_bit : (m b : ℕ) → b ≤ 1 → bit_at (m * 2 + b) 0 ≡ b
+first_bit m b low = (let lowest = bit_at_lowest (m * 2 + b) in omega arith)
+
+pub next_bit : (m b k : ℕ) → b ≤ 1 → bit_at (m * 2 + b) (suc k) ≡ bit_at m k
+next_bit m b k low = bit_at-suc (m * 2 + b) k ∙ ap (λ (n : ℕ). bit_at n k) (let half : (m * 2 + b) / 2 ≡ m = omega arith in half)
+
+-- of a category with no bit there is none
+pub none_at : (xs : List ℕ) (k : ℕ) → k < length xs → bit_at (mask_of xs) k ≡ 0 → slice_index xs k ≡ 0
+none_at [] k within none = absurd (omega arith)
+none_at (zero ∷ xs) zero within none = refl
+none_at (suc x ∷ xs) zero within none = (let own = some_of x in let first = first_bit (mask_of xs) (some_bit (suc x)) (omega arith) in absurd (omega arith))
+none_at (x ∷ xs) (suc k) within none = none_at xs k (omega arith) (sym (next_bit (mask_of xs) (some_bit x) k (one_bit (x == 0))) ∙ none)
+
+-- above its lowest bits, one less has the same ones
+above_odd : (k n : ℕ) → n % 2 ≡ 1 → bit_at n (suc k) ≡ bit_at (n - 1) (suc k)
+above_odd k n odd = bit_at-suc n k ∙ ap (λ (m : ℕ). bit_at m k) (let half : n / 2 ≡ (n - 1) / 2 = omega arith in half) ∙ sym (bit_at-suc (n - 1) k)
+
+same_above : (low k n : ℕ) → low < k → bit_at n low ≡ 1 → bit_at n k ≡ bit_at (n - 1) k
+same_above low zero n above one = absurd (omega arith)
+same_above zero (suc k) n above one = above_odd k n (sym (bit_at_lowest n) ∙ one)
+same_above (suc low) (suc k) n above one =
+    let rest = same_above low k (n / 2) (omega arith) (sym (bit_at-suc n low) ∙ one) in
+    ⊎_elim
+    (λ (odd : n % 2 ≡ 1). above_odd k n odd)
+    (λ (even : n % 2 ≢ 1). bit_at-suc n k ∙ rest ∙ ap (λ (m : ℕ). bit_at m k) (let half : n / 2 - 1 ≡ (n - 1) / 2 = omega arith in half) ∙ sym (bit_at-suc (n - 1) k))
+    (cases_eq (n % 2) 1)
+
+-- the lowest bit stands among those that there are
+pub lowest_within : (n count : ℕ) → n ≢ 0 → n < 2 ^ 32 → n < 2 ^ count → trailing_zeros w32 n < count
+lowest_within n count some room fits =
+    let place = trailing_zeros w32 n in
+    let lowest = bit_at-trailing_zeros w32 n (omega arith) room in
+    ⊎_elim (λ (l : place < count). l) (λ (l : count ≤ place). let none = bit_at_above n count place fits l in let one = lowest.1 in absurd (omega arith)) (cases_lt place count)
+
+-- it alone is taken from a number by one less
+pub lowest_taken : (n k : ℕ) → n ≢ 0 → n < 2 ^ 32 → bit_at (bit_and n (n - 1)) k ≡ 0 → (k ≡ trailing_zeros w32 n) ⊎ (bit_at n k ≡ 0)
+lowest_taken n k some room none =
+    let place = trailing_zeros w32 n in
+    let lowest = bit_at-trailing_zeros w32 n (omega arith) room in
+    ⊎_elim
+    (λ (l : k < place). inr (lowest.2 k l))
+    (λ (l : place ≤ k). ⊎_elim
+    (λ (here : k ≡ place). inl here)
+    (λ (apart : k ≢ place). inr (let same = same_above place k n (omega arith) lowest.1 in let both = bit_at_and n (n - 1) k in omega arith))
+    (cases_eq k place))
+    (cases_lt k place)

@@ -1,24 +1,31 @@
 -- Laws of the shelves: looking at every shelf is looking at every bid that fits.
-use Rattle.std.proofs.Common.{◌≡◌, ◌≢◌, ◌+◌, ◌-◌, ◌++◌, ◌<◌, ◌≤◌, ◌==◌, ◌&&◌, ◌||◌, ⊎_elim, ℕ, suc, Bool, true, false, not, nat_le, List, [], ◌∷◌, length, map, filter, cond, slice_index, slice_index_or, get_or, set, take, drop, length-append, arith, refl, sym, ap, ap₂, ◌∙◌, subst, eq-eqb, ne_eqb}
+use Rattle.std.proofs.Common.{◌≡◌, ◌≢◌, ◌+◌, ◌-◌, ◌*◌, ◌^◌, ◌++◌, ◌<◌, ◌≤◌, ◌==◌, ◌&&◌, ◌||◌, ⊎_elim, ℕ, zero, suc, Bool, true, false, not, nat_le, List, [], ◌∷◌, length, map, filter, cond, slice_index, slice_index_or, get_or, set, take, drop, length-append, arith, refl, sym, ap, ap₂, ◌∙◌, subst, eq-eqb, ne_eqb}
 use Rattle.std.specs.Prelude.{All}
+use Rattle.std.specs.Int.{bit_at}
+use Rattle.std.specs.Int.Bits.{bit_or}
 use Rattle.std.specs.List.{list_any}
-use Rattle.std.proofs.lemmas.Bool.{cases_eq, cases_lt, eqb-true, lt-leb}
+use Rattle.std.proofs.lemmas.Bool.{cases_eq, cases_lt, cond-true, eqb-true, lt-leb}
 use Rattle.std.proofs.lemmas.Bool.Decides.{nat_tests}
-use Rattle.std.proofs.lemmas.List.{append-nil, at_drop_more, get_or-set_other, get_or-set_same, get_or_append_left, length-set, take_more}
+use Rattle.std.proofs.lemmas.List.{append-nil, get_or-set_other, get_or-set_same, get_or_append_left, length-drop, length-set, take_more}
 use Rattle.std.proofs.lemmas.List.Elements.{All-append, All-filter, All-nil, All-weaker, All-head, All-tail, filter-append, filter_passes}
 use Rattle.std.proofs.lemmas.List.Folds.{list_any_none}
 use Rattle.std.proofs.lemmas.List.Kept.{AllPairs-filter}
 use Rattle.std.proofs.lemmas.Map.Views.{any-filter_same}
+use Rattle.std.proofs.lemmas.Nat.Bits.{bit_at_or}
 use Rattle.std.proofs.Math.Dec.{leb-zero}
+use Rattle.std.proofs.Math.Nat.{pow-suc}
+use Rattle.std.proofs.Math.Pow.{pow_mono}
 use Rattle.std.proofs.Math.Seq.{get_or-append_seam}
 use Rattle.auction_terms.specs.declared.bids.Bid.{Bid}
 use Rattle.auction_terms.specs.Packages.{Lots, fits}
 use Rattle.presolve.specs.declared.order.SizedBid.{SizedBid}
 use Rattle.presolve.specs.declared.shelves.Shelf.{Shelf}
+use Rattle.presolve.specs.Masks.{mask_of}
 use Rattle.presolve.specs.Sizes.{AreRivals, TellsItsBid, beats, is_unbeaten}
-use Rattle.presolve.specs.Shelves.{AreGreatest, IsShelf, AreShelves, IsStocked, AreStocked, is_beaten_on, is_unbeaten_on}
+use Rattle.presolve.specs.Shelves.{AreGreatest, IsShelf, AreShelves, IsStocked, AreStocked, bare_places, is_unbeaten_on}
 use Rattle.presolve.proofs.FlagLaws.{none_over_peak}
 use Rattle.presolve.proofs.GreatestLaws.{below_last, greatest_more}
+use Rattle.presolve.proofs.MaskLaws.{first_bit, next_bit, none_at}
 
 abbrev at : ℕ → SizedBid → Bool
 at k s = s.place == k
@@ -138,11 +145,46 @@ none_on lots x n k shelf s less = list_any_none (beats lots x) shelf.bids.items 
     let below : slice_index x.package rival.place < shelf.least = subst (λ (p : ℕ). slice_index x.package p < shelf.least) (sym here) less in
     none_over_peak lots x rival (s.rivals.told i d within) (omega arith))
 
--- what a shelf settles
-pub shelf_more : (lots : Lots) (x : Bid) (shelves : List Shelf) (i : ℕ) (shelf : Shelf) → i < length shelves → shelf ≡ get_or shelves i shelf → is_beaten_on lots (drop i shelves) x ≡ (list_any (beats lots x) shelf.bids.items || is_beaten_on lots (drop (i + 1) shelves) x)
-shelf_more lots x shelves i shelf within e =
-    at_drop_more (λ (rest : List Shelf). is_beaten_on lots rest x) shelves i shelf within
-    ∙ ap (λ (s : Shelf). list_any (beats lots x) s.bids.items || is_beaten_on lots (drop (i + 1) shelves) x) (sym e)
+one_bit : (b : Bool) → cond b 1 0 ≤ 1
+one_bit true = omega arith
+one_bit false = omega arith
+
+-- a bit for each place
+pub bare_below : (shelves : List Shelf) → bare_places shelves < 2 ^ length shelves
+bare_below [] = omega arith
+bare_below (shelf ∷ shelves) = (let rest = bare_below shelves in let more = pow-suc 2 (length shelves) in let low = one_bit (shelf.least == 0) in omega arith)
+
+-- room for the bit of one more place, where it isn't among the 32
+pub bare_room : (k : ℕ) (shelves : List Shelf) → 1 ≤ k → length shelves ≤ 32 → bare_places (drop k shelves) < 2 ^ 31
+bare_room k shelves some few =
+    let below = bare_below (drop k shelves) in
+    let least = pow_mono {i = length (drop k shelves)} {j = 31} (let l = length-drop k shelves in omega arith) in
+    omega arith
+
+-- at a place that isn't bare every bid on the shelf has some
+least_some : (shelves : List Shelf) (k : ℕ) (d : Shelf) → k < length shelves → bit_at (bare_places shelves) k ≡ 0 → 0 < (slice_index_or shelves k d).least
+least_some [] k d within none = absurd (omega arith)
+least_some (shelf ∷ shelves) zero d within none = ⊎_elim
+    (λ (e : shelf.least ≡ 0).
+    let bit : ℕ = cond (shelf.least == 0) 1 0 in
+    let set : bit ≡ 1 = cond-true (shelf.least == 0) 1 0 (eq-eqb shelf.least 0 e) in
+    let own : bit_at (bare_places shelves * 2 + bit) 0 ≡ bit = first_bit (bare_places shelves) bit (one_bit (shelf.least == 0)) in
+    let unset : bit_at (bare_places shelves * 2 + bit) 0 ≡ 0 = none in
+    absurd (omega arith))
+    (λ (e : shelf.least ≢ 0). omega arith)
+    (cases_eq shelf.least 0)
+least_some (shelf ∷ shelves) (suc k) d within none = least_some shelves k d (omega arith) (sym (next_bit (bare_places shelves) (cond (shelf.least == 0) 1 0) k (one_bit (shelf.least == 0))) ∙ none)
+
+-- nor does one at a place that isn't bare, of whose category the bid has none
+pub none_passed : (lots : Lots) (x : SizedBid) (shelves : List Shelf) (k : ℕ) (d : Shelf) → TellsItsBid x → AreStocked (length x.bid.now.package) shelves → k < length shelves → bit_at (bit_or x.mask (bare_places shelves)) k ≡ 0
+    → list_any (beats lots x.bid.now) (slice_index_or shelves k d).bids.items ≡ false
+none_passed lots x shelves k d told stocked within none =
+    let count = stocked.count in
+    let both = bit_at_or x.mask (bare_places shelves) k in
+    let lacks : bit_at (mask_of x.bid.now.package) k ≡ 0 = rw (← told.mask) (omega arith) in
+    let mine = none_at x.bid.now.package k (omega arith) lacks in
+    let some = least_some shelves k d within (omega arith) in
+    none_on lots x.bid.now (length x.bid.now.package) k (slice_index_or shelves k d) (stocked.each k d (omega arith)) (omega arith)
 
 module _ (t : SizedBid → Bool) where
   any_cons_at : (s : SizedBid) (rest : List SizedBid) (b : Bool) → list_any t (cond b (s ∷ rest) rest) ≡ ((b && t s) || list_any t rest)

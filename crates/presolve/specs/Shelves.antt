@@ -1,5 +1,5 @@
 -- The bids of one form that fit, by the places of their peaks.
-use Rattle.std.specs.Prelude.{◌≡◌, ◌<◌, ◌≤◌, ◌==◌, ◌&&◌, ℕ, Bool, not, List, length, filter, slice_index_or, All, AllPairs}
+use Rattle.std.specs.Prelude.{◌≡◌, ◌+◌, ◌*◌, ◌<◌, ◌≤◌, ◌==◌, ◌&&◌, ℕ, Bool, if◌then◌else◌, not, List, [], ◌∷◌, length, filter, slice_index_or, All, AllPairs}
 use Rattle.std.specs.List.{AllZip, list_any}
 use Rattle.auction_terms.specs.declared.bids.Bid.{Bid}
 use Rattle.auction_terms.specs.Packages.{Lots, fits}
@@ -34,6 +34,11 @@ pub record IsStocked (n place : ℕ) (shelf : Shelf) : Type 0 where
 pub record AreStocked (n : ℕ) (shelves : List Shelf) : Type 0 where
   pub count : length shelves ≡ n
   pub each : (k : ℕ) (d : Shelf) → k < n → IsStocked n k (slice_index_or shelves k d)
+
+-- a mask of the places at which a bid on the shelf may have none: one bit for each, the lowest one for the first
+abbrev pub bare_places : List Shelf → ℕ
+bare_places [] = 0
+bare_places (shelf ∷ shelves) = bare_places shelves * 2 + (if shelf.least == 0 then 1 else 0)
 
 -- a bid on one of the shelves beats the bid
 abbrev pub is_beaten_on : Lots → List Shelf → Bid → Bool

@@ -43,9 +43,10 @@ fitting_from lots j (x ∷ form) =
     then record { size = size x.package; number = j; bid = x } ∷ fitting_from lots (j + 1) form
     else fitting_from lots (j + 1) form
 
--- it tells the amount of its bid, the categories of which it has some, and a place of its package with the quantity there
+-- it tells the amount of its bid, the size of its package, the categories of which it has some, and a place with the quantity there
 pub record TellsItsBid (s : SizedBid) : Type 0 where
   pub amount : s.amount ≡ s.bid.now.amount
+  pub size : s.size ≡ size s.bid.now.package
   pub mask : s.mask ≡ mask_of s.bid.now.package
   pub place : s.place < length s.bid.now.package
   pub most : s.most ≡ slice_index s.bid.now.package s.place

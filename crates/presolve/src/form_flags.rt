@@ -3,16 +3,13 @@
 ghost use Rattle.std.specs.Prelude.{◌≡◌, ◌≤◌, ◌<◌, false, not, nat_lt, is_some, drop, take, All, AllPairs, length, map, IfOk, IfSome, IsTrue};
 ghost use Rattle.std.specs.List.{list_any};
 ghost use Rattle.auction_terms.specs.Domination.{is_kept};
-ghost use Rattle.auction_terms.specs.Packages;
 ghost use Rattle.auction_terms.specs.Packages.{Lots, fits, is_within};
 ghost use Rattle.auction_terms.specs.Terms.{lots_in};
-ghost use Rattle.presolve.specs.Masks.{lacking_of};
-ghost use Rattle.presolve.specs.Shelves.{AreGreatest, AreStocked, is_beaten_on};
+ghost use Rattle.presolve.specs.Shelves.{AreGreatest, AreStocked, bare_places, is_beaten_on};
 ghost use Rattle.presolve.specs.Sizes.{AreRivals, TellsItsBid, beats};
 
-use crate::masks::lacking_of;
 use crate::order::{SizedBid, ordered};
-use crate::shelves::{Shelf, shelves};
+use crate::shelves::{Shelf, bare_places, shelves};
 use auction_terms::{Bid, Rules};
 use std::alloc::{AllocError, Global};
 
@@ -30,37 +27,35 @@ fn first_over(quantities: &[u16], others: &[u16]) -> Option<usize>
     None
 }
 
-// Whether the rival is worth less than the bid, has a category that the bid lacks, or has more at its peak. All is asked
-// at once, since none of it is likely enough to be worth a branch.
-fn is_out_of_reach(rival: &SizedBid<'_>, bid: &Bid, lacking: u32) -> bool
-    requires told { TellsItsBid rival.now }
-    requires sized { length rival.now.bid.now.package ≡ length bid.now.package }
-    requires lacking { lacking ≡ lacking_of bid.now.package }
-    ensures beyond { (lots : Lots) → IsTrue result → beats lots bid.now rival.now ≡ false }
+// Whether the rival is worth less than the bid, has a category that the bid has none of, or has more at its peak. All is
+// asked at once, since none of it is likely enough to be worth a branch.
+fn is_out_of_reach(rival: &SizedBid<'_>, bid: &SizedBid<'_>) -> bool
+    requires rival { TellsItsBid rival.now }
+    requires bid { TellsItsBid bid.now }
+    requires sized { length rival.now.bid.now.package ≡ length bid.now.bid.now.package }
+    ensures beyond { (lots : Lots) → IsTrue result → beats lots bid.now.bid.now rival.now ≡ false }
     ensures worth { result ≡ false → bid.now.amount ≤ rival.now.amount }
 {
-    let quantities = bid.package.quantities();
+    let quantities = bid.bid.package.quantities();
     (rival.amount < bid.amount)
-        | (rival.mask & lacking != 0)
+        | (rival.mask & bid.mask != rival.mask)
         | (rival.most > quantities[usize::from(rival.place)])
 }
 
-// Whether one of the bids that fit dominates this one, which has this size and lacks these categories. They stand by
-// rising size, so the first that isn't smaller ends the search; of those within reach, first the place is compared at
-// which the last one had more.
-fn is_beaten(rivals: &[SizedBid<'_>], bid: &Bid, size: u32, lacking: u32) -> bool
-    requires rivals { AreRivals (length bid.now.package) rivals.now }
-    requires size { size ≡ Packages.size bid.now.package }
-    requires lacking { lacking ≡ lacking_of bid.now.package }
-    ensures { (lots : Lots) → result ≡ list_any (beats lots bid.now) rivals.now }
+// Whether one of the bids that fit dominates this one. They stand by rising size, so the first that isn't smaller ends the
+// search; of those within reach, first the place is compared at which the last one had more.
+fn is_beaten(rivals: &[SizedBid<'_>], bid: &SizedBid<'_>) -> bool
+    requires rivals { AreRivals (length bid.now.bid.now.package) rivals.now }
+    requires bid { TellsItsBid bid.now }
+    ensures { (lots : Lots) → result ≡ list_any (beats lots bid.now.bid.now) rivals.now }
 {
-    let quantities = bid.package.quantities();
+    let quantities = bid.bid.package.quantities();
     let mut over = 0;
     for rival in rivals {
-        if rival.size >= size {
+        if rival.size >= bid.size {
             return false;
         }
-        if !is_out_of_reach(rival, bid, lacking) {
+        if !is_out_of_reach(rival, bid) {
             let others = rival.bid.package.quantities();
             if others[over] <= quantities[over] {
                 match first_over(others, quantities) {
@@ -74,15 +69,14 @@ fn is_beaten(rivals: &[SizedBid<'_>], bid: &Bid, size: u32, lacking: u32) -> boo
 }
 
 // Whether one of the bids on a shelf dominates this one. Up to the first one with an amount as great, all are worth less.
-fn is_beaten_at(shelf: &Shelf<'_>, bid: &Bid, size: u32, lacking: u32) -> bool
-    requires size { size ≡ Packages.size bid.now.package }
-    requires lacking { lacking ≡ lacking_of bid.now.package }
-    requires rivals { AreRivals (length bid.now.package) shelf.now.bids.items }
+fn is_beaten_at(shelf: &Shelf<'_>, bid: &SizedBid<'_>) -> bool
+    requires rivals { AreRivals (length bid.now.bid.now.package) shelf.now.bids.items }
     requires greatest { AreGreatest shelf.now.bids.items shelf.now.greatest.items }
-    ensures { (lots : Lots) → result ≡ list_any (beats lots bid.now) shelf.now.bids.items }
+    requires bid { TellsItsBid bid.now }
+    ensures { (lots : Lots) → result ≡ list_any (beats lots bid.now.bid.now) shelf.now.bids.items }
 {
     let first = first_as_great(&shelf.greatest, bid.amount);
-    is_beaten(bids_from(&shelf.bids, first), bid, size, lacking)
+    is_beaten(bids_from(&shelf.bids, first), bid)
 }
 
 fn bids_from<'s, 'b>(bids: &'s [SizedBid<'b>], first: usize) -> &'s [SizedBid<'b>]
@@ -110,19 +104,22 @@ fn first_as_great(rising: &[u64], amount: u64) -> usize
 }
 
 // Whether one of the bids on the shelves dominates this one. A shelf is passed over where the bid has less of its
-// category than any bid on it.
-fn is_beaten_on(shelves: &[Shelf<'_>], bid: &Bid) -> bool
-    requires { AreStocked (length bid.now.package) shelves.now }
-    ensures { (lots : Lots) → result ≡ is_beaten_on lots shelves.now bid.now }
+// category than any bid on it, so that only the shelves of the bid's own categories and the bare ones are looked at.
+fn is_beaten_on(shelves: &[Shelf<'_>], bare: u32, bid: &SizedBid<'_>) -> bool
+    requires shelves { AreStocked (length bid.now.bid.now.package) shelves.now }
+    requires bare { bare ≡ bare_places shelves.now }
+    requires bid { TellsItsBid bid.now }
+    ensures { (lots : Lots) → result ≡ is_beaten_on lots shelves.now bid.now.bid.now }
 {
-    let size = bid.package.size();
-    let quantities = bid.package.quantities();
-    let lacking = lacking_of(quantities);
-    for place in 0..shelves.len() {
+    let quantities = bid.bid.package.quantities();
+    let mut left = bid.mask | bare;
+    while left != 0 {
+        let place = left.trailing_zeros() as usize;
         let shelf = &shelves[place];
-        if shelf.least <= quantities[place] && is_beaten_at(shelf, bid, size, lacking) {
+        if shelf.least <= quantities[place] && is_beaten_at(shelf, bid) {
             return true;
         }
+        left &= left - 1;
     }
     false
 }
@@ -140,9 +137,10 @@ pub(crate) fn flags_of_form(
 {
     let rivals = ordered(alloc, rules, bids)?;
     let shelves = shelves(alloc, &rivals, rules.categories().len())?;
+    let bare = bare_places(&shelves);
     let mut flags = vec![in alloc; false; bids.len()]?;
     for rival in &rivals {
-        if !is_beaten_on(&shelves, rival.bid) {
+        if !is_beaten_on(&shelves, bare, rival) {
             flags[usize::from(rival.number) - 1] = true;
         }
     }

@@ -1,7 +1,7 @@
 //! Masks of the categories of a package: one bit for each, the lowest one for the first.
 
 ghost use Rattle.std.specs.Prelude.{◌≡◌, ◌≤◌, length};
-ghost use Rattle.presolve.specs.Masks.{lacking_of, mask_of};
+ghost use Rattle.presolve.specs.Masks.{mask_of};
 
 // The categories of which there are some.
 pub(crate) fn mask_of(quantities: &[u16]) -> u32
@@ -11,18 +11,6 @@ pub(crate) fn mask_of(quantities: &[u16]) -> u32
     let mut mask = 0;
     for place in (0..quantities.len()).rev() {
         mask = mask * 2 + u32::from(quantities[place] != 0);
-    }
-    mask
-}
-
-// The categories of which there are none.
-pub(crate) fn lacking_of(quantities: &[u16]) -> u32
-    requires { length quantities.now ≤ 32 }
-    ensures { result ≡ lacking_of quantities.now }
-{
-    let mut mask = 0;
-    for place in (0..quantities.len()).rev() {
-        mask = mask * 2 + u32::from(quantities[place] == 0);
     }
     mask
 }

@@ -1,7 +1,7 @@
 //! The bids of a form that fit, by the places of their peaks.
 
-ghost use Rattle.std.specs.Prelude.{List, [], ◌∷◌, ◌++◌, IfOk};
-ghost use Rattle.presolve.specs.Shelves.{AreShelves, IsShelf};
+ghost use Rattle.std.specs.Prelude.{◌≡◌, ◌≤◌, List, [], ◌∷◌, ◌++◌, length, IfOk};
+ghost use Rattle.presolve.specs.Shelves.{AreShelves, IsShelf, bare_places};
 
 use crate::order::SizedBid;
 use std::alloc::{AllocError, Global};
@@ -58,4 +58,17 @@ pub(crate) fn shelves<'b>(
         }
     }
     Ok(shelves)
+}
+
+// A mask of the bare places: there a bid on the shelf has none of the category, so that every bid has as much. Only an
+// empty package makes a place bare, and forms have none, so no bid is asked about a shelf for nothing.
+pub(crate) fn bare_places(shelves: &[Shelf<'_>]) -> u32
+    requires { length shelves.now ≤ 32 }
+    ensures { result ≡ bare_places shelves.now }
+{
+    let mut mask = 0;
+    for place in (0..shelves.len()).rev() {
+        mask = mask * 2 + u32::from(shelves[place].least == 0);
+    }
+    mask
 }

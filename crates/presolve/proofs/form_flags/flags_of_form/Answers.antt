@@ -5,7 +5,8 @@ use Rattle.auction_terms.specs.Terms.{lots_in}
 use Rattle.std.proofs.lemmas.List.{length-set}
 use Rattle.presolve.specs.declared.order.SizedBid.{SizedBid}
 use Rattle.presolve.specs.declared.shelves.Shelf.{Shelf}
-use Rattle.presolve.specs.Shelves.{AreShelves, is_beaten_on}
+use Rattle.presolve.specs.Shelves.{AreShelves, bare_places, is_beaten_on}
+use Rattle.presolve.specs.Sizes.{TellsItsBid}
 use Rattle.presolve.proofs.FlagLaws.{all_kept_by, are_rivals}
 use Rattle.presolve.proofs.NumberLaws.{after_failing, after_passing, are_numbered, flags_by_number, none_left_over}
 use Rattle.presolve.proofs.ShelfLaws.{all_on, stocked}
@@ -27,7 +28,11 @@ is_beaten_on-requires c =
     let at : c.rival-item.result ≡ slice_index_or items c.loop-rival.rival-index c.rival-item.result = rw c.deref-rival-items.ensures.value at c.rival-item.is in
     let small : c.loop-rival.rival-index < length items = rw c.deref-rival-items.ensures.value at c.loop-rival-test.true in
     let size : length c.rival-item.result.bid.now.package ≡ length categories = subst (λ (s : SizedBid). length s.bid.now.package ≡ length categories) (sym at) (rivals.sized c.loop-rival.rival-index c.rival-item.result small) in
-    rw (size, c.deref-in-loop-rival.ensures.value) stock
+    record {
+      shelves = rw (size, c.deref-in-loop-rival.ensures.value) stock;
+      bare = c.bare_places-bare.ensures ∙ ap bare_places (c.deref-2.ensures.value ∙ sym c.deref-in-loop-rival.ensures.value);
+      bid = subst TellsItsBid (sym at) (rivals.told c.loop-rival.rival-index c.rival-item.result small);
+    }
 
 pub overflow_sub-from : goal.overflow_sub-from
 overflow_sub-from c =

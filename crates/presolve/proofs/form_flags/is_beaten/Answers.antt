@@ -7,14 +7,14 @@ use Rattle.presolve.proofs.FlagLaws.{beaten_at, none_left, none_over, none_uncov
 use Rattle.presolve.proofs.form_flags.is_beaten.Goals as goal
 use Rattle.presolve.proofs.form_flags.is_beaten.Goals.{then-not-is_out_of_reach+then-others-over+in-Some, then-not-is_out_of_reach+else-others-over, else-not-is_out_of_reach}
 
-pub returns-then-rival-size : goal.returns-then-rival-size
-returns-then-rival-size c lots =
-    let low = subst (λ (n : ℕ). n ≤ c.rival-item.result.size) c.requires.size c.if-rival-size.true in
-    sym (none_left lots c.args.bid.now c.args.rivals.now c.loop-rival.rival-index c.rival-item.result c.loop-rival-test.true c.rival-item.is low c.requires.rivals.rising) ∙ c.loop-rival.invariant.unbeaten lots
+pub returns-then-rival-bid : goal.returns-then-rival-bid
+returns-then-rival-bid c lots =
+    let low = subst (λ (n : ℕ). n ≤ c.rival-item.result.size) c.requires.bid.size c.if-rival-bid.true in
+    sym (none_left lots c.args.bid.now.bid.now c.args.rivals.now c.loop-rival.rival-index c.rival-item.result c.loop-rival-test.true c.rival-item.is low c.requires.rivals.rising) ∙ c.loop-rival.invariant.unbeaten lots
 
 pub loop-rival-preserved : goal.loop-rival-preserved
 loop-rival-preserved c =
-    let bid = c.args.bid.now in
+    let bid = c.args.bid.now.bid.now in
     let rivals = c.args.rivals.now in
     let rival = c.rival-item.result in
     let at = c.loop-rival.rival-index in
@@ -44,11 +44,12 @@ loop-rival-preserved c =
 
 pub returns-in-None : goal.returns-in-None
 returns-in-None c lots =
-    let bid = c.args.bid.now in
+    let bid = c.args.bid.now.bid.now in
     let rival = c.rival-item.result in
     let at = c.loop-rival.rival-index in
     let told : TellsItsBid rival = subst TellsItsBid (sym c.rival-item.is) (c.requires.rivals.told at rival c.loop-rival-test.true) in
-    let smaller : rival.size < size bid.package = subst (λ (n : ℕ). rival.size < n) c.requires.size c.if-rival-size.false in
-    let worth = c.is_out_of_reach.ensures.worth c.if-not-is_out_of_reach.true in
+    let smaller : rival.size < size bid.package = subst (λ (n : ℕ). rival.size < n) c.requires.bid.size c.if-rival-bid.false in
+    let amount = c.requires.bid.amount in
+    let worth : bid.amount ≤ rival.amount = (let reach = c.is_out_of_reach.ensures.worth c.if-not-is_out_of_reach.true in omega arith) in
     let within : is_within rival.bid.now.package bid.package ≡ true = rw (← c.quantities-others.ensures.quantities, ← c.quantities-quantities.ensures.quantities) (not-false (is_within c.quantities-others.result.now c.quantities-quantities.result.now) (sym c.in-None.ensures.some)) in
     sym (beaten_at lots bid c.args.rivals.now at rival c.loop-rival-test.true c.rival-item.is told smaller worth within) ∙ c.loop-rival.invariant.unbeaten lots

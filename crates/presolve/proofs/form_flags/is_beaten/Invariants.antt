@@ -7,6 +7,6 @@ use Rattle.presolve.proofs.form_flags.is_beaten.Given as goal
 -- none of those so far beats the bid
 abbrev pub invariant-loop-rival : goal.invariant-loop-rival
 invariant-loop-rival l = record {
-  unbeaten : (lots : Lots) → list_any (beats lots l.bid) (drop l.rival-index l.rivals) ≡ list_any (beats lots l.bid) l.rivals;
+  unbeaten : (lots : Lots) → list_any (beats lots l.bid.bid.now) (drop l.rival-index l.rivals) ≡ list_any (beats lots l.bid.bid.now) l.rivals;
   over : l.over < length l.quantities;
 }

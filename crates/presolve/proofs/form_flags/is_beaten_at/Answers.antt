@@ -18,22 +18,21 @@ bids_from-requires c =
 pub is_beaten-requires : goal.is_beaten-requires
 is_beaten-requires c =
     let shelf = c.args.shelf.now in
-    let n = length c.args.bid.now.package in
+    let n = length c.args.bid.now.bid.now.package in
     let first = c.first_as_great-first.result in
     let lent = c.bids_from.ensures ∙ ap (λ (xs : List SizedBid). drop first xs) c.deref-2.ensures.value in
     record {
       rivals = subst (λ (xs : List SizedBid). AreRivals n xs) (sym lent) (rivals_from n first shelf.bids.items c.requires.rivals);
-      size = c.requires.size;
-      lacking = c.requires.lacking;
+      bid = c.requires.bid;
     }
 
 pub returns : goal.returns
 returns c lots =
     let shelf = c.args.shelf.now in
-    let bid = c.args.bid.now in
+    let bid = c.args.bid.now.bid.now in
     let first = c.first_as_great-first.result in
     let lent = c.bids_from.ensures ∙ ap (λ (xs : List SizedBid). drop first xs) c.deref-2.ensures.value in
     let within : first ≤ length shelf.greatest.items = subst (λ (xs : List ℕ). first ≤ length xs) c.deref.ensures.value c.first_as_great-first.ensures.within in
-    let less : All (λ amount. amount < bid.amount) (take first shelf.greatest.items) = subst (λ (xs : List ℕ). All (λ amount. amount < bid.amount) (take first xs)) c.deref.ensures.value c.first_as_great-first.ensures.less in
+    let less : All (λ amount. amount < bid.amount) (take first shelf.greatest.items) = rw (← c.requires.bid.amount) (subst (λ (xs : List ℕ). All (λ amount. amount < c.args.bid.now.amount) (take first xs)) c.deref.ensures.value c.first_as_great-first.ensures.less) in
     c.is_beaten.ensures lots ∙ ap (list_any (beats lots bid)) lent
     ∙ none_up_to lots bid shelf.bids.items shelf.greatest.items first c.requires.rivals.told c.requires.greatest.each within less
