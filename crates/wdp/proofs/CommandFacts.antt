@@ -4,13 +4,17 @@ use Rattle.std.specs.Prelude.{IfErr, IfSome, ⊤}
 use Rattle.std.specs.Io.KnownBytes.{Consumes, IsAtEnd}
 use Rattle.std.specs.declared.alloc.Global.{Global}
 use Rattle.std.proofs.lemmas.Bool.Decides.{leb_tells}
+use Rattle.bid_desk.specs.Closing.{Closing, IsClosing}
+use Rattle.bid_forms.specs.Offers.{Offers}
 use Rattle.mps_reader.specs.Answer.{IsRead}
 use Rattle.mps_reader.specs.declared.mps_fault.MpsFault.{MpsFault}
 use Rattle.program_rows.specs.Meaning.{meaning}
 use Rattle.program_rows.specs.Program.{Table}
 use Rattle.program_rows.specs.declared.fault.FaultKind.TheVariants as kind
+use Rattle.wdp.specs.InputTexts.{TellForms, TellsGroups, TellsRules}
 use Rattle.wdp.specs.Parts.{Tells}
-use Rattle.wdp.specs.Refusals.{IsRefused, IsUnread, Refuses, TellsParts, by_parts_count, by_text, counted_as, groups_taken, miscounted, program_in, solutions_taken, takes_parts}
+use Rattle.wdp.specs.Submissions.{AreSubmitted}
+use Rattle.wdp.specs.Refusals.{IsAccepted, IsRefused, IsUnread, IsUnwritten, Refuses, TellsAuction, TellsParts, by_memory, by_parts_count, by_text, by_write, counted_as, groups_taken, miscounted, program_in, solutions_taken, takes_parts}
 use Rattle.wdp.specs.declared.input.InputFault.{InputFault}
 use Rattle.wdp.specs.declared.input.InputFault.TheVariants as input_fault
 use Rattle.wdp.specs.declared.parts.Parts.{Parts}
@@ -77,3 +81,32 @@ pub request-refused : {T : Type 0} (request asked : Request) (left left' : Optio
 request-refused request asked left left' failures failures' text input (Ok x) is same read refused = tt
 request-refused request asked left left' failures failures' text input (Err r) is same read refused =
     subst (λ q. IsRefused q left left' failures failures' r) (sym is) (by_text input (subst (λ bytes. Consumes left left' bytes × IsAtEnd left') (sym same) read) refused)
+
+-- what is told of an auction, together
+pub auction-told : (asked : Request) (input : List ℕ) (parts : Parts) (book : Closing) (groups : List (List ℕ)) → TellsParts asked input parts → IsClosing book → TellsRules parts.rules.items book.rules
+    → (forms : List Offers) × TellForms book.rules parts.forms.items forms × AreSubmitted forms book → TellsGroups book.rules parts.groups.items groups → TellsAuction asked input parts book groups
+auction-told asked input parts book groups told settled rules forms known = record {
+  parts_are = told;
+  settled = settled;
+  terms_are = record { forms = forms.0; rules_are = rules; forms_are = forms.1 };
+  submitted = forms.2;
+  groups_are = known;
+}
+
+-- what is accepted and isn't written is refused for that
+pub unwritten : (failures failures' : ℕ) (asked : Request) (input : List ℕ) (r : Refusal) → IsAccepted asked input → IsUnwritten failures failures' r → Refuses failures failures' asked input r
+unwritten failures failures' asked input (refusal.Write f) accepted failed = by_write accepted failed
+unwritten failures failures' asked input refusal.OutOfMemory accepted failed = by_memory
+unwritten failures failures' asked input (refusal.Input f) accepted failed = absurd failed
+unwritten failures failures' asked input (refusal.Parts f) accepted failed = absurd failed
+unwritten failures failures' asked input (refusal.PartCount part) accepted failed = absurd failed
+unwritten failures failures' asked input (refusal.Rules f) accepted failed = absurd failed
+unwritten failures failures' asked input (refusal.Form form f) accepted failed = absurd failed
+unwritten failures failures' asked input (refusal.Groups f) accepted failed = absurd failed
+unwritten failures failures' asked input (refusal.Round f) accepted failed = absurd failed
+unwritten failures failures' asked input (refusal.NoGroup group) accepted failed = absurd failed
+unwritten failures failures' asked input refusal.FirstGroupNotEmpty accepted failed = absurd failed
+unwritten failures failures' asked input (refusal.Program f) accepted failed = absurd failed
+unwritten failures failures' asked input (refusal.Solution n f) accepted failed = absurd failed
+unwritten failures failures' asked input (refusal.BoundBroken n name) accepted failed = absurd failed
+unwritten failures failures' asked input (refusal.RowBroken n name) accepted failed = absurd failed

@@ -1,6 +1,6 @@
 -- What is refused by one step is refused by what is made of it.
 use Rattle.std.proofs.Common.{◌≡◌, ◌<◌, ◌≤◌, ℕ, List, Result, Ok, Err, length, refl, sym, subst, inl, inr, arith}
-use Rattle.std.specs.Prelude.{IfErr, IsErrAnd}
+use Rattle.std.specs.Prelude.{IfErr, IsErrAnd, OnOk}
 use Rattle.std.proofs.lemmas.Bool.Decides.{leb_tells}
 use Rattle.auction_terms.specs.GroupsText as groups_text
 use Rattle.auction_terms.specs.RulesText as rules_text
@@ -16,6 +16,16 @@ use Rattle.wdp.specs.InputTexts.{groups_in, rules_in}
 pub if-err-of : {T E : Type 0} (P : E → Type 0) (r : Result T E) (e : E) → IsErrAnd r (λ y. y ≡ e) → P e → IfErr r P
 if-err-of P (Ok x) e is holds = tt
 if-err-of P (Err y) e is holds = subst P (sym is) holds
+
+-- what follows of the error of a result
+pub if-err-weaker : {T E : Type 0} (P Q : E → Type 0) (r : Result T E) → ((e : E) → P e → Q e) → IfErr r P → IfErr r Q
+if-err-weaker P Q (Ok x) weaker holds = tt
+if-err-weaker P Q (Err e) weaker holds = weaker e holds
+
+-- what follows of two facts where a result is there
+pub on-ok-both : {T E P Q S : Type 0} (r : Result T E) → (P → Q → S) → OnOk r P → OnOk r Q → OnOk r S
+on-ok-both (Ok x) follows p q = follows p q
+on-ok-both (Err e) follows p q = tt
 
 abbrev no_rules : RulesFault → Result Terms RulesFault
 no_rules f = Err f

@@ -85,6 +85,11 @@ pub data RefusesTerms (parts : Parts) : Refusal → Type 0 where
   by_rules : (f : RulesFault) → FaultsRules parts.rules.items f → RefusesTerms parts (refusal.Rules f)
   by_forms : (t : Terms) (r : Refusal) → TellsRules parts.rules.items t → RefusesForms t parts.forms.items r → RefusesTerms parts r
 
+-- a book is refused by its terms; or, those being told, by the round
+pub data RefusesBook (parts : Parts) : Refusal → Type 0 where
+  by_book_terms : (r : Refusal) → RefusesTerms parts r → RefusesBook parts r
+  by_book_round : (t : Terms) (f : RoundFault) → TellsTerms parts t → RefusesBook parts (refusal.Round f)
+
 -- an auction is refused by its terms; or, those being told, by how many parts of groups there are; or by the groups; or, all being told, by the round
 pub data RefusesAuction (parts : Parts) : Refusal → Type 0 where
   by_terms : (r : Refusal) → RefusesTerms parts r → RefusesAuction parts r
@@ -156,6 +161,12 @@ pub record TellsAuction (asked : Request) (input : List ℕ) (parts : Parts) (bo
 abbrev pub program_in : List ℕ → Result Table (ℕ × FaultKind)
 program_in text = if nat_lt 67108864 (length text) then Err (0, kind.TooLarge) else meaning text
 
+-- what is accepted isn't written: a put failed, or memory was short
+abbrev pub IsUnwritten : ℕ → ℕ → Refusal → Type 0
+IsUnwritten failures failures' (refusal.Write f) = HasFailed failures failures'
+IsUnwritten failures failures' refusal.OutOfMemory = ⊤
+IsUnwritten failures failures' r = ⊥
+
 -- what a command reads is without a fault
 abbrev pub IsAccepted : Request → List ℕ → Type 0
 IsAccepted request.Text input = (parts : Parts) × (t : Terms) × TellsParts request.Text input parts × TellsTerms parts t
@@ -178,9 +189,8 @@ pub data Refuses (failures failures' : ℕ) : Request → List ℕ → Refusal �
   by_parts : {asked : Request} {input : List ℕ} {f : PartFault} → takes_parts asked ≡ true → Tells (Err f) input → Refuses failures failures' asked input (refusal.Parts f)
   by_parts_count : {asked : Request} {input : List ℕ} {part : CountedPart} → (parts : Parts) → takes_parts asked ≡ true → Tells (Ok parts) input
       → miscounted (groups_taken asked) (solutions_taken asked) parts ≡ Some part → Refuses failures failures' asked input (refusal.PartCount part)
-  -- the terms, where no groups are taken, or the auction
-  by_text_terms : {input : List ℕ} {r : Refusal} → (parts : Parts) → TellsParts request.Text input parts → RefusesTerms parts r → Refuses failures failures' request.Text input r
-  by_text_round : {input : List ℕ} {f : RoundFault} → (parts : Parts) (t : Terms) → TellsParts request.Text input parts → TellsTerms parts t → Refuses failures failures' request.Text input (refusal.Round f)
+  -- the book, where no groups are taken, or the auction
+  by_book : {input : List ℕ} {r : Refusal} → (parts : Parts) → TellsParts request.Text input parts → RefusesBook parts r → Refuses failures failures' request.Text input r
   by_auction : {asked : Request} {input : List ℕ} {r : Refusal} → (parts : Parts) → takes_groups asked ≡ true → TellsParts asked input parts → RefusesAuction parts r
       → Refuses failures failures' asked input r
   -- there is no group k, or its solution is no point

@@ -3,7 +3,7 @@
 ghost use Rattle.std.specs.Prelude.{IfErr, IfOk, List};
 ghost use Rattle.bid_forms.specs.Offers.{Offers};
 ghost use Rattle.wdp.specs.InputTexts.{TellForms, TellsGroups, TellsRules};
-ghost use Rattle.wdp.specs.Refusals.{RefusesAuction};
+ghost use Rattle.wdp.specs.Refusals.{RefusesAuction, RefusesBook};
 ghost use Rattle.wdp.specs.Submissions.{AreSubmitted};
 
 use crate::parts::Parts;
@@ -41,4 +41,17 @@ pub fn read_auction<R: Threads + Wait + Sync + AllocGlobal>(
     let groups = read_groups(alloc, *text, &rules)?;
     let book = close_round(rt, rules, forms)?;
     Ok(Auction { book, groups })
+}
+
+/// Reads the rules and the forms, and runs the round.
+pub fn read_book<R: Threads + Wait + Sync + AllocGlobal>(
+    rt: &R,
+    parts: &Parts<'_>,
+) -> Result<ClosedBook, Refusal>
+    ensures rules { IfOk result (λ book. TellsRules parts.now.rules.items book.rules) }
+    ensures forms { IfOk result (λ book. (forms : List Offers) × TellForms book.rules parts.now.forms.items forms × AreSubmitted forms book) }
+    ensures refuses { IfErr result (RefusesBook parts.now) }
+{
+    let (rules, forms) = read_terms(rt, rt.alloc(), parts)?;
+    Ok(close_round(rt, rules, forms)?)
 }

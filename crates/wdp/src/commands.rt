@@ -1,25 +1,26 @@
 //! The commands.
 
-ghost use Rattle.std.specs.Prelude.{◌≡◌, ◌≤◌, ◌-◌, [], IfErr, IfOk, OnErr, OnOk, false, length, map, slice_index_or, vec_len};
+ghost use Rattle.std.specs.Io.KnownBytes.{Appends};
+ghost use Rattle.std.specs.Prelude.{◌≡◌, ◌≤◌, ◌-◌, [], ◌∷◌, IfErr, IfOk, List, OnErr, OnOk, ℕ, false, length, map, slice_index_or, true, vec_len};
 ghost use Rattle.auction_terms.specs.Allocations.{IsFeasible};
 ghost use Rattle.auction_terms.specs.Terms.{lots_in};
 ghost use Rattle.bid_desk.specs.Closing.{book_of};
 ghost use Rattle.group_compiler.specs.Compiled.{compiled, program_without};
+ghost use Rattle.mps_text.specs.Text.{text};
 ghost use Rattle.wdp.specs.Output.{IsQuietUnlessFailed};
-ghost use Rattle.wdp.specs.Outputs.{IsAnswered, WritesPrograms, WritesReport, WritesSizes, WritesText, WritesWinners};
-ghost use Rattle.wdp.specs.Refusals.{IsRefused, Refuses, RefusesSolution, RefusesSolutions};
+ghost use Rattle.wdp.specs.Outputs.{IsAnswered, IsFaithfulWithout, WritesPrograms, WritesReport, WritesSizes, WritesText, WritesWinners};
+ghost use Rattle.wdp.specs.Refusals.{IsRefused, IsUnwritten, Refuses, RefusesSolution, RefusesSolutions, TellsAuction, TellsParts, groups_taken, solutions_taken, takes_parts};
 ghost use Rattle.wdp.specs.Requests.{IsWithinLimits};
 ghost use Rattle.wdp.specs.Won.{AreWon, IsWon};
 
-use crate::auction::{Auction, read_auction};
+use crate::auction::{Auction, read_auction, read_book};
 use crate::compile_run::run_compile;
 use crate::input::read_input;
-use crate::parts::split_parts;
-use crate::reading::{Count, count_parts, read_terms};
+use crate::parts::{Parts, split_parts};
+use crate::reading::{Count, count_parts};
 use crate::refusal::{CountedPart, Refusal};
 use crate::report_run::allocations_won;
 use crate::request::Request;
-use crate::round::close_round;
 use crate::run_fault::RunFault;
 use crate::sizes::write_sizes;
 use crate::winning::allocation_won;
@@ -31,7 +32,6 @@ use mps_text::{Sink, WriteFault};
 use outcome::{Allocation, report, write_allocation};
 use std::alloc::Global;
 use std::io::Read;
-use std::mem;
 use std::sync::Wait;
 use std::thread::Threads;
 
@@ -57,6 +57,35 @@ pub fn answer<R: Threads + Wait + Sync + AllocGlobal, I: Read, S: Sink>(
     }
 }
 
+// The parts of a text, as many as the request takes.
+fn parts_for<'t>(alloc: Global, request: Request, text: &'t [u8]) -> Result<Parts<'t>, Refusal>
+    ensures told { IfOk result (TellsParts request text.now) }
+    ensures refuses { takes_parts request ≡ true → IfErr result (λ r. (failures failures' : ℕ) → Refuses failures failures' request text.now r) }
+{
+    let parts = split_parts(alloc, text)?;
+    count_parts(&parts, groups_taken(&request), solutions_taken(&request))?;
+    Ok(parts)
+}
+
+fn groups_taken(request: &Request) -> usize
+    ensures { result ≡ groups_taken request.now }
+{
+    match request {
+        Request::Text => 0,
+        _ => 1,
+    }
+}
+
+fn solutions_taken(request: &Request) -> Count
+    ensures { result ≡ solutions_taken request.now }
+{
+    match request {
+        Request::Map { group: _ } => Count::Exactly(1),
+        Request::Report { workers: _ } => Count::PerGroup,
+        _ => Count::Exactly(0),
+    }
+}
+
 // The programs of all groups.
 fn compile<R: Threads + Wait + Sync + AllocGlobal, S: Sink>(
     rt: &R,
@@ -70,15 +99,27 @@ fn compile<R: Threads + Wait + Sync + AllocGlobal, S: Sink>(
     ensures refused { OnErr result (IsQuietUnlessFailed (S.taken out.old) (S.taken out.new) (S.failures out.old) (S.failures out.new)) }
     ensures refuses { IfErr result (Refuses (S.failures out.old) (S.failures out.new) (Request.Compile workers) text.now) }
 {
-    let alloc: Global = rt.alloc();
-    let parts = split_parts(alloc, text)?;
-    count_parts(&parts, 1, Count::Exactly(0))?;
-    let Auction { book, groups } = read_auction(rt, &parts)?;
-    match run_compile(rt, alloc, &book, &groups, workers, &OpenGate, out) {
-        Ok(()) => {
-            keep_to_the_end(book);
-            Ok(())
-        }
+    let parts = parts_for(rt.alloc(), Request::Compile { workers }, text)?;
+    let auction = read_auction(rt, &parts)?;
+    write_programs_of(rt, &auction, workers, out)
+}
+
+// The programs of all groups of an auction, which some input tells.
+fn write_programs_of<R: Threads + Wait + Sync + AllocGlobal, S: Sink>(
+    rt: &R,
+    auction: &Auction,
+    workers: usize,
+    out: &mut S,
+) -> Result<(), Refusal>
+    requires some { 1 ≤ workers }
+    requires few { workers ≤ 64 }
+    ensures answer { (input : List ℕ) (parts : Parts) → TellsAuction (Request.Compile workers) input parts auction.now.book auction.now.groups → OnOk result (WritesPrograms input (S.taken out.old) (S.taken out.new)) }
+    ensures refused { OnErr result (IsQuietUnlessFailed (S.taken out.old) (S.taken out.new) (S.failures out.old) (S.failures out.new)) }
+    ensures refuses { (input : List ℕ) (parts : Parts) → TellsAuction (Request.Compile workers) input parts auction.now.book auction.now.groups → IfErr result (Refuses (S.failures out.old) (S.failures out.new) (Request.Compile workers) input) }
+{
+    let Auction { book, groups } = auction;
+    match run_compile(rt, rt.alloc(), book, groups, workers, &OpenGate, out) {
+        Ok(()) => Ok(()),
         Err(RunFault::OutOfMemory { written: _ }) => Err(Refusal::OutOfMemory),
         Err(RunFault::Sink { group: _, written }) => {
             Err(Refusal::Write(WriteFault::Sink { written }))
@@ -107,21 +148,27 @@ fn write_text<R: Threads + Wait + Sync + AllocGlobal, S: Sink>(
     ensures refused { OnErr result (IsQuietUnlessFailed (S.taken out.old) (S.taken out.new) (S.failures out.old) (S.failures out.new)) }
     ensures refuses { IfErr result (Refuses (S.failures out.old) (S.failures out.new) Request.Text text.now) }
 {
-    let alloc: Global = rt.alloc();
-    let parts = split_parts(alloc, text)?;
-    count_parts(&parts, 0, Count::Exactly(0))?;
-    let (rules, forms) = read_terms(rt, alloc, &parts)?;
-    let book = close_round(rt, rules, forms)?;
-    let groups = Groups::only_empty(alloc)?;
-    let compiled = compile_one(rt, alloc, &book, &groups, 1)?;
-    compiled.write_to(out)?;
-    keep_to_the_end(book);
-    Ok(())
+    let parts = parts_for(rt.alloc(), Request::Text, text)?;
+    let book = read_book(rt, &parts)?;
+    write_program_of_all(rt, &book, out)
 }
 
-// Leaves a book to the end of the process: giving its many small blocks back one by one takes a tenth of a large run.
-fn keep_to_the_end(book: ClosedBook) {
-    mem::forget(book);
+// The text of the program with nobody left out.
+fn write_program_of_all<R: Threads + Wait + Sync + AllocGlobal, S: Sink>(
+    rt: &R,
+    book: &ClosedBook,
+    out: &mut S,
+) -> Result<(), Refusal>
+    ensures written { OnOk result (Appends (S.taken out.old) (S.taken out.new) (text (program_without book.now []))) }
+    ensures faithful { OnOk result (IsFaithfulWithout book.now []) }
+    ensures refused { OnErr result (IsQuietUnlessFailed (S.taken out.old) (S.taken out.new) (S.failures out.old) (S.failures out.new)) }
+    ensures refuses { IfErr result (IsUnwritten (S.failures out.old) (S.failures out.new)) }
+{
+    let alloc: Global = rt.alloc();
+    let groups = Groups::only_empty(alloc)?;
+    let compiled = compile_one(rt, alloc, book, &groups, 1)?;
+    compiled.write_to(out)?;
+    Ok(())
 }
 
 // What the solution of a group's program wins.
@@ -136,18 +183,33 @@ fn map<R: Threads + Wait + Sync + AllocGlobal, S: Sink>(
     ensures refused { OnErr result (IsQuietUnlessFailed (S.taken out.old) (S.taken out.new) (S.failures out.old) (S.failures out.new)) }
     ensures refuses { IfErr result (Refuses (S.failures out.old) (S.failures out.new) (Request.Map k) text.now) }
 {
-    let alloc: Global = rt.alloc();
-    let parts = split_parts(alloc, text)?;
-    count_parts(&parts, 1, Count::Exactly(1))?;
+    let parts = parts_for(rt.alloc(), Request::Map { group: k }, text)?;
     let [solution] = parts.solutions.as_slice() else {
         return Err(Refusal::PartCount(CountedPart::Solutions));
     };
-    let Auction { book, groups } = read_auction(rt, &parts)?;
+    let auction = read_auction(rt, &parts)?;
+    write_winners(rt, &auction, k, *solution, out)
+}
+
+// What the solution wins without group k of an auction, which some input tells with that solution.
+fn write_winners<R: Threads + Wait + Sync + AllocGlobal, S: Sink>(
+    rt: &R,
+    auction: &Auction,
+    k: usize,
+    solution: &[u8],
+    out: &mut S,
+) -> Result<(), Refusal>
+    requires { 1 ≤ k }
+    ensures answer { (input : List ℕ) (parts : Parts) → TellsAuction (Request.Map k) input parts auction.now.book auction.now.groups → parts.solutions.items ≡ solution.entry ∷ [] → OnOk result (WritesWinners k input (S.taken out.old) (S.taken out.new)) }
+    ensures refused { OnErr result (IsQuietUnlessFailed (S.taken out.old) (S.taken out.new) (S.failures out.old) (S.failures out.new)) }
+    ensures refuses { (input : List ℕ) (parts : Parts) → TellsAuction (Request.Map k) input parts auction.now.book auction.now.groups → parts.solutions.items ≡ solution.entry ∷ [] → IfErr result (Refuses (S.failures out.old) (S.failures out.new) (Request.Map k) input) }
+{
+    let Auction { book, groups } = auction;
     if k > groups.count() {
         return Err(Refusal::NoGroup { group: k });
     }
-    let allocation = won_without(rt, &book, &groups, k, *solution)?;
-    write_allocation(&book, &allocation, out)?;
+    let allocation = won_without(rt, book, groups, k, solution)?;
+    write_allocation(book, &allocation, out)?;
     Ok(())
 }
 
@@ -190,19 +252,34 @@ fn write_report<R: Threads + Wait + Sync + AllocGlobal, S: Sink>(
     ensures refused { OnErr result (IsQuietUnlessFailed (S.taken out.old) (S.taken out.new) (S.failures out.old) (S.failures out.new)) }
     ensures refuses { IfErr result (Refuses (S.failures out.old) (S.failures out.new) (Request.Report workers) text.now) }
 {
-    let alloc: Global = rt.alloc();
-    let parts = split_parts(alloc, text)?;
-    count_parts(&parts, 1, Count::PerGroup)?;
-    let Auction { book, groups } = read_auction(rt, &parts)?;
+    let parts = parts_for(rt.alloc(), Request::Report { workers }, text)?;
+    let auction = read_auction(rt, &parts)?;
+    write_costs(rt, &auction, workers, parts.solutions.as_slice(), out)
+}
+
+// What the solutions win, and the groups' opportunity costs, of an auction, which some input tells with these solutions.
+fn write_costs<R: Threads + Wait + Sync + AllocGlobal, S: Sink>(
+    rt: &R,
+    auction: &Auction,
+    workers: usize,
+    solutions: &[&[u8]],
+    out: &mut S,
+) -> Result<(), Refusal>
+    requires some { 1 ≤ workers }
+    requires few { workers ≤ 64 }
+    ensures answer { (input : List ℕ) (parts : Parts) → TellsAuction (Request.Report workers) input parts auction.now.book auction.now.groups → parts.solutions.items ≡ solutions.now → OnOk result (WritesReport input (S.taken out.old) (S.taken out.new)) }
+    ensures refused { OnErr result (IsQuietUnlessFailed (S.taken out.old) (S.taken out.new) (S.failures out.old) (S.failures out.new)) }
+    ensures refuses { (input : List ℕ) (parts : Parts) → TellsAuction (Request.Report workers) input parts auction.now.book auction.now.groups → parts.solutions.items ≡ solutions.now → IfErr result (Refuses (S.failures out.old) (S.failures out.new) (Request.Report workers) input) }
+{
+    let Auction { book, groups } = auction;
     if !groups.starts_empty() {
         return Err(Refusal::FirstGroupNotEmpty);
     }
-    if parts.solutions.len() != groups.count() {
+    if solutions.len() != groups.count() {
         return Err(Refusal::PartCount(CountedPart::Solutions));
     }
-    let solutions = parts.solutions.as_slice();
-    let allocations = won_by_all(rt, &book, &groups, workers, solutions)?;
-    report(&book, &groups, allocations.as_slice(), out)?;
+    let allocations = won_by_all(rt, book, groups, workers, solutions)?;
+    report(book, groups, allocations.as_slice(), out)?;
     Ok(())
 }
 

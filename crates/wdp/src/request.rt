@@ -39,27 +39,52 @@ fn workers_option<'a>(alloc: Global) -> Arg<'a> {
         .default_value("1")
 }
 
-fn command<'a>(alloc: Global) -> Result<Command<'a>, AllocError> {
-    let text = Command::new(alloc, "text").about(
+fn text_command<'a>(alloc: Global) -> Command<'a> {
+    Command::new(alloc, "text").about(
         "Prints the program of the empty group, as no command does too",
-    );
-    let compile = Command::new(alloc, "compile")
+    )
+}
+
+fn check_command<'a>(alloc: Global) -> Command<'a> {
+    Command::new(alloc, "check").about("Prints the sizes of an MPS text")
+}
+
+fn compile_command<'a>(alloc: Global) -> Result<Command<'a>, AllocError> {
+    Command::new(alloc, "compile")
         .about("Prints the programs of all groups")
-        .arg(workers_option(alloc))?;
-    let check = Command::new(alloc, "check").about("Prints the sizes of an MPS text");
-    let map = Command::new(alloc, "map")
+        .arg(workers_option(alloc))
+}
+
+fn map_command<'a>(alloc: Global) -> Result<Command<'a>, AllocError> {
+    Command::new(alloc, "map")
         .about("Prints what a solution wins")
-        .arg(group_option(alloc))?;
-    let report = Command::new(alloc, "report")
+        .arg(group_option(alloc))
+}
+
+fn report_command<'a>(alloc: Global) -> Result<Command<'a>, AllocError> {
+    Command::new(alloc, "report")
         .about("Prints what the solutions of all groups win, and the groups' opportunity costs")
-        .arg(workers_option(alloc))?;
-    Command::new(alloc, "wdp")
-        .about("Compiles the winner determination of a combinatorial clock auction")
-        .subcommand(text)?
-        .subcommand(compile)?
-        .subcommand(check)?
-        .subcommand(map)?
-        .subcommand(report)
+        .arg(workers_option(alloc))
+}
+
+// The commands that need no solution.
+fn with_programs<'a>(alloc: Global, wdp: Command<'a>) -> Result<Command<'a>, AllocError> {
+    wdp.subcommand(text_command(alloc))?
+        .subcommand(compile_command(alloc)?)?
+        .subcommand(check_command(alloc))
+}
+
+// The commands that take solutions.
+fn with_solutions<'a>(alloc: Global, wdp: Command<'a>) -> Result<Command<'a>, AllocError> {
+    wdp.subcommand(map_command(alloc)?)?
+        .subcommand(report_command(alloc)?)
+}
+
+fn command<'a>(alloc: Global) -> Result<Command<'a>, AllocError> {
+    let wdp = Command::new(alloc, "wdp").about(
+        "Compiles the winner determination of a combinatorial clock auction",
+    );
+    with_solutions(alloc, with_programs(alloc, wdp)?)
 }
 
 // A number of an option, which the parser has tested to be within the limits.

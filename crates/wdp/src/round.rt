@@ -183,14 +183,29 @@ fn settle<L: Round, R: Wait + AllocGlobal>(
     ensures settled { IfOk result (λ book. (chair : ChairOwn) × IsSettled L.rules book.history chair sessions.items) }
 {
     let mut chair = chair;
-    match desk.enter(rt).close(&mut chair) {
-        Ok(Reply::Closed { was_open: true }) => {}
-        Ok(_) => return Err(RoundFault::WrongAnswer),
-        Err(_) => return Err(RoundFault::OutOfMemory),
-    }
+    close(rt, &desk, &mut chair)?;
     match desk.stop().settle(rt.alloc(), chair, sessions) {
         Ok(book) => Ok(book),
-        Err(unsettled) if unsettled.cause == Cause::OutOfMemory => Err(RoundFault::OutOfMemory),
-        Err(_) => Err(RoundFault::WrongAnswer),
+        Err(unsettled) => Err(fault_of(&unsettled.cause)),
+    }
+}
+
+fn fault_of(cause: &Cause) -> RoundFault {
+    match cause {
+        Cause::OutOfMemory => RoundFault::OutOfMemory,
+        _ => RoundFault::WrongAnswer,
+    }
+}
+
+// The chair closes the round, which is open.
+fn close<L: Round, R: Wait>(
+    rt: &R,
+    desk: &Desk<L>,
+    chair: &mut Chair<L>,
+) -> Result<(), RoundFault> {
+    match desk.enter(rt).close(chair) {
+        Ok(Reply::Closed { was_open: true }) => Ok(()),
+        Ok(_) => Err(RoundFault::WrongAnswer),
+        Err(_) => Err(RoundFault::OutOfMemory),
     }
 }
