@@ -51,79 +51,67 @@ fn shown(form: &Arc<Form, Global>, number: u32) -> Result<Reply, Fail> {
     })
 }
 
+const ALPHA: Caller = Caller::Session {
+    bidder: 1,
+    session: 1,
+};
+
+/// Whether an open book answers a submission, a withdrawal and another submission in turn.
+fn submits_and_withdraws(book: &mut Book, form: &Arc<Form, Global>) -> Result<bool, Fail> {
+    let over = Call::Withdraw { over: 1 };
+    let again = Call::Withdraw { over: 1 };
+    Ok(
+        answers_form(book, form, None, Reply::Accepted { number: 1 })?
+            && answers(book, ALPHA, Call::Show, shown(form, 1)?)
+            && answers(book, ALPHA, over, Reply::Withdrawn { number: 2 })
+            && answers(book, ALPHA, again, Reply::Stale { standing: None })
+            && book.standing(1).is_none()
+            && answers_form(book, form, None, Reply::Accepted { number: 3 })?,
+    )
+}
+
+/// Whether a book in which the form stands with number 3 closes, and takes no form after that.
+fn closes(book: &mut Book, form: &Arc<Form, Global>) -> Result<bool, Fail> {
+    let first = Reply::Closed { was_open: true };
+    let second = Reply::Closed { was_open: false };
+    Ok(
+        answers(book, Caller::Chair, Call::Close, first)
+            && answers_form(book, form, Some(3), Reply::RoundOver)?
+            && answers(book, ALPHA, Call::Show, shown(form, 3)?)
+            && answers(book, Caller::Chair, Call::Close, second),
+    )
+}
+
 #[test]
 fn a_session_in_order(rt: HostRuntime) -> Result<(), Fail> {
     let form = form_of(rt.alloc(), b"Alpha,A,B\n30,1,0\n50,2,1\n28,1,1\n")?;
-    let alpha = Caller::Session {
-        bidder: 1,
-        session: 1,
-    };
     let mut book = Book::new(rt.alloc());
-    assert!(rt; answers_form(&mut book, &form, None, Reply::Accepted { number: 1 })?);
-    assert!(rt; answers(&mut book, alpha, Call::Show, shown(&form, 1)?));
-    assert!(rt;
-        answers(
-            &mut book,
-            alpha,
-            Call::Withdraw { over: 1 },
-            Reply::Withdrawn { number: 2 }
-        )
-    );
-    assert!(rt;
-        answers(
-            &mut book,
-            alpha,
-            Call::Withdraw { over: 1 },
-            Reply::Stale { standing: None }
-        )
-    );
-    assert!(rt; book.standing(1).is_none());
-    assert!(rt; answers_form(&mut book, &form, None, Reply::Accepted { number: 3 })?);
+    assert!(rt; submits_and_withdraws(&mut book, &form)?);
     assert!(rt; book.is_open());
-    assert!(rt;
-        answers(
-            &mut book,
-            Caller::Chair,
-            Call::Close,
-            Reply::Closed { was_open: true }
-        )
-    );
-    assert!(rt; answers_form(&mut book, &form, Some(3), Reply::RoundOver)?);
-    assert!(rt; answers(&mut book, alpha, Call::Show, shown(&form, 3)?));
-    assert!(rt;
-        answers(
-            &mut book,
-            Caller::Chair,
-            Call::Close,
-            Reply::Closed { was_open: false }
-        )
-    );
+    assert!(rt; closes(&mut book, &form)?);
     assert!(rt; !book.is_open());
     assert_eq!(rt; book.history().len(), 9);
     Ok(())
 }
 
+/// Whether a book answers as many calls of Alpha's sessions, by turns, as one bidder may make.
+fn answers_all_of_alpha(book: &mut Book) -> bool {
+    let mut are_shown = true;
+    for n in 0..CALL_LIMIT {
+        let caller = Caller::Session {
+            bidder: 1,
+            session: (n % 2) as u8 + 1,
+        };
+        are_shown = answers(book, caller, Call::Show, Reply::Shown { standing: None }) && are_shown;
+    }
+    are_shown
+}
+
 #[test]
 fn a_limit_of_calls(rt: HostRuntime) -> Result<(), Fail> {
     let mut book = Book::new(rt.alloc());
-    for _ in 0..CALL_LIMIT / 2 {
-        for session in [1, 2] {
-            let caller = Caller::Session { bidder: 1, session };
-            assert!(rt;
-                answers(
-                    &mut book,
-                    caller,
-                    Call::Show,
-                    Reply::Shown { standing: None }
-                )
-            );
-        }
-    }
-    let caller = Caller::Session {
-        bidder: 1,
-        session: 1,
-    };
-    assert!(rt; answers(&mut book, caller, Call::Show, Reply::CallLimit));
+    assert!(rt; answers_all_of_alpha(&mut book));
+    assert!(rt; answers(&mut book, ALPHA, Call::Show, Reply::CallLimit));
     assert_eq!(rt; book.history().len(), 1000);
     let form = form_of(rt.alloc(), b"Gamma,A,B\n12,0,1\n")?;
     assert!(rt; answers_form(&mut book, &form, None, Reply::Accepted { number: 1 })?);

@@ -4,7 +4,7 @@ ghost use Rattle.std.specs.Prelude.{◌≡◌, ◌+◌, ◌≤◌, IfOk};
 ghost use Rattle.auction_terms.specs.Terms.{session_count};
 
 use crate::{Claims, Compiled, Gate, OpenGate, compile_all, compile_one};
-use auction_terms::{Rules, read_groups, read_rules};
+use auction_terms::{Groups, Rules, read_groups, read_rules};
 use bid_desk::{ClosedBook, Desk, Round, Session};
 use bid_forms::{Form, read_form};
 use mps_text::MemorySink;
@@ -198,26 +198,31 @@ fn compiles_without_beta(
     )
 }
 
+/// Whether these are the three worked programs, in order.
+fn are_worked(alloc: Global, all: &[Compiled<'_>]) -> bool {
+    match all {
+        [one, two, three] => {
+            is_text(alloc, one, ALL)
+                && is_text(alloc, two, WITHOUT_BETA)
+                && is_text(alloc, three, WITHOUT_ALL)
+        }
+        _ => false,
+    }
+}
+
 /// Whether so many workers compile the three worked programs, in order.
 fn compiles_the_worked_programs<R: Threads + Wait + Sync>(
     rt: &R,
     alloc: Global,
+    book: &ClosedBook,
+    groups: &Groups,
     workers: usize,
 ) -> Result<bool, Fail>
     requires some { 1 ≤ workers }
     requires few { workers ≤ 64 }
 {
-    let book = worked_book(rt, alloc)?;
-    let groups = read_groups(alloc, b"-\nBeta\nGamma+Alpha+Beta\n", book.rules())?;
-    let all = compile_all(rt, alloc, &book, &groups, workers, &OpenGate)?;
-    let [one, two, three] = all.as_slice() else {
-        return Ok(false);
-    };
-    Ok(
-        is_text(alloc, one, ALL)
-            && is_text(alloc, two, WITHOUT_BETA)
-            && is_text(alloc, three, WITHOUT_ALL),
-    )
+    let all = compile_all(rt, alloc, book, groups, workers, &OpenGate)?;
+    Ok(are_worked(alloc, all.as_slice()))
 }
 
 /// Whether the programs have as many columns as those of the four groups, again and again.
@@ -229,31 +234,49 @@ fn are_of_four_groups(all: &[Compiled<'_>]) -> bool {
 fn compiles_each_once<R: Threads + Wait + Sync>(
     rt: &R,
     alloc: Global,
-    text: &[u8],
+    book: &ClosedBook,
+    groups: &Groups,
     count: usize,
     workers: usize,
 ) -> Result<bool, Fail>
     requires some { 1 ≤ workers }
     requires few { workers ≤ 64 }
 {
-    let book = worked_book(rt, alloc)?;
-    let groups = read_groups(alloc, text, book.rules())?;
     let gate = Counts::new(alloc, count)?;
-    let all = compile_all(rt, alloc, &book, &groups, workers, &gate)?;
+    let all = compile_all(rt, alloc, book, groups, workers, &gate)?;
     Ok(all.len() == count && are_of_four_groups(all.as_slice()) && gate.are_each_one())
 }
 
 /// Whether two workers come past the gate that holds one group of three until both others have come.
-fn frees<R: Threads + Wait + Sync>(rt: &R, alloc: Global, held: usize) -> Result<bool, Fail> {
-    let book = worked_book(rt, alloc)?;
-    let groups = read_groups(alloc, b"-\nAlpha\nBeta\n", book.rules())?;
+fn frees<R: Threads + Wait + Sync>(
+    rt: &R,
+    alloc: Global,
+    book: &ClosedBook,
+    groups: &Groups,
+    held: usize,
+) -> Result<bool, Fail> {
     let gate = HeldGroup {
         held,
         others: AtomicU64::new(0),
         freed: AtomicU64::new(0),
     };
-    let all = compile_all(rt, alloc, &book, &groups, 2, &gate)?;
+    let all = compile_all(rt, alloc, book, groups, 2, &gate)?;
     Ok(all.len() == 3 && gate.freed.load(SeqCst) == 1)
+}
+
+/// How many of two workers come past the gate at which each waits for another one.
+fn met<R: Threads + Wait + Sync>(
+    rt: &R,
+    alloc: Global,
+    book: &ClosedBook,
+    groups: &Groups,
+) -> Result<u64, Fail> {
+    let gate = Meeting {
+        arrived: AtomicU64::new(0),
+        met: AtomicU64::new(0),
+    };
+    let _all = compile_all(rt, alloc, book, groups, 2, &gate)?;
+    Ok(gate.met.load(SeqCst))
 }
 
 #[test]
@@ -278,46 +301,67 @@ fn one_group_is_compiled(rt: HostRuntime) -> Result<(), Fail> {
 fn two_workers_meet(rt: HostRuntime) -> Result<(), Fail> {
     let book = worked_book(&rt, rt.alloc())?;
     let groups = read_groups(rt.alloc(), b"-\nAlpha\n", book.rules())?;
-    let gate = Meeting {
-        arrived: AtomicU64::new(0),
-        met: AtomicU64::new(0),
-    };
-    let _all = compile_all(&rt, rt.alloc(), &book, &groups, 2, &gate)?;
-    assert_eq!(rt; gate.met.load(SeqCst), 2);
+    assert_eq!(rt; met(&rt, rt.alloc(), &book, &groups)?, 2);
     Ok(())
 }
 
 #[test]
 fn no_worker_keeps_a_share(rt: HostRuntime) -> Result<(), Fail> {
+    let book = worked_book(&rt, rt.alloc())?;
+    let groups = read_groups(rt.alloc(), b"-\nAlpha\nBeta\n", book.rules())?;
     for held in [1usize, 2, 3] {
-        assert!(rt; frees(&rt, rt.alloc(), held)?, "at {held}");
+        assert!(rt; frees(&rt, rt.alloc(), &book, &groups, held)?, "at {held}");
     }
     Ok(())
 }
 
-#[test]
-fn a_thousand_groups_by_64_workers(rt: HostRuntime) -> Result<(), Fail> {
-    let mut text = Vec::new(rt.alloc());
+/// The four groups, again and again.
+fn thousand_groups(alloc: Global, rules: &Rules) -> Result<Groups, Fail> {
+    let mut text = Vec::new(alloc);
     for _ in 0..256 {
         text.extend_from_slice(FOUR_GROUPS)?;
     }
-    assert!(rt; compiles_each_once(&rt, rt.alloc(), text.as_slice(), 1024, 64)?);
+    Ok(read_groups(alloc, text.as_slice(), rules)?)
+}
+
+#[test]
+fn a_thousand_groups_by_64_workers(rt: HostRuntime) -> Result<(), Fail> {
+    let book = worked_book(&rt, rt.alloc())?;
+    let groups = thousand_groups(rt.alloc(), book.rules())?;
+    assert!(rt; compiles_each_once(&rt, rt.alloc(), &book, &groups, 1024, 64)?);
     Ok(())
 }
 
 #[test]
 fn few_groups_by_64_workers(rt: HostRuntime) -> Result<(), Fail> {
-    assert!(rt; compiles_each_once(&rt, rt.alloc(), b"-\nAlpha\n", 2, 64)?);
-    assert!(rt; compiles_each_once(&rt, rt.alloc(), b"", 0, 64)?);
-    assert!(rt; compiles_each_once(&rt, rt.alloc(), b"", 0, 1)?);
+    let book = worked_book(&rt, rt.alloc())?;
+    let two = read_groups(rt.alloc(), b"-\nAlpha\n", book.rules())?;
+    assert!(rt; compiles_each_once(&rt, rt.alloc(), &book, &two, 2, 64)?);
+    Ok(())
+}
+
+#[test]
+fn no_group_by_any_workers(rt: HostRuntime) -> Result<(), Fail> {
+    let book = worked_book(&rt, rt.alloc())?;
+    let none = read_groups(rt.alloc(), b"", book.rules())?;
+    for workers in [1usize, 64] {
+        assert!(rt;
+            compiles_each_once(&rt, rt.alloc(), &book, &none, 0, workers)?,
+            "by {workers}"
+        );
+    }
     Ok(())
 }
 
 #[test]
 fn any_workers_compile_the_same_programs(rt: HostRuntime) -> Result<(), Fail> {
-    assert!(rt; compiles_the_worked_programs(&rt, rt.alloc(), 1)?);
-    assert!(rt; compiles_the_worked_programs(&rt, rt.alloc(), 2)?);
-    assert!(rt; compiles_the_worked_programs(&rt, rt.alloc(), 3)?);
-    assert!(rt; compiles_the_worked_programs(&rt, rt.alloc(), 64)?);
+    let book = worked_book(&rt, rt.alloc())?;
+    let groups = read_groups(rt.alloc(), b"-\nBeta\nGamma+Alpha+Beta\n", book.rules())?;
+    for workers in [1usize, 2, 3, 64] {
+        assert!(rt;
+            compiles_the_worked_programs(&rt, rt.alloc(), &book, &groups, workers)?,
+            "by {workers}"
+        );
+    }
     Ok(())
 }
