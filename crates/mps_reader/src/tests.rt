@@ -59,30 +59,67 @@ fn reads_a_text_made_elsewhere(rt: HostRuntime) -> Result<(), Fail> {
 
 #[test]
 fn refuses_lines(rt: HostRuntime) -> Result<(), Fail> {
-    assert!(rt; fault_with(&rt, 19, b"")? == Some((18, FaultKind::NoEnd)));
-    assert!(rt; fault_with(&rt, 10, b" X3_1 B3 0.5\n")? == Some((10, FaultKind::NotWhole)));
-    assert!(rt; fault_with(&rt, 17, b"RANGES\n")? == Some((17, FaultKind::SectionLeftOut)));
-    assert!(rt; fault_with(&rt, 18, b"")? == Some((18, FaultKind::NotBinary { column: 0 })));
-    assert!(rt; fault_with(&rt, 10, b" X3_1 OBJ -12\n")? == Some((10, FaultKind::EntryRepeated)));
-    assert!(rt; fault_with(&rt, 10, b" X3_1 Z 1\n")? == Some((10, FaultKind::UnknownRow)));
-    assert!(rt; fault_with(&rt, 7, b"COLUMNS X\n")? == Some((7, FaultKind::Fields)));
-    assert!(rt; fault_with(&rt, 1, b" N OBJ\n")? == Some((1, FaultKind::Section)));
-    assert!(rt; fault_with(&rt, 4, b" Q B3\n")? == Some((4, FaultKind::RowType)));
-    assert!(rt; fault_with(&rt, 4, b" L OBJ\n")? == Some((4, FaultKind::RowRepeated)));
-    assert!(rt; fault_with(&rt, 3, b"")? == Some((6, FaultKind::NoObjective)));
-    assert!(rt; fault_with(&rt, 2, b"OBJSENSE MAX\nROWS\n")? == Some((2, FaultKind::SenseMax)));
-    assert!(rt; fault_with(&rt, 14, b" RHS OBJ 3\n")? == Some((14, FaultKind::ObjectiveConstant)));
+    for (number, line, told) in [
+        (19, b"".as_slice(), (18, FaultKind::NoEnd)),
+        (10, b" X3_1 B3 0.5\n".as_slice(), (10, FaultKind::NotWhole)),
+        (17, b"RANGES\n".as_slice(), (17, FaultKind::SectionLeftOut)),
+        (18, b"".as_slice(), (18, FaultKind::NotBinary { column: 0 })),
+        (
+            10,
+            b" X3_1 OBJ -12\n".as_slice(),
+            (10, FaultKind::EntryRepeated),
+        ),
+        (10, b" X3_1 Z 1\n".as_slice(), (10, FaultKind::UnknownRow)),
+        (7, b"COLUMNS X\n".as_slice(), (7, FaultKind::Fields)),
+        (1, b" N OBJ\n".as_slice(), (1, FaultKind::Section)),
+        (4, b" Q B3\n".as_slice(), (4, FaultKind::RowType)),
+        (4, b" L OBJ\n".as_slice(), (4, FaultKind::RowRepeated)),
+        (3, b"".as_slice(), (6, FaultKind::NoObjective)),
+        (
+            2,
+            b"OBJSENSE MAX\nROWS\n".as_slice(),
+            (2, FaultKind::SenseMax),
+        ),
+        (
+            14,
+            b" RHS OBJ 3\n".as_slice(),
+            (14, FaultKind::ObjectiveConstant),
+        ),
+        (
+            12,
+            b" M2 'MARKER' 'INTEND'\n X3_1 C1 1\n".as_slice(),
+            (13, FaultKind::ColumnSplit),
+        ),
+        (
+            12,
+            b" M2 'MARKER' 'INTORG'\n".as_slice(),
+            (12, FaultKind::Marker),
+        ),
+        (
+            18,
+            b" UP BND X3_1 2\n".as_slice(),
+            (18, FaultKind::BoundValue),
+        ),
+        (18, b" MI BND X3_1\n".as_slice(), (18, FaultKind::BoundType)),
+        (
+            18,
+            b" UP BND X3_2 1\n".as_slice(),
+            (18, FaultKind::UnknownColumn),
+        ),
+        (10, b" X3_1 B3\r1\n".as_slice(), (10, FaultKind::NotText)),
+        (10, b" X3_1 B3 1\r\r\n".as_slice(), (10, FaultKind::NotText)),
+    ] {
+        assert!(rt;
+            fault_with(&rt, number, line)? == Some(told),
+            "line {number}"
+        );
+    }
+    Ok(())
+}
+
+#[test]
+fn takes_an_objective_without_a_constant(rt: HostRuntime) -> Result<(), Fail> {
     assert!(rt; fault_with(&rt, 14, b" RHS OBJ 0\n")? == None);
-    assert!(rt;
-        fault_with(&rt, 12, b" M2 'MARKER' 'INTEND'\n X3_1 C1 1\n")?
-            == Some((13, FaultKind::ColumnSplit))
-    );
-    assert!(rt; fault_with(&rt, 12, b" M2 'MARKER' 'INTORG'\n")? == Some((12, FaultKind::Marker)));
-    assert!(rt; fault_with(&rt, 18, b" UP BND X3_1 2\n")? == Some((18, FaultKind::BoundValue)));
-    assert!(rt; fault_with(&rt, 18, b" MI BND X3_1\n")? == Some((18, FaultKind::BoundType)));
-    assert!(rt; fault_with(&rt, 18, b" UP BND X3_2 1\n")? == Some((18, FaultKind::UnknownColumn)));
-    assert!(rt; fault_with(&rt, 10, b" X3_1 B3\r1\n")? == Some((10, FaultKind::NotText)));
-    assert!(rt; fault_with(&rt, 10, b" X3_1 B3 1\r\r\n")? == Some((10, FaultKind::NotText)));
     Ok(())
 }
 
