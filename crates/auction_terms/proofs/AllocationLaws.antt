@@ -1,18 +1,20 @@
--- Laws of allocations: each bid is replaced by a kept one.
-use Rattle.std.proofs.Common.{◌≡◌, ℕ, suc, ◌+◌, ◌<◌, ◌≤◌, Bool, true, false, not, ◌==◌, cond, List, [], ◌∷◌, Option, Some, None, is_some, slice_index, slice_index_or, length, sym, refl, ap, ◌∙◌, arith, le-leb, leb-true, le_refl, map, zero, zero-add}
-use Rattle.std.specs.Prelude.{count_by, All}
-use Rattle.std.specs.List.{AllByRecursion, range_with_len}
+-- Laws of allocations: what a total is, and how each bid is replaced by a kept one or left out.
+use Rattle.std.proofs.Common.{◌≡◌, ℕ, suc, ◌+◌, ◌<◌, ◌≤◌, Bool, true, false, not, ◌==◌, cond, List, [], ◌∷◌, Option, Some, None, is_some, slice_index, slice_index_or, length, sym, refl, ap, ◌∙◌, arith, le-leb, leb-true, le_refl, map, zero, zero-add, ⊎_elim, pos, ◌<ℤ◌, ◌≤ℤ◌}
+use Rattle.std.specs.Prelude.{count_by, sum_by, All}
+use Rattle.std.specs.List.{AllByRecursion, range_with_len, list_all}
 use Rattle.std.specs.Option.{option_map_or}
 use Rattle.std.proofs.lemmas.Bool.{and_parts, and_from, both_ways}
 use Rattle.std.proofs.lemmas.List.Sums.{sum_by-cons, get_or-le-sum_by}
 use Rattle.std.proofs.lemmas.List.Elements.{recursion_from_All, All-from_recursion}
 use Rattle.auction_terms.specs.declared.bids.Bid.{Bid}
 use Rattle.auction_terms.specs.declared.choices.Choice.{Choice}
-use Rattle.auction_terms.specs.Packages.{Lots, fits, is_within}
-use Rattle.auction_terms.specs.Domination.{is_kept}
-use Rattle.auction_terms.specs.Allocations.{Book, form_of, bid_of, amount_of, quantity_of, total, load, loads, is_eligible, IsFeasible, IsSized}
-use Rattle.auction_terms.specs.Keeping.{is_kept_choice, KeptAreEnough}
-use Rattle.auction_terms.proofs.PackageLaws.{within_at, keeps_the_best}
+use Rattle.std.proofs.lemmas.Int.{ints}
+use Rattle.auction_terms.specs.Packages.{Lots, WeightedCap, no_pool, pool_at, fits, is_within, is_within_cap, weighed, left, worth, worth_of_all}
+use Rattle.auction_terms.specs.Domination.{net, is_kept}
+use Rattle.auction_terms.specs.Allocations.{Book, form_of, bid_of, amount_of, quantity_of, weighed_choice, total, load, loads, is_eligible, IsFeasible, IsSized}
+use Rattle.auction_terms.specs.Keeping.{is_kept_choice, KeptInstead, KeptAreEnough}
+use Rattle.auction_terms.proofs.WeighedLaws.{le_from, weighed_left, weighed_loads}
+use Rattle.auction_terms.proofs.PackageLaws.{within_at, fits_smaller, keeps_the_best}
 
 -- at most in each category, as a test
 within_from : (p s : List ℕ) → length p ≡ length s → ((c : ℕ) → c < length s → slice_index p c ≤ slice_index s c) → is_within p s ≡ true
@@ -31,17 +33,57 @@ module _ (f : ℕ → ℕ) where
   mapped_length a zero = refl
   mapped_length a (suc n) = ap suc (mapped_length (a + 1) n)
 
+pub loads_length : (lots : Lots) (book : Book) (a : List Choice) → length (loads lots book a) ≡ length lots.supply
+loads_length lots book a = mapped_length (λ c. load book c a) 0 (length lots.supply)
+
+pub loads_at : (lots : Lots) (book : Book) (a : List Choice) (category : ℕ) → category < length lots.supply → slice_index (loads lots book a) category ≡ load book category a
+loads_at lots book a category below = mapped_at (λ c. load book c a) 0 (length lots.supply) category below ∙ ap (λ (c : ℕ). load book c a) (zero-add category)
+
+cap_at : (q : List ℕ) (pools : List WeightedCap) (p : ℕ) → list_all (is_within_cap q) pools ≡ true → p < length pools → is_within_cap q (slice_index_or pools p no_pool) ≡ true
+cap_at q [] p h l = absurd (omega arith)
+cap_at q (pool ∷ pools) zero h l = (and_parts (is_within_cap q pool) (list_all (is_within_cap q) pools) h).0
+cap_at q (pool ∷ pools) (suc p) h l = cap_at q pools p (and_parts (is_within_cap q pool) (list_all (is_within_cap q) pools) h).1 (omega arith)
+
+caps_from : (q : List ℕ) (pools : List WeightedCap) → ((p : ℕ) → p < length pools → is_within_cap q (slice_index_or pools p no_pool) ≡ true) → list_all (is_within_cap q) pools ≡ true
+caps_from q [] h = refl
+caps_from q (pool ∷ pools) h = and_from (is_within_cap q pool) (list_all (is_within_cap q) pools) (h 0 (omega arith)) (caps_from q pools (λ p l. h (suc p) (omega arith)))
+
 pub feasible_at : (lots : Lots) (book : Book) (group : ℕ → Bool) (a : List Choice) → IsFeasible lots book group a → (category : ℕ) → category < length lots.supply → load book category a ≤ slice_index lots.supply category
 feasible_at lots book group a f category below =
-    let w = within_at (loads lots book a) lots.supply category f.fit in
-    let e : slice_index (loads lots book a) category ≡ load book category a = mapped_at (λ c. load book c a) 0 (length lots.supply) category below ∙ ap (λ (c : ℕ). load book c a) (zero-add category) in
+    let w = within_at (loads lots book a) lots.supply category (and_parts (is_within (loads lots book a) lots.supply) (list_all (is_within_cap (loads lots book a)) lots.pools) f.fit).0 in
+    let e = loads_at lots book a category below in
     omega arith
 
-pub feasible_from : (lots : Lots) (book : Book) (a : List Choice) → ((category : ℕ) → category < length lots.supply → load book category a ≤ slice_index lots.supply category) → fits lots (loads lots book a) ≡ true
-feasible_from lots book a h = within_from (loads lots book a) lots.supply (mapped_length (λ c. load book c a) 0 (length lots.supply)) (λ category below.
-    let e : slice_index (loads lots book a) category ≡ load book category a = mapped_at (λ c. load book c a) 0 (length lots.supply) category below ∙ ap (λ (c : ℕ). load book c a) (zero-add category) in
+-- the sum of the weighed packages is at most the cap of the pool
+pub feasible_pool : (lots : Lots) (book : Book) (group : ℕ → Bool) (a : List Choice) → IsSized lots book → IsFeasible lots book group a → (p : ℕ) → p < length lots.pools → sum_by (weighed_choice (pool_at lots p).weights book) a ≤ (pool_at lots p).cap
+feasible_pool lots book group a sized f p below =
+    let w = leb-true (weighed (pool_at lots p).weights (loads lots book a)) (pool_at lots p).cap (cap_at (loads lots book a) lots.pools p (and_parts (is_within (loads lots book a) lots.supply) (list_all (is_within_cap (loads lots book a)) lots.pools) f.fit).1 below) in
+    let e = weighed_loads lots book sized (pool_at lots p).weights a in
+    omega arith
+
+pub feasible_from : (lots : Lots) (book : Book) (a : List Choice) → IsSized lots book → ((category : ℕ) → category < length lots.supply → load book category a ≤ slice_index lots.supply category)
+    → ((p : ℕ) → p < length lots.pools → sum_by (weighed_choice (pool_at lots p).weights book) a ≤ (pool_at lots p).cap) → fits lots (loads lots book a) ≡ true
+feasible_from lots book a sized h k = and_from (is_within (loads lots book a) lots.supply) (list_all (is_within_cap (loads lots book a)) lots.pools)
+    (within_from (loads lots book a) lots.supply (loads_length lots book a) (λ category below.
+    let e = loads_at lots book a category below in
     let w = h category below in
-    omega arith)
+    omega arith))
+    (caps_from (loads lots book a) lots.pools (λ p below.
+    let e = weighed_loads lots book sized (pool_at lots p).weights a in
+    let w = k p below in
+    le-leb (weighed (pool_at lots p).weights (loads lots book a)) (pool_at lots p).cap (omega arith)))
+
+-- the sum of what the packages are worth where they are left
+abbrev pub worths : Lots → Book → List Choice → ℕ
+worths lots book a = sum_by (weighed_choice lots.values book) a
+
+-- the total is what all lots are worth, and the nets
+pub total_is : (lots : Lots) (book : Book) (a : List Choice) → IsSized lots book → fits lots (loads lots book a) ≡ true → total lots book a + worths lots book a ≡ sum_by (amount_of book) a + worth_of_all lots
+total_is lots book a sized fit =
+    let within = (and_parts (is_within (loads lots book a) lots.supply) (list_all (is_within_cap (loads lots book a)) lots.pools) fit).0 in
+    let parts : worth lots (left lots.supply (loads lots book a)) + worth lots (loads lots book a) ≡ worth_of_all lots = weighed_left lots.values lots.supply (loads lots book a) within (loads_length lots book a) in
+    let e : worth lots (loads lots book a) ≡ worths lots book a = weighed_loads lots book sized lots.values a in
+    omega arith
 
 pub value_of : {X : Type 0} (o : Option X) → is_some o ≡ true → (x : X) × (o ≡ Some x)
 value_of None h = absurd (both_ways false refl h)
@@ -64,48 +106,75 @@ module _ (lots : Lots) (book : Book) (group : ℕ → Bool) where
         outside = e.0;
         bid = v.0;
         stands = v.1;
-        fits = within_from v.0.package lots.supply (sized c.bidder c.bid v.0 v.1) (λ category below.
+        fits = fits_smaller lots v.0.package (loads lots book a) (within_from v.0.package (loads lots book a) (sized c.bidder c.bid v.0 v.1 ∙ sym (loads_length lots book a)) (λ category below.
+            let size = loads_length lots book a in
             let here : quantity_of book category c ≡ slice_index v.0.package category = ap (λ o. option_map_or (λ (x : Bid). slice_index x.package category) o 0) v.1 in
             let part : quantity_of book category c ≤ load book category a = get_or-le-sum_by (quantity_of book category) a k d l in
-            let whole = feasible_at lots book group a f category below in
-            omega arith);
+            let e = loads_at lots book a category (omega arith) in
+            omega arith)) f.fit;
       }
 
-  -- a kept bid in place of each
+  -- a kept bid in place of each, or none
   record Replaced (a : List Choice) : Type 0 where
     choices : List Choice
-    same_bidders : (b : ℕ) → count_by (λ c. c.bidder == b) choices ≡ count_by (λ c. c.bidder == b) a
+    fewer : (b : ℕ) → count_by (λ c. c.bidder == b) choices ≤ count_by (λ c. c.bidder == b) a
     kept : AllByRecursion (λ c. is_kept_choice lots book group c ≡ true) choices
     eligible : AllByRecursion (λ c. is_eligible book group c ≡ true) choices
-    no_cheaper : total lots book a ≤ total lots book choices
+    no_cheaper : sum_by (amount_of book) a + worths lots book choices ≤ sum_by (amount_of book) choices + worths lots book a
     lighter : (category : ℕ) → load book category choices ≤ load book category a
 
-  replaced : (a : List Choice) → AllByRecursion IsGood a → Replaced a
-  replaced [] h = record {
-    choices = [];
-    same_bidders = λ b. refl;
-    kept = tt;
-    eligible = tt;
-    no_cheaper = le_refl 0;
-    lighter = λ category. le_refl 0;
-  }
-  replaced (c ∷ a) h =
-      let g = h.0 in
-      let r = replaced a h.1 in
-      let k = keeps_the_best lots (form_of book c.bidder) c.bid g.bid g.stands g.fits in
+  -- a bid whose net is below 0 is left out
+  left_out : (c : Choice) (a : List Choice) (g : IsGood c) → net lots g.bid <ℤ pos 0 → Replaced a → Replaced (c ∷ a)
+  left_out c a g less r =
+      let amount : amount_of book c ≡ g.bid.amount = ap (λ o. option_map_or (λ (x : Bid). x.amount) o 0) g.stands in
+      let worth_is : weighed_choice lots.values book c ≡ worth lots g.bid.package = ap (λ o. option_map_or (λ (x : Bid). weighed lots.values x.package) o 0) g.stands in
+      record {
+        choices = r.choices;
+        fewer = λ b.
+            let s = sum_by-cons (λ (x : Choice). cond (x.bidder == b) 1 0) c a in
+            let others = r.fewer b in
+            omega arith;
+        kept = r.kept;
+        eligible = r.eligible;
+        no_cheaper =
+            let others = r.no_cheaper in
+            let s : sum_by (amount_of book) (c ∷ a) ≡ amount_of book c + sum_by (amount_of book) a = sum_by-cons (amount_of book) c a in
+            let t : worths lots book (c ∷ a) ≡ weighed_choice lots.values book c + worths lots book a = sum_by-cons (weighed_choice lots.values book) c a in
+            let low : g.bid.amount ≤ worth lots g.bid.package = omega (arith, ints) in
+            omega arith;
+        lighter = λ category.
+            let s = sum_by-cons (quantity_of book category) c a in
+            let others = r.lighter category in
+            omega arith;
+      }
+
+  -- a kept bid in its place
+  put_in : (c : Choice) (a : List Choice) (g : IsGood c) → KeptInstead lots (form_of book c.bidder) g.bid → Replaced a → Replaced (c ∷ a)
+  put_in c a g k r =
       let c' : Choice = record { bidder = c.bidder; bid = k.number } in
       let amount : amount_of book c ≡ g.bid.amount = ap (λ o. option_map_or (λ (x : Bid). x.amount) o 0) g.stands in
       let amount' : amount_of book c' ≡ k.bid.amount = ap (λ o. option_map_or (λ (x : Bid). x.amount) o 0) k.stands in
+      let worth_is : weighed_choice lots.values book c ≡ worth lots g.bid.package = ap (λ o. option_map_or (λ (x : Bid). weighed lots.values x.package) o 0) g.stands in
+      let worth_is' : weighed_choice lots.values book c' ≡ worth lots k.bid.package = ap (λ o. option_map_or (λ (x : Bid). weighed lots.values x.package) o 0) k.stands in
       record {
         choices = c' ∷ r.choices;
-        same_bidders = λ b. sum_by-cons (λ (x : Choice). cond (x.bidder == b) 1 0) c' r.choices ∙ ap (λ n. cond (c.bidder == b) 1 0 + n) (r.same_bidders b) ∙ sym (sum_by-cons (λ (x : Choice). cond (x.bidder == b) 1 0) c a);
+        fewer = λ b.
+            let s = sum_by-cons (λ (x : Choice). cond (x.bidder == b) 1 0) c a in
+            let n : ℕ = cond (c.bidder == b) 1 0 in
+            let s' : count_by (λ x. x.bidder == b) (c' ∷ r.choices) ≡ n + count_by (λ x. x.bidder == b) r.choices = sum_by-cons (λ (x : Choice). cond (x.bidder == b) 1 0) c' r.choices in
+            let s : count_by (λ x. x.bidder == b) (c ∷ a) ≡ n + count_by (λ x. x.bidder == b) a = sum_by-cons (λ (x : Choice). cond (x.bidder == b) 1 0) c a in
+            let others = r.fewer b in
+            omega arith;
         kept = (and_from _ _ g.outside (ap (λ o. option_map_or (λ (x : Bid). is_kept lots (form_of book c.bidder) x) o false) k.stands ∙ k.kept), r.kept);
         eligible = (and_from _ _ g.outside (ap (λ o. is_some o) k.stands), r.eligible);
         no_cheaper =
-            let dearer = leb-true g.bid.amount k.bid.amount k.no_cheaper in
+            let dearer : net lots g.bid ≤ℤ net lots k.bid = le_from (net lots g.bid) (net lots k.bid) k.no_cheaper in
             let others = r.no_cheaper in
-            let s : total lots book (c ∷ a) ≡ amount_of book c + total lots book a = sum_by-cons (amount_of book) c a in
-            let s' : total lots book (c' ∷ r.choices) ≡ amount_of book c' + total lots book r.choices = sum_by-cons (amount_of book) c' r.choices in
+            let s : sum_by (amount_of book) (c ∷ a) ≡ amount_of book c + sum_by (amount_of book) a = sum_by-cons (amount_of book) c a in
+            let s' : sum_by (amount_of book) (c' ∷ r.choices) ≡ amount_of book c' + sum_by (amount_of book) r.choices = sum_by-cons (amount_of book) c' r.choices in
+            let t : worths lots book (c ∷ a) ≡ weighed_choice lots.values book c + worths lots book a = sum_by-cons (weighed_choice lots.values book) c a in
+            let t' : worths lots book (c' ∷ r.choices) ≡ weighed_choice lots.values book c' + worths lots book r.choices = sum_by-cons (weighed_choice lots.values book) c' r.choices in
+            let gain : g.bid.amount + worth lots k.bid.package ≤ k.bid.amount + worth lots g.bid.package = omega (arith, ints) in
             omega arith;
         lighter = λ category.
             let q : quantity_of book category c ≡ slice_index g.bid.package category = ap (λ o. option_map_or (λ (x : Bid). slice_index x.package category) o 0) g.stands in
@@ -117,16 +186,41 @@ module _ (lots : Lots) (book : Book) (group : ℕ → Bool) where
             omega arith;
       }
 
+  replaced : (a : List Choice) → AllByRecursion IsGood a → Replaced a
+  replaced [] h = record {
+    choices = [];
+    fewer = λ b. le_refl 0;
+    kept = tt;
+    eligible = tt;
+    no_cheaper = le_refl 0;
+    lighter = λ category. le_refl 0;
+  }
+  replaced (c ∷ a) h =
+      let g = h.0 in
+      let r = replaced a h.1 in
+      ⊎_elim (λ less. left_out c a g less r) (λ k. put_in c a g k r) (keeps_the_best lots (form_of book c.bidder) c.bid g.bid g.stands g.fits)
+
 pub kept_are_enough : KeptAreEnough
 kept_are_enough lots book group a sized f =
     let r = replaced lots book group a (recursion_from_All (IsGood lots book group) a (good lots book group sized a f)) in
+    let lighter : is_within (loads lots book r.choices) (loads lots book a) ≡ true = within_from (loads lots book r.choices) (loads lots book a) (loads_length lots book r.choices ∙ sym (loads_length lots book a)) (λ category below.
+    let size = loads_length lots book a in
+    let e = loads_at lots book r.choices category (omega arith) in
+    let e' = loads_at lots book a category (omega arith) in
+    let l = r.lighter category in
+    omega arith) in
+    let fit = fits_smaller lots (loads lots book r.choices) (loads lots book a) lighter f.fit in
     record {
       choices = r.choices;
       feasible = record {
-        one_bid_each = λ b. let e = r.same_bidders b in let o = f.one_bid_each b in omega arith;
+        one_bid_each = λ b. let e = r.fewer b in let o = f.one_bid_each b in omega arith;
         eligible = All-from_recursion _ r.choices r.eligible;
-        fit = feasible_from lots book r.choices (λ category below. let l = r.lighter category in let w = feasible_at lots book group a f category below in omega arith);
+        fit = fit;
       };
       kept = All-from_recursion _ r.choices r.kept;
-      no_cheaper = r.no_cheaper;
+      no_cheaper =
+          let t = total_is lots book a sized f.fit in
+          let t' = total_is lots book r.choices sized fit in
+          let n = r.no_cheaper in
+          omega arith;
     }

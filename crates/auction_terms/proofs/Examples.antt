@@ -1,6 +1,6 @@
 -- The definitions on small texts.
 use Rattle.std.proofs.Common.{◌≡◌, refl}
-use Rattle.std.specs.Prelude.{[], ◌∷◌, Ok, Err, codes}
+use Rattle.std.specs.Prelude.{[], ◌∷◌, Err, codes}
 use Rattle.csv.specs.Records.{field_at}
 use Rattle.csv.proofs.OnLiterals.{csv_on_literals}
 use Rattle.auction_terms.specs.FirstFault.{first_fault}

@@ -12,6 +12,7 @@ use Rattle.auction_terms.specs.GroupsText.{Answers, Tells, TellsFault, fault_or,
 use Rattle.auction_terms.specs.declared.rules.Bidder.{Bidder}
 use Rattle.auction_terms.specs.declared.groups_text.GroupFault.{GroupFault}
 use Rattle.auction_terms.specs.declared.groups_text.GroupFault.TheVariants as fault
+use Rattle.auction_terms.specs.declared.limits.TheConstants.{MOST_BIDDERS}
 
 list_any-map : {X Y : Type 0} (f : X → Y) (p : Y → Bool) (xs : List X) → list_any p (map f xs) ≡ list_any (λ x. p (f x)) xs
 list_any-map f p [] = refl
@@ -76,7 +77,7 @@ numbers-rise n (bidder ∷ more) names = by (list_any (λ name. bytes_eq name bi
     by false h = h
 
 -- the numbers of named bidders are a group
-pub numbers-IsGroup : (bidders : List Bidder) (names : List (List ℕ)) → length bidders ≤ 256 → IsGroup (numbers_from 1 bidders names)
+pub numbers-IsGroup : (bidders : List Bidder) (names : List (List ℕ)) → length bidders ≤ MOST_BIDDERS → IsGroup (numbers_from 1 bidders names)
 numbers-IsGroup bidders names few = record {
   each = λ k d small. (let h = numbers-within 1 bidders names k d small in record { some = h.0; few = omega arith });
   rising = numbers-rise 1 bidders names;

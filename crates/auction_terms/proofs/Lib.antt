@@ -4,8 +4,11 @@ pub mod TermsFacts
 pub mod RulesTextFacts
 pub mod LineFacts
 pub mod GroupsTextFacts
+pub mod WeighedLaws
 pub mod PackageLaws
 pub mod AllocationLaws
 pub mod OfferLaws
 pub mod LimitLaws
+pub mod LotsLaws
 pub mod Examples
+pub mod VersionExamples

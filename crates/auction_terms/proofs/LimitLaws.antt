@@ -9,6 +9,7 @@ use Rattle.auction_terms.specs.Allocations.{Book, form_of, bid_at, IsSized}
 use Rattle.auction_terms.specs.Keeping.{Offer, offers_of_form, offers_from, is_kept_offer}
 use Rattle.auction_terms.specs.Limits.{IsBid, IsBook, IsOffer, IsBefore, AreOffers, KeptAreOffers}
 use Rattle.auction_terms.proofs.OfferLaws.{all_agree, all_append}
+use Rattle.auction_terms.specs.declared.limits.TheConstants.{MOST_BIDDERS, MOST_BIDS}
 
 module _ {X : Type 0} (P : X → Type 0) where
   kept_in : (q : X → Bool) (x : X) (xs : List X) (b : Bool) → q x ≡ b → P x → AllByRecursion P (filter q xs) → AllByRecursion P (cond (q x) (x ∷ filter q xs) (filter q xs))
@@ -43,7 +44,7 @@ module _ (lots : Lots) where
   from_number b j [] = tt
   from_number b j (x ∷ form) = ((refl, omega arith), all_agree (λ (o : Offer). (o.bidder ≡ b) × (j + 1 ≤ o.number)) (λ (o : Offer). (o.bidder ≡ b) × (j ≤ o.number)) (offers_of_form b (j + 1) form) (λ o h. (h.0, omega (arith, h.1))) (from_number b (j + 1) form))
 
-  of_form : (b j : ℕ) (form : List Bid) → 1 ≤ b → b ≤ 256 → 1 ≤ j → j + length form ≤ 4001 → AllByRecursion (IsBid lots) form → AreOffers lots (offers_of_form b j form)
+  of_form : (b j : ℕ) (form : List Bid) → 1 ≤ b → b ≤ MOST_BIDDERS → 1 ≤ j → j + length form ≤ MOST_BIDS + 1 → AllByRecursion (IsBid lots) form → AreOffers lots (offers_of_form b j form)
   of_form b j [] low high first last h = tt
   of_form b j (x ∷ form) low high first last h = (
     record { bidder_from = low; bidder_to = high; number_from = first; number_to = omega arith; bid = h.0 },
@@ -62,7 +63,7 @@ module _ (lots : Lots) where
       (all_agree (λ (o : Offer). (o.bidder ≡ b) × (1 ≤ o.number)) (λ (o : Offer). b ≤ o.bidder) (offers_of_form b 1 form) (λ o h. let e = h.0 in omega arith) (from_number b 1 form))
       (all_agree (λ (o : Offer). b + 1 ≤ o.bidder) (λ (o : Offer). b ≤ o.bidder) (offers_from (b + 1) book) (λ o h. omega arith) (from_bidder (b + 1) book))
 
-  of_book : (b : ℕ) (book : Book) → 1 ≤ b → b + length book ≤ 257 → AllByRecursion (λ form. length form ≤ 4000) book → AllByRecursion (λ form. AllByRecursion (IsBid lots) form) book → AreOffers lots (offers_from b book)
+  of_book : (b : ℕ) (book : Book) → 1 ≤ b → b + length book ≤ MOST_BIDDERS + 1 → AllByRecursion (λ form. length form ≤ MOST_BIDS) book → AllByRecursion (λ form. AllByRecursion (IsBid lots) form) book → AreOffers lots (offers_from b book)
   of_book b [] low high f h = tt
   of_book b (form ∷ book) low high f h = together b (offers_of_form b 1 form) (offers_from (b + 1) book)
       (of_form b 1 form low (omega arith) (omega arith) (let l = f.0 in omega arith) h.0)

@@ -1,12 +1,14 @@
 -- Laws of the order of packages: domination leads to a kept bid.
-use Rattle.std.proofs.Common.{◌≡◌, ℕ, zero, suc, ◌<◌, ◌≤◌, Bool, true, false, List, [], ◌∷◌, Some, slice_get, slice_index, refl, arith, leb-true, leb-false, le-leb, lt-ltb, not, nat_lt, ◌&&◌, ◌||◌, ap₂, ⊎_elim, le_refl}
-use Rattle.std.specs.List.{list_any}
+use Rattle.std.proofs.Common.{◌≡◌, ℕ, zero, suc, ◌<◌, ◌≤◌, Bool, true, false, List, [], ◌∷◌, Some, slice_get, slice_index, refl, arith, leb-true, leb-false, le-leb, lt-ltb, not, nat_lt, ◌&&◌, ◌||◌, ap₂, ⊎_elim, le_refl, inl, inr, pos}
+use Rattle.std.specs.List.{list_any, list_all}
 use Rattle.std.proofs.lemmas.Bool.{and_parts, and_right, and_from, and_cases, or_cases, cases_Bool, not-true, not_from_false, both_ways}
 use Rattle.auction_terms.specs.declared.bids.Bid.{Bid}
-use Rattle.auction_terms.specs.Packages.{Lots, fits, size, is_smaller, is_within}
-use Rattle.auction_terms.specs.Domination.{SmallerSizesSuffice, is_no_cheaper, dominates}
+use Rattle.std.proofs.lemmas.Int.{ints}
+use Rattle.auction_terms.specs.Packages.{Lots, fits, size, is_smaller, is_within, is_within_cap}
+use Rattle.auction_terms.specs.Domination.{SmallerSizesSuffice, net, pays, is_no_cheaper, dominates}
 use Rattle.auction_terms.specs.Allocations.{bid_at}
 use Rattle.auction_terms.specs.Keeping.{KeptInstead, KeepsTheBest}
+use Rattle.auction_terms.proofs.WeighedLaws.{caps_smaller, int_le_trans, le_test, lt_from}
 
 pub within_refl : (p : List ℕ) → is_within p p ≡ true
 within_refl [] = refl
@@ -64,38 +66,45 @@ found p (x ∷ xs) h = ⊎_elim
     (λ r. let w = found p xs r in (suc w.0, w.1, w.2, w.3))
     (or_cases _ _ h)
 
+-- quantities at most those that fit do fit
+pub fits_smaller : (lots : Lots) (p q : List ℕ) → is_within p q ≡ true → fits lots q ≡ true → fits lots p ≡ true
+fits_smaller lots p q h k =
+    let e = and_parts (is_within q lots.supply) (list_all (is_within_cap q) lots.pools) k in
+    and_from (is_within p lots.supply) (list_all (is_within_cap p) lots.pools) (within_trans p q lots.supply h e.0) (caps_smaller p q lots.pools h e.1)
+
 -- by falling size of the package
-keeper : (lots : Lots) (form : List Bid) (n : ℕ) (j : ℕ) (x : Bid) → size x.package < n → bid_at form j ≡ Some x → fits lots x.package ≡ true → KeptInstead lots form x
-keeper lots form zero j x less at fit = absurd (omega arith)
-keeper lots form (suc n) j x less at fit = ⊎_elim
+keeper : (lots : Lots) (form : List Bid) (n : ℕ) (j : ℕ) (x : Bid) → size x.package < n → bid_at form j ≡ Some x → fits lots x.package ≡ true → pays lots x ≡ true → KeptInstead lots form x
+keeper lots form zero j x less at fit worth = absurd (omega arith)
+keeper lots form (suc n) j x less at fit worth = ⊎_elim
     (λ some.
     let w = found (λ y. dominates lots y x) form some in
     let d = and_parts _ _ w.3 in
     let s = and_parts _ _ d.0 in
     let shrinks = size_lt w.1.package x.package s.0 (not-true _ s.1) in
-    let k = keeper lots form n (suc w.0) w.1 (omega arith) w.2 (within_trans w.1.package x.package lots.supply s.0 fit) in
-    let a = leb-true x.amount w.1.amount d.1 in
-    let b = leb-true w.1.amount k.bid.amount k.no_cheaper in
+    let k = keeper lots form n (suc w.0) w.1 (omega arith) w.2 (fits_smaller lots w.1.package x.package s.0 fit) (int_le_trans (pos 0) (net lots x) (net lots w.1) worth d.1) in
     record {
       number = k.number;
       bid = k.bid;
       stands = k.stands;
       kept = k.kept;
       smaller = within_trans k.bid.package w.1.package x.package k.smaller s.0;
-      no_cheaper = le-leb x.amount k.bid.amount (omega arith);
+      no_cheaper = int_le_trans (net lots x) (net lots w.1) (net lots k.bid) d.1 k.no_cheaper;
     })
     (λ none. record {
       number = j;
       bid = x;
       stands = at;
-      kept = and_from _ _ fit (not_from_false _ none);
+      kept = and_from _ _ (and_from _ _ fit worth) (not_from_false _ none);
       smaller = within_refl x.package;
-      no_cheaper = le-leb x.amount x.amount (le_refl x.amount);
+      no_cheaper = le_test (net lots x) (net lots x) (omega (arith, ints));
     })
     (cases_Bool (list_any (λ y. dominates lots y x) form))
 
 pub keeps_the_best : KeepsTheBest
-keeps_the_best lots form j x at fit = keeper lots form (suc (size x.package)) j x (omega arith) at fit
+keeps_the_best lots form j x at fit = ⊎_elim
+    (λ worth. inr (keeper lots form (suc (size x.package)) j x (omega arith) at fit worth))
+    (λ less. inl (lt_from (pos 0) (net lots x) less))
+    (cases_Bool (pays lots x))
 
 smaller_size : (lots : Lots) (x y : Bid) (b : Bool) → dominates lots y x ≡ b → (nat_lt (size y.package) (size x.package) && dominates lots y x) ≡ b
 smaller_size lots x y true d =

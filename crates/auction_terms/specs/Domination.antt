@@ -1,20 +1,28 @@
 -- Which bids of a form another bid makes needless.
-use Rattle.std.specs.Prelude.{◌≡◌, Bool, not, ◌&&◌, nat_le, nat_lt, List}
+use Rattle.std.specs.Prelude.{◌≡◌, Bool, not, ◌&&◌, nat_lt, List, ℤ, pos, ◌-ℤ◌, int_le}
 use Rattle.std.specs.List.{list_any}
 use Rattle.auction_terms.specs.declared.bids.Bid.{Bid}
-use Rattle.auction_terms.specs.Packages.{Lots, is_smaller, fits, size}
+use Rattle.auction_terms.specs.Packages.{Lots, is_smaller, fits, size, worth}
 
--- the second bid isn't worth more than the first
+-- the amount, less what the package is worth where it is left
+abbrev pub net : Lots → Bid → ℤ
+net lots x = pos x.amount -ℤ pos (worth lots x.package)
+
+-- the second bid's net isn't higher
 abbrev pub is_no_cheaper : Lots → Bid → Bid → Bool
-is_no_cheaper lots x y = nat_le y.amount x.amount
+is_no_cheaper lots x y = int_le (net lots y) (net lots x)
 
--- the first bid dominates the second: its package is smaller, and it isn't worth less
+-- the first bid dominates the second: its package is smaller, and its net isn't lower
 abbrev pub dominates : Lots → Bid → Bid → Bool
 dominates lots x y = is_smaller x.package y.package && is_no_cheaper lots x y
 
--- the bid fits, and no bid of its form dominates it
+-- the bid's net isn't below 0: it brings at least what its package is worth where it is left
+abbrev pub pays : Lots → Bid → Bool
+pays lots x = int_le (pos 0) (net lots x)
+
+-- the bid fits, it pays, and no bid of its form dominates it
 abbrev pub is_kept : Lots → List Bid → Bid → Bool
-is_kept lots form x = fits lots x.package && not (list_any (λ y. dominates lots y x) form)
+is_kept lots form x = (fits lots x.package && pays lots x) && not (list_any (λ y. dominates lots y x) form)
 
 -- a bid is kept by comparing it with the bids of smaller size alone
 abbrev pub SmallerSizesSuffice : Type 0

@@ -1,11 +1,12 @@
 -- Groups of bidders, as lists of rising numbers.
 use Rattle.std.specs.Prelude.{◌≤◌, ◌<◌, ◌==◌, Bool, false, ℕ, List, [], ◌∷◌, length, All, AllPairs}
 use Rattle.std.specs.List.{list_any}
+use Rattle.auction_terms.specs.declared.limits.TheConstants.{MOST_BIDDERS, MOST_GROUPS}
 
 -- the number of a bidder
 pub record IsBidderNumber (number : ℕ) : Type 0 where
   pub some : 1 ≤ number
-  pub few : number ≤ 256
+  pub few : number ≤ MOST_BIDDERS
 
 -- bidder numbers, each below all later ones
 pub record IsGroup (numbers : List ℕ) : Type 0 where
@@ -14,7 +15,7 @@ pub record IsGroup (numbers : List ℕ) : Type 0 where
 
 -- groups within their limit
 pub record AreGroups (groups : List (List ℕ)) : Type 0 where
-  pub few : length groups ≤ 1024
+  pub few : length groups ≤ MOST_GROUPS
   pub each : All IsGroup groups
 
 -- there is a first group, and nobody is in it

@@ -1,13 +1,13 @@
 -- What presolve keeps of a book, and what stands in for a bid that it drops.
-use Rattle.std.specs.Prelude.{◌≡◌, ℕ, ◌+◌, ◌≤◌, Bool, true, false, not, ◌&&◌, List, [], ◌∷◌, ◌++◌, Some, filter, All}
+use Rattle.std.specs.Prelude.{◌≡◌, ◌⊎◌, ℕ, ◌+◌, ◌≤◌, pos, ◌<ℤ◌, Bool, true, false, not, ◌&&◌, List, [], ◌∷◌, ◌++◌, Some, filter, All}
 use Rattle.std.specs.Option.{option_map_or}
 use Rattle.auction_terms.specs.declared.bids.Bid.{Bid}
 use Rattle.auction_terms.specs.declared.choices.Choice.{Choice}
 use Rattle.auction_terms.specs.Packages.{Lots, is_within, fits}
-use Rattle.auction_terms.specs.Domination.{is_no_cheaper, is_kept}
+use Rattle.auction_terms.specs.Domination.{net, is_no_cheaper, is_kept}
 use Rattle.auction_terms.specs.Allocations.{Book, form_of, bid_at, bid_of, total, IsFeasible, IsSized}
 
--- a kept bid of the form, with a package at most that of x, which isn't worth less than x
+-- a kept bid of the form, with a package at most that of x, and a net at least that of x
 pub record KeptInstead (lots : Lots) (form : List Bid) (x : Bid) : Type 0 where
   pub number : ℕ
   pub bid : Bid
@@ -16,9 +16,9 @@ pub record KeptInstead (lots : Lots) (form : List Bid) (x : Bid) : Type 0 where
   pub smaller : is_within bid.package x.package ≡ true
   pub no_cheaper : is_no_cheaper lots bid x ≡ true
 
--- every bid that fits is kept, or a kept bid of its form is at least as good
+-- every bid that fits has a net below 0, or is kept, or a kept bid of its form is at least as good
 abbrev pub KeepsTheBest : Type 0
-KeepsTheBest = (lots : Lots) (form : List Bid) (j : ℕ) (x : Bid) → bid_at form j ≡ Some x → fits lots x.package ≡ true → KeptInstead lots form x
+KeepsTheBest = (lots : Lots) (form : List Bid) (j : ℕ) (x : Bid) → bid_at form j ≡ Some x → fits lots x.package ≡ true → (net lots x <ℤ pos 0) ⊎ KeptInstead lots form x
 
 -- a bid of the book, with its bidder and its number in the bidder's form
 pub record Offer : Type 0 where
@@ -39,7 +39,7 @@ abbrev pub offers_from : ℕ → Book → List Offer
 offers_from b [] = []
 offers_from b (form ∷ book) = offers_of_form b 1 form ++ offers_from (b + 1) book
 
--- a bid of a bidder outside the group that fits and is dominated by no bid of its form
+-- a bid of a bidder outside the group that fits and pays, and that no bid of its form dominates
 abbrev pub is_kept_offer : Lots → Book → (ℕ → Bool) → Offer → Bool
 is_kept_offer lots book group o = not (group o.bidder) && is_kept lots (form_of book o.bidder) o.bid
 

@@ -4,6 +4,7 @@ pub mod Names
 pub mod Numbers
 pub mod Terms
 pub mod RulesText
+pub mod Entries
 pub mod Lines
 pub mod Packages
 pub mod Domination

@@ -1,34 +1,43 @@
 -- The limits within which books and lists of offers stand.
-use Rattle.std.specs.Prelude.{◌≡◌, ℕ, ◌^◌, ◌<◌, ◌≤◌, ◌⊎◌, ⊤, Bool, List, [], ◌∷◌, length}
+use Rattle.std.specs.Prelude.{◌≡◌, ℕ, ◌<◌, ◌≤◌, ◌⊎◌, ⊤, Bool, List, [], ◌∷◌, length}
 use Rattle.std.specs.List.{AllByRecursion}
 use Rattle.auction_terms.specs.declared.bids.Bid.{Bid}
-use Rattle.auction_terms.specs.Packages.{Lots}
+use Rattle.auction_terms.specs.Packages.{Lots, WeightedCap}
 use Rattle.auction_terms.specs.Allocations.{Book}
 use Rattle.auction_terms.specs.Keeping.{Offer, kept_of}
+use Rattle.auction_terms.specs.declared.limits.TheConstants.{GREATEST_AMOUNT, GREATEST_QUANTITY, GREATEST_VALUE, GREATEST_WEIGHT, MOST_BIDDERS, MOST_BIDS, MOST_CATEGORIES, MOST_POOLS}
 
--- categories and their supplies within the limits
+-- a cap and its weights within the limits; the weight of a category that is no member is 0
+pub record IsWeightedCap (pool : WeightedCap) : Type 0 where
+  pub cap : pool.cap ≤ GREATEST_AMOUNT
+  pub weights : AllByRecursion (λ n. n ≤ GREATEST_WEIGHT) pool.weights
+
+-- categories with their supplies and values, and pools, within the limits
 pub record IsLots (lots : Lots) : Type 0 where
-  pub categories : length lots.supply ≤ 32
-  pub supplies : AllByRecursion (λ n. n ≤ 10000) lots.supply
+  pub categories : length lots.supply ≤ MOST_CATEGORIES
+  pub supplies : AllByRecursion (λ n. n ≤ GREATEST_QUANTITY) lots.supply
+  pub values : AllByRecursion (λ n. n ≤ GREATEST_VALUE) lots.values
+  pub few_pools : length lots.pools ≤ MOST_POOLS
+  pub pools : AllByRecursion IsWeightedCap lots.pools
 
 -- a package with a quantity for each category, and an amount, within the limits
 pub record IsBid (lots : Lots) (x : Bid) : Type 0 where
   pub sized : length x.package ≡ length lots.supply
-  pub quantities : AllByRecursion (λ n. n ≤ 10000) x.package
-  pub amount : x.amount ≤ 10 ^ 12
+  pub quantities : AllByRecursion (λ n. n ≤ GREATEST_QUANTITY) x.package
+  pub amount : x.amount ≤ GREATEST_AMOUNT
 
--- at most 256 forms of at most 4,000 bids
+-- a form for each of so many bidders, of so many bids
 pub record IsBook (lots : Lots) (book : Book) : Type 0 where
-  pub bidders : length book ≤ 256
-  pub forms : AllByRecursion (λ form. length form ≤ 4000) book
+  pub bidders : length book ≤ MOST_BIDDERS
+  pub forms : AllByRecursion (λ form. length form ≤ MOST_BIDS) book
   pub bids : AllByRecursion (λ form. AllByRecursion (IsBid lots) form) book
 
--- bidders 1 to 256, and bids 1 to 4,000 of each
+-- a bid within the limits, with its bidder and its number in the form
 pub record IsOffer (lots : Lots) (o : Offer) : Type 0 where
   pub bidder_from : 1 ≤ o.bidder
-  pub bidder_to : o.bidder ≤ 256
+  pub bidder_to : o.bidder ≤ MOST_BIDDERS
   pub number_from : 1 ≤ o.number
-  pub number_to : o.number ≤ 4000
+  pub number_to : o.number ≤ MOST_BIDS
   pub bid : IsBid lots o.bid
 
 -- by bidder, then by the number of the bid

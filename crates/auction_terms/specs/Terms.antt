@@ -1,28 +1,38 @@
 -- What the rules of an auction say, and their limits.
-use Rattle.std.specs.Prelude.{◌≢◌, ◌≤◌, ◌^◌, ℕ, List, length, map, sum_by, All, AllPairs}
-use Rattle.auction_terms.specs.Packages.{Lots, lots_of}
+use Rattle.std.specs.Prelude.{◌≢◌, ◌≤◌, ℕ, Bool, List, length, map, nat_lt, sum_by, All, AllPairs}
+use Rattle.std.specs.List.{list_any}
+use Rattle.auction_terms.specs.Packages.{Lots, WeightedCap}
 use Rattle.auction_terms.specs.declared.rules.Category.{Category}
 use Rattle.auction_terms.specs.declared.rules.Bidder.{Bidder}
+use Rattle.auction_terms.specs.declared.rules.Pool.{Pool}
+use Rattle.auction_terms.specs.declared.limits.TheConstants.{GREATEST_AMOUNT, GREATEST_POINTS, GREATEST_QUANTITY, GREATEST_VALUE, GREATEST_WEIGHT, MOST_BIDDERS, MOST_CATEGORIES, MOST_POOLS, MOST_SESSIONS}
 
 pub record Terms : Type 0 where
   pub step : ℕ
   pub categories : List Category
   pub bidders : List Bidder
+  pub pools : List Pool
 
-abbrev pub terms : ℕ → List Category → List Bidder → Terms
-terms step categories bidders = record { step = step; categories = categories; bidders = bidders }
+abbrev pub terms : ℕ → List Category → List Bidder → List Pool → Terms
+terms step categories bidders pools = record { step = step; categories = categories; bidders = bidders; pools = pools }
 
 -- a category within its limits
 pub record IsCategory (category : Category) : Type 0 where
-  pub supply : category.supply ≤ 10000
-  pub reserve : category.reserve ≤ 10 ^ 12
-  pub points : category.points ≤ 1000000
+  pub supply : category.supply ≤ GREATEST_QUANTITY
+  pub reserve : category.reserve ≤ GREATEST_AMOUNT
+  pub points : category.points ≤ GREATEST_POINTS
+  pub value : category.value ≤ GREATEST_VALUE
 
 -- a bidder within its limits
 pub record IsBidder (bidder : Bidder) : Type 0 where
-  pub eligibility : bidder.eligibility ≤ 10 ^ 12
+  pub eligibility : bidder.eligibility ≤ GREATEST_AMOUNT
   pub some_session : 1 ≤ bidder.sessions
-  pub sessions : bidder.sessions ≤ 8
+  pub sessions : bidder.sessions ≤ MOST_SESSIONS
+
+-- a pool within its limits
+pub record IsPool (pool : Pool) : Type 0 where
+  pub cap : pool.cap ≤ GREATEST_AMOUNT
+  pub weights : All (λ weight. weight ≤ GREATEST_WEIGHT) pool.weights
 
 -- no two of these names are the same
 abbrev pub AllDiffer : List (List ℕ) → Type 0
@@ -31,11 +41,14 @@ AllDiffer names = AllPairs (λ a b. a ≢ b) names
 -- categories and bidders within their limits, as far as they were read
 pub record AreWithinLimits (t : Terms) : Type 0 where
   pub least_step : 1 ≤ t.step
-  pub greatest_step : t.step ≤ 10 ^ 12
-  pub category_count : length t.categories ≤ 32
-  pub bidder_count : length t.bidders ≤ 256
+  pub greatest_step : t.step ≤ GREATEST_AMOUNT
+  pub category_count : length t.categories ≤ MOST_CATEGORIES
+  pub bidder_count : length t.bidders ≤ MOST_BIDDERS
   pub each_category : All IsCategory t.categories
   pub each_bidder : All IsBidder t.bidders
+  pub pool_count : length t.pools ≤ MOST_POOLS
+  pub each_pool : All IsPool t.pools
+  pub pool_names : AllDiffer (map (λ pool. pool.name) t.pools)
   pub category_names : AllDiffer (map (λ category. category.name) t.categories)
   pub bidder_names : AllDiffer (map (λ bidder. bidder.name) t.bidders)
 
@@ -49,6 +62,22 @@ pub record AreTerms (t : Terms) : Type 0 where
 abbrev pub session_count : Terms → ℕ
 session_count t = sum_by (λ bidder. bidder.sessions) t.bidders
 
+-- a lot of some category has a value where it is left
+abbrev pub has_values : List Category → Bool
+has_values categories = list_any (λ category. nat_lt 0 category.value) categories
+
+-- the cap of a pool, without its name
+abbrev pub cap_of : Pool → WeightedCap
+cap_of pool = record { cap = pool.cap; weights = pool.weights }
+
+-- what these categories and pools have for sale
+abbrev pub lots_of : List Category → List Pool → Lots
+lots_of categories pools = record {
+  supply = map (λ category. category.supply) categories;
+  values = map (λ category. category.value) categories;
+  pools = map cap_of pools;
+}
+
 -- what these rules have for sale
 abbrev pub lots_in : Terms → Lots
-lots_in t = lots_of (map (λ category. category.supply) t.categories)
+lots_in t = lots_of t.categories t.pools

@@ -8,14 +8,15 @@ ghost use Rattle.auction_terms.specs.GroupsText.{Answers, Tells, TellsFault, fau
 ghost use Rattle.auction_terms.specs.GroupNames.{names_in};
 ghost use Rattle.auction_terms.specs.Groups.{IsGroup};
 ghost use Rattle.auction_terms.specs.Lines.{lines_of};
+ghost use Rattle.auction_terms.specs.declared.limits.TheConstants.{MOST_BIDDERS};
 ghost use Rattle.auction_terms.specs.declared.groups_text.GroupFault.TheVariants as fault;
 
 use crate::group_list::Groups;
 use crate::group_names::NameReader;
 use crate::groups::Group;
+use crate::limits::{MOST_GROUPS, TEXT_LIMIT};
 use crate::lines::LineReader;
 use crate::rules::{Bidder, Rules};
-use crate::rules_text::TEXT_LIMIT;
 use std::alloc::{AllocError, Global};
 use thiserror::Error;
 
@@ -97,7 +98,7 @@ fn read_names<'a>(
 
 // The numbers of the bidders that the names name.
 fn numbers_of(alloc: Global, bidders: &[Bidder], names: &[&[u8]]) -> Result<Vec<u16>, AllocError>
-    requires { length bidders.now ≤ 256 }
+    requires { length bidders.now ≤ MOST_BIDDERS }
     ensures numbers { IfOk result (λ numbers. numbers.items ≡ numbers_from 1 bidders.now (map (λ name. name.now) names.now)) }
     ensures group { IfOk result (λ numbers. IsGroup numbers.items) }
 {
@@ -117,16 +118,16 @@ fn read_group(
     bidders: &[Bidder],
     line: &[u8],
 ) -> Result<Group, GroupFault>
-    requires { length bidders.now ≤ 256 }
+    requires { length bidders.now ≤ MOST_BIDDERS }
     ensures answer { Tells result (fault_of_line bidders.now place line.now) (group_of bidders.now line.now) }
-    ensures room { OnOk result (place ≤ 1024) }
+    ensures room { OnOk result (place ≤ MOST_GROUPS) }
     ensures group { IfOk result IsGroup }
 {
     if line.is_empty() {
         return Err(GroupFault::EmptyLine { place });
     }
     let names = read_names(alloc, place, bidders, line)?;
-    if place > 1024 {
+    if place > MOST_GROUPS {
         return Err(GroupFault::TooManyGroups { place });
     }
     let numbers = numbers_of(alloc, bidders, &names)?;
@@ -135,8 +136,8 @@ fn read_group(
 
 /// Reads bidder groups, under rules.
 pub fn read_groups(alloc: Global, bytes: &[u8], rules: &Rules) -> Result<Groups, GroupFault>
-    ensures too_large { 4194304 < length bytes.now → result ≡ Err fault.TooLarge }
-    ensures answer { length bytes.now ≤ 4194304 → Answers result (groups_of rules.now.bidders bytes.now) }
+    ensures too_large { TEXT_LIMIT < length bytes.now → result ≡ Err fault.TooLarge }
+    ensures answer { length bytes.now ≤ TEXT_LIMIT → Answers result (groups_of rules.now.bidders bytes.now) }
 {
     if bytes.len() > TEXT_LIMIT {
         return Err(GroupFault::TooLarge);

@@ -2,24 +2,47 @@
 
 ghost use Rattle.std.specs.Prelude.{◌≡◌, [], List, Some};
 ghost use Rattle.auction_terms.specs.FirstFault.{IsFirstFault, first_fault};
+ghost use Rattle.auction_terms.specs.Packages.{SmallerFits, SmallerLoadsNoMore};
+ghost use Rattle.auction_terms.specs.Allocations.{LoadsAddUp, TotalsAreNets};
 ghost use Rattle.auction_terms.specs.Domination.{SmallerSizesSuffice};
 ghost use Rattle.auction_terms.specs.Keeping.{KeepsTheBest, KeptAreEnough};
 ghost use Rattle.auction_terms.specs.Limits.{KeptAreOffers};
 ghost use Rattle.auction_terms.specs.Records.{Record};
 ghost use Rattle.auction_terms.specs.RulesText.{entry_fault};
+ghost use Rattle.auction_terms.specs.declared.record_kinds.Version.{Version};
 ghost use Rattle.auction_terms.specs.declared.rules_text.RulesFault.{RulesFault};
 
-/// The fault that a list of records tells is that of its first record with a fault.
+/// The fault that the records after a header tell is that of its first record with a fault.
 pub fn first_fault_is_first()
-    ensures { (entries : List Record) (f : RulesFault) → first_fault entry_fault [] entries ≡ Some f → IsFirstFault entry_fault entries f }
+    ensures { (version : Version) (entries : List Record) (f : RulesFault) → first_fault (entry_fault version) [] entries ≡ Some f → IsFirstFault (entry_fault version) entries f }
 {}
 
-/// And the fault of a record before which no record has one is the fault that the list tells.
+/// And the fault of a record before which no record has one is the fault that they tell.
 pub fn first_fault_is_told()
-    ensures { (entries : List Record) (f : RulesFault) → IsFirstFault entry_fault entries f → first_fault entry_fault [] entries ≡ Some f }
+    ensures { (version : Version) (entries : List Record) (f : RulesFault) → IsFirstFault (entry_fault version) entries f → first_fault (entry_fault version) [] entries ≡ Some f }
 {}
 
-/// Every bid that fits is kept, or a kept bid of its form has a package at most its own and isn't worth less.
+/// A package that is at most another loads no pool more.
+pub fn a_smaller_package_loads_no_more()
+    ensures { SmallerLoadsNoMore }
+{}
+
+/// A package that is at most another fits where that one does.
+pub fn a_smaller_package_fits()
+    ensures { SmallerFits }
+{}
+
+/// What packages together load a pool is the sum of their loads.
+pub fn loads_add_up()
+    ensures { LoadsAddUp }
+{}
+
+/// The total of an allocation that fits is what all lots are worth, and the sum of its nets.
+pub fn totals_are_nets()
+    ensures { TotalsAreNets }
+{}
+
+/// Every bid that fits has a net below 0, or is kept, or a kept bid of its form has a package at most its own and a net at least its own.
 pub fn a_kept_bid_stands_in()
     ensures { KeepsTheBest }
 {}

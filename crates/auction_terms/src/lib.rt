@@ -3,31 +3,41 @@
 
 mod bids;
 mod choices;
+mod draft;
 mod group_list;
 mod group_names;
 mod groups;
 mod groups_text;
 pub mod laws;
+mod limits;
 mod lines;
 mod names;
 mod numbers;
 mod packages;
+mod record_kinds;
 mod records;
 mod rules;
 mod rules_text;
+mod values;
+mod weights;
 
 pub use bids::{Bid, Kept, KeptBid};
 pub use choices::Choice;
 pub use group_list::Groups;
 pub use groups::Group;
 pub use groups_text::{GroupFault, read_groups};
+pub use limits::{
+    GREATEST_AMOUNT, GREATEST_POINTS, GREATEST_QUANTITY, GREATEST_VALUE, GREATEST_WEIGHT,
+    MOST_BIDDERS, MOST_BIDS, MOST_CATEGORIES, MOST_GROUPS, MOST_POOLS, MOST_SESSIONS, TEXT_LIMIT,
+};
 pub use lines::LineReader;
 pub use names::Name;
 pub use numbers::number;
 pub use packages::{Package, Quantities};
 pub use records::RecordReader;
-pub use rules::{Bidder, Category, Rules};
-pub use rules_text::{RulesFault, TEXT_LIMIT, field, read_rules};
+pub use rules::{Bidder, Category, Pool, Rules};
+pub use rules_text::{RulesFault, field, read_rules};
+pub use weights::Weights;
 
 #[cfg(test)]
 mod tests;

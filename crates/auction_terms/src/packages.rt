@@ -1,12 +1,13 @@
 //! Packages of lots.
 
-use crate::rules::{Category, Rules};
+use crate::limits::MOST_CATEGORIES;
+use crate::rules::{Category, Pool, Rules};
 use arrayvec::ArrayVec;
 use std::marker::Model;
 
-/// Room for a quantity of each category: at most 32, each at most 10,000. It stands in the package itself, so that a bid
+/// Room for a quantity of each category, in two bytes each. It stands in the package itself, so that a bid
 /// takes no memory of its own.
-pub type Quantities = ArrayVec<u16, 32>;
+pub type Quantities = ArrayVec<u16, MOST_CATEGORIES>;
 
 /// A quantity per category. Contracts see the list of them.
 #[derive(Drop)]
@@ -72,12 +73,13 @@ impl Package {
         sum_of(&self.quantities)
     }
 
-    /// Whether no category is above its supply.
+    /// Whether no category is above its supply, and no pool above its cap.
     pub fn fits(&self, rules: &Rules) -> bool
         requires { length self.now ≡ length rules.now.categories }
         ensures { result ≡ fits (lots_in rules.now) self.now }
     {
         within_supply(&self.quantities, rules.categories())
+            && within_caps(&self.quantities, rules.pools())
     }
 
     /// Whether another package is at most this one in every category.
@@ -89,8 +91,10 @@ impl Package {
     }
 }
 
-ghost use Rattle.std.specs.Prelude.{◌≡◌, length, map};
-ghost use Rattle.auction_terms.specs.Packages.{IsPackage, is_within, size};
+ghost use Rattle.std.specs.Prelude.{◌≡◌, ◌≤◌, ◌^◌, length, map};
+ghost use Rattle.std.specs.List.{list_all};
+ghost use Rattle.auction_terms.specs.Packages.{IsPackage, is_within, is_within_cap, size, weighed};
+ghost use Rattle.auction_terms.specs.Terms.{cap_of};
 
 // The quantities, each in two bytes.
 fn quantities_of(quantities: &[u32]) -> Quantities
@@ -134,6 +138,39 @@ fn within_supply(quantities: &[u16], categories: &[Category]) -> bool
 {
     for place in 0..quantities.len() {
         if u32::from(quantities[place]) > categories[place].supply {
+            return false;
+        }
+    }
+    true
+}
+
+// The sum of the quantities, each times its weight.
+pub(crate) fn weighed(weights: &[u16], quantities: &[u16]) -> u64
+    requires { length quantities.now ≤ MOST_CATEGORIES }
+    ensures sum { result ≡ weighed weights.now quantities.now }
+    ensures limit { result ≤ 2 ^ 37 }
+{
+    let mut sum = 0;
+    for place in 0..quantities.len().min(weights.len()) {
+        sum += u64::from(weights[place]) * u64::from(quantities[place]);
+    }
+    sum
+}
+
+// Whether the quantities load a pool no more than its cap.
+fn within_cap(quantities: &[u16], pool: &Pool) -> bool
+    requires { length quantities.now ≤ MOST_CATEGORIES }
+    ensures { result ≡ is_within_cap quantities.now (cap_of pool.now) }
+{
+    weighed(pool.weights.as_slice(), quantities) <= pool.cap
+}
+
+fn within_caps(quantities: &[u16], pools: &[Pool]) -> bool
+    requires { length quantities.now ≤ MOST_CATEGORIES }
+    ensures { result ≡ list_all (is_within_cap quantities.now) (map cap_of pools.now) }
+{
+    for place in 0..pools.len() {
+        if !within_cap(quantities, &pools[place]) {
             return false;
         }
     }

@@ -1,5 +1,5 @@
 -- What a settled history leaves standing.
-use Rattle.std.proofs.Common.{◌≡◌, ◌≢◌, ℕ, zero, suc, ◌+◌, ◌^◌, ◌<◌, ◌≤◌, List, [], ◌∷◌, Bool, true, false, cond, map, length, refl, sym, ap, ◌∙◌, subst, arith, IsTrue, not, ◌==◌, ◌&&◌, ◌%◌, nat_le, ◌⊎◌, inl, inr}
+use Rattle.std.proofs.Common.{◌≡◌, ◌≢◌, ℕ, zero, suc, ◌+◌, ◌<◌, ◌≤◌, List, [], ◌∷◌, Bool, true, false, cond, map, length, refl, sym, ap, ◌∙◌, subst, arith, IsTrue, not, ◌==◌, ◌&&◌, ◌%◌, nat_le, ◌⊎◌, inl, inr}
 use Rattle.std.specs.Prelude.{filter, All, slice_index_or, Option, Some, None, IfSome}
 use Rattle.std.specs.List.{last_or, range_with_len, AllByRecursion}
 use Rattle.std.specs.Option.{option_map, option_map_or, option_and_then}
@@ -8,11 +8,12 @@ use Rattle.std.proofs.lemmas.List.{get_or_past, length-map}
 use Rattle.std.proofs.lemmas.List.Elements.{All-filter, All-map, All-weaker, recursion_from_All}
 use Rattle.std.proofs.lemmas.List.Sums.{AllPass-from_list_all}
 use Rattle.std.proofs.lemmas.List.FromFn.{get_or-map-range_with_len, length-map-range_with_len}
-use Rattle.auction_terms.specs.Terms.{AreTerms, IsCategory, Terms, lots_in}
-use Rattle.auction_terms.specs.Limits.{IsBid, IsBook, IsLots}
+use Rattle.auction_terms.specs.Terms.{AreTerms, Terms, lots_in}
+use Rattle.auction_terms.specs.Limits.{IsBid, IsBook}
 use Rattle.auction_terms.specs.RulesText.{is_between}
 use Rattle.auction_terms.specs.declared.rules.Category.{Category}
 use Rattle.auction_terms.specs.declared.bids.Bid.{Bid}
+use Rattle.auction_terms.specs.declared.limits.TheConstants.{GREATEST_AMOUNT, GREATEST_QUANTITY, MOST_BIDS}
 use Rattle.auction_terms.specs.Allocations.{form_of}
 use Rattle.bid_forms.specs.Offers.{Offers, Meets, are_quantities, eligibility_of, is_bid_under, is_empty_package, points_of, reserve_of}
 use Rattle.bid_book.specs.declared.caller.Caller.{Caller}
@@ -91,18 +92,11 @@ form_of-book_of c entries (suc b) =
           ∙ sym (get_or_past (book_of c) b [] (omega (arith, length-map-range_with_len (λ bidder. bids_in (form_standing c.history bidder)) 1 (length c.rules.bidders))))
     ]
 
--- what is for sale under rules is within the limits
-pub IsLots-lots_in : (t : Terms) → AreTerms t → IsLots (lots_in t)
-IsLots-lots_in t terms = record {
-  categories = omega (arith, length-map t.categories (λ (c : Category). c.supply), terms.limits.category_count);
-  supplies = recursion_from_All (λ n. n ≤ 10000) (lots_in t).supply (All-map (λ n. n ≤ 10000) (λ (c : Category). c.supply) t.categories (All-weaker IsCategory (λ c. c.supply ≤ 10000) (λ c within. within.supply) t.categories terms.limits.each_category));
-}
-
 -- a bid that rules allow is within the limits
 IsBid-under : (t : Terms) (eligibility : ℕ) (bid : Bid) → IsTrue (is_bid_under t eligibility bid) → IsBid (lots_in t) bid
 IsBid-under t eligibility bid allowed =
     let sized = length bid.package == length t.categories in
-    let priced = is_between 1 (10 ^ 12) bid.amount in
+    let priced = is_between 1 GREATEST_AMOUNT bid.amount in
     let stepped = bid.amount % t.step == 0 in
     let counted = are_quantities bid.package in
     let some = not (is_empty_package bid.package) in
@@ -116,11 +110,11 @@ IsBid-under t eligibility bid allowed =
     let one = and_parts sized priced two in
     record {
       sized = eqb-true _ _ one.0 ∙ sym (length-map t.categories (λ (c : Category). c.supply));
-      quantities = recursion_from_All (λ n. n ≤ 10000) bid.package (All-weaker (λ n. nat_le n 10000 ≡ true) (λ n. n ≤ 10000) (λ n small. leb-true n 10000 small) bid.package (AllPass-from_list_all (λ n. nat_le n 10000) bid.package three.1));
-      amount = leb-true _ _ (and_parts (nat_le 1 bid.amount) (nat_le bid.amount (10 ^ 12)) one.1).1;
+      quantities = recursion_from_All (λ n. n ≤ GREATEST_QUANTITY) bid.package (All-weaker (λ n. nat_le n GREATEST_QUANTITY ≡ true) (λ n. n ≤ GREATEST_QUANTITY) (λ n small. leb-true n GREATEST_QUANTITY small) bid.package (AllPass-from_list_all (λ n. nat_le n GREATEST_QUANTITY) bid.package three.1));
+      amount = leb-true _ _ (and_parts (nat_le 1 bid.amount) (nat_le bid.amount GREATEST_AMOUNT) one.1).1;
     }
 
-standing-few : (t : Terms) (s : Option (Standing Offers)) → IfSome s (λ s. Meets t s.form) → length (bids_in (option_map (λ (s : Standing Offers). s.form) s)) ≤ 4000
+standing-few : (t : Terms) (s : Option (Standing Offers)) → IfSome s (λ s. Meets t s.form) → length (bids_in (option_map (λ (s : Standing Offers). s.form) s)) ≤ MOST_BIDS
 standing-few t None meets = omega arith
 standing-few t (Some s) meets = meets.few
 
@@ -138,8 +132,8 @@ IsBook-book_of c terms entries =
     let form = λ (bidder : ℕ). bids_in (form_standing c.history bidder) in
     record {
       bidders = omega (arith, length-map-range_with_len form 1 n, terms.limits.bidder_count);
-      forms = recursion_from_All (λ bids. length bids ≤ 4000) (book_of c)
-          (All-map (λ bids. length bids ≤ 4000) form (range_with_len 1 n) (λ k d l. standing-few t (standing_of c.history (slice_index_or (range_with_len 1 n) k d)) (standing_of-meets t c.history entries (slice_index_or (range_with_len 1 n) k d))));
+      forms = recursion_from_All (λ bids. length bids ≤ MOST_BIDS) (book_of c)
+          (All-map (λ bids. length bids ≤ MOST_BIDS) form (range_with_len 1 n) (λ k d l. standing-few t (standing_of c.history (slice_index_or (range_with_len 1 n) k d)) (standing_of-meets t c.history entries (slice_index_or (range_with_len 1 n) k d))));
       bids = recursion_from_All (AllByRecursion (IsBid (lots_in t))) (book_of c)
           (All-map (AllByRecursion (IsBid (lots_in t))) form (range_with_len 1 n) (λ k d l. standing-each t (standing_of c.history (slice_index_or (range_with_len 1 n) k d)) (standing_of-meets t c.history entries (slice_index_or (range_with_len 1 n) k d))));
     }

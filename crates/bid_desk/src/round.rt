@@ -13,7 +13,7 @@ pub trait Round: Ledger {
 }
 
 impl Round for Brand {
-    ghost rules = { terms 0 [] [] };
+    ghost rules = { terms 0 [] [] [] };
 
     ghost part_count = { 0 };
 }

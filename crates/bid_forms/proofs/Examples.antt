@@ -12,8 +12,9 @@ use Rattle.bid_forms.specs.declared.form_text.FormFault.TheVariants as fault
 -- two lots of A at 10 each, one of B at 5, and one bidder of eligibility 9
 abbrev rules : Terms
 rules = terms 1
-    (record { name = codes "A"; supply = 2; reserve = 10; points = 1 } ∷ record { name = codes "B"; supply = 1; reserve = 5; points = 1 } ∷ [])
+    (record { name = codes "A"; supply = 2; reserve = 10; points = 1; value = 0 } ∷ record { name = codes "B"; supply = 1; reserve = 5; points = 1; value = 0 } ∷ [])
     (record { name = codes "Alpha"; eligibility = 9; sessions = 2 } ∷ [])
+    []
 
 form : form_of rules (codes "Alpha,A,B\n0030,1,0\n") ≡ Ok (offers 1 (record { «package» = 1 ∷ 0 ∷ []; amount = 30 } ∷ []))
 unfolding csv_on_literals first_fault field_at

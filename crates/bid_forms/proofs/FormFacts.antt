@@ -9,6 +9,7 @@ use Rattle.auction_terms.specs.FirstFault.{first_fault}
 use Rattle.auction_terms.specs.Records.{Record}
 use Rattle.auction_terms.specs.Terms.{Terms}
 use Rattle.auction_terms.specs.declared.bids.Bid.{Bid}
+use Rattle.auction_terms.specs.declared.limits.TheConstants.{MOST_BIDS}
 use Rattle.bid_forms.specs.Offers.{IsWithinLimits, PackagesDiffer, is_bid_under, number_of_package}
 use Rattle.bid_forms.specs.FormText.{bid_fault, bid_of, fault_of_bid}
 use Rattle.bid_forms.specs.declared.form_text.FormFault.{FormFault}
@@ -20,7 +21,7 @@ pub record BidsSoFar (t : Terms) (eligibility : ℕ) (all rest : List Record) (p
   pub checked : CheckedSoFar (bid_fault t eligibility) all before rest
   pub place_is : place ≡ length before + 2
   pub bids_are : bids ≡ map bid_of before
-  pub few : length bids ≤ 4000
+  pub few : length bids ≤ MOST_BIDS
   pub limits : All IsWithinLimits bids
   pub each : All (λ bid. IsTrue (is_bid_under t eligibility bid)) bids
   pub differ : PackagesDiffer bids
@@ -34,7 +35,7 @@ bid_fault-is t eligibility all ahead place bids r so_far = rw (so_far.place_is, 
 pub bids-more : (t : Terms) (eligibility : ℕ) (all ahead rest : List Record) (place : ℕ) (old new : List Bid) (r : Record) (bid : Bid)
     → BidsSoFar t eligibility all ahead place old → ahead ≡ r ∷ rest
     → fault_of_bid t eligibility place old r ≡ None → bid ≡ bid_of r → new ≡ old ++ bid ∷ []
-    → IsWithinLimits bid → IsTrue (is_bid_under t eligibility bid) → number_of_package bid.package old ≡ None → length old < 4000
+    → IsWithinLimits bid → IsTrue (is_bid_under t eligibility bid) → number_of_package bid.package old ≡ None → length old < MOST_BIDS
     → BidsSoFar t eligibility all rest (place + 1) new
 bids-more t eligibility all ahead rest place old new r bid so_far next none is added limits allowed fresh room =
     let before = so_far.before in

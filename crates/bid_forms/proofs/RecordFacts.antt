@@ -15,6 +15,7 @@ use Rattle.csv.specs.Records.{field_at}
 use Rattle.auction_terms.specs.RulesText.{field}
 use Rattle.auction_terms.specs.Records.{Record}
 use Rattle.auction_terms.specs.declared.rules.Category.{Category}
+use Rattle.auction_terms.specs.declared.limits.TheConstants.{GREATEST_QUANTITY}
 
 -- lists of different length differ
 pub differ-lengths : (xs ys : List (List ℕ)) → (length xs ≡ length ys → ⊥) → pointwise bytes_eq xs ys ≡ false
@@ -82,7 +83,7 @@ QuantitiesSoFar r n within items =
     (list_all is_number_text (drop n r) ≡ list_all is_number_text (drop 1 r))
     × ((within && are_quantities (quantities_from n r)) ≡ are_quantities (quantities_in r))
     × (within ≡ true → items ++ quantities_from n r ≡ quantities_in r)
-    × All (λ quantity. quantity ≤ 10000) items
+    × All (λ quantity. quantity ≤ GREATEST_QUANTITY) items
     × (length items < n)
 
 -- the next field is no number
@@ -100,21 +101,21 @@ one-more (item ∷ items) value (suc n) fewer = (let more = one-more items value
 
 -- the next field is a quantity
 pub quantities-small : (r : Record) (n : ℕ) (within : Bool) (items : List ℕ) (value : ℕ) → QuantitiesSoFar r n within items → n < length r
-    → Some value ≡ number_of (field (n + 1) r) → value ≤ 10000 → QuantitiesSoFar r (n + 1) within (items ++ value ∷ [])
+    → Some value ≡ number_of (field (n + 1) r) → value ≤ GREATEST_QUANTITY → QuantitiesSoFar r (n + 1) within (items ++ value ∷ [])
 quantities-small r n within items value (texts, limits, are, each, fewer) small some few =
     let next = fields-more r n small in
     let is_text = is-number (field (n + 1) r) value some in
-    let test : nat_le value 10000 ≡ true = le-leb value 10000 few in (
+    let test : nat_le value GREATEST_QUANTITY ≡ true = le-leb value GREATEST_QUANTITY few in (
       rw (next, is_text) at texts,
       rw (next, ← some, test) at limits,
       λ h. (let told = are h in let more = rw (next, ← some) at told in append_assoc items (value ∷ []) _ ∙ more),
-      All-push (λ quantity. quantity ≤ 10000) items value each few,
+      All-push (λ quantity. quantity ≤ GREATEST_QUANTITY) items value each few,
       one-more items value n fewer,
     )
 
 -- the next field is a number above the limit
 pub quantities-great : (r : Record) (n : ℕ) (within : Bool) (items : List ℕ) (value : ℕ) → QuantitiesSoFar r n within items → n < length r
-    → Some value ≡ number_of (field (n + 1) r) → nat_le value 10000 ≡ false → QuantitiesSoFar r (n + 1) false items
+    → Some value ≡ number_of (field (n + 1) r) → nat_le value GREATEST_QUANTITY ≡ false → QuantitiesSoFar r (n + 1) false items
 quantities-great r n within items value (texts, limits, are, each, fewer) small some great =
     let next = fields-more r n small in
     let is_text = is-number (field (n + 1) r) value some in

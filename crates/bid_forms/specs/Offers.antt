@@ -1,5 +1,5 @@
 -- What a form says: a bidder and its bids; and when bids meet rules.
-use Rattle.std.specs.Prelude.{◌≡◌, ◌≢◌, ◌≤◌, ◌+◌, ◌-◌, ◌*◌, ◌%◌, ◌^◌, ◌==◌, ◌&&◌, Bool, not, ℕ, List, [], ◌∷◌, Option, None, Some, if◌then◌else◌, All, AllPairs, IsTrue, length, map, nat_eq, nat_le, slice_index}
+use Rattle.std.specs.Prelude.{◌≡◌, ◌≢◌, ◌≤◌, ◌+◌, ◌-◌, ◌*◌, ◌%◌, ◌==◌, ◌&&◌, Bool, not, ℕ, List, [], ◌∷◌, Option, None, Some, if◌then◌else◌, All, AllPairs, IsTrue, length, map, nat_eq, nat_le, slice_index}
 use Rattle.std.specs.List.{list_all}
 use Rattle.std.specs.Cmp.Lexicographic.{pointwise}
 use Rattle.auction_terms.specs.Packages.{IsPackage}
@@ -7,6 +7,7 @@ use Rattle.auction_terms.specs.RulesText.{is_between}
 use Rattle.auction_terms.specs.Terms.{Terms}
 use Rattle.auction_terms.specs.declared.bids.Bid.{Bid}
 use Rattle.auction_terms.specs.declared.rules.Category.{Category}
+use Rattle.auction_terms.specs.declared.limits.TheConstants.{GREATEST_AMOUNT, GREATEST_QUANTITY, MOST_BIDDERS, MOST_BIDS}
 
 -- the number of a bidder, and its bids
 pub record Offers : Type 0 where
@@ -48,7 +49,7 @@ abbrev pub is_empty_package : List ℕ → Bool
 is_empty_package lots = list_all (λ quantity. quantity == 0) lots
 
 abbrev pub are_quantities : List ℕ → Bool
-are_quantities lots = list_all (λ quantity. nat_le quantity 10000) lots
+are_quantities lots = list_all (λ quantity. nat_le quantity GREATEST_QUANTITY) lots
 
 -- the eligibility of a bidder
 abbrev pub eligibility_of : Terms → ℕ → ℕ
@@ -58,7 +59,7 @@ eligibility_of t bidder = slice_index (map (λ bidder. bidder.eligibility) t.bid
 abbrev pub is_bid_under : Terms → ℕ → Bid → Bool
 is_bid_under t eligibility bid =
     (length bid.package == length t.categories)
-    && is_between 1 (10 ^ 12) bid.amount
+    && is_between 1 GREATEST_AMOUNT bid.amount
     && (bid.amount % t.step == 0)
     && are_quantities bid.package
     && not (is_empty_package bid.package)
@@ -73,7 +74,7 @@ PackagesDiffer bids = AllPairs (λ x y. x.package ≢ y.package) bids
 pub record Meets (t : Terms) (o : Offers) : Type 0 where
   pub some_bidder : 1 ≤ o.bidder
   pub known_bidder : o.bidder ≤ length t.bidders
-  pub few : length o.bids ≤ 4000
+  pub few : length o.bids ≤ MOST_BIDS
   pub each : All (λ bid. IsTrue (is_bid_under t (eligibility_of t o.bidder) bid)) o.bids
   pub differ : PackagesDiffer o.bids
 
@@ -81,12 +82,12 @@ pub record Meets (t : Terms) (o : Offers) : Type 0 where
 pub record IsWithinLimits (bid : Bid) : Type 0 where
   pub quantities : IsPackage bid.package
   pub some_amount : 1 ≤ bid.amount
-  pub amount : bid.amount ≤ 10 ^ 12
+  pub amount : bid.amount ≤ GREATEST_AMOUNT
 
 -- what a form keeps under any rules
 pub record IsForm (o : Offers) : Type 0 where
   pub some_bidder : 1 ≤ o.bidder
-  pub bidders : o.bidder ≤ 256
-  pub few : length o.bids ≤ 4000
+  pub bidders : o.bidder ≤ MOST_BIDDERS
+  pub few : length o.bids ≤ MOST_BIDS
   pub each : All IsWithinLimits o.bids
   pub differ : PackagesDiffer o.bids

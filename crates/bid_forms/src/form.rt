@@ -1,7 +1,7 @@
 //! Forms.
 
 use crate::sums::{are_quantities, is_empty_package, points_of, reserve_of};
-use auction_terms::{Bid, Rules};
+use auction_terms::{Bid, GREATEST_AMOUNT, Rules};
 use std::marker::Model;
 
 /// A bidder's number and its bids, with distinct packages. Contracts see the number and the list of bids.
@@ -68,6 +68,7 @@ impl Form {
 
 ghost use Rattle.std.specs.Prelude.{◌≡◌, ◌≤◌, ◌↔◌, IsTrue, length};
 ghost use Rattle.std.specs.List.{list_all};
+ghost use Rattle.auction_terms.specs.declared.limits.TheConstants.{MOST_BIDDERS};
 ghost use Rattle.bid_forms.specs.Offers.{eligibility_of, is_bid_under};
 
 // The eligibility of a bidder.
@@ -75,7 +76,7 @@ pub(crate) fn eligibility_of(rules: &Rules, bidder: u16) -> u64
     requires some { 1 ≤ bidder }
     requires known { bidder ≤ length rules.now.bidders }
     ensures value { result ≡ eligibility_of rules.now bidder }
-    ensures few { bidder ≤ 256 }
+    ensures few { bidder ≤ MOST_BIDDERS }
 {
     rules.bidders()[usize::from(bidder) - 1].eligibility
 }
@@ -95,7 +96,7 @@ fn meets(rules: &Rules, eligibility: u64, bid: &Bid) -> bool
     let quantities = bid.package.quantities();
     quantities.len() == categories.len()
         && 1 <= bid.amount
-        && bid.amount <= 1_000_000_000_000
+        && bid.amount <= GREATEST_AMOUNT
         && bid.amount % rules.step() == 0
         && are_quantities(quantities)
         && !is_empty_package(quantities)

@@ -1,12 +1,13 @@
 //! The text of a form.
 
-ghost use Rattle.std.specs.Prelude.{◌≡◌, ◌≤◌, ◌<◌, ◌^◌, ◌+◌, ◌++◌, [], ◌∷◌, None, Err, All, IfOk, OnOk, IsTrue, drop, length, map};
+ghost use Rattle.std.specs.Prelude.{◌≡◌, ◌≤◌, ◌<◌, ◌+◌, ◌++◌, [], ◌∷◌, None, Err, All, IfOk, OnOk, IsTrue, drop, length, map};
 ghost use Rattle.std.specs.Str.{bytes_eq};
 ghost use Rattle.std.specs.Cmp.Lexicographic.{pointwise};
 ghost use Rattle.csv.specs.Records.{fields_of};
 ghost use Rattle.auction_terms.specs.FirstFault.{first_failed, first_fault};
 ghost use Rattle.auction_terms.specs.RulesText.{number_in};
 ghost use Rattle.auction_terms.specs.Terms.{AreTerms};
+ghost use Rattle.auction_terms.specs.declared.limits.TheConstants.{MOST_CATEGORIES};
 ghost use Rattle.bid_forms.specs.Fingerprints.{AreSeen};
 ghost use Rattle.bid_forms.specs.Offers.{IsWithinLimits, Meets, eligibility_of, is_bid_under, number_of_package, offers};
 ghost use Rattle.bid_forms.specs.FormText.{Answers, Tells, TellsFault, amount_checks, bid_fault, bid_of, bidder_in, fault_of_bid, form_of, header_checks, is_header, package_checks, quantities_in, quantity_checks};
@@ -17,7 +18,8 @@ use crate::seen::{Seen, earlier};
 use crate::sums::{is_empty_package, points_of, reserve_of};
 use arrayvec::ArrayVec;
 use auction_terms::{
-    Bid, Category, Package, Quantities, RecordReader, Rules, TEXT_LIMIT, field, number,
+    Bid, Category, GREATEST_AMOUNT, GREATEST_QUANTITY, MOST_BIDS, Package, Quantities,
+    RecordReader, Rules, TEXT_LIMIT, field, number,
 };
 use csv::ByteRecord;
 use std::alloc::{AllocError, Global};
@@ -126,11 +128,11 @@ fn read_header(rules: &Rules, row: &ByteRecord) -> Result<u16, FormFault>
 fn read_amount(step: u64, place: u32, row: &ByteRecord) -> Result<u64, FormFault>
     requires { 1 ≤ step }
     ensures answer { Tells result (first_failed (amount_checks step place (fields_of row.now))) (number_in 1 (fields_of row.now)) }
-    ensures limits { IfOk result (λ amount. (1 ≤ amount) × (amount ≤ 10 ^ 12)) }
+    ensures limits { IfOk result (λ amount. (1 ≤ amount) × (amount ≤ GREATEST_AMOUNT)) }
 {
     let amount = number!(row, 1, FormFault::AmountText { place });
     refuse!(
-        amount < 1 || amount > 1_000_000_000_000,
+        amount < 1 || amount > GREATEST_AMOUNT,
         FormFault::AmountRange { place }
     );
     refuse!(amount % step != 0, FormFault::AmountStep { place });
@@ -139,16 +141,16 @@ fn read_amount(step: u64, place: u32, row: &ByteRecord) -> Result<u64, FormFault
 
 // The quantities of a record.
 fn read_quantities(place: u32, row: &ByteRecord) -> Result<Quantities, FormFault>
-    requires { length (fields_of row.now) ≤ 33 }
+    requires { length (fields_of row.now) ≤ MOST_CATEGORIES + 1 }
     ensures answer { TellsFault result (first_failed (quantity_checks place (fields_of row.now))) }
     ensures quantities { IfOk result (λ quantities. quantities.items ≡ quantities_in (fields_of row.now)) }
-    ensures each { IfOk result (λ quantities. All (λ quantity. quantity ≤ 10000) quantities.items) }
+    ensures each { IfOk result (λ quantities. All (λ quantity. quantity ≤ GREATEST_QUANTITY) quantities.items) }
 {
     let mut quantities = ArrayVec::new();
     let mut within = true;
     for n in 1..row.len() {
         let value = number!(row, n + 1, FormFault::QuantityText { place });
-        if value <= 10_000 {
+        if value <= GREATEST_QUANTITY {
             quantities.push(value as u16);
         } else {
             within = false;
@@ -167,7 +169,7 @@ fn check_package(
     amount: u64,
 ) -> Result<(), FormFault>
     requires sized { length quantities.now ≡ length rules.now.categories }
-    requires quantities { All (λ quantity. quantity ≤ 10000) quantities.now }
+    requires quantities { All (λ quantity. quantity ≤ GREATEST_QUANTITY) quantities.now }
     ensures { Tells result (first_failed (package_checks rules.now.categories eligibility place quantities.now amount)) tt }
 {
     let categories = rules.categories();
@@ -196,12 +198,12 @@ fn read_bid(
     row: &ByteRecord,
 ) -> Result<Bid, FormFault>
     requires seen { AreSeen seen.old.keys before.now }
-    requires few { length before.now ≤ 4000 }
+    requires few { length before.now ≤ MOST_BIDS }
     ensures answer { Tells result (fault_of_bid rules.now eligibility place before.now (fields_of row.now)) (bid_of (fields_of row.now)) }
     ensures limits { IfOk result IsWithinLimits }
     ensures allowed { IfOk result (λ bid. IsTrue (is_bid_under rules.now eligibility bid)) }
     ensures new { IfOk result (λ bid. number_of_package bid.package before.now ≡ None) }
-    ensures room { OnOk result (length before.now < 4000) }
+    ensures room { OnOk result (length before.now < MOST_BIDS) }
     ensures seen { IfOk result (λ bid. AreSeen seen.new.keys (before.now ++ bid ∷ [])) }
 {
     refuse!(
@@ -214,7 +216,7 @@ fn read_bid(
     if let Some(earlier) = earlier(seen, before, quantities.as_slice())? {
         return Err(FormFault::RepeatedPackage { place, earlier });
     }
-    refuse!(before.len() >= 4000, FormFault::TooManyBids { place });
+    refuse!(before.len() >= MOST_BIDS, FormFault::TooManyBids { place });
     let package = Package::of(quantities);
     Ok(Bid { package, amount })
 }
@@ -228,7 +230,7 @@ fn read_bids(
 ) -> Result<Form, FormFault>
     requires some { 1 ≤ bidder }
     requires known { bidder ≤ length rules.now.bidders }
-    requires few { length reader.old ≤ 4194305 }
+    requires few { length reader.old ≤ TEXT_LIMIT + 1 }
     ensures answer { Tells result (first_fault (bid_fault rules.now (eligibility_of rules.now bidder)) [] reader.old) (offers bidder (map bid_of reader.old)) }
     ensures meets { IfOk result (Meets rules.now) }
 {
@@ -249,8 +251,8 @@ fn read_bids(
 
 /// Reads a form, under rules.
 pub fn read_form(alloc: Global, bytes: &[u8], rules: &Rules) -> Result<Form, FormFault>
-    ensures too_large { 4194304 < length bytes.now → result ≡ Err fault.TooLarge }
-    ensures answer { length bytes.now ≤ 4194304 → Answers result (form_of rules.now bytes.now) }
+    ensures too_large { TEXT_LIMIT < length bytes.now → result ≡ Err fault.TooLarge }
+    ensures answer { length bytes.now ≤ TEXT_LIMIT → Answers result (form_of rules.now bytes.now) }
     ensures meets { IfOk result (Meets rules.now) }
 {
     refuse!(bytes.len() > TEXT_LIMIT, FormFault::TooLarge);

@@ -1,6 +1,7 @@
 //! The packages of a form's bids, known by their fingerprints.
 
 ghost use Rattle.std.specs.Prelude.{◌≡◌, ◌≤◌, ◌<◌, ◌∷◌, ◌++◌, [], All, IfOk, length};
+ghost use Rattle.auction_terms.specs.declared.limits.TheConstants.{MOST_BIDS};
 ghost use Rattle.bid_forms.specs.Fingerprints.{AreSeen, fingerprint};
 ghost use Rattle.bid_forms.specs.Offers.{number_of_package};
 
@@ -27,7 +28,7 @@ fn fingerprint(quantities: &[u16]) -> u64
 
 // The number of the first of these bids with these quantities.
 fn number_of(bids: &[Bid], quantities: &[u16]) -> Option<u32>
-    requires { length bids.now ≤ 4000 }
+    requires { length bids.now ≤ MOST_BIDS }
     ensures { result ≡ number_of_package quantities.now bids.now }
 {
     for place in 0..bids.len() {
@@ -45,7 +46,7 @@ pub(crate) fn earlier(
     quantities: &[u16],
 ) -> Result<Option<u32>, AllocError>
     requires seen { AreSeen seen.old.keys bids.now }
-    requires few { length bids.now ≤ 4000 }
+    requires few { length bids.now ≤ MOST_BIDS }
     ensures number { IfOk result (λ number. number ≡ number_of_package quantities.now bids.now) }
     ensures seen { IfOk result (λ _. (bid : Bid) → bid.package ≡ quantities.now → AreSeen seen.new.keys (bids.now ++ bid ∷ [])) }
 {

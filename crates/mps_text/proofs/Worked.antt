@@ -15,9 +15,16 @@ use Rattle.program_rows.specs.Meaning.{meaning, fault, program}
 use Rattle.mps_text.specs.Text.{text}
 use Rattle.mps_text.specs.FaithfulText.{presolved_text}
 
--- two lots of the first category, one of the second
+-- two lots of the first category, one of the second; a lot of the first that is left is worth so much
+abbrev valued : ℕ → Lots
+valued value = record { supply = 2 ∷ 1 ∷ []; values = value ∷ 0 ∷ []; pools = [] }
+
 abbrev lots : Lots
-lots = record { supply = 2 ∷ 1 ∷ [] }
+lots = valued 0
+
+-- a pool of both categories, of which two lots may be sold
+abbrev pooled : Lots
+pooled = record { supply = 2 ∷ 1 ∷ []; values = 0 ∷ 0 ∷ []; pools = record { cap = 2; weights = 1 ∷ 1 ∷ [] } ∷ [] }
 
 abbrev bid : ℕ → ℕ → ℕ → Bid
 bid amount a b = record { «package» = a ∷ b ∷ []; amount = amount }
@@ -51,6 +58,21 @@ all_forms : presolved_text lots book nobody ≡ codes "NAME wdp\nROWS\n N OBJ\n 
 unfolding text digits
 all_forms = refl
 
+-- at 40 for a lot that is left only the third bidder pays, and the last column is fixed at 1
+constant_column : presolved_text (valued 40) book nobody ≡ codes "NAME wdp\nROWS\n N OBJ\n L B3\n L C1\n L C2\nCOLUMNS\n M1 'MARKER' 'INTORG'\n X3_1 OBJ -12\n X3_1 B3 1\n X3_1 C2 1\n K OBJ -80\n M2 'MARKER' 'INTEND'\nRHS\n RHS B3 1\n RHS C1 2\n RHS C2 1\nBOUNDS\n UP BND X3_1 1\n FX BND K 1\nENDATA\n"
+unfolding text digits
+constant_column = refl
+
+-- at 20 the second bidder's first bid pays nothing more, and its cost of 0 is written
+no_cost : presolved_text (valued 20) book nobody ≡ codes "NAME wdp\nROWS\n N OBJ\n L B1\n L B2\n L B3\n L C1\n L C2\nCOLUMNS\n M1 'MARKER' 'INTORG'\n X1_1 OBJ -10\n X1_1 B1 1\n X1_1 C1 1\n X2_1 OBJ 0\n X2_1 B2 1\n X2_1 C1 1\n X3_1 OBJ -12\n X3_1 B3 1\n X3_1 C2 1\n K OBJ -40\n M2 'MARKER' 'INTEND'\nRHS\n RHS B1 1\n RHS B2 1\n RHS B3 1\n RHS C1 2\n RHS C2 1\nBOUNDS\n UP BND X1_1 1\n UP BND X2_1 1\n UP BND X3_1 1\n FX BND K 1\nENDATA\n"
+unfolding text digits
+no_cost = refl
+
+-- the row of a pool stands behind those of the categories
+row_of_a_pool : presolved_text pooled book nobody ≡ codes "NAME wdp\nROWS\n N OBJ\n L B1\n L B2\n L B3\n L C1\n L C2\n L P1\nCOLUMNS\n M1 'MARKER' 'INTORG'\n X1_1 OBJ -30\n X1_1 B1 1\n X1_1 C1 1\n X1_1 P1 1\n X2_1 OBJ -20\n X2_1 B2 1\n X2_1 C1 1\n X2_1 P1 1\n X3_1 OBJ -12\n X3_1 B3 1\n X3_1 C2 1\n X3_1 P1 1\n M2 'MARKER' 'INTEND'\nRHS\n RHS B1 1\n RHS B2 1\n RHS B3 1\n RHS C1 2\n RHS C2 1\n RHS P1 2\nBOUNDS\n UP BND X1_1 1\n UP BND X2_1 1\n UP BND X3_1 1\nENDATA\n"
+unfolding text digits
+row_of_a_pool = refl
+
 -- without the second bidder
 left_out : map choice_of (kept_of lots book (λ b. b == 2)) ≡ record { bidder = 1; bid = 1 } ∷ record { bidder = 1; bid = 2 } ∷ record { bidder = 3; bid = 1 } ∷ []
 left_out = refl
@@ -64,10 +86,14 @@ least = refl
 two_bids : broken_row (program_of lots (kept_of lots book nobody)) (true ∷ true ∷ false ∷ false ∷ []) ≡ Some 0
 two_bids = refl
 
--- the three texts are read again
+-- texts are read again
 all_forms_read : meaning (presolved_text lots book nobody) ≡ Ok (program_of lots (kept_of lots book nobody))
 unfolding text digits meaning fault program fields line_of number
 all_forms_read = refl
+
+constant_column_read : meaning (presolved_text (valued 40) book nobody) ≡ Ok (program_of (valued 40) (kept_of (valued 40) book nobody))
+unfolding text digits meaning fault program fields line_of number
+constant_column_read = refl
 
 -- bids of one form that are kept
 abbrev kept_numbers : List Bid → List ℕ

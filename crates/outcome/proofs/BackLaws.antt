@@ -1,5 +1,5 @@
 -- The allocation of a point as a list of rising bidders.
-use Rattle.std.proofs.Common.{◌≡◌, ℕ, zero, suc, ◌+◌, ◌<◌, ◌≤◌, Bool, true, false, ◌&&◌, ◌==◌, cond, List, [], ◌∷◌, ◌++◌, Option, Some, None, Ok, refl, sym, ap, subst, ◌∙◌, append_assoc, arith, length, eqb-true, pos, drop, slice_get}
+use Rattle.std.proofs.Common.{◌≡◌, ℕ, zero, suc, ◌+◌, ◌<◌, ◌≤◌, Bool, true, false, ◌&&◌, ◌==◌, cond, List, [], ◌∷◌, ◌++◌, Option, Some, None, Ok, refl, sym, ap, ap₂, subst, ◌∙◌, append_assoc, arith, length, map, eqb-true, pos, drop, slice_get}
 use Rattle.std.specs.Prelude.{sum_by, filter, nat_le, nat_lt, bytes_eq}
 use Rattle.std.specs.List.{AllByRecursion, range_with_len}
 use Rattle.std.specs.Option.{option_map, option_to_list}
@@ -9,12 +9,12 @@ use Rattle.std.proofs.lemmas.List.{append-nil}
 use Rattle.std.proofs.lemmas.List.Sums.{sum_by-append, length-filter}
 use Rattle.std.proofs.lemmas.List.Elements.{recursion_from_All, All-from_recursion}
 use Rattle.auction_terms.specs.declared.choices.Choice.{Choice}
-use Rattle.auction_terms.specs.Allocations.{Book, amount_of, quantity_of, is_eligible}
+use Rattle.auction_terms.specs.declared.limits.TheConstants.{MOST_BIDDERS, MOST_BIDS}
+use Rattle.auction_terms.specs.Allocations.{Book, amount_of, quantity_of, load, loads, is_eligible}
 use Rattle.auction_terms.proofs.OfferLaws.{sum_zero, sum_agree, sum_plus, sum_filter, all_agree, all_append, all_filter}
 use Rattle.program_rows.specs.Program.{Table, TableColumn}
-use Rattle.auction_terms.proofs.AllocationLaws.{feasible_at, feasible_from}
 use Rattle.program_rows.specs.Spelling.{column_bid, is_bid}
-use Rattle.auction_terms.specs.Packages.{Lots}
+use Rattle.auction_terms.specs.Packages.{Lots, fits, left, worth}
 use Rattle.auction_terms.specs.Limits.{IsBook}
 use Rattle.auction_terms.specs.Keeping.{kept_of}
 use Rattle.program_rows.specs.Points.{IsPoint}
@@ -31,12 +31,12 @@ use Rattle.outcome.proofs.PointLaws.{solutions_are_points}
 
 -- a bidder that a name can spell
 abbrev pub IsBidder : Choice → Type 0
-IsBidder c = (1 ≤ c.bidder) × (c.bidder ≤ 256)
+IsBidder c = (1 ≤ c.bidder) × (c.bidder ≤ MOST_BIDDERS)
 
-bidder_from : (b j : ℕ) → is_bid b j ≡ true → (1 ≤ b) × (b ≤ 256)
+bidder_from : (b j : ℕ) → is_bid b j ≡ true → (1 ≤ b) × (b ≤ MOST_BIDDERS)
 bidder_from b j e =
-    let x = and_parts (nat_le 1 b && nat_le b 256) (nat_le 1 j && nat_le j 4000) e in
-    let y = and_parts (nat_le 1 b) (nat_le b 256) x.0 in
+    let x = and_parts (nat_le 1 b && nat_le b MOST_BIDDERS) (nat_le 1 j && nat_le j MOST_BIDS) e in
+    let y = and_parts (nat_le 1 b) (nat_le b MOST_BIDDERS) x.0 in
     (grind (arith, nat_tests), grind (arith, nat_tests))
 
 named_bidder : (name : List ℕ) (o : Option Choice) → column_bid name ≡ o → AllByRecursion IsBidder (option_to_list o)
@@ -60,7 +60,7 @@ none_between s b v = grind (arith, nat_tests)
 one_more_between : (s n b v : ℕ) → cond (is_between s (suc n) b) v 0 ≡ cond (b == s) v 0 + cond (is_between (s + 1) n b) v 0
 one_more_between s n b v = grind (arith, nat_tests)
 
-all_between : (b v : ℕ) → 1 ≤ b → b ≤ 256 → cond (is_between 1 256 b) v 0 ≡ v
+all_between : (b v : ℕ) → 1 ≤ b → b ≤ MOST_BIDDERS → cond (is_between 1 MOST_BIDDERS b) v 0 ≡ v
 all_between b v low high = grind (arith, nat_tests)
 
 sum_between : (f : Choice → ℕ) (choices : List Choice) (s n : ℕ) → sum_by f (by_bidder (range_with_len s n) choices) ≡ sum_by (λ c. cond (is_between s n c.bidder) (f c) 0) choices
@@ -74,8 +74,15 @@ sum_between f choices s (suc n) =
     omega arith
 
 pub same_sum : (f : Choice → ℕ) (choices : List Choice) → AllByRecursion IsBidder choices → sum_by f (by_bidder all_bidders choices) ≡ sum_by f choices
-same_sum f choices h = sum_between f choices 1 256
-    ∙ sum_agree (λ c. cond (is_between 1 256 c.bidder) (f c) 0) f choices (all_agree IsBidder (λ c. cond (is_between 1 256 c.bidder) (f c) 0 ≡ f c) choices (λ c b. all_between c.bidder (f c) b.0 b.1) h)
+same_sum f choices h = sum_between f choices 1 MOST_BIDDERS
+    ∙ sum_agree (λ c. cond (is_between 1 MOST_BIDDERS c.bidder) (f c) 0) f choices (all_agree IsBidder (λ c. cond (is_between 1 MOST_BIDDERS c.bidder) (f c) 0 ≡ f c) choices (λ c b. all_between c.bidder (f c) b.0 b.1) h)
+
+same_each : (f g : ℕ → ℕ) → ((n : ℕ) → f n ≡ g n) → (ns : List ℕ) → map f ns ≡ map g ns
+same_each f g each [] = refl
+same_each f g each (n ∷ ns) = ap₂ (λ (x : ℕ) (xs : List ℕ). x ∷ xs) (each n) (same_each f g each ns)
+
+pub same_loads : (lots : Lots) (book : Book) (choices : List Choice) → AllByRecursion IsBidder choices → loads lots book (by_bidder all_bidders choices) ≡ loads lots book choices
+same_loads lots book choices h = same_each (λ category. load book category (by_bidder all_bidders choices)) (λ category. load book category choices) (λ category. same_sum (quantity_of book category) choices h) (range_with_len 0 (length lots.supply))
 
 -- ---- what holds of all choices
 
@@ -124,15 +131,16 @@ points_come_back lots book group p values faithful point =
     let inside = back_bidders p.columns values in
     let told = faithful.maps_back values point in
     let f = told.feasible in
+    let loaded = same_loads lots book taken inside in
     record {
       map = f.one_bid_each;
       feasible = record {
         one_bid_each = λ b. let h = f.one_bid_each b in let e = same_sum (λ c. cond (c.bidder == b) 1 0) taken inside in omega arith;
         eligible = All-from_recursion _ (allocation_of p values) (all_by_bidder (λ c. is_eligible book group c ≡ true) all_bidders taken (recursion_from_All _ taken f.eligible));
-        fit = feasible_from lots book (allocation_of p values) (λ category l. let h = feasible_at lots book group taken f category l in let e = same_sum (quantity_of book category) taken inside in omega arith);
+        fit = ap (fits lots) loaded ∙ f.fit;
       };
-      same_total = ap pos (same_sum (amount_of book) taken inside) ∙ told.same_total;
-      rising = rises taken f.one_bid_each 1 256;
+      same_total = ap pos (ap₂ (λ (amounts : ℕ) (q : List ℕ). amounts + worth lots (left lots.supply q)) (same_sum (amount_of book) taken inside) loaded) ∙ told.same_total;
+      rising = rises taken f.one_bid_each 1 MOST_BIDDERS;
     }
 
 -- the points of the program of the kept bids come back
@@ -166,7 +174,7 @@ by_bidder-more choices s (suc n) =
     ∙ sym (append_assoc (filter (λ c. c.bidder == s) choices) (by_bidder (range_with_len (s + 1) n) choices) (filter (λ c. c.bidder == (s + 1) + n) choices)))
 
 pub rises_all : (choices : List Choice) → IsMap choices → IsRising (by_bidder all_bidders choices)
-rises_all choices map = rises choices map 1 256
+rises_all choices map = rises choices map 1 MOST_BIDDERS
 
 -- ---- one column more
 

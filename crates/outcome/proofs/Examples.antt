@@ -1,13 +1,17 @@
 -- Worked solutions, which the definitions compute.
 use Rattle.std.specs.Fmt.{digits}
-use Rattle.std.specs.Prelude.{◌≡◌, refl, ℕ, List, [], ◌∷◌, true, false, negsuc, Ok, Err, codes}
+use Rattle.std.specs.Prelude.{◌≡◌, refl, ℕ, List, [], ◌∷◌, map, true, false, negsuc, Ok, Err, codes}
 use Rattle.program_rows.specs.Points.{objective}
 use Rattle.program_rows.specs.Lines.{fields}
 use Rattle.program_rows.specs.Spelling.{column_bid}
 use Rattle.auction_terms.specs.FirstFault.{first_fault}
 use Rattle.auction_terms.specs.declared.bids.Bid.{Bid}
 use Rattle.auction_terms.specs.declared.choices.Choice.{Choice}
-use Rattle.auction_terms.specs.Packages.{lots_of}
+use Rattle.auction_terms.specs.Packages.{Lots}
+use Rattle.auction_terms.specs.Allocations.{Book}
+use Rattle.auction_terms.specs.Keeping.{kept_of}
+use Rattle.program_rows.specs.Program.{Table}
+use Rattle.program_rows.specs.Rows.{program_of}
 use Rattle.outcome.specs.declared.fault.ValueFault.TheVariants as value
 use Rattle.outcome.specs.declared.fault.SolutionFault.TheVariants as fault
 use Rattle.outcome.specs.Values.{token_value}
@@ -133,12 +137,22 @@ bound_broken = refl
 abbrev bid : ℕ → ℕ → ℕ → Bid
 bid amount a b = record { «package» = a ∷ b ∷ []; amount = amount }
 
+abbrev book : Book
+book = (bid 30 1 0 ∷ bid 50 2 1 ∷ bid 28 1 1 ∷ []) ∷ (bid 20 1 0 ∷ bid 45 3 0 ∷ []) ∷ (bid 12 0 1 ∷ []) ∷ []
+
+-- two lots of the first category, one of the second; a lot of the first that is left is worth so much
+abbrev valued : ℕ → Lots
+valued value = record { supply = 2 ∷ 1 ∷ []; values = value ∷ 0 ∷ []; pools = [] }
+
+-- a pool of both categories
+abbrev pooled : ℕ → ℕ → Lots
+pooled cap weight = record { supply = 2 ∷ 1 ∷ []; values = 0 ∷ 0 ∷ []; pools = record { cap = cap; weights = weight ∷ 1 ∷ [] } ∷ [] }
+
+abbrev sale_of_lots : Lots → Sale
+sale_of_lots lots = record { names = codes "Alpha" ∷ codes "Beta" ∷ codes "Gamma" ∷ []; lots = lots; book = book }
+
 abbrev sale : Sale
-sale = record {
-  names = codes "Alpha" ∷ codes "Beta" ∷ codes "Gamma" ∷ [];
-  lots = lots_of (2 ∷ 1 ∷ []);
-  book = (bid 30 1 0 ∷ bid 50 2 1 ∷ bid 28 1 1 ∷ []) ∷ (bid 20 1 0 ∷ bid 45 3 0 ∷ []) ∷ (bid 12 0 1 ∷ []) ∷ [];
-}
+sale = sale_of_lots (valued 0)
 
 abbrev all_win : List Choice
 all_win = record { bidder = 1; bid = 1 } ∷ record { bidder = 2; bid = 1 } ∷ record { bidder = 3; bid = 1 } ∷ []
@@ -167,3 +181,72 @@ two_names : report_text sale ([] ∷ (1 ∷ 3 ∷ []) ∷ []) (alpha_wins ∷ []
     ≡ codes "group 1 -\nAlpha 2 50\ntotal 50\ncost 0\ngroup 2 Alpha+Gamma\ntotal 0\ncost 0\n"
 unfolding digits
 two_names = refl
+
+-- ---- lots that are left have a value
+
+abbrev program : Lots → Table
+program lots = program_of lots (kept_of lots book (λ b. false))
+
+abbrev alpha_and_gamma : List Choice
+alpha_and_gamma = record { bidder = 1; bid = 1 } ∷ record { bidder = 3; bid = 1 } ∷ []
+
+abbrev alpha_and_beta : List Choice
+alpha_and_beta = record { bidder = 1; bid = 1 } ∷ record { bidder = 2; bid = 1 } ∷ []
+
+-- the fixed column has to be named
+constant_missing : solution (program (valued 40)) (codes "X3_1 1\n") ≡ Err (fault.BoundBroken 1)
+unfolding solution fields first_fault token_value digits
+constant_missing = refl
+
+constant_named : solution (program (valued 40)) (codes "X3_1 1\nK 1\n") ≡ Ok (true ∷ true ∷ [])
+unfolding solution fields first_fault token_value digits
+constant_named = refl
+
+-- and wins nothing
+constant_wins_nothing : allocation_of (program (valued 40)) (true ∷ true ∷ []) ≡ gamma_wins
+unfolding column_bid digits
+constant_wins_nothing = refl
+
+nothing_won : allocation_of (program (valued 40)) (false ∷ true ∷ []) ≡ []
+unfolding column_bid digits
+nothing_won = refl
+
+valued_report : report_text (sale_of_lots (valued 40)) ([] ∷ (3 ∷ []) ∷ []) (gamma_wins ∷ [] ∷ [])
+    ≡ codes "group 1 -\nGamma 1 12\ntotal 92\ncost 0\ngroup 2 Gamma\ntotal 80\ncost 0\n"
+unfolding digits
+valued_report = refl
+
+one_is_left : allocation_text (sale_of_lots (valued 20)) alpha_and_gamma ≡ codes "Alpha 1 30\nGamma 1 12\ntotal 62\n"
+unfolding digits
+one_is_left = refl
+
+-- lots sold twice leave none, and no fewer
+too_many_sold : allocation_text (sale_of_lots (valued 20)) (record { bidder = 2; bid = 2 } ∷ []) ≡ codes "Beta 2 45\ntotal 45\n"
+unfolding digits
+too_many_sold = refl
+
+-- ---- pools
+
+pool_broken : solution (program (pooled 2 1)) (codes "X1_1 0.999999\nX2_1 1\nX3_1 1\n") ≡ Err (fault.RowBroken 5)
+unfolding solution fields first_fault token_value digits
+pool_broken = refl
+
+row_of_the_pool : map (λ r. r.name) (program (pooled 2 1)).rows ≡ codes "B1" ∷ codes "B2" ∷ codes "B3" ∷ codes "C1" ∷ codes "C2" ∷ codes "P1" ∷ []
+unfolding digits
+row_of_the_pool = refl
+
+pool_met : solution (program (pooled 2 1)) (codes "X1_1 1\nX2_1 1\n") ≡ Ok (true ∷ true ∷ false ∷ [])
+unfolding solution fields first_fault token_value digits
+pool_met = refl
+
+pooled_allocation : allocation_text (sale_of_lots (pooled 2 1)) alpha_and_beta ≡ codes "Alpha 1 30\nBeta 1 20\ntotal 50\n"
+unfolding digits
+pooled_allocation = refl
+
+heavy_pool_broken : solution (program (pooled 3 2)) (codes "X1_1 1\nX2_1 1\n") ≡ Err (fault.RowBroken 5)
+unfolding solution fields first_fault token_value digits
+heavy_pool_broken = refl
+
+heavy_allocation : allocation_text (sale_of_lots (pooled 3 2)) alpha_and_gamma ≡ codes "Alpha 1 30\nGamma 1 12\ntotal 42\n"
+unfolding digits
+heavy_allocation = refl

@@ -8,6 +8,7 @@ pub mod BackLaws
 pub mod NameLaws
 pub mod BoundLaws
 pub mod CostLaws
+pub mod LeftLaws
 pub mod ReportLaws
 pub mod Worked
 mod Examples

@@ -9,9 +9,10 @@ use Rattle.auction_terms.specs.FirstFault.{option_or, first_fault}
 use Rattle.program_rows.specs.Program.{Table, TableColumn}
 use Rattle.program_rows.specs.Points.{allows, meets, row_sum, broken_row, AreAllowed, IsPoint}
 use Rattle.auction_terms.specs.Lines.{lines_of}
+use Rattle.outcome.specs.declared.limits.TheConstants.{SOLUTION_LIMIT}
 use Rattle.outcome.specs.declared.fault.SolutionFault.{SolutionFault}
 use Rattle.outcome.specs.declared.fault.SolutionFault.TheVariants as fault
-use Rattle.outcome.specs.Solution.{solution, solution_limit, told, text_fault, point_fault, column_names, values_of, is_one, broken_bound_from, line_fault}
+use Rattle.outcome.specs.Solution.{solution, told, text_fault, point_fault, column_names, values_of, is_one, broken_bound_from, line_fault}
 use Rattle.outcome.specs.Coming.{SolutionsArePoints}
 
 both_none : {F : Type 0} (a b : Option F) → option_or a b ≡ None → (a ≡ None) × (b ≡ None)
@@ -75,14 +76,14 @@ map_map f g (x ∷ xs) = ap (λ ys. g (f x) ∷ ys) (map_map f g xs)
 
 pub solutions_are_points : SolutionsArePoints
 unfolding solution
-solutions_are_points p text values e = by (nat_lt solution_limit (length text)) refl
+solutions_are_points p text values e = by (nat_lt SOLUTION_LIMIT (length text)) refl
   where
     is_point_of : point_fault p (values_of (column_names p) (lines_of text)) ≡ None → IsPoint p (values_of (column_names p) (lines_of text))
     is_point_of none =
         let same : values_of (column_names p) (lines_of text) ≡ map (λ c. is_one (lines_of text) c.name) p.columns = map_map (λ (c : TableColumn). c.name) (is_one (lines_of text)) p.columns in
         rw same (is_point p (λ c. is_one (lines_of text) c.name) (rw same at none))
 
-    by : (b : Bool) → nat_lt solution_limit (length text) ≡ b → IsPoint p values
+    by : (b : Bool) → nat_lt SOLUTION_LIMIT (length text) ≡ b → IsPoint p values
     by true t = let f = rw t at e in cc f
     by false t =
         let f = rw t at e in

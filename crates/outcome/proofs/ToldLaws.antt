@@ -10,6 +10,7 @@ use Rattle.std.proofs.lemmas.List.Sums.{count_by-le-length}
 use Rattle.std.proofs.lemmas.List.Splits.{length-slice_split}
 use Rattle.auction_terms.specs.FirstFault.{option_or, first_fault}
 use Rattle.auction_terms.specs.Lines.{is_line_feed, lines_of, without_empty_last}
+use Rattle.outcome.specs.declared.limits.TheConstants.{SOLUTION_LIMIT}
 use Rattle.outcome.specs.declared.fault.SolutionFault.{SolutionFault}
 use Rattle.outcome.specs.declared.fault.SolutionFault.TheVariants as fault
 use Rattle.program_rows.specs.Program.{Table}
@@ -89,27 +90,27 @@ module _ (p : Table) (text : List ℕ) where
   abbrev values : List Bool
   values = values_of (column_names p) (lines_of text)
 
-  pub too_long : 67108864 < length text → Err fault.TooLarge ≡ solution p text
+  pub too_long : SOLUTION_LIMIT < length text → Err fault.TooLarge ≡ solution p text
   unfolding solution
-  too_long h = let t : nat_lt 67108864 (length text) ≡ true = lt-ltb _ _ h in rw t refl
+  too_long h = let t : nat_lt SOLUTION_LIMIT (length text) ≡ true = lt-ltb _ _ h in rw t refl
 
-  short : length text ≤ 67108864 → solution p text ≡ told (text_fault p (lines_of text)) values
+  short : length text ≤ SOLUTION_LIMIT → solution p text ≡ told (text_fault p (lines_of text)) values
   unfolding solution
-  short h = let t : nat_lt 67108864 (length text) ≡ false = grind (arith, nat_tests) in rw t refl
+  short h = let t : nat_lt SOLUTION_LIMIT (length text) ≡ false = grind (arith, nat_tests) in rw t refl
 
-  pub faulty_line : (f : SolutionFault) → length text ≤ 67108864 → Answers (Err f) (told line_faults values) → Answers (Err f) (solution p text)
+  pub faulty_line : (f : SolutionFault) → length text ≤ SOLUTION_LIMIT → Answers (Err f) (told line_faults values) → Answers (Err f) (solution p text)
   faulty_line f small h = answers_more f (told line_faults values) (solution p text) h (λ e.
       let some = told_some line_faults f values e in
       told_of (text_fault p (lines_of text)) f values (option_first line_faults (point_fault p values) f some) ∙ sym (short small))
 
-  pub no_point : (f : SolutionFault) (read : List Bool) → length text ≤ 67108864 → Ok read ≡ told line_faults values → Err f ≡ told {T = Unit {0}} (point_fault p read) tt → Answers (Err f) (solution p text)
+  pub no_point : (f : SolutionFault) (read : List Bool) → length text ≤ SOLUTION_LIMIT → Ok read ≡ told line_faults values → Err f ≡ told {T = Unit {0}} (point_fault p read) tt → Answers (Err f) (solution p text)
   no_point f read small e h =
       let none = told_none line_faults read values e in
       let same : read ≡ values = told_same line_faults read values e in
       let some : point_fault p values ≡ Some f = rw same at (told_some (point_fault p read) f tt h) in
       answered (Err f) (solution p text) (told_of (text_fault p (lines_of text)) f values (option_second line_faults (point_fault p values) none ∙ some) ∙ sym (short small))
 
-  pub point_told : (read : List Bool) → length text ≤ 67108864 → Ok read ≡ told line_faults values → Ok tt ≡ told {T = Unit {0}} (point_fault p read) tt → Ok read ≡ solution p text
+  pub point_told : (read : List Bool) → length text ≤ SOLUTION_LIMIT → Ok read ≡ told line_faults values → Ok tt ≡ told {T = Unit {0}} (point_fault p read) tt → Ok read ≡ solution p text
   point_told read small e h =
       let none = told_none line_faults read values e in
       let same : read ≡ values = told_same line_faults read values e in

@@ -1,9 +1,9 @@
 -- Opportunity costs of allocations of greatest total.
-use Rattle.std.specs.Prelude.{ℕ, ◌≤◌, false, List, pos, ◌≤ℤ◌}
+use Rattle.std.specs.Prelude.{ℕ, ◌≤◌, false, List, filter, sum_by, pos, ◌≤ℤ◌}
 use Rattle.auction_terms.specs.Groups.{has}
 use Rattle.auction_terms.specs.declared.choices.Choice.{Choice}
 use Rattle.auction_terms.specs.Packages.{Lots}
-use Rattle.auction_terms.specs.Allocations.{Book, total}
+use Rattle.auction_terms.specs.Allocations.{Book, total, weighed_choice, IsSized}
 use Rattle.program_rows.specs.Faithful.{IsGreatest}
 use Rattle.outcome.specs.Report.{amounts_of_group, cost}
 
@@ -17,3 +17,12 @@ pub record IsCost (lots : Lots) (book : Book) (first : List Choice) (group : Lis
 abbrev pub CostsAreBounded : Type 0
 CostsAreBounded = (lots : Lots) (book : Book) (group : List ℕ) (first a : List Choice)
     → IsGreatest lots book (λ b. false) first → IsGreatest lots book (has group) a → IsCost lots book first group a
+
+-- what the lots would be worth, were they left, that an allocation gives to bidders of the group
+abbrev pub worth_of_group : Lots → Book → List ℕ → List Choice → ℕ
+worth_of_group lots book group a = sum_by (weighed_choice lots.values book) (filter (λ c. has group c.bidder) a)
+
+-- and a group's cost is at least that: nobody has its lots for less than they are worth where they are left
+abbrev pub CostsCoverLots : Type 0
+CostsCoverLots = (lots : Lots) (book : Book) (group : List ℕ) (first a : List Choice) → IsSized lots book
+    → IsGreatest lots book (λ b. false) first → IsGreatest lots book (has group) a → pos (worth_of_group lots book group first) ≤ℤ cost lots book first group a

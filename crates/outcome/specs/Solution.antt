@@ -9,6 +9,7 @@ use Rattle.program_rows.specs.Program.{Table, TableColumn}
 use Rattle.program_rows.specs.Points.{allows, broken_row}
 use Rattle.program_rows.specs.Lines.{fields}
 use Rattle.program_rows.specs.Meaning.{field}
+use Rattle.outcome.specs.declared.limits.TheConstants.{SOLUTION_LIMIT}
 use Rattle.outcome.specs.declared.fault.ValueFault.{ValueFault}
 use Rattle.outcome.specs.declared.fault.ValueFault.TheVariants as value
 use Rattle.outcome.specs.declared.fault.SolutionFault.{SolutionFault}
@@ -89,14 +90,10 @@ column_names p = map (λ c. c.name) p.columns
 abbrev pub text_fault : Table → List (List ℕ) → Option SolutionFault
 text_fault p text = option_or (first_fault (line_fault (column_names p)) [] text) (point_fault p (values_of (column_names p) text))
 
--- 64 MiB
-abbrev pub solution_limit : ℕ
-solution_limit = 67108864
-
 -- the values that a text gives the columns of a program, or its first refusal
 unfoldable pub solution : Table → List ℕ → Result (List Bool) SolutionFault
 solution p text =
-    if nat_lt solution_limit (length text) then Err fault.TooLarge
+    if nat_lt SOLUTION_LIMIT (length text) then Err fault.TooLarge
     else told (text_fault p (lines_of text)) (values_of (column_names p) (lines_of text))
 
 -- the result is this answer, or want of memory stands in its place

@@ -2,6 +2,7 @@
 use Rattle.std.specs.Prelude.{◌≡◌, ℕ, ◌+◌, ◌<◌, ◌≤◌, Bool, ◌&&◌, ◌==◌, List, [], ◌∷◌, filter, flat_map, count_by, if◌then◌else◌, bytes_eq}
 use Rattle.std.specs.List.{AllByRecursion, range_with_len}
 use Rattle.auction_terms.specs.declared.choices.Choice.{Choice}
+use Rattle.auction_terms.specs.declared.limits.TheConstants.{MOST_BIDDERS}
 use Rattle.program_rows.specs.Program.{Table, TableColumn}
 use Rattle.program_rows.specs.Spelling.{bid_name, is_bid}
 use Rattle.program_rows.specs.Faithful.{back}
@@ -12,7 +13,7 @@ by_bidder bidders choices = flat_map (λ b. filter (λ c. c.bidder == b) choices
 
 -- the bidders that the name of a column can spell
 abbrev pub all_bidders : List ℕ
-all_bidders = range_with_len 1 256
+all_bidders = range_with_len 1 MOST_BIDDERS
 
 -- the bids whose columns are 1, by rising bidder
 abbrev pub allocation_of : Table → List Bool → List Choice

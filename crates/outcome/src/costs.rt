@@ -1,18 +1,20 @@
 //! Totals and opportunity costs.
 
-ghost use Rattle.std.specs.Prelude.{◌≡◌, ◌≤◌, ◌*◌, ◌^◌, length};
+ghost use Rattle.std.specs.Prelude.{◌≡◌, ◌≤◌, ◌+◌, ◌*◌, ◌^◌, length, sum_by};
 ghost use Rattle.auction_terms.specs.Terms.{lots_in};
-ghost use Rattle.auction_terms.specs.Allocations.{total};
+ghost use Rattle.auction_terms.specs.Allocations.{amount_of, total};
+ghost use Rattle.auction_terms.specs.declared.limits.TheConstants.{GREATEST_QUANTITY, GREATEST_VALUE, MOST_CATEGORIES};
 ghost use Rattle.bid_desk.specs.Closing.{book_of};
 ghost use Rattle.outcome.specs.Report.{amounts_of_group, cost};
 
 use crate::sale::amount_of;
+use crate::unsold::worth_left;
 use auction_terms::{Choice, Group};
 use bid_desk::ClosedBook;
 
 /// The sum of the amounts.
-pub fn total_of(book: &ClosedBook, choices: &[Choice]) -> u128
-    ensures sum { result ≡ total (lots_in book.now.rules) (book_of book.now) choices.now }
+fn amounts_of(book: &ClosedBook, choices: &[Choice]) -> u128
+    ensures sum { result ≡ sum_by (amount_of (book_of book.now)) choices.now }
     ensures small { result ≤ length choices.now * 2 ^ 64 }
 {
     let mut sum: u128 = 0;
@@ -20,6 +22,14 @@ pub fn total_of(book: &ClosedBook, choices: &[Choice]) -> u128
         sum += u128::from(amount_of(book, *choice));
     }
     sum
+}
+
+/// The sum of the amounts, and what the lots are worth that are left.
+pub fn total_of(book: &ClosedBook, choices: &[Choice]) -> u128
+    ensures sum { result ≡ total (lots_in book.now.rules) (book_of book.now) choices.now }
+    ensures small { result ≤ length choices.now * 2 ^ 64 + MOST_CATEGORIES * (GREATEST_VALUE * GREATEST_QUANTITY) }
+{
+    amounts_of(book, choices) + worth_left(book, choices)
 }
 
 /// The sum of the amounts of the group's bidders.

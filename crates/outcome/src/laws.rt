@@ -1,7 +1,7 @@
 //! Laws of the definitions: what a solution comes back to, and what costs say of best allocations.
 
 ghost use Rattle.outcome.specs.Coming.{AnswersOfSolversComeBack, PointsComeBack, SolutionsArePoints, SolutionsComeBack};
-ghost use Rattle.outcome.specs.Costs.{CostsAreBounded};
+ghost use Rattle.outcome.specs.Costs.{CostsAreBounded, CostsCoverLots};
 ghost use Rattle.outcome.specs.Winning.{TakesWhatIsNamed};
 
 /// The values that a solution tells are a point of the program.
@@ -32,4 +32,9 @@ pub fn a_point_takes_what_is_named()
 /// Where the allocations are of greatest total, the opportunity cost of a group is at least 0 and at most what the first allocation gives to its bidders, and the total without them isn't higher.
 pub fn a_cost_is_bounded()
     ensures { CostsAreBounded }
+{}
+
+/// And it is at least what the lots of its bidders would be worth, were they left.
+pub fn a_cost_covers_the_lots()
+    ensures { CostsCoverLots }
 {}

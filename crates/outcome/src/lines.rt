@@ -5,6 +5,7 @@ ghost use Rattle.std.specs.List.{IsDistinct};
 ghost use Rattle.auction_terms.specs.FirstFault.{first_fault};
 ghost use Rattle.auction_terms.specs.Lines.{lines_of};
 ghost use Rattle.program_rows.specs.Lines.{fields};
+ghost use Rattle.outcome.specs.declared.limits.TheConstants.{SOLUTION_LIMIT};
 ghost use Rattle.outcome.specs.Solution.{told, pair_fault, line_fault, is_skipped};
 ghost use Rattle.outcome.specs.Reading.{bytes_of, said_by};
 
@@ -82,7 +83,7 @@ pub fn take_lines(
     requires sized { length said.old ≡ length columns.now.keys }
     requires distinct { IsDistinct bytes_eq (bytes_of columns.now.keys) }
     requires nothing { said.old ≡ said_by (bytes_of columns.now.keys) [] }
-    requires small { length text.now ≤ 67108864 }
+    requires small { length text.now ≤ SOLUTION_LIMIT }
     ensures answer { result ≡ told (first_fault (line_fault (bytes_of columns.now.keys)) [] (lines_of text.now)) tt }
     ensures said { OnOk result (said.new ≡ said_by (bytes_of columns.now.keys) (lines_of text.now)) }
 {

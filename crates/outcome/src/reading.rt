@@ -6,17 +6,16 @@ ghost use Rattle.auction_terms.specs.FirstFault.{first_fault};
 ghost use Rattle.auction_terms.specs.Lines.{lines_of};
 ghost use Rattle.program_rows.specs.Points.{IsPoint};
 ghost use Rattle.outcome.specs.declared.fault.SolutionFault.TheVariants as fault;
+ghost use Rattle.outcome.specs.declared.limits.TheConstants.{SOLUTION_LIMIT};
 ghost use Rattle.outcome.specs.Solution.{Answers, column_names, line_fault, solution, told, values_of};
 
 use crate::columns::names_of;
 use crate::fault::SolutionFault;
+use crate::limits::SOLUTION_LIMIT;
 use crate::lines::take_lines;
 use crate::point::check_point;
 use program_rows::{Point, Program};
 use std::alloc::{AllocError, Global};
-
-/// The greatest length of a solution, 64 MiB.
-const SOLUTION_LIMIT: usize = 67_108_864;
 
 /// Nothing said of any column.
 fn nothing_said(alloc: Global, count: usize) -> Result<Vec<Option<bool>>, AllocError>
@@ -35,7 +34,7 @@ fn values_from(alloc: Global, said: &[Option<bool>]) -> Result<Vec<bool>, AllocE
 /// The values that the lines give the columns.
 fn read_values(alloc: Global, bytes: &[u8], program: &Program) -> Result<Point, SolutionFault>
     requires distinct { IsDistinct bytes_eq (column_names program.now) }
-    requires small { length bytes.now ≤ 67108864 }
+    requires small { length bytes.now ≤ SOLUTION_LIMIT }
     ensures { Answers result (told (first_fault (line_fault (column_names program.now)) [] (lines_of bytes.now)) (values_of (column_names program.now) (lines_of bytes.now))) }
 {
     let names = names_of(alloc, program)?;
@@ -46,7 +45,7 @@ fn read_values(alloc: Global, bytes: &[u8], program: &Program) -> Result<Point, 
 
 /// Reads a solution of a program: a line for a column that is named, its name and its value, where others are 0.
 pub fn read_solution(alloc: Global, bytes: &[u8], program: &Program) -> Result<Point, SolutionFault>
-    ensures too_large { 67108864 < length bytes.now → result ≡ Err fault.TooLarge }
+    ensures too_large { SOLUTION_LIMIT < length bytes.now → result ≡ Err fault.TooLarge }
     ensures answer { Answers result (solution program.now bytes.now) }
     ensures point { IfOk result (λ values. IsPoint program.now values) }
 {

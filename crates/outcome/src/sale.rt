@@ -1,8 +1,8 @@
 //! What a report looks up of a closed book.
 
-ghost use Rattle.std.specs.Prelude.{◌≡◌};
+ghost use Rattle.std.specs.Prelude.{◌≡◌, slice_index};
 ghost use Rattle.std.specs.Option.{option_map_or};
-ghost use Rattle.auction_terms.specs.Allocations.{amount_of, bid_at};
+ghost use Rattle.auction_terms.specs.Allocations.{amount_of, bid_at, quantity_of};
 ghost use Rattle.bid_desk.specs.Closing.{book_of};
 ghost use Rattle.outcome.specs.Sale.{name_of, sale_of};
 
@@ -41,6 +41,39 @@ pub fn amount_of(book: &ClosedBook, choice: Choice) -> u64
 {
     match book.form(choice.bidder) {
         Some(form) => amount_in(form.bids(), choice.bid),
+        None => 0,
+    }
+}
+
+/// The quantity of a category, by its place.
+fn quantity_at(quantities: &[u16], category: usize) -> u16
+    ensures { result ≡ slice_index quantities.now category }
+{
+    match quantities.get(category) {
+        Some(quantity) => *quantity,
+        None => 0,
+    }
+}
+
+/// The quantity of a category in a bid, by its number among these.
+fn quantity_in(bids: &[Bid], number: u16, category: usize) -> u16
+    ensures { result ≡ option_map_or (λ x. slice_index x.package category) (bid_at bids.now number) 0 }
+{
+    if number == 0 {
+        return 0;
+    }
+    match bids.get(number as usize - 1) {
+        Some(bid) => quantity_at(bid.package.quantities(), category),
+        None => 0,
+    }
+}
+
+/// The quantity of a category in a bid of the book.
+pub fn quantity_of(book: &ClosedBook, category: usize, choice: Choice) -> u16
+    ensures { result ≡ quantity_of (book_of book.now) category choice }
+{
+    match book.form(choice.bidder) {
+        Some(form) => quantity_in(form.bids(), choice.bid, category),
         None => 0,
     }
 }

@@ -5,6 +5,7 @@ ghost use Rattle.program_rows.specs.Numbers.{signed};
 ghost use Rattle.outcome.specs.Values.{near_of};
 
 use crate::fault::ValueFault;
+use crate::limits::TOLERANCE_PARTS;
 
 /// What digits with the point moved count as.
 pub fn near(minus: bool, digits: u128, up: u32, down: u32) -> Result<bool, ValueFault>
@@ -40,28 +41,26 @@ fn near_whole(minus: bool, digits: u128, places: u32) -> Result<bool, ValueFault
     Ok(true)
 }
 
+/// The greatest power of ten that 128 bits hold.
+const GREATEST_POWER: u32 = 38;
+
 /// The same, with digits behind the point.
 fn near_part(minus: bool, digits: u128, places: u32) -> Result<bool, ValueFault>
     requires digits { digits < 10 ^ 30 }
     ensures { result ≡ near_of (signed minus digits) (10 ^ places) }
 {
-    if places >= 35 {
+    if places > GREATEST_POWER {
         return Ok(false);
     }
     let unit = 10u128.pow(places);
-    if 100_000 * digits <= unit {
+    let tolerance = unit / TOLERANCE_PARTS;
+    if digits <= tolerance {
         return Ok(false);
     }
     if minus {
         return Err(ValueFault::NotZeroOne);
     }
-    if places > 30 {
-        return Err(ValueFault::NotZeroOne);
-    }
-    if 100_000 * digits < 99_999 * unit {
-        return Err(ValueFault::NotZeroOne);
-    }
-    if 100_000 * digits > 100_001 * unit {
+    if digits.abs_diff(unit) > tolerance {
         return Err(ValueFault::NotZeroOne);
     }
     Ok(true)

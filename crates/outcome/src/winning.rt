@@ -5,7 +5,7 @@ ghost use Rattle.program_rows.specs.Faithful.{back};
 ghost use Rattle.outcome.specs.Winning.{all_bidders, allocation_of, by_bidder, IsMap};
 
 use crate::allocation::Allocation;
-use auction_terms::Choice;
+use auction_terms::{Choice, MOST_BIDDERS};
 use program_rows::{Point, Program};
 use std::alloc::{AllocError, Global};
 
@@ -27,7 +27,7 @@ fn by_rising_bidder(alloc: Global, choices: &[Choice]) -> Result<Allocation, All
     ensures { IfOk result (λ a. a ≡ by_bidder all_bidders choices.now) }
 {
     let mut list = Vec::new(alloc);
-    for k in 0..256u16 {
+    for k in 0..MOST_BIDDERS as u16 {
         add_choices_of(&mut list, choices, k + 1)?;
     }
     Ok(Allocation::new(list))

@@ -1,5 +1,5 @@
 -- Laws of the shelves: looking at every shelf is looking at every bid that fits.
-use Rattle.std.proofs.Common.{◌≡◌, ◌≢◌, ◌+◌, ◌-◌, ◌*◌, ◌^◌, ◌++◌, ◌<◌, ◌≤◌, ◌==◌, ◌&&◌, ◌||◌, ⊎_elim, ℕ, zero, suc, Bool, true, false, not, nat_le, List, [], ◌∷◌, length, map, filter, cond, slice_index, slice_index_or, get_or, set, take, drop, length-append, arith, refl, sym, ap, ap₂, ◌∙◌, subst, eq-eqb, ne_eqb}
+use Rattle.std.proofs.Common.{◌≡◌, ◌≢◌, ◌+◌, ◌-◌, ◌*◌, ◌^◌, ◌++◌, ◌<◌, ◌≤◌, ◌==◌, ◌&&◌, ◌||◌, ⊎_elim, ℕ, zero, suc, ℤ, ◌≤ℤ◌, Bool, true, false, nat_le, List, [], ◌∷◌, length, filter, cond, slice_index, slice_index_or, get_or, set, take, drop, length-append, arith, refl, sym, ap, ap₂, ◌∙◌, subst, eq-eqb, ne_eqb}
 use Rattle.std.specs.Prelude.{All}
 use Rattle.std.specs.Int.{bit_at}
 use Rattle.std.specs.Int.Bits.{bit_or}
@@ -16,13 +16,11 @@ use Rattle.std.proofs.Math.Dec.{leb-zero}
 use Rattle.std.proofs.Math.Nat.{pow-suc}
 use Rattle.std.proofs.Math.Pow.{pow_mono}
 use Rattle.std.proofs.Math.Seq.{get_or-append_seam}
-use Rattle.auction_terms.specs.declared.bids.Bid.{Bid}
-use Rattle.auction_terms.specs.Packages.{Lots, fits}
 use Rattle.presolve.specs.declared.order.SizedBid.{SizedBid}
 use Rattle.presolve.specs.declared.shelves.Shelf.{Shelf}
 use Rattle.presolve.specs.Masks.{mask_of}
-use Rattle.presolve.specs.Sizes.{AreRivals, TellsItsBid, beats, is_unbeaten}
-use Rattle.presolve.specs.Shelves.{AreGreatest, IsShelf, AreShelves, IsStocked, AreStocked, bare_places, is_unbeaten_on}
+use Rattle.presolve.specs.Sizes.{AreRivals, TellsItsBid, beats}
+use Rattle.presolve.specs.Shelves.{AreGreatest, IsShelf, AreShelves, IsStocked, AreStocked, bare_places}
 use Rattle.presolve.proofs.FlagLaws.{none_over_peak}
 use Rattle.presolve.proofs.GreatestLaws.{below_last, greatest_more}
 use Rattle.presolve.proofs.MaskLaws.{first_bit, next_bit, none_at}
@@ -39,15 +37,15 @@ least_more bids s before least all less own =
     one
 
 -- a rival is put onto the shelf of its place
-pub put_on : (before : List SizedBid) (s : SizedBid) (shelf after : Shelf) (last amount : ℕ) → IsShelf before s.place shelf → last ≡ slice_index_or shelf.greatest.items (length shelf.greatest.items - 1) 0
-    → after.bids.items ≡ shelf.bids.items ++ s ∷ [] → after.greatest.items ≡ shelf.greatest.items ++ amount ∷ [] → after.least ≤ shelf.least → after.least ≤ s.most → last ≤ amount → s.amount ≤ amount → IsShelf (before ++ s ∷ []) s.place after
-put_on before s shelf after last amount h last_is bids_are greatest_are down least up greatest = record {
+pub put_on : (before : List SizedBid) (s : SizedBid) (shelf after : Shelf) (last net none : ℤ) → IsShelf before s.place shelf → last ≡ slice_index_or shelf.greatest.items (length shelf.greatest.items - 1) none
+    → after.bids.items ≡ shelf.bids.items ++ s ∷ [] → after.greatest.items ≡ shelf.greatest.items ++ net ∷ [] → after.least ≤ shelf.least → after.least ≤ s.most → last ≤ℤ net → s.net ≤ℤ net → IsShelf (before ++ s ∷ []) s.place after
+put_on before s shelf after last net none h last_is bids_are greatest_are down least up greatest = record {
   own = bids_are ∙ ap (λ (bids : List SizedBid). bids ++ s ∷ []) h.own
       ∙ sym (filter-append (at s.place) before (s ∷ []) ∙ ap (λ (b : Bool). filter (at s.place) before ++ cond b (s ∷ []) []) (eq-eqb s.place s.place refl));
   least = subst (λ (bids : List SizedBid). All (λ (t : SizedBid). after.least ≤ t.most) bids) (sym bids_are) (least_more shelf.bids.items s shelf.least after.least h.least down least);
   greatest = subst (λ (bids : List SizedBid). AreGreatest bids after.greatest.items) (sym bids_are)
-      (subst (λ (amounts : List ℕ). AreGreatest (shelf.bids.items ++ s ∷ []) amounts) (sym greatest_are)
-      (greatest_more shelf.bids.items shelf.greatest.items s last amount h.greatest (below_last shelf.greatest.items last h.greatest.rising last_is) up greatest));
+      (subst (λ (nets : List ℤ). AreGreatest (shelf.bids.items ++ s ∷ []) nets) (sym greatest_are)
+      (greatest_more shelf.bids.items shelf.greatest.items s last net h.greatest (below_last shelf.greatest.items last none h.greatest.rising last_is) up greatest));
 }
 
 -- another shelf stays as it is
@@ -94,23 +92,23 @@ one_more n i rivals s shelves within is h =
 
 -- an empty shelf has no rival
 pub no_rival : (k : ℕ) (shelf : Shelf) → shelf.bids.items ≡ [] → shelf.greatest.items ≡ [] → IsShelf [] k shelf
-no_rival k shelf none no_amount = record {
+no_rival k shelf none no_net = record {
   own = none;
   least = subst (λ (bids : List SizedBid). All (λ (s : SizedBid). shelf.least ≤ s.most) bids) (sym none) (All-nil (λ (s : SizedBid). shelf.least ≤ s.most));
   greatest = subst (λ (bids : List SizedBid). AreGreatest bids shelf.greatest.items) (sym none)
-      (subst (λ (amounts : List ℕ). AreGreatest [] amounts) (sym no_amount) (record { each = tt; rising = λ i j d before within. absurd (omega arith) }));
+      (subst (λ (nets : List ℤ). AreGreatest [] nets) (sym no_net) (record { each = tt; rising = λ i j d before within. absurd (omega arith) }));
 }
 
 -- an empty shelf more
 pub empty_more : (n : ℕ) (shelves : List Shelf) (shelf : Shelf) → shelf.bids.items ≡ [] → shelf.greatest.items ≡ [] → AreShelves n [] shelves → AreShelves (n + 1) [] (shelves ++ shelf ∷ [])
-empty_more n shelves shelf none no_amount h = record {
+empty_more n shelves shelf none no_net h = record {
   count = (let l = length-append shelves (shelf ∷ []) in let c = h.count in omega arith);
   each = λ k d within.
       let c = h.count in
       ⊎_elim
       (λ (l : k < n). subst (λ (t : Shelf). IsShelf [] k t) (sym (get_or_append_left shelves (shelf ∷ []) d k (omega arith))) (h.each k d l))
       (λ (l : n ≤ k). subst (λ (i : ℕ). IsShelf [] i (slice_index_or (shelves ++ shelf ∷ []) i d)) (let e : length shelves ≡ k = omega arith in e)
-      (subst (λ (t : Shelf). IsShelf [] (length shelves) t) (sym (get_or-append_seam shelves shelf [] d)) (no_rival (length shelves) shelf none no_amount)))
+      (subst (λ (t : Shelf). IsShelf [] (length shelves) t) (sym (get_or-append_seam shelves shelf [] d)) (no_rival (length shelves) shelf none no_net)))
       (cases_lt k n);
 }
 
@@ -137,13 +135,13 @@ stocked n rivals shelves r a = record {
 }
 
 -- no bid on a shelf beats one that has less than its least
-pub none_on : (lots : Lots) (x : Bid) (n k : ℕ) (shelf : Shelf) → IsStocked n k shelf → slice_index x.package k < shelf.least → list_any (beats lots x) shelf.bids.items ≡ false
-none_on lots x n k shelf s less = list_any_none (beats lots x) shelf.bids.items (λ i d within.
+pub none_on : (x : SizedBid) (n k : ℕ) (shelf : Shelf) → IsStocked n k shelf → slice_index x.bid.now.package k < shelf.least → list_any (beats x) shelf.bids.items ≡ false
+none_on x n k shelf s less = list_any_none (beats x) shelf.bids.items (λ i d within.
     let rival : SizedBid = slice_index_or shelf.bids.items i d in
     let here : rival.place ≡ k = s.here i d within in
     let least : shelf.least ≤ rival.most = s.least i d within in
-    let below : slice_index x.package rival.place < shelf.least = subst (λ (p : ℕ). slice_index x.package p < shelf.least) (sym here) less in
-    none_over_peak lots x rival (s.rivals.told i d within) (omega arith))
+    let below : slice_index x.bid.now.package rival.place < shelf.least = subst (λ (p : ℕ). slice_index x.bid.now.package p < shelf.least) (sym here) less in
+    none_over_peak x rival (s.rivals.told i d within) (omega arith))
 
 one_bit : (b : Bool) → cond b 1 0 ≤ 1
 one_bit true = omega arith
@@ -176,15 +174,15 @@ least_some (shelf ∷ shelves) zero d within none = ⊎_elim
 least_some (shelf ∷ shelves) (suc k) d within none = least_some shelves k d (omega arith) (sym (next_bit (bare_places shelves) (cond (shelf.least == 0) 1 0) k (one_bit (shelf.least == 0))) ∙ none)
 
 -- nor does one at a place that isn't bare, of whose category the bid has none
-pub none_passed : (lots : Lots) (x : SizedBid) (shelves : List Shelf) (k : ℕ) (d : Shelf) → TellsItsBid x → AreStocked (length x.bid.now.package) shelves → k < length shelves → bit_at (bit_or x.mask (bare_places shelves)) k ≡ 0
-    → list_any (beats lots x.bid.now) (slice_index_or shelves k d).bids.items ≡ false
-none_passed lots x shelves k d told stocked within none =
+pub none_passed : (x : SizedBid) (shelves : List Shelf) (k : ℕ) (d : Shelf) → TellsItsBid x → AreStocked (length x.bid.now.package) shelves → k < length shelves → bit_at (bit_or x.mask (bare_places shelves)) k ≡ 0
+    → list_any (beats x) (slice_index_or shelves k d).bids.items ≡ false
+none_passed x shelves k d told stocked within none =
     let count = stocked.count in
     let both = bit_at_or x.mask (bare_places shelves) k in
     let lacks : bit_at (mask_of x.bid.now.package) k ≡ 0 = rw (← told.mask) (omega arith) in
     let mine = none_at x.bid.now.package k (omega arith) lacks in
     let some = least_some shelves k d within (omega arith) in
-    none_on lots x.bid.now (length x.bid.now.package) k (slice_index_or shelves k d) (stocked.each k d (omega arith)) (omega arith)
+    none_on x (length x.bid.now.package) k (slice_index_or shelves k d) (stocked.each k d (omega arith)) (omega arith)
 
 module _ (t : SizedBid → Bool) where
   any_cons_at : (s : SizedBid) (rest : List SizedBid) (b : Bool) → list_any t (cond b (s ∷ rest) rest) ≡ ((b && t s) || list_any t rest)
@@ -238,7 +236,8 @@ module _ (t : SizedBid → Bool) where
       ap₂ (λ (a b : Bool). a || b) (ap (λ (bids : List SizedBid). list_any t bids) first.own) rest
       ∙ sym (any_split k rivals)
 
-  any_on : (n : ℕ) (rivals : List SizedBid) (shelves : List Shelf) → AreRivals n rivals → AreShelves n rivals shelves → list_any (λ (shelf : Shelf). list_any t shelf.bids.items) shelves ≡ list_any t rivals
+  -- comparing with the bids on the shelves is comparing with all
+  pub any_on : (n : ℕ) (rivals : List SizedBid) (shelves : List Shelf) → AreRivals n rivals → AreShelves n rivals shelves → list_any (λ (shelf : Shelf). list_any t shelf.bids.items) shelves ≡ list_any t rivals
   any_on n rivals shelves r a =
       let below : All (λ (s : SizedBid). s.place < n) rivals = λ i d within.
       let place = (r.told i d within).place in
@@ -246,9 +245,3 @@ module _ (t : SizedBid → Bool) where
       omega arith in
       any_from n 0 rivals shelves below (let c = a.count in omega arith) (λ i d within. subst (λ (j : ℕ). IsShelf rivals j (slice_index_or shelves i d)) (let e : i ≡ 0 + i = omega arith in e) (a.each i d (let c = a.count in omega arith)))
       ∙ any-filter_same t (from 0) true (λ s found. leb-zero s.place) rivals
-
--- comparing with the bids on the shelves is comparing with all
-pub all_on : (lots : Lots) (n : ℕ) (rivals : List SizedBid) (shelves : List Shelf) (xs : List Bid) → AreRivals n rivals → AreShelves n rivals shelves → map (is_unbeaten_on lots shelves) xs ≡ map (is_unbeaten lots rivals) xs
-all_on lots n rivals shelves [] r a = refl
-all_on lots n rivals shelves (x ∷ xs) r a =
-    ap₂ (λ (b : Bool) (bs : List Bool). (fits lots x.package && not b) ∷ bs) (any_on (beats lots x) n rivals shelves r a) (all_on lots n rivals shelves xs r a)

@@ -1,18 +1,16 @@
 -- The bids of one form that fit, by the places of their peaks.
-use Rattle.std.specs.Prelude.{◌≡◌, ◌+◌, ◌*◌, ◌<◌, ◌≤◌, ◌==◌, ◌&&◌, ℕ, Bool, if◌then◌else◌, not, List, [], ◌∷◌, length, filter, slice_index_or, All, AllPairs}
+use Rattle.std.specs.Prelude.{◌≡◌, ◌+◌, ◌*◌, ◌<◌, ◌≤◌, ◌==◌, ℕ, ℤ, ◌≤ℤ◌, Bool, if◌then◌else◌, List, [], ◌∷◌, length, filter, slice_index_or, All, AllPairs}
 use Rattle.std.specs.List.{AllZip, list_any}
-use Rattle.auction_terms.specs.declared.bids.Bid.{Bid}
-use Rattle.auction_terms.specs.Packages.{Lots, fits}
 use Rattle.presolve.specs.declared.order.SizedBid.{SizedBid}
 use Rattle.presolve.specs.declared.shelves.Shelf.{Shelf}
 use Rattle.presolve.specs.Sizes.{AreRivals, beats}
 
--- rising amounts, none below that of the bid at its place
-pub record AreGreatest (bids : List SizedBid) (greatest : List ℕ) : Type 0 where
-  pub each : AllZip (λ s amount. s.amount ≤ amount) bids greatest
-  pub rising : AllPairs (λ x y. x ≤ y) greatest
+-- rising nets, none below that of the bid at its place
+pub record AreGreatest (bids : List SizedBid) (greatest : List ℤ) : Type 0 where
+  pub each : AllZip (λ s net. s.net ≤ℤ net) bids greatest
+  pub rising : AllPairs (λ x y. x ≤ℤ y) greatest
 
--- those of some bids whose peak is at the place, none with less there than the least, and greatest amounts
+-- those of some bids whose peak is at the place, none with less there than the least, and greatest nets
 pub record IsShelf (rivals : List SizedBid) (place : ℕ) (shelf : Shelf) : Type 0 where
   pub own : shelf.bids.items ≡ filter (λ s. s.place == place) rivals
   pub least : All (λ s. shelf.least ≤ s.most) shelf.bids.items
@@ -23,7 +21,7 @@ pub record AreShelves (n : ℕ) (rivals : List SizedBid) (shelves : List Shelf) 
   pub count : length shelves ≡ n
   pub each : (k : ℕ) (d : Shelf) → k < n → IsShelf rivals k (slice_index_or shelves k d)
 
--- bids with a quantity for each of n categories, by rising size, all with their peak at the place and none with less there than the least, and greatest amounts
+-- bids with a quantity for each of n categories, by rising size, all with their peak at the place and none with less there than the least, and greatest nets
 pub record IsStocked (n place : ℕ) (shelf : Shelf) : Type 0 where
   pub rivals : AreRivals n shelf.bids.items
   pub here : All (λ s. s.place ≡ place) shelf.bids.items
@@ -41,9 +39,5 @@ bare_places [] = 0
 bare_places (shelf ∷ shelves) = bare_places shelves * 2 + (if shelf.least == 0 then 1 else 0)
 
 -- a bid on one of the shelves beats the bid
-abbrev pub is_beaten_on : Lots → List Shelf → Bid → Bool
-is_beaten_on lots shelves x = list_any (λ shelf. list_any (beats lots x) shelf.bids.items) shelves
-
--- the bid fits, and none of the bids on the shelves beats it
-abbrev pub is_unbeaten_on : Lots → List Shelf → Bid → Bool
-is_unbeaten_on lots shelves x = fits lots x.package && not (is_beaten_on lots shelves x)
+abbrev pub is_beaten_on : List Shelf → SizedBid → Bool
+is_beaten_on shelves x = list_any (λ shelf. list_any (beats x) shelf.bids.items) shelves

@@ -1,10 +1,9 @@
 -- The bids of one form by the sizes of their packages.
-use Rattle.std.specs.Prelude.{◌≡◌, ◌⊎◌, ◌<◌, ◌≤◌, ◌+◌, ◌==◌, ◌&&◌, ℕ, Bool, false, not, nat_lt, if◌then◌else◌, List, [], ◌∷◌, length, map, count_by, slice_index, All, AllPairs, IsPermutation}
+use Rattle.std.specs.Prelude.{◌≡◌, ◌⊎◌, ◌<◌, ◌≤◌, ◌+◌, ◌==◌, ◌&&◌, ℕ, Bool, false, nat_lt, int_le, if◌then◌else◌, List, [], ◌∷◌, length, map, count_by, slice_index, All, AllPairs, IsPermutation}
 use Rattle.std.specs.Option.{option_map_or}
 use Rattle.auction_terms.specs.declared.bids.Bid.{Bid}
-use Rattle.std.specs.List.{list_any}
 use Rattle.auction_terms.specs.Packages.{Lots, is_within, fits, size}
-use Rattle.auction_terms.specs.Domination.{is_no_cheaper}
+use Rattle.auction_terms.specs.Domination.{net}
 use Rattle.auction_terms.specs.Allocations.{bid_at}
 use Rattle.presolve.specs.declared.order.SizedBid.{SizedBid}
 use Rattle.presolve.specs.Masks.{mask_of}
@@ -43,13 +42,16 @@ fitting_from lots j (x ∷ form) =
     then record { size = size x.package; number = j; bid = x } ∷ fitting_from lots (j + 1) form
     else fitting_from lots (j + 1) form
 
--- it tells the amount of its bid, the size of its package, the categories of which it has some, and a place with the quantity there
+-- it tells the size of its bid's package, the categories of which it has some, and a place with the quantity there
 pub record TellsItsBid (s : SizedBid) : Type 0 where
-  pub amount : s.amount ≡ s.bid.now.amount
   pub size : s.size ≡ size s.bid.now.package
   pub mask : s.mask ≡ mask_of s.bid.now.package
   pub place : s.place < length s.bid.now.package
   pub most : s.most ≡ slice_index s.bid.now.package s.place
+
+-- it tells the net of its bid
+abbrev pub TellsItsNet : Lots → SizedBid → Type 0
+TellsItsNet lots s = s.net ≡ net lots s.bid.now
 
 -- the bids that fit, by rising size, ties by number
 pub record IsOrdered (lots : Lots) (form : List Bid) (bids : List SizedBid) : Type 0 where
@@ -58,6 +60,7 @@ pub record IsOrdered (lots : Lots) (form : List Bid) (bids : List SizedBid) : Ty
   pub moved : IsPermutation fitting bids
   pub rising : AllPairs (λ s t. IsUpTo s.size s.number t.size t.number) bids
   pub told : All TellsItsBid bids
+  pub nets : All (TellsItsNet lots) bids
 
 -- bids with a quantity for each of n categories, by rising size
 pub record AreRivals (n : ℕ) (rivals : List SizedBid) : Type 0 where
@@ -65,10 +68,6 @@ pub record AreRivals (n : ℕ) (rivals : List SizedBid) : Type 0 where
   pub rising : AllPairs (λ s t. s.size ≤ t.size) rivals
   pub told : All TellsItsBid rivals
 
--- of smaller size than the bid, not worth less, and at most its package in every category
-abbrev pub beats : Lots → Bid → SizedBid → Bool
-beats lots x s = nat_lt s.size (size x.package) && (is_no_cheaper lots s.bid.now x && is_within s.bid.now.package x.package)
-
--- the bid fits, and none of these beats it
-abbrev pub is_unbeaten : Lots → List SizedBid → Bid → Bool
-is_unbeaten lots rivals x = fits lots x.package && not (list_any (beats lots x) rivals)
+-- the second bid has a smaller size than the first, a net that isn't lower, and at most its package in every category
+abbrev pub beats : SizedBid → SizedBid → Bool
+beats x s = nat_lt s.size x.size && (int_le x.net s.net && is_within s.bid.now.package x.bid.now.package)

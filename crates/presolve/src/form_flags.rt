@@ -1,10 +1,12 @@
 //! Which bids of a form are kept.
 
-ghost use Rattle.std.specs.Prelude.{◌≡◌, ◌≤◌, ◌<◌, false, not, nat_lt, is_some, drop, take, All, AllPairs, length, map, IfOk, IfSome, IsTrue};
+ghost use Rattle.std.specs.Prelude.{◌≡◌, ◌≤◌, ◌<◌, ◌≤ℤ◌, ◌<ℤ◌, ◌&&◌, pos, false, not, int_le, is_some, drop, take, All, AllPairs, length, map, IfOk, IfSome, IsTrue};
 ghost use Rattle.std.specs.List.{list_any};
 ghost use Rattle.auction_terms.specs.Domination.{is_kept};
-ghost use Rattle.auction_terms.specs.Packages.{Lots, fits, is_within};
+ghost use Rattle.auction_terms.specs.Packages.{is_within};
 ghost use Rattle.auction_terms.specs.Terms.{lots_in};
+ghost use Rattle.auction_terms.specs.declared.limits.TheConstants.{MOST_BIDS};
+ghost use Rattle.bid_forms.specs.Offers.{IsWithinLimits};
 ghost use Rattle.presolve.specs.Shelves.{AreGreatest, AreStocked, bare_places, is_beaten_on};
 ghost use Rattle.presolve.specs.Sizes.{AreRivals, TellsItsBid, beats};
 
@@ -27,17 +29,17 @@ fn first_over(quantities: &[u16], others: &[u16]) -> Option<usize>
     None
 }
 
-// Whether the rival is worth less than the bid, has a category that the bid has none of, or has more at its peak. All is
-// asked at once, since none of it is likely enough to be worth a branch.
+// Whether the rival's net is lower than the bid's, it has a category that the bid has none of, or it has more at its peak.
+// All is asked at once, since none of it is likely enough to be worth a branch.
 fn is_out_of_reach(rival: &SizedBid<'_>, bid: &SizedBid<'_>) -> bool
     requires rival { TellsItsBid rival.now }
     requires bid { TellsItsBid bid.now }
     requires sized { length rival.now.bid.now.package ≡ length bid.now.bid.now.package }
-    ensures beyond { (lots : Lots) → IsTrue result → beats lots bid.now.bid.now rival.now ≡ false }
-    ensures worth { result ≡ false → bid.now.amount ≤ rival.now.amount }
+    ensures beyond { IsTrue result → beats bid.now rival.now ≡ false }
+    ensures net { result ≡ false → bid.now.net ≤ℤ rival.now.net }
 {
     let quantities = bid.bid.package.quantities();
-    (rival.amount < bid.amount)
+    (rival.net < bid.net)
         | (rival.mask & bid.mask != rival.mask)
         | (rival.most > quantities[usize::from(rival.place)])
 }
@@ -47,7 +49,7 @@ fn is_out_of_reach(rival: &SizedBid<'_>, bid: &SizedBid<'_>) -> bool
 fn is_beaten(rivals: &[SizedBid<'_>], bid: &SizedBid<'_>) -> bool
     requires rivals { AreRivals (length bid.now.bid.now.package) rivals.now }
     requires bid { TellsItsBid bid.now }
-    ensures { (lots : Lots) → result ≡ list_any (beats lots bid.now.bid.now) rivals.now }
+    ensures { result ≡ list_any (beats bid.now) rivals.now }
 {
     let quantities = bid.bid.package.quantities();
     let mut over = 0;
@@ -68,14 +70,14 @@ fn is_beaten(rivals: &[SizedBid<'_>], bid: &SizedBid<'_>) -> bool
     false
 }
 
-// Whether one of the bids on a shelf dominates this one. Up to the first one with an amount as great, all are worth less.
+// Whether one of the bids on a shelf dominates this one. Up to the first net that is as great, all are lower.
 fn is_beaten_at(shelf: &Shelf<'_>, bid: &SizedBid<'_>) -> bool
     requires rivals { AreRivals (length bid.now.bid.now.package) shelf.now.bids.items }
     requires greatest { AreGreatest shelf.now.bids.items shelf.now.greatest.items }
     requires bid { TellsItsBid bid.now }
-    ensures { (lots : Lots) → result ≡ list_any (beats lots bid.now.bid.now) shelf.now.bids.items }
+    ensures { result ≡ list_any (beats bid.now) shelf.now.bids.items }
 {
-    let first = first_as_great(&shelf.greatest, bid.amount);
+    let first = first_as_great(&shelf.greatest, bid.net);
     is_beaten(bids_from(&shelf.bids, first), bid)
 }
 
@@ -86,18 +88,18 @@ fn bids_from<'s, 'b>(bids: &'s [SizedBid<'b>], first: usize) -> &'s [SizedBid<'b
     &bids[first..]
 }
 
-// The first place of an amount that is at least this one, where they rise; all are less where there is none. It is found
-// bit by bit (there are at most 4,000 amounts), with no branch on an amount, since none could be foreseen.
-fn first_as_great(rising: &[u64], amount: u64) -> usize
-    requires { AllPairs (λ x y. x ≤ y) rising.now }
+// The first place of a net that is at least this one, where they rise; all are less where there is none. It is found
+// bit by bit (there are at most 4,000 nets), with no branch on a net, since none could be foreseen.
+fn first_as_great(rising: &[i64], net: i64) -> usize
+    requires { AllPairs (λ x y. x ≤ℤ y) rising.now }
     ensures within { result ≤ length rising.now }
-    ensures less { All (λ x. x < amount) (take result rising.now) }
+    ensures less { All (λ x. x <ℤ net) (take result rising.now) }
 {
     let mut first = 0;
     for bit in (0..12u32).rev() {
         let end = first + (1usize << bit);
         if end <= rising.len() {
-            first += usize::from(rising[end - 1] < amount) << bit;
+            first += usize::from(rising[end - 1] < net) << bit;
         }
     }
     first
@@ -109,7 +111,7 @@ fn is_beaten_on(shelves: &[Shelf<'_>], bare: u32, bid: &SizedBid<'_>) -> bool
     requires shelves { AreStocked (length bid.now.bid.now.package) shelves.now }
     requires bare { bare ≡ bare_places shelves.now }
     requires bid { TellsItsBid bid.now }
-    ensures { (lots : Lots) → result ≡ is_beaten_on lots shelves.now bid.now.bid.now }
+    ensures { result ≡ is_beaten_on shelves.now bid.now }
 {
     let quantities = bid.bid.package.quantities();
     let mut left = bid.mask | bare;
@@ -124,6 +126,16 @@ fn is_beaten_on(shelves: &[Shelf<'_>], bare: u32, bid: &SizedBid<'_>) -> bool
     false
 }
 
+// Whether a bid that fits is kept: its net isn't below 0, and no bid on the shelves dominates it.
+fn is_kept_beside(shelves: &[Shelf<'_>], bare: u32, bid: &SizedBid<'_>) -> bool
+    requires shelves { AreStocked (length bid.now.bid.now.package) shelves.now }
+    requires bare { bare ≡ bare_places shelves.now }
+    requires bid { TellsItsBid bid.now }
+    ensures { result ≡ (int_le (pos 0) bid.now.net && not (is_beaten_on shelves.now bid.now)) }
+{
+    bid.net >= 0 && !is_beaten_on(shelves, bare, bid)
+}
+
 // Whether each bid of a form is kept, in the form's order. They are asked by rising size, so that one searches much as
 // the one before it did.
 pub(crate) fn flags_of_form(
@@ -131,8 +143,9 @@ pub(crate) fn flags_of_form(
     rules: &Rules,
     bids: &[Bid],
 ) -> Result<Vec<bool>, AllocError>
-    requires few { length bids.now ≤ 4000 }
+    requires few { length bids.now ≤ MOST_BIDS }
     requires sized { All (λ bid. length bid.package ≡ length rules.now.categories) bids.now }
+    requires limits { All IsWithinLimits bids.now }
     ensures { IfOk result (λ flags. flags.items ≡ map (is_kept (lots_in rules.now) bids.now) bids.now) }
 {
     let rivals = ordered(alloc, rules, bids)?;
@@ -140,7 +153,7 @@ pub(crate) fn flags_of_form(
     let bare = bare_places(&shelves);
     let mut flags = vec![in alloc; false; bids.len()]?;
     for rival in &rivals {
-        if !is_beaten_on(&shelves, bare, rival) {
+        if is_kept_beside(&shelves, bare, rival) {
             flags[usize::from(rival.number) - 1] = true;
         }
     }

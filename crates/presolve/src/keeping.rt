@@ -8,6 +8,7 @@ ghost use Rattle.auction_terms.specs.Groups.{has};
 ghost use Rattle.auction_terms.specs.Keeping.{is_kept_offer, kept_of, offers_of_form};
 ghost use Rattle.auction_terms.specs.Offers.{offers};
 ghost use Rattle.auction_terms.specs.Terms.{lots_in};
+ghost use Rattle.auction_terms.specs.declared.limits.TheConstants.{MOST_BIDDERS, MOST_BIDS};
 ghost use Rattle.bid_desk.specs.Closing.{book_of};
 ghost use Rattle.bid_forms.specs.Offers.{IsWithinLimits};
 ghost use Rattle.presolve.specs.Flags.{flagged_from};
@@ -18,8 +19,8 @@ use bid_desk::ClosedBook;
 use std::alloc::{AllocError, Global};
 use std::thread::Threads;
 
-/// The kept bids of a group, by rising bidder, then bid: those of bidders outside the group that fit and that no bid of
-/// their form dominates. For several groups, make the `Flags` once.
+/// The kept bids of a group, by rising bidder, then bid: those of bidders outside the group that fit, whose net isn't below
+/// 0, and that no bid of their form dominates. For several groups, make the `Flags` once.
 pub fn kept<'b>(
     rt: &(impl Threads + Sync),
     alloc: Global,
@@ -41,7 +42,7 @@ pub(crate) fn keep_bidder<'b>(
     flags: &[bool],
 ) -> Result<(), AllocError>
     requires some { 1 ≤ bidder }
-    requires bidders { bidder ≤ 256 }
+    requires bidders { bidder ≤ MOST_BIDDERS }
     requires flags { flags.now ≡ map (is_kept (lots_in book.now.rules) (form_of (book_of book.now) bidder)) (form_of (book_of book.now) bidder) }
     requires each { All IsKeptBid kept.old.items }
     ensures added { OnOk result (offers kept.new.items ≡ offers kept.old.items ++ filter (is_kept_offer (lots_in book.now.rules) (book_of book.now) (has group.now)) (offers_of_form bidder 1 (form_of (book_of book.now) bidder))) }
@@ -64,8 +65,8 @@ fn keep_flagged<'b>(
     flags: &[bool],
 ) -> Result<(), AllocError>
     requires some { 1 ≤ bidder }
-    requires bidders { bidder ≤ 256 }
-    requires few { length bids.now ≤ 4000 }
+    requires bidders { bidder ≤ MOST_BIDDERS }
+    requires few { length bids.now ≤ MOST_BIDS }
     requires limits { All IsWithinLimits bids.now }
     requires flags { length flags.now ≡ length bids.now }
     requires each { All IsKeptBid kept.old.items }

@@ -1,4 +1,5 @@
-//! Presolve: which bids can be left out of the winner determination, since another bid of their form is at least as good.
+//! Presolve: which bids can be left out of the winner determination, since another bid of their form is at least as good,
+//! or since their lots are worth more where they are left.
 #![tactic(auto)]
 
 mod flags;

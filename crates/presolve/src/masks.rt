@@ -1,11 +1,12 @@
 //! Masks of the categories of a package: one bit for each, the lowest one for the first.
 
 ghost use Rattle.std.specs.Prelude.{◌≡◌, ◌≤◌, length};
+ghost use Rattle.auction_terms.specs.declared.limits.TheConstants.{MOST_CATEGORIES};
 ghost use Rattle.presolve.specs.Masks.{mask_of};
 
 // The categories of which there are some.
 pub(crate) fn mask_of(quantities: &[u16]) -> u32
-    requires { length quantities.now ≤ 32 }
+    requires { length quantities.now ≤ MOST_CATEGORIES }
     ensures { result ≡ mask_of quantities.now }
 {
     let mut mask = 0;

@@ -3,19 +3,21 @@
 ghost use Rattle.std.specs.Prelude.{◌≡◌, ◌≤◌, ◌<◌, All, length, map, slice_index, IfOk};
 ghost use Rattle.auction_terms.specs.Packages.{size};
 ghost use Rattle.auction_terms.specs.Terms.{lots_in};
-ghost use Rattle.presolve.specs.Sizes.{fitting_from, sized_of, IsBySize, IsOrdered, TellsItsBid};
+ghost use Rattle.presolve.specs.Sizes.{fitting_from, sized_of, IsBySize, IsOrdered, TellsItsBid, TellsItsNet};
+ghost use Rattle.auction_terms.specs.declared.limits.TheConstants.{GREATEST_AMOUNT, MOST_BIDS, MOST_CATEGORIES};
+ghost use Rattle.bid_forms.specs.Offers.{IsWithinLimits};
 
 use crate::masks::mask_of;
 use auction_terms::{Bid, Rules};
 use bid_forms::Form;
 use std::alloc::{AllocError, Global};
 
-/// A bid that fits, with the size of its package and its number in its form. Its amount, the mask of the categories of
-/// which it has some and its peak (a place of its package, with the quantity there) stand here too, so that most
-/// comparisons need no look at the bid itself.
+/// A bid that fits, with the size of its package and its number in its form. Its net, the mask of the categories of which
+/// it has some and its peak (a place of its package, with the quantity there) stand here too, so that most comparisons
+/// need no look at the bid itself.
 #[derive(Clone, Copy)]
 pub(crate) struct SizedBid<'b> {
-    pub(crate) amount: u64,
+    pub(crate) net: i64,
     pub(crate) bid: &'b Bid,
     pub(crate) size: u32,
     pub(crate) mask: u32,
@@ -28,7 +30,7 @@ pub(crate) struct SizedBid<'b> {
 // branch on a quantity, since none could be foreseen.
 fn peak(quantities: &[u16]) -> usize
     requires some { 0 < length quantities.now }
-    requires few { length quantities.now ≤ 32 }
+    requires few { length quantities.now ≤ MOST_CATEGORIES }
     ensures within { result < length quantities.now }
     ensures greatest { All (λ quantity. quantity ≤ slice_index quantities.now result) quantities.now }
 {
@@ -39,15 +41,17 @@ fn peak(quantities: &[u16]) -> usize
     (greatest % 32) as usize
 }
 
-// A bid with its size, its number, its mask and its peak.
-fn sized(bid: &Bid, number: u16) -> SizedBid<'_>
+// A bid with its net, its size, its number, its mask and its peak.
+fn sized<'b>(rules: &Rules, bid: &'b Bid, number: u16) -> SizedBid<'b>
+    requires { bid.now.amount ≤ GREATEST_AMOUNT }
     ensures same { sized_of result ≡ record { size = size bid.now.package; number = number; bid = bid.now } }
     ensures told { TellsItsBid result }
+    ensures net { TellsItsNet (lots_in rules.now) result }
 {
     let quantities = bid.package.quantities();
     let place = peak(quantities);
     SizedBid {
-        amount: bid.amount,
+        net: rules.net(bid),
         bid,
         size: bid.package.size(),
         mask: mask_of(quantities),
@@ -63,15 +67,17 @@ fn fitting<'b>(
     rules: &Rules,
     bids: &'b [Bid],
 ) -> Result<Vec<SizedBid<'b>>, AllocError>
-    requires few { length bids.now ≤ 4000 }
+    requires few { length bids.now ≤ MOST_BIDS }
     requires sized { All (λ bid. length bid.package ≡ length rules.now.categories) bids.now }
+    requires limits { All IsWithinLimits bids.now }
     ensures same { IfOk result (λ fitting. map sized_of fitting.items ≡ fitting_from (lots_in rules.now) 1 bids.now) }
     ensures told { IfOk result (λ fitting. All TellsItsBid fitting.items) }
+    ensures nets { IfOk result (λ fitting. All (TellsItsNet (lots_in rules.now)) fitting.items) }
 {
     let mut fitting = Vec::with_capacity(alloc, bids.len())?;
     for (place, bid) in bids.iter().enumerate() {
         if bid.package.fits(rules) {
-            fitting.push(sized(bid, place as u16 + 1))?;
+            fitting.push(sized(rules, bid, place as u16 + 1))?;
         }
     }
     Ok(fitting)
@@ -83,8 +89,9 @@ pub(crate) fn ordered<'b>(
     rules: &Rules,
     bids: &'b [Bid],
 ) -> Result<Vec<SizedBid<'b>>, AllocError>
-    requires few { length bids.now ≤ 4000 }
+    requires few { length bids.now ≤ MOST_BIDS }
     requires sized { All (λ bid. length bid.package ≡ length rules.now.categories) bids.now }
+    requires limits { All IsWithinLimits bids.now }
     ensures { IfOk result (λ ordered. IsOrdered (lots_in rules.now) bids.now ordered.items) }
 {
     let mut ordered = fitting(alloc, rules, bids)?;

@@ -1,18 +1,19 @@
 //! The bids of a form that fit, by the places of their peaks.
 
 ghost use Rattle.std.specs.Prelude.{◌≡◌, ◌≤◌, List, [], ◌∷◌, ◌++◌, length, IfOk};
+ghost use Rattle.auction_terms.specs.declared.limits.TheConstants.{MOST_CATEGORIES};
 ghost use Rattle.presolve.specs.Shelves.{AreShelves, IsShelf, bare_places};
 
 use crate::order::SizedBid;
 use std::alloc::{AllocError, Global};
 
 /// The bids whose peak is at one place, in their order, with the least quantity that one of them has there, and for each
-/// bid the greatest amount up to it.
+/// bid the greatest net up to it.
 #[derive(Drop)]
 pub(crate) struct Shelf<'b> {
     pub(crate) least: u16,
     pub(crate) bids: Vec<SizedBid<'b>>,
-    pub(crate) greatest: Vec<u64>,
+    pub(crate) greatest: Vec<i64>,
 }
 
 // Puts a bid onto the shelf of its place, behind those that stand there.
@@ -21,10 +22,10 @@ fn put<'b>(shelf: &mut Shelf<'b>, rival: &SizedBid<'b>) -> Result<(), AllocError
         → IsShelf before rival.now.place shelf.old
         → IsShelf (before ++ rival.now ∷ []) rival.now.place shelf.new) }
 {
-    let amount = shelf.greatest.last().copied().unwrap_or(0);
+    let greatest = shelf.greatest.last().copied().unwrap_or(0);
     shelf.bids.push(*rival)?;
     shelf.least = shelf.least.min(rival.most);
-    shelf.greatest.push(rival.amount.max(amount))?;
+    shelf.greatest.push(rival.net.max(greatest))?;
     Ok(())
 }
 
@@ -63,7 +64,7 @@ pub(crate) fn shelves<'b>(
 // A mask of the bare places: there a bid on the shelf has none of the category, so that every bid has as much. Only an
 // empty package makes a place bare, and forms have none, so no bid is asked about a shelf for nothing.
 pub(crate) fn bare_places(shelves: &[Shelf<'_>]) -> u32
-    requires { length shelves.now ≤ 32 }
+    requires { length shelves.now ≤ MOST_CATEGORIES }
     ensures { result ≡ bare_places shelves.now }
 {
     let mut mask = 0;

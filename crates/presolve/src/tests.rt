@@ -5,7 +5,7 @@ ghost use Rattle.bid_forms.specs.Offers.{Meets};
 
 use crate::by_size;
 use crate::form_flags::flags_of_form;
-use auction_terms::{Bid, Rules, read_rules};
+use auction_terms::{Bid, GREATEST_AMOUNT, Rules, read_rules};
 use bid_forms::{Form, read_form};
 use std::alloc::Global;
 use std::fmt::Write;
@@ -14,15 +14,51 @@ use std::test::Fail;
 const RULES: &[u8] =
     b"rules,1,1,,\ncategory,A,2,10,1\ncategory,B,1,5,1\nbidder,Alpha,9,2,\nbidder,Beta,9,1,\nbidder,Gamma,9,1,\n";
 
+// A lot of A is worth 40 where it is left.
+const RULES_OF_40: &[u8] =
+    b"rules,2,1,,,\ncategory,A,2,10,1,40\ncategory,B,1,5,1,0\nbidder,Alpha,9,2,,\nbidder,Beta,9,1,,\nbidder,Gamma,9,1,,\n";
+
+// A lot of A is worth 20 where it is left.
+const RULES_OF_20: &[u8] =
+    b"rules,2,1,,,\ncategory,A,2,10,1,20\ncategory,B,1,5,1,0\nbidder,Alpha,9,2,,\nbidder,Beta,9,1,,\nbidder,Gamma,9,1,,\n";
+
+// At most two lots together.
+const RULES_OF_A_POOL: &[u8] =
+    b"rules,3,1,,,\ncategory,A,2,10,1,0\ncategory,B,1,5,1,0\npool,Low,2,,,\nmember,Low,A,1,,\nmember,Low,B,1,,\nbidder,Alpha,9,2,,\nbidder,Beta,9,1,,\nbidder,Gamma,9,1,,\n";
+
 const WIDE_RULES: &[u8] =
     b"rules,1,1,,\ncategory,A,10000,0,0\ncategory,B,10000,0,0\nbidder,Alpha,0,1,\n";
 
 const FIVE_RULES: &[u8] =
     b"rules,1,1,,\ncategory,A,3,0,0\ncategory,B,3,0,0\ncategory,C,2,0,0\ncategory,D,3,0,0\ncategory,E,3,0,0\nbidder,Alpha,0,1,\n";
 
+// The same with values and two pools: nets are below 0, 0 and above 0, and loads below, at and above the caps.
+const FIVE_RULES_WITH_VALUES: &[u8] =
+    b"rules,3,1,,,\ncategory,A,3,0,0,3\ncategory,B,3,0,0,11\ncategory,C,2,0,0,0\ncategory,D,3,0,0,7\ncategory,E,3,0,0,19\npool,Low,9,,,\nmember,Low,A,2,,\nmember,Low,D,3,,\npool,High,12,,,\nmember,High,B,1,,\nmember,High,C,2,,\nmember,High,E,4,,\nbidder,Alpha,0,1,,\n";
+
+const FIVE: Plain = Plain {
+    supply: &[3, 3, 2, 3, 3],
+    values: &[0, 0, 0, 0, 0],
+    caps: &[],
+};
+
+const FIVE_WITH_VALUES: Plain = Plain {
+    supply: &[3, 3, 2, 3, 3],
+    values: &[3, 11, 0, 7, 19],
+    caps: &[(9, &[2, 0, 0, 3, 0]), (12, &[0, 1, 2, 0, 4])],
+};
+
+const WIDE: Plain = Plain {
+    supply: &[10000, 10000],
+    values: &[0, 0],
+    caps: &[],
+};
+
 const ALPHA: &[u8] = b"Alpha,A,B\n30,1,0\n50,2,1\n28,1,1\n";
 
 const BETA: &[u8] = b"Beta,A,B\n20,1,0\n45,3,0\n";
+
+const GAMMA: &[u8] = b"Gamma,A,B\n12,0,1\n";
 
 const NO_BID: &[u8] = b"Gamma,A,B\n";
 
@@ -76,29 +112,64 @@ fn form_of_all_packages(alloc: Global, rules: &Rules) -> Result<Form, Fail>
     Ok(read_form(alloc, text.as_bytes(), rules)?)
 }
 
-fn is_beaten_by(bid: &Bid, other: &Bid) -> bool {
-    let (quantities, others) = (bid.package.quantities(), other.package.quantities());
-    quantities != others
-        && other.amount >= bid.amount
-        && others
-            .iter()
-            .zip(quantities.iter())
-            .all(|(most, least)| *most <= *least)
+// The sum of the quantities, each times its weight.
+fn weighed(weights: &[i64], quantities: &[u16]) -> i64 {
+    let mut sum = 0i64;
+    for (weight, quantity) in weights.iter().zip(quantities.iter()) {
+        sum = sum.saturating_add(weight.saturating_mul(i64::from(*quantity)));
+    }
+    sum
 }
 
-// The numbers of the bids that fit and that none of all bids dominates, by comparing all pairs.
-fn kept_by_all_pairs(alloc: Global, supply: &[u32], bids: &[Bid]) -> Result<Vec<u16>, Fail> {
+// The nets of bids: the amounts, less what the packages are worth where they are left.
+fn nets_of(alloc: Global, values: &[i64], bids: &[Bid]) -> Result<Vec<i64>, Fail> {
+    let mut nets = Vec::new(alloc);
+    for bid in bids {
+        let worth = weighed(values, bid.package.quantities());
+        nets.push((bid.amount.min(GREATEST_AMOUNT) as i64).saturating_sub(worth))?;
+    }
+    Ok(nets)
+}
+
+fn is_smaller(quantities: &[u16], others: &[u16]) -> bool {
+    quantities != others
+        && quantities
+            .iter()
+            .zip(others.iter())
+            .all(|(least, most)| *least <= *most)
+}
+
+// What is for sale, as the plain comparison takes it: the supplies, the values, and caps with their weights.
+#[derive(Clone, Copy)]
+struct Plain {
+    supply: &'static [u16],
+    values: &'static [i64],
+    caps: &'static [(i64, &'static [i64])],
+}
+
+fn fits(plain: Plain, bid: &Bid) -> bool {
+    let quantities = bid.package.quantities();
+    quantities
+        .iter()
+        .zip(plain.supply.iter())
+        .all(|(quantity, most)| *quantity <= *most)
+        && plain
+            .caps
+            .iter()
+            .all(|(cap, weights)| weighed(*weights, quantities) <= *cap)
+}
+
+// The numbers of the bids that fit, whose net isn't below 0, and that none of all bids dominates, by comparing all pairs.
+fn kept_by_all_pairs(alloc: Global, plain: Plain, bids: &[Bid]) -> Result<Vec<u16>, Fail> {
+    let nets = nets_of(alloc, plain.values, bids)?;
     let mut kept = Vec::new(alloc);
     let mut number = 0u16;
-    for bid in bids {
+    for (bid, net) in bids.iter().zip(nets.iter()) {
         number = number.saturating_add(1);
-        let fits = bid
-            .package
-            .quantities()
-            .iter()
-            .zip(supply.iter())
-            .all(|(quantity, most)| u32::from(*quantity) <= *most);
-        if fits && !bids.iter().any(|other| is_beaten_by(bid, other)) {
+        let quantities = bid.package.quantities();
+        let is_dominated = bids.iter().zip(nets.iter()).any(|(other, rival)| *rival >= *net
+            && is_smaller(other.package.quantities(), quantities));
+        if *net >= 0 && fits(plain, bid) && !is_dominated {
             kept.push(number)?;
         }
     }
@@ -137,25 +208,48 @@ fn bids_are_ordered_by_size(rt: HostRuntime) -> Result<(), Fail> {
         [1u16].as_slice()
     );
     assert_eq!(rt; ordered(rt.alloc(), &rules, NO_BID)?.len(), 0);
+    let rules = read_rules(rt.alloc(), RULES_OF_40)?;
+    assert_eq!(rt;
+        ordered(rt.alloc(), &rules, ALPHA)?.as_slice(),
+        [1u16, 3, 2].as_slice()
+    );
+    let rules = read_rules(rt.alloc(), RULES_OF_A_POOL)?;
+    assert_eq!(rt;
+        ordered(rt.alloc(), &rules, ALPHA)?.as_slice(),
+        [1u16, 3].as_slice()
+    );
     Ok(())
 }
 
+// Each form keeps these bids under rules of each version.
+const KEPT: [(&[u8], &[u8], &[u16]); 19] = [
+    (RULES, ALPHA, &[1, 2]),
+    (RULES, BETA, &[1]),
+    (RULES, NO_BID, &[]),
+    (RULES, b"Alpha,A,B\n30,1,0\n29,2,0\n28,2,1\n", &[1]),
+    (RULES, b"Alpha,A,B\n30,1,0\n30,1,1\n31,2,1\n", &[1, 3]),
+    (RULES, b"Alpha,A,B\n50,3,0\n50,3,1\n", &[]),
+    (RULES_OF_40, ALPHA, &[]),
+    (RULES_OF_40, BETA, &[]),
+    (RULES_OF_40, GAMMA, &[1]),
+    (RULES_OF_20, ALPHA, &[1]),
+    (RULES_OF_20, BETA, &[1]),
+    (RULES_OF_20, GAMMA, &[1]),
+    (RULES_OF_20, b"Alpha,A,B\n51,2,0\n30,1,0\n", &[1, 2]),
+    (RULES_OF_20, b"Alpha,A,B\n19,1,0\n39,2,0\n", &[]),
+    (RULES_OF_A_POOL, ALPHA, &[1]),
+    (RULES_OF_A_POOL, BETA, &[1]),
+    (RULES_OF_A_POOL, GAMMA, &[1]),
+    (RULES_OF_A_POOL, b"Alpha,A,B\n30,2,0\n20,1,0\n", &[1, 2]),
+    (RULES_OF_A_POOL, b"Alpha,A,B\n30,2,1\n29,1,1\n", &[2]),
+];
+
 #[test]
 fn small_forms_keep_what_none_dominates(rt: HostRuntime) -> Result<(), Fail> {
-    let rules = read_rules(rt.alloc(), RULES)?;
-    let rows: [(&[u8], &[u16]); 6] = [
-        (ALPHA, &[1, 2]),
-        (BETA, &[1]),
-        (NO_BID, &[]),
-        (b"Alpha,A,B\n30,1,0\n29,2,0\n28,2,1\n", &[1]),
-        (b"Alpha,A,B\n30,1,0\n30,1,1\n31,2,1\n", &[1, 3]),
-        (b"Alpha,A,B\n50,3,0\n50,3,1\n", &[]),
-    ];
-    for (text, kept) in &rows {
-        let form = read_form(rt.alloc(), *text, &rules)?;
+    for (text, form, kept) in &KEPT {
+        let rules = read_rules(rt.alloc(), *text)?;
+        let form = read_form(rt.alloc(), *form, &rules)?;
         assert_eq!(rt; kept_by_flags(rt.alloc(), &rules, &form)?.as_slice(), *kept);
-        let plain = kept_by_all_pairs(rt.alloc(), &[2, 1], form.bids())?;
-        assert_eq!(rt; plain.as_slice(), *kept);
     }
     Ok(())
 }
@@ -175,7 +269,7 @@ fn large_forms_keep_what_none_dominates(rt: HostRuntime) -> Result<(), Fail> {
         assert_eq!(rt; kept.len(), *count);
         let few = form_of_many(rt.alloc(), &rules, *many, 200)?;
         let kept = kept_by_flags(rt.alloc(), &rules, &few)?;
-        let plain = kept_by_all_pairs(rt.alloc(), &[10000, 10000], few.bids())?;
+        let plain = kept_by_all_pairs(rt.alloc(), WIDE, few.bids())?;
         assert!(rt; plain.as_slice() == kept.as_slice());
     }
     Ok(())
@@ -183,11 +277,16 @@ fn large_forms_keep_what_none_dominates(rt: HostRuntime) -> Result<(), Fail> {
 
 #[test]
 fn forms_with_peaks_everywhere_keep_what_none_dominates(rt: HostRuntime) -> Result<(), Fail> {
-    let rules = read_rules(rt.alloc(), FIVE_RULES)?;
-    let form = form_of_all_packages(rt.alloc(), &rules)?;
-    assert_eq!(rt; form.bids().len(), 1023);
-    let kept = kept_by_flags(rt.alloc(), &rules, &form)?;
-    let plain = kept_by_all_pairs(rt.alloc(), &[3, 3, 2, 3, 3], form.bids())?;
-    assert!(rt; plain.as_slice() == kept.as_slice());
+    for (text, plain) in &[
+        (FIVE_RULES, FIVE),
+        (FIVE_RULES_WITH_VALUES, FIVE_WITH_VALUES),
+    ] {
+        let rules = read_rules(rt.alloc(), *text)?;
+        let form = form_of_all_packages(rt.alloc(), &rules)?;
+        assert_eq!(rt; form.bids().len(), 1023);
+        let kept = kept_by_flags(rt.alloc(), &rules, &form)?;
+        let plain = kept_by_all_pairs(rt.alloc(), *plain, form.bids())?;
+        assert!(rt; plain.as_slice() == kept.as_slice());
+    }
     Ok(())
 }

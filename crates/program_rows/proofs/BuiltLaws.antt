@@ -1,26 +1,37 @@
 -- What is built is the program of the offers.
-use Rattle.std.proofs.Common.{◌≡◌, ℕ, zero, suc, ◌+◌, ◌<◌, ◌≤◌, ◌⊎◌, inl, inr, Bool, true, false, ◌==◌, nat_eq, cond, List, [], ◌∷◌, ◌++◌, Some, map, drop, length, slice_get, slice_index, sym, refl, ap, ap₂, ◌∙◌, subst, arith, ⊎_elim, eqb-true, eq-eqb, ne_eqb, ℤ, pos}
-use Rattle.std.specs.Prelude.{codes, slice_index_or}
+use Rattle.std.proofs.Common.{◌≡◌, ℕ, zero, suc, ◌+◌, ◌<◌, ◌≤◌, Bool, true, false, ◌==◌, nat_eq, cond, List, [], ◌∷◌, ◌++◌, Option, Some, map, drop, length, slice_get, sym, refl, ap, ap₂, ◌∙◌, subst, arith, append_assoc, eqb-true, eq-eqb, ne_eqb, ℤ, pos}
+use Rattle.std.specs.Prelude.{⊤, All, codes, slice_index_or}
 use Rattle.std.specs.List.{AllByRecursion, range_with_len, dedup, dedup_from}
 use Rattle.std.proofs.lemmas.Bool.{cond-true, cond-false}
-use Rattle.std.proofs.lemmas.List.{drop_more, drop_all, length-map}
+use Rattle.std.proofs.lemmas.List.{append-nil, drop_more, drop_all, length-map}
+use Rattle.std.proofs.lemmas.List.Elements.{All-from_recursion}
 use Rattle.auction_terms.specs.declared.bids.KeptBid.{KeptBid}
+use Rattle.auction_terms.specs.declared.rules.Category as declared
+use Rattle.auction_terms.specs.declared.limits.TheConstants.{MOST_BIDDERS}
+use Rattle.auction_terms.specs.Bids.{AreKept}
 use Rattle.auction_terms.specs.Packages.{Lots}
+use Rattle.auction_terms.specs.Terms.{Terms, cap_of, lots_in}
 use Rattle.auction_terms.specs.Offers.{offer_of, offers}
 use Rattle.auction_terms.specs.Keeping.{Offer}
-use Rattle.auction_terms.specs.Limits.{IsOffer, AreOffers}
-use Rattle.program_rows.specs.declared.row.Row.{Row}
-use Rattle.program_rows.specs.Parts.{shown_row, IsProgram}
+use Rattle.auction_terms.specs.Limits.{AreOffers}
+use Rattle.program_rows.specs.declared.subject.Subject.{Subject}
+use Rattle.program_rows.specs.declared.subject.Subject.TheVariants.{Bidder, Category, Pool}
+use Rattle.program_rows.specs.Parts.{IsProgram}
 use Rattle.program_rows.specs.Legal.{IsLegal}
 use Rattle.program_rows.specs.Program.{Table, TableRow, TableColumn}
-use Rattle.program_rows.specs.Rows.{Subject, Bidder, Category, weight, subjects, row_of, entries_from, column_of, program_of}
-use Rattle.program_rows.specs.Building.{next_bidders, quantity_entries, bidder_row, category_rows, next_place, built_columns}
-use Rattle.program_rows.proofs.LegalLaws.{Rises, dedup_rises, all_dedup, bidders_never_fall, bidders_few}
+use Rattle.program_rows.specs.Rows.{bidder_subjects, lot_subjects, subjects, weight, row_of, entries_from, column_of, worth_column, program_of}
+use Rattle.program_rows.specs.Building.{IsThere, built_column}
+use Rattle.program_rows.proofs.LegalLaws.{Rises, all_dedup, bidders_few, bidders_never_fall, dedup_rises}
 
 abbrev bidders : List Offer → List ℕ
 bidders offers = map (λ (o : Offer). o.bidder) offers
 
 -- ---------- the bidders ----------
+
+-- each bidder that differs from the one before it, where the first comes behind `last`
+abbrev pub next_bidders : ℕ → List Offer → List ℕ
+next_bidders last [] = []
+next_bidders last (o ∷ offers) = cond (o.bidder == last) (next_bidders last offers) (o.bidder ∷ next_bidders o.bidder offers)
 
 same_next : (k x : ℕ) (xs : List ℕ) (offers : List Offer) (b : Bool) → (x == k) ≡ b → xs ≡ bidders offers
     → dedup_from nat_eq k xs ≡ k ∷ next_bidders k offers → dedup_from nat_eq x xs ≡ x ∷ next_bidders x offers
@@ -32,71 +43,69 @@ from_last : (k : ℕ) (offers : List Offer) → dedup_from nat_eq k (bidders off
 from_last k [] = refl
 from_last k (o ∷ offers) = same_next k o.bidder (bidders offers) offers (o.bidder == k) refl refl (from_last k offers) (from_last o.bidder offers)
 
-pub dedup_is : (lots : Lots) (offers : List Offer) → AreOffers lots offers → dedup nat_eq (bidders offers) ≡ next_bidders 0 offers
-dedup_is lots [] h = refl
-dedup_is lots (o ∷ offers) h =
-    let some = h.0.bidder_from in
-    from_last o.bidder offers ∙ sym (cond-false (o.bidder == 0) (next_bidders 0 offers) (o.bidder ∷ next_bidders o.bidder offers) (ne_eqb o.bidder 0 (λ e. omega arith)))
+pub bidders_are : (kept : List KeptBid) → AreKept kept → map Bidder (next_bidders 0 (offers kept)) ≡ bidder_subjects (offers kept)
+bidders_are [] h = refl
+bidders_are (k ∷ ks) h =
+    let some = (h.each zero k (omega arith)).some_bidder in
+    ap (λ (bs : List ℕ). map Bidder bs)
+    (cond-false (k.bidder == 0) (next_bidders 0 (offers ks)) (k.bidder ∷ next_bidders k.bidder (offers ks)) (ne_eqb k.bidder 0 (λ e. omega arith)) ∙ sym (from_last k.bidder (offers ks)))
 
--- ---------- the rows ----------
+pub bidders_end : (ss whole : List Subject) (last i : ℕ) (kept : List KeptBid) → length kept ≤ i → ss ++ map Bidder (next_bidders last (offers (drop i kept))) ≡ whole → ss ≡ whole
+bidders_end ss whole last i kept l h = sym (append-nil ss) ∙ sym (ap (λ (ks : List KeptBid). ss ++ map Bidder (next_bidders last (offers ks))) (drop_all i kept l)) ∙ h
 
-pub bidder_rows_are : (lots : Lots) (bs : List ℕ) (rest : List Subject) → map (row_of lots) (map Bidder bs ++ rest) ≡ map bidder_row bs ++ map (row_of lots) rest
-bidder_rows_are lots [] rest = refl
-bidder_rows_are lots (b ∷ bs) rest = ap (λ (rows : List TableRow). bidder_row b ∷ rows) (bidder_rows_are lots bs rest)
+-- ---------- what there are rows for ----------
 
-pub category_rows_are : (lots : Lots) (c n : ℕ) → c + n ≡ length lots.supply → map (row_of lots) (map Category (range_with_len c n)) ≡ category_rows (c + 1) (drop c lots.supply)
-category_rows_are lots c zero e = sym (ap (category_rows (c + 1)) (drop_all c lots.supply (omega arith)))
-category_rows_are lots c (suc n) e =
-    ap (λ (rows : List TableRow). row_of lots (Category c) ∷ rows) (category_rows_are lots (c + 1) n (omega arith))
-    ∙ sym (ap (category_rows (c + 1)) (drop_more lots.supply c 0 (omega arith)))
+bidders_there : (lots : Lots) (bs : List ℕ) (rest : List Subject) → AllByRecursion (IsThere lots) rest → AllByRecursion (IsThere lots) (map Bidder bs ++ rest)
+bidders_there lots [] rest h = h
+bidders_there lots (b ∷ bs) rest h = (tt, bidders_there lots bs rest h)
+
+pools_there : (lots : Lots) (p n : ℕ) → p + n ≤ length lots.pools → AllByRecursion (IsThere lots) (map Pool (range_with_len p n))
+pools_there lots p zero l = tt
+pools_there lots p (suc n) l = (omega arith, pools_there lots (p + 1) n (omega arith))
+
+lots_there : (lots : Lots) (c n : ℕ) (rest : List Subject) → c + n ≤ length lots.supply → AllByRecursion (IsThere lots) rest → AllByRecursion (IsThere lots) (map Category (range_with_len c n) ++ rest)
+lots_there lots c zero rest l h = h
+lots_there lots c (suc n) rest l h = (omega arith, lots_there lots (c + 1) n rest (omega arith) h)
+
+all_there : (lots : Lots) (offers : List Offer) → All (IsThere lots) (subjects lots offers)
+all_there lots offers =
+    All-from_recursion (IsThere lots) (subjects lots offers)
+    (bidders_there lots (dedup nat_eq (bidders offers)) (lot_subjects lots)
+    (lots_there lots 0 (length lots.supply) (map Pool (range_with_len 0 (length lots.pools))) (omega arith) (pools_there lots 0 (length lots.pools) (omega arith))))
 
 -- ---------- the entries ----------
 
-pub quantities_are : (r c n : ℕ) (o : Offer) → c + n ≡ length o.bid.package → entries_from r (map Category (range_with_len c n)) o ≡ quantity_entries r (drop c o.bid.package)
-quantities_are r c zero o e = sym (ap (quantity_entries r) (drop_all c o.bid.package (omega arith)))
-quantities_are r c (suc n) o e =
-    ap (λ (es : List (ℕ × ℤ)). cond (slice_index o.bid.package c == 0) es ((r, pos (slice_index o.bid.package c)) ∷ es)) (quantities_are (r + 1) (c + 1) n o (omega arith))
-    ∙ sym (ap (quantity_entries r) (drop_more o.bid.package c 0 (omega arith)))
+weightless : (lots : Lots) (b : ℕ) (o : Offer) → (o.bidder == b) ≡ false → (weight lots (Bidder b) o == 0) ≡ true
+weightless lots b o e = ap (λ (n : ℕ). n == 0) (cond-false (o.bidder == b) 1 0 e)
 
-weightless : (b : ℕ) (o : Offer) → (o.bidder == b) ≡ false → (weight (Bidder b) o == 0) ≡ true
-weightless b o e = ap (λ (n : ℕ). n == 0) (cond-false (o.bidder == b) 1 0 e)
-
-none_there : (r n : ℕ) (bs : List ℕ) (rest : List Subject) (o : Offer) → n ≡ r + length bs → AllByRecursion (λ b. o.bidder < b) bs → entries_from r (map Bidder bs ++ rest) o ≡ entries_from n rest o
-none_there r n [] rest o e h = ap (λ (m : ℕ). entries_from m rest o) (let t : r ≡ n = omega arith in t)
-none_there r n (b ∷ bs) rest o e h =
+none_there : (lots : Lots) (r n : ℕ) (bs : List ℕ) (rest : List Subject) (o : Offer) → n ≡ r + length bs → AllByRecursion (λ b. o.bidder < b) bs → entries_from lots r (map Bidder bs ++ rest) o ≡ entries_from lots n rest o
+none_there lots r n [] rest o e h = ap (λ (m : ℕ). entries_from lots m rest o) (let t : r ≡ n = omega arith in t)
+none_there lots r n (b ∷ bs) rest o e h =
     let less = h.0 in
-    cond-true (weight (Bidder b) o == 0) (entries_from (r + 1) (map Bidder bs ++ rest) o) ((r, pos (weight (Bidder b) o)) ∷ entries_from (r + 1) (map Bidder bs ++ rest) o) (weightless b o (ne_eqb o.bidder b (λ t. omega arith)))
-    ∙ none_there (r + 1) n bs rest o (omega arith) h.1
+    cond-true (weight lots (Bidder b) o == 0) (entries_from lots (r + 1) (map Bidder bs ++ rest) o) ((r, pos (weight lots (Bidder b) o)) ∷ entries_from lots (r + 1) (map Bidder bs ++ rest) o) (weightless lots b o (ne_eqb o.bidder b (λ t. omega arith)))
+    ∙ none_there lots (r + 1) n bs rest o (omega arith) h.1
 
 later_at : (P : ℕ → Type 0) (bs : List ℕ) (k b : ℕ) → AllByRecursion P bs → slice_get bs k ≡ Some b → P b
 later_at P [] k b h at = cc
 later_at P (c ∷ bs) zero b h at = let same : c ≡ b = cc in subst P same h.0
 later_at P (c ∷ bs) (suc k) b h at = later_at P bs k b h.1 at
 
-one_there : (r p n k : ℕ) (bs : List ℕ) (rest : List Subject) (o : Offer) → p ≡ r + k → n ≡ r + length bs → Rises bs → slice_get bs k ≡ Some o.bidder → entries_from r (map Bidder bs ++ rest) o ≡ (p, pos 1) ∷ entries_from n rest o
-one_there r p n k [] rest o place e h at = cc
-one_there r p n zero (b ∷ bs) rest o place e h at =
+one_there : (lots : Lots) (r p n k : ℕ) (bs : List ℕ) (rest : List Subject) (o : Offer) → p ≡ r + k → n ≡ r + length bs → Rises bs → slice_get bs k ≡ Some o.bidder → entries_from lots r (map Bidder bs ++ rest) o ≡ (p, pos 1) ∷ entries_from lots n rest o
+one_there lots r p n k [] rest o place e h at = cc
+one_there lots r p n zero (b ∷ bs) rest o place e h at =
     let same : b ≡ o.bidder = cc in
-    let one : weight (Bidder b) o ≡ 1 = cond-true (o.bidder == b) 1 0 (eq-eqb o.bidder b (sym same)) in
+    let one : weight lots (Bidder b) o ≡ 1 = cond-true (o.bidder == b) 1 0 (eq-eqb o.bidder b (sym same)) in
     let here : r ≡ p = omega arith in
-    cond-false (weight (Bidder b) o == 0) (entries_from (r + 1) (map Bidder bs ++ rest) o) ((r, pos (weight (Bidder b) o)) ∷ entries_from (r + 1) (map Bidder bs ++ rest) o) (ap (λ (m : ℕ). m == 0) one)
-    ∙ ap (λ (m : ℕ). (r, pos m) ∷ entries_from (r + 1) (map Bidder bs ++ rest) o) one
-    ∙ ap (λ (m : ℕ). (m, pos 1) ∷ entries_from (r + 1) (map Bidder bs ++ rest) o) here
-    ∙ ap (λ (es : List (ℕ × ℤ)). (p, pos 1) ∷ es) (none_there (r + 1) n bs rest o (omega arith) (subst (λ (m : ℕ). AllByRecursion (λ c. m < c) bs) same h.0))
-one_there r p n (suc k) (b ∷ bs) rest o place e h at =
+    cond-false (weight lots (Bidder b) o == 0) (entries_from lots (r + 1) (map Bidder bs ++ rest) o) ((r, pos (weight lots (Bidder b) o)) ∷ entries_from lots (r + 1) (map Bidder bs ++ rest) o) (ap (λ (m : ℕ). m == 0) one)
+    ∙ ap (λ (m : ℕ). (r, pos m) ∷ entries_from lots (r + 1) (map Bidder bs ++ rest) o) one
+    ∙ ap (λ (m : ℕ). (m, pos 1) ∷ entries_from lots (r + 1) (map Bidder bs ++ rest) o) here
+    ∙ ap (λ (es : List (ℕ × ℤ)). (p, pos 1) ∷ es) (none_there lots (r + 1) n bs rest o (omega arith) (subst (λ (m : ℕ). AllByRecursion (λ c. m < c) bs) same h.0))
+one_there lots r p n (suc k) (b ∷ bs) rest o place e h at =
     let less : b < o.bidder = later_at (λ c. b < c) bs k o.bidder h.0 at in
-    cond-true (weight (Bidder b) o == 0) (entries_from (r + 1) (map Bidder bs ++ rest) o) ((r, pos (weight (Bidder b) o)) ∷ entries_from (r + 1) (map Bidder bs ++ rest) o) (weightless b o (ne_eqb o.bidder b (λ t. omega arith)))
-    ∙ one_there (r + 1) p n k bs rest o (omega arith) (omega arith) h.1 at
+    cond-true (weight lots (Bidder b) o == 0) (entries_from lots (r + 1) (map Bidder bs ++ rest) o) ((r, pos (weight lots (Bidder b) o)) ∷ entries_from lots (r + 1) (map Bidder bs ++ rest) o) (weightless lots b o (ne_eqb o.bidder b (λ t. omega arith)))
+    ∙ one_there lots (r + 1) p n k bs rest o (omega arith) (omega arith) h.1 at
 
 -- ---------- the columns ----------
-
--- where the last bidder stands among all, and which come behind it
-abbrev Stands : List ℕ → ℕ → ℕ → List Offer → Type 0
-Stands bs last place offers = ((last ≡ 0) × (place ≡ 0) × (bs ≡ next_bidders 0 offers)) ⊎ ((0 < last) × (slice_get bs place ≡ Some last) × (drop (place + 1) bs ≡ next_bidders last offers))
-
--- of the offer in front
-abbrev Found : List ℕ → ℕ → Offer → List Offer → Type 0
-Found bs place o offers = (slice_get bs place ≡ Some o.bidder) × (drop (place + 1) bs ≡ next_bidders o.bidder offers)
 
 get_dropped : (bs : List ℕ) (k b : ℕ) (rest : List ℕ) → drop k bs ≡ b ∷ rest → (slice_get bs k ≡ Some b) × (drop (k + 1) bs ≡ rest)
 get_dropped [] zero b rest e = cc
@@ -106,85 +115,139 @@ get_dropped (c ∷ bs) (suc k) b rest e =
     let r = get_dropped bs k b rest e in
     (r.0, ap (λ (m : ℕ). drop m (c ∷ bs)) (let t : suc k + 1 ≡ suc (k + 1) = omega arith in t) ∙ r.1)
 
-first_found : (bs : List ℕ) (o : Offer) (offers : List Offer) → 1 ≤ o.bidder → bs ≡ next_bidders 0 (o ∷ offers) → Found bs (next_place 0 0 o.bidder) o offers
-first_found bs o offers some e =
-    let new : (o.bidder == 0) ≡ false = ne_eqb o.bidder 0 (λ t. omega arith) in
-    let all : bs ≡ o.bidder ∷ next_bidders o.bidder offers = e ∙ cond-false (o.bidder == 0) (next_bidders 0 offers) (o.bidder ∷ next_bidders o.bidder offers) new in
-    let here : next_place 0 0 o.bidder ≡ 0 = cond-false (o.bidder == 0) 0 0 new in
-    subst (λ (p : ℕ). Found bs p o offers) (sym here) (get_dropped bs 0 o.bidder (next_bidders o.bidder offers) all)
+-- the bidder that has the row at a place, of the offers before these, and then those of these
+abbrev pub Stands : List ℕ → ℕ → List Offer → Type 0
+Stands bs place [] = ⊤
+Stands bs place (o ∷ offers) = (last : ℕ) × (drop place bs ≡ last ∷ next_bidders last (o ∷ offers))
 
-next_found : (bs : List ℕ) (last place : ℕ) (o : Offer) (offers : List Offer) (b : Bool) → (o.bidder == last) ≡ b → (last == 0) ≡ false → slice_get bs place ≡ Some last
-    → drop (place + 1) bs ≡ cond b (next_bidders last offers) (o.bidder ∷ next_bidders o.bidder offers) → Found bs (cond b place (cond (last == 0) place (place + 1))) o offers
-next_found bs last place o offers true e some at rest =
+pub stands_first : (offers : List Offer) → Stands (dedup nat_eq (bidders offers)) 0 offers
+stands_first [] = tt
+stands_first (o ∷ offers) =
+    (o.bidder, from_last o.bidder offers ∙ sym (ap (λ (bs : List ℕ). o.bidder ∷ bs) (cond-true (o.bidder == o.bidder) (next_bidders o.bidder offers) (o.bidder ∷ next_bidders o.bidder offers) (eq-eqb o.bidder o.bidder refl))))
+
+pub stands_next : (bs : List ℕ) (place b : ℕ) (offers : List Offer) → drop place bs ≡ b ∷ next_bidders b offers → Stands bs place offers
+stands_next bs place b [] h = tt
+stands_next bs place b (o ∷ offers) h = (b, h)
+
+found : (bs : List ℕ) (place next last : ℕ) (o : Offer) (offers : List Offer) (b : Bool) → (o.bidder == last) ≡ b → drop place bs ≡ last ∷ cond b (next_bidders last offers) (o.bidder ∷ next_bidders o.bidder offers)
+    → next ≡ cond (cond b 1 0 == 0) (place + 1) place → drop next bs ≡ o.bidder ∷ next_bidders o.bidder offers
+found bs place next last o offers true e at n =
     let same : o.bidder ≡ last = eqb-true o.bidder last e in
-    (at ∙ ap (λ (m : ℕ). Some m) (sym same), rest ∙ ap (λ (m : ℕ). next_bidders m offers) (sym same))
-next_found bs last place o offers false e some at rest =
-    subst (λ (p : ℕ). Found bs p o offers) (sym (cond-false (last == 0) place (place + 1) some)) (get_dropped bs (place + 1) o.bidder (next_bidders o.bidder offers) rest)
+    ap (λ (p : ℕ). drop p bs) n ∙ at ∙ sym (ap (λ (l : ℕ). l ∷ next_bidders l offers) same)
+found bs place next last o offers false e at n =
+    ap (λ (p : ℕ). drop p bs) n ∙ (get_dropped bs place last (o.bidder ∷ next_bidders o.bidder offers) at).1
 
-found : (bs : List ℕ) (last place : ℕ) (o : Offer) (offers : List Offer) → 1 ≤ o.bidder → Stands bs last place (o ∷ offers) → Found bs (next_place last place o.bidder) o offers
-found bs last place o offers some stands = ⊎_elim
-    (λ h. subst (λ (p : ℕ). Found bs (next_place last p o.bidder) o offers) (sym h.1) (subst (λ (l : ℕ). Found bs (next_place l 0 o.bidder) o offers) (sym h.0) (first_found bs o offers some h.2)))
-    (λ h. let positive = h.0 in next_found bs last place o offers (o.bidder == last) refl (ne_eqb last 0 (λ t. omega arith)) h.1 h.2)
-    stands
+last_there : (bs : List ℕ) (rest : List Subject) (place last : ℕ) (others : List ℕ) → drop place bs ≡ last ∷ others → (place < length (map Bidder bs ++ rest)) × (slice_get (map Bidder bs ++ rest) place ≡ Some (Bidder last))
+last_there [] rest zero last others e = cc
+last_there [] rest (suc place) last others e = cc
+last_there (b ∷ bs) rest zero last others e = let same : b ≡ last = cc in (omega arith, ap (λ (n : ℕ). Some (Bidder n)) same)
+last_there (b ∷ bs) rest (suc place) last others e =
+    let t = last_there bs rest place last others e in
+    let within = t.0 in (omega arith, t.1)
 
-columns_from : (lots : Lots) (bs : List ℕ) (last place : ℕ) (offers : List Offer) → Rises bs → AreOffers lots offers → Stands bs last place offers
-    → built_columns (length bs) last place offers ≡ map (column_of (map Bidder bs ++ map Category (range_with_len 0 (length lots.supply)))) offers
-columns_from lots bs last place [] rises h stands = refl
-columns_from lots bs last place (o ∷ offers) rises h stands =
-    let some = h.0.bidder_from in
-    let f = found bs last place o offers some stands in
-    let p : ℕ = next_place last place o.bidder in
-    let sized = h.0.bid.sized in
-    let entries : (p, pos 1) ∷ quantity_entries (length bs) o.bid.package ≡ entries_from 0 (map Bidder bs ++ map Category (range_with_len 0 (length lots.supply))) o =
-    sym (one_there 0 p (length bs) p bs (map Category (range_with_len 0 (length lots.supply))) o (omega arith) (omega arith) rises f.0
-    ∙ ap (λ (es : List (ℕ × ℤ)). (p, pos 1) ∷ es) (quantities_are (length bs) 0 (length lots.supply) o (omega arith))) in
-    ap₂ (λ (es : List (ℕ × ℤ)) (columns : List TableColumn). record { name = (column_of [] o).name; bounds = (column_of [] o).bounds; cost = (column_of [] o).cost; entries = es } ∷ columns)
-    entries (columns_from lots bs o.bidder p offers rises h.2 (inr (some, f.0, f.1)))
+one_subject : (o : Option Subject) (s t : Subject) → o ≡ Some s → o ≡ Some t → s ≡ t
+one_subject o s t e f = cc
+
+some_front : (ks : List KeptBid) (i : ℕ) → i < length ks → (k : KeptBid) × (drop i ks ≡ k ∷ drop (i + 1) ks)
+some_front [] i l = absurd (omega arith)
+some_front (k ∷ ks) zero l = (k, refl)
+some_front (k ∷ ks) (suc i) l =
+    let rest = some_front ks i (omega arith) in
+    let next : suc (i + 1) ≡ suc i + 1 = omega arith in
+    (rest.0, rest.1 ∙ ap (λ (n : ℕ). rest.0 ∷ drop n (k ∷ ks)) next)
+
+pub at_most_next : (b : Bool) (place next i : ℕ) → next ≡ cond b (place + 1) place → place ≤ i → next ≤ i + 1
+at_most_next true place next i e l = omega arith
+at_most_next false place next i e l = omega arith
+
+module _ (lots : Lots) (kept : List KeptBid) (ss : List Subject) (all : ss ≡ subjects lots (offers kept)) where
+  abbrev bs : List ℕ
+  bs = dedup nat_eq (bidders (offers kept))
+
+  -- the bidder whose row is the last one before the next bid
+  last_bidder : (place i : ℕ) → i < length kept → Stands bs place (offers (drop i kept)) → (last : ℕ) × (place < length ss) × (slice_get ss place ≡ Some (Bidder last))
+  last_bidder place i l stands =
+      let front = some_front kept i l in
+      let s : Stands bs place (offer_of front.0 ∷ offers (drop (i + 1) kept)) = subst (λ (ks : List KeptBid). Stands bs place (offers ks)) front.1 stands in
+      let t = last_there bs (lot_subjects lots) place s.0 (next_bidders s.0 (offer_of front.0 ∷ offers (drop (i + 1) kept))) s.1 in
+      (s.0, subst (λ (xs : List Subject). place < length xs) (sym all) t.0, subst (λ (xs : List Subject). slice_get xs place ≡ Some (Bidder s.0)) (sym all) t.1)
+
+  pub last_within : (place i : ℕ) → i < length kept → Stands bs place (offers (drop i kept)) → place < length ss
+  last_within place i l stands = (last_bidder place i l stands).1
+
+  pub last_is_there : (place i : ℕ) (last : Subject) → i < length kept → Stands bs place (offers (drop i kept)) → slice_get ss place ≡ Some last → IsThere lots last
+  last_is_there place i last l stands at =
+      let b = last_bidder place i l stands in
+      subst (λ (s : Subject). IsThere lots s) (one_subject (slice_get ss place) (Bidder b.0) last b.2 at) tt
+
+  pub place_found : (place next i : ℕ) (k : KeptBid) (last : Subject) → i < length kept → k ≡ slice_index_or kept i k → Stands bs place (offers (drop i kept)) → slice_get ss place ≡ Some last
+      → next ≡ cond (weight lots last (offer_of k) == 0) (place + 1) place → drop next bs ≡ k.bidder ∷ next_bidders k.bidder (offers (drop (i + 1) kept))
+  place_found place next i k last l is stands at n =
+      let front : drop i kept ≡ k ∷ drop (i + 1) kept = drop_more kept i k l ∙ ap (λ (x : KeptBid). x ∷ drop (i + 1) kept) (sym is) in
+      let s : Stands bs place (offer_of k ∷ offers (drop (i + 1) kept)) = subst (λ (ks : List KeptBid). Stands bs place (offers ks)) front stands in
+      let t = last_there bs (lot_subjects lots) place s.0 (next_bidders s.0 (offer_of k ∷ offers (drop (i + 1) kept))) s.1 in
+      let same : last ≡ Bidder s.0 = one_subject (slice_get ss place) last (Bidder s.0) at (ap (λ (xs : List Subject). slice_get xs place) all ∙ t.1) in
+      found bs place next s.0 (offer_of k) (offers (drop (i + 1) kept)) (k.bidder == s.0) refl s.1 (n ∙ ap (λ (t : Subject). cond (weight lots t (offer_of k) == 0) (place + 1) place) same)
+
+  pub column_is : (next first : ℕ) (o : Offer) (others : List ℕ) → AreOffers lots (offers kept) → first ≡ length (bidder_subjects (offers kept)) → drop next bs ≡ o.bidder ∷ others → built_column lots first next o ≡ column_of lots ss o
+  column_is next first o others h count at =
+      let rises = dedup_rises (bidders (offers kept)) (bidders_never_fall lots (offers kept) h) in
+      let n : first ≡ length bs = count ∙ length-map bs Bidder in
+      let rest = lot_subjects lots in
+      let entries : (next, pos 1) ∷ entries_from lots first rest o ≡ entries_from lots 0 ss o =
+      ap (λ (k : ℕ). (next, pos 1) ∷ entries_from lots k rest o) n
+      ∙ sym (one_there lots 0 next (length bs) next bs rest o (omega arith) (omega arith) rises (get_dropped bs next o.bidder others at).0)
+      ∙ sym (ap (λ (xs : List Subject). entries_from lots 0 xs o) all) in
+      ap (λ (es : List (ℕ × ℤ)). record (column_of lots [] o) { entries = es }) entries
+
+  pub column_step : (columns more whole : List TableColumn) (i next first : ℕ) (k : KeptBid) (others : List ℕ) → AreOffers lots (offers kept) → first ≡ length (bidder_subjects (offers kept)) → i < length kept → k ≡ slice_index_or kept i k
+      → drop next bs ≡ k.bidder ∷ others → columns ++ map (column_of lots ss) (offers (drop i kept)) ≡ whole → more ≡ columns ++ built_column lots first next (offer_of k) ∷ [] → more ++ map (column_of lots ss) (offers (drop (i + 1) kept)) ≡ whole
+  column_step columns more whole i next first k others h count l is at so e =
+      let front : drop i kept ≡ k ∷ drop (i + 1) kept = drop_more kept i k l ∙ ap (λ (x : KeptBid). x ∷ drop (i + 1) kept) (sym is) in
+      let rest : List TableColumn = map (column_of lots ss) (offers (drop (i + 1) kept)) in
+      ap (λ (cs : List TableColumn). cs ++ rest) e
+      ∙ append_assoc columns (built_column lots first next (offer_of k) ∷ []) rest
+      ∙ ap (λ (c : TableColumn). columns ++ c ∷ rest) (column_is next first (offer_of k) others h count at)
+      ∙ sym (ap (λ (ks : List KeptBid). columns ++ map (column_of lots ss) (offers ks)) front) ∙ so
 
 -- ---------- the whole ----------
 
-pub is_built : (lots : Lots) (offers : List Offer) (objective : List ℕ) (rows : List TableRow) (columns : List TableColumn) (n : ℕ) → AreOffers lots offers → objective ≡ codes "OBJ"
-    → rows ≡ map bidder_row (next_bidders 0 offers) ++ category_rows 1 lots.supply → n ≡ length (next_bidders 0 offers) → columns ≡ built_columns n 0 0 offers
-    → record { objective = objective; rows = rows; columns = columns } ≡ program_of lots offers
-is_built lots offers objective rows columns n h o r l k =
-    let bs = dedup nat_eq (bidders offers) in
-    let same = dedup_is lots offers h in
-    let rises = dedup_rises (bidders offers) (bidders_never_fall lots offers h) in
-    let all_rows : rows ≡ map (row_of lots) (subjects lots offers) =
-    r ∙ ap (λ (bs : List ℕ). map bidder_row bs ++ category_rows 1 lots.supply) (sym same)
-    ∙ sym (bidder_rows_are lots bs (map Category (range_with_len 0 (length lots.supply))) ∙ ap (λ (rest : List TableRow). map bidder_row bs ++ rest) (category_rows_are lots 0 (length lots.supply) (omega arith))) in
-    let all_columns : columns ≡ map (column_of (subjects lots offers)) offers =
-    k ∙ ap (λ (m : ℕ). built_columns m 0 0 offers) (l ∙ ap (λ (bs : List ℕ). length bs) (sym same))
-    ∙ columns_from lots bs 0 0 offers rises h (inl (refl, refl, same)) in
-    ap (λ (name : List ℕ). record { objective = name; rows = rows; columns = columns }) o
-    ∙ ap₂ (λ (rs : List TableRow) (cs : List TableColumn). record { objective = codes "OBJ"; rows = rs; columns = cs }) all_rows all_columns
+-- the bidders, the categories and the pools
+pub listed : (t : Terms) (offers : List Offer) (first more all : List Subject) (n m : ℕ) → first ≡ bidder_subjects offers → more ≡ first ++ map Category (range_with_len 0 n) → all ≡ more ++ map Pool (range_with_len 0 m)
+    → n ≡ length t.categories → m ≡ length t.pools → all ≡ subjects (lots_in t) offers
+listed t offers first more all n m f c p categories pools =
+    let count : n ≡ length (lots_in t).supply = categories ∙ sym (length-map t.categories (λ (category : declared.Category). category.supply)) in
+    let caps : m ≡ length (lots_in t).pools = pools ∙ sym (length-map t.pools cap_of) in
+    p ∙ ap (λ (ss : List Subject). ss ++ map Pool (range_with_len 0 m)) c
+    ∙ append_assoc first (map Category (range_with_len 0 n)) (map Pool (range_with_len 0 m))
+    ∙ ap (λ (ss : List Subject). ss ++ (map Category (range_with_len 0 n) ++ map Pool (range_with_len 0 m))) f
+    ∙ ap₂ (λ (k l : ℕ). bidder_subjects offers ++ (map Category (range_with_len 0 k) ++ map Pool (range_with_len 0 l))) count caps
 
 -- few bidders
-few_behind : (low : ℕ) (bs : List ℕ) → low ≤ 256 → AllByRecursion (λ b. low < b) bs → AllByRecursion (λ b. b ≤ 256) bs → Rises bs → length bs + low ≤ 256
+few_behind : (low : ℕ) (bs : List ℕ) → low ≤ MOST_BIDDERS → AllByRecursion (λ b. low < b) bs → AllByRecursion (λ b. b ≤ MOST_BIDDERS) bs → Rises bs → length bs + low ≤ MOST_BIDDERS
 few_behind low [] l a h r = omega arith
 few_behind low (b ∷ bs) l a h r = let rest = few_behind b bs h.0 r.0 h.1 r.1 in let first = a.0 in omega arith
 
-few : (bs : List ℕ) → AllByRecursion (λ b. b ≤ 256) bs → Rises bs → length bs ≤ 257
+few : (bs : List ℕ) → AllByRecursion (λ b. b ≤ MOST_BIDDERS) bs → Rises bs → length bs ≤ MOST_BIDDERS + 1
 few [] h r = omega arith
 few (b ∷ bs) h r = let rest = few_behind b bs h.0 r.0 h.1 r.1 in omega arith
 
-pub few_bidders : (lots : Lots) (offers : List Offer) → AreOffers lots offers → length (next_bidders 0 offers) ≤ 257
+pub few_bidders : (lots : Lots) (offers : List Offer) → AreOffers lots offers → length (bidder_subjects offers) ≤ MOST_BIDDERS + 1
 few_bidders lots offers h =
-    let same = ap (λ (bs : List ℕ). length bs) (dedup_is lots offers h) in
-    let l = few (dedup nat_eq (bidders offers)) (all_dedup (λ b. b ≤ 256) (bidders offers) (bidders_few lots offers h)) (dedup_rises (bidders offers) (bidders_never_fall lots offers h)) in
+    let same = length-map (dedup nat_eq (bidders offers)) Bidder in
+    let l = few (dedup nat_eq (bidders offers)) (all_dedup (λ b. b ≤ MOST_BIDDERS) (bidders offers) (bidders_few lots offers h)) (dedup_rises (bidders offers) (bidders_never_fall lots offers h)) in
     omega arith
 
-pub each_offer : (lots : Lots) (offers : List Offer) → AreOffers lots offers → AllByRecursion (IsOffer lots) offers
-each_offer lots [] h = tt
-each_offer lots (o ∷ offers) h = (h.0, each_offer lots offers h.2)
+pub each_there : (lots : Lots) (offers : List Offer) (all : List Subject) → all ≡ subjects lots offers → All (IsThere lots) all
+each_there lots offers all e = subst (λ (ss : List Subject). All (IsThere lots) ss) (sym e) (all_there lots offers)
 
-pub offer_at : (P : Offer → Type 0) (kept : List KeptBid) (i : ℕ) (d : KeptBid) → AllByRecursion P (offers kept) → i < length kept → P (offer_of (slice_index_or kept i d))
-offer_at P [] i d h l = absurd (omega arith)
-offer_at P (k ∷ kept) zero d h l = h.0
-offer_at P (k ∷ kept) (suc i) d h l = offer_at P kept i d h.1 (omega arith)
-
-pub row_count : (rows : List Row) (offers : List Offer) → map shown_row rows ≡ map bidder_row (next_bidders 0 offers) → length rows ≡ length (next_bidders 0 offers)
-row_count rows offers e = sym (length-map rows shown_row) ∙ ap (λ (rs : List TableRow). length rs) e ∙ length-map (next_bidders 0 offers) bidder_row
+pub is_built : (lots : Lots) (offers : List Offer) (objective : List ℕ) (ss : List Subject) (rows : List TableRow) (columns : List TableColumn) → objective ≡ codes "OBJ" → ss ≡ subjects lots offers
+    → rows ≡ map (row_of lots) ss → columns ≡ map (column_of lots ss) offers ++ worth_column lots → record { objective = objective; rows = rows; columns = columns } ≡ program_of lots offers
+is_built lots offers objective ss rows columns o s r c =
+    ap (λ (name : List ℕ). record { objective = name; rows = rows; columns = columns }) o
+    ∙ ap₂ (λ (rs : List TableRow) (cs : List TableColumn). record { objective = codes "OBJ"; rows = rs; columns = cs })
+    (r ∙ ap (λ (xs : List Subject). map (row_of lots) xs) s)
+    (c ∙ ap (λ (xs : List Subject). map (column_of lots xs) offers ++ worth_column lots) s)
 
 pub is_legal : (p q : Table) → p ≡ q → IsLegal q → IsProgram p
 is_legal p q e h = subst (λ (t : Table). IsProgram t) (sym e) h.program

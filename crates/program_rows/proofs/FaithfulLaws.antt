@@ -1,9 +1,8 @@
 -- The program of the kept bids is faithful to the book.
-use Rattle.std.proofs.Common.{◌≡◌, ℕ, zero, suc, ◌+◌, ◌<◌, ◌≤◌, Bool, true, false, not, ◌&&◌, ◌||◌, ◌==◌, nat_eq, cond, List, [], ◌∷◌, ◌++◌, Option, Some, None, is_some, slice_get, slice_index, slice_index_or, length, map, sym, refl, ap, ap₂, ◌∙◌, subst, arith, ⊎_elim, eqb-true, eq-eqb, ne_eqb, leb-true, le-leb, zero-add, add-zero, ℤ, pos, neg_ℤ, ◌+ℤ◌, ◌≤ℤ◌}
-use Rattle.std.specs.Prelude.{sum_by, count_by, Contains, find, int_le, nat_le}
+use Rattle.std.proofs.Common.{◌≡◌, ℕ, zero, suc, ◌+◌, ◌<◌, ◌≤◌, Bool, true, false, not, ◌&&◌, ◌||◌, ◌==◌, nat_eq, cond, List, [], ◌∷◌, ◌++◌, Option, Some, None, is_some, slice_get, slice_index, slice_index_or, length, map, sym, refl, ap, ap₂, ◌∙◌, subst, arith, ⊎_elim, eqb-true, eq-eqb, ne_eqb, leb-true, le-leb, zero-add, add-zero, ℤ, pos, neg_ℤ, ◌+ℤ◌, ◌-ℤ◌, ◌≤ℤ◌}
+use Rattle.std.specs.Prelude.{codes, sum_by, count_by, Contains, find, int_le, nat_le}
 use Rattle.std.specs.List.{AllByRecursion, list_any, range_with_len, dedup, enumerate_from}
 use Rattle.std.specs.Option.{option_map_or, option_to_list}
-use Rattle.std.proofs.Math.IntN.{neg_ℤ-neg_ℤ, neg_ℤ-+ℤ}
 use Rattle.std.proofs.lemmas.Int.{ints}
 use Rattle.std.proofs.lemmas.Bool.{and_parts, and_from, both_ways, cases_Bool, or_parts, cond-true, cond-false, and_left, false_from_ne_true, or_cases}
 use Rattle.std.proofs.lemmas.List.Sums.{sum_by-cons}
@@ -11,19 +10,22 @@ use Rattle.std.proofs.lemmas.List.Elements.{recursion_from_All, All-from_recursi
 use Rattle.std.proofs.lemmas.List.Kept.{Contains-dedup_nat}
 use Rattle.auction_terms.specs.declared.bids.Bid.{Bid}
 use Rattle.auction_terms.specs.declared.choices.Choice.{Choice}
-use Rattle.auction_terms.specs.Packages.{Lots}
-use Rattle.auction_terms.specs.Domination.{is_kept}
-use Rattle.auction_terms.specs.Allocations.{Book, form_of, bid_of, amount_of, quantity_of, total, is_eligible, IsFeasible, IsSized}
+use Rattle.auction_terms.specs.Packages.{Lots, pool_at, fits, weighed, worth, worth_of_all}
+use Rattle.auction_terms.specs.Domination.{net, is_kept}
+use Rattle.auction_terms.specs.Allocations.{Book, form_of, bid_of, amount_of, quantity_of, weighed_choice, loads, total, is_eligible, IsFeasible, IsSized}
 use Rattle.auction_terms.specs.Keeping.{Offer, choice_of, offers_from, is_kept_offer, kept_of, is_kept_choice}
 use Rattle.auction_terms.specs.Limits.{AreOffers}
-use Rattle.auction_terms.proofs.AllocationLaws.{kept_are_enough, feasible_at, feasible_from}
+use Rattle.auction_terms.proofs.AllocationLaws.{kept_are_enough, feasible_at, feasible_pool, feasible_from, total_is, worths}
 use Rattle.auction_terms.proofs.OfferLaws.{sum_zero, sum_agree, sum_plus, sum_filter, all_agree, all_filter, at_choice, stands}
 use Rattle.auction_terms.proofs.LimitLaws.{kept_are_offers, sized}
 use Rattle.program_rows.specs.declared.row.RowKind.TheVariants.{AtMost}
 use Rattle.program_rows.specs.Program.{Table, TableRow, TableColumn}
 use Rattle.program_rows.specs.Points.{sum_at_one, objective, coefficient_at, row_sum, meets, AreAllowed, IsPoint}
-use Rattle.program_rows.specs.Spelling.{is_bid}
-use Rattle.program_rows.specs.Rows.{Subject, Bidder, Category, weight, most, subjects, row_of, entries_from, column_of, program_of}
+use Rattle.program_rows.specs.Spelling.{is_bid, column_bid}
+use Rattle.auction_terms.specs.declared.limits.TheConstants.{MOST_BIDDERS, MOST_BIDS}
+use Rattle.program_rows.specs.declared.subject.Subject.{Subject}
+use Rattle.program_rows.specs.declared.subject.Subject.TheVariants.{Bidder, Category, Pool}
+use Rattle.program_rows.specs.Rows.{weight, most, subjects, row_of, entries_from, column_of, constant_column, worth_column, program_of}
 use Rattle.program_rows.specs.Faithful.{back, Matched, PresolvedIsFaithful, LeastIsGreatest}
 use Rattle.program_rows.proofs.SpellingLaws.{reads_back}
 
@@ -93,36 +95,82 @@ IsNumbered o = is_bid o.bidder o.number ≡ true
 numbered : (lots : Lots) (offers : List Offer) → AreOffers lots offers → AllByRecursion IsNumbered offers
 numbered lots [] h = tt
 numbered lots (o ∷ offers) h = (
-  and_from (nat_le 1 o.bidder && nat_le o.bidder 256) (nat_le 1 o.number && nat_le o.number 4000)
-      (and_from (nat_le 1 o.bidder) (nat_le o.bidder 256) (le-leb 1 o.bidder h.0.bidder_from) (le-leb o.bidder 256 h.0.bidder_to))
-      (and_from (nat_le 1 o.number) (nat_le o.number 4000) (le-leb 1 o.number h.0.number_from) (le-leb o.number 4000 h.0.number_to)),
+  and_from (nat_le 1 o.bidder && nat_le o.bidder MOST_BIDDERS) (nat_le 1 o.number && nat_le o.number MOST_BIDS)
+      (and_from (nat_le 1 o.bidder) (nat_le o.bidder MOST_BIDDERS) (le-leb 1 o.bidder h.0.bidder_from) (le-leb o.bidder MOST_BIDDERS h.0.bidder_to))
+      (and_from (nat_le 1 o.number) (nat_le o.number MOST_BIDS) (le-leb 1 o.number h.0.number_from) (le-leb o.number MOST_BIDS h.0.number_to)),
   numbered lots offers h.2,
 )
 
-back_is : (rows : List Subject) (kept : List Offer) (p : List Bool) → AllByRecursion IsNumbered kept → back (map (column_of rows) kept) p ≡ map choice_of (chosen kept p)
-back_is rows [] p n = refl
-back_is rows (o ∷ kept) [] n = refl
-back_is rows (o ∷ kept) (true ∷ p) n =
-    ap (λ (x : Option Choice). option_to_list x ++ back (map (column_of rows) kept) p) (reads_back o.bidder o.number n.0) ∙ ap (λ (xs : List Choice). choice_of o ∷ xs) (back_is rows kept p n.1)
-back_is rows (o ∷ kept) (false ∷ p) n = back_is rows kept p n.1
+-- the column of what all lots are worth names no bid
+names_none : column_bid (codes "K") ≡ None
+unfolding column_bid
+names_none = refl
 
--- a sum of numbers of columns, by the numbers of the offers
-sum_is : (f : TableColumn → ℤ) (g : Offer → ℕ) (rows : List Subject) (kept : List Offer) (p : List Bool) → ((o : Offer) → f (column_of rows o) ≡ pos (g o))
-    → sum_at_one f (map (column_of rows) kept) p ≡ pos (sum_by g (chosen kept p))
-sum_is f g rows [] p h = refl
-sum_is f g rows (o ∷ kept) [] h = refl
-sum_is f g rows (o ∷ kept) (true ∷ p) h =
-    ap (λ (z : ℤ). z +ℤ sum_at_one f (map (column_of rows) kept) p) (h o) ∙ ap (λ (z : ℤ). pos (g o) +ℤ z) (sum_is f g rows kept p h) ∙ ap (λ (n : ℕ). pos n) (sym (sum_by-cons g o (chosen kept p)))
-sum_is f g rows (o ∷ kept) (false ∷ p) h = sum_is f g rows kept p h
+column_names_none : (lots : Lots) (b : Bool) (p : List Bool) → back (cond b [] (constant_column lots ∷ [])) p ≡ []
+column_names_none lots true p = refl
+column_names_none lots false [] = refl
+column_names_none lots false (true ∷ p) = ap (λ (x : Option Choice). option_to_list x ++ []) names_none
+column_names_none lots false (false ∷ p) = refl
 
-neg_sum_is : (f : TableColumn → ℤ) (g : Offer → ℕ) (rows : List Subject) (kept : List Offer) (p : List Bool) → ((o : Offer) → f (column_of rows o) ≡ neg_ℤ (pos (g o)))
-    → sum_at_one f (map (column_of rows) kept) p ≡ neg_ℤ (pos (sum_by g (chosen kept p)))
-neg_sum_is f g rows [] p h = refl
-neg_sum_is f g rows (o ∷ kept) [] h = refl
-neg_sum_is f g rows (o ∷ kept) (true ∷ p) h =
-    ap (λ (z : ℤ). z +ℤ sum_at_one f (map (column_of rows) kept) p) (h o) ∙ ap (λ (z : ℤ). neg_ℤ (pos (g o)) +ℤ z) (neg_sum_is f g rows kept p h)
-    ∙ sym (neg_ℤ-+ℤ (pos (g o)) (pos (sum_by g (chosen kept p)))) ∙ ap (λ (n : ℕ). neg_ℤ (pos n)) (sym (sum_by-cons g o (chosen kept p)))
-neg_sum_is f g rows (o ∷ kept) (false ∷ p) h = neg_sum_is f g rows kept p h
+back_is : (lots : Lots) (rows : List Subject) (kept : List Offer) (p : List Bool) → AllByRecursion IsNumbered kept → back (map (column_of lots rows) kept ++ worth_column lots) p ≡ map choice_of (chosen kept p)
+back_is lots rows [] p n = column_names_none lots (worth_of_all lots == 0) p
+back_is lots rows (o ∷ kept) [] n = refl
+back_is lots rows (o ∷ kept) (true ∷ p) n =
+    ap (λ (x : Option Choice). option_to_list x ++ back (map (column_of lots rows) kept ++ worth_column lots) p) (reads_back o.bidder o.number n.0) ∙ ap (λ (xs : List Choice). choice_of o ∷ xs) (back_is lots rows kept p n.1)
+back_is lots rows (o ∷ kept) (false ∷ p) n = back_is lots rows kept p n.1
+
+-- a sum of numbers of columns, by the numbers of the offers, before columns that add nothing
+sum_is : (f : TableColumn → ℤ) (g : Offer → ℕ) (lots : Lots) (rows : List Subject) (last : List TableColumn) (kept : List Offer) (p : List Bool) → ((o : Offer) → f (column_of lots rows o) ≡ pos (g o))
+    → ((q : List Bool) → sum_at_one f last q ≡ pos 0) → sum_at_one f (map (column_of lots rows) kept ++ last) p ≡ pos (sum_by g (chosen kept p))
+sum_is f g lots rows last [] p h z = z p
+sum_is f g lots rows last (o ∷ kept) [] h z = refl
+sum_is f g lots rows last (o ∷ kept) (true ∷ p) h z =
+    ap (λ (n : ℤ). n +ℤ sum_at_one f (map (column_of lots rows) kept ++ last) p) (h o) ∙ ap (λ (n : ℤ). pos (g o) +ℤ n) (sum_is f g lots rows last kept p h z) ∙ ap (λ (n : ℕ). pos n) (sym (sum_by-cons g o (chosen kept p)))
+sum_is f g lots rows last (o ∷ kept) (false ∷ p) h z = sum_is f g lots rows last kept p h z
+
+-- the column of what all lots are worth stands in no row
+in_no_row : (lots : Lots) (row : ℕ) (b : Bool) (q : List Bool) → sum_at_one (coefficient_at row) (cond b [] (constant_column lots ∷ [])) q ≡ pos 0
+in_no_row lots row true q = refl
+in_no_row lots row false [] = refl
+in_no_row lots row false (true ∷ q) = refl
+in_no_row lots row false (false ∷ q) = refl
+
+-- and is always 1
+always_one : (lots : Lots) (b : Bool) (q : List Bool) → (worth_of_all lots == 0) ≡ b → AreAllowed (cond b [] (constant_column lots ∷ [])) q → sum_at_one (λ c. c.cost) (cond b [] (constant_column lots ∷ [])) q ≡ neg_ℤ (pos (worth_of_all lots))
+always_one lots true q e a = ap (λ (n : ℕ). neg_ℤ (pos n)) (sym (eqb-true (worth_of_all lots) 0 e))
+always_one lots false [] e a = absurd a
+always_one lots false (true ∷ []) e a = let z : ℤ = neg_ℤ (pos (worth_of_all lots)) in let s : z +ℤ pos 0 ≡ z = omega (arith, ints) in s
+always_one lots false (true ∷ v ∷ q) e a = absurd a.1
+always_one lots false (false ∷ q) e a = absurd (both_ways false refl a.0)
+
+-- what the offers are worth where their lots are left
+abbrev pub worth_offered : Lots → Offer → ℕ
+worth_offered lots o = worth lots o.bid.package
+
+one_cost : (a w n : ℕ) (c s all : ℤ) → c ≡ neg_ℤ (pos a -ℤ pos w) → s +ℤ pos n ≡ all → (c +ℤ s) +ℤ pos (a + n) ≡ pos w +ℤ all
+one_cost a w n c s all e h = omega (arith, ints)
+
+-- the costs of the offers at 1, and their amounts, are what their packages are worth, less what all lots are worth
+cost_is : (lots : Lots) (rows : List Subject) (kept : List Offer) (p : List Bool) → AreAllowed (map (column_of lots rows) kept ++ worth_column lots) p
+    → sum_at_one (λ c. c.cost) (map (column_of lots rows) kept ++ worth_column lots) p +ℤ pos (sum_by (λ o. o.bid.amount) (chosen kept p)) ≡ pos (sum_by (worth_offered lots) (chosen kept p)) +ℤ neg_ℤ (pos (worth_of_all lots))
+cost_is lots rows [] p a =
+    let v : ℤ = neg_ℤ (pos (worth_of_all lots)) in
+    let s : ℤ = sum_at_one (λ c. c.cost) (worth_column lots) p in
+    let e : s ≡ v = always_one lots (worth_of_all lots == 0) p refl a in
+    let t : s +ℤ pos 0 ≡ pos 0 +ℤ v = omega (arith, ints) in
+    t
+cost_is lots rows (o ∷ kept) [] a = absurd a
+cost_is lots rows (o ∷ kept) (true ∷ p) a =
+    let v : ℤ = neg_ℤ (pos (worth_of_all lots)) in
+    let s : ℤ = sum_at_one (λ c. c.cost) (map (column_of lots rows) kept ++ worth_column lots) p in
+    let m : ℕ = sum_by (λ o. o.bid.amount) (chosen kept p) in
+    let w : ℕ = sum_by (worth_offered lots) (chosen kept p) in
+    let c : ℤ = neg_ℤ (net lots o.bid) in
+    let h : s +ℤ pos m ≡ pos w +ℤ v = cost_is lots rows kept p a.1 in
+    let t : (c +ℤ s) +ℤ pos (o.bid.amount + m) ≡ pos (worth_offered lots o) +ℤ (pos w +ℤ v) = one_cost o.bid.amount (worth_offered lots o) m c s (pos w +ℤ v) refl h in
+    let u : pos (worth_offered lots o) +ℤ (pos w +ℤ v) ≡ pos (worth_offered lots o + w) +ℤ v = omega (arith, ints) in
+    ap (λ (n : ℕ). (c +ℤ s) +ℤ pos n) (sum_by-cons (λ (o : Offer). o.bid.amount) o (chosen kept p)) ∙ t ∙ u ∙ ap (λ (n : ℕ). pos n +ℤ v) (sym (sum_by-cons (worth_offered lots) o (chosen kept p)))
+cost_is lots rows (o ∷ kept) (false ∷ p) a = cost_is lots rows kept p a.1
 
 -- ---------- coefficients ----------
 
@@ -136,9 +184,9 @@ skipped : (r n : ℕ) (w : ℕ) (es : List (ℕ × ℤ)) (b : Bool) → n < r �
 skipped r n w es true l h = h
 skipped r n w es false l h = ap second (cond-false (r == n) (Some (r, pos w)) (find (λ e. e.0 == n) es) (ne_eqb r n (λ e. omega arith))) ∙ h
 
-absent : (r n : ℕ) (rows : List Subject) (o : Offer) → n < r → coefficient (entries_from r rows o) n ≡ pos 0
-absent r n [] o l = refl
-absent r n (s ∷ rows) o l = skipped r n (weight s o) (entries_from (r + 1) rows o) (weight s o == 0) l (absent (r + 1) n rows o (omega arith))
+absent : (lots : Lots) (r n : ℕ) (rows : List Subject) (o : Offer) → n < r → coefficient (entries_from lots r rows o) n ≡ pos 0
+absent lots r n [] o l = refl
+absent lots r n (s ∷ rows) o l = skipped r n (weight lots s o) (entries_from lots (r + 1) rows o) (weight lots s o == 0) l (absent lots (r + 1) n rows o (omega arith))
 
 here_is : (r : ℕ) (w : ℕ) (es : List (ℕ × ℤ)) (b : Bool) → (w == 0) ≡ b → coefficient es r ≡ pos 0 → coefficient (cond b es ((r, pos w) ∷ es)) r ≡ pos w
 here_is r w es true e h = h ∙ ap (λ (n : ℕ). pos n) (sym (eqb-true w 0 e))
@@ -148,15 +196,15 @@ later_is : (r n : ℕ) (w v : ℕ) (es : List (ℕ × ℤ)) (b : Bool) → r < n
 later_is r n w v es true l h = h
 later_is r n w v es false l h = ap second (cond-false (r == n) (Some (r, pos w)) (find (λ e. e.0 == n) es) (ne_eqb r n (λ e. omega arith))) ∙ h
 
-coefficient_is : (r n k : ℕ) (rows : List Subject) (o : Offer) (s : Subject) → slice_get rows k ≡ Some s → n ≡ r + k → coefficient (entries_from r rows o) n ≡ pos (weight s o)
-coefficient_is r n k [] o s at e = cc
-coefficient_is r n zero (t ∷ rows) o s at e =
+coefficient_is : (lots : Lots) (r n k : ℕ) (rows : List Subject) (o : Offer) (s : Subject) → slice_get rows k ≡ Some s → n ≡ r + k → coefficient (entries_from lots r rows o) n ≡ pos (weight lots s o)
+coefficient_is lots r n k [] o s at e = cc
+coefficient_is lots r n zero (t ∷ rows) o s at e =
     let same : t ≡ s = cc in
     let place : r ≡ n = omega arith in
-    let h = here_is r (weight t o) (entries_from (r + 1) rows o) (weight t o == 0) refl (absent (r + 1) r rows o (omega arith)) in
-    ap (λ (m : ℕ). coefficient (entries_from r (t ∷ rows) o) m) (sym place) ∙ h ∙ ap (λ (u : Subject). pos (weight u o)) same
-coefficient_is r n (suc k) (t ∷ rows) o s at e =
-    later_is r n (weight t o) (weight s o) (entries_from (r + 1) rows o) (weight t o == 0) (omega arith) (coefficient_is (r + 1) n k rows o s at (omega arith))
+    let h = here_is r (weight lots t o) (entries_from lots (r + 1) rows o) (weight lots t o == 0) refl (absent lots (r + 1) r rows o (omega arith)) in
+    ap (λ (m : ℕ). coefficient (entries_from lots r (t ∷ rows) o) m) (sym place) ∙ h ∙ ap (λ (u : Subject). pos (weight lots u o)) same
+coefficient_is lots r n (suc k) (t ∷ rows) o s at e =
+    later_is r n (weight lots t o) (weight lots s o) (entries_from lots (r + 1) rows o) (weight lots t o == 0) (omega arith) (coefficient_is lots (r + 1) n k rows o s at (omega arith))
 
 -- ---------- from a point to an allocation ----------
 
@@ -167,6 +215,10 @@ measured h g (o ∷ xs) a =
     let s = sum_by-cons h (choice_of o) (map choice_of xs) in let t = sum_by-cons g o xs in let e = a.0 in let r = measured h g xs a.1 in
     let left : sum_by h (choice_of o ∷ map choice_of xs) ≡ g o + sum_by g xs = omega arith in
     left ∙ sym t
+
+-- a total is minus the objective
+same_total : (total worth amounts all amounts' worth' : ℕ) (objective : ℤ) → total + worth ≡ amounts + all → amounts ≡ amounts' → worth ≡ worth' → objective +ℤ pos amounts' ≡ pos worth' +ℤ neg_ℤ (pos all) → pos total ≡ neg_ℤ objective
+same_total total worth amounts all amounts' worth' objective t a w o = omega (arith, ints)
 
 module _ (lots : Lots) (book : Book) (group : ℕ → Bool) where
   abbrev kept : List Offer
@@ -187,11 +239,14 @@ module _ (lots : Lots) (book : Book) (group : ℕ → Bool) where
   quantity_is : (category : ℕ) (o : Offer) → IsOffered o → quantity_of book category (choice_of o) ≡ slice_index o.bid.package category
   quantity_is category o h = ap (λ c. option_map_or (λ (x : Bid). slice_index x.package category) c 0) h.0
 
-  row_is : (r : ℕ) (s : Subject) (p : List Bool) → slice_get (subjects lots kept) r ≡ Some s → row_sum program p r ≡ pos (sum_by (weight s) (chosen kept p))
-  row_is r s p at = sum_is (coefficient_at r) (weight s) (subjects lots kept) kept p (λ o. coefficient_is 0 r r (subjects lots kept) o s at (omega arith))
+  row_is : (r : ℕ) (s : Subject) (p : List Bool) → slice_get (subjects lots kept) r ≡ Some s → row_sum program p r ≡ pos (sum_by (weight lots s) (chosen kept p))
+  row_is r s p at = sum_is (coefficient_at r) (weight lots s) lots (subjects lots kept) (worth_column lots) kept p (λ o. coefficient_is lots 0 r r (subjects lots kept) o s at (omega arith)) (in_no_row lots r (worth_of_all lots == 0))
 
-  objective_is : (p : List Bool) → objective program p ≡ neg_ℤ (pos (sum_by (λ o. o.bid.amount) (chosen kept p)))
-  objective_is p = neg_sum_is (λ x. x.cost) (λ o. o.bid.amount) (subjects lots kept) kept p (λ o. refl)
+  worth_is : (o : Offer) → IsOffered o → weighed_choice lots.values book (choice_of o) ≡ worth_offered lots o
+  worth_is o h = ap (λ c. option_map_or (λ (x : Bid). weighed lots.values x.package) c 0) h.0
+
+  load_is : (pool : ℕ) (o : Offer) → IsOffered o → weighed_choice (pool_at lots pool).weights book (choice_of o) ≡ weight lots (Pool pool) o
+  load_is pool o h = ap (λ c. option_map_or (λ (x : Bid). weighed (pool_at lots pool).weights x.package) c 0) h.0
 
   -- a bidder with a column has a row
   bidder_row : (b : ℕ) (xs : List Offer) → list_any (λ o. o.bidder == b) xs ≡ true → Contains (map (λ o. o.bidder) xs) b
@@ -201,54 +256,82 @@ module _ (lots : Lots) (book : Book) (group : ℕ → Bool) where
       (λ r. let w = bidder_row b xs r in (suc w.0, omega arith, w.2))
       (or_cases _ _ h)
 
-  no_weight : (b : ℕ) (xs : List Offer) → list_any (λ o. o.bidder == b) xs ≡ false → AllByRecursion (λ o. weight (Bidder b) o ≡ 0) xs
+  no_weight : (b : ℕ) (xs : List Offer) → list_any (λ o. o.bidder == b) xs ≡ false → AllByRecursion (λ o. weight lots (Bidder b) o ≡ 0) xs
   no_weight b [] h = tt
   no_weight b (o ∷ xs) h = let e = or_parts _ _ h in (cond-false (o.bidder == b) 1 0 e.0, no_weight b xs e.1)
 
-  met : (p : List Bool) → IsPoint program p → (r : ℕ) (s : Subject) → slice_get (subjects lots kept) r ≡ Some s → sum_by (weight s) (chosen kept p) ≤ most lots s
+  met : (p : List Bool) → IsPoint program p → (r : ℕ) (s : Subject) → slice_get (subjects lots kept) r ≡ Some s → sum_by (weight lots s) (chosen kept p) ≤ most lots s
   met p is_point r s at =
       let m = row_at (λ q. meets q.1.kind (row_sum program p q.0) q.1.right_side ≡ true) 0 r r program.rows (row_of lots s) is_point.met (get_map (row_of lots) (subjects lots kept) r s at) (sym (zero-add r)) in
-      leb-true (sum_by (weight s) (chosen kept p)) (most lots s) (ap (λ (z : ℤ). int_le z (pos (most lots s))) (sym (row_is r s p at)) ∙ m)
+      leb-true (sum_by (weight lots s) (chosen kept p)) (most lots s) (ap (λ (z : ℤ). int_le z (pos (most lots s))) (sym (row_is r s p at)) ∙ m)
 
-  one_each : (p : List Bool) → IsPoint program p → (b : ℕ) → sum_by (weight (Bidder b)) (chosen kept p) ≤ 1
+  one_each : (p : List Bool) → IsPoint program p → (b : ℕ) → sum_by (weight lots (Bidder b)) (chosen kept p) ≤ 1
   one_each p is_point b = ⊎_elim
       (λ some.
       let w = Contains-dedup_nat (map (λ o. o.bidder) kept) b (bidder_row b kept some) in
-      let at = get_left (map Bidder (dedup nat_eq (map (λ o. o.bidder) kept))) (map Category (range_with_len 0 (length lots.supply))) w.0 (Bidder b)
+      let at = get_left (map Bidder (dedup nat_eq (map (λ o. o.bidder) kept))) (map Category (range_with_len 0 (length lots.supply)) ++ map Pool (range_with_len 0 (length lots.pools))) w.0 (Bidder b)
       (get_map Bidder (dedup nat_eq (map (λ o. o.bidder) kept)) w.0 b (get_contained (dedup nat_eq (map (λ o. o.bidder) kept)) w.0 b w.1 w.2)) in
       met p is_point w.0 (Bidder b) at)
       (λ none.
-      let z = sum_agree (weight (Bidder b)) (λ o. 0) (chosen kept p) (chosen_all (λ o. weight (Bidder b) o ≡ 0) kept p (no_weight b kept none)) in
+      let z = sum_agree (weight lots (Bidder b)) (λ o. 0) (chosen kept p) (chosen_all (λ o. weight lots (Bidder b) o ≡ 0) kept p (no_weight b kept none)) in
       let y = sum_zero (λ (o : Offer). 0) (chosen kept p) (λ o. refl) in
       omega arith)
       (cases_Bool (list_any (λ o. o.bidder == b) kept))
 
-  within : (p : List Bool) → IsPoint program p → (category : ℕ) → category < length lots.supply → sum_by (weight (Category category)) (chosen kept p) ≤ slice_index lots.supply category
+  within : (p : List Bool) → IsPoint program p → (category : ℕ) → category < length lots.supply → sum_by (weight lots (Category category)) (chosen kept p) ≤ slice_index lots.supply category
   within p is_point category below =
-      let at = get_right (map Bidder (dedup nat_eq (map (λ o. o.bidder) kept))) (map Category (range_with_len 0 (length lots.supply))) category (Category category)
-      (get_map Category (range_with_len 0 (length lots.supply)) category category (get_range 0 (length lots.supply) category category below (omega arith))) in
+      let rest : List Subject = map Pool (range_with_len 0 (length lots.pools)) in
+      let at = get_right (map Bidder (dedup nat_eq (map (λ o. o.bidder) kept))) (map Category (range_with_len 0 (length lots.supply)) ++ rest) category (Category category)
+      (get_left (map Category (range_with_len 0 (length lots.supply))) rest category (Category category)
+      (get_map Category (range_with_len 0 (length lots.supply)) category category (get_range 0 (length lots.supply) category category below (omega arith)))) in
       met p is_point at.0 (Category category) at.1
+
+  within_pool : (p : List Bool) → IsPoint program p → (pool : ℕ) → pool < length lots.pools → sum_by (weight lots (Pool pool)) (chosen kept p) ≤ (pool_at lots pool).cap
+  within_pool p is_point pool below =
+      let there = get_right (map Category (range_with_len 0 (length lots.supply))) (map Pool (range_with_len 0 (length lots.pools))) pool (Pool pool)
+      (get_map Pool (range_with_len 0 (length lots.pools)) pool pool (get_range 0 (length lots.pools) pool pool below (omega arith))) in
+      let at = get_right (map Bidder (dedup nat_eq (map (λ o. o.bidder) kept))) (map Category (range_with_len 0 (length lots.supply)) ++ map Pool (range_with_len 0 (length lots.pools))) there.0 (Pool pool) there.1 in
+      met p is_point at.0 (Pool pool) at.1
 
   eligible_each : (xs : List Offer) → AllByRecursion IsOffered xs → AllByRecursion (λ c. is_eligible book group c ≡ true) (map choice_of xs)
   eligible_each [] a = tt
   eligible_each (o ∷ xs) a = (and_from (not (group o.bidder)) (is_some (bid_of book (choice_of o))) (and_parts (not (group o.bidder)) (is_kept lots (form_of book o.bidder) o.bid) a.0.1).0 (ap (λ c. is_some c) a.0.0), eligible_each xs a.1)
 
-  maps_back : (p : List Bool) → IsPoint program p → IsFeasible lots book group (map choice_of (chosen kept p)) × (pos (total lots book (map choice_of (chosen kept p))) ≡ neg_ℤ (objective program p))
-  maps_back p is_point =
-      let here : AllByRecursion IsOffered (chosen kept p) = chosen_all IsOffered kept p offered in (
+  -- what the chosen offers, and their choices, add up to
+  amounts_are : (p : List Bool) → sum_by (amount_of book) (map choice_of (chosen kept p)) ≡ sum_by (λ o. o.bid.amount) (chosen kept p)
+  amounts_are p = measured (amount_of book) (λ o. o.bid.amount) (chosen kept p) (all_agree IsOffered (λ o. amount_of book (choice_of o) ≡ o.bid.amount) (chosen kept p) amount_is (chosen_all IsOffered kept p offered))
+
+  worths_are : (p : List Bool) → worths lots book (map choice_of (chosen kept p)) ≡ sum_by (worth_offered lots) (chosen kept p)
+  worths_are p = measured (weighed_choice lots.values book) (worth_offered lots) (chosen kept p) (all_agree IsOffered (λ o. weighed_choice lots.values book (choice_of o) ≡ worth_offered lots o) (chosen kept p) worth_is (chosen_all IsOffered kept p offered))
+
+  fit_back : IsSized lots book → (p : List Bool) → IsPoint program p → fits lots (loads lots book (map choice_of (chosen kept p))) ≡ true
+  fit_back sized p is_point =
+      let here : AllByRecursion IsOffered (chosen kept p) = chosen_all IsOffered kept p offered in
+      feasible_from lots book (map choice_of (chosen kept p)) sized
+      (λ category below.
+      let e = measured (quantity_of book category) (weight lots (Category category)) (chosen kept p) (all_agree IsOffered (λ o. quantity_of book category (choice_of o) ≡ slice_index o.bid.package category) (chosen kept p) (quantity_is category) here) in
+      let l = within p is_point category below in
+      omega arith)
+      (λ pool below.
+      let e = measured (weighed_choice (pool_at lots pool).weights book) (weight lots (Pool pool)) (chosen kept p) (all_agree IsOffered (λ o. weighed_choice (pool_at lots pool).weights book (choice_of o) ≡ weight lots (Pool pool) o) (chosen kept p) (load_is pool) here) in
+      let l = within_pool p is_point pool below in
+      omega arith)
+
+  maps_back : IsSized lots book → (p : List Bool) → IsPoint program p → IsFeasible lots book group (map choice_of (chosen kept p)) × (pos (total lots book (map choice_of (chosen kept p))) ≡ neg_ℤ (objective program p))
+  maps_back sized p is_point =
+      let here : AllByRecursion IsOffered (chosen kept p) = chosen_all IsOffered kept p offered in
+      let fit = fit_back sized p is_point in (
         record {
           one_bid_each = λ b.
-              let e = measured (λ (c : Choice). cond (c.bidder == b) 1 0) (weight (Bidder b)) (chosen kept p) (all_agree IsOffered (λ o. cond (o.bidder == b) 1 0 ≡ cond (o.bidder == b) 1 0) (chosen kept p) (λ o h. refl) here) in
+              let e = measured (λ (c : Choice). cond (c.bidder == b) 1 0) (weight lots (Bidder b)) (chosen kept p) (all_agree IsOffered (λ o. cond (o.bidder == b) 1 0 ≡ cond (o.bidder == b) 1 0) (chosen kept p) (λ o h. refl) here) in
               let l = one_each p is_point b in
               omega arith;
           eligible = All-from_recursion (λ c. is_eligible book group c ≡ true) (map choice_of (chosen kept p)) (eligible_each (chosen kept p) here);
-          fit = feasible_from lots book (map choice_of (chosen kept p)) (λ category below.
-              let e = measured (quantity_of book category) (weight (Category category)) (chosen kept p) (all_agree IsOffered (λ o. quantity_of book category (choice_of o) ≡ slice_index o.bid.package category) (chosen kept p) (quantity_is category) here) in
-              let l = within p is_point category below in
-              omega arith);
+          fit = fit;
         },
-        (let e = measured (amount_of book) (λ o. o.bid.amount) (chosen kept p) (all_agree IsOffered (λ o. amount_of book (choice_of o) ≡ o.bid.amount) (chosen kept p) amount_is here) in
-            ap (λ (n : ℕ). pos n) e ∙ sym (neg_ℤ-neg_ℤ (pos (sum_by (λ o. o.bid.amount) (chosen kept p)))) ∙ ap neg_ℤ (sym (objective_is p))),
+        same_total (total lots book (map choice_of (chosen kept p))) (worths lots book (map choice_of (chosen kept p))) (sum_by (amount_of book) (map choice_of (chosen kept p))) (worth_of_all lots)
+            (sum_by (λ o. o.bid.amount) (chosen kept p)) (sum_by (worth_offered lots) (chosen kept p)) (objective program p)
+            (total_is lots book (map choice_of (chosen kept p)) sized fit) (amounts_are p) (worths_are p) (cost_is lots (subjects lots kept) kept p is_point.allowed),
       )
 
 -- ---------- from an allocation to a point ----------
@@ -262,14 +345,22 @@ is_member a o = list_any (λ c. same_choice c (choice_of o)) a
 abbrev marks : (Offer → Bool) → List Offer → List Bool
 marks q xs = map q xs
 
-marked : (q : Offer → Bool) (g : Offer → ℕ) (o : Offer) (xs : List Offer) (b : Bool) → sum_by g (chosen xs (map q xs)) ≡ sum_by (λ o. cond (q o) (g o) 0) xs
-    → sum_by g (chosen (o ∷ xs) (b ∷ map q xs)) ≡ cond b (g o) 0 + sum_by (λ o. cond (q o) (g o) 0) xs
-marked q g o xs true h = sum_by-cons g o (chosen xs (map q xs)) ∙ ap (λ n. g o + n) h
-marked q g o xs false h = h ∙ sym (zero-add (sum_by (λ o. cond (q o) (g o) 0) xs))
+marked : (q : Offer → Bool) (g : Offer → ℕ) (o : Offer) (xs : List Offer) (vs : List Bool) (b : Bool) → sum_by g (chosen xs (map q xs ++ vs)) ≡ sum_by (λ o. cond (q o) (g o) 0) xs
+    → sum_by g (chosen (o ∷ xs) (b ∷ map q xs ++ vs)) ≡ cond b (g o) 0 + sum_by (λ o. cond (q o) (g o) 0) xs
+marked q g o xs vs true h = sum_by-cons g o (chosen xs (map q xs ++ vs)) ∙ ap (λ n. g o + n) h
+marked q g o xs vs false h = h ∙ sym (zero-add (sum_by (λ o. cond (q o) (g o) 0) xs))
 
-chosen_marks : (q : Offer → Bool) (g : Offer → ℕ) (xs : List Offer) → sum_by g (chosen xs (map q xs)) ≡ sum_by (λ o. cond (q o) (g o) 0) xs
-chosen_marks q g [] = refl
-chosen_marks q g (o ∷ xs) = marked q g o xs (q o) (chosen_marks q g xs) ∙ sym (sum_by-cons (λ o. cond (q o) (g o) 0) o xs)
+chosen_marks : (q : Offer → Bool) (g : Offer → ℕ) (xs : List Offer) (vs : List Bool) → sum_by g (chosen xs (map q xs ++ vs)) ≡ sum_by (λ o. cond (q o) (g o) 0) xs
+chosen_marks q g [] vs = refl
+chosen_marks q g (o ∷ xs) vs = marked q g o xs vs (q o) (chosen_marks q g xs vs) ∙ sym (sum_by-cons (λ o. cond (q o) (g o) 0) o xs)
+
+-- the value of the column of what all lots are worth, where there is one
+abbrev last_values : Lots → List Bool
+last_values lots = cond (worth_of_all lots == 0) [] (true ∷ [])
+
+last_allowed : (lots : Lots) (b : Bool) → AreAllowed (cond b [] (constant_column lots ∷ [])) (cond b [] (true ∷ []))
+last_allowed lots true = tt
+last_allowed lots false = (refl, tt)
 
 -- nobody in the list is this bidder
 not_there : (a : List Choice) (b : ℕ) → count_by (λ c. c.bidder == b) a ≡ 0 → (o : Offer) → o.bidder ≡ b → is_member a o ≡ false
@@ -351,17 +442,23 @@ module _ (lots : Lots) (book : Book) (group : ℕ → Bool) (sized : IsSized lot
   abbrev in_rows : Subject → Type 0
   in_rows (Bidder b) = Unit {0}
   in_rows (Category c) = c < length lots.supply
+  in_rows (Pool p) = p < length lots.pools
 
   all_bidders : (bs : List ℕ) (rest : List Subject) → AllByRecursion in_rows rest → AllByRecursion in_rows (map Bidder bs ++ rest)
   all_bidders [] rest h = h
   all_bidders (b ∷ bs) rest h = (tt, all_bidders bs rest h)
 
-  all_categories : (a n : ℕ) → a + n ≡ length lots.supply → AllByRecursion in_rows (map Category (range_with_len a n))
-  all_categories a zero e = tt
-  all_categories a (suc n) e = (omega arith, all_categories (a + 1) n (omega arith))
+  all_categories : (a n : ℕ) (rest : List Subject) → a + n ≡ length lots.supply → AllByRecursion in_rows rest → AllByRecursion in_rows (map Category (range_with_len a n) ++ rest)
+  all_categories a zero rest e h = h
+  all_categories a (suc n) rest e h = (omega arith, all_categories (a + 1) n rest (omega arith) h)
+
+  all_pools : (a n : ℕ) → a + n ≡ length lots.pools → AllByRecursion in_rows (map Pool (range_with_len a n))
+  all_pools a zero e = tt
+  all_pools a (suc n) e = (omega arith, all_pools (a + 1) n (omega arith))
 
   all_rows : AllByRecursion in_rows (subjects lots (kept_of lots book group))
-  all_rows = all_bidders (dedup nat_eq (map (λ o. o.bidder) (kept_of lots book group))) (map Category (range_with_len 0 (length lots.supply))) (all_categories 0 (length lots.supply) (zero-add (length lots.supply)))
+  all_rows = all_bidders (dedup nat_eq (map (λ o. o.bidder) (kept_of lots book group))) (map Category (range_with_len 0 (length lots.supply)) ++ map Pool (range_with_len 0 (length lots.pools)))
+      (all_categories 0 (length lots.supply) (map Pool (range_with_len 0 (length lots.pools))) (zero-add (length lots.supply)) (all_pools 0 (length lots.pools) (zero-add (length lots.pools))))
 
   counted : (b : ℕ) (c : Choice) → is_kept_choice lots book group c ≡ true → of_choice lots book group (λ d x. cond (d == b) 1 0) c ≡ cond (c.bidder == b) 1 0
   counted b c k =
@@ -369,23 +466,28 @@ module _ (lots : Lots) (book : Book) (group : ℕ → Bool) (sized : IsSized lot
       let v = bid_there (λ (x : Bid). is_kept lots (form_of book c.bidder) x) (bid_of book c) e.1 in
       ap (λ o. option_map_or (λ (x : Bid). cond (c.bidder == b) 1 0) o 0) v.1
 
-  values_fit : (rows : List Subject) (xs : List Offer) (p : Offer → Bool) → AreAllowed (map (column_of rows) xs) (map p xs)
-  values_fit rows [] p = tt
+  values_fit : (rows : List Subject) (xs : List Offer) (p : Offer → Bool) → AreAllowed (map (column_of lots rows) xs ++ worth_column lots) (map p xs ++ last_values lots)
+  values_fit rows [] p = last_allowed lots (worth_of_all lots == 0)
   values_fit rows (o ∷ xs) p = (refl, values_fit rows xs p)
 
   weighs : (s : Subject) (a : List Choice) → AllByRecursion (λ c. is_kept_choice lots book group c ≡ true) a → IsFeasible lots book group a → in_rows s
-      → sum_by (weight s) (chosen (kept_of lots book group) (map (is_member a) (kept_of lots book group))) ≤ most lots s
+      → sum_by (weight lots s) (chosen (kept_of lots book group) (map (is_member a) (kept_of lots book group) ++ last_values lots)) ≤ most lots s
   weighs (Bidder b) a k f tt =
-      let e = chosen_marks (is_member a) (weight (Bidder b)) (kept_of lots book group) in
+      let e = chosen_marks (is_member a) (weight lots (Bidder b)) (kept_of lots book group) (last_values lots) in
       let m = members lots book group (λ d x. cond (d == b) 1 0) a k f.one_bid_each in
       let c = sum_agree (of_choice lots book group (λ d x. cond (d == b) 1 0)) (λ c. cond (c.bidder == b) 1 0) a (all_agree (λ c. is_kept_choice lots book group c ≡ true) (λ c. of_choice lots book group (λ d x. cond (d == b) 1 0) c ≡ cond (c.bidder == b) 1 0) a
       (counted b) k) in
       let l = f.one_bid_each b in
       omega arith
   weighs (Category n) a k f below =
-      let e = chosen_marks (is_member a) (weight (Category n)) (kept_of lots book group) in
+      let e = chosen_marks (is_member a) (weight lots (Category n)) (kept_of lots book group) (last_values lots) in
       let m = members lots book group (λ d x. slice_index x.package n) a k f.one_bid_each in
       let l = feasible_at lots book group a f n below in
+      omega arith
+  weighs (Pool n) a k f below =
+      let e = chosen_marks (is_member a) (weight lots (Pool n)) (kept_of lots book group) (last_values lots) in
+      let m = members lots book group (λ d x. weighed (pool_at lots n).weights x.package) a k f.one_bid_each in
+      let l = feasible_pool lots book group a sized f n below in
       omega arith
 
   matched : (a : List Choice) → IsFeasible lots book group a → Matched lots book (program_of lots (kept_of lots book group)) a
@@ -393,32 +495,37 @@ module _ (lots : Lots) (book : Book) (group : ℕ → Bool) (sized : IsSized lot
       let best = kept_are_enough lots book group a sized f in
       let all = kept_of lots book group in
       let k = recursion_from_All (λ c. is_kept_choice lots book group c ≡ true) best.choices best.kept in
-      let p : List Bool = map (is_member best.choices) all in
-      let total_is : sum_by (λ o. o.bid.amount) (chosen all p) ≡ total lots book best.choices =
-      chosen_marks (is_member best.choices) (λ o. o.bid.amount) all ∙ members lots book group (λ d x. x.amount) best.choices k best.feasible.one_bid_each in
-      let negated : neg_ℤ (objective (program_of lots all) p) ≡ pos (total lots book best.choices) =
-      ap neg_ℤ (objective_is lots book group p) ∙ neg_ℤ-neg_ℤ (pos (sum_by (λ o. o.bid.amount) (chosen all p))) ∙ ap (λ (n : ℕ). pos n) total_is in
+      let p : List Bool = map (is_member best.choices) all ++ last_values lots in
+      let allowed : AreAllowed (program_of lots all).columns p = values_fit (subjects lots all) all (is_member best.choices) in
+      let amounts : sum_by (amount_of book) best.choices ≡ sum_by (λ o. o.bid.amount) (chosen all p) =
+      sym (chosen_marks (is_member best.choices) (λ o. o.bid.amount) all (last_values lots) ∙ members lots book group (λ d x. x.amount) best.choices k best.feasible.one_bid_each) in
+      let worth_is : worths lots book best.choices ≡ sum_by (worth_offered lots) (chosen all p) =
+      sym (chosen_marks (is_member best.choices) (worth_offered lots) all (last_values lots) ∙ members lots book group (λ d x. weighed lots.values x.package) best.choices k best.feasible.one_bid_each) in
+      let negated : pos (total lots book best.choices) ≡ neg_ℤ (objective (program_of lots all) p) =
+      same_total (total lots book best.choices) (worths lots book best.choices) (sum_by (amount_of book) best.choices) (worth_of_all lots)
+      (sum_by (λ o. o.bid.amount) (chosen all p)) (sum_by (worth_offered lots) (chosen all p)) (objective (program_of lots all) p)
+      (total_is lots book best.choices sized best.feasible.fit) amounts worth_is (cost_is lots (subjects lots all) all p allowed) in
       let dearer = best.no_cheaper in record {
         values = p;
         is_point = record {
-          allowed = values_fit (subjects lots all) all (is_member best.choices);
+          allowed = allowed;
           met = each_row (λ q. meets q.1.kind (row_sum (program_of lots all) p q.0) q.1.right_side ≡ true) 0 (program_of lots all).rows (λ m r row at place.
               let w = from_map (row_of lots) (subjects lots all) r row at in
               let fit = weighs w.0 best.choices k best.feasible (at_place in_rows (subjects lots all) r w.0 all_rows w.1) in
               let here : m ≡ r = omega arith in
               let n : meets AtMost (row_sum (program_of lots all) p m) (pos (most lots w.0)) ≡ true =
-              ap (λ (i : ℕ). int_le (row_sum (program_of lots all) p i) (pos (most lots w.0))) here ∙ ap (λ (z : ℤ). int_le z (pos (most lots w.0))) (row_is lots book group r w.0 p w.1) ∙ le-leb (sum_by (weight w.0) (chosen all p)) (most lots w.0) fit in
+              ap (λ (i : ℕ). int_le (row_sum (program_of lots all) p i) (pos (most lots w.0))) here ∙ ap (λ (z : ℤ). int_le z (pos (most lots w.0))) (row_is lots book group r w.0 p w.1) ∙ le-leb (sum_by (weight lots w.0) (chosen all p)) (most lots w.0) fit in
               subst (λ (x : TableRow). meets x.kind (row_sum (program_of lots all) p m) x.right_side ≡ true) (sym w.2) n);
         };
         no_less = (let le : pos (total lots book a) ≤ℤ pos (total lots book best.choices) = omega (arith, ints) in
-            subst (λ (z : ℤ). pos (total lots book a) ≤ℤ z) (sym negated) le);
+            subst (λ (z : ℤ). pos (total lots book a) ≤ℤ z) negated le);
       }
 
 pub presolved_is_faithful : PresolvedIsFaithful
 presolved_is_faithful lots book group h = record {
   maps_back = λ p is_point.
-      let e = back_is (subjects lots (kept_of lots book group)) (kept_of lots book group) p (numbered lots (kept_of lots book group) (kept_are_offers lots book group h)) in
-      let m = maps_back lots book group p is_point in
+      let e = back_is lots (subjects lots (kept_of lots book group)) (kept_of lots book group) p (numbered lots (kept_of lots book group) (kept_are_offers lots book group h)) in
+      let m = maps_back lots book group (sized lots book h) p is_point in
       record {
         feasible = subst (λ (a : List Choice). IsFeasible lots book group a) (sym e) m.0;
         same_total = subst (λ (a : List Choice). pos (total lots book a) ≡ neg_ℤ (objective (program_of lots (kept_of lots book group)) p)) (sym e) m.1;

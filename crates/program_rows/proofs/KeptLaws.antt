@@ -1,28 +1,45 @@
 -- Rules and kept bids stand within the limits of what is for sale and of offers.
-use Rattle.std.proofs.Common.{◌≡◌, zero, suc, ◌≤◌, List, [], ◌∷◌, length, map, arith, sym, ◌∙◌}
+use Rattle.std.proofs.Common.{◌≡◌, zero, suc, ◌≤◌, ◌^◌, List, [], ◌∷◌, length, map, arith, sym, ◌∙◌}
 use Rattle.std.specs.Prelude.{All, AllPairs}
 use Rattle.std.specs.List.{AllByRecursion}
 use Rattle.std.proofs.lemmas.List.{length-map}
 use Rattle.std.proofs.lemmas.List.Elements.{recursion_from_All}
 use Rattle.auction_terms.specs.declared.rules.Category.{Category}
+use Rattle.auction_terms.specs.declared.rules.Pool.{Pool}
 use Rattle.auction_terms.specs.declared.bids.KeptBid.{KeptBid}
+use Rattle.auction_terms.specs.declared.limits.TheConstants.{GREATEST_QUANTITY, GREATEST_VALUE, GREATEST_WEIGHT}
 use Rattle.auction_terms.specs.Packages.{Lots}
 use Rattle.auction_terms.specs.Keeping.{Offer}
-use Rattle.auction_terms.specs.Terms.{Terms, IsCategory, AreTerms, lots_in}
+use Rattle.auction_terms.specs.Terms.{Terms, IsCategory, IsPool, AreTerms, cap_of, lots_in}
 use Rattle.auction_terms.specs.Bids.{IsKeptBid, Precedes, AreKept}
-use Rattle.auction_terms.specs.Limits.{IsLots, IsOffer, IsBefore, AreOffers}
+use Rattle.auction_terms.specs.Limits.{IsLots, IsWeightedCap, IsOffer, IsBefore, AreOffers}
 use Rattle.auction_terms.specs.Offers.{offer_of, offers}
-use Rattle.program_rows.specs.Building.{IsFitting}
 
-few_lots : (categories : List Category) → AllByRecursion IsCategory categories → AllByRecursion (λ n. n ≤ 10000) (map (λ category. category.supply) categories)
+few_lots : (categories : List Category) → AllByRecursion IsCategory categories → AllByRecursion (λ n. n ≤ GREATEST_QUANTITY) (map (λ category. category.supply) categories)
 few_lots [] h = tt
 few_lots (category ∷ categories) h = (h.0.supply, few_lots categories h.1)
+
+small_values : (categories : List Category) → AllByRecursion IsCategory categories → AllByRecursion (λ n. n ≤ GREATEST_VALUE) (map (λ category. category.value) categories)
+small_values [] h = tt
+small_values (category ∷ categories) h = (h.0.value, small_values categories h.1)
+
+small_pools : (pools : List Pool) → AllByRecursion IsPool pools → AllByRecursion IsWeightedCap (map cap_of pools)
+small_pools [] h = tt
+small_pools (pool ∷ pools) h = (record { cap = h.0.cap; weights = recursion_from_All (λ n. n ≤ GREATEST_WEIGHT) pool.weights h.0.weights }, small_pools pools h.1)
 
 pub are_lots : (t : Terms) → AreTerms t → IsLots (lots_in t)
 are_lots t h =
     let count = length-map t.categories (λ (category : Category). category.supply) in
     let few = h.limits.category_count in
-    record { categories = omega arith; supplies = few_lots t.categories (recursion_from_All IsCategory t.categories h.limits.each_category) }
+    let pools = length-map t.pools cap_of in
+    let few_pools = h.limits.pool_count in
+    record {
+      categories = omega arith;
+      supplies = few_lots t.categories (recursion_from_All IsCategory t.categories h.limits.each_category);
+      values = small_values t.categories (recursion_from_All IsCategory t.categories h.limits.each_category);
+      few_pools = omega arith;
+      pools = small_pools t.pools (recursion_from_All IsPool t.pools h.limits.each_pool);
+    }
 
 -- each later bid comes behind the first
 all_behind : (k : KeptBid) (ks : List KeptBid) → AllPairs Precedes (k ∷ ks) → AllByRecursion (Precedes k) ks
@@ -59,7 +76,3 @@ sized_by t (k ∷ ks) h = (h.0 ∙ sym (length-map t.categories (λ (category : 
 pub are_offers : (t : Terms) (ks : List KeptBid) → All (λ k. length k.offer.now.package ≡ length t.categories) ks → AreKept ks → AreOffers (lots_in t) (offers ks)
 are_offers t ks sized h =
     offers_from (lots_in t) ks (sized_by t ks (recursion_from_All (λ k. length k.offer.now.package ≡ length t.categories) ks sized)) (recursion_from_All IsKeptBid ks h.each) h.rising
-
-pub all_fitting : (lots : Lots) (os : List Offer) → length lots.supply ≤ 32 → AreOffers lots os → AllByRecursion IsFitting os
-all_fitting lots [] few h = tt
-all_fitting lots (o ∷ os) few h = let sized = h.0.bid.sized in (record { categories = omega arith; amount = h.0.bid.amount }, all_fitting lots os few h.2)

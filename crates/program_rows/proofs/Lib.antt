@@ -1,6 +1,7 @@
 pub mod SpellingLaws
 pub mod Powers
 mod Examples
+mod ValueExamples
 pub mod FaithfulLaws
 pub mod LegalLaws
 pub mod PieceLemmas

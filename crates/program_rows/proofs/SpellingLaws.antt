@@ -7,6 +7,7 @@ use Rattle.std.proofs.lemmas.Bool.{and_parts}
 use Rattle.std.proofs.lemmas.Bool.Decides.{nat_tests}
 use Rattle.std.proofs.lemmas.Slice.Eq.{bytes_eq-Decides}
 use Rattle.auction_terms.specs.declared.choices.Choice.{Choice}
+use Rattle.auction_terms.specs.declared.limits.TheConstants.{MOST_BIDDERS, MOST_BIDS}
 use Rattle.program_rows.specs.Named.{ReadsBack, ReadsNamesAlone, NamesDiffer}
 use Rattle.std.proofs.lemmas.Str.Parse.{digit_from_value}
 use Rattle.std.proofs.lemmas.Fmt.{decimal_is_IsNumeral, decimal_injective}
@@ -40,11 +41,11 @@ bid_name-injective b j c k hb hj hc hk e =
 
 -- the numbers of a bid are small
 module _ (b j : ℕ) (h : is_bid b j ≡ true) where
-  pub bidder_range : (1 ≤ b) × (b ≤ 256)
-  bidder_range = let e = and_parts (nat_le 1 b && nat_le b 256) (nat_le 1 j && nat_le j 4000) h in let f = and_parts (nat_le 1 b) (nat_le b 256) e.0 in (leb-true 1 b f.0, leb-true b 256 f.1)
+  pub bidder_range : (1 ≤ b) × (b ≤ MOST_BIDDERS)
+  bidder_range = let e = and_parts (nat_le 1 b && nat_le b MOST_BIDDERS) (nat_le 1 j && nat_le j MOST_BIDS) h in let f = and_parts (nat_le 1 b) (nat_le b MOST_BIDDERS) e.0 in (leb-true 1 b f.0, leb-true b MOST_BIDDERS f.1)
 
-  pub bid_range : (1 ≤ j) × (j ≤ 4000)
-  bid_range = let e = and_parts (nat_le 1 b && nat_le b 256) (nat_le 1 j && nat_le j 4000) h in let f = and_parts (nat_le 1 j) (nat_le j 4000) e.1 in (leb-true 1 j f.0, leb-true j 4000 f.1)
+  pub bid_range : (1 ≤ j) × (j ≤ MOST_BIDS)
+  bid_range = let e = and_parts (nat_le 1 b && nat_le b MOST_BIDDERS) (nat_le 1 j && nat_le j MOST_BIDS) h in let f = and_parts (nat_le 1 j) (nat_le j MOST_BIDS) e.1 in (leb-true 1 j f.0, leb-true j MOST_BIDS f.1)
 
   bidder_small : b < 2 ^ 64
   bidder_small = let r = bidder_range in let l = r.1 in omega arith

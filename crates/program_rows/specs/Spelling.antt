@@ -2,15 +2,16 @@
 use Rattle.std.specs.Prelude.{ℕ, Bool, ◌&&◌, ◌==◌, nat_le, List, ◌∷◌, ◌++◌, drop, Option, Some, None, decimal, bytes_eq, if◌then◌else◌}
 use Rattle.std.specs.List.{before_first, after_first}
 use Rattle.std.specs.Str.Parse.{digits_value}
+use Rattle.auction_terms.specs.declared.limits.TheConstants.{MOST_BIDDERS, MOST_BIDS}
 use Rattle.auction_terms.specs.declared.choices.Choice.{Choice}
 
 -- Xb_j
 abbrev pub bid_name : ℕ → ℕ → List ℕ
 bid_name bidder bid = 88 ∷ (decimal bidder ++ 95 ∷ decimal bid)
 
--- a bidder from 1 to 256, and a bid from 1 to 4,000
+-- numbers of a bidder and of a bid, from 1 on, within the limits
 abbrev pub is_bid : ℕ → ℕ → Bool
-is_bid bidder bid = (nat_le 1 bidder && nat_le bidder 256) && (nat_le 1 bid && nat_le bid 4000)
+is_bid bidder bid = (nat_le 1 bidder && nat_le bidder MOST_BIDDERS) && (nat_le 1 bid && nat_le bid MOST_BIDS)
 
 abbrev pub is_bar : ℕ → Bool
 is_bar b = b == 95

@@ -1,12 +1,12 @@
 // The program of a list of kept bids.
-ghost use Rattle.std.specs.Prelude.{◌≡◌, ◌≤◌, ◌<◌, ◌+◌, ◌^◌, ◌++◌, ◌∷◌, [], All, length, IfOk, OnOk};
-ghost use Rattle.std.specs.List.{AllByRecursion};
-ghost use Rattle.auction_terms.specs.Limits.{AreOffers, IsLots};
-ghost use Rattle.auction_terms.specs.Offers.{offers};
-ghost use Rattle.auction_terms.specs.Packages.{lots_of};
+ghost use Rattle.std.specs.Prelude.{◌≡◌, ◌≤◌, ◌<◌, ◌+◌, ◌^◌, ◌++◌, ◌∷◌, [], ◌==◌, All, Some, cond, length, map, neg_ℤ, slice_get, IfOk, OnOk};
+ghost use Rattle.auction_terms.specs.declared.limits.TheConstants.{GREATEST_AMOUNT};
+ghost use Rattle.auction_terms.specs.Bids.{AreKept};
+ghost use Rattle.auction_terms.specs.Domination.{net};
+ghost use Rattle.auction_terms.specs.Offers.{offer_of, offers};
 ghost use Rattle.auction_terms.specs.Terms.{lots_in};
-ghost use Rattle.program_rows.specs.Building.{IsFitting, built_column, built_columns, next_place, supplies};
-ghost use Rattle.program_rows.specs.Rows.{program_of};
+ghost use Rattle.program_rows.specs.Building.{IsThere, built_column};
+ghost use Rattle.program_rows.specs.Rows.{bidder_subjects, column_of, program_of, subjects as subjects_of, weight, worth_column};
 
 use crate::bounds::Bounds;
 use crate::columns::Columns;
@@ -14,22 +14,39 @@ use crate::entries::{MOST_ENTRIES, write_entries};
 use crate::names::{NAME_LEN, objective_name, write_bid_name};
 use crate::parts::ProgramParts;
 use crate::program::Program;
-use crate::rows::{add_category_rows, bidder_rows};
-use auction_terms::{Bid, Category, Kept, KeptBid, Rules};
+use crate::rows::{add_categories, add_pools, bidders, rows};
+use crate::subject::Subject;
+use auction_terms::{Bid, Kept, KeptBid, Rules};
 use std::alloc::{AllocError, Global};
 
-/// The place of the row of a bidder, behind that of the last one.
-fn next_place(last: u16, place: usize, bidder: u16) -> usize
-    requires { place + 1 < 2 ^ 64 }
-    ensures { result ≡ next_place last place bidder }
+/// What a row is about.
+fn subject_at(subjects: &[Subject], row: usize) -> Subject
+    requires { row < length subjects.now }
+    ensures { slice_get subjects.now row ≡ Some result }
 {
-    if bidder == last {
-        place
-    } else if last == 0 {
-        place
-    } else {
+    subjects[row]
+}
+
+/// The place of the row of a bid's bidder: that of the last one, where the bid counts there, or the next.
+fn next_place(place: usize, last: Subject, rules: &Rules, bid: KeptBid<'_>) -> usize
+    requires place { place + 1 < 2 ^ 64 }
+    requires there { IsThere (lots_in rules.now) last }
+    requires sized { length bid.offer.now.package ≡ length rules.now.categories }
+    ensures { result ≡ cond (weight (lots_in rules.now) last (offer_of bid.entry) == 0) (place + 1) place }
+{
+    if last.weight(rules, bid) == 0 {
         place + 1
+    } else {
+        place
     }
+}
+
+/// The cost of a bid's column: minus its net.
+fn cost_of(rules: &Rules, offer: &Bid) -> i64
+    requires { offer.now.amount ≤ GREATEST_AMOUNT }
+    ensures { result ≡ neg_ℤ (net (lots_in rules.now) offer.now) }
+{
+    -rules.net(offer)
 }
 
 /// Adds the column of a kept bid.
@@ -37,80 +54,88 @@ fn add_column(
     columns: &mut Columns,
     name: &mut [u8; NAME_LEN],
     entries: &mut [(usize, i64); MOST_ENTRIES],
+    rules: &Rules,
     first: usize,
     place: usize,
-    bidder: u16,
-    bid: u16,
-    offer: &Bid,
+    bid: KeptBid<'_>,
 ) -> Result<(), AllocError>
-    requires amount { offer.now.amount ≤ 10 ^ 12 }
-    requires categories { length offer.now.«package» ≤ 32 }
+    requires amount { bid.offer.now.amount ≤ GREATEST_AMOUNT }
     requires rows { first < 2 ^ 31 }
-    ensures { OnOk result (columns.new ≡ columns.old ++ built_column first place (record { bidder = bidder; number = bid; bid = offer.now }) ∷ []) }
+    requires sized { length bid.offer.now.package ≡ length rules.now.categories }
+    ensures { OnOk result (columns.new ≡ columns.old ++ built_column (lots_in rules.now) first place (offer_of bid.entry) ∷ []) }
 {
-    let start = write_bid_name(name, bidder, bid);
-    let count = write_entries(entries, place, first, offer.package.quantities());
+    let start = write_bid_name(name, bid.bidder, bid.bid);
+    let count = write_entries(entries, place, first, rules, bid);
     columns.push(
         &name[start..],
         Bounds::ZeroOrOne,
-        -(offer.amount as i64),
+        cost_of(rules, bid.offer),
         &entries[..count],
     )
 }
 
-/// The columns of the kept bids, where the rows of categories begin at `first`.
-fn columns(alloc: Global, first: usize, kept: &[KeptBid<'_>]) -> Result<Columns, AllocError>
-    requires first { first < 2 ^ 31 }
-    requires kept { AllByRecursion IsFitting (offers kept.now) }
-    ensures { IfOk result (λ columns. columns ≡ built_columns first 0 0 (offers kept.now)) }
+/// Adds the column of what all lots are worth, where that isn't 0.
+fn add_worth(columns: &mut Columns, rules: &Rules) -> Result<(), AllocError>
+    ensures { OnOk result (columns.new ≡ columns.old ++ worth_column (lots_in rules.now)) }
+{
+    let worth = rules.worth_of_all();
+    if worth == 0 {
+        return Ok(());
+    }
+    columns.push(b"K", Bounds::One, -(worth as i64), &[])
+}
+
+/// The columns of the kept bids, where the rows of bidders end at `first`.
+fn columns(
+    alloc: Global,
+    rules: &Rules,
+    subjects: &[Subject],
+    first: usize,
+    kept: &[KeptBid<'_>],
+) -> Result<Columns, AllocError>
+    requires sized { All (λ k. length k.offer.now.package ≡ length rules.now.categories) kept.now }
+    requires kept { AreKept kept.now }
+    requires rows { first < 2 ^ 31 }
+    requires first { first ≡ length (bidder_subjects (offers kept.now)) }
+    requires subjects { subjects.now ≡ subjects_of (lots_in rules.now) (offers kept.now) }
+    ensures { IfOk result (λ columns. columns ≡ map (column_of (lots_in rules.now) subjects.now) (offers kept.now)) }
 {
     let mut columns = Columns::new(alloc);
     let mut name = [0; NAME_LEN];
     let mut entries = [(0, 0); MOST_ENTRIES];
-    let mut last = 0;
     let mut place = 0;
     for i in 0..kept.len() {
-        place = next_place(last, place, kept[i].bidder);
-        last = kept[i].bidder;
+        let bid = kept[i];
+        place = next_place(place, subject_at(subjects, place), rules, bid);
         add_column(
             &mut columns,
             &mut name,
             &mut entries,
+            rules,
             first,
             place,
-            kept[i].bidder,
-            kept[i].bid,
-            kept[i].offer,
+            bid,
         )?;
     }
     Ok(columns)
 }
 
-/// The program of kept bids, for categories that their packages have quantities for.
-fn build_of(
-    alloc: Global,
-    categories: &[Category],
-    kept: &[KeptBid<'_>],
-) -> Result<Program, AllocError>
-    requires lots { IsLots (lots_of (supplies categories.now)) }
-    requires kept { AreOffers (lots_of (supplies categories.now)) (offers kept.now) }
-    ensures { IfOk result (λ program. program ≡ program_of (lots_of (supplies categories.now)) (offers kept.now)) }
-{
-    let mut rows = bidder_rows(alloc, kept)?;
-    let columns = columns(alloc, rows.len(), kept)?;
-    add_category_rows(alloc, &mut rows, categories)?;
-    let objective_name = objective_name(alloc)?;
-    Ok(Program::from_parts(ProgramParts {
-        objective_name,
-        rows,
-        columns,
-    }))
-}
-
-/// The program of the kept bids: the objective `OBJ`, a row `Bb` for each bidder with a bid, a row `Cc` for each category, and a column `Xb_j` for each bid.
+/// The program of the kept bids: the objective `OBJ`, a row `Bb` for each bidder with a bid, a row `Cc` for each category and a row `Pp` for each pool, a column `Xb_j` for each bid, and a column `K` for what all lots are worth where that isn't 0.
 pub fn build(alloc: Global, rules: &Rules, kept: &Kept<'_>) -> Result<Program, AllocError>
     requires sized { All (λ k. length k.offer.now.package ≡ length rules.now.categories) kept.now }
     ensures { IfOk result (λ program. program ≡ program_of (lots_in rules.now) (offers kept.now)) }
 {
-    build_of(alloc, rules.categories(), kept.bids())
+    let kept = kept.bids();
+    let mut subjects = bidders(alloc, kept)?;
+    let first = subjects.len();
+    add_categories(&mut subjects, rules.categories().len() as u8)?;
+    add_pools(&mut subjects, rules.pools().len() as u8)?;
+    let rows = rows(alloc, rules, &subjects)?;
+    let mut columns = columns(alloc, rules, &subjects, first, kept)?;
+    add_worth(&mut columns, rules)?;
+    Ok(Program::from_parts(ProgramParts {
+        objective_name: objective_name(alloc)?,
+        rows,
+        columns,
+    }))
 }

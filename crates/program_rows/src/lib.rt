@@ -25,6 +25,7 @@ mod row_sums;
 mod rows;
 mod same;
 mod spelling;
+mod subject;
 mod token;
 mod token_fault;
 mod token_parts;

@@ -16,22 +16,6 @@ pub(crate) fn objective_name(alloc: Global) -> Result<Vec<u8>, AllocError>
     Ok(name.into_bytes())
 }
 
-/// The name of a bidder's row.
-pub(crate) fn bidder_row_name(alloc: Global, bidder: u16) -> Result<Vec<u8>, AllocError>
-    ensures { IfOk result (λ name. name.items ≡ 66 ∷ decimal bidder) }
-{
-    let name = format!(in alloc; "B{bidder}")?;
-    Ok(name.into_bytes())
-}
-
-/// The name of a category's row, where categories are counted from 1.
-pub(crate) fn category_row_name(alloc: Global, number: usize) -> Result<Vec<u8>, AllocError>
-    ensures { IfOk result (λ name. name.items ≡ 67 ∷ decimal number) }
-{
-    let name = format!(in alloc; "C{number}")?;
-    Ok(name.into_bytes())
-}
-
 /// Writes a letter and a number so that they end at `end`, and tells where they begin.
 fn write_numbered(name: &mut [u8], letter: u8, number: u16, end: usize) -> usize
     requires room { 6 ≤ end }
@@ -44,6 +28,15 @@ fn write_numbered(name: &mut [u8], letter: u8, number: u16, end: usize) -> usize
     let at = write_digits(u64::from(number), name, end);
     name[at - 1] = letter;
     at - 1
+}
+
+/// A letter and a number.
+pub(crate) fn numbered(alloc: Global, letter: u8, number: u16) -> Result<Vec<u8>, AllocError>
+    ensures { IfOk result (λ name. name.items ≡ letter ∷ decimal number) }
+{
+    let mut name = [0; 6];
+    let start = write_numbered(&mut name, letter, number, 6);
+    Vec::from_slice(alloc, &name[start..])
 }
 
 /// Writes the name of the column of a bid at the end of a block, and tells where it begins.

@@ -1,86 +1,76 @@
-// The rows of a program.
-ghost use Rattle.std.specs.Prelude.{◌≡◌, ◌<◌, ◌≤◌, ◌++◌, [], ◌∷◌, ◌==◌, cond, length, map, pos, slice_index, IfOk, OnOk, decimal};
+// What a program has rows for, and the rows.
+ghost use Rattle.std.specs.Prelude.{◌≡◌, ◌++◌, [], ◌∷◌, ◌==◌, All, cond, map, IfOk, OnOk};
+ghost use Rattle.std.specs.List.{range_with_len};
+ghost use Rattle.auction_terms.specs.Bids.{AreKept};
 ghost use Rattle.auction_terms.specs.Offers.{offers};
-ghost use Rattle.program_rows.specs.declared.row.RowKind.TheVariants.{AtMost};
-ghost use Rattle.program_rows.specs.Building.{bidder_row, category_rows, next_bidders, supplies};
+ghost use Rattle.auction_terms.specs.Terms.{lots_in};
+ghost use Rattle.program_rows.specs.declared.subject.Subject.TheVariants.{Bidder, Category, Pool};
+ghost use Rattle.program_rows.specs.Building.{IsThere};
 ghost use Rattle.program_rows.specs.Parts.{shown_row};
+ghost use Rattle.program_rows.specs.Rows.{bidder_subjects, row_of};
 
-use crate::names::{bidder_row_name, category_row_name};
-use crate::row::{Row, RowKind};
-use auction_terms::{Category, KeptBid};
+use crate::row::Row;
+use crate::subject::Subject;
+use auction_terms::{KeptBid, Rules};
 use std::alloc::{AllocError, Global};
 
-/// Adds the row of a bidder, unless it is the last one.
-fn add_bidder_row(
-    alloc: Global,
-    rows: &mut Vec<Row>,
-    last: u16,
-    bidder: u16,
-) -> Result<(), AllocError>
-    ensures { OnOk result (map shown_row rows.new.items ≡ map shown_row rows.old.items ++ cond (bidder == last) [] (bidder_row bidder ∷ [])) }
+/// Adds a bidder, unless it is the last one.
+fn add_bidder(subjects: &mut Vec<Subject>, last: u16, bidder: u16) -> Result<(), AllocError>
+    ensures { OnOk result (subjects.new.items ≡ subjects.old.items ++ cond (bidder == last) [] (Bidder bidder ∷ [])) }
 {
     if bidder == last {
         return Ok(());
     }
-    let name = bidder_row_name(alloc, bidder)?;
-    rows.push(Row {
-        name,
-        kind: RowKind::AtMost,
-        right_side: 1,
-    })?;
+    subjects.push(Subject::Bidder(bidder))?;
     Ok(())
 }
 
-/// A row for each bidder.
-pub(crate) fn bidder_rows(alloc: Global, kept: &[KeptBid<'_>]) -> Result<Vec<Row>, AllocError>
-    ensures { IfOk result (λ rows. map shown_row rows.items ≡ map bidder_row (next_bidders 0 (offers kept.now))) }
+/// The bidders with a bid.
+pub(crate) fn bidders(alloc: Global, kept: &[KeptBid<'_>]) -> Result<Vec<Subject>, AllocError>
+    requires { AreKept kept.now }
+    ensures { IfOk result (λ subjects. subjects.items ≡ bidder_subjects (offers kept.now)) }
 {
-    let mut rows = Vec::new(alloc);
+    let mut subjects = Vec::new(alloc);
     let mut last = 0;
     for i in 0..kept.len() {
-        add_bidder_row(alloc, &mut rows, last, kept[i].bidder)?;
+        add_bidder(&mut subjects, last, kept[i].bidder)?;
         last = kept[i].bidder;
     }
-    Ok(rows)
+    Ok(subjects)
 }
 
-/// Adds the row of a category.
-fn add_category_row(
-    alloc: Global,
-    rows: &mut Vec<Row>,
-    number: usize,
-    supply: u32,
-) -> Result<(), AllocError>
-    ensures { OnOk result (map shown_row rows.new.items ≡ map shown_row rows.old.items ++ record { name = 67 ∷ decimal number; kind = AtMost; right_side = pos supply } ∷ []) }
+/// Adds so many categories.
+pub(crate) fn add_categories(subjects: &mut Vec<Subject>, count: u8) -> Result<(), AllocError>
+    ensures { OnOk result (subjects.new.items ≡ subjects.old.items ++ map Category (range_with_len 0 count)) }
 {
-    let name = category_row_name(alloc, number)?;
-    rows.push(Row {
-        name,
-        kind: RowKind::AtMost,
-        right_side: i64::from(supply),
-    })?;
-    Ok(())
-}
-
-/// The supply of a category, by its place from 0.
-fn supply_at(categories: &[Category], place: usize) -> u32
-    requires { place < length categories.now }
-    ensures { result ≡ slice_index (supplies categories.now) place }
-{
-    categories[place].supply
-}
-
-/// A row for each category, behind the rows so far.
-pub(crate) fn add_category_rows(
-    alloc: Global,
-    rows: &mut Vec<Row>,
-    categories: &[Category],
-) -> Result<(), AllocError>
-    requires { length categories.now ≤ 32 }
-    ensures { OnOk result (map shown_row rows.new.items ≡ map shown_row rows.old.items ++ category_rows 1 (supplies categories.now)) }
-{
-    for i in 0..categories.len() {
-        add_category_row(alloc, rows, i + 1, supply_at(categories, i))?;
+    for place in 0..count {
+        subjects.push(Subject::Category(place))?;
     }
     Ok(())
+}
+
+/// Adds so many pools.
+pub(crate) fn add_pools(subjects: &mut Vec<Subject>, count: u8) -> Result<(), AllocError>
+    ensures { OnOk result (subjects.new.items ≡ subjects.old.items ++ map Pool (range_with_len 0 count)) }
+{
+    for place in 0..count {
+        subjects.push(Subject::Pool(place))?;
+    }
+    Ok(())
+}
+
+/// The rows of subjects.
+pub(crate) fn rows(
+    alloc: Global,
+    rules: &Rules,
+    subjects: &[Subject],
+) -> Result<Vec<Row>, AllocError>
+    requires { All (IsThere (lots_in rules.now)) subjects.now }
+    ensures { IfOk result (λ rows. map shown_row rows.items ≡ map (row_of (lots_in rules.now)) subjects.now) }
+{
+    let mut rows = Vec::new(alloc);
+    for i in 0..subjects.len() {
+        rows.push(subjects[i].row(alloc, rules)?)?;
+    }
+    Ok(rows)
 }

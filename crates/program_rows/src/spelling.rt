@@ -6,7 +6,7 @@ ghost use Rattle.program_rows.specs.Spelling.{column_bid, is_bar, is_bid};
 
 use crate::digits::digits_behind;
 use crate::token::{are_all_digits, behind};
-use auction_terms::Choice;
+use auction_terms::{Choice, MOST_BIDDERS, MOST_BIDS};
 
 /// The number that is spelled by digits without a leading zero, where there are at most four.
 fn number_spelled(text: &[u8]) -> Option<u16>
@@ -51,7 +51,8 @@ fn bar_in(bytes: &[u8]) -> usize
 fn is_bid(bidder: u16, bid: u16) -> bool
     ensures { result ≡ is_bid bidder bid }
 {
-    (1 <= bidder && bidder <= 256) && (1 <= bid && bid <= 4000)
+    (1 <= bidder && usize::from(bidder) <= MOST_BIDDERS)
+        && (1 <= bid && usize::from(bid) <= MOST_BIDS)
 }
 
 /// What stands behind the letter that a name begins with.

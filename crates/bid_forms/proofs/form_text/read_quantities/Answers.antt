@@ -3,8 +3,9 @@ use Rattle.std.specs.Prelude.{nat_le}
 use Rattle.csv.specs.Records.{fields_of}
 use Rattle.auction_terms.specs.RulesText.{field}
 use Rattle.auction_terms.specs.Numbers.{number_of}
+use Rattle.auction_terms.specs.declared.limits.TheConstants.{GREATEST_QUANTITY}
 use Rattle.bid_forms.proofs.RecordFacts.{quantities-great, quantities-none, quantities-small}
-use Rattle.bid_forms.proofs.form_text.read_quantities.Goals.{else-value-le10000, then-value-le10000}
+use Rattle.bid_forms.proofs.form_text.read_quantities.Goals.{else-value-le-GREATEST_QUANTITY, then-value-le-GREATEST_QUANTITY}
 use Rattle.bid_forms.proofs.form_text.read_quantities.Goals as goal
 
 pub returns-in-None-clause-answer : goal.returns-in-None-clause-answer
@@ -19,10 +20,10 @@ loop-n-preserved c =
     let r = fields_of c.args.row.now in
     let small : c.loop-n.n < length r = (let s = c.loop-n-test.true in let e = c.len-n-end.ensures in omega arith) in
     let some : Some c.in-Some.value ≡ number_of (field (c.loop-n.n + 1) r) = rw c.field.ensures at c.in-Some.ensures.value in
-    elim c.if-value-le10000.branch [
-      | then-value-le10000 w ↦ (let items : w.push.new.self.items ≡ c.loop-n.quantities.items ++ c.in-Some.value ∷ [] = search rules in
-          rw (w.quantities-is, w.within-is, items) (quantities-small r c.loop-n.n c.loop-n.within c.loop-n.quantities.items c.in-Some.value c.loop-n.invariant small some w.if-value-le10000.true))
-      | else-value-le10000 w ↦ (let great : nat_le c.in-Some.value 10000 ≡ false = search rules in
+    elim c.if-value-le-GREATEST_QUANTITY.branch [
+      | then-value-le-GREATEST_QUANTITY w ↦ (let items : w.push.new.self.items ≡ c.loop-n.quantities.items ++ c.in-Some.value ∷ [] = search rules in
+          rw (w.quantities-is, w.within-is, items) (quantities-small r c.loop-n.n c.loop-n.within c.loop-n.quantities.items c.in-Some.value c.loop-n.invariant small some w.if-value-le-GREATEST_QUANTITY.true))
+      | else-value-le-GREATEST_QUANTITY w ↦ (let great : nat_le c.in-Some.value GREATEST_QUANTITY ≡ false = search rules in
           rw (w.quantities-is, w.within-is) (quantities-great r c.loop-n.n c.loop-n.within c.loop-n.quantities.items c.in-Some.value c.loop-n.invariant small some great))
     ]
 

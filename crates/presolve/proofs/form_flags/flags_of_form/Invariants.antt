@@ -1,7 +1,7 @@
-use Rattle.std.proofs.Common.{◌≡◌, ◌+◌, ◌<◌, ◌||◌, ℕ, false, not, drop, length, slice_index_or}
+use Rattle.std.proofs.Common.{◌≡◌, ◌+◌, ◌<◌, ◌||◌, ℕ, false, drop, length, slice_index_or}
 use Rattle.std.specs.List.{list_any}
 use Rattle.auction_terms.specs.Terms.{lots_in}
-use Rattle.presolve.specs.Shelves.{is_beaten_on}
+use Rattle.presolve.proofs.FlagLaws.{stands}
 use Rattle.presolve.proofs.NumberLaws.{passes}
 use Rattle.presolve.proofs.form_flags.flags_of_form.Given as goal
 
@@ -9,5 +9,5 @@ use Rattle.presolve.proofs.form_flags.flags_of_form.Given as goal
 abbrev pub invariant-loop-rival : goal.invariant-loop-rival
 invariant-loop-rival l = record {
   count : length l.flags.items ≡ length l.bids;
-  each : (i : ℕ) → i < length l.bids → (slice_index_or l.flags.items i false || list_any (passes (λ x. not (is_beaten_on (lots_in l.rules) l.shelves.items x)) (1 + i)) (drop l.rival-index l.rival-items)) ≡ list_any (passes (λ x. not (is_beaten_on (lots_in l.rules) l.shelves.items x)) (1 + i)) l.rival-items;
+  each : (i : ℕ) → i < length l.bids → (slice_index_or l.flags.items i false || list_any (passes (stands (lots_in l.rules) l.bids) (1 + i)) (drop l.rival-index l.rival-items)) ≡ list_any (passes (stands (lots_in l.rules) l.bids) (1 + i)) l.rival-items;
 }

@@ -30,7 +30,7 @@ loop-left-init c =
     let bare : c.args.bare < 2 ^ length shelves = rw c.requires.bare (bare_below shelves) in
     record {
       within = or_lt (length shelves) bid.mask c.args.bare own bare;
-      unbeaten = λ lots k d within. rw c.requires.bare (none_passed lots bid shelves k d c.requires.bid c.requires.shelves within);
+      unbeaten = λ k d within. rw c.requires.bare (none_passed bid shelves k d c.requires.bid c.requires.shelves within);
     }
 
 pub bounds-shelves-place : goal.bounds-shelves-place
@@ -53,18 +53,18 @@ is_beaten_at-requires-clause-greatest c =
     stocked.greatest
 
 pub returns-then-is_beaten_at : goal.returns-then-is_beaten_at
-returns-then-is_beaten_at c lots =
+returns-then-is_beaten_at c =
     let shelves = c.args.shelves.now in
     let shelf = c.index-shelves-place.result in
-    let test : Shelf → Bool = λ shelf. list_any (beats lots c.args.bid.now.bid.now) shelf.bids.items in
-    let beaten : test shelf ≡ true = sym (c.is_beaten_at.ensures lots) ∙ c.if-is_beaten_at.true in
+    let test : Shelf → Bool = λ shelf. list_any (beats c.args.bid.now) shelf.bids.items in
+    let beaten : test shelf ≡ true = sym c.is_beaten_at.ensures ∙ c.if-is_beaten_at.true in
     let fits = c.loop-left.auto.left-fits in
     let within = lowest_within c.loop-left.left (length shelves) c.loop-left-test.true (omega arith) c.loop-left.invariant.within in
     sym (list_any_at test shelves (trailing_zeros w32 c.loop-left.left) shelf within (subst (λ (s : Shelf). test s ≡ true) c.index-shelves-place.is beaten))
 
 pub loop-left-preserved : goal.loop-left-preserved
 loop-left-preserved c =
-    let bid = c.args.bid.now.bid.now in
+    let bid = c.args.bid.now in
     let shelves = c.args.shelves.now in
     let left = c.loop-left.left in
     let place = trailing_zeros w32 left in
@@ -73,23 +73,23 @@ loop-left-preserved c =
     let before = c.loop-left.invariant in
     let room : left < 2 ^ 32 = omega arith in
     let here = lowest_within left (length shelves) c.loop-left-test.true room before.within in
-    let stocked = stocked_at (length bid.package) left shelves shelf c.requires.shelves c.loop-left-test.true room before.within c.index-shelves-place.is in
+    let stocked = stocked_at (length bid.bid.now.package) left shelves shelf c.requires.shelves c.loop-left-test.true room before.within c.index-shelves-place.is in
     record {
       within = (let less = and_le_l left (left - 1) in let room = before.within in omega arith);
-      unbeaten = λ lots k d within none.
-          let unbeaten : list_any (beats lots bid) shelf.bids.items ≡ false = elim c.else-shelf-quantities.branch [
-            | else-shelf-quantities-via-then-shelf-quantities+else-is_beaten_at w ↦ sym (w.is_beaten_at.ensures lots) ∙ w.if-is_beaten_at.false
-            | else-shelf-quantities-via-else-shelf-quantities w ↦ none_on lots bid (length bid.package) place shelf stocked (rw (← c.quantities-quantities.ensures.quantities) w.if-shelf-quantities.false)
+      unbeaten = λ k d within none.
+          let unbeaten : list_any (beats bid) shelf.bids.items ≡ false = elim c.else-shelf-quantities.branch [
+            | else-shelf-quantities-via-then-shelf-quantities+else-is_beaten_at w ↦ sym w.is_beaten_at.ensures ∙ w.if-is_beaten_at.false
+            | else-shelf-quantities-via-else-shelf-quantities w ↦ none_on bid (length bid.bid.now.package) place shelf stocked (rw (← c.quantities-quantities.ensures.quantities) w.if-shelf-quantities.false)
           ] in
           ⊎_elim
-          (λ (e : k ≡ place). rw e (subst (λ (s : Shelf). list_any (beats lots bid) s.bids.items ≡ false) (c.index-shelves-place.is ∙ get_or_default shelves place shelf d here) unbeaten))
-          (λ (e : bit_at left k ≡ 0). before.unbeaten lots k d within e)
+          (λ (e : k ≡ place). rw e (subst (λ (s : Shelf). list_any (beats bid) s.bids.items ≡ false) (c.index-shelves-place.is ∙ get_or_default shelves place shelf d here) unbeaten))
+          (λ (e : bit_at left k ≡ 0). before.unbeaten k d within e)
           (lowest_taken left k c.loop-left-test.true room none);
     }
 
 pub returns : goal.returns
-returns c lots =
-    let bid = c.args.bid.now.bid.now in
+returns c =
+    let bid = c.args.bid.now in
     let shelves = c.args.shelves.now in
-    sym (list_any_none (λ (shelf : Shelf). list_any (beats lots bid) shelf.bids.items) shelves (λ k d within.
-    c.loop-left.invariant.unbeaten lots k d within (ap (λ (n : ℕ). bit_at n k) c.loop-left-test.false ∙ bit_at-zero k)))
+    sym (list_any_none (λ (shelf : Shelf). list_any (beats bid) shelf.bids.items) shelves (λ k d within.
+    c.loop-left.invariant.unbeaten k d within (ap (λ (n : ℕ). bit_at n k) c.loop-left-test.false ∙ bit_at-zero k)))

@@ -1,11 +1,12 @@
 use Rattle.std.proofs.Common.{length}
 use Rattle.std.proofs.lemmas.List.FromFn.{length-map-range_with_len}
+use Rattle.auction_terms.proofs.LotsLaws.{are_lots}
 use Rattle.bid_desk.specs.Closing.{bids_in, closing, form_standing}
-use Rattle.bid_desk.proofs.ClosingLemmas.{IsBook-book_of, IsLots-lots_in}
+use Rattle.bid_desk.proofs.ClosingLemmas.{IsBook-book_of}
 use Rattle.bid_desk.proofs.closed.ClosedBook.rules.Goals as goal
 
 pub returns-clause-lots : goal.returns-clause-lots
-returns-clause-lots c = rw (← c.self.view_is) (IsLots-lots_in c.self.inside.rules c.self.invariant.terms)
+returns-clause-lots c = rw (← c.self.view_is) (are_lots c.self.inside.rules c.self.invariant.terms)
 
 pub returns-clause-book : goal.returns-clause-book
 returns-clause-book c = rw (← c.self.view_is) (IsBook-book_of (closing c.self.inside.rules c.self.inside.book) c.self.invariant.terms c.self.invariant.entries)

@@ -1,0 +1,5 @@
+use Rattle.auction_terms.proofs.WeighedLaws.{weighed_loads}
+use Rattle.auction_terms.proofs.laws.loads_add_up.Goals as goal
+
+pub returns : goal.returns
+returns c = λ lots book a sized weights. weighed_loads lots book sized weights a

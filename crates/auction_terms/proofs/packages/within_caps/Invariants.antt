@@ -1,0 +1,8 @@
+use Rattle.std.proofs.Common.{◌≡◌, drop, map}
+use Rattle.std.specs.List.{list_all}
+use Rattle.auction_terms.specs.Packages.{is_within_cap}
+use Rattle.auction_terms.specs.Terms.{cap_of}
+use Rattle.auction_terms.proofs.packages.within_caps.Given as goal
+
+abbrev pub invariant-loop-place : goal.invariant-loop-place
+invariant-loop-place l = list_all (is_within_cap l.quantities) (map cap_of l.pools) ≡ list_all (is_within_cap l.quantities) (map cap_of (drop l.place l.pools))

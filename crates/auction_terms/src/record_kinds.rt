@@ -1,0 +1,96 @@
+//! The versions of the rules, and the kinds of their records.
+
+ghost use Rattle.std.specs.Prelude.{◌≡◌};
+ghost use Rattle.csv.specs.Records.{fields_of};
+ghost use Rattle.auction_terms.specs.RulesText.{field_count, has_pools, kind_of, value_text, version_of};
+
+use crate::rules_text::field;
+use csv::ByteRecord;
+
+/// The version of a text of rules.
+#[derive(Clone, Copy, Debug, PartialEq, Eq)]
+pub enum Version {
+    One,
+    Two,
+    Three,
+}
+
+/// What a record after the header tells of.
+#[derive(Clone, Copy, Debug, PartialEq, Eq)]
+pub enum RecordKind {
+    Category,
+    Bidder,
+    Pool,
+    Member,
+}
+
+impl Version {
+    ghost use Rattle.std.specs.Prelude.{◌≡◌};
+    ghost use Rattle.auction_terms.specs.RulesText.{field_count, has_pools};
+
+    // How many fields every record has.
+    pub(crate) fn field_count(self) -> usize
+        ensures { result ≡ field_count self }
+    {
+        match self {
+            Version::One => 5,
+            Version::Two | Version::Three => 6,
+        }
+    }
+
+    fn has_pools(self) -> bool
+        ensures { result ≡ has_pools self }
+    {
+        match self {
+            Version::One | Version::Two => false,
+            Version::Three => true,
+        }
+    }
+}
+
+// The version that a header tells.
+pub(crate) fn version_of(row: &ByteRecord) -> Option<Version>
+    ensures { result ≡ version_of (fields_of row.now) }
+{
+    if field(row, 1) != b"rules".as_slice() {
+        return None;
+    }
+    let version = field(row, 2);
+    if version == b"1".as_slice() {
+        Some(Version::One)
+    } else if version == b"2".as_slice() {
+        Some(Version::Two)
+    } else if version == b"3".as_slice() {
+        Some(Version::Three)
+    } else {
+        None
+    }
+}
+
+// The kind of a record after the header.
+pub(crate) fn kind_of(version: Version, row: &ByteRecord) -> Option<RecordKind>
+    ensures { result ≡ kind_of version (fields_of row.now) }
+{
+    let kind = field(row, 1);
+    if kind == b"category".as_slice() {
+        Some(RecordKind::Category)
+    } else if kind == b"bidder".as_slice() {
+        Some(RecordKind::Bidder)
+    } else if version.has_pools() && kind == b"pool".as_slice() {
+        Some(RecordKind::Pool)
+    } else if version.has_pools() && kind == b"member".as_slice() {
+        Some(RecordKind::Member)
+    } else {
+        None
+    }
+}
+
+// The text of the value of a category.
+pub(crate) fn value_text(version: Version, row: &ByteRecord) -> &[u8]
+    ensures { result.now ≡ value_text version (fields_of row.now) }
+{
+    match version {
+        Version::One => b"0",
+        Version::Two | Version::Three => field(row, 6),
+    }
+}

@@ -1,0 +1,9 @@
+use Rattle.std.proofs.Common.{◌≡◌, ◌++◌, map, drop}
+use Rattle.auction_terms.specs.Offers.{offers}
+use Rattle.program_rows.specs.declared.subject.Subject.TheVariants.{Bidder}
+use Rattle.program_rows.proofs.BuiltLaws.{next_bidders}
+use Rattle.program_rows.proofs.rows.bidders.Given as goal
+
+-- the bidders so far, and those that are left, are all
+abbrev pub invariant-loop-i : goal.invariant-loop-i
+invariant-loop-i l = l.subjects.items ++ map Bidder (next_bidders l.last (offers (drop l.i l.kept))) ≡ map Bidder (next_bidders 0 (offers l.kept))

@@ -1,0 +1,9 @@
+use Rattle.std.proofs.Common.{◌≡◌, map, take}
+use Rattle.auction_terms.specs.Terms.{lots_in}
+use Rattle.program_rows.specs.Parts.{shown_row}
+use Rattle.program_rows.specs.Rows.{row_of}
+use Rattle.program_rows.proofs.rows.rows.Given as goal
+
+-- the rows of the first subjects
+abbrev pub invariant-loop-i : goal.invariant-loop-i
+invariant-loop-i l = map shown_row l.rows.items ≡ map (row_of (lots_in l.rules)) (take l.i l.subjects)
