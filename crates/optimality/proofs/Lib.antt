@@ -1,0 +1,13 @@
+pub mod Products
+pub mod ColumnSums
+pub mod BoundLaws
+pub mod Steps
+pub mod RowLaws
+pub mod LeafLaws
+pub mod FieldLaws
+pub mod NameLaws
+pub mod TermLaws
+pub mod BranchLaws
+pub mod VerdictLaws
+pub mod LineCount
+pub mod Worked

@@ -1,0 +1,12 @@
+-- What a certificate is checked against.
+use Rattle.std.specs.Prelude.{◌≡◌}
+use Rattle.optimality.specs.declared.checker.Checker.{Checker}
+use Rattle.optimality.specs.Holding.{bytes_of}
+use Rattle.optimality.specs.RowForms.{forms_of, row_forms}
+use Rattle.optimality.specs.Told.{column_names, row_names}
+
+-- the names and the forms of rows are those of the program
+pub record IsPrepared (c : Checker) : Type 0 where
+  pub columns : bytes_of c.columns.keys ≡ column_names c.program.now
+  pub rows : bytes_of c.rows.keys ≡ row_names c.program.now
+  pub forms : forms_of c.row_forms.items ≡ row_forms c.program.now

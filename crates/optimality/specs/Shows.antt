@@ -1,0 +1,35 @@
+-- What a certificate shows: no point of a program has an objective below `least`.
+use Rattle.std.specs.Prelude.{◌≡◌, ℕ, Bool, true, false, List, [], ◌∷◌, ◌++◌, slice_get, ℤ, pos, ◌+ℤ◌, ◌-ℤ◌, ◌*ℤ◌, ◌<ℤ◌, int_le}
+use Rattle.std.specs.Option.{option_map_or}
+use Rattle.std.specs.List.{AllByRecursion}
+use Rattle.program_rows.specs.declared.row.RowKind.{RowKind}
+use Rattle.program_rows.specs.declared.row.RowKind.TheVariants.{AtMost, AtLeast, Equal}
+use Rattle.program_rows.specs.Program.{Table, TableRow}
+use Rattle.optimality.specs.Certificates.{Form, Cut, Certificate, Bound, Split, side}
+use Rattle.optimality.specs.Reduced.{reduced, least_sum, cuts_right, rows_right}
+
+abbrev pub has_sign : RowKind → ℤ → Bool
+has_sign AtMost y = int_le (pos 0) y
+has_sign AtLeast y = int_le y (pos 0)
+has_sign Equal y = true
+
+-- there is a row at this place, and it may have this multiplier
+abbrev pub may_have : List TableRow → ℕ × ℤ → Bool
+may_have rows t = option_map_or (λ r. has_sign r.kind t.1) (slice_get rows t.0) false
+
+-- the least that the reduced costs come to, less the right sides
+abbrev pub leaf_value : Table → List Cut → ℕ → List ℕ → Form → ℤ
+leaf_value p cuts scale ys rows = least_sum (reduced scale ys cuts rows) 0 p.columns -ℤ (cuts_right ys cuts +ℤ rows_right p.rows rows)
+
+-- a leaf shows `least` for the points within the cuts: its value is above `scale` times `least` - 1
+pub record LeafShows (p : Table) (least : ℤ) (cuts : List Cut) (scale : ℕ) (ys : List ℕ) (rows : Form) : Type 0 where
+  pub signs : AllByRecursion (λ t. may_have p.rows t ≡ true) rows
+  pub above : (pos scale *ℤ (least -ℤ pos 1)) <ℤ leaf_value p cuts scale ys rows
+
+-- the same for a tree: each of its leaves does, within the cuts on the way to it
+abbrev pub ShowsWithin : Table → ℤ → List Cut → Certificate → Type 0
+ShowsWithin p least cuts (Bound scale ys rows) = LeafShows p least cuts scale ys rows
+ShowsWithin p least cuts (Split form most low high) = ShowsWithin p least (cuts ++ side false form most ∷ []) low × ShowsWithin p least (cuts ++ side true form most ∷ []) high
+
+abbrev pub Shows : Table → ℤ → Certificate → Type 0
+Shows p least certificate = ShowsWithin p least [] certificate

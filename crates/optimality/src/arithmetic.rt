@@ -1,0 +1,40 @@
+//! Exact arithmetic in 128 bits.
+
+ghost use Rattle.std.specs.Prelude.{◌≡◌, ◌+ℤ◌, ◌-ℤ◌, ◌*ℤ◌, IfOk, if◌then◌else◌, neg_ℤ, pos};
+
+use crate::limit::Limit;
+
+pub fn plus(a: i128, b: i128) -> Result<i128, Limit>
+    ensures { IfOk result (λ n. n ≡ a +ℤ b) }
+{
+    a.checked_add(b).ok_or(Limit::TooLarge)
+}
+
+pub fn minus(a: i128, b: i128) -> Result<i128, Limit>
+    ensures { IfOk result (λ n. n ≡ a -ℤ b) }
+{
+    a.checked_sub(b).ok_or(Limit::TooLarge)
+}
+
+pub fn times(a: i128, b: i128) -> Result<i128, Limit>
+    ensures { IfOk result (λ n. n ≡ a *ℤ b) }
+{
+    a.checked_mul(b).ok_or(Limit::TooLarge)
+}
+
+/// The product of numbers of 64 bits, which never leaves 128 bits: no check, and one instruction.
+pub fn product(a: i64, b: i64) -> i128
+    ensures { result ≡ a *ℤ b }
+{
+    i128::from(a) * i128::from(b)
+}
+
+/// A multiplier in 64 bits, with the sign that it is to have.
+pub fn signed(is_negative: bool, multiplier: u64) -> Result<i64, Limit>
+    ensures { IfOk result (λ n. n ≡ (if is_negative then neg_ℤ (pos multiplier) else pos multiplier)) }
+{
+    let Ok(number) = i64::try_from(multiplier) else {
+        return Err(Limit::TooLarge);
+    };
+    if is_negative { Ok(-number) } else { Ok(number) }
+}

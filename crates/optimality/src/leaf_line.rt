@@ -1,0 +1,69 @@
+//! A line that tells a leaf.
+
+ghost use Rattle.std.specs.Prelude.{◌≡◌, IfOk, length};
+ghost use Rattle.std.specs.List.{list_all};
+ghost use Rattle.program_rows.specs.Lines.{fields};
+ghost use Rattle.optimality.specs.Answers.{Answers};
+ghost use Rattle.optimality.specs.Checking.{IsPrepared};
+ghost use Rattle.optimality.specs.Shows as shows;
+ghost use Rattle.optimality.specs.Told.{BoundLine, bound_told, rows_told};
+
+use crate::checker::Checker;
+use crate::fault::FaultKind;
+use crate::fields::next_field;
+use crate::leaf::Leaf;
+use crate::naturals::take_naturals;
+use crate::numbers::take_natural;
+use crate::refusal::Refusal;
+use crate::terms::take_row_terms;
+use program_rows::{Program, RowKind};
+
+/// Whether there is a row at this place that may have the multiplier.
+fn may_have(program: &Program, row: usize, multiplier: i64) -> bool
+    ensures { result ≡ shows.may_have program.now.rows (row, multiplier) }
+{
+    if row >= program.row_count() {
+        return false;
+    }
+    match program.row_kind(row) {
+        RowKind::AtMost => multiplier >= 0,
+        RowKind::AtLeast => multiplier <= 0,
+        RowKind::Equal => true,
+    }
+}
+
+fn are_signed(program: &Program, rows: &[(usize, i64)]) -> bool
+    ensures { result ≡ list_all (shows.may_have program.now.rows) rows.now }
+{
+    rows.iter().all(|t| may_have(program, t.0, t.1))
+}
+
+fn take_rows(checker: &Checker, text: &[u8]) -> Result<Vec<(usize, i64)>, Refusal>
+    requires { IsPrepared checker.now }
+    ensures { Answers (λ rows. rows.items) result (rows_told checker.now.program.now (fields text.now)) }
+{
+    let rows = take_row_terms(checker, text)?;
+    if !are_signed(checker.program, rows.as_slice()) {
+        return Err(Refusal::Fault(FaultKind::Sign));
+    }
+    Ok(rows)
+}
+
+/// The leaf that a text tells, below as many splits as `depth`.
+pub fn take_leaf(checker: &Checker, depth: usize, text: &[u8]) -> Result<Leaf, Refusal>
+    requires { IsPrepared checker.now }
+    ensures told { Answers (λ leaf. BoundLine leaf.scale leaf.multipliers.items leaf.rows.items) result (bound_told checker.now.program.now depth (fields text.now)) }
+    ensures count { IfOk result (λ leaf. length leaf.multipliers.items ≡ depth) }
+{
+    let Some(token) = next_field(text) else {
+        return Err(Refusal::Fault(FaultKind::Fields));
+    };
+    let scale = take_natural(token.text)?;
+    let naturals = take_naturals(checker.alloc, depth, token.rest)?;
+    let rows = take_rows(checker, naturals.rest)?;
+    Ok(Leaf {
+        scale,
+        multipliers: naturals.numbers,
+        rows,
+    })
+}

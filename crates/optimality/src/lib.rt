@@ -1,0 +1,35 @@
+//! Certificates that no point of a 0-1 program has a lower objective.
+#![tactic(auto)]
+
+mod arithmetic;
+mod checker;
+mod closing;
+mod cuts;
+mod fault;
+mod fields;
+mod forms;
+pub mod laws;
+mod leaf;
+mod leaf_line;
+mod leaf_value;
+mod limit;
+mod lines;
+mod names;
+mod naturals;
+mod numbers;
+mod open_split;
+mod optimum;
+mod reader;
+mod reduced;
+mod refusal;
+mod row_forms;
+mod rows;
+mod split_line;
+mod terms;
+
+pub use fault::{CertificateFault, FaultKind};
+pub use optimum::check_optimum;
+pub use reader::check_certificate;
+
+#[cfg(test)]
+mod tests;

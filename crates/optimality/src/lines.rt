@@ -1,0 +1,135 @@
+//! One line of a certificate.
+
+ghost use Rattle.std.specs.Prelude.{◌≡◌, ◌==◌, not, bytes_eq, length, IfOk};
+ghost use Rattle.program_rows.specs.Lines.{fields};
+ghost use Rattle.optimality.specs.Answers.{Answers};
+ghost use Rattle.optimality.specs.Branches.{branches_of, cuts_above, opened};
+ghost use Rattle.optimality.specs.Checking.{IsPrepared};
+ghost use Rattle.optimality.specs.Lines as lines;
+ghost use Rattle.optimality.specs.Told.{and_then, bound_told, split_told};
+ghost use Rattle.optimality.specs.Verdict as verdict;
+ghost use Rattle.optimality.specs.Verdict.{after_line, after_open, taken};
+
+use crate::checker::Checker;
+use crate::closing::close;
+use crate::fault::FaultKind;
+use crate::fields::next_field;
+use crate::leaf::Leaf;
+use crate::leaf_line::take_leaf;
+use crate::leaf_value::is_above;
+use crate::limit::Limit;
+use crate::open_split::OpenSplit;
+use crate::refusal::Refusal;
+use crate::split_line::take_split;
+
+fn is_word(text: &[u8], word: &[u8]) -> bool
+    ensures { result ≡ bytes_eq text.now word.now }
+{
+    text == word
+}
+
+#[tactic(auto, using(crate::proofs::BranchLaws::branches_push))]
+fn take_split_line(
+    checker: &Checker,
+    splits: &mut Vec<OpenSplit>,
+    text: &[u8],
+) -> Result<bool, Refusal>
+    requires { IsPrepared checker.now }
+    ensures { Answers (λ is_last. opened is_last splits.new.items) result (and_then (split_told checker.now.program.now (fields text.now)) (taken checker.now.program.now checker.now.least (branches_of splits.old.items))) }
+{
+    let split = take_split(checker, text)?;
+    splits.push(split)?;
+    Ok(false)
+}
+
+fn leaf_shows(
+    checker: &Checker,
+    numbers: &mut Vec<i128>,
+    splits: &[OpenSplit],
+    leaf: &Leaf,
+) -> Result<bool, Limit>
+    requires prepared { IsPrepared checker.now }
+    requires count { length leaf.now.multipliers.items ≡ length splits.now }
+    ensures { IfOk result (λ shows. shows ≡ verdict.is_above checker.now.program.now checker.now.least (cuts_above (branches_of splits.now)) leaf.now.scale leaf.now.multipliers.items leaf.now.rows.items) }
+{
+    is_above(checker, numbers, splits, leaf)
+}
+
+fn take_leaf_line(
+    checker: &Checker,
+    numbers: &mut Vec<i128>,
+    splits: &mut Vec<OpenSplit>,
+    text: &[u8],
+) -> Result<bool, Refusal>
+    requires { IsPrepared checker.now }
+    ensures { Answers (λ is_last. opened is_last splits.new.items) result (and_then (bound_told checker.now.program.now (length splits.old.items) (fields text.now)) (taken checker.now.program.now checker.now.least (branches_of splits.old.items))) }
+{
+    let leaf = take_leaf(checker, splits.len(), text)?;
+    if !leaf_shows(checker, numbers, splits.as_slice(), &leaf)? {
+        return Err(Refusal::Fault(FaultKind::NotShown));
+    }
+    close(splits)
+}
+
+#[tactic(auto, using(crate::proofs::BranchLaws::length_branches))]
+fn take_line(
+    checker: &Checker,
+    numbers: &mut Vec<i128>,
+    splits: &mut Vec<OpenSplit>,
+    line: &[u8],
+) -> Result<bool, Refusal>
+    requires { IsPrepared checker.now }
+    ensures { Answers (λ is_last. opened is_last splits.new.items) result (after_open checker.now.program.now checker.now.least (branches_of splits.old.items) line.now) }
+{
+    let Some(word) = next_field(line) else {
+        return Err(Refusal::Fault(FaultKind::Fields));
+    };
+    if is_word(word.text, b"split") {
+        return take_split_line(checker, splits, word.rest);
+    }
+    if is_word(word.text, b"bound") {
+        return take_leaf_line(checker, numbers, splits, word.rest);
+    }
+    Err(Refusal::Fault(FaultKind::Fields))
+}
+
+fn is_comment(line: &[u8]) -> bool
+    ensures { result ≡ lines.is_comment line.now }
+{
+    if line.is_empty() {
+        return false;
+    }
+    line[0] == b'#'
+}
+
+fn has_fields(line: &[u8]) -> bool
+    ensures { result ≡ not (length (fields line.now) == 0) }
+{
+    next_field(line).is_some()
+}
+
+fn is_telling(line: &[u8]) -> bool
+    ensures { result ≡ lines.is_telling line.now }
+{
+    !is_comment(line) && has_fields(line)
+}
+
+/// Takes a line. `is_last` says whether the certificate is told whole, before and after it; `numbers` is room for a leaf.
+pub fn take_any(
+    checker: &Checker,
+    numbers: &mut Vec<i128>,
+    splits: &mut Vec<OpenSplit>,
+    is_last: bool,
+    line: &[u8],
+) -> Result<bool, Refusal>
+    requires { IsPrepared checker.now }
+    ensures { Answers (λ is_last_then. opened is_last_then splits.new.items) result (after_line checker.now.program.now checker.now.least (opened is_last splits.old.items) line.now) }
+{
+    if !is_telling(line) {
+        return Ok(is_last);
+    }
+    if is_last {
+        return Err(Refusal::Fault(FaultKind::Beyond));
+    }
+    take_line(checker, numbers, splits, line)
+}

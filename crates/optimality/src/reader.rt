@@ -1,0 +1,94 @@
+//! One pass over the lines of a certificate.
+
+ghost use Rattle.std.specs.Prelude.{◌≡◌, ◌⊎◌, IfErr, IfOk, OnOk};
+ghost use Rattle.optimality.specs.Answers.{IsLimit, IsRefused, IsVerdict};
+ghost use Rattle.optimality.specs.Checking.{IsPrepared};
+ghost use Rattle.optimality.specs.Laws.{IsBound};
+ghost use Rattle.optimality.specs.Telling.{IsShownBy};
+ghost use Rattle.optimality.specs.Verdict.{first_fault};
+
+use crate::checker::Checker;
+use crate::fault::{CertificateFault, FaultKind};
+use crate::limit::Limit;
+use crate::lines::take_any;
+use crate::names::{column_names, row_names};
+use crate::refusal::Refusal;
+use crate::row_forms::row_forms;
+use auction_terms::LineReader;
+use program_rows::Program;
+use std::alloc::{AllocError, Global};
+
+fn refused(line: usize, refusal: Refusal) -> CertificateFault
+    ensures { IsRefused line refusal result }
+{
+    let kind = match refusal {
+        Refusal::Stopped(Limit::Memory) => FaultKind::OutOfMemory,
+        Refusal::Stopped(Limit::TooLarge) => FaultKind::TooLarge,
+        Refusal::Fault(kind) => kind,
+    };
+    CertificateFault { line, kind }
+}
+
+fn check_lines(checker: &Checker, text: &[u8]) -> Result<(), CertificateFault>
+    requires { IsPrepared checker.now }
+    ensures { IsVerdict result (first_fault checker.now.program.now checker.now.least text.now) }
+{
+    let mut numbers = Vec::new(checker.alloc);
+    let mut splits = Vec::new(checker.alloc);
+    let mut is_last = false;
+    let mut lines = LineReader::new(text);
+    let mut place: usize = 0;
+    while let Some(line) = lines.next() {
+        place += 1;
+        is_last = match take_any(checker, &mut numbers, &mut splits, is_last, line) {
+            Ok(is_last_then) => is_last_then,
+            Err(refusal) => return Err(refused(place, refusal)),
+        };
+    }
+    if is_last {
+        return Ok(());
+    }
+    Err(CertificateFault {
+        line: place,
+        kind: FaultKind::NoEnd,
+    })
+}
+
+fn new_checker(alloc: Global, program: &Program, least: i128) -> Result<Checker<'_>, AllocError>
+    ensures prepared { IfOk result (λ checker. IsPrepared checker) }
+    ensures program { IfOk result (λ checker. checker.program.now ≡ program.now) }
+    ensures least { IfOk result (λ checker. checker.least ≡ least) }
+{
+    let columns = column_names(alloc, program)?;
+    let rows = row_names(alloc, program)?;
+    let forms = row_forms(alloc, program)?;
+    Ok(Checker {
+        alloc,
+        program,
+        columns,
+        rows,
+        row_forms: forms,
+        least,
+    })
+}
+
+/// Checks that a text tells a certificate that no point of the program has an objective below `least`.
+pub fn check_certificate(
+    alloc: Global,
+    text: &[u8],
+    program: &Program,
+    least: i128,
+) -> Result<(), CertificateFault>
+    ensures sound { OnOk result (IsBound program.now least) }
+    ensures shown { OnOk result (IsShownBy program.now least text.now) }
+    ensures refused { IfErr result (λ fault. IsLimit fault.kind ⊎ ¬ IsShownBy program.now least text.now) }
+    ensures first { IsVerdict result (first_fault program.now least text.now) }
+{
+    let Ok(checker) = new_checker(alloc, program, least) else {
+        return Err(CertificateFault {
+            line: 0,
+            kind: FaultKind::OutOfMemory,
+        });
+    };
+    check_lines(&checker, text)
+}

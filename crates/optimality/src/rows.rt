@@ -1,0 +1,61 @@
+//! Multiples of rows: what they give the columns, and their right sides.
+
+ghost use Rattle.std.specs.Prelude.{◌≡◌, IfOk, OnOk, ◌+ℤ◌, ◌*ℤ◌};
+ghost use Rattle.optimality.specs.Adding.{form_at, with_form, with_rows};
+ghost use Rattle.optimality.specs.Reduced as reduced;
+ghost use Rattle.optimality.specs.RowForms.{forms_of};
+
+use crate::arithmetic::{plus, product};
+use crate::forms::add_form;
+use crate::limit::Limit;
+use crate::row_forms::Form;
+use program_rows::Program;
+
+fn add_row(numbers: &mut [i128], forms: &[Form], row: usize, multiplier: i64) -> Result<(), Limit>
+    ensures { OnOk result (numbers.new ≡ with_form multiplier (form_at (forms_of forms.now) row) numbers.old) }
+{
+    if row >= forms.len() {
+        return Ok(());
+    }
+    add_form(numbers, multiplier, forms[row].as_slice())
+}
+
+/// Adds the rows, each times its multiplier. A row that isn't named costs nothing.
+pub fn add_rows(numbers: &mut [i128], forms: &[Form], rows: &[(usize, i64)]) -> Result<(), Limit>
+    ensures { OnOk result (numbers.new ≡ with_rows rows.now (forms_of forms.now) numbers.old) }
+{
+    for i in 0..rows.len() {
+        let (row, multiplier) = rows[i];
+        add_row(numbers, forms, row, multiplier)?;
+    }
+    Ok(())
+}
+
+/// The right side of the row at a place, 0 behind the last one.
+fn right_side_at(program: &Program, row: usize) -> i64
+    ensures { result ≡ reduced.right_side_at program.now.rows row }
+{
+    if row < program.row_count() {
+        program.right_side(row)
+    } else {
+        0
+    }
+}
+
+fn add_right_side(sum: i128, program: &Program, row: usize, multiplier: i64) -> Result<i128, Limit>
+    ensures { IfOk result (λ n. n ≡ sum +ℤ multiplier *ℤ reduced.right_side_at program.now.rows row) }
+{
+    plus(sum, product(multiplier, right_side_at(program, row)))
+}
+
+/// The sum of the right sides of rows, each times its multiplier.
+pub fn rows_right(program: &Program, rows: &[(usize, i64)]) -> Result<i128, Limit>
+    ensures { IfOk result (λ n. n ≡ reduced.rows_right program.now.rows rows.now) }
+{
+    let mut sum: i128 = 0;
+    for i in 0..rows.len() {
+        let (row, multiplier) = rows[i];
+        sum = add_right_side(sum, program, row, multiplier)?;
+    }
+    Ok(sum)
+}

@@ -1,0 +1,82 @@
+//! Names, each with a number.
+
+ghost use Rattle.std.specs.Prelude.{◌≡◌};
+ghost use Rattle.program_rows.specs.Lines.{fields};
+ghost use Rattle.optimality.specs.Answers.{Answers};
+ghost use Rattle.optimality.specs.Checking.{IsPrepared};
+ghost use Rattle.optimality.specs.declared.fault.FaultKind.TheVariants.{UnknownColumn, UnknownRow};
+ghost use Rattle.optimality.specs.Holding.{bytes_of};
+ghost use Rattle.optimality.specs.Told.{column_names, place_told, row_names, term_told, terms_told};
+
+use crate::checker::Checker;
+use crate::fault::FaultKind;
+use crate::fields::next_field;
+use crate::numbers::take_number;
+use crate::refusal::Refusal;
+use indexmap::IndexSet;
+use std::alloc::Global;
+
+fn take_place(names: &IndexSet<&[u8]>, unknown: FaultKind, name: &[u8]) -> Result<usize, Refusal>
+    ensures { Answers (λ place. place) result (place_told (bytes_of names.now.keys) unknown name.now) }
+{
+    match names.get_index_of(name) {
+        Some(place) => Ok(place),
+        None => Err(Refusal::Fault(unknown)),
+    }
+}
+
+fn take_term(
+    names: &IndexSet<&[u8]>,
+    unknown: FaultKind,
+    name: &[u8],
+    token: &[u8],
+) -> Result<(usize, i64), Refusal>
+    ensures { Answers (λ term. term) result (term_told (bytes_of names.now.keys) unknown name.now token.now) }
+{
+    let place = take_place(names, unknown, name)?;
+    let number = take_number(token)?;
+    Ok((place, number))
+}
+
+/// Names and numbers to the end of a line. A name that is not among the names has the fault `unknown`.
+fn take_terms(
+    alloc: Global,
+    names: &IndexSet<&[u8]>,
+    unknown: FaultKind,
+    text: &[u8],
+) -> Result<Vec<(usize, i64)>, Refusal>
+    ensures { Answers (λ terms. terms.items) result (terms_told (bytes_of names.now.keys) unknown (fields text.now)) }
+{
+    let mut terms = Vec::new(alloc);
+    let mut rest = text;
+    while let Some(name) = next_field(rest) {
+        let Some(token) = next_field(name.rest) else {
+            return Err(Refusal::Fault(FaultKind::Fields));
+        };
+        let term = take_term(names, unknown, name.text, token.text)?;
+        terms.push(term)?;
+        rest = token.rest;
+    }
+    Ok(terms)
+}
+
+/// Names of columns, each with a number, to the end of a line.
+pub fn take_column_terms(checker: &Checker, text: &[u8]) -> Result<Vec<(usize, i64)>, Refusal>
+    requires { IsPrepared checker.now }
+    ensures { Answers (λ terms. terms.items) result (terms_told (column_names checker.now.program.now) UnknownColumn (fields text.now)) }
+{
+    take_terms(
+        checker.alloc,
+        &checker.columns,
+        FaultKind::UnknownColumn,
+        text,
+    )
+}
+
+/// Names of rows, each with a number, to the end of a line.
+pub fn take_row_terms(checker: &Checker, text: &[u8]) -> Result<Vec<(usize, i64)>, Refusal>
+    requires { IsPrepared checker.now }
+    ensures { Answers (λ terms. terms.items) result (terms_told (row_names checker.now.program.now) UnknownRow (fields text.now)) }
+{
+    take_terms(checker.alloc, &checker.rows, FaultKind::UnknownRow, text)
+}
