@@ -1,112 +1,134 @@
--- Why commands are refused.
-use Rattle.std.proofs.Common.{◌≡◌, ◌<◌, ◌≤◌, ℕ, true, List, Option, None, Some, Result, Ok, Err, Vec, length, refl, sym, subst, inl, inr, arith}
-use Rattle.std.specs.Prelude.{IfErr, IfSome, ⊤}
-use Rattle.std.specs.Io.KnownBytes.{Consumes, IsAtEnd}
-use Rattle.std.specs.declared.alloc.Global.{Global}
+-- What commands write, and why they don't.
+use Rattle.std.proofs.Common.{◌≡◌, ◌≢◌, ◌≤◌, ◌<◌, ◌+◌, ◌-◌, ◌==◌, ◌++◌, ◌∷◌, ◌∙◌, [], ℕ, Bool, true, false, zero, suc, List, Option, None, Some, Result, Ok, Err, ap, arith, length, length-append, map, refl, slice_index_or, subst, sym, take, inl, inr}
+use Rattle.std.specs.Prelude.{IfErr, OnErr, OnOk, ◌⊎◌}
+use Rattle.std.specs.Io.KnownBytes.{Appends}
+use Rattle.std.specs.List.{zip}
+use Rattle.std.proofs.lemmas.Bool.{eq-eqb, ne_eqb}
 use Rattle.std.proofs.lemmas.Bool.Decides.{leb_tells}
-use Rattle.bid_desk.specs.Closing.{Closing, IsClosing}
-use Rattle.bid_forms.specs.Offers.{Offers}
-use Rattle.mps_reader.specs.Answer.{IsRead}
-use Rattle.mps_reader.specs.declared.mps_fault.MpsFault.{MpsFault}
-use Rattle.program_rows.specs.Meaning.{meaning}
+use Rattle.std.proofs.lemmas.List.{length-map}
+use denote.Ref.{Bor}
+use Rattle.auction_terms.specs.Groups.{starts_empty}
+use Rattle.auction_terms.specs.declared.choices.Choice.{Choice}
+use Rattle.bid_desk.specs.Closing.{Closing}
+use Rattle.group_compiler.specs.Compiled.{GroupProgram, compiled, program_without}
+use Rattle.mps_text.specs.Sinks.{HasFailed, SentFront}
+use Rattle.mps_text.specs.Written.{written_of}
+use Rattle.mps_text.specs.declared.write_fault.WriteFault.{WriteFault}
+use Rattle.mps_text.specs.declared.write_fault.WriteFault.TheVariants as write
+use Rattle.outcome.specs.Report.{allocation_text, report_text}
+use Rattle.outcome.specs.Sale.{sale_of}
 use Rattle.program_rows.specs.Program.{Table}
-use Rattle.program_rows.specs.declared.fault.FaultKind.TheVariants as kind
-use Rattle.wdp.specs.InputTexts.{TellForms, TellsGroups, TellsRules}
-use Rattle.wdp.specs.Parts.{Tells}
-use Rattle.wdp.specs.Submissions.{AreSubmitted}
-use Rattle.wdp.specs.Refusals.{IsAccepted, IsRefused, IsUnread, IsUnwritten, Refuses, TellsAuction, TellsParts, by_memory, by_parts_count, by_text, by_write, counted_as, groups_taken, miscounted, program_in, solutions_taken, takes_parts}
-use Rattle.wdp.specs.declared.input.InputFault.{InputFault}
-use Rattle.wdp.specs.declared.input.InputFault.TheVariants as input_fault
-use Rattle.wdp.specs.declared.parts.Parts.{Parts}
-use Rattle.wdp.specs.declared.refusal.CountedPart.{CountedPart}
-use Rattle.wdp.specs.declared.refusal.Refusal.{Refusal}
+use Rattle.wdp.specs.Auction.{Auction, auction_told}
+use Rattle.wdp.specs.Commands.{costs_text, program_text, winners_text}
+use Rattle.wdp.specs.Exact.{Ends, Refuses, RefusesAuction, IsUnsettled, Writes, by_put, by_refusal, held}
+use Rattle.wdp.specs.GroupTexts.{EndsIn, in_turn, program_bytes, programs_bytes}
+use Rattle.wdp.specs.Parts.{bytes_of}
+use Rattle.wdp.specs.PartsTold.{only_text}
+use Rattle.wdp.specs.Refused.{Refusal, Refused}
+use Rattle.wdp.specs.Stages.{and_then, each_in_turn}
+use Rattle.wdp.specs.Winners.{winners, winners_by}
+use Rattle.wdp.specs.declared.auction.Auction as declared
+use Rattle.wdp.specs.declared.refusal.CountedPart.TheVariants as counted
 use Rattle.wdp.specs.declared.refusal.Refusal.TheVariants as refusal
 use Rattle.wdp.specs.declared.request.Request.{Request}
+use Rattle.wdp.proofs.StageFacts.{next, refuses-as, stop}
 
-abbrev count_refused : Refusal → Result ⊤ Refusal
-count_refused r = Err r
+abbrev Text : Type 0
+Text = Bor (List ℕ)
 
--- parts that are refused by their number
-pub count-refused : (failures failures' : ℕ) (asked : Request) (input : List ℕ) (parts : Parts) (r : Refusal) → takes_parts asked ≡ true → Tells (Ok parts) input
-    → count_refused r ≡ counted_as (miscounted (groups_taken asked) (solutions_taken asked) parts) → Refuses failures failures' asked input r
-count-refused failures failures' asked input parts r takes told is = by (miscounted (groups_taken asked) (solutions_taken asked) parts) refl is
-  where
-    by : (o : Option CountedPart) → miscounted (groups_taken asked) (solutions_taken asked) parts ≡ o → count_refused r ≡ counted_as o → Refuses failures failures' asked input r
-    by None found e = cc
-    by (Some part) found e =
-        let same : r ≡ refusal.PartCount part = cc in
-        subst (λ x. Refuses failures failures' asked input x) (sym same) (by_parts_count parts takes told found)
+-- what is written of an auction is what is written of the input that tells it
+module _ {A T : Type 0} (told : Result A Refused) (a : A) (k : A → Result (List ℕ) Refused) (is : told ≡ Ok a) where
+  pub writes-behind : {E : Type 0} (result : Result T E) (taken taken' : Option (List ℕ)) → OnOk result (Writes (k a) taken taken') → OnOk result (Writes (and_then told k) taken taken')
+  writes-behind result taken taken' writes = subst (λ x. OnOk result (Writes x taken taken')) (sym (ap (λ r. and_then r k) is)) writes
 
--- parts that are taken
-pub parts-told : (asked : Request) (input : List ℕ) (parts : Parts) (u : ⊤) → Tells (Ok parts) input → Ok u ≡ counted_as (miscounted (groups_taken asked) (solutions_taken asked) parts) → TellsParts asked input parts
-parts-told asked input parts u told is = record { parts_are = told; counted = by (miscounted (groups_taken asked) (solutions_taken asked) parts) is }
-  where
-    by : (o : Option CountedPart) → Ok u ≡ counted_as o → o ≡ None
-    by None e = refl
-    by (Some part) e = cc
+  pub ends-behind : (result : Result T Refusal) (taken taken' : Option (List ℕ)) (failures failures' : ℕ) → IfErr result (Ends (k a) taken taken' failures failures')
+      → IfErr result (λ r. Ends (and_then told k) taken taken' failures failures' r)
+  ends-behind result taken taken' failures failures' ends = subst (λ x. IfErr result (λ r. Ends x taken taken' failures failures' r)) (sym (ap (λ r. and_then r k) is)) ends
 
-abbrev no_program : MpsFault → Result Table MpsFault
-no_program f = Err f
+-- a request whose auction isn't there
+pub no-auction : (asked : Request) (input : List ℕ) (k : Auction → Result (List ℕ) Refused) (taken : Option (List ℕ)) (failures : ℕ) (r : Refusal) → RefusesAuction asked input r
+    → Ends (and_then (auction_told asked input) k) taken taken failures failures r ⊎ (IsUnsettled asked input r × (taken ≡ taken))
+no-auction asked input k taken failures r (inl refused) = inl (by_refusal (stop (auction_told asked input) k r refused) refl)
+no-auction asked input k taken failures r (inr unsettled) = inr (unsettled, refl)
 
--- a text that is refused is no program
-pub program-refused : (text : List ℕ) (f : MpsFault) → (67108864 < length text → no_program f ≡ no_program (record { line = 0; kind = kind.TooLarge }))
-    → (length text ≤ 67108864 → IsRead (no_program f) (meaning text)) → IsRead (no_program f) (program_in text)
-program-refused text f large told = elim (leb_tells 67108865 (length text)) [
-  | inl (is, more) ↦ (
-      let e = large (omega arith) in
-      let same : f ≡ record { line = 0; kind = kind.TooLarge } = cc in
-      subst (λ x. IsRead (no_program x) (program_in text)) (sym same) (inr (rw is refl)))
-  | inr (is, few) ↦ rw is (told (omega arith))
-]
+-- how a command ends, in one of two ways
+pub ends-so : {T : Type 0} (told : Result (List ℕ) Refused) (Other : Refusal → Type 0) (result : Result T Refusal) (taken taken' : Option (List ℕ)) (failures failures' : ℕ)
+    → IfErr result (λ r. Ends told taken taken' failures failures' r) → IfErr result (λ r. Ends told taken taken' failures failures' r ⊎ Other r)
+ends-so told Other (Ok x) taken taken' failures failures' ends = tt
+ends-so told Other (Err r) taken taken' failures failures' ends = inl ends
 
--- a text that is read is a program
-pub program-told : (text : List ℕ) (p : Table) → (67108864 < length text → Ok p ≡ no_program (record { line = 0; kind = kind.TooLarge })) → (length text ≤ 67108864 → IsRead (Ok p) (meaning text)) → program_in text ≡ Ok p
-program-told text p large told = elim (leb_tells 67108865 (length text)) [
-  | inl (_, more) ↦ (let e = large (omega arith) in cc)
-  | inr (is, few) ↦ rw is (told (omega arith))
-]
+-- a put failed
+pub cut-short : (told : Result (List ℕ) Refused) (out : List ℕ) (taken taken' : Option (List ℕ)) (failures failures' : ℕ) (f : WriteFault) → told ≡ Ok out
+    → SentFront taken taken' out (written_of f) → HasFailed failures failures' → Ends told taken taken' failures failures' (refusal.Write f)
+cut-short told out taken taken' failures failures' (write.Sink written) whole sent failed = by_put (record { out = out; whole = whole; sent = sent; failed = failed })
 
-abbrev no_text : InputFault → Result (Vec ℕ Global) InputFault
-no_text f = Err f
+-- the programs of groups are made of their groups
+pub of-groups : (book : Closing) (k : ℕ) (groups : List (List ℕ)) → in_turn (program_text (sale_of book)) k groups ≡ in_turn (program_bytes book) k (map (compiled book) groups)
+of-groups book k [] = refl
+of-groups book k (group ∷ groups) = ap (λ (more : List ℕ). program_text (sale_of book) k group ++ more) (of-groups book (k + 1) groups)
 
--- an input that is refused
-pub unread : (f : InputFault) (left : Option (List ℕ)) → (no_text f ≡ no_text input_fault.TooLarge → IfSome left (λ bytes. 134217728 < length bytes)) → IsUnread f left
-unread input_fault.TooLarge left large = large refl
-unread input_fault.ReadFailed left large = tt
-unread input_fault.OutOfMemory left large = tt
+-- the first items have no more bytes than all
+fewer-bytes : {X : Type 0} (bytes : ℕ → X → List ℕ) (k n : ℕ) (xs : List X) → length (in_turn bytes k (take n xs)) ≤ length (in_turn bytes k xs)
+fewer-bytes bytes k zero xs = omega arith
+fewer-bytes bytes k (suc n) [] = omega arith
+fewer-bytes bytes k (suc n) (x ∷ xs) =
+    let rest = fewer-bytes bytes (k + 1) n xs in
+    let first = length-append (bytes k x) (in_turn bytes (k + 1) (take n xs)) in
+    let all = length-append (bytes k x) (in_turn bytes (k + 1) xs) in
+    omega arith
 
--- what refuses a command refuses its request, whose input was read
-pub request-refused : {T : Type 0} (request asked : Request) (left left' : Option (List ℕ)) (failures failures' : ℕ) (text input : List ℕ) (r : Result T Refusal) → request ≡ asked → input ≡ text
-    → Consumes left left' text × IsAtEnd left' → IfErr r (Refuses failures failures' asked input) → IfErr r (IsRefused request left left' failures failures')
-request-refused request asked left left' failures failures' text input (Ok x) is same read refused = tt
-request-refused request asked left left' failures failures' text input (Err r) is same read refused =
-    subst (λ q. IsRefused q left left' failures failures' r) (sym is) (by_text input (subst (λ bytes. Consumes left left' bytes × IsAtEnd left') (sym same) read) refused)
+-- what went out before a fault in the text of a group is a front of all texts
+pub sent-front : (book : Closing) (programs : List GroupProgram) (group written : ℕ) (taken taken' : Option (List ℕ)) → EndsIn book programs group written taken taken'
+    → SentFront taken taken' (programs_bytes book programs) written
+sent-front book programs group written None taken' ends = tt
+sent-front book programs group written (Some before) None ends = ends
+sent-front book programs group written (Some before) (Some after) (n, sent, count, least, most) =
+    let few = fewer-bytes (program_bytes book) 1 group programs in
+    (n, omega arith, sent, count)
 
--- what is told of an auction, together
-pub auction-told : (asked : Request) (input : List ℕ) (parts : Parts) (book : Closing) (groups : List (List ℕ)) → TellsParts asked input parts → IsClosing book → TellsRules parts.rules.items book.rules
-    → (forms : List Offers) × TellForms book.rules parts.forms.items forms × AreSubmitted forms book → TellsGroups book.rules parts.groups.items groups → TellsAuction asked input parts book groups
-auction-told asked input parts book groups told settled rules forms known = record {
-  parts_are = told;
-  settled = settled;
-  terms_are = record { forms = forms.0; rules_are = rules; forms_are = forms.1 };
-  submitted = forms.2;
-  groups_are = known;
-}
+-- ---- what the one solution wins
 
--- what is accepted and isn't written is refused for that
-pub unwritten : (failures failures' : ℕ) (asked : Request) (input : List ℕ) (r : Refusal) → IsAccepted asked input → IsUnwritten failures failures' r → Refuses failures failures' asked input r
-unwritten failures failures' asked input (refusal.Write f) accepted failed = by_write accepted failed
-unwritten failures failures' asked input refusal.OutOfMemory accepted failed = by_memory
-unwritten failures failures' asked input (refusal.Input f) accepted failed = absurd failed
-unwritten failures failures' asked input (refusal.Parts f) accepted failed = absurd failed
-unwritten failures failures' asked input (refusal.PartCount part) accepted failed = absurd failed
-unwritten failures failures' asked input (refusal.Rules f) accepted failed = absurd failed
-unwritten failures failures' asked input (refusal.Form form f) accepted failed = absurd failed
-unwritten failures failures' asked input (refusal.Groups f) accepted failed = absurd failed
-unwritten failures failures' asked input (refusal.Round f) accepted failed = absurd failed
-unwritten failures failures' asked input (refusal.NoGroup group) accepted failed = absurd failed
-unwritten failures failures' asked input refusal.FirstGroupNotEmpty accepted failed = absurd failed
-unwritten failures failures' asked input (refusal.Program f) accepted failed = absurd failed
-unwritten failures failures' asked input (refusal.Solution n f) accepted failed = absurd failed
-unwritten failures failures' asked input (refusal.BoundBroken n name) accepted failed = absurd failed
-unwritten failures failures' asked input (refusal.RowBroken n name) accepted failed = absurd failed
+module _ (auction : declared.Auction) (k : ℕ) (solution : List ℕ) (within : k ≤ length auction.groups) (only : solution ≡ only_text (bytes_of auction.solutions.items)) where
+  abbrev program : Table
+  program = program_without auction.book (slice_index_or auction.groups (k - 1) [])
+
+  goes-on : winners_text k (held auction) ≡ and_then (winners_by program 1 solution) (λ won. Ok (allocation_text (sale_of auction.book) won))
+  goes-on = elim (leb_tells k (length auction.groups)) [
+    | inl (is, _) ↦ (rw is (ap (λ (text : List ℕ). and_then (winners_by program 1 text) (λ won. Ok (allocation_text (sale_of auction.book) won))) (sym only)))
+    | inr (_, more) ↦ absurd (omega arith)
+  ]
+
+  pub winners-written : (a : List Choice) → winners_by program 1 solution ≡ Ok a → winners_text k (held auction) ≡ Ok (allocation_text (sale_of auction.book) a)
+  winners-written a won = goes-on ∙ next _ _ _ _ won refl
+
+  pub winners-refused : (r : Refusal) → Refuses (winners_by program 1 solution) r → Refuses (winners_text k (held auction)) r
+  winners-refused r refused = refuses-as _ _ r goes-on (stop _ _ r refused)
+
+pub no-group : (auction : declared.Auction) (k : ℕ) → length auction.groups < k → Refuses (winners_text k (held auction)) (refusal.NoGroup k)
+no-group auction k few = elim (leb_tells k (length auction.groups)) [ inl (_, most) ↦ absurd (omega arith) | inr (is, _) ↦ inl (rw is refl) ]
+
+-- ---- what the solutions win, group by group
+
+pub not-empty : (auction : declared.Auction) → starts_empty auction.groups ≡ false → Refuses (costs_text (held auction)) refusal.FirstGroupNotEmpty
+not-empty auction some = inl (rw some refl)
+
+module _ (auction : declared.Auction) (starts : starts_empty auction.groups ≡ true) where
+  abbrev texts : List (List ℕ)
+  texts = bytes_of auction.solutions.items
+
+  pub costs-miscounted : length auction.solutions.items ≢ length auction.groups → Refuses (costs_text (held auction)) (refusal.PartCount counted.Solutions)
+  costs-miscounted other =
+      let differ : (length texts == length auction.groups) ≡ false = ne_eqb _ _ (λ same. other (sym (length-map auction.solutions.items (λ (text : Text). text.now)) ∙ same)) in
+      inl (rw (starts, differ) refl)
+
+  module _ (solutions : List Text) (each : length auction.solutions.items ≡ length auction.groups) (same : solutions ≡ auction.solutions.items) where
+    goes-over : costs_text (held auction) ≡ and_then (each_in_turn (winners (sale_of auction.book)) 1 (zip auction.groups (bytes_of solutions))) (λ won. Ok (report_text (sale_of auction.book) auction.groups won))
+    goes-over =
+        let equal : (length texts == length auction.groups) ≡ true = eq-eqb _ _ (length-map auction.solutions.items (λ (text : Text). text.now) ∙ each) in
+        rw (starts, equal) (ap (λ (xs : List Text). and_then (each_in_turn (winners (sale_of auction.book)) 1 (zip auction.groups (bytes_of xs))) (λ won. Ok (report_text (sale_of auction.book) auction.groups won))) (sym same))
+
+    pub costs-written : (all : List (List Choice)) → each_in_turn (winners (sale_of auction.book)) 1 (zip auction.groups (bytes_of solutions)) ≡ Ok all → costs_text (held auction) ≡ Ok (report_text (sale_of auction.book) auction.groups all)
+    costs-written all won = goes-over ∙ next _ _ _ _ won refl
+
+    pub costs-refused : (r : Refusal) → Refuses (each_in_turn (winners (sale_of auction.book)) 1 (zip auction.groups (bytes_of solutions))) r → Refuses (costs_text (held auction)) r
+    costs-refused r refused = refuses-as _ _ r goes-over (stop _ _ r refused)

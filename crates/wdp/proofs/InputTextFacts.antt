@@ -1,34 +1,50 @@
--- What the answers to the texts of forms tell together.
-use Rattle.std.proofs.Common.{◌≡◌, ◌+◌, ◌++◌, ◌∷◌, [], ℕ, Bool, true, false, List, Some, Result, Ok, Err, length, length-append, map, refl, ap₂, sym, arith, inl, inr, ◌≤◌, ◌<◌, slice_index_or}
-use Rattle.std.specs.Prelude.{All, IfOk, IfErr}
+-- What is read of texts is what they tell, their sizes included.
+use Rattle.std.proofs.Common.{◌≡◌, ◌+◌, ◌++◌, ◌∷◌, ◌<◌, ◌≤◌, [], ℕ, List, Result, Ok, Err, ap, arith, length, map, refl, subst, sym, inl, inr}
+use Rattle.std.specs.Prelude.{All, IfErr, IfOk}
 use Rattle.std.specs.List.{AllZip}
 use Rattle.std.specs.declared.alloc.Global.{Global}
 use Rattle.std.specs.declared.vec.Vec.{Vec}
 use Rattle.std.proofs.lemmas.List.Elements.{All-cons, All-nil}
 use Rattle.std.proofs.lemmas.Bool.Decides.{leb_tells}
 use denote.Ref.{Bor}
-use Rattle.auction_terms.specs.GroupsText.{groups_of}
+use Rattle.auction_terms.specs.GroupsText as groups_text
+use Rattle.auction_terms.specs.RulesText as rules_text
+use Rattle.auction_terms.specs.Terms.{Terms}
+use Rattle.auction_terms.specs.declared.groups_text.GroupFault.{GroupFault}
 use Rattle.auction_terms.specs.declared.groups_text.GroupFault.TheVariants as group_fault
 use Rattle.auction_terms.specs.declared.rules.Bidder.{Bidder}
-use Rattle.auction_terms.specs.FirstFault.{first_fault}
-use Rattle.auction_terms.specs.Terms.{Terms}
-use Rattle.bid_forms.specs.FormText.{Answers, is_memory}
+use Rattle.auction_terms.specs.declared.rules_text.RulesFault.{RulesFault}
+use Rattle.auction_terms.specs.declared.rules_text.RulesFault.TheVariants as rules_fault
 use Rattle.bid_forms.specs.Offers.{Meets, Offers}
 use Rattle.bid_forms.specs.declared.form_text.FormFault.{FormFault}
-use Rattle.bid_forms.specs.declared.form_text.FormFault.TheVariants as fault
-use Rattle.wdp.specs.declared.refusal.Refusal.{Refusal}
+use Rattle.mps_reader.specs.Answer.{IsRead}
+use Rattle.mps_reader.specs.declared.mps_fault.MpsFault.{MpsFault}
+use Rattle.program_rows.specs.Meaning.{meaning}
+use Rattle.program_rows.specs.Program.{Table}
+use Rattle.program_rows.specs.declared.fault.FaultKind.TheVariants as kind
+use Rattle.wdp.specs.Exact.{Refuses}
+use Rattle.wdp.specs.InputTexts.{IsAnswer, IsFirstErr, form_in, groups_in, program_in, rules_in}
+use Rattle.wdp.specs.Parts.{bytes_of}
+use Rattle.wdp.specs.Refused.{Refusal}
+use Rattle.wdp.specs.Stages.{each_in_turn, refused_as}
+use Rattle.wdp.specs.TextsTold.{form_told, forms_told}
 use Rattle.wdp.specs.declared.refusal.Refusal.TheVariants as refusal
-use Rattle.wdp.specs.InputTexts.{groups_in, IsAnswer, IsFirst, IsFirstErr, RefusesForms, TellForms, fault_of_text, form_in}
+use Rattle.wdp.proofs.FaultFacts.{form-refuses, no_groups, no_rules}
+use Rattle.wdp.proofs.StageFacts.{behind, next, stop}
 
 abbrev pub Text : Type 0
 Text = Bor (List ℕ)
 
+-- ---- forms
+
 -- texts whose answers are all forms tell those
-tell : (t : Terms) (texts : List Text) (forms : List Offers) → AllZip (IsAnswer t) texts (map (λ form. Ok form) forms) → TellForms t texts forms
-tell t [] [] each = refl
-tell t [] (form ∷ forms) each = absurd each
-tell t (text ∷ texts) [] each = absurd each
-tell t (text ∷ texts) (form ∷ forms) each = ap₂ (λ x xs. x ∷ xs) (sym each.0.tells) (tell t texts forms each.1)
+each-told : (t : Terms) (n : ℕ) (texts : List Text) (forms : List Offers) → AllZip (IsAnswer t) texts (map (λ form. Ok form) forms) → each_in_turn (form_told t) n (bytes_of texts) ≡ Ok forms
+each-told t n [] [] each = refl
+each-told t n [] (form ∷ forms) each = absurd each
+each-told t n (text ∷ texts) [] each = absurd each
+each-told t n (text ∷ texts) (form ∷ forms) each =
+    let head : form_told t n text.now ≡ Ok form = ap (λ r. refused_as (refusal.Form n) r) (sym each.0.tells) in
+    next _ _ _ _ head (next _ _ _ _ (each-told t (n + 1) texts forms each.1) refl)
 
 meet : (t : Terms) (texts : List Text) (forms : List Offers) → AllZip (IsAnswer t) texts (map (λ form. Ok form) forms) → All (Meets t) forms
 meet t [] [] each = All-nil (Meets t)
@@ -36,90 +52,97 @@ meet t [] (form ∷ forms) each = absurd each
 meet t (text ∷ texts) [] each = absurd each
 meet t (text ∷ texts) (form ∷ forms) each = All-cons (Meets t) form forms each.0.meets (meet t texts forms each.1)
 
-pub all-tell : (t : Terms) (texts : List Text) (answers : List (Result Offers FormFault)) (r : Result (Vec Offers Global) Refusal)
-    → AllZip (IsAnswer t) texts answers → IfOk r (λ forms. answers ≡ map (λ form. Ok form) forms.items) → IfOk r (λ forms. TellForms t texts forms.items)
-all-tell t texts answers (Ok forms) each are = tell t texts forms.items (rw are at each)
-all-tell t texts answers (Err e) each are = tt
+pub all-told : (t : Terms) (texts : List Text) (answers : List (Result Offers FormFault)) (r : Result (Vec Offers Global) Refusal)
+    → AllZip (IsAnswer t) texts answers → IfOk r (λ forms. answers ≡ map (λ form. Ok form) forms.items) → IfOk r (λ forms. forms_told t (bytes_of texts) ≡ Ok forms.items)
+all-told t texts answers (Ok forms) each are = each-told t 1 texts forms.items (rw are at each)
+all-told t texts answers (Err e) each are = tt
 
 pub all-meet : (t : Terms) (texts : List Text) (answers : List (Result Offers FormFault)) (r : Result (Vec Offers Global) Refusal)
     → AllZip (IsAnswer t) texts answers → IfOk r (λ forms. answers ≡ map (λ form. Ok form) forms.items) → IfOk r (λ forms. All (Meets t) forms.items)
 all-meet t texts answers (Ok forms) each are = meet t texts forms.items (rw are at each)
 all-meet t texts answers (Err e) each are = tt
 
--- a fault that isn't want of memory is what the text tells
-told-fault : (f : FormFault) (answer : Result Offers FormFault) → is_memory f ≡ false → Answers (Err f) answer → Err f ≡ answer
-told-fault fault.TooLarge answer is told = told
-told-fault (fault.Header n) answer is told = told
-told-fault (fault.UnknownBidder n) answer is told = told
-told-fault (fault.FieldCount n) answer is told = told
-told-fault (fault.AmountText n) answer is told = told
-told-fault (fault.AmountRange n) answer is told = told
-told-fault (fault.AmountStep n) answer is told = told
-told-fault (fault.QuantityText n) answer is told = told
-told-fault (fault.QuantityRange n) answer is told = told
-told-fault (fault.EmptyPackage n) answer is told = told
-told-fault (fault.OverEligibility n) answer is told = told
-told-fault (fault.BelowReserve n) answer is told = told
-told-fault (fault.RepeatedPackage n m) answer is told = told
-told-fault (fault.TooManyBids n) answer is told = told
-told-fault fault.OutOfMemory answer is told = cc
-
 -- the first fault comes after the texts that tell forms
-first : (t : Terms) (prior texts : List Text) (before : List Offers) (f : FormFault) (after : List (Result Offers FormFault)) (n : ℕ)
-    → n ≡ length prior + length before + 1 → is_memory f ≡ false → AllZip (IsAnswer t) texts (map (λ form. Ok form) before ++ Err f ∷ after) → first_fault (fault_of_text t) prior texts ≡ Some (n, f)
-unfolding first_fault
-first t prior [] [] f after n is plain each = absurd each
-first t prior [] (form ∷ before) f after n is plain each = absurd each
-first t prior (text ∷ texts) [] f after n is plain each =
-    let told : form_in t text.now ≡ Err f = sym (told-fault f (form_in t text.now) plain each.0.tells) in
-    let here : length prior + 1 ≡ n = omega arith in
-    rw (told, here) refl
-first t prior (text ∷ texts) (form ∷ before) f after n is plain each =
-    let told : form_in t text.now ≡ Ok form = sym each.0.tells in
-    let count : length (prior ++ text ∷ []) ≡ length prior + 1 = length-append prior (text ∷ []) in
-    let next : n ≡ length (prior ++ text ∷ []) + length before + 1 = omega arith in
-    rw told (first t (prior ++ text ∷ []) texts before f after n next plain each.1)
+first-refused : (t : Terms) (n m : ℕ) (texts : List Text) (before : List Offers) (f : FormFault) (after : List (Result Offers FormFault)) → n + length before ≡ m
+    → AllZip (IsAnswer t) texts (map (λ form. Ok form) before ++ Err f ∷ after) → Refuses (each_in_turn (form_told t) n (bytes_of texts)) (refusal.Form m f)
+first-refused t n m [] [] f after count each = absurd each
+first-refused t n m [] (form ∷ before) f after count each = absurd each
+first-refused t n m (text ∷ texts) [] f after count each =
+    let same : n ≡ m = omega arith in
+    subst (λ k. Refuses (each_in_turn (form_told t) n (bytes_of (text ∷ texts))) (refusal.Form k f)) same (stop _ _ (refusal.Form n f) (form-refuses n f (form_in t text.now) each.0.tells))
+first-refused t n m (text ∷ texts) (form ∷ before) f after count each =
+    let head : form_told t n text.now ≡ Ok form = ap (λ r. refused_as (refusal.Form n) r) (sym each.0.tells) in
+    behind _ form _ (refusal.Form m f) head (stop _ _ (refusal.Form m f) (first-refused t (n + 1) m texts before f after (omega arith) each.1))
 
-by_memory : (t : Terms) (texts : List Text) (answers : List (Result Offers FormFault)) (before : List Offers) (f : FormFault) (after : List (Result Offers FormFault)) (n : ℕ) (b : Bool)
-    → is_memory f ≡ b → AllZip (IsAnswer t) texts answers → answers ≡ map (λ form. Ok form) before ++ Err f ∷ after → n ≡ length before + 1 → IsFirst t texts n f b
-by_memory t texts answers before f after n true is each are count = tt
-by_memory t texts answers before f after n false is each are count = first t [] texts before f after n (omega arith) is (rw are at each)
+refusal-of : (t : Terms) (texts : List Text) (answers : List (Result Offers FormFault)) (e : Refusal) → AllZip (IsAnswer t) texts answers → IsFirstErr answers e → Refuses (forms_told t (bytes_of texts)) e
+refusal-of t texts answers (refusal.Form n f) each (before, after, are, count) = first-refused t 1 n texts before f after (omega arith) (rw are at each)
+refusal-of t texts answers refusal.OutOfMemory each is = inr refl
+refusal-of t texts answers e each is = absurd is
 
-refusal-of : (t : Terms) (texts : List Text) (answers : List (Result Offers FormFault)) (e : Refusal) → AllZip (IsAnswer t) texts answers → IsFirstErr answers e → RefusesForms t texts e
-refusal-of t texts answers (refusal.Form n f) each (before, after, are, count) = by_memory t texts answers before f after n (is_memory f) refl each are count
-refusal-of t texts answers refusal.OutOfMemory each is = tt
-refusal-of t texts answers (refusal.Input x) each is = absurd is
-refusal-of t texts answers (refusal.Parts x) each is = absurd is
-refusal-of t texts answers (refusal.PartCount x) each is = absurd is
-refusal-of t texts answers (refusal.Rules x) each is = absurd is
-refusal-of t texts answers (refusal.Groups x) each is = absurd is
-refusal-of t texts answers (refusal.Round x) each is = absurd is
-refusal-of t texts answers (refusal.NoGroup x) each is = absurd is
-refusal-of t texts answers refusal.FirstGroupNotEmpty each is = absurd is
-refusal-of t texts answers (refusal.Program x) each is = absurd is
-refusal-of t texts answers (refusal.Solution n x) each is = absurd is
-refusal-of t texts answers (refusal.BoundBroken n x) each is = absurd is
-refusal-of t texts answers (refusal.RowBroken n x) each is = absurd is
-refusal-of t texts answers (refusal.Write x) each is = absurd is
+pub all-refused : (t : Terms) (texts : List Text) (answers : List (Result Offers FormFault)) (r : Result (Vec Offers Global) Refusal)
+    → AllZip (IsAnswer t) texts answers → IfErr r (IsFirstErr answers) → IfErr r (Refuses (forms_told t (bytes_of texts)))
+all-refused t texts answers (Ok forms) each is = tt
+all-refused t texts answers (Err e) each is = refusal-of t texts answers e each is
 
-pub refused : (t : Terms) (texts : List Text) (answers : List (Result Offers FormFault)) (r : Result (Vec Offers Global) Refusal)
-    → AllZip (IsAnswer t) texts answers → IfErr r (IsFirstErr answers) → IfErr r (RefusesForms t texts)
-refused t texts answers (Ok forms) each is = tt
-refused t texts answers (Err e) each is = refusal-of t texts answers e each is
-
--- the one text of a list
-pub only-text : (texts : List Text) (d : Text) → 1 ≤ length texts → length texts < 2 → texts ≡ slice_index_or texts 0 d ∷ []
-only-text [] d some few = absurd (omega arith)
-only-text (text ∷ []) d some few = refl
-only-text (text ∷ next ∷ more) d some few = absurd (omega arith)
+-- ---- sizes
 
 ok-or-fault : {T E : Type 0} {P : Type 0} (x : T) (e : E) → Ok x ≡ Err e → P
 ok-or-fault x e is = cc
 
--- groups that are read are what their text tells
-pub groups-tell : (bidders : List Bidder) (text : List ℕ) (groups : List (List ℕ)) → (4194304 < length text → Ok groups ≡ Err group_fault.TooLarge) → (length text ≤ 4194304 → Ok groups ≡ groups_of bidders text)
-    → groups_in bidders text ≡ Ok groups
+-- the fault of rules that are refused is what their text tells
+pub rules-faulted : (text : List ℕ) (f : RulesFault) → (4194304 < length text → no_rules f ≡ no_rules rules_fault.TooLarge)
+    → (length text ≤ 4194304 → rules_text.Answers (no_rules f) (rules_text.rules_of text)) → rules_text.Answers (no_rules f) (rules_in text)
+rules-faulted text f large told = elim (leb_tells 4194305 (length text)) [
+  | inl (is, more) ↦ (
+      let e = large (omega arith) in
+      let same : f ≡ rules_fault.TooLarge = cc in
+      subst (λ x. rules_text.Answers (no_rules x) (rules_in text)) (sym same) (rw is refl))
+  | inr (is, few) ↦ rw is (told (omega arith))
+]
+
+-- the same of groups
+pub groups-faulted : (bidders : List Bidder) (text : List ℕ) (f : GroupFault) → (4194304 < length text → no_groups f ≡ no_groups group_fault.TooLarge)
+    → (length text ≤ 4194304 → groups_text.Answers (no_groups f) (groups_text.groups_of bidders text)) → groups_text.Answers (no_groups f) (groups_in bidders text)
+groups-faulted bidders text f large told = elim (leb_tells 4194305 (length text)) [
+  | inl (is, more) ↦ (
+      let e = large (omega arith) in
+      let same : f ≡ group_fault.TooLarge = cc in
+      subst (λ x. groups_text.Answers (no_groups x) (groups_in bidders text)) (sym same) (rw is refl))
+  | inr (is, few) ↦ rw is (told (omega arith))
+]
+
+-- rules that are read are what their text tells
+pub rules-tell : (text : List ℕ) (t : Terms) → (4194304 < length text → Ok t ≡ no_rules rules_fault.TooLarge) → (length text ≤ 4194304 → Ok t ≡ rules_text.rules_of text) → rules_in text ≡ Ok t
+rules-tell text t large told = elim (leb_tells 4194305 (length text)) [
+  | inl (_, more) ↦ (let e = large (omega arith) in cc)
+  | inr (is, few) ↦ rw is (sym (told (omega arith)))
+]
+
+-- the same of groups
+pub groups-tell : (bidders : List Bidder) (text : List ℕ) (groups : List (List ℕ)) → (4194304 < length text → Ok groups ≡ no_groups group_fault.TooLarge)
+    → (length text ≤ 4194304 → Ok groups ≡ groups_text.groups_of bidders text) → groups_in bidders text ≡ Ok groups
 groups-tell bidders text groups large told = elim (leb_tells 4194305 (length text)) [
   | inl (_, more) ↦ ok-or-fault groups group_fault.TooLarge (large (omega arith))
   | inr (is, few) ↦ rw is (sym (told (omega arith)))
+]
+
+abbrev no_program : MpsFault → Result Table MpsFault
+no_program f = Err f
+
+-- a text that is refused is no program
+pub program-refused : (text : List ℕ) (f : MpsFault) → (67108864 < length text → no_program f ≡ no_program (record { line = 0; kind = kind.TooLarge }))
+    → (length text ≤ 67108864 → IsRead (no_program f) (meaning text)) → IsRead (no_program f) (program_in text)
+program-refused text f large told = elim (leb_tells 67108865 (length text)) [
+  | inl (is, more) ↦ (
+      let e = large (omega arith) in
+      let same : f ≡ record { line = 0; kind = kind.TooLarge } = cc in
+      subst (λ x. IsRead (no_program x) (program_in text)) (sym same) (inr (rw is refl)))
+  | inr (is, few) ↦ rw is (told (omega arith))
+]
+
+-- a text that is read is a program
+pub program-told : (text : List ℕ) (p : Table) → (67108864 < length text → Ok p ≡ no_program (record { line = 0; kind = kind.TooLarge })) → (length text ≤ 67108864 → IsRead (Ok p) (meaning text)) → program_in text ≡ Ok p
+program-told text p large told = elim (leb_tells 67108865 (length text)) [
+  | inl (_, more) ↦ (let e = large (omega arith) in cc)
+  | inr (is, few) ↦ rw is (told (omega arith))
 ]

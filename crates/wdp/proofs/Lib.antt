@@ -1,11 +1,23 @@
+pub mod AuctionFacts
+pub mod CallFacts
 pub mod CommandFacts
+pub mod FaultFacts
 pub mod GroupTextFacts
 mod InputTextFacts
-pub mod ListFacts
 pub mod PartFacts
 pub mod RefusalFacts
 pub mod ReportFacts
+pub mod RunFacts
 mod SizeFacts
+pub mod StageFacts
 mod StandingFacts
 pub mod SubmissionFacts
 pub mod WinningFacts
+mod WorkedGroups
+mod WorkedLines
+mod WorkedRefusals
+mod WorkedReport
+mod WorkedSizes
+mod WorkedText
+mod WorkedThree
+mod WorkedWinners

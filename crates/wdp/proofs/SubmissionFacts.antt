@@ -8,6 +8,7 @@ use Rattle.std.proofs.lemmas.List.{get_or-map, get_or-set_other, get_or-set_same
 use Rattle.std.proofs.lemmas.List.Elements.{All-append, All-cons, All-filter, All-head, All-map, All-nil, All-push, All-rest, All-same, All-tail, All-weaker, filter_passes}
 use Rattle.std.proofs.lemmas.List.Sums.{sum_by-le}
 use Rattle.std.specs.declared.alloc.Global.{Global}
+use Rattle.std.specs.declared.sync.Arc.{Arc}
 use Rattle.std.specs.declared.vec.Vec.{Vec}
 use Rattle.auction_terms.specs.Terms.{AreTerms, Terms, session_count}
 use Rattle.auction_terms.specs.declared.rules.Bidder.{Bidder}
@@ -19,24 +20,26 @@ use Rattle.bid_book.specs.declared.reply.Reply.TheVariants.{Accepted, CallLimit}
 use Rattle.bid_desk.specs.Holding.{Holding, IsRecorded, SessionOwn}
 use Rattle.bid_desk.specs.Opening.{all_sessions, fresh_session, sessions_of}
 use Rattle.bid_forms.specs.Offers.{Meets, Offers}
-use Rattle.wdp.specs.declared.numbered_form.NumberedForm.{NumberedForm}
 use Rattle.wdp.specs.Submissions.{AreAccepted, AreByBidder, AreFormsOf, HasSubmitted, HaveOneMore, IsAccepted, ComesTo, IsFirstJob, IsFormOf, IsIdle, JobOwn, form_values, forms_in, forms_of}
 
-abbrev Lists : Type 0
-Lists = List (Vec NumberedForm Global)
+abbrev Shared : Type 0
+Shared = Arc Offers Global
 
-abbrev values : Vec NumberedForm Global → List Offers
+abbrev Lists : Type 0
+Lists = List (Vec Shared Global)
+
+abbrev values : Vec Shared Global → List Offers
 values list = form_values list.items
 
 -- a list with one form more, in its place
-pub one-more : (lists : Lists) (i : ℕ) (list list' : Vec NumberedForm Global) (f : NumberedForm) (form : Offers) → i < length lists → form.bidder ≡ i → arc_value f.form ≡ form
+pub one-more : (lists : Lists) (i : ℕ) (list list' : Vec Shared Global) (f : Shared) (form : Offers) → i < length lists → form.bidder ≡ i → arc_value f ≡ form
     → list ≡ slice_index_or lists i list → list'.items ≡ list.items ++ f ∷ [] → HaveOneMore form lists (slice_set lists i list')
 one-more lists i list list' f form small bidder is at more b =
     let all = map values lists in
     let written : map values (slice_set lists i list') ≡ slice_set all i (values list') = map-set values lists i list' in
     let inside : i < length all = omega (arith, length-map lists values) in
     let grown : values list' ≡ values list ++ form ∷ [] =
-    ap form_values more ∙ map-append (λ (g : NumberedForm). arc_value g.form) list.items (f ∷ []) ∙ ap (λ (o : Offers). values list ++ o ∷ []) is in
+    ap form_values more ∙ map-append (λ (g : Shared). arc_value g) list.items (f ∷ []) ∙ ap (λ (o : Offers). values list ++ o ∷ []) is in
     let here : slice_index_or all i [] ≡ values list = get_or-map values lists i list [] small ∙ ap values (sym at) in
     elim (cases_Bool (form.bidder == b)) [
       | inl same ↦
@@ -66,7 +69,7 @@ all-fresh b (bidder ∷ bidders) =
     All-append (λ (s : SessionOwn). s.pairs ≡ []) (sessions_of b bidder.sessions) (all_sessions (b + 1) bidders)
     (All-map (λ (s : SessionOwn). s.pairs ≡ []) (fresh_session b) _ (λ k d l. refl)) (all-fresh (b + 1) bidders)
 
-no-forms : (forms : List NumberedForm) → true ≡ (length forms == 0) → form_values forms ≡ []
+no-forms : (forms : List Shared) → true ≡ (length forms == 0) → form_values forms ≡ []
 no-forms [] none = refl
 no-forms (f ∷ forms) none = (let zero : length (f ∷ forms) ≡ 0 = eqb-true _ _ (sym none) in absurd (omega arith))
 
@@ -85,11 +88,11 @@ idle-more lists idle idle' session more before fresh none =
     All-same (IsIdle lists) idle' (idle ++ session ∷ []) more (All-push (IsIdle lists) idle session before (record { fresh = fresh; none = none }))
 
 -- the list of a bidder is empty
-pub none-in : (lists : Lists) (bidder b : ℕ) (forms : List NumberedForm) → b ≡ bidder → form_values forms ≡ forms_in lists b → true ≡ (length forms == 0) → forms_in lists bidder ≡ []
+pub none-in : (lists : Lists) (bidder b : ℕ) (forms : List Shared) → b ≡ bidder → form_values forms ≡ forms_in lists b → true ≡ (length forms == 0) → forms_in lists bidder ≡ []
 none-in lists bidder b forms same are none = ap (forms_in lists) (sym same) ∙ sym are ∙ no-forms forms none
 
 -- one first session more, with the forms of its bidder
-pub jobs-more : (lists : Lists) (jobs jobs' : List JobOwn) (job : JobOwn) (b : ℕ) (session : SessionOwn) (forms : List NumberedForm) → jobs' ≡ jobs ++ job ∷ [] → All (IsFirstJob lists) jobs
+pub jobs-more : (lists : Lists) (jobs jobs' : List JobOwn) (job : JobOwn) (b : ℕ) (session : SessionOwn) (forms : List Shared) → jobs' ≡ jobs ++ job ∷ [] → All (IsFirstJob lists) jobs
     → job.session ≡ session → job.forms ≡ form_values forms → session.session ≡ 1 → b ≡ session.bidder → form_values forms ≡ forms_in lists b → All (IsFirstJob lists) jobs'
 jobs-more lists jobs jobs' job b session forms more before is with_forms first bidder are =
     All-same (IsFirstJob lists) jobs' (jobs ++ job ∷ []) more
@@ -140,27 +143,27 @@ accepted-more [] (p ∷ pairs) form pair before one = absurd before
 accepted-more (f ∷ forms) [] form pair before one = absurd before
 accepted-more (f ∷ forms) (p ∷ pairs) form pair before one = (before.0, accepted-more forms pairs form pair before.1 one)
 
-module _ (forms : List NumberedForm) (k : ℕ) (d : NumberedForm) (small : k < length forms) where
-  value-here : slice_index_or (form_values forms) k (arc_value d.form) ≡ arc_value (slice_index_or forms k d).form
-  value-here = get_or-map (λ (f : NumberedForm). arc_value f.form) forms k d (arc_value d.form) small
+module _ (forms : List Shared) (k : ℕ) (d : Shared) (small : k < length forms) (stands : d ≡ slice_index_or forms k d) where
+  value-here : slice_index_or (form_values forms) k (arc_value d) ≡ arc_value d
+  value-here = get_or-map (λ (f : Shared). arc_value f) forms k d (arc_value d) small ∙ ap (λ (f : Shared). arc_value f) (sym stands)
 
   inside : k < length (form_values forms)
-  inside = omega (arith, length-map forms (λ (f : NumberedForm). arc_value f.form))
+  inside = omega (arith, length-map forms (λ (f : Shared). arc_value f))
 
   -- the form at a place is its bidder's, and meets the rules
-  pub form-here : (t : Terms) (b : ℕ) → AreFormsOf t b (form_values forms) → IsFormOf t b (arc_value (slice_index_or forms k d).form)
-  form-here t b own = subst (IsFormOf t b) value-here (own k (arc_value d.form) inside)
+  pub form-here : (t : Terms) (b : ℕ) → AreFormsOf t b (form_values forms) → IsFormOf t b (arc_value d)
+  form-here t b own = subst (IsFormOf t b) value-here (own k (arc_value d) inside)
 
   -- the form at a place was accepted after those before it
   pub accepted-here : (before after : Holding) (caller : Caller) (own own' : List (Call Offers × Reply Offers)) (share share' : ℕ) (over : Option ℕ) (reply : Reply Offers) (number : ℕ)
       → AreAccepted (take k (form_values forms)) own → reply ≡ Accepted number
-      → (reply ≢ CallLimit → IsRecorded before after caller own own' share share' (Submit (arc_value (slice_index_or forms k d).form) over) reply)
+      → (reply ≢ CallLimit → IsRecorded before after caller own own' share share' (Submit (arc_value d) over) reply)
       → AreAccepted (take (k + 1) (form_values forms)) own'
   accepted-here before after caller own own' share share' over reply number accepted is recorded =
-      let form = arc_value (slice_index_or forms k d).form in
+      let form = arc_value d in
       let other : reply ≢ CallLimit = (λ limit. absurd (cc)) in
       let taken : take (k + 1) (form_values forms) ≡ take k (form_values forms) ++ form ∷ [] =
-      take_more (form_values forms) k (arc_value d.form) inside ∙ ap (λ (o : Offers). take k (form_values forms) ++ o ∷ []) value-here in
+      take_more (form_values forms) k (arc_value d) inside ∙ ap (λ (o : Offers). take k (form_values forms) ++ o ∷ []) value-here in
       subst (λ xs. AreAccepted xs own') (sym taken)
       (subst (AreAccepted (take k (form_values forms) ++ form ∷ [])) (sym (recorded other).own_is)
       (accepted-more (take k (form_values forms)) own form (Submit form over, reply) accepted (over, number, ap (λ (r : Reply Offers). (Submit form over, r)) is)))

@@ -1,17 +1,19 @@
 -- What a point of a program wins.
-use Rattle.std.proofs.Common.{◌≡◌, ◌<◌, ◌+◌, ◌++◌, ◌∙◌, ℕ, Bool, true, false, List, [], ◌∷◌, Some, length, refl, ap, sym, suc, inl, inr, arith}
+use Rattle.std.proofs.Common.{◌≡◌, ◌≤◌, ℕ, Bool, true, false, List, [], ◌∷◌, Option, None, Some, length, refl, ap, sym, zero, suc, arith}
 use Rattle.std.specs.Prelude.{not, ◌&&◌, is_some, slice_get, slice_index_or, IfOk, OnErr, Result, Ok, Err}
-use Rattle.std.proofs.lemmas.Bool.Decides.{leb_tells}
-use denote.Ref.{Bor}
+use Rattle.std.specs.Option.{option_map, option_map_or}
 use Rattle.auction_terms.specs.declared.choices.Choice.{Choice}
 use Rattle.auction_terms.specs.Allocations.{Book, IsFeasible, bid_of, is_eligible}
 use Rattle.auction_terms.specs.Packages.{Lots}
 use Rattle.program_rows.specs.Points.{AreAllowed}
 use Rattle.program_rows.specs.Program.{TableColumn}
-use Rattle.group_compiler.specs.Compiled.{GroupProgram}
-use Rattle.wdp.specs.Refusals.{TellPoints}
-use Rattle.wdp.specs.Won.{IsWon}
-use Rattle.wdp.proofs.ListFacts.{get-before-push, get-pushed}
+use Rattle.outcome.specs.Solution.{solution}
+use Rattle.outcome.specs.Winning.{allocation_of}
+use Rattle.outcome.specs.declared.fault.SolutionFault.{SolutionFault}
+use Rattle.program_rows.specs.Program.{Table}
+use Rattle.wdp.specs.Stages.{refused_as}
+use Rattle.wdp.specs.Winners.{solution_refused, winners_by}
+use Rattle.wdp.proofs.StageFacts.{next}
 
 -- there is a value for each column
 pub allowed-length : (columns : List TableColumn) (values : List Bool) → AreAllowed columns values → length values ≡ length columns
@@ -45,32 +47,18 @@ pub on-err-of : {T E P : Type 0} (r : Result T E) → P → OnErr r P
 on-err-of (Ok x) holds = tt
 on-err-of (Err e) holds = holds
 
--- for each of the first programs and its solution, what that wins
-abbrev pub WonBefore : ℕ → List GroupProgram → List (Bor (List ℕ)) → List (List Choice) → Type 0
-WonBefore n programs solutions all = (i : ℕ) (c : GroupProgram) (text : Bor (List ℕ)) → i < n → slice_get programs i ≡ Some c → slice_get solutions i ≡ Some text → (a : List Choice) × (slice_get all i ≡ Some a) × IsWon c.program text.now a
+-- what a point of the program wins
+pub won-by : (p : Table) (number : ℕ) (text : List ℕ) (point : List Bool) (a : List Choice) → Ok point ≡ solution p text → a ≡ allocation_of p point → winners_by p number text ≡ Ok a
+won-by p number text point a tells is =
+    next _ _ _ _ (ap (λ (r : Result (List Bool) SolutionFault). refused_as (solution_refused p number) r) (sym tells)) (ap (λ (won : List Choice). Ok won) (sym is))
 
-some-same : {X : Type 0} (x y : X) → Some x ≡ Some y → x ≡ y
-some-same x y is = cc
+-- the name at a place, where there is one
+pub name-at : {X : Type 0} (name : X → List ℕ) (found : Option X) (bytes : List ℕ) → option_map name found ≡ Some bytes → bytes ≡ option_map_or name found []
+name-at name (Some x) bytes is = cc
+name-at name None bytes is = absurd (cc)
 
--- the next allocation comes to the others
-pub won-more : (programs : List GroupProgram) (solutions : List (Bor (List ℕ))) (n : ℕ) (all more : List (List Choice)) (c : GroupProgram) (text : Bor (List ℕ)) (a : List Choice)
-    → length all ≡ n → WonBefore n programs solutions all → slice_get programs n ≡ Some c → slice_get solutions n ≡ Some text → IsWon c.program text.now a → more ≡ all ++ a ∷ []
-    → WonBefore (n + 1) programs solutions more
-won-more programs solutions n all more c text a count before program solution won added i d told small at_program at_solution = elim (leb_tells (i + 1) n) [
-  | inl (_, less) ↦ (
-      let near : i < n = omega arith in
-      let (chosen, stands, wins) = before i d told near at_program at_solution in
-      (chosen, ap (λ xs. slice_get xs i) added ∙ get-before-push all i a chosen stands, wins))
-  | inr (_, least) ↦ (
-      let same : i ≡ n = omega arith in
-      let last : i ≡ length all = same ∙ sym count in
-      let c_is : d ≡ c = some-same d c (sym at_program ∙ ap (slice_get programs) same ∙ program) in
-      let text_is : told ≡ text = some-same told text (sym at_solution ∙ ap (slice_get solutions) same ∙ solution) in
-      (a, ap (λ xs. slice_get xs i) added ∙ ap (slice_get (all ++ a ∷ [])) last ∙ get-pushed all a, rw (c_is, text_is) won))
-]
-
--- a solution that wins tells a point
-pub points-told : (n : ℕ) (programs : List GroupProgram) (solutions : List (Bor (List ℕ))) (all : List (List Choice)) → WonBefore n programs solutions all → TellPoints n programs solutions
-points-told n programs solutions all before i c text small at_program at_solution =
-    let (a, stands, (point, tells, wins)) = before i c text small at_program at_solution in
-    (point, tells)
+-- the name at a place where there is none
+pub no-name : {X : Type 0} (name : X → List ℕ) (xs : List X) (k : ℕ) → length xs ≤ k → option_map_or name (slice_get xs k) [] ≡ []
+no-name name [] k least = refl
+no-name name (x ∷ xs) zero least = absurd (omega arith)
+no-name name (x ∷ xs) (suc k) least = no-name name xs k (omega arith)

@@ -2,6 +2,7 @@
 use Rattle.std.specs.Prelude.{◌≡◌, ◌==◌, ◌+◌, ◌++◌, Bool, true, false, ⊤, ℕ, List, [], ◌∷◌, Option, None, Some, Result, Ok, Err, codes, filter, if◌then◌else◌, is_some, length, map}
 use Rattle.std.specs.Option.{option_map_or}
 use Rattle.std.specs.Str.{bytes_eq}
+use denote.Ref.{Bor}
 use Rattle.auction_terms.specs.FirstFault.{first_failed, first_fault, option_or}
 use Rattle.auction_terms.specs.Lines.{is_line_feed, lines_of}
 use Rattle.wdp.specs.declared.part_kind.PartKind.{PartKind}
@@ -104,14 +105,12 @@ added kind.Form bytes input = record input { forms = input.forms ++ bytes ∷ []
 added kind.Groups bytes input = record input { groups = input.groups ++ bytes ∷ [] }
 added kind.Solution bytes input = record input { solutions = input.solutions ++ bytes ∷ [] }
 
+abbrev pub bytes_of : List (Bor (List ℕ)) → List (List ℕ)
+bytes_of texts = map (λ (text : Bor (List ℕ)). text.now) texts
+
 -- what the lists of borrowed bytes stand for
 abbrev pub values : Parts → SplitInput
-values p = record {
-  rules = map (λ bytes. bytes.now) p.rules.items;
-  forms = map (λ bytes. bytes.now) p.forms.items;
-  groups = map (λ bytes. bytes.now) p.groups.items;
-  solutions = map (λ bytes. bytes.now) p.solutions.items;
-}
+values p = record { rules = bytes_of p.rules.items; forms = bytes_of p.forms.items; groups = bytes_of p.groups.items; solutions = bytes_of p.solutions.items }
 
 -- the parts, where the input has no fault, and else the first fault; or want of memory stands in their place
 abbrev pub Tells : Result Parts PartFault → List ℕ → Type 0

@@ -3,6 +3,7 @@ use Rattle.std.specs.Prelude.{◌≡◌, ◌≢◌, ◌≤◌, ◌==◌, ◌∷�
 use Rattle.std.specs.Arc.{arc_value}
 use Rattle.std.specs.List.{AllZip, last_or}
 use Rattle.std.specs.declared.alloc.Global.{Global}
+use Rattle.std.specs.declared.sync.Arc.{Arc}
 use Rattle.std.specs.declared.vec.Vec.{Vec}
 use Rattle.auction_terms.specs.Terms.{Terms}
 use Rattle.bid_forms.specs.Offers.{Meets, Offers}
@@ -15,7 +16,6 @@ use Rattle.bid_book.specs.declared.reply.Reply.TheVariants.{Accepted}
 use Rattle.bid_desk.specs.Closing.{Closing, form_standing}
 use Rattle.bid_desk.specs.Holding.{SessionOwn}
 use Rattle.bid_desk.specs.Sessions.{IsSessionOf}
-use Rattle.wdp.specs.declared.numbered_form.NumberedForm.{NumberedForm}
 
 -- the forms of a bidder among these, in order
 abbrev pub forms_of : ℕ → List Offers → List Offers
@@ -34,19 +34,19 @@ abbrev pub AreFormsOf : Terms → ℕ → List Offers → Type 0
 AreFormsOf t bidder forms = All (IsFormOf t bidder) forms
 
 -- the forms out of their shares
-abbrev pub form_values : List NumberedForm → List Offers
-form_values forms = map (λ (f : NumberedForm). arc_value f.form) forms
+abbrev pub form_values : List (Arc Offers Global) → List Offers
+form_values forms = map (λ (form : Arc Offers Global). arc_value form) forms
 
 -- the forms in list b of these, out of their shares; where there is no list, none
-abbrev pub forms_in : List (Vec NumberedForm Global) → ℕ → List Offers
-forms_in lists b = slice_index_or (map (λ (list : Vec NumberedForm Global). form_values list.items) lists) b []
+abbrev pub forms_in : List (Vec (Arc Offers Global) Global) → ℕ → List Offers
+forms_in lists b = slice_index_or (map (λ (list : Vec (Arc Offers Global) Global). form_values list.items) lists) b []
 
 -- list b has the forms of bidder b among these, in order
-abbrev pub AreByBidder : List Offers → List (Vec NumberedForm Global) → Type 0
+abbrev pub AreByBidder : List Offers → List (Vec (Arc Offers Global) Global) → Type 0
 AreByBidder forms lists = (b : ℕ) → forms_in lists b ≡ forms_of b forms
 
 -- each list has grown by this form, if it is of its bidder
-abbrev pub HaveOneMore : Offers → List (Vec NumberedForm Global) → List (Vec NumberedForm Global) → Type 0
+abbrev pub HaveOneMore : Offers → List (Vec (Arc Offers Global) Global) → List (Vec (Arc Offers Global) Global) → Type 0
 HaveOneMore form lists lists' = (b : ℕ) → forms_in lists' b ≡ forms_in lists b ++ forms_of b (form ∷ [])
 
 -- a form was submitted, over whatever number stood, and accepted
@@ -63,7 +63,7 @@ pub record JobOwn : Type 0 where
   pub forms : List Offers
 
 -- a first session, with the forms in the list of its bidder
-pub record IsFirstJob (lists : List (Vec NumberedForm Global)) (job : JobOwn) : Type 0 where
+pub record IsFirstJob (lists : List (Vec (Arc Offers Global) Global)) (job : JobOwn) : Type 0 where
   pub first : job.session.session ≡ 1
   pub forms : job.forms ≡ forms_in lists job.session.bidder
 
@@ -74,7 +74,7 @@ pub record ComesTo {E : Type 0} (job : JobOwn) (session : SessionOwn) (ended : R
   pub accepted : OnOk ended (AreAccepted job.forms session.pairs)
 
 -- a session that made no call; if it is a first one, the list of its bidder is empty
-pub record IsIdle (lists : List (Vec NumberedForm Global)) (session : SessionOwn) : Type 0 where
+pub record IsIdle (lists : List (Vec (Arc Offers Global) Global)) (session : SessionOwn) : Type 0 where
   pub fresh : session.pairs ≡ []
   pub none : session.session ≡ 1 → forms_in lists session.bidder ≡ []
 

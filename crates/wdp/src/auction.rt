@@ -1,57 +1,79 @@
 //! The auction that an input tells.
 
-ghost use Rattle.std.specs.Prelude.{IfErr, IfOk, List};
-ghost use Rattle.bid_forms.specs.Offers.{Offers};
-ghost use Rattle.wdp.specs.InputTexts.{TellForms, TellsGroups, TellsRules};
-ghost use Rattle.wdp.specs.Refusals.{RefusesAuction, RefusesBook};
-ghost use Rattle.wdp.specs.Submissions.{AreSubmitted};
+ghost use Rattle.std.specs.Prelude.{◌≡◌, IfErr, IfOk, Ok};
+ghost use Rattle.wdp.specs.Auction.{auction_told};
+ghost use Rattle.wdp.specs.Exact.{HoldsForms, Refuses, RefusesAuction, held};
+ghost use Rattle.wdp.specs.Parts.{bytes_of, values};
+ghost use Rattle.wdp.specs.PartsTold.{parts_told};
+ghost use Rattle.wdp.specs.TextsTold.{forms_told, groups_told, terms_told};
 
-use crate::parts::Parts;
-use crate::reading::read_terms;
-use crate::refusal::{CountedPart, Refusal};
+use crate::calls::check_calls;
+use crate::parts::{Parts, split_parts};
+use crate::reading::{miscounted, only_text, read_forms};
+use crate::refusal::Refusal;
+use crate::request::Request;
 use crate::round::close_round;
-use auction_terms::{Groups, read_groups};
+use auction_terms::{Groups, Rules, read_groups, read_rules};
 use bid_desk::ClosedBook;
 use std::alloc::Global;
 use std::sync::Wait;
 use std::thread::Threads;
 
-/// A settled auction, and the groups that are left out of it.
+/// A settled auction, the groups that are left out of it, and the texts of solutions.
 #[derive(Drop)]
-pub struct Auction {
+pub struct Auction<'t> {
     pub book: ClosedBook,
     pub groups: Groups,
+    pub solutions: Vec<&'t [u8]>,
 }
 
-/// Reads the rules, the forms and the groups, and runs the round.
-pub fn read_auction<R: Threads + Wait + Sync + AllocGlobal>(
+// The parts of a text, as many as the request takes.
+fn read_parts<'t>(alloc: Global, request: &Request, text: &'t [u8]) -> Result<Parts<'t>, Refusal>
+    ensures told { IfOk result (λ parts. parts_told request.now text.now ≡ Ok (values parts)) }
+    ensures refuses { IfErr result (Refuses (parts_told request.now text.now)) }
+{
+    let parts = split_parts(alloc, text)?;
+    match miscounted(request, &parts) {
+        None => Ok(parts),
+        Some(part) => Err(Refusal::PartCount(part)),
+    }
+}
+
+fn rules_in(alloc: Global, texts: &[&[u8]]) -> Result<Rules, Refusal>
+    ensures told { IfOk result (λ rules. terms_told (bytes_of texts.now) ≡ Ok rules) }
+    ensures refuses { IfErr result (Refuses (terms_told (bytes_of texts.now))) }
+{
+    Ok(read_rules(alloc, only_text(texts))?)
+}
+
+fn groups_in(alloc: Global, texts: &[&[u8]], rules: &Rules) -> Result<Groups, Refusal>
+    ensures told { IfOk result (λ groups. groups_told rules.now (bytes_of texts.now) ≡ Ok groups) }
+    ensures refuses { IfErr result (Refuses (groups_told rules.now (bytes_of texts.now))) }
+{
+    Ok(read_groups(alloc, only_text(texts), rules)?)
+}
+
+/// Reads the rules, the forms and the groups, tests the call limit, and runs the round.
+pub fn read_auction<'t, R: Threads + Wait + Sync + AllocGlobal>(
     rt: &R,
-    parts: &Parts<'_>,
-) -> Result<Auction, Refusal>
-    ensures rules { IfOk result (λ auction. TellsRules parts.now.rules.items auction.book.rules) }
-    ensures forms { IfOk result (λ auction. (forms : List Offers) × TellForms auction.book.rules parts.now.forms.items forms × AreSubmitted forms auction.book) }
-    ensures groups { IfOk result (λ auction. TellsGroups auction.book.rules parts.now.groups.items auction.groups) }
-    ensures refuses { IfErr result (RefusesAuction parts.now) }
+    request: &Request,
+    text: &'t [u8],
+) -> Result<Auction<'t>, Refusal>
+    ensures told { IfOk result (λ auction. auction_told request.now text.now ≡ Ok (held auction)) }
+    ensures submitted { IfOk result (λ auction. HoldsForms request.now text.now auction.book) }
+    ensures refuses { IfErr result (RefusesAuction request.now text.now) }
 {
     let alloc: Global = rt.alloc();
-    let (rules, forms) = read_terms(rt, alloc, parts)?;
-    let [text] = parts.groups.as_slice() else {
-        return Err(Refusal::PartCount(CountedPart::Groups));
-    };
-    let groups = read_groups(alloc, *text, &rules)?;
+    let parts = read_parts(alloc, request, text)?;
+    let rules = rules_in(alloc, parts.rules.as_slice())?;
+    let forms = read_forms(rt, alloc, parts.forms.as_slice(), &rules)?;
+    let groups = groups_in(alloc, parts.groups.as_slice(), &rules)?;
+    check_calls(forms.as_slice())?;
     let book = close_round(rt, rules, forms)?;
-    Ok(Auction { book, groups })
-}
-
-/// Reads the rules and the forms, and runs the round.
-pub fn read_book<R: Threads + Wait + Sync + AllocGlobal>(
-    rt: &R,
-    parts: &Parts<'_>,
-) -> Result<ClosedBook, Refusal>
-    ensures rules { IfOk result (λ book. TellsRules parts.now.rules.items book.rules) }
-    ensures forms { IfOk result (λ book. (forms : List Offers) × TellForms book.rules parts.now.forms.items forms × AreSubmitted forms book) }
-    ensures refuses { IfErr result (RefusesBook parts.now) }
-{
-    let (rules, forms) = read_terms(rt, rt.alloc(), parts)?;
-    Ok(close_round(rt, rules, forms)?)
+    let Parts { solutions, .. } = parts;
+    Ok(Auction {
+        book,
+        groups,
+        solutions,
+    })
 }

@@ -1,9 +1,9 @@
 //! The forms of the input, by bidder.
 
 ghost use Rattle.std.specs.Prelude.{◌≡◌, ◌+◌, ◌<◌, ◌≤◌, [], All, IfOk, OnOk, vec_len};
+ghost use Rattle.auction_terms.specs.declared.limits.TheConstants.{MOST_BIDDERS};
 ghost use Rattle.wdp.specs.Submissions.{AreByBidder, HaveOneMore, form_values, forms_in};
 
-use crate::numbered_form::NumberedForm;
 use bid_forms::Form;
 use std::alloc::{AllocError, Global};
 use std::sync::Arc;
@@ -13,21 +13,19 @@ pub fn by_bidder(
     alloc: Global,
     bidders: usize,
     forms: Vec<Form>,
-) -> Result<Vec<Vec<NumberedForm>>, AllocError>
-    requires few { bidders ≤ 256 }
+) -> Result<Vec<Vec<Arc<Form, Global>>>, AllocError>
+    requires few { bidders ≤ MOST_BIDDERS }
     requires known { All (λ form. form.bidder ≤ bidders) forms.items }
     ensures { IfOk result (λ lists. AreByBidder forms.items lists.items) }
 {
     let mut lists = empty_lists(alloc, bidders + 1)?;
-    let mut number = 0;
     for form in forms {
-        number += 1;
-        add_form(alloc, &mut lists, number, form)?;
+        add_form(alloc, &mut lists, form)?;
     }
     Ok(lists)
 }
 
-fn empty_lists(alloc: Global, count: usize) -> Result<Vec<Vec<NumberedForm>>, AllocError>
+fn empty_lists(alloc: Global, count: usize) -> Result<Vec<Vec<Arc<Form, Global>>>, AllocError>
     ensures count { IfOk result (λ lists. vec_len lists ≡ count) }
     ensures lists { IfOk result (λ lists. AreByBidder [] lists.items) }
 {
@@ -41,8 +39,7 @@ fn empty_lists(alloc: Global, count: usize) -> Result<Vec<Vec<NumberedForm>>, Al
 // Adds a form to its bidder's.
 fn add_form(
     alloc: Global,
-    lists: &mut Vec<Vec<NumberedForm>>,
-    number: usize,
+    lists: &mut Vec<Vec<Arc<Form, Global>>>,
     form: Form,
 ) -> Result<(), AllocError>
     requires { form.bidder < vec_len lists.old }
@@ -51,12 +48,12 @@ fn add_form(
 {
     let bidder = usize::from(form.bidder());
     let form = Arc::new(alloc, form)?;
-    lists[bidder].push(NumberedForm { number, form })?;
+    lists[bidder].push(form)?;
     Ok(())
 }
 
 /// The forms of a bidder.
-pub fn forms_in(lists: &[Vec<NumberedForm>], bidder: u16) -> &[NumberedForm]
+pub fn forms_in(lists: &[Vec<Arc<Form, Global>>], bidder: u16) -> &[Arc<Form, Global>]
     ensures { form_values result.now ≡ forms_in lists.now bidder }
 {
     match lists.get(usize::from(bidder)) {

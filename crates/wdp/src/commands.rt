@@ -1,23 +1,25 @@
 //! The commands.
 
-ghost use Rattle.std.specs.Io.KnownBytes.{Appends};
-ghost use Rattle.std.specs.Prelude.{◌≡◌, ◌≤◌, ◌-◌, [], ◌∷◌, IfErr, IfOk, List, OnErr, OnOk, ℕ, false, length, map, slice_index_or, true, vec_len};
+ghost use Rattle.wdp.specs.GroupTexts.{IsFaithfulWithout};
+ghost use Rattle.std.specs.Prelude.{◌≡◌, ◌≤◌, ◌-◌, [], IfErr, IfOk, Ok, OnOk, false, length, map, slice_index_or, vec_len};
 ghost use Rattle.auction_terms.specs.Allocations.{IsFeasible};
 ghost use Rattle.auction_terms.specs.Terms.{lots_in};
 ghost use Rattle.bid_desk.specs.Closing.{book_of};
 ghost use Rattle.group_compiler.specs.Compiled.{compiled, program_without};
-ghost use Rattle.mps_text.specs.Text.{text};
-ghost use Rattle.wdp.specs.Output.{IsQuietUnlessFailed};
-ghost use Rattle.wdp.specs.Outputs.{IsAnswered, IsFaithfulWithout, WritesPrograms, WritesReport, WritesSizes, WritesText, WritesWinners};
-ghost use Rattle.wdp.specs.Refusals.{IsRefused, IsUnwritten, Refuses, RefusesSolution, RefusesSolutions, TellsAuction, TellsParts, groups_taken, solutions_taken, takes_parts};
+ghost use Rattle.outcome.specs.Sale.{sale_of};
+ghost use Rattle.std.specs.List.{zip};
+ghost use Rattle.wdp.specs.Commands.{costs_text, text_of_all, texts_of_groups, winners_text};
+ghost use Rattle.wdp.specs.Exact.{Ends, IsUnwritten, IsWritten, Refuses, Writes, held};
+ghost use Rattle.wdp.specs.Parts.{bytes_of};
 ghost use Rattle.wdp.specs.Requests.{IsWithinLimits};
-ghost use Rattle.wdp.specs.Won.{AreWon, IsWon};
+ghost use Rattle.wdp.specs.Runs.{IsAnswered, IsRefused};
+ghost use Rattle.wdp.specs.Stages.{each_in_turn};
+ghost use Rattle.wdp.specs.Winners.{winners, winners_by};
 
-use crate::auction::{Auction, read_auction, read_book};
+use crate::auction::{Auction, read_auction};
 use crate::compile_run::run_compile;
 use crate::input::read_input;
-use crate::parts::{Parts, split_parts};
-use crate::reading::{Count, count_parts};
+use crate::reading::only_text;
 use crate::refusal::{CountedPart, Refusal};
 use crate::report_run::allocations_won;
 use crate::request::Request;
@@ -44,45 +46,29 @@ pub fn answer<R: Threads + Wait + Sync + AllocGlobal, I: Read, S: Sink>(
 ) -> Result<(), Refusal>
     requires { IsWithinLimits request }
     ensures answered { OnOk result (IsAnswered request (I.remaining input.old) (I.remaining input.new) (S.taken out.old) (S.taken out.new)) }
-    ensures refused { OnErr result (IsQuietUnlessFailed (S.taken out.old) (S.taken out.new) (S.failures out.old) (S.failures out.new)) }
-    ensures refuses { IfErr result (IsRefused request (I.remaining input.old) (I.remaining input.new) (S.failures out.old) (S.failures out.new)) }
+    ensures refused { IfErr result (IsRefused request (I.remaining input.old) (I.remaining input.new) (S.taken out.old) (S.taken out.new) (S.failures out.old) (S.failures out.new)) }
 {
     let text = read_input(rt.alloc(), input)?;
-    match request {
-        Request::Text => write_text(rt, text.as_slice(), out),
-        Request::Compile { workers } => compile(rt, text.as_slice(), workers, out),
-        Request::Check => check(rt.alloc(), text.as_slice(), out),
-        Request::Map { group } => map(rt, text.as_slice(), group, out),
-        Request::Report { workers } => write_report(rt, text.as_slice(), workers, out),
-    }
+    answer_text(rt, request, text.as_slice(), out)
 }
 
-// The parts of a text, as many as the request takes.
-fn parts_for<'t>(alloc: Global, request: Request, text: &'t [u8]) -> Result<Parts<'t>, Refusal>
-    ensures told { IfOk result (TellsParts request text.now) }
-    ensures refuses { takes_parts request ≡ true → IfErr result (λ r. (failures failures' : ℕ) → Refuses failures failures' request text.now r) }
-{
-    let parts = split_parts(alloc, text)?;
-    count_parts(&parts, groups_taken(&request), solutions_taken(&request))?;
-    Ok(parts)
-}
-
-fn groups_taken(request: &Request) -> usize
-    ensures { result ≡ groups_taken request.now }
+// Writes what is asked for of a text.
+fn answer_text<R: Threads + Wait + Sync + AllocGlobal, S: Sink>(
+    rt: &R,
+    request: Request,
+    text: &[u8],
+    out: &mut S,
+) -> Result<(), Refusal>
+    requires { IsWithinLimits request }
+    ensures written { OnOk result (IsWritten request text.now (S.taken out.old) (S.taken out.new)) }
+    ensures refused { IfErr result (IsUnwritten request text.now (S.taken out.old) (S.taken out.new) (S.failures out.old) (S.failures out.new)) }
 {
     match request {
-        Request::Text => 0,
-        _ => 1,
-    }
-}
-
-fn solutions_taken(request: &Request) -> Count
-    ensures { result ≡ solutions_taken request.now }
-{
-    match request {
-        Request::Map { group: _ } => Count::Exactly(1),
-        Request::Report { workers: _ } => Count::PerGroup,
-        _ => Count::Exactly(0),
+        Request::Text => write_text(rt, text, out),
+        Request::Compile { workers } => compile(rt, text, workers, out),
+        Request::Check => check(rt.alloc(), text, out),
+        Request::Map { group } => map(rt, text, group, out),
+        Request::Report { workers } => write_report(rt, text, workers, out),
     }
 }
 
@@ -95,29 +81,26 @@ fn compile<R: Threads + Wait + Sync + AllocGlobal, S: Sink>(
 ) -> Result<(), Refusal>
     requires some { 1 ≤ workers }
     requires few { workers ≤ 64 }
-    ensures answer { OnOk result (WritesPrograms text.now (S.taken out.old) (S.taken out.new)) }
-    ensures refused { OnErr result (IsQuietUnlessFailed (S.taken out.old) (S.taken out.new) (S.failures out.old) (S.failures out.new)) }
-    ensures refuses { IfErr result (Refuses (S.failures out.old) (S.failures out.new) (Request.Compile workers) text.now) }
+    ensures written { OnOk result (IsWritten (Request.Compile workers) text.now (S.taken out.old) (S.taken out.new)) }
+    ensures refused { IfErr result (IsUnwritten (Request.Compile workers) text.now (S.taken out.old) (S.taken out.new) (S.failures out.old) (S.failures out.new)) }
 {
-    let parts = parts_for(rt.alloc(), Request::Compile { workers }, text)?;
-    let auction = read_auction(rt, &parts)?;
+    let auction = read_auction(rt, &Request::Compile { workers }, text)?;
     write_programs_of(rt, &auction, workers, out)
 }
 
-// The programs of all groups of an auction, which some input tells.
+// The programs of all groups of an auction.
 fn write_programs_of<R: Threads + Wait + Sync + AllocGlobal, S: Sink>(
     rt: &R,
-    auction: &Auction,
+    auction: &Auction<'_>,
     workers: usize,
     out: &mut S,
 ) -> Result<(), Refusal>
     requires some { 1 ≤ workers }
     requires few { workers ≤ 64 }
-    ensures answer { (input : List ℕ) (parts : Parts) → TellsAuction (Request.Compile workers) input parts auction.now.book auction.now.groups → OnOk result (WritesPrograms input (S.taken out.old) (S.taken out.new)) }
-    ensures refused { OnErr result (IsQuietUnlessFailed (S.taken out.old) (S.taken out.new) (S.failures out.old) (S.failures out.new)) }
-    ensures refuses { (input : List ℕ) (parts : Parts) → TellsAuction (Request.Compile workers) input parts auction.now.book auction.now.groups → IfErr result (Refuses (S.failures out.old) (S.failures out.new) (Request.Compile workers) input) }
+    ensures written { OnOk result (Writes (texts_of_groups (held auction.now)) (S.taken out.old) (S.taken out.new)) }
+    ensures refused { IfErr result (Ends (texts_of_groups (held auction.now)) (S.taken out.old) (S.taken out.new) (S.failures out.old) (S.failures out.new)) }
 {
-    let Auction { book, groups } = auction;
+    let Auction { book, groups, .. } = auction;
     match run_compile(rt, rt.alloc(), book, groups, workers, &OpenGate, out) {
         Ok(()) => Ok(()),
         Err(RunFault::OutOfMemory { written: _ }) => Err(Refusal::OutOfMemory),
@@ -129,9 +112,8 @@ fn write_programs_of<R: Threads + Wait + Sync + AllocGlobal, S: Sink>(
 
 // The sizes of the program that the input is the text of.
 fn check<S: Sink>(alloc: Global, text: &[u8], out: &mut S) -> Result<(), Refusal>
-    ensures answer { OnOk result (WritesSizes text.now (S.taken out.old) (S.taken out.new)) }
-    ensures refused { OnErr result (IsQuietUnlessFailed (S.taken out.old) (S.taken out.new) (S.failures out.old) (S.failures out.new)) }
-    ensures refuses { IfErr result (Refuses (S.failures out.old) (S.failures out.new) Request.Check text.now) }
+    ensures written { OnOk result (IsWritten Request.Check text.now (S.taken out.old) (S.taken out.new)) }
+    ensures refused { IfErr result (IsUnwritten Request.Check text.now (S.taken out.old) (S.taken out.new) (S.failures out.old) (S.failures out.new)) }
 {
     let program = read_program(alloc, text)?;
     write_sizes(&program, out)?;
@@ -144,29 +126,26 @@ fn write_text<R: Threads + Wait + Sync + AllocGlobal, S: Sink>(
     text: &[u8],
     out: &mut S,
 ) -> Result<(), Refusal>
-    ensures answer { OnOk result (WritesText text.now (S.taken out.old) (S.taken out.new)) }
-    ensures refused { OnErr result (IsQuietUnlessFailed (S.taken out.old) (S.taken out.new) (S.failures out.old) (S.failures out.new)) }
-    ensures refuses { IfErr result (Refuses (S.failures out.old) (S.failures out.new) Request.Text text.now) }
+    ensures written { OnOk result (IsWritten Request.Text text.now (S.taken out.old) (S.taken out.new)) }
+    ensures refused { IfErr result (IsUnwritten Request.Text text.now (S.taken out.old) (S.taken out.new) (S.failures out.old) (S.failures out.new)) }
 {
-    let parts = parts_for(rt.alloc(), Request::Text, text)?;
-    let book = read_book(rt, &parts)?;
-    write_program_of_all(rt, &book, out)
+    let auction = read_auction(rt, &Request::Text, text)?;
+    write_program_of_all(rt, &auction, out)
 }
 
 // The text of the program with nobody left out.
 fn write_program_of_all<R: Threads + Wait + Sync + AllocGlobal, S: Sink>(
     rt: &R,
-    book: &ClosedBook,
+    auction: &Auction<'_>,
     out: &mut S,
 ) -> Result<(), Refusal>
-    ensures written { OnOk result (Appends (S.taken out.old) (S.taken out.new) (text (program_without book.now []))) }
-    ensures faithful { OnOk result (IsFaithfulWithout book.now []) }
-    ensures refused { OnErr result (IsQuietUnlessFailed (S.taken out.old) (S.taken out.new) (S.failures out.old) (S.failures out.new)) }
-    ensures refuses { IfErr result (IsUnwritten (S.failures out.old) (S.failures out.new)) }
+    ensures written { OnOk result (Writes (text_of_all (held auction.now)) (S.taken out.old) (S.taken out.new)) }
+    ensures faithful { OnOk result (IsFaithfulWithout auction.now.book []) }
+    ensures refused { IfErr result (Ends (text_of_all (held auction.now)) (S.taken out.old) (S.taken out.new) (S.failures out.old) (S.failures out.new)) }
 {
     let alloc: Global = rt.alloc();
     let groups = Groups::only_empty(alloc)?;
-    let compiled = compile_one(rt, alloc, book, &groups, 1)?;
+    let compiled = compile_one(rt, alloc, &auction.book, &groups, 1)?;
     compiled.write_to(out)?;
     Ok(())
 }
@@ -179,35 +158,29 @@ fn map<R: Threads + Wait + Sync + AllocGlobal, S: Sink>(
     out: &mut S,
 ) -> Result<(), Refusal>
     requires { 1 ≤ k }
-    ensures answer { OnOk result (WritesWinners k text.now (S.taken out.old) (S.taken out.new)) }
-    ensures refused { OnErr result (IsQuietUnlessFailed (S.taken out.old) (S.taken out.new) (S.failures out.old) (S.failures out.new)) }
-    ensures refuses { IfErr result (Refuses (S.failures out.old) (S.failures out.new) (Request.Map k) text.now) }
+    ensures written { OnOk result (IsWritten (Request.Map k) text.now (S.taken out.old) (S.taken out.new)) }
+    ensures refused { IfErr result (IsUnwritten (Request.Map k) text.now (S.taken out.old) (S.taken out.new) (S.failures out.old) (S.failures out.new)) }
 {
-    let parts = parts_for(rt.alloc(), Request::Map { group: k }, text)?;
-    let [solution] = parts.solutions.as_slice() else {
-        return Err(Refusal::PartCount(CountedPart::Solutions));
-    };
-    let auction = read_auction(rt, &parts)?;
-    write_winners(rt, &auction, k, *solution, out)
+    let auction = read_auction(rt, &Request::Map { group: k }, text)?;
+    write_winners(rt, &auction, k, out)
 }
 
-// What the solution wins without group k of an auction, which some input tells with that solution.
+// What the one solution wins without group k of an auction.
 fn write_winners<R: Threads + Wait + Sync + AllocGlobal, S: Sink>(
     rt: &R,
-    auction: &Auction,
+    auction: &Auction<'_>,
     k: usize,
-    solution: &[u8],
     out: &mut S,
 ) -> Result<(), Refusal>
     requires { 1 ≤ k }
-    ensures answer { (input : List ℕ) (parts : Parts) → TellsAuction (Request.Map k) input parts auction.now.book auction.now.groups → parts.solutions.items ≡ solution.entry ∷ [] → OnOk result (WritesWinners k input (S.taken out.old) (S.taken out.new)) }
-    ensures refused { OnErr result (IsQuietUnlessFailed (S.taken out.old) (S.taken out.new) (S.failures out.old) (S.failures out.new)) }
-    ensures refuses { (input : List ℕ) (parts : Parts) → TellsAuction (Request.Map k) input parts auction.now.book auction.now.groups → parts.solutions.items ≡ solution.entry ∷ [] → IfErr result (Refuses (S.failures out.old) (S.failures out.new) (Request.Map k) input) }
+    ensures written { OnOk result (Writes (winners_text k (held auction.now)) (S.taken out.old) (S.taken out.new)) }
+    ensures refused { IfErr result (Ends (winners_text k (held auction.now)) (S.taken out.old) (S.taken out.new) (S.failures out.old) (S.failures out.new)) }
 {
-    let Auction { book, groups } = auction;
+    let Auction { book, groups, .. } = auction;
     if k > groups.count() {
         return Err(Refusal::NoGroup { group: k });
     }
+    let solution = only_text(auction.solutions.as_slice());
     let allocation = won_without(rt, book, groups, k, solution)?;
     write_allocation(book, &allocation, out)?;
     Ok(())
@@ -224,8 +197,8 @@ fn won_without<R: Threads + Wait + Sync + AllocGlobal>(
     requires some { 1 ≤ k }
     requires within { k ≤ length groups.now }
     ensures feasible { IfOk result (λ a. IsFeasible (lots_in book.now.rules) (book_of book.now) (λ b. false) a) }
-    ensures won { IfOk result (IsWon (program_without book.now (slice_index_or groups.now (k - 1) [])) solution.now) }
-    ensures refuses { IfErr result (RefusesSolution (program_without book.now (slice_index_or groups.now (k - 1) [])) solution.now 1) }
+    ensures won { IfOk result (λ a. winners_by (program_without book.now (slice_index_or groups.now (k - 1) [])) 1 solution.now ≡ Ok a) }
+    ensures refuses { IfErr result (Refuses (winners_by (program_without book.now (slice_index_or groups.now (k - 1) [])) 1 solution.now)) }
 {
     let alloc: Global = rt.alloc();
     let compiled = compile_one(rt, alloc, book, groups, k)?;
@@ -248,37 +221,37 @@ fn write_report<R: Threads + Wait + Sync + AllocGlobal, S: Sink>(
 ) -> Result<(), Refusal>
     requires some { 1 ≤ workers }
     requires few { workers ≤ 64 }
-    ensures answer { OnOk result (WritesReport text.now (S.taken out.old) (S.taken out.new)) }
-    ensures refused { OnErr result (IsQuietUnlessFailed (S.taken out.old) (S.taken out.new) (S.failures out.old) (S.failures out.new)) }
-    ensures refuses { IfErr result (Refuses (S.failures out.old) (S.failures out.new) (Request.Report workers) text.now) }
+    ensures written { OnOk result (IsWritten (Request.Report workers) text.now (S.taken out.old) (S.taken out.new)) }
+    ensures refused { IfErr result (IsUnwritten (Request.Report workers) text.now (S.taken out.old) (S.taken out.new) (S.failures out.old) (S.failures out.new)) }
 {
-    let parts = parts_for(rt.alloc(), Request::Report { workers }, text)?;
-    let auction = read_auction(rt, &parts)?;
-    write_costs(rt, &auction, workers, parts.solutions.as_slice(), out)
+    let auction = read_auction(rt, &Request::Report { workers }, text)?;
+    write_costs(rt, &auction, workers, out)
 }
 
-// What the solutions win, and the groups' opportunity costs, of an auction, which some input tells with these solutions.
+// What the solutions of an auction win, and the groups' opportunity costs.
 fn write_costs<R: Threads + Wait + Sync + AllocGlobal, S: Sink>(
     rt: &R,
-    auction: &Auction,
+    auction: &Auction<'_>,
     workers: usize,
-    solutions: &[&[u8]],
     out: &mut S,
 ) -> Result<(), Refusal>
     requires some { 1 ≤ workers }
     requires few { workers ≤ 64 }
-    ensures answer { (input : List ℕ) (parts : Parts) → TellsAuction (Request.Report workers) input parts auction.now.book auction.now.groups → parts.solutions.items ≡ solutions.now → OnOk result (WritesReport input (S.taken out.old) (S.taken out.new)) }
-    ensures refused { OnErr result (IsQuietUnlessFailed (S.taken out.old) (S.taken out.new) (S.failures out.old) (S.failures out.new)) }
-    ensures refuses { (input : List ℕ) (parts : Parts) → TellsAuction (Request.Report workers) input parts auction.now.book auction.now.groups → parts.solutions.items ≡ solutions.now → IfErr result (Refuses (S.failures out.old) (S.failures out.new) (Request.Report workers) input) }
+    ensures written { OnOk result (Writes (costs_text (held auction.now)) (S.taken out.old) (S.taken out.new)) }
+    ensures refused { IfErr result (Ends (costs_text (held auction.now)) (S.taken out.old) (S.taken out.new) (S.failures out.old) (S.failures out.new)) }
 {
-    let Auction { book, groups } = auction;
+    let Auction {
+        book,
+        groups,
+        solutions,
+    } = auction;
     if !groups.starts_empty() {
         return Err(Refusal::FirstGroupNotEmpty);
     }
     if solutions.len() != groups.count() {
         return Err(Refusal::PartCount(CountedPart::Solutions));
     }
-    let allocations = won_by_all(rt, book, groups, workers, solutions)?;
+    let allocations = won_by_all(rt, book, groups, workers, solutions.as_slice())?;
     report(book, groups, allocations.as_slice(), out)?;
     Ok(())
 }
@@ -295,8 +268,8 @@ fn won_by_all<R: Threads + Wait + Sync + AllocGlobal>(
     requires few { workers ≤ 64 }
     requires count { length solutions.now ≡ length groups.now }
     ensures count { IfOk result (λ all. vec_len all ≡ length groups.now) }
-    ensures won { IfOk result (λ all. AreWon (map (compiled book.now) groups.now) solutions.now all.items) }
-    ensures refuses { IfErr result (RefusesSolutions (map (compiled book.now) groups.now) solutions.now) }
+    ensures won { IfOk result (λ all. each_in_turn (winners (sale_of book.now)) 1 (zip groups.now (bytes_of solutions.now)) ≡ Ok all.items) }
+    ensures refuses { IfErr result (Refuses (each_in_turn (winners (sale_of book.now)) 1 (zip groups.now (bytes_of solutions.now)))) }
 {
     let alloc: Global = rt.alloc();
     let programs = compile_all(rt, alloc, book, groups, workers, &OpenGate)?;

@@ -31,6 +31,7 @@ pub fn rules_fault_name<'n>(fault: RulesFault) -> FaultName<'n> {
         RulesFault::NoCategory { place } => FaultName::At(b"10 NoCategory", u64::from(place)),
         RulesFault::NoBidder { place } => FaultName::At(b"11 NoBidder", u64::from(place)),
         RulesFault::OutOfMemory => FaultName::OutOfMemory,
+        RulesFault::NameUnknown { place } => FaultName::At(b"13 NameUnknown", u64::from(place)),
     }
 }
 

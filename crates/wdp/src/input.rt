@@ -1,7 +1,7 @@
 //! Reading the input.
 
-ghost use Rattle.std.specs.Prelude.{◌≡◌, ◌<◌, ◌≤◌, length, IfOk, IfSome};
-ghost use Rattle.std.specs.Io.KnownBytes.{Consumes, IsAtEnd};
+ghost use Rattle.std.specs.Prelude.{IfErr, IfOk};
+ghost use Rattle.wdp.specs.Runs.{IsUntaken, IsWhole};
 
 use std::alloc::{AllocError, Global};
 use std::io::Read;
@@ -34,9 +34,8 @@ impl From<AllocError> for InputFault {
 
 /// Reads all bytes of an input, and at most one byte more than the limit.
 pub fn read_input<I: Read>(alloc: Global, input: &mut I) -> Result<Vec<u8>, InputFault>
-    ensures limit { IfOk result (λ text. length text.items ≤ 134217728) }
-    ensures whole { IfOk result (λ text. Consumes (I.remaining input.old) (I.remaining input.new) text.items × IsAtEnd (I.remaining input.new)) }
-    ensures too_large { result ≡ Err InputFault.TooLarge → IfSome (I.remaining input.old) (λ bytes. 134217728 < length bytes) }
+    ensures whole { IfOk result (λ text. IsWhole (I.remaining input.old) (I.remaining input.new) text.items) }
+    ensures untaken { IfErr result (λ f. IsUntaken f (I.remaining input.old) (I.remaining input.new)) }
 {
     let mut text: Vec<u8> = Vec::new(alloc);
     let mut block = [0u8; BLOCK_LEN];

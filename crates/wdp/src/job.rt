@@ -3,18 +3,19 @@
 ghost use Rattle.std.specs.Prelude.{◌≡◌, [], OnOk, map};
 ghost use Rattle.wdp.specs.Submissions.{AreAccepted, AreFormsOf, ComesTo, form_values};
 
-use crate::numbered_form::NumberedForm;
 use crate::round::RoundFault;
 use bid_book::Reply;
 use bid_desk::{Desk, DeskError, Round, Session};
+use bid_forms::Form;
+use std::alloc::Global;
 use std::marker::Model;
-use std::sync::Wait;
+use std::sync::{Arc, Wait};
 
 /// A session that made no call yet, and the forms of its bidder that it is to submit.
 #[derive(Drop)]
 pub struct Job<'f, L: Round> {
     session: Session<L>,
-    forms: &'f [NumberedForm],
+    forms: &'f [Arc<Form, Global>],
 }
 
 impl<'f, L: Round> Model for Job<'f, L> {
@@ -37,7 +38,7 @@ pub struct Done<L: Round> {
 
 impl<'f, L: Round> Job<'f, L> {
     /// A session that made no call, and forms of its bidder that meet the rules.
-    pub fn new(session: Session<L>, forms: &'f [NumberedForm]) -> Job<'f, L>
+    pub fn new(session: Session<L>, forms: &'f [Arc<Form, Global>]) -> Job<'f, L>
         requires fresh { session.pairs ≡ [] }
         requires forms { AreFormsOf L.rules session.bidder (form_values forms.now) }
         ensures session { result.session ≡ session }
@@ -61,7 +62,7 @@ fn submit_each<L: Round, R: Wait>(
     rt: &R,
     desk: &Desk<L>,
     session: &mut Session<L>,
-    forms: &[NumberedForm],
+    forms: &[Arc<Form, Global>],
 ) -> Result<(), RoundFault>
     requires own { AreFormsOf L.rules session.old.bidder (form_values forms.now) }
     requires fresh { session.old.pairs ≡ [] }
@@ -70,13 +71,8 @@ fn submit_each<L: Round, R: Wait>(
 {
     let mut over = None;
     for place in 0..forms.len() {
-        match desk.enter(rt).submit(session, &forms[place].form, over) {
+        match desk.enter(rt).submit(session, &forms[place], over) {
             Ok(Reply::Accepted { number }) => over = Some(number),
-            Ok(Reply::CallLimit) => {
-                return Err(RoundFault::CallLimit {
-                    form: forms[place].number,
-                });
-            }
             Ok(_) => return Err(RoundFault::WrongAnswer),
             Err(DeskError::OutOfMemory) => return Err(RoundFault::OutOfMemory),
         }

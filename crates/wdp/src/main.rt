@@ -3,13 +3,13 @@
 
 pub mod auction;
 pub mod by_bidder;
+pub mod calls;
 pub mod commands;
 pub mod compile_run;
 pub mod fault_names;
 pub mod group_texts;
 pub mod input;
 pub mod job;
-pub mod numbered_form;
 pub mod part_kind;
 pub mod parts;
 pub mod pieces;

@@ -1,14 +1,19 @@
 //! Reading the parts of the input.
 
-ghost use Rattle.std.specs.Prelude.{◌≡◌, ◌++◌, ◌∷◌, [], All, IfErr, IfOk, Ok, OnOk, map};
+ghost use Rattle.std.specs.Prelude.{◌≡◌, ◌++◌, ◌∷◌, [], All, IfErr, IfOk, Ok, OnOk, length, map};
 ghost use Rattle.std.specs.List.{AllZip};
 ghost use Rattle.bid_forms.specs.Offers.{Meets};
-ghost use Rattle.wdp.specs.InputTexts.{IsAnswer, IsFirstErr, RefusesForms, TellForms, TellsRules};
-ghost use Rattle.wdp.specs.Refusals.{RefusesTerms, counted_as, miscounted};
+ghost use Rattle.wdp.specs.Exact.{Refuses};
+ghost use Rattle.wdp.specs.InputTexts.{IsAnswer, IsFirstErr};
+ghost use Rattle.wdp.specs.Parts.{bytes_of};
+ghost use Rattle.wdp.specs.PartsTold.{only_text};
+ghost use Rattle.wdp.specs.Plan.{groups_taken, miscounted, solutions_taken};
+ghost use Rattle.wdp.specs.TextsTold.{forms_told};
 
 use crate::parts::Parts;
 use crate::refusal::{CountedPart, Refusal};
-use auction_terms::{Rules, read_rules};
+use crate::request::Request;
+use auction_terms::Rules;
 use bid_forms::{Form, FormFault, read_form};
 use rayon::prelude::*;
 use std::alloc::{AllocError, Global};
@@ -22,41 +27,51 @@ pub enum Count {
     PerGroup,
 }
 
-/// Tests the numbers of parts: one with rules, and as many with groups and with solutions as the command takes.
-pub fn count_parts(parts: &Parts<'_>, groups: usize, solutions: Count) -> Result<(), Refusal>
-    ensures { result ≡ counted_as (miscounted groups solutions parts.now) }
+/// How many parts of groups a command takes.
+pub fn groups_taken(request: &Request) -> usize
+    ensures { result ≡ groups_taken request.now }
 {
-    if parts.rules.len() != 1 {
-        return Err(Refusal::PartCount(CountedPart::Rules));
-    }
-    if parts.groups.len() != groups {
-        return Err(Refusal::PartCount(CountedPart::Groups));
-    }
-    match solutions {
-        Count::Exactly(count) if parts.solutions.len() != count => {
-            Err(Refusal::PartCount(CountedPart::Solutions))
-        }
-        _ => Ok(()),
+    match request {
+        Request::Text => 0,
+        _ => 1,
     }
 }
 
-/// Reads the rules, and then the forms, side by side. A refusal is that of the first part that has a fault.
-pub fn read_terms(
-    rt: &(impl Threads + Sync),
-    alloc: Global,
-    parts: &Parts<'_>,
-) -> Result<(Rules, Vec<Form>), Refusal>
-    ensures rules { IfOk result (λ read. TellsRules parts.now.rules.items read.0) }
-    ensures forms { IfOk result (λ read. TellForms read.0 parts.now.forms.items read.1.items) }
-    ensures meet { IfOk result (λ read. All (Meets read.0) read.1.items) }
-    ensures refuses { IfErr result (RefusesTerms parts.now) }
+/// How many solutions a command takes.
+pub fn solutions_taken(request: &Request) -> Count
+    ensures { result ≡ solutions_taken request.now }
 {
-    let [text] = parts.rules.as_slice() else {
-        return Err(Refusal::PartCount(CountedPart::Rules));
-    };
-    let rules = read_rules(alloc, *text)?;
-    let forms = read_forms(rt, alloc, parts.forms.as_slice(), &rules)?;
-    Ok((rules, forms))
+    match request {
+        Request::Map { group: _ } => Count::Exactly(1),
+        Request::Report { workers: _ } => Count::PerGroup,
+        _ => Count::Exactly(0),
+    }
+}
+
+/// The first kind of which there are too few parts or too many: one with rules, and as many with groups and with solutions as the command takes.
+pub fn miscounted(request: &Request, parts: &Parts<'_>) -> Option<CountedPart>
+    ensures { result ≡ miscounted request.now (length parts.now.rules.items) (length parts.now.groups.items) (length parts.now.solutions.items) }
+{
+    if parts.rules.len() != 1 {
+        return Some(CountedPart::Rules);
+    }
+    if parts.groups.len() != groups_taken(request) {
+        return Some(CountedPart::Groups);
+    }
+    match solutions_taken(request) {
+        Count::Exactly(count) if parts.solutions.len() != count => Some(CountedPart::Solutions),
+        _ => None,
+    }
+}
+
+/// The text of the one part of a kind; where there is none, no text.
+pub fn only_text<'t>(texts: &[&'t [u8]]) -> &'t [u8]
+    ensures { result.now ≡ only_text (bytes_of texts.now) }
+{
+    match texts.first() {
+        Some(text) => *text,
+        None => b"".as_slice(),
+    }
 }
 
 /// Reads forms, side by side.
@@ -66,9 +81,9 @@ pub fn read_forms(
     texts: &[&[u8]],
     rules: &Rules,
 ) -> Result<Vec<Form>, Refusal>
-    ensures forms { IfOk result (λ forms. TellForms rules.now texts.now forms.items) }
+    ensures told { IfOk result (λ forms. forms_told rules.now (bytes_of texts.now) ≡ Ok forms.items) }
     ensures meet { IfOk result (λ forms. All (Meets rules.now) forms.items) }
-    ensures first { IfErr result (RefusesForms rules.now texts.now) }
+    ensures refuses { IfErr result (Refuses (forms_told rules.now (bytes_of texts.now))) }
 {
     let answers = read_each(rt, alloc, texts, rules)?;
     in_order(alloc, answers)

@@ -18,9 +18,10 @@ pub enum CountedPart {
     Solutions,
 }
 
-/// Why a run ends without its output, or with a front of it. Forms, groups and solutions count from 1.
+/// Why a run ends without its output, or with a front of it. Forms, groups and solutions count from 1. A name is bytes that the refusal owns;
+/// to definitions it is a list of them.
 #[derive(Drop)]
-pub enum Refusal {
+pub enum Refusal<Name = Vec<u8>> {
     Input(InputFault),
     Parts(PartFault),
     /// Parts are missing, or there are too many.
@@ -31,6 +32,10 @@ pub enum Refusal {
         fault: FormFault,
     },
     Groups(GroupFault),
+    /// The first form that its bidder had no call left for.
+    CallLimit {
+        form: usize,
+    },
     Round(RoundFault),
     /// There is no group of that number.
     NoGroup {
@@ -46,12 +51,12 @@ pub enum Refusal {
     /// A solution that breaks the bounds of the column of that name.
     BoundBroken {
         solution: usize,
-        column: Vec<u8>,
+        column: Name,
     },
     /// A solution that doesn't meet the row of that name.
     RowBroken {
         solution: usize,
-        row: Vec<u8>,
+        row: Name,
     },
     Write(WriteFault),
     OutOfMemory,

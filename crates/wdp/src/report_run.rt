@@ -1,9 +1,10 @@
 //! What the solutions of all groups win, and what each group's opportunity cost is.
 
-ghost use Rattle.std.specs.Prelude.{◌≡◌, ◌++◌, ◌∷◌, [], All, IfErr, IfOk, OnOk, length, vec_len};
+ghost use Rattle.std.specs.Prelude.{◌≡◌, ◌++◌, ◌∷◌, [], All, IfErr, IfOk, Ok, OnOk, length, vec_len};
 ghost use Rattle.group_compiler.specs.Compiled.{compiled};
-ghost use Rattle.wdp.specs.Refusals.{RefusesSolution, RefusesSolutions};
-ghost use Rattle.wdp.specs.Won.{AreWon, IsWon};
+ghost use Rattle.wdp.specs.Exact.{Refuses};
+ghost use Rattle.wdp.specs.Parts.{bytes_of};
+ghost use Rattle.wdp.specs.Winners.{winners_by, winners_by_each};
 
 use crate::refusal::Refusal;
 use crate::winning::allocation_won;
@@ -22,8 +23,8 @@ pub fn allocations_won(
     requires programs { All (λ c. c ≡ compiled book.now c.group) programs.now }
     requires count { length solutions.now ≡ length programs.now }
     ensures count { IfOk result (λ all. vec_len all ≡ length programs.now) }
-    ensures won { IfOk result (λ all. AreWon programs.now solutions.now all.items) }
-    ensures refuses { IfErr result (RefusesSolutions programs.now solutions.now) }
+    ensures won { IfOk result (λ all. winners_by_each programs.now (bytes_of solutions.now) ≡ Ok all.items) }
+    ensures refuses { IfErr result (Refuses (winners_by_each programs.now (bytes_of solutions.now))) }
 {
     let mut all = Vec::new(alloc);
     for place in 0..programs.len() {
@@ -49,8 +50,8 @@ fn won_by(
     text: &[u8],
 ) -> Result<Allocation, Refusal>
     requires { made.now ≡ compiled book.now made.now.group }
-    ensures won { IfOk result (IsWon made.now.program text.now) }
-    ensures refuses { IfErr result (RefusesSolution made.now.program text.now solution) }
+    ensures won { IfOk result (λ a. winners_by made.now.program solution text.now ≡ Ok a) }
+    ensures refuses { IfErr result (Refuses (winners_by made.now.program solution text.now)) }
 {
     // Its contract says that the book's forms are within limits, which the program's faithfulness asks for.
     let _within_limits = book.rules();

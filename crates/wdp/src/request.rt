@@ -80,10 +80,15 @@ fn with_solutions<'a>(alloc: Global, wdp: Command<'a>) -> Result<Command<'a>, Al
         .subcommand(report_command(alloc)?)
 }
 
+// What stands below the options in the help.
+const EXAMPLE: &str =
+    "Example: wdp compile --workers 4 < examples/worked.txt\n\nThe manual: man docs/wdp.1; the formats: docs/FORMATS.md; each refusal: docs/FAULTS.md";
+
 fn command<'a>(alloc: Global) -> Result<Command<'a>, AllocError> {
-    let wdp = Command::new(alloc, "wdp").about(
-        "Compiles the winner determination of a combinatorial clock auction",
-    );
+    let wdp = Command::new(alloc, "wdp")
+        .about("Compiles the winner determination of a combinatorial clock auction")
+        .version("1.0.0")
+        .after_help(EXAMPLE);
     with_solutions(alloc, with_programs(alloc, wdp)?)
 }
 

@@ -10,23 +10,20 @@ ghost use Rattle.wdp.specs.Submissions.{AreFormsOf, AreSubmitted, ComesTo, IsFir
 
 use crate::by_bidder::{by_bidder, forms_in};
 use crate::job::{Done, Job};
-use crate::numbered_form::NumberedForm;
 use auction_terms::Rules;
 use bid_book::Reply;
 use bid_desk::{Cause, Chair, ClosedBook, Desk, Round, Session};
 use bid_forms::Form;
 use std::alloc::{AllocError, Global};
 use std::marker::Brand;
-use std::sync::Wait;
 use std::sync::ledger::Blank;
+use std::sync::{Arc, Wait};
 use std::thread;
 use std::thread::Threads;
 
-/// Why a round leaves no closed book. Forms count from 1 in the order of the input.
+/// Why a round leaves no closed book.
 #[derive(Clone, Copy, Debug, PartialEq, Eq)]
 pub enum RoundFault {
-    /// The first form that its bidder had no call left for.
-    CallLimit { form: usize },
     /// The desk answered what a round of these calls isn't answered.
     WrongAnswer,
     OutOfMemory,
@@ -90,7 +87,7 @@ fn close_round_of<L: Round + Send + Sync, R: Threads + Wait + Sync + AllocGlobal
 fn jobs_of<'f, L: Round>(
     alloc: Global,
     sessions: Vec<Session<L>>,
-    lists: &'f [Vec<NumberedForm>],
+    lists: &'f [Vec<Arc<Form, Global>>],
 ) -> Result<(Vec<Job<'f, L>>, Vec<Session<L>>), AllocError>
     requires fresh { All (λ session. session.pairs ≡ []) sessions.items }
     requires own { (b : ℕ) → AreFormsOf L.rules b (forms_in lists.now b) }
@@ -155,17 +152,13 @@ fn sessions_of<L: Round>(
     Ok(sessions)
 }
 
-// Of two ends the one to tell: want of memory, else a wrong answer, else the call limit of the earlier form.
+// Of two ends the one to tell: want of memory, else a wrong answer.
 fn first_of(one: Result<(), RoundFault>, other: Result<(), RoundFault>) -> Result<(), RoundFault>
     ensures { OnOk result ((one ≡ Ok tt) × (other ≡ Ok tt)) }
 {
     match (one, other) {
         (Ok(()), end) => end,
         (end, Ok(())) => end,
-        (Err(RoundFault::CallLimit { form }), Err(RoundFault::CallLimit { form: next })) => {
-            let form = if form < next { form } else { next };
-            Err(RoundFault::CallLimit { form })
-        }
         (Err(RoundFault::OutOfMemory), _) => Err(RoundFault::OutOfMemory),
         (_, Err(RoundFault::OutOfMemory)) => Err(RoundFault::OutOfMemory),
         _ => Err(RoundFault::WrongAnswer),

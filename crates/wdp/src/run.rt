@@ -1,10 +1,9 @@
 //! The program on its words, its input and two sinks.
 
-ghost use Rattle.std.specs.Prelude.{◌≡◌, ◌≤◌, List, ℕ};
+ghost use Rattle.std.specs.Prelude.{◌≡◌, ◌⊎◌, ◌≤◌, List, ℕ};
 ghost use Rattle.std.specs.Io.KnownBytes.{Appends};
-ghost use Rattle.wdp.specs.Output.{IsQuietUnlessFailed};
-ghost use Rattle.wdp.specs.Outputs.{IsDone};
-ghost use Rattle.wdp.specs.Refusals.{IsRunRefused};
+ghost use Rattle.mps_text.specs.Sinks.{HasFailed};
+ghost use Rattle.wdp.specs.Runs.{IsDone, IsRunRefused};
 
 use crate::commands::answer;
 use crate::pieces::write_pieces;
@@ -30,9 +29,8 @@ pub fn run<'a, R: Threads + Wait + Sync + AllocGlobal, I: Read, S: Sink, F: Sink
 ) -> u8
     ensures status { result ≤ 2 }
     ensures done { result ≡ 0 → IsDone (I.remaining input.old) (I.remaining input.new) (S.taken out.old) (S.taken out.new) }
-    ensures refused { result ≡ 1 → IsQuietUnlessFailed (S.taken out.old) (S.taken out.new) (S.failures out.old) (S.failures out.new) }
-    ensures refuses { result ≡ 1 → IsRunRefused (I.remaining input.old) (I.remaining input.new) (S.failures out.old) (S.failures out.new) }
-    ensures words_refused { result ≡ 2 → S.taken out.new ≡ S.taken out.old }
+    ensures refused { result ≡ 1 → IsRunRefused (I.remaining input.old) (I.remaining input.new) (S.taken out.old) (S.taken out.new) (S.failures out.old) (S.failures out.new) }
+    ensures words_refused { result ≡ 2 → (I.remaining input.new ≡ I.remaining input.old) × (S.taken out.new ≡ S.taken out.old) }
 {
     let alloc: Global = rt.alloc();
     let request = match request_of(alloc, words) {
@@ -52,7 +50,7 @@ pub fn run<'a, R: Threads + Wait + Sync + AllocGlobal, I: Read, S: Sink, F: Sink
 fn tell_words<S: Sink, F: Sink>(alloc: Global, error: &Error, out: &mut S, faults: &mut F) -> u8
     ensures status { result ≤ 2 }
     ensures help { result ≡ 0 → (help : List ℕ) × Appends (S.taken out.old) (S.taken out.new) help }
-    ensures refused { result ≡ 1 → IsQuietUnlessFailed (S.taken out.old) (S.taken out.new) (S.failures out.old) (S.failures out.new) }
+    ensures refused { result ≡ 1 → (S.taken out.new ≡ S.taken out.old) ⊎ HasFailed (S.failures out.old) (S.failures out.new) }
     ensures words_refused { result ≡ 2 → S.taken out.new ≡ S.taken out.old }
 {
     let text = match format!(in alloc; "{error}") {

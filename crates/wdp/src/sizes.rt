@@ -1,8 +1,9 @@
 //! The sizes of a program.
 
-ghost use Rattle.std.specs.Prelude.{◌≡◌, OnErr, OnOk};
+ghost use Rattle.std.specs.Prelude.{◌≡◌, IfErr, OnErr, OnOk};
 ghost use Rattle.std.specs.Io.KnownBytes.{Appends};
-ghost use Rattle.mps_text.specs.Sinks.{HasFailed};
+ghost use Rattle.mps_text.specs.Sinks.{HasFailed, SentFront};
+ghost use Rattle.mps_text.specs.Written.{written_of};
 ghost use Rattle.wdp.specs.Sizes.{entry_count, sizes_text};
 
 use crate::pieces::write_pieces;
@@ -24,6 +25,7 @@ fn entry_count(program: &Program) -> u64
 /// Writes how many rows beside the objective, columns and entries outside the objective there are. It takes no memory.
 pub fn write_sizes<S: Sink>(program: &Program, out: &mut S) -> Result<(), WriteFault>
     ensures ok { OnOk result (Appends (S.taken out.old) (S.taken out.new) (sizes_text program.now)) }
+    ensures err { IfErr result (λ e. SentFront (S.taken out.old) (S.taken out.new) (sizes_text program.now) (written_of e)) }
     ensures failed { OnErr result (HasFailed (S.failures out.old) (S.failures out.new)) }
 {
     let mut rows = Buffer::new();

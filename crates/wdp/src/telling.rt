@@ -29,6 +29,7 @@ pub fn tell<F: Sink>(refusal: &Refusal, faults: &mut F) {
         Refusal::Groups(fault) => {
             tell_fault(b"groups", b"", groups_fault_name(*fault), b"line ", faults)
         }
+        Refusal::CallLimit { form } => tell_number(b"form ", *form as u64, b": CallLimit", faults),
         Refusal::Round(fault) => tell_round(*fault, faults),
         Refusal::NoGroup { group } => tell_number(b"groups: no group ", *group as u64, b"", faults),
         Refusal::FirstGroupNotEmpty => tell_text(b"groups: group 1 is not empty", faults),
@@ -95,9 +96,6 @@ fn tell_count<F: Sink>(part: CountedPart, faults: &mut F) -> Result<(), WriteFau
 
 fn tell_round<F: Sink>(fault: RoundFault, faults: &mut F) -> Result<(), WriteFault> {
     match fault {
-        RoundFault::CallLimit { form } => {
-            tell_number(b"form ", form as u64, b": CallLimit", faults)
-        }
         RoundFault::WrongAnswer => tell_text(b"desk: wrong answer", faults),
         RoundFault::OutOfMemory => tell_text(b"out of memory", faults),
     }

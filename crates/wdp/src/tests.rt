@@ -2,7 +2,7 @@
 
 use crate::auction::{Auction, read_auction};
 use crate::compile_run::run_compile;
-use crate::parts::split_parts;
+use crate::request::Request;
 use crate::run::run;
 use crate::run_fault::RunFault;
 use group_compiler::OpenGate;
@@ -171,11 +171,11 @@ fn a_report_fails_at_every_byte(rt: HostRuntime) -> Result<(), Fail> {
 fn fault_at<R: Threads + Wait + Sync>(
     rt: &R,
     alloc: Global,
-    auction: &Auction,
+    auction: &Auction<'_>,
     room: usize,
 ) -> Option<RunFault> {
     let mut out = LimitSink::new(alloc, room, 7);
-    let Auction { book, groups } = auction;
+    let Auction { book, groups, .. } = auction;
     let ended = run_compile(rt, alloc, book, groups, 2, &OpenGate, &mut out);
     if room < TWO_PROGRAMS.len() && out.bytes() == &TWO_PROGRAMS[..room] {
         ended.err()
@@ -186,8 +186,10 @@ fn fault_at<R: Threads + Wait + Sync>(
 
 #[test]
 fn a_fault_names_the_group_of_the_next_byte(rt: HostRuntime) -> Result<(), Fail> {
-    let parts = split_parts(rt.alloc(), TWO_GROUPS).ok().ok_or("parts")?;
-    let auction = read_auction(&rt, &parts).ok().ok_or("auction")?;
+    let request = Request::Compile { workers: 2 };
+    let auction = read_auction(&rt, &request, TWO_GROUPS)
+        .ok()
+        .ok_or("auction")?;
     for room in 0..294usize {
         let group = if room < 90 { 1 } else { 2 };
         let written = room as u64;

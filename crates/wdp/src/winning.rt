@@ -1,13 +1,14 @@
 //! What a solution wins.
 
-ghost use Rattle.std.specs.Prelude.{IfErr, IfOk};
+ghost use Rattle.std.specs.Prelude.{◌≡◌, IfErr, IfOk, Ok};
 ghost use Rattle.auction_terms.specs.Allocations.{IsFeasible};
 ghost use Rattle.auction_terms.specs.Groups.{has};
 ghost use Rattle.auction_terms.specs.Terms.{lots_in};
 ghost use Rattle.bid_desk.specs.Closing.{book_of};
 ghost use Rattle.program_rows.specs.Faithful.{IsFaithful};
-ghost use Rattle.wdp.specs.Refusals.{IsToldAs, RefusesSolution};
-ghost use Rattle.wdp.specs.Won.{IsWon};
+ghost use Rattle.wdp.specs.Exact.{Refuses};
+ghost use Rattle.wdp.specs.Refused.{refused};
+ghost use Rattle.wdp.specs.Winners.{column_name, row_name, solution_refused, winners_by};
 
 use crate::refusal::Refusal;
 use auction_terms::Group;
@@ -27,8 +28,8 @@ pub fn allocation_won(
 ) -> Result<Allocation, Refusal>
     requires { IsFaithful (lots_in book.now.rules) (book_of book.now) (has group.now) program.now }
     ensures feasible { IfOk result (λ a. IsFeasible (lots_in book.now.rules) (book_of book.now) (has group.now) a) }
-    ensures won { IfOk result (IsWon program.now text.now) }
-    ensures refuses { IfErr result (RefusesSolution program.now text.now solution) }
+    ensures won { IfOk result (λ a. winners_by program.now solution text.now ≡ Ok a) }
+    ensures refuses { IfErr result (Refuses (winners_by program.now solution text.now)) }
 {
     match read_solution(alloc, text, program) {
         Ok(point) => Ok(map_back(alloc, program, &point)?),
@@ -43,17 +44,39 @@ fn refused(
     solution: usize,
     fault: SolutionFault,
 ) -> Result<Refusal, AllocError>
-    ensures { IfOk result (IsToldAs program.now solution fault) }
+    ensures { IfOk result (λ r. refused r ≡ solution_refused program.now solution fault) }
 {
     match fault {
-        SolutionFault::BoundBroken { column } if column < program.column_count() => {
-            let column = Vec::from_slice(alloc, program.column_name(column))?;
+        SolutionFault::BoundBroken { column } => {
+            let column = Vec::from_slice(alloc, column_name(program, column))?;
             Ok(Refusal::BoundBroken { solution, column })
         }
-        SolutionFault::RowBroken { row } if row < program.row_count() => {
-            let row = Vec::from_slice(alloc, program.row_name(row))?;
+        SolutionFault::RowBroken { row } => {
+            let row = Vec::from_slice(alloc, row_name(program, row))?;
             Ok(Refusal::RowBroken { solution, row })
         }
         _ => Ok(Refusal::Solution { solution, fault }),
+    }
+}
+
+// The name of a column; where there is none, no name.
+fn column_name(program: &Program, column: usize) -> &[u8]
+    ensures { result.now ≡ column_name program.now column }
+{
+    if column < program.column_count() {
+        program.column_name(column)
+    } else {
+        b"".as_slice()
+    }
+}
+
+// The name of a row; where there is none, no name.
+fn row_name(program: &Program, row: usize) -> &[u8]
+    ensures { result.now ≡ row_name program.now row }
+{
+    if row < program.row_count() {
+        program.row_name(row)
+    } else {
+        b"".as_slice()
     }
 }

@@ -1,63 +1,121 @@
-use Rattle.std.proofs.Common.{◌≢◌, ◌∙◌, [], Bor, List, ℕ, length, sym, subst, slice_index_or, rules}
-use Rattle.wdp.specs.InputTexts.{TellForms, TellsGroups}
-use Rattle.wdp.proofs.InputTextFacts.{groups-tell, only-text}
-use Rattle.wdp.specs.Refusals.{FaultsGroups, RefusesAuction, TellsTerms, by_groups, by_groups_count, by_round, by_terms}
+use Rattle.std.proofs.Common.{◌≡◌, ◌∙◌, List, ℕ, Ok, Err, ap, inl, inr, refl, subst, sym}
+use denote.Ref.{Bor}
+use Rattle.auction_terms.specs.Terms.{Terms}
+use Rattle.bid_forms.specs.Offers.{Offers}
+use Rattle.wdp.specs.Auction.{Auction, auction_told}
+use Rattle.wdp.specs.Calls.{calls_told}
+use Rattle.wdp.specs.Exact.{Refuses, RefusesAuction}
+use Rattle.wdp.specs.Parts.{bytes_of, values}
+use Rattle.wdp.specs.Refused.{Refused}
+use Rattle.wdp.specs.TextsTold.{forms_told, groups_told, terms_told}
 use Rattle.wdp.specs.declared.refusal.Refusal.TheVariants as refusal
-use Rattle.wdp.proofs.RefusalFacts.{groups-faulted, if-err-of}
+use Rattle.wdp.specs.declared.round.RoundFault.{RoundFault}
+use Rattle.wdp.specs.declared.round.RoundFault.TheVariants as round
+use Rattle.wdp.proofs.AuctionFacts.{auction-held, auction-is, calls-refused, forms-refused, groups-refused, round-refused, terms-refused}
+use Rattle.wdp.proofs.RefusalFacts.{if-err-of}
+use Rattle.wdp.proofs.StageFacts.{stop}
 use Rattle.wdp.proofs.auction.read_auction.Goals as goal
-use Rattle.wdp.proofs.auction.read_auction.Goals.{in_default-via-then-as_slice-lt1, in_default-via-else-as_slice-lt1+else-this-lt2}
+
+abbrev Texts : Type 0
+Texts = List (Bor (List ℕ))
+
+pub returns-in_err-parts-clause-refuses : goal.returns-in_err-parts-clause-refuses
+returns-in_err-parts-clause-refuses g c =
+    let asked = c.args.request.now in
+    let input = c.args.text.now in
+    let r = c.in_err-parts.field-0.0 in
+    if-err-of (RefusesAuction asked input) c.from_residual.result r c.from_residual.ensures.1 (inl (stop _ _ r c.in_err-parts.ensures.refuses))
 
 pub returns-in_err-rules-clause-refuses : goal.returns-in_err-rules-clause-refuses
 returns-in_err-rules-clause-refuses g c =
+    let asked = c.args.request.now in
+    let input = c.args.text.now in
     let r = c.in_err-rules.field-0.0 in
-    if-err-of (RefusesAuction c.args.parts.now) c.from_residual.result r c.from_residual.ensures.1 (by_terms r c.in_err-rules.ensures.refuses)
+    let refused = subst (λ (xs : Texts). Refuses (terms_told (bytes_of xs)) r) c.as_slice.ensures.value c.in_err-rules.ensures.refuses in
+    if-err-of (RefusesAuction asked input) c.from_residual-in_err-rules.result r c.from_residual-in_err-rules.ensures.1
+    (inl (terms-refused asked input (values c.in_ok-parts.parts) c.in_ok-parts.ensures.told r refused))
 
-pub returns-in_default-clause-refuses : goal.returns-in_default-clause-refuses
-returns-in_default-clause-refuses g c =
-    let other : length c.args.parts.now.groups.items ≢ 1 = elim c.in_default.branch [
-      | in_default-via-then-as_slice-lt1 w ↦ (λ one. let few = c.as_slice.ensures.len in search rules)
-      | in_default-via-else-as_slice-lt1+else-this-lt2 w ↦ (λ one. let few = c.as_slice.ensures.len in search rules)
-    ] in
-    let terms : TellsTerms c.args.parts.now c.in_ok-rules.rules = record { forms = c.in_ok-rules.forms.items; rules_are = c.in_ok-rules.ensures.rules; forms_are = c.in_ok-rules.ensures.forms } in
-    by_groups_count c.in_ok-rules.rules terms other
+pub returns-in_err-forms-clause-refuses : goal.returns-in_err-forms-clause-refuses
+returns-in_err-forms-clause-refuses g c =
+    let asked = c.args.request.now in
+    let input = c.args.text.now in
+    let t = c.in_ok-rules.rules in
+    let r = c.in_err-forms.field-0.0 in
+    let rules = subst (λ (xs : Texts). terms_told (bytes_of xs) ≡ Ok t) c.as_slice.ensures.value c.in_ok-rules.ensures.told in
+    let refused = subst (λ (xs : Texts). Refuses (forms_told t (bytes_of xs)) r) c.as_slice-2.ensures.value c.in_err-forms.ensures.refuses in
+    if-err-of (RefusesAuction asked input) c.from_residual-in_err-forms.result r c.from_residual-in_err-forms.ensures.1
+    (inl (forms-refused asked input (values c.in_ok-parts.parts) c.in_ok-parts.ensures.told t rules r refused))
 
 pub returns-in_err-groups-clause-refuses : goal.returns-in_err-groups-clause-refuses
 returns-in_err-groups-clause-refuses g c =
-    let nothing : Bor (List ℕ) = record { ref_ptr = (0, 0); now = [] } in
-    let texts = c.as_slice.result.now in
-    let text = slice_index_or texts 0 nothing in
+    let asked = c.args.request.now in
+    let input = c.args.text.now in
     let t = c.in_ok-rules.rules in
-    let f = c.in_err-groups.field-0.0 in
-    let only = only-text texts nothing c.in-len1.len_at_least c.in-len1.len_below in
-    let terms : TellsTerms c.args.parts.now t = record { forms = c.in_ok-rules.forms.items; rules_are = c.in_ok-rules.ensures.rules; forms_are = c.in_ok-rules.ensures.forms } in
-    let faulted : FaultsGroups t c.args.parts.now.groups.items f = (text, sym c.as_slice.ensures.value ∙ only, groups-faulted t.bidders text.now f c.in_err-groups.ensures.too_large c.in_err-groups.ensures.answer) in
-    if-err-of (RefusesAuction c.args.parts.now) c.from_residual-in_err-groups.result (refusal.Groups f) c.from_residual-in_err-groups.ensures.1 (by_groups t f terms faulted)
+    let forms = c.in_ok-forms.forms.items in
+    let r = c.in_err-groups.field-0.0 in
+    let rules = subst (λ (xs : Texts). terms_told (bytes_of xs) ≡ Ok t) c.as_slice.ensures.value c.in_ok-rules.ensures.told in
+    let each = subst (λ (xs : Texts). forms_told t (bytes_of xs) ≡ Ok forms) c.as_slice-2.ensures.value c.in_ok-forms.ensures.told in
+    let refused = subst (λ (xs : Texts). Refuses (groups_told t (bytes_of xs)) r) c.as_slice-3.ensures.value c.in_err-groups.ensures.refuses in
+    if-err-of (RefusesAuction asked input) c.from_residual-in_err-groups.result r c.from_residual-in_err-groups.ensures.1
+    (inl (groups-refused asked input (values c.in_ok-parts.parts) c.in_ok-parts.ensures.told t rules forms each r refused))
+
+pub returns-in_err-check_calls-clause-refuses : goal.returns-in_err-check_calls-clause-refuses
+returns-in_err-check_calls-clause-refuses g c =
+    let asked = c.args.request.now in
+    let input = c.args.text.now in
+    let t = c.in_ok-rules.rules in
+    let forms = c.in_ok-forms.forms.items in
+    let groups = c.in_ok-groups.groups in
+    let r = c.in_err-check_calls.field-0.0 in
+    let rules = subst (λ (xs : Texts). terms_told (bytes_of xs) ≡ Ok t) c.as_slice.ensures.value c.in_ok-rules.ensures.told in
+    let each = subst (λ (xs : Texts). forms_told t (bytes_of xs) ≡ Ok forms) c.as_slice-2.ensures.value c.in_ok-forms.ensures.told in
+    let known = subst (λ (xs : Texts). groups_told t (bytes_of xs) ≡ Ok groups) c.as_slice-3.ensures.value c.in_ok-groups.ensures.told in
+    let refused = subst (λ (xs : List Offers). Refuses (calls_told xs) r) c.as_slice-4.ensures.value (inl c.in_err-check_calls.ensures.refused) in
+    if-err-of (RefusesAuction asked input) c.from_residual-in_err-check_calls.result r c.from_residual-in_err-check_calls.ensures.1
+    (inl (calls-refused asked input (values c.in_ok-parts.parts) c.in_ok-parts.ensures.told t rules forms each groups known r refused))
 
 pub returns-in_err-book-clause-refuses : goal.returns-in_err-book-clause-refuses
 returns-in_err-book-clause-refuses g c =
-    let nothing : Bor (List ℕ) = record { ref_ptr = (0, 0); now = [] } in
-    let texts = c.as_slice.result.now in
-    let text = slice_index_or texts 0 nothing in
+    let asked = c.args.request.now in
+    let input = c.args.text.now in
     let t = c.in_ok-rules.rules in
+    let forms = c.in_ok-forms.forms.items in
+    let groups = c.in_ok-groups.groups in
     let f = c.in_err-book.field-0.0 in
-    let only = only-text texts nothing c.in-len1.len_at_least c.in-len1.len_below in
-    let terms : TellsTerms c.args.parts.now t = record { forms = c.in_ok-rules.forms.items; rules_are = c.in_ok-rules.ensures.rules; forms_are = c.in_ok-rules.ensures.forms } in
-    let told = groups-tell t.bidders text.now c.in_ok-groups.groups c.in_ok-groups.ensures.too_large c.in_ok-groups.ensures.answer in
-    let groups : TellsGroups t c.args.parts.now.groups.items c.in_ok-groups.groups = (text, sym c.as_slice.ensures.value ∙ only, told) in
-    if-err-of (RefusesAuction c.args.parts.now) c.from_residual-in_err-book.result (refusal.Round f) c.from_residual-in_err-book.ensures.1 (by_round t c.in_ok-groups.groups f terms groups)
+    let rules = subst (λ (xs : Texts). terms_told (bytes_of xs) ≡ Ok t) c.as_slice.ensures.value c.in_ok-rules.ensures.told in
+    let each = subst (λ (xs : Texts). forms_told t (bytes_of xs) ≡ Ok forms) c.as_slice-2.ensures.value c.in_ok-forms.ensures.told in
+    let known = subst (λ (xs : Texts). groups_told t (bytes_of xs) ≡ Ok groups) c.as_slice-3.ensures.value c.in_ok-groups.ensures.told in
+    let accepted = subst (λ (xs : List Offers). calls_told xs ≡ Ok xs) c.as_slice-4.ensures.value c.in_ok-check_calls.ensures.accepted in
+    if-err-of (RefusesAuction asked input) c.from_residual-in_err-book.result (refusal.Round f) c.from_residual-in_err-book.ensures.1
+    (round-refused asked input (values c.in_ok-parts.parts) c.in_ok-parts.ensures.told t rules forms each groups known accepted f)
 
-pub returns-clause-groups : goal.returns-clause-groups
-returns-clause-groups g c =
-    let nothing : Bor (List ℕ) = record { ref_ptr = (0, 0); now = [] } in
-    let texts = c.as_slice.result.now in
-    let text = slice_index_or texts 0 nothing in
-    let only = only-text texts nothing c.in-len1.len_at_least c.in-len1.len_below in
+pub returns-clause-told : goal.returns-clause-told
+returns-clause-told g c =
+    let asked = c.args.request.now in
+    let input = c.args.text.now in
     let t = c.in_ok-rules.rules in
-    let told = groups-tell t.bidders text.now c.in_ok-groups.groups c.in_ok-groups.ensures.too_large c.in_ok-groups.ensures.answer in
-    let groups : TellsGroups t c.args.parts.now.groups.items c.in_ok-groups.groups = (text, sym c.as_slice.ensures.value ∙ only, told) in
-    subst (λ t. TellsGroups t c.args.parts.now.groups.items c.in_ok-groups.groups) (sym c.in_ok-book.ensures.rules) groups
+    let forms = c.in_ok-forms.forms.items in
+    let groups = c.in_ok-groups.groups in
+    let book = c.in_ok-book.book in
+    let rules = subst (λ (xs : Texts). terms_told (bytes_of xs) ≡ Ok t) c.as_slice.ensures.value c.in_ok-rules.ensures.told in
+    let each = subst (λ (xs : Texts). forms_told t (bytes_of xs) ≡ Ok forms) c.as_slice-2.ensures.value c.in_ok-forms.ensures.told in
+    let known = subst (λ (xs : Texts). groups_told t (bytes_of xs) ≡ Ok groups) c.as_slice-3.ensures.value c.in_ok-groups.ensures.told in
+    let accepted = subst (λ (xs : List Offers). calls_told xs ≡ Ok xs) c.as_slice-4.ensures.value c.in_ok-check_calls.ensures.accepted in
+    auction-is asked input (values c.in_ok-parts.parts) c.in_ok-parts.ensures.told t rules forms each groups known accepted
+    ∙ ap (λ (a : Auction). Ok a) (auction-held book t forms groups (bytes_of c.in_ok-parts.parts.solutions.items) c.in_ok-book.ensures.rules c.in_ok-book.ensures.submitted)
 
-pub returns-clause-forms : goal.returns-clause-forms
-returns-clause-forms g c =
-    let forms = c.in_ok-rules.forms.items in
-    (forms, subst (λ t. TellForms t c.args.parts.now.forms.items forms) (sym c.in_ok-book.ensures.rules) c.in_ok-rules.ensures.forms, c.in_ok-book.ensures.submitted)
+pub returns-clause-submitted : goal.returns-clause-submitted
+returns-clause-submitted g c =
+    let t = c.in_ok-rules.rules in
+    let forms = c.in_ok-forms.forms.items in
+    let rules = subst (λ (xs : Texts). terms_told (bytes_of xs) ≡ Ok t) c.as_slice.ensures.value c.in_ok-rules.ensures.told in
+    let each = subst (λ (xs : Texts). forms_told t (bytes_of xs) ≡ Ok forms) c.as_slice-2.ensures.value c.in_ok-forms.ensures.told in
+    let same = sym c.in_ok-book.ensures.rules in
+    record {
+      parts = values c.in_ok-parts.parts;
+      forms = forms;
+      parts_are = c.in_ok-parts.ensures.told;
+      rules_are = subst (λ (u : Terms). terms_told (bytes_of c.in_ok-parts.parts.rules.items) ≡ Ok u) same rules;
+      forms_are = subst (λ (u : Terms). forms_told u (bytes_of c.in_ok-parts.parts.forms.items) ≡ Ok forms) same each;
+      submitted = c.in_ok-book.ensures.submitted;
+    }

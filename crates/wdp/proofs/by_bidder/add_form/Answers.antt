@@ -1,5 +1,4 @@
 use Rattle.std.proofs.Common.{◌≡◌, ◌<◌, length, rules}
-use Rattle.wdp.specs.declared.numbered_form.NumberedForm.{NumberedForm}
 use Rattle.wdp.proofs.SubmissionFacts.{one-more}
 use Rattle.wdp.proofs.by_bidder.add_form.Goals as goal
 
@@ -7,7 +6,6 @@ pub returns-clause-added : goal.returns-clause-added
 returns-clause-added c =
     let b = c.from-bidder.result in
     let lists = c.args.lists.now.items in
-    let f : NumberedForm = record { number = c.args.number; form = c.in_ok-form.form } in
     let bidder : c.args.form.bidder ≡ b = (cc) in
     let small : b < length lists = search rules in
-    one-more lists b c.index_mut.result.now c.push.new.self f c.args.form small bidder c.in_ok-form.ensures.ok c.index_mut.ensures.value c.in_ok-push.ensures.items
+    one-more lists b c.index_mut.result.now c.push.new.self c.in_ok-form.form c.args.form small bidder c.in_ok-form.ensures.ok c.index_mut.ensures.value c.in_ok-push.ensures.items

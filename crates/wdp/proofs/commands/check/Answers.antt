@@ -1,22 +1,45 @@
-use Rattle.wdp.specs.Refusals.{Refuses, by_program, by_write}
+use Rattle.std.proofs.Common.{◌≡◌, ℕ, List, Ok, Result, ap, inl, refl}
+use Rattle.program_rows.specs.Program.{Table}
+use Rattle.program_rows.specs.declared.fault.FaultKind.{FaultKind}
+use Rattle.wdp.specs.Answer.{answer, program_refused}
+use Rattle.wdp.specs.Exact.{IsUnwritten, by_refusal}
+use Rattle.wdp.specs.InputTexts.{program_in}
+use Rattle.wdp.specs.Sizes.{sizes_text}
+use Rattle.wdp.specs.Stages.{and_then, refused_as}
 use Rattle.wdp.specs.declared.refusal.Refusal.TheVariants as refusal
 use Rattle.wdp.specs.declared.request.Request.TheVariants as request
-use Rattle.wdp.proofs.CommandFacts.{program-refused, program-told}
+use Rattle.wdp.proofs.CommandFacts.{cut-short}
+use Rattle.wdp.proofs.FaultFacts.{program-refuses}
+use Rattle.wdp.proofs.InputTextFacts.{program-refused, program-told}
 use Rattle.wdp.proofs.RefusalFacts.{if-err-of}
+use Rattle.wdp.proofs.StageFacts.{stop}
 use Rattle.wdp.proofs.commands.check.Goals as goal
 
-pub returns-in_err-program-clause-refuses : goal.returns-in_err-program-clause-refuses
-returns-in_err-program-clause-refuses g c =
-    let failures = g.S.Sink.failures c.args.out.now in
+pub returns-in_err-program-clause-refused : goal.returns-in_err-program-clause-refused
+returns-in_err-program-clause-refused g c =
     let text = c.args.text.now in
+    let taken = g.S.Sink.taken c.args.out.now in
+    let failures = g.S.Sink.failures c.args.out.now in
     let f = c.in_err-program.field-0.0 in
-    if-err-of (Refuses failures failures request.Check text) c.from_residual.result (refusal.Program f) c.from_residual.ensures.1
-    (by_program (program-refused text f c.in_err-program.ensures.too_large c.in_err-program.ensures.meaning))
+    let refused = program-refuses f (program_in text) (program-refused text f c.in_err-program.ensures.too_large c.in_err-program.ensures.meaning) in
+    if-err-of (IsUnwritten request.Check text taken taken failures failures) c.from_residual.result (refusal.Program f) c.from_residual.ensures.1 (inl (by_refusal (stop _ _ (refusal.Program f) refused) refl))
 
-pub returns-in_err-write_sizes-clause-refuses : goal.returns-in_err-write_sizes-clause-refuses
-returns-in_err-write_sizes-clause-refuses g c =
+pub returns-in_err-write_sizes-clause-refused : goal.returns-in_err-write_sizes-clause-refused
+returns-in_err-write_sizes-clause-refused g c =
     let text = c.args.text.now in
     let p = c.in_ok-program.program in
-    if-err-of (Refuses (g.S.Sink.failures c.args.out.now) (g.S.Sink.failures c.write_sizes.new.out) request.Check text) c.from_residual-in_err-write_sizes.result (refusal.Write c.in_err-write_sizes.field-0.0)
-    c.from_residual-in_err-write_sizes.ensures.1
-    (by_write (p, program-told text p c.in_ok-program.ensures.too_large c.in_ok-program.ensures.meaning) c.in_err-write_sizes.ensures.failed)
+    let taken = g.S.Sink.taken c.args.out.now in
+    let taken' = g.S.Sink.taken c.write_sizes.new.out in
+    let failures = g.S.Sink.failures c.args.out.now in
+    let failures' = g.S.Sink.failures c.write_sizes.new.out in
+    let f = c.in_err-write_sizes.field-0.0 in
+    let told = program-told text p c.in_ok-program.ensures.too_large c.in_ok-program.ensures.meaning in
+    let whole : answer request.Check text ≡ Ok (sizes_text p) = ap (λ (r : Result Table (ℕ × FaultKind)). and_then (refused_as program_refused r) (λ program. Ok (sizes_text program))) told in
+    if-err-of (IsUnwritten request.Check text taken taken' failures failures') c.from_residual-in_err-write_sizes.result (refusal.Write f) c.from_residual-in_err-write_sizes.ensures.1
+    (inl (cut-short _ (sizes_text p) taken taken' failures failures' f whole c.in_err-write_sizes.ensures.err c.in_err-write_sizes.ensures.failed))
+
+pub returns-clause-written : goal.returns-clause-written
+returns-clause-written g c =
+    let p = c.in_ok-program.program in
+    let told = program-told c.args.text.now p c.in_ok-program.ensures.too_large c.in_ok-program.ensures.meaning in
+    (sizes_text p, ap (λ (r : Result Table (ℕ × FaultKind)). and_then (refused_as program_refused r) (λ program. Ok (sizes_text program))) told, c.in_ok-write_sizes.ensures.ok)

@@ -1,36 +1,31 @@
-use Rattle.std.proofs.Common.{refl, rules}
-use Rattle.bid_desk.specs.Closing.{IsClosing}
-use Rattle.wdp.specs.Refusals.{Refuses, by_auction}
+use Rattle.std.proofs.Common.{◌≡◌}
+use Rattle.wdp.specs.Auction.{auction_told}
+use Rattle.wdp.specs.Commands.{texts_of_groups}
+use Rattle.wdp.specs.Exact.{IsUnsettled, IsUnwritten, held}
 use Rattle.wdp.specs.declared.request.Request.TheVariants as request
-use Rattle.wdp.proofs.CommandFacts.{auction-told}
+use Rattle.wdp.proofs.CommandFacts.{ends-behind, ends-so, no-auction, writes-behind}
 use Rattle.wdp.proofs.RefusalFacts.{if-err-of}
 use Rattle.wdp.proofs.commands.compile.Goals as goal
 
-pub returns-clause-answer : goal.returns-clause-answer
-returns-clause-answer g c =
-    let auction = c.in_ok-auction.auction in
-    let ensures = c.in_ok-auction.ensures in
-    let settled : IsClosing auction.book = search rules in
-    let told = auction-told (request.Compile c.args.workers) c.args.text.now c.in_ok-parts.parts auction.book auction.groups c.in_ok-parts.ensures.told settled ensures.rules ensures.forms ensures.groups in
-    c.write_programs_of.ensures.answer c.args.text.now c.in_ok-parts.parts told
-
-pub returns-in_err-parts-clause-refuses : goal.returns-in_err-parts-clause-refuses
-returns-in_err-parts-clause-refuses g c =
-    let failures = g.S.Sink.failures c.args.out.now in
-    let r = c.in_err-parts.field-0.0 in
-    if-err-of (Refuses failures failures (request.Compile c.args.workers) c.args.text.now) c.from_residual.result r c.from_residual.ensures.1 (c.in_err-parts.ensures.refuses refl failures failures)
-
-pub returns-in_err-auction-clause-refuses : goal.returns-in_err-auction-clause-refuses
-returns-in_err-auction-clause-refuses g c =
+pub returns-in_err-auction-clause-refused : goal.returns-in_err-auction-clause-refused
+returns-in_err-auction-clause-refused g c =
+    let text = c.args.text.now in
+    let taken = g.S.Sink.taken c.args.out.now in
     let failures = g.S.Sink.failures c.args.out.now in
     let r = c.in_err-auction.field-0.0 in
-    if-err-of (Refuses failures failures (request.Compile c.args.workers) c.args.text.now) c.from_residual-in_err-auction.result r c.from_residual-in_err-auction.ensures.1
-    (by_auction c.in_ok-parts.parts refl c.in_ok-parts.ensures.told c.in_err-auction.ensures.refuses)
+    if-err-of (IsUnwritten (request.Compile c.args.workers) text taken taken failures failures) c.from_residual.result r c.from_residual.ensures.1 (no-auction (request.Compile c.args.workers) text texts_of_groups taken failures r c.in_err-auction.ensures.refuses)
 
-pub returns-clause-refuses : goal.returns-clause-refuses
-returns-clause-refuses g c =
-    let auction = c.in_ok-auction.auction in
-    let ensures = c.in_ok-auction.ensures in
-    let settled : IsClosing auction.book = search rules in
-    let told = auction-told (request.Compile c.args.workers) c.args.text.now c.in_ok-parts.parts auction.book auction.groups c.in_ok-parts.ensures.told settled ensures.rules ensures.forms ensures.groups in
-    c.write_programs_of.ensures.refuses c.args.text.now c.in_ok-parts.parts told
+pub returns-clause-written : goal.returns-clause-written
+returns-clause-written g c =
+    let text = c.args.text.now in
+    writes-behind (auction_told (request.Compile c.args.workers) text) (held c.in_ok-auction.auction) texts_of_groups c.in_ok-auction.ensures.told c.write_programs_of.result (g.S.Sink.taken c.args.out.now) (g.S.Sink.taken c.write_programs_of.new.out) c.write_programs_of.ensures.written
+
+pub returns-clause-refused : goal.returns-clause-refused
+returns-clause-refused g c =
+    let text = c.args.text.now in
+    let taken = g.S.Sink.taken c.args.out.now in
+    let taken' = g.S.Sink.taken c.write_programs_of.new.out in
+    let failures = g.S.Sink.failures c.args.out.now in
+    let failures' = g.S.Sink.failures c.write_programs_of.new.out in
+    let ends = ends-behind (auction_told (request.Compile c.args.workers) text) (held c.in_ok-auction.auction) texts_of_groups c.in_ok-auction.ensures.told c.write_programs_of.result taken taken' failures failures' c.write_programs_of.ensures.refused in
+    ends-so _ (λ r. IsUnsettled (request.Compile c.args.workers) text r × (taken' ≡ taken)) c.write_programs_of.result taken taken' failures failures' ends

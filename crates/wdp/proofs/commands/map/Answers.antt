@@ -1,43 +1,31 @@
-use Rattle.std.proofs.Common.{◌≡◌, ◌∷◌, ◌∙◌, refl, rules, [], Bor, List, ℕ, sym, slice_index_or}
-use Rattle.bid_desk.specs.Closing.{IsClosing}
-use Rattle.wdp.specs.Refusals.{Refuses, by_auction}
+use Rattle.std.proofs.Common.{◌≡◌}
+use Rattle.wdp.specs.Auction.{auction_told}
+use Rattle.wdp.specs.Commands.{winners_text}
+use Rattle.wdp.specs.Exact.{IsUnsettled, IsUnwritten, held}
 use Rattle.wdp.specs.declared.request.Request.TheVariants as request
-use Rattle.wdp.proofs.CommandFacts.{auction-told}
-use Rattle.wdp.proofs.InputTextFacts.{only-text}
+use Rattle.wdp.proofs.CommandFacts.{ends-behind, ends-so, no-auction, writes-behind}
 use Rattle.wdp.proofs.RefusalFacts.{if-err-of}
 use Rattle.wdp.proofs.commands.map.Goals as goal
 
-pub returns-clause-answer : goal.returns-clause-answer
-returns-clause-answer g c =
-    let auction = c.in_ok-auction.auction in
-    let ensures = c.in_ok-auction.ensures in
-    let settled : IsClosing auction.book = search rules in
-    let told = auction-told (request.Map c.args.k) c.args.text.now c.in_ok-parts.parts auction.book auction.groups c.in_ok-parts.ensures.told settled ensures.rules ensures.forms ensures.groups in
-    let nothing : Bor (List ℕ) = record { ref_ptr = (0, 0); now = [] } in
-    let texts = c.as_slice.result.now in
-    let one : c.in_ok-parts.parts.solutions.items ≡ slice_index_or texts 0 nothing ∷ [] = sym c.as_slice.ensures.value ∙ only-text texts nothing c.in-len1.len_at_least c.in-len1.len_below in
-    c.write_winners.ensures.answer c.args.text.now c.in_ok-parts.parts told one
-
-pub returns-in_err-parts-clause-refuses : goal.returns-in_err-parts-clause-refuses
-returns-in_err-parts-clause-refuses g c =
-    let failures = g.S.Sink.failures c.args.out.now in
-    let r = c.in_err-parts.field-0.0 in
-    if-err-of (Refuses failures failures (request.Map c.args.k) c.args.text.now) c.from_residual.result r c.from_residual.ensures.1 (c.in_err-parts.ensures.refuses refl failures failures)
-
-pub returns-in_err-auction-clause-refuses : goal.returns-in_err-auction-clause-refuses
-returns-in_err-auction-clause-refuses g c =
+pub returns-in_err-auction-clause-refused : goal.returns-in_err-auction-clause-refused
+returns-in_err-auction-clause-refused g c =
+    let text = c.args.text.now in
+    let taken = g.S.Sink.taken c.args.out.now in
     let failures = g.S.Sink.failures c.args.out.now in
     let r = c.in_err-auction.field-0.0 in
-    if-err-of (Refuses failures failures (request.Map c.args.k) c.args.text.now) c.from_residual-in_err-auction.result r c.from_residual-in_err-auction.ensures.1
-    (by_auction c.in_ok-parts.parts refl c.in_ok-parts.ensures.told c.in_err-auction.ensures.refuses)
+    if-err-of (IsUnwritten (request.Map c.args.k) text taken taken failures failures) c.from_residual.result r c.from_residual.ensures.1 (no-auction (request.Map c.args.k) text (winners_text c.args.k) taken failures r c.in_err-auction.ensures.refuses)
 
-pub returns-clause-refuses : goal.returns-clause-refuses
-returns-clause-refuses g c =
-    let auction = c.in_ok-auction.auction in
-    let ensures = c.in_ok-auction.ensures in
-    let settled : IsClosing auction.book = search rules in
-    let told = auction-told (request.Map c.args.k) c.args.text.now c.in_ok-parts.parts auction.book auction.groups c.in_ok-parts.ensures.told settled ensures.rules ensures.forms ensures.groups in
-    let nothing : Bor (List ℕ) = record { ref_ptr = (0, 0); now = [] } in
-    let texts = c.as_slice.result.now in
-    let one : c.in_ok-parts.parts.solutions.items ≡ slice_index_or texts 0 nothing ∷ [] = sym c.as_slice.ensures.value ∙ only-text texts nothing c.in-len1.len_at_least c.in-len1.len_below in
-    c.write_winners.ensures.refuses c.args.text.now c.in_ok-parts.parts told one
+pub returns-clause-written : goal.returns-clause-written
+returns-clause-written g c =
+    let text = c.args.text.now in
+    writes-behind (auction_told (request.Map c.args.k) text) (held c.in_ok-auction.auction) (winners_text c.args.k) c.in_ok-auction.ensures.told c.write_winners.result (g.S.Sink.taken c.args.out.now) (g.S.Sink.taken c.write_winners.new.out) c.write_winners.ensures.written
+
+pub returns-clause-refused : goal.returns-clause-refused
+returns-clause-refused g c =
+    let text = c.args.text.now in
+    let taken = g.S.Sink.taken c.args.out.now in
+    let taken' = g.S.Sink.taken c.write_winners.new.out in
+    let failures = g.S.Sink.failures c.args.out.now in
+    let failures' = g.S.Sink.failures c.write_winners.new.out in
+    let ends = ends-behind (auction_told (request.Map c.args.k) text) (held c.in_ok-auction.auction) (winners_text c.args.k) c.in_ok-auction.ensures.told c.write_winners.result taken taken' failures failures' c.write_winners.ensures.refused in
+    ends-so _ (λ r. IsUnsettled (request.Map c.args.k) text r × (taken' ≡ taken)) c.write_winners.result taken taken' failures failures' ends

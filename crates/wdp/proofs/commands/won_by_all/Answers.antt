@@ -1,11 +1,16 @@
-use Rattle.std.proofs.Common.{◌≡◌, ◌∙◌, sym, ap, length}
+use Rattle.std.proofs.Common.{◌≡◌, ◌∙◌, IfErr, IfOk, Ok, sym, ap, inr, length, refl, subst}
 use Rattle.std.proofs.lemmas.List.{length-map}
-use Rattle.group_compiler.specs.Compiled.{compiled}
-use Rattle.std.specs.Prelude.{map}
-use Rattle.wdp.specs.Refusals.{RefusesSolutions, by_solutions_memory}
+use Rattle.std.specs.List.{zip}
+use Rattle.group_compiler.specs.Compiled.{GroupProgram, compiled}
+use Rattle.std.specs.Prelude.{List, map}
+use Rattle.outcome.specs.Sale.{sale_of}
+use Rattle.wdp.specs.Exact.{Refuses}
+use Rattle.wdp.specs.Parts.{bytes_of}
+use Rattle.wdp.specs.Stages.{each_in_turn}
+use Rattle.wdp.specs.Winners.{winners, winners_by_each}
 use Rattle.wdp.specs.declared.refusal.Refusal.TheVariants as refusal
 use Rattle.wdp.proofs.RefusalFacts.{if-err-of}
-use Rattle.wdp.proofs.ReportFacts.{each-compiled}
+use Rattle.wdp.proofs.ReportFacts.{each-compiled, winners-compiled}
 use Rattle.wdp.proofs.commands.won_by_all.Goals as goal
 
 pub allocations_won-requires : goal.allocations_won-requires
@@ -16,6 +21,23 @@ allocations_won-requires g c =
       count = c.requires.count ∙ sym (ap length same ∙ length-map c.args.groups.now (compiled c.args.book.now));
     }
 
+pub returns-clause-won : goal.returns-clause-won
+returns-clause-won g c =
+    let book = c.args.book.now in
+    let texts = bytes_of c.args.solutions.now in
+    let same : c.as_slice.result.now ≡ map (compiled book) c.args.groups.now = c.as_slice.ensures.value ∙ c.in_ok-programs.ensures in
+    let told = ap (λ (made : List GroupProgram). winners_by_each made texts) same ∙ sym (winners-compiled book 1 c.args.groups.now texts) in
+    subst (λ r. IfOk c.allocations_won.result (λ all. r ≡ Ok all.items)) told c.allocations_won.ensures.won
+
+pub returns-clause-refuses : goal.returns-clause-refuses
+returns-clause-refuses g c =
+    let book = c.args.book.now in
+    let texts = bytes_of c.args.solutions.now in
+    let same : c.as_slice.result.now ≡ map (compiled book) c.args.groups.now = c.as_slice.ensures.value ∙ c.in_ok-programs.ensures in
+    let told = ap (λ (made : List GroupProgram). winners_by_each made texts) same ∙ sym (winners-compiled book 1 c.args.groups.now texts) in
+    subst (λ r. IfErr c.allocations_won.result (Refuses r)) told c.allocations_won.ensures.refuses
+
 pub returns-in_err-programs-clause-refuses : goal.returns-in_err-programs-clause-refuses
 returns-in_err-programs-clause-refuses g c =
-    if-err-of (RefusesSolutions (map (compiled c.args.book.now) c.args.groups.now) c.args.solutions.now) c.from_residual.result refusal.OutOfMemory c.from_residual.ensures.1 by_solutions_memory
+    let told = each_in_turn (winners (sale_of c.args.book.now)) 1 (zip c.args.groups.now (bytes_of c.args.solutions.now)) in
+    if-err-of (Refuses told) c.from_residual.result refusal.OutOfMemory c.from_residual.ensures.1 (inr refl)

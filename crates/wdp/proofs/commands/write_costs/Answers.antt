@@ -1,72 +1,62 @@
-use Rattle.std.proofs.Common.{◌≡◌, ◌≢◌, ◌∙◌, sym, true, false, length, rules, ap, Bor, List, ℕ, map, subst}
+use Rattle.std.proofs.Common.{◌≡◌, ◌≢◌, ◌∙◌, sym, true, false, length, refl, rules, ap, List, ℕ, subst}
 use Rattle.std.specs.Io.KnownBytes.{Appends}
 use Rattle.auction_terms.specs.Groups.{starts_empty}
 use Rattle.auction_terms.specs.declared.choices.Choice.{Choice}
-use Rattle.group_compiler.specs.Compiled.{compiled}
+use Rattle.mps_text.specs.Sinks.{SentFront}
+use Rattle.mps_text.specs.Written.{written_of}
 use Rattle.outcome.specs.Report.{report_text}
 use Rattle.outcome.specs.Sale.{sale_of}
-use Rattle.wdp.specs.Refusals.{Refuses, RefusesSolutions, by_first_group, by_solutions, by_solutions_count, by_write}
-use Rattle.wdp.specs.Won.{AreWon}
+use Rattle.wdp.specs.Commands.{costs_text}
+use Rattle.wdp.specs.Exact.{Ends, by_refusal, held}
 use Rattle.wdp.specs.declared.refusal.Refusal.TheVariants as refusal
-use Rattle.wdp.specs.declared.request.Request.TheVariants as request
+use Rattle.wdp.proofs.CommandFacts.{costs-miscounted, costs-refused, costs-written, cut-short, not-empty}
 use Rattle.wdp.proofs.RefusalFacts.{if-err-of}
 use Rattle.wdp.proofs.commands.write_costs.Goals as goal
 
-pub returns-clause-answer : goal.returns-clause-answer
-returns-clause-answer g c input parts told all =
-    let book = c.args.auction.now.book in
-    let groups = c.args.auction.now.groups in
-    let allocations = c.in_ok-allocations.allocations.items in
-    record {
-      parts = parts;
-      forms = told.terms_are.forms;
-      book = c.args.auction.now.book;
-      groups = c.args.auction.now.groups;
-      allocations = allocations;
-      parts_are = told.parts_are.parts_are;
-      settled = told.settled;
-      rules_are = told.terms_are.rules_are;
-      forms_are = told.terms_are.forms_are;
-      submitted = told.submitted;
-      groups_are = told.groups_are;
-      won = subst (λ (solutions : List (Bor (List ℕ))). AreWon (map (compiled book) groups) solutions allocations) (sym all) c.in_ok-allocations.ensures.won;
-      written = subst (λ (won : List (List Choice)). Appends (g.S.Sink.taken c.args.out.now) (g.S.Sink.taken c.report.new.sink) (report_text (sale_of book) groups won)) c.as_slice.ensures.value c.in_ok-report.ensures.ok;
-    }
+pub returns-clause-written : goal.returns-clause-written
+returns-clause-written g c =
+    let auction = c.args.auction.now in
+    let empty : starts_empty auction.groups ≡ true = search rules in
+    let each : length auction.solutions.items ≡ length auction.groups = search rules in
+    let all = c.in_ok-allocations.allocations.items in
+    let sent = subst (λ (won : List (List Choice)). Appends (g.S.Sink.taken c.args.out.now) (g.S.Sink.taken c.report.new.sink) (report_text (sale_of auction.book) auction.groups won)) c.as_slice-2.ensures.value c.in_ok-report.ensures.ok in
+    (report_text (sale_of auction.book) auction.groups all, costs-written auction empty c.as_slice.result.now each c.as_slice.ensures.value all c.in_ok-allocations.ensures.won, sent)
 
-pub returns-then-not-starts_empty-clause-refuses : goal.returns-then-not-starts_empty-clause-refuses
-returns-then-not-starts_empty-clause-refuses g c input parts told all =
+pub returns-then-not-starts_empty-clause-refused : goal.returns-then-not-starts_empty-clause-refused
+returns-then-not-starts_empty-clause-refused g c =
     let some : starts_empty c.args.auction.now.groups ≡ false = sym c.starts_empty.ensures ∙ c.if-not-starts_empty.true in
-    by_first_group parts c.args.auction.now.book c.args.auction.now.groups told some
+    by_refusal (not-empty c.args.auction.now some) refl
 
-pub returns-then-solutions-count-clause-refuses : goal.returns-then-solutions-count-clause-refuses
-returns-then-solutions-count-clause-refuses g c input parts told all =
-    let empty : starts_empty c.args.auction.now.groups ≡ true = search rules in
-    let count : length parts.solutions.items ≡ length c.args.solutions.now = ap (λ (xs : List (Bor (List ℕ))). length xs) all in
-    let other : length parts.solutions.items ≢ length c.args.auction.now.groups = (λ same. search rules) in
-    by_solutions_count parts c.args.auction.now.book c.args.auction.now.groups told empty other
+pub returns-then-len-count-clause-refused : goal.returns-then-len-count-clause-refused
+returns-then-len-count-clause-refused g c =
+    let auction = c.args.auction.now in
+    let empty : starts_empty auction.groups ≡ true = search rules in
+    let other : length auction.solutions.items ≢ length auction.groups = (λ same. search rules) in
+    by_refusal (costs-miscounted auction empty other) refl
 
-pub returns-in_err-allocations-clause-refuses : goal.returns-in_err-allocations-clause-refuses
-returns-in_err-allocations-clause-refuses g c input parts told all =
-    let book = c.args.auction.now.book in
-    let groups = c.args.auction.now.groups in
+pub returns-in_err-allocations-clause-refused : goal.returns-in_err-allocations-clause-refused
+returns-in_err-allocations-clause-refused g c =
+    let auction = c.args.auction.now in
+    let taken = g.S.Sink.taken c.args.out.now in
     let failures = g.S.Sink.failures c.args.out.now in
+    let empty : starts_empty auction.groups ≡ true = search rules in
+    let each : length auction.solutions.items ≡ length auction.groups = search rules in
     let r = c.in_err-allocations.field-0.0 in
-    let empty : starts_empty groups ≡ true = search rules in
-    let count : length parts.solutions.items ≡ length c.args.solutions.now = ap (λ (xs : List (Bor (List ℕ))). length xs) all in
-    let same : length parts.solutions.items ≡ length groups = search rules in
-    let first = subst (λ (solutions : List (Bor (List ℕ))). RefusesSolutions (map (compiled book) groups) solutions r) (sym all) c.in_err-allocations.ensures.refuses in
-    if-err-of (Refuses failures failures (request.Report c.args.workers) input) c.from_residual.result r c.from_residual.ensures.1
-    (by_solutions parts book groups told empty same first)
+    if-err-of (Ends (costs_text (held auction)) taken taken failures failures) c.from_residual.result r c.from_residual.ensures.1
+    (by_refusal (costs-refused auction empty c.as_slice.result.now each c.as_slice.ensures.value r c.in_err-allocations.ensures.refuses) refl)
 
-pub returns-in_err-report-clause-refuses : goal.returns-in_err-report-clause-refuses
-returns-in_err-report-clause-refuses g c input parts told all =
-    let book = c.args.auction.now.book in
-    let groups = c.args.auction.now.groups in
-    let empty : starts_empty groups ≡ true = search rules in
-    let count : length parts.solutions.items ≡ length c.args.solutions.now = ap (λ (xs : List (Bor (List ℕ))). length xs) all in
-    let same : length parts.solutions.items ≡ length groups = search rules in
-    let allocations = c.in_ok-allocations.allocations.items in
-    let won = subst (λ (solutions : List (Bor (List ℕ))). AreWon (map (compiled book) groups) solutions allocations) (sym all) c.in_ok-allocations.ensures.won in
-    if-err-of (Refuses (g.S.Sink.failures c.args.out.now) (g.S.Sink.failures c.report.new.sink) (request.Report c.args.workers) input) c.from_residual-in_err-report.result
-    (refusal.Write c.in_err-report.field-0.0) c.from_residual-in_err-report.ensures.1
-    (by_write (parts, book, groups, allocations, told, empty, same, won) c.in_err-report.ensures.failed)
+pub returns-in_err-report-clause-refused : goal.returns-in_err-report-clause-refused
+returns-in_err-report-clause-refused g c =
+    let auction = c.args.auction.now in
+    let taken = g.S.Sink.taken c.args.out.now in
+    let taken' = g.S.Sink.taken c.report.new.sink in
+    let failures = g.S.Sink.failures c.args.out.now in
+    let failures' = g.S.Sink.failures c.report.new.sink in
+    let empty : starts_empty auction.groups ≡ true = search rules in
+    let each : length auction.solutions.items ≡ length auction.groups = search rules in
+    let all = c.in_ok-allocations.allocations.items in
+    let f = c.in_err-report.field-0.0 in
+    let sent = subst (λ (won : List (List Choice)). SentFront taken taken' (report_text (sale_of auction.book) auction.groups won) (written_of f)) c.as_slice-2.ensures.value c.in_err-report.ensures.err in
+    if-err-of (Ends (costs_text (held auction)) taken taken' failures failures') c.from_residual-in_err-report.result (refusal.Write f) c.from_residual-in_err-report.ensures.1
+    (cut-short _ (report_text (sale_of auction.book) auction.groups all) taken taken' failures failures' f
+    (costs-written auction empty c.as_slice.result.now each c.as_slice.ensures.value all c.in_ok-allocations.ensures.won) sent c.in_err-report.ensures.failed)

@@ -1,28 +1,33 @@
-use Rattle.std.proofs.Common.{subst}
-use Rattle.wdp.specs.GroupTexts.{FailsAsTold}
-use Rattle.wdp.specs.Refusals.{by_memory, by_write}
+use Rattle.std.proofs.Common.{List, ℕ, Ok, ap, inl, inr, map, refl, subst}
+use Rattle.group_compiler.specs.Compiled.{compiled}
+use Rattle.wdp.specs.Exact.{by_put, by_refusal}
+use Rattle.wdp.specs.GroupTexts.{FailsAsTold, StopsAsTold, programs_bytes}
+use Rattle.wdp.proofs.CommandFacts.{of-groups, sent-front}
 use Rattle.wdp.proofs.commands.write_programs_of.Goals as goal
 
-pub returns-in-Ok-clause-answer : goal.returns-in-Ok-clause-answer
-returns-in-Ok-clause-answer g c input parts told = record {
-  parts = parts;
-  forms = told.terms_are.forms;
-  book = c.args.auction.now.book;
-  groups = c.args.auction.now.groups;
-  parts_are = told.parts_are.parts_are;
-  settled = told.settled;
-  rules_are = told.terms_are.rules_are;
-  forms_are = told.terms_are.forms_are;
-  submitted = told.submitted;
-  groups_are = told.groups_are;
-  written = c.in-Ok.ensures.ok;
-  faithful = c.in-Ok.ensures.faithful;
-}
+pub returns-in-Ok-clause-written : goal.returns-in-Ok-clause-written
+returns-in-Ok-clause-written g c =
+    let book = c.args.auction.now.book in
+    let groups = c.args.auction.now.groups in
+    (programs_bytes book (map (compiled book) groups), ap (λ (out : List ℕ). Ok out) (of-groups book 1 groups), c.in-Ok.ensures.ok)
 
-pub returns-in-Err-OutOfMemory-clause-refuses : goal.returns-in-Err-OutOfMemory-clause-refuses
-returns-in-Err-OutOfMemory-clause-refuses g c input parts told = by_memory
+pub returns-in-Err-OutOfMemory-clause-refused : goal.returns-in-Err-OutOfMemory-clause-refused
+returns-in-Err-OutOfMemory-clause-refused g c =
+    let book = c.args.auction.now.book in
+    let programs = map (compiled book) c.args.auction.now.groups in
+    let stopped = subst (StopsAsTold book programs (g.S.Sink.taken c.args.out.now) (g.S.Sink.taken c.run_compile.new.out)) c.in-Err-OutOfMemory.field-0-is c.in-Err-OutOfMemory.ensures.stopped in
+    by_refusal (inr refl) stopped.1
 
-pub returns-in-Err-Sink-clause-refuses : goal.returns-in-Err-Sink-clause-refuses
-returns-in-Err-Sink-clause-refuses g c input parts told =
+pub returns-in-Err-Sink-clause-refused : goal.returns-in-Err-Sink-clause-refused
+returns-in-Err-Sink-clause-refused g c =
+    let book = c.args.auction.now.book in
+    let groups = c.args.auction.now.groups in
+    let programs = map (compiled book) groups in
     let failed = subst (FailsAsTold (g.S.Sink.failures c.args.out.now) (g.S.Sink.failures c.run_compile.new.out)) c.in-Err-Sink.field-0-is c.in-Err-Sink.ensures.failed in
-    by_write (parts, c.args.auction.now.book, c.args.auction.now.groups, told) failed
+    let stopped = subst (StopsAsTold book programs (g.S.Sink.taken c.args.out.now) (g.S.Sink.taken c.run_compile.new.out)) c.in-Err-Sink.field-0-is c.in-Err-Sink.ensures.stopped in
+    by_put (record {
+      out = programs_bytes book programs;
+      whole = ap (λ (out : List ℕ). Ok out) (of-groups book 1 groups);
+      sent = sent-front book programs _ _ (g.S.Sink.taken c.args.out.now) (g.S.Sink.taken c.run_compile.new.out) stopped.2;
+      failed = failed;
+    })

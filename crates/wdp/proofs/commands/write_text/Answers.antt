@@ -1,48 +1,31 @@
-use Rattle.std.proofs.Common.{refl, rules}
-use Rattle.bid_desk.specs.Closing.{IsClosing}
-use Rattle.wdp.specs.Refusals.{IsUnwritten, Refuses, TellsTerms, by_book}
+use Rattle.std.proofs.Common.{◌≡◌}
+use Rattle.wdp.specs.Auction.{auction_told}
+use Rattle.wdp.specs.Commands.{text_of_all}
+use Rattle.wdp.specs.Exact.{IsUnsettled, IsUnwritten, held}
 use Rattle.wdp.specs.declared.request.Request.TheVariants as request
-use Rattle.wdp.proofs.CommandFacts.{unwritten}
-use Rattle.wdp.proofs.RefusalFacts.{if-err-of, if-err-weaker, on-ok-both}
+use Rattle.wdp.proofs.CommandFacts.{ends-behind, ends-so, no-auction, writes-behind}
+use Rattle.wdp.proofs.RefusalFacts.{if-err-of}
 use Rattle.wdp.proofs.commands.write_text.Goals as goal
 
-pub returns-clause-answer : goal.returns-clause-answer
-returns-clause-answer g c =
-    let parts = c.in_ok-parts.parts in
-    let book = c.in_ok-book.book in
-    let settled : IsClosing book = search rules in
-    on-ok-both c.write_program_of_all.result (λ written faithful. record {
-      parts = parts;
-      forms = c.in_ok-book.ensures.forms.0;
-      book = book;
-      parts_are = c.in_ok-parts.ensures.told.parts_are;
-      settled = settled;
-      rules_are = c.in_ok-book.ensures.rules;
-      forms_are = c.in_ok-book.ensures.forms.1;
-      submitted = c.in_ok-book.ensures.forms.2;
-      written = written;
-      faithful = faithful;
-    }) c.write_program_of_all.ensures.written c.write_program_of_all.ensures.faithful
-
-pub returns-in_err-parts-clause-refuses : goal.returns-in_err-parts-clause-refuses
-returns-in_err-parts-clause-refuses g c =
+pub returns-in_err-auction-clause-refused : goal.returns-in_err-auction-clause-refused
+returns-in_err-auction-clause-refused g c =
+    let text = c.args.text.now in
+    let taken = g.S.Sink.taken c.args.out.now in
     let failures = g.S.Sink.failures c.args.out.now in
-    let r = c.in_err-parts.field-0.0 in
-    if-err-of (Refuses failures failures request.Text c.args.text.now) c.from_residual.result r c.from_residual.ensures.1 (c.in_err-parts.ensures.refuses refl failures failures)
+    let r = c.in_err-auction.field-0.0 in
+    if-err-of (IsUnwritten request.Text text taken taken failures failures) c.from_residual.result r c.from_residual.ensures.1 (no-auction request.Text text text_of_all taken failures r c.in_err-auction.ensures.refuses)
 
-pub returns-in_err-book-clause-refuses : goal.returns-in_err-book-clause-refuses
-returns-in_err-book-clause-refuses g c =
-    let failures = g.S.Sink.failures c.args.out.now in
-    let r = c.in_err-book.field-0.0 in
-    if-err-of (Refuses failures failures request.Text c.args.text.now) c.from_residual-in_err-book.result r c.from_residual-in_err-book.ensures.1
-    (by_book c.in_ok-parts.parts c.in_ok-parts.ensures.told c.in_err-book.ensures.refuses)
+pub returns-clause-written : goal.returns-clause-written
+returns-clause-written g c =
+    let text = c.args.text.now in
+    writes-behind (auction_told request.Text text) (held c.in_ok-auction.auction) text_of_all c.in_ok-auction.ensures.told c.write_program_of_all.result (g.S.Sink.taken c.args.out.now) (g.S.Sink.taken c.write_program_of_all.new.out) c.write_program_of_all.ensures.written
 
-pub returns-clause-refuses : goal.returns-clause-refuses
-returns-clause-refuses g c =
+pub returns-clause-refused : goal.returns-clause-refused
+returns-clause-refused g c =
+    let text = c.args.text.now in
+    let taken = g.S.Sink.taken c.args.out.now in
+    let taken' = g.S.Sink.taken c.write_program_of_all.new.out in
     let failures = g.S.Sink.failures c.args.out.now in
     let failures' = g.S.Sink.failures c.write_program_of_all.new.out in
-    let parts = c.in_ok-parts.parts in
-    let t = c.in_ok-book.book.rules in
-    let terms : TellsTerms parts t = record { forms = c.in_ok-book.ensures.forms.0; rules_are = c.in_ok-book.ensures.rules; forms_are = c.in_ok-book.ensures.forms.1 } in
-    if-err-weaker (IsUnwritten failures failures') (Refuses failures failures' request.Text c.args.text.now) c.write_program_of_all.result
-    (λ r. unwritten failures failures' request.Text c.args.text.now r (parts, t, c.in_ok-parts.ensures.told, terms)) c.write_program_of_all.ensures.refuses
+    let ends = ends-behind (auction_told request.Text text) (held c.in_ok-auction.auction) text_of_all c.in_ok-auction.ensures.told c.write_program_of_all.result taken taken' failures failures' c.write_program_of_all.ensures.refused in
+    ends-so _ (λ r. IsUnsettled request.Text text r × (taken' ≡ taken)) c.write_program_of_all.result taken taken' failures failures' ends

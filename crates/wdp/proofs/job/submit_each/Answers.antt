@@ -5,12 +5,12 @@ use Rattle.wdp.proofs.job.submit_each.Goals as goal
 
 pub submit-requires-clause-bidder : goal.submit-requires-clause-bidder
 submit-requires-clause-bidder g c =
-    let form = form-here c.args.forms.now c.loop-place.place c.index-forms-place.result c.loop-place-test.true g.L.Round.rules c.args.session.now.bidder c.requires.own in
+    let form = form-here c.args.forms.now c.loop-place.place c.index-forms-place.result c.loop-place-test.true c.index-forms-place.is g.L.Round.rules c.args.session.now.bidder c.requires.own in
     form.bidder_is ∙ sym c.loop-place.invariant.0
 
 pub submit-requires-clause-meets : goal.submit-requires-clause-meets
 submit-requires-clause-meets g c =
-    (form-here c.args.forms.now c.loop-place.place c.index-forms-place.result c.loop-place-test.true g.L.Round.rules c.args.session.now.bidder c.requires.own).meets
+    (form-here c.args.forms.now c.loop-place.place c.index-forms-place.result c.loop-place-test.true c.index-forms-place.is g.L.Round.rules c.args.session.now.bidder c.requires.own).meets
 
 pub loop-place-preserved : goal.loop-place-preserved
 loop-place-preserved g c =
@@ -18,6 +18,6 @@ loop-place-preserved g c =
     let invariant = c.loop-place.invariant in (
       same.0 ∙ invariant.0,
       same.1 ∙ invariant.1,
-      accepted-here c.args.forms.now c.loop-place.place c.index-forms-place.result c.loop-place-test.true _ _ _ _ _ _ _ _ (reply_value c.in-Ok-Accepted.field-0) c.in-Ok-Accepted.number
+      accepted-here c.args.forms.now c.loop-place.place c.index-forms-place.result c.loop-place-test.true c.index-forms-place.is _ _ _ _ _ _ _ _ (reply_value c.in-Ok-Accepted.field-0) c.in-Ok-Accepted.number
           invariant.2 (ap reply_value c.in-Ok-Accepted.field-0-is) c.in-Ok-Accepted.ensures.recorded,
     )

@@ -1,6 +1,11 @@
-use Rattle.std.proofs.Common.{◌≡◌, length}
-use Rattle.wdp.proofs.WinningFacts.{WonBefore}
+use Rattle.std.proofs.Common.{◌≡◌, ◌+◌, drop, length}
+use Rattle.std.specs.List.{zip}
+use Rattle.wdp.specs.Parts.{bytes_of}
+use Rattle.wdp.specs.Winners.{winners_with}
+use Rattle.wdp.proofs.StageFacts.{IsLeft}
 use Rattle.wdp.proofs.report_run.allocations_won.Given as goal
 
 abbrev pub invariant-loop-place : goal.invariant-loop-place
-invariant-loop-place l = (length l.all.items ≡ l.place) × WonBefore l.place l.programs l.solutions l.all.items
+invariant-loop-place l =
+    (length l.all.items ≡ l.place)
+    × IsLeft winners_with (l.place + 1) (zip l.programs (bytes_of l.solutions)) l.all.items (zip (drop l.place l.programs) (bytes_of (drop l.place l.solutions)))

@@ -1,0 +1,34 @@
+-- The auction that an input tells: its parts, rules, forms and groups, and the call limit, in this order.
+use Rattle.std.specs.Prelude.{ℕ, List, Result, Ok}
+use Rattle.auction_terms.specs.Terms.{Terms}
+use Rattle.bid_forms.specs.Offers.{Offers}
+use Rattle.outcome.specs.Sale.{Sale}
+use Rattle.wdp.specs.BookLeft.{sale_left}
+use Rattle.wdp.specs.Calls.{calls_told}
+use Rattle.wdp.specs.Parts.{SplitInput}
+use Rattle.wdp.specs.PartsTold.{parts_told}
+use Rattle.wdp.specs.Refused.{Refused}
+use Rattle.wdp.specs.Stages.{and_then}
+use Rattle.wdp.specs.TextsTold.{forms_told, groups_told, terms_told}
+use Rattle.wdp.specs.declared.request.Request.{Request}
+
+-- a sale, the groups that are left out of it, and the texts of solutions
+pub record Auction : Type 0 where
+  pub sale : Sale
+  pub groups : List (List ℕ)
+  pub solutions : List (List ℕ)
+
+abbrev pub auction_of : Terms → List Offers → List (List ℕ) → List (List ℕ) → Auction
+auction_of t forms groups solutions = record { sale = sale_left t forms; groups = groups; solutions = solutions }
+
+-- the auction of parts
+abbrev pub auction_in : SplitInput → Result Auction Refused
+auction_in parts =
+    and_then (terms_told parts.rules) (λ t.
+    and_then (forms_told t parts.forms) (λ forms.
+    and_then (groups_told t parts.groups) (λ groups.
+    and_then (calls_told forms) (λ accepted.
+    Ok (auction_of t accepted groups parts.solutions)))))
+
+abbrev pub auction_told : Request → List ℕ → Result Auction Refused
+auction_told asked input = and_then (parts_told asked input) auction_in

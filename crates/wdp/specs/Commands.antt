@@ -1,0 +1,44 @@
+-- What each command writes of an auction, or why it is refused.
+use Rattle.std.specs.Prelude.{◌==◌, ◌++◌, ◌-◌, ℕ, List, [], ◌∷◌, Result, Ok, Err, if◌then◌else◌, length, nat_le, slice_index_or}
+use Rattle.std.specs.List.{zip}
+use Rattle.mps_text.specs.Text.{text}
+use Rattle.outcome.specs.Report.{allocation_text, group_names, report_text}
+use Rattle.outcome.specs.Sale.{Sale}
+use Rattle.wdp.specs.Auction.{Auction}
+use Rattle.wdp.specs.BookLeft.{program_for}
+use Rattle.auction_terms.specs.Groups.{starts_empty}
+use Rattle.wdp.specs.GroupTexts.{in_turn, program_number}
+use Rattle.wdp.specs.PartsTold.{only_text}
+use Rattle.wdp.specs.Refused.{Refused}
+use Rattle.wdp.specs.Stages.{and_then, each_in_turn}
+use Rattle.wdp.specs.Winners.{winners}
+use Rattle.wdp.specs.declared.refusal.CountedPart.TheVariants as counted
+use Rattle.wdp.specs.declared.refusal.Refusal.TheVariants as refusal
+
+-- the program with nobody left out
+abbrev pub text_of_all : Auction → Result (List ℕ) Refused
+text_of_all auction = Ok (text (program_for auction.sale []))
+
+-- the line and the program of group k
+abbrev pub program_text : Sale → ℕ → List ℕ → List ℕ
+program_text sale k group = (program_number k ++ (group_names sale.names group ++ 10 ∷ [])) ++ text (program_for sale group)
+
+-- the programs of all groups
+abbrev pub texts_of_groups : Auction → Result (List ℕ) Refused
+texts_of_groups auction = Ok (in_turn (program_text auction.sale) 1 auction.groups)
+
+-- what the one solution wins without group k
+abbrev pub winners_text : ℕ → Auction → Result (List ℕ) Refused
+winners_text k auction =
+    if nat_le k (length auction.groups) then
+    and_then (winners auction.sale 1 (slice_index_or auction.groups (k - 1) [], only_text auction.solutions)) (λ won. Ok (allocation_text auction.sale won))
+    else Err (refusal.NoGroup k)
+
+-- what the solutions win, group by group, and what each group costs the others
+abbrev pub costs_text : Auction → Result (List ℕ) Refused
+costs_text auction =
+    if starts_empty auction.groups then
+    if length auction.solutions == length auction.groups then
+    and_then (each_in_turn (winners auction.sale) 1 (zip auction.groups auction.solutions)) (λ won. Ok (report_text auction.sale auction.groups won))
+    else Err (refusal.PartCount counted.Solutions)
+    else Err refusal.FirstGroupNotEmpty

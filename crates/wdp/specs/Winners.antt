@@ -1,0 +1,44 @@
+-- What a solution of the program without a group wins, or why it is refused.
+use Rattle.std.specs.Prelude.{ℕ, List, [], Result, Ok, slice_get}
+use Rattle.std.specs.List.{zip}
+use Rattle.std.specs.Option.{option_map_or}
+use Rattle.auction_terms.specs.declared.choices.Choice.{Choice}
+use Rattle.group_compiler.specs.Compiled.{GroupProgram}
+use Rattle.outcome.specs.Sale.{Sale}
+use Rattle.outcome.specs.Solution.{solution}
+use Rattle.outcome.specs.Winning.{allocation_of}
+use Rattle.outcome.specs.declared.fault.SolutionFault.{SolutionFault}
+use Rattle.outcome.specs.declared.fault.SolutionFault.TheVariants as fault
+use Rattle.program_rows.specs.Program.{Table}
+use Rattle.wdp.specs.BookLeft.{program_for}
+use Rattle.wdp.specs.Refused.{Refused}
+use Rattle.wdp.specs.Stages.{and_then, each_in_turn, refused_as}
+use Rattle.wdp.specs.declared.refusal.Refusal.TheVariants as refusal
+
+-- the name of a column, and of a row, by its place from 0
+abbrev pub column_name : Table → ℕ → List ℕ
+column_name p column = option_map_or (λ c. c.name) (slice_get p.columns column) []
+
+abbrev pub row_name : Table → ℕ → List ℕ
+row_name p row = option_map_or (λ r. r.name) (slice_get p.rows row) []
+
+-- a fault of the solution of this number; a bound or a row that is broken is told by its name
+abbrev pub solution_refused : Table → ℕ → SolutionFault → Refused
+solution_refused p number (fault.BoundBroken column) = refusal.BoundBroken number (column_name p column)
+solution_refused p number (fault.RowBroken row) = refusal.RowBroken number (row_name p row)
+solution_refused p number f = refusal.Solution number f
+
+-- the winners by a program and its solution
+abbrev pub winners_by : Table → ℕ → List ℕ → Result (List Choice) Refused
+winners_by p number text = and_then (refused_as (solution_refused p number) (solution p text)) (λ point. Ok (allocation_of p point))
+
+-- the winners without a group, by its solution
+abbrev pub winners : Sale → ℕ → List ℕ × List ℕ → Result (List Choice) Refused
+winners sale number group_and_text = winners_by (program_for sale group_and_text.0) number group_and_text.1
+
+-- the winners by a group's program and its solution, and by each
+abbrev pub winners_with : ℕ → GroupProgram × List ℕ → Result (List Choice) Refused
+winners_with number made_and_text = winners_by made_and_text.0.program number made_and_text.1
+
+abbrev pub winners_by_each : List GroupProgram → List (List ℕ) → Result (List (List Choice)) Refused
+winners_by_each programs solutions = each_in_turn winners_with 1 (zip programs solutions)
