@@ -1,0 +1,15 @@
+"""The limits of rules, forms and groups, as docs/FORMATS.md states them."""
+
+CATEGORIES = 32
+BIDDERS = 256
+POOLS = 16
+SESSIONS = 8
+QUANTITY = 10_000
+AMOUNT = 10 ** 12
+POINTS = 1_000_000
+WEIGHT = 10_000
+BIDS = 4_000
+FORMS_OF_A_BIDDER = 1_000
+GROUPS = 1_024
+TEXT = 4 * 1024 * 1024
+INPUT = 128 * 1024 * 1024

@@ -1,0 +1,62 @@
+"""Makes what can be published of an auction: tables as CSV and JSON, and one HTML page that stands alone.
+
+INPUT is the input of the auction, as `wdp report` took it without the solutions, and REPORT what it printed. The report
+is read against the input, and refused where a line doesn't follow from it. DIR gets bidders.csv, categories.csv,
+pools.csv, groups.csv, results.json and results.html; each is written whole or not at all.
+
+--run takes what is to be told of the run: versions, times, and of each group its solver, certificate and ties.
+Exit status: 0 the files are written; 1 a text is refused or a package is missing; 2 the words are wrong.
+"""
+import argparse
+import hashlib
+import os
+
+from office import inputs, running
+from office.page import page_of
+from office.report import read_report
+from office.results import results_of, texts_of
+from office.run_record import RunTold, read_run
+
+
+def words():
+    parser = argparse.ArgumentParser(description=__doc__, formatter_class=argparse.RawDescriptionHelpFormatter, prog="tools/results")
+    parser.add_argument("input", metavar="INPUT")
+    parser.add_argument("report", metavar="REPORT")
+    parser.add_argument("--output", metavar="DIR", required=True, help="the folder of the files; it is made where it isn't there")
+    parser.add_argument("--title", default="Results of the auction", help="the page's heading")
+    parser.add_argument("--run", metavar="FILE", help="what is told of the run, as JSON")
+    return parser.parse_args()
+
+
+def results_from(data, report, told, title, input_path="the input", report_path="the report"):
+    """The figures of an input and its report; a Stopped where one of them is refused."""
+    auction = inputs.read_input(data, input_path)
+    if auction.faults:
+        raise running.Stopped(str(auction.faults[0]))
+    outcomes = read_report(report, auction, report_path)
+    digests = [hashlib.sha256(text).hexdigest() for text in (data, report)]
+    unknown = set(told.groups) - set(range(1, len(outcomes) + 1))
+    if unknown:
+        raise running.Stopped("the run tells of group %d, which the report doesn't have" % min(unknown))
+    return results_of(auction, outcomes, digests, title, told)
+
+
+def publish(results, folder):
+    """Writes the files, once all of them are made."""
+    texts = {**texts_of(results), "results.html": page_of(results)}
+    try:
+        os.makedirs(folder, exist_ok=True)
+    except OSError as error:
+        raise running.Stopped("%s: %s" % (folder, error.strerror))
+    for name, text in texts.items():
+        running.write_whole(os.path.join(folder, name), text)
+
+
+def main():
+    given = words()
+    running.need("jinja2")
+    told = read_run(running.content(given.run), given.run) if given.run else RunTold()
+    results = results_from(running.content(given.input), running.content(given.report), told, given.title,
+                           given.input, given.report)
+    publish(results, given.output)
+    running.say("results", "%d files in %s" % (len(texts_of(results)) + 1, given.output))

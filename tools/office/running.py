@@ -1,0 +1,101 @@
+"""How a tool runs: messages, clean ends, and output that is written whole or not at all."""
+import importlib
+import os
+import signal
+import sys
+import tempfile
+
+PACKAGES = {"jinja2": "python3-jinja2", "numpy": "python3-numpy", "scipy": "python3-scipy", "swiglpk": "python3-swiglpk"}
+
+
+class Stopped(Exception):
+    """Why a tool ends early, in one line, and its exit status."""
+
+    def __init__(self, why, status=1):
+        super().__init__(why)
+        self.status = status
+
+
+def say(tool, text):
+    """A line on standard error. Where nobody reads it, the work goes on."""
+    try:
+        print("%s: %s" % (tool, text), file=sys.stderr, flush=True)
+    except OSError:
+        pass
+
+
+def missing_packages(modules):
+    """The Debian packages of those modules that aren't there."""
+    missing = []
+    for module in modules:
+        try:
+            importlib.import_module(module)
+        except ImportError:
+            missing.append(PACKAGES[module])
+    return missing
+
+
+def need(*modules):
+    """Ends with the names of the Debian packages that are missing, if there are any."""
+    missing = missing_packages(modules)
+    if missing:
+        raise Stopped("missing Debian packages: apt-get install -y " + " ".join(missing))
+
+
+def content(path):
+    """The bytes of a file; `-` is standard input."""
+    try:
+        if path == "-":
+            return sys.stdin.buffer.read()
+        with open(path, "rb") as file:
+            return file.read()
+    except OSError as error:
+        raise Stopped("%s: %s" % (path, error.strerror))
+
+
+def write_whole(path, text):
+    """Writes a file whole or not at all: beside its place first."""
+    try:
+        handle, beside = tempfile.mkstemp(dir=os.path.dirname(os.path.abspath(path)), prefix=".writing-")
+        try:
+            with os.fdopen(handle, "wb") as file:
+                file.write(text)
+            os.chmod(beside, 0o666 & ~umask())
+            os.replace(beside, path)
+        except BaseException:
+            os.unlink(beside)
+            raise
+    except OSError as error:
+        raise Stopped("%s: %s" % (path, error.strerror))
+
+
+def umask():
+    mask = os.umask(0)
+    os.umask(mask)
+    return mask
+
+
+def print_bytes(text):
+    try:
+        sys.stdout.buffer.write(text)
+        sys.stdout.buffer.flush()
+    except OSError as error:
+        os.dup2(os.open(os.devnull, os.O_WRONLY), 1)
+        raise Stopped("standard output: %s" % error.strerror)
+
+
+def run(tool, work):
+    """The exit status of a tool's work, whose early ends are told in one line."""
+    signal.signal(signal.SIGINT, signal.default_int_handler)
+    try:
+        return work() or 0
+    except Stopped as stopped:
+        say(tool, str(stopped))
+        return stopped.status
+    except MemoryError:
+        say(tool, "out of memory")
+    except OSError as error:
+        say(tool, error.strerror or str(error))
+    except KeyboardInterrupt:
+        say(tool, "interrupted")
+    return 1

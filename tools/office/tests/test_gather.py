@@ -1,0 +1,220 @@
+"""Folders of an auction's files, as offices have them, and the tools run on them as programs."""
+import os
+import signal
+import subprocess
+import sys
+import tempfile
+import time
+import unittest
+
+TOOLS = os.path.dirname(os.path.dirname(os.path.dirname(os.path.abspath(__file__))))
+BIDDERS = ["Ant", "Bee", "Cat", "Dove", "Eel", "Fox", "Gnat", "Heron", "Ibis"]
+RULES = ("rules,1,100,,\ncategory,Low,6,1000,2\ncategory,High,4,500,1\n"
+         + "".join("bidder,%s,20,1,\n" % name for name in BIDDERS)).encode()
+GROUPS = b"-\nAnt\nBee+Cat\n"
+BIDS = ["5000,2,1", "9900,4,0", "3000,0,3"]
+
+
+def form(name, bids=BIDS):
+    return "".join(line + "\n" for line in ["%s,Low,High" % name] + bids)
+
+
+# Nine ways in which spreadsheets and editors export a table.
+EXPORTS = [
+    lambda text: text.encode(),
+    lambda text: b"\xef\xbb\xbf" + text.encode(),
+    lambda text: text.replace("\n", "\r\n").encode(),
+    lambda text: text.replace("\n", "\r").encode(),
+    lambda text: text.replace(",", ";").encode(),
+    lambda text: text.replace("\n", ",,\n").encode(),
+    lambda text: (text + ",,\n,,\n\n").encode(),
+    lambda text: text.replace(",", "\t").encode("utf-16"),
+    lambda text: ("\n".join(",".join('"%s"' % cell for cell in line.split(",")) for line in text.splitlines())).encode(),
+]
+
+# Ten faults of one form: each line's row, and the words that it is told in.
+FAULTY = [
+    ("9950,1,1", "amount 9,950 isn't a multiple of 100"),
+    ('"1,300",1,0', "amount '1,300' has a comma"),
+    ("12 000,1,2", "amount '12 000' has a space"),
+    ("1300.00,1,3", "has a point"),
+    ("0,2,0", "amount 0 isn't between 1 and 1,000,000,000,000"),
+    ("9000,two,0", "quantity of Low 'two' isn't a whole number"),
+    ("9000,1,10001", "quantity of High is 10,001, above 10,000"),
+    ("9000,0,0", "the bid asks for no lot"),
+    ("99000,10,1", "the package has 21 points, above the eligibility of 20"),
+    ("600,0,2", "amount 600 is below the package's reserve of 1,000"),
+]
+
+
+def run(tool, *words, **how):
+    how = {"capture_output": True, "stdin": subprocess.DEVNULL, **how}
+    return subprocess.run([sys.executable, os.path.join(TOOLS, tool), *words], timeout=60, **how)
+
+
+class Office(unittest.TestCase):
+    def setUp(self):
+        self.kept = tempfile.TemporaryDirectory()
+        self.addCleanup(self.kept.cleanup)
+        self.folder = self.kept.name
+        os.mkdir(self.path("forms"))
+        self.write("rules.csv", RULES)
+        self.write("groups.txt", GROUPS)
+        for name, export in zip(BIDDERS, EXPORTS):
+            self.write("forms/%s.csv" % name, export(form(name)))
+
+    def path(self, name):
+        return os.path.join(self.folder, name)
+
+    def write(self, name, data):
+        with open(self.path(name), "wb") as file:
+            file.write(data)
+
+    def gather(self, *words):
+        return run("gather", self.path("rules.csv"), self.path("forms"), *(words or [self.path("groups.txt")]))
+
+    def explain(self, *words):
+        return run("explain", self.path("rules.csv"), self.path("forms"), self.path("groups.txt"), *words)
+
+    def assert_stopped(self, seen, *parts):
+        self.assertEqual((seen.returncode, seen.stdout), (1, b""))
+        for part in parts:
+            self.assertIn(part, seen.stderr.decode())
+        self.assertNotIn(b"Traceback", seen.stderr)
+
+
+class Clean(Office):
+    BY_HAND = b"%rules\n" + RULES + b"".join(b"%form\n" + form(name).encode() for name in BIDDERS) + b"%groups\n" + GROUPS
+
+    def test_nine_exports_join_to_the_text_made_by_hand(self):
+        seen = self.gather()
+        self.assertEqual((seen.returncode, seen.stdout), (0, self.BY_HAND))
+        self.assertEqual(self.explain().returncode, 0)
+
+    def test_the_receipt_names_each_file_and_what_was_changed(self):
+        seen = self.gather(self.path("groups.txt"), "--receipt", self.path("receipt.txt"))
+        with open(self.path("receipt.txt"), "rb") as file:
+            self.assertEqual(file.read(), seen.stderr)
+        lines = dict(line.split(": ", 1) for line in seen.stderr.decode().splitlines())
+        self.assertEqual(list(lines), ["rules"] + BIDDERS + ["groups", "input"])
+        self.assertIn("Heron.csv, 3 bids, SHA-256 ", lines["Heron"])
+        self.assertIn("UTF-16 turned into UTF-8", lines["Heron"])
+        self.assertIn("CR turned into LF", lines["Dove"])
+
+    def test_groups_by_a_rule(self):
+        seen = self.gather("--groups", "each")
+        self.assertEqual(seen.stdout.split(b"%groups\n")[1].split(), [b"-"] + [name.encode() for name in BIDDERS])
+        self.write("report.txt", b"group 1 -\nBee 1 5000\nFox 2 9900\ntotal 14900\ncost 0\ngroup 2 Bee\nCat 1 5000\n")
+        seen = self.gather("--groups", "winners", self.path("report.txt"))
+        self.assertEqual(seen.stdout.split(b"%groups\n")[1], b"-\nBee\nFox\n")
+
+    def test_left_out_bids(self):
+        self.write("forms/Ant.csv", form("Ant", ["5000,2,1", "5000,3,1", "9900,7,0"]).encode())
+        told = self.explain("--bids").stdout.decode().splitlines()
+        self.assertEqual(told[:3], ["Ant: 3 bids, 1 kept",
+                                    "Ant: bid 2 is dominated by bid 1: that asks for no more of any category and pays 5,000",
+                                    "Ant: bid 3 asks for 7 of Low where there are 6"])
+
+
+class Wrong(Office):
+    def test_ten_faults_of_one_form_in_one_run(self):
+        self.write("forms/Heron.csv", form("Heron", [row for row, _ in FAULTY]).encode())
+        seen = self.gather()
+        told = seen.stderr.decode().splitlines()
+        self.assertEqual((seen.returncode, seen.stdout, len(told)), (1, b"", 11))
+        for line, (place, (_, words)) in zip(told, enumerate(FAULTY, 2)):
+            self.assertTrue(line.startswith(self.path("forms/Heron.csv") + ":%d:" % place), line)
+            self.assertIn(words, line)
+        self.assertEqual(self.explain().stdout.decode().splitlines()[:10], told[:10])
+
+    def test_a_copied_template(self):
+        self.write("forms/Bee.csv", form("Ant").encode())
+        self.assert_stopped(self.gather(), "another form of Ant stands in", "there is no form of Bee",
+                            "the file's name doesn't name Ant")
+
+    def test_an_old_draft(self):
+        self.write("forms/Ant-old.csv", form("Ant", ["4000,1,1"]).encode())
+        os.utime(self.path("forms/Ant-old.csv"), (1, 1))
+        self.assert_stopped(self.gather(), "another form of Ant stands in")
+        by_time = self.gather(self.path("groups.txt"), "--last-wins", "time")
+        self.assertEqual((by_time.returncode, by_time.stdout), (0, Clean.BY_HAND))
+        self.assertIn("left out: " + self.path("forms/Ant-old.csv"), by_time.stderr.decode())
+        by_name = self.gather(self.path("groups.txt"), "--last-wins", "name")
+        self.assertEqual((by_name.returncode, by_name.stdout), (0, Clean.BY_HAND))
+
+    def test_a_forgotten_form(self):
+        os.unlink(self.path("forms/Fox.csv"))
+        self.assert_stopped(self.gather(), "there is no form of Fox")
+        allowed = self.gather(self.path("groups.txt"), "--allow-missing")
+        self.assertEqual(allowed.returncode, 0)
+        self.assertIn(b"Fox: no form\n", allowed.stderr)
+
+    def test_a_name_that_is_told_to_be_right(self):
+        os.rename(self.path("forms/Fox.csv"), self.path("forms/17.csv"))
+        self.assert_stopped(self.gather(), "the file's name doesn't name Fox")
+        self.assertEqual(self.gather(self.path("groups.txt"), "--any-file-name").stdout, Clean.BY_HAND)
+
+    def test_what_is_no_table(self):
+        os.mkdir(self.path("forms/more"))
+        os.symlink("nowhere", self.path("forms/gone.csv"))
+        self.write("forms/Ibis.csv", b"PK\x03\x04 a workbook")
+        self.assert_stopped(self.gather(), "a folder stands among the forms", "gone.csv: No such file",
+                            "it is a workbook or an archive", "there is no form of Ibis")
+
+    def test_faulty_rules_and_groups(self):
+        self.write("groups.txt", b"-\nAnt+Ant\nDelta\n")
+        self.assert_stopped(self.gather(), "groups.txt:2:5: 'Ant' stands twice", "groups.txt:3:1: 'Delta' is no bidder")
+        self.write("rules.csv", RULES.replace(b"Low,6", b"Low,six").replace(b"Bee,20", b"Ant,20"))
+        self.assert_stopped(self.gather(), "rules.csv:2:14: supply 'six'", "rules.csv:5:8: an earlier bidder is named 'Ant'")
+
+
+class Ends(Office):
+    def test_missing_files_and_folders(self):
+        for words in ([self.path("none"), self.path("forms"), self.path("groups.txt")],
+                      [self.path("rules.csv"), self.path("none"), self.path("groups.txt")],
+                      [self.path("rules.csv"), self.path("forms"), self.path("none")],
+                      [self.path("forms"), self.path("forms"), self.path("groups.txt")]):
+            self.assert_stopped(run("gather", *words))
+        self.assert_stopped(run("explain", self.path("none")))
+        self.assert_stopped(run("explain", self.path("forms")))
+
+    def test_wrong_words(self):
+        for words in ([], [self.path("rules.csv"), self.path("forms")],
+                      [self.path("rules.csv"), self.path("forms"), self.path("groups.txt"), "--groups", "each"],
+                      [self.path("rules.csv"), self.path("forms"), "--groups", "all"],
+                      [self.path("rules.csv"), self.path("forms"), "--groups", "winners"]):
+            self.assertEqual(run("gather", *words).returncode, 2)
+
+    def test_a_full_disk(self):
+        with open("/dev/full", "wb") as full:
+            for words in (["gather", self.path("rules.csv"), self.path("forms"), self.path("groups.txt")],
+                          ["explain", self.path("rules.csv"), self.path("forms"), self.path("none")]):
+                seen = run(*words, capture_output=False, stdout=full, stderr=subprocess.PIPE)
+                self.assertEqual(seen.returncode, 1)
+                self.assertNotIn(b"Traceback", seen.stderr)
+
+    def test_a_receipt_that_cannot_be_written(self):
+        self.assert_stopped(self.gather(self.path("groups.txt"), "--receipt", self.path("none/receipt.txt")), "receipt.txt")
+
+    def test_an_interrupt(self):
+        os.mkfifo(self.path("never.txt"))
+        words = [sys.executable, os.path.join(TOOLS, "gather"), self.path("rules.csv"), self.path("forms"), self.path("never.txt")]
+        with subprocess.Popen(words, stdout=subprocess.PIPE, stderr=subprocess.PIPE) as tool:
+            time.sleep(1)
+            tool.send_signal(signal.SIGINT)
+            self.assertEqual(tool.stdout.read(), b"")
+            self.assertNotIn(b"Traceback", tool.stderr.read())
+            self.assertNotEqual(tool.wait(timeout=60), 0)
+
+    def test_a_reader_that_goes_away(self):
+        self.write("forms/Ant.csv", form("Ant", ["x,y,z"] * 3000).encode())
+        words = [sys.executable, os.path.join(TOOLS, "explain"), self.path("rules.csv"), self.path("forms")]
+        with subprocess.Popen(words, stdout=subprocess.PIPE, stderr=subprocess.PIPE) as tool:
+            tool.stdout.read(10)
+            tool.stdout.close()
+            self.assertNotIn(b"Traceback", tool.stderr.read())
+            self.assertNotEqual(tool.wait(timeout=60), 0)
+
+
+if __name__ == "__main__":
+    unittest.main()

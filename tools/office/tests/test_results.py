@@ -1,0 +1,252 @@
+"""The tables of an auction's results: the page's own figures beside the report's, what is refused, and clean ends."""
+import csv
+import hashlib
+import json
+import os
+import re
+import subprocess
+import tempfile
+import unittest
+from html.parser import HTMLParser
+
+TOOLS = os.path.dirname(os.path.dirname(os.path.dirname(os.path.realpath(__file__))))
+EXAMPLES = os.path.join(os.path.dirname(TOOLS), "examples")
+NAMES = ["worked", "worked_pool", "spectrum", "unsold_values", "spectrum_cap", "twelve_bands"]
+FILES = ["bidders.csv", "categories.csv", "groups.csv", "pools.csv", "results.html", "results.json"]
+
+
+def content(*path):
+    with open(os.path.join(*path), "rb") as file:
+        return file.read()
+
+
+def told_by(report):
+    """Of each group of a report its names, winners with their amounts, total and cost."""
+    groups = []
+    for block in re.split(r"^group \d+ ", report.decode(), flags=re.MULTILINE)[1:]:
+        names, *winners, total, cost = block.splitlines()
+        amounts = {line.split()[0]: int(line.split()[2]) for line in winners}
+        groups.append((names, amounts, int(total.split()[1]), int(cost.split()[1])))
+    return groups
+
+
+class Page(HTMLParser):
+    """The tables of a page by their ids, each a list of rows of (tag, scope, text), and what else a reader needs."""
+
+    def __init__(self, text):
+        super().__init__()
+        self.tables, self.captions, self.ids, self.addresses = {}, {}, [], []
+        self.rows = self.cell = self.caption = None
+        self.feed(text)
+        self.close()
+
+    def handle_starttag(self, tag, attributes):
+        known = dict(attributes)
+        self.addresses += [value for name, value in attributes if name in ("src", "href", "action", "data")]
+        if "id" in known:
+            self.ids.append(known["id"])
+        if tag == "table":
+            self.rows = self.tables[known["id"]] = []
+            self.name = known["id"]
+        elif tag == "caption":
+            self.captions[self.name] = ""
+            self.caption = True
+        elif tag == "tr":
+            self.rows.append([])
+        elif tag in ("th", "td"):
+            self.cell = [tag, known.get("scope"), ""]
+            self.rows[-1].append(self.cell)
+
+    def handle_endtag(self, tag):
+        if tag in ("th", "td"):
+            self.cell = None
+        elif tag == "caption":
+            self.caption = None
+
+    def handle_data(self, data):
+        if self.cell:
+            self.cell[2] += data
+        elif self.caption:
+            self.captions[self.name] += data
+
+    def texts(self, table):
+        return [[text for _, _, text in row] for row in self.tables[table]]
+
+
+def results(*words, **how):
+    return subprocess.run([os.path.join(TOOLS, "results"), *words], stdin=subprocess.DEVNULL, capture_output=True, timeout=60, **how)
+
+
+class Folder(unittest.TestCase):
+    def setUp(self):
+        kept = tempfile.TemporaryDirectory()
+        self.addCleanup(kept.cleanup)
+        self.folder = kept.name
+
+    def path(self, name):
+        return os.path.join(self.folder, name)
+
+    def write(self, name, data):
+        with open(self.path(name), "wb") as file:
+            file.write(data)
+        return self.path(name)
+
+    def publish(self, data, report, *words):
+        return results(self.write("input.txt", data), self.write("report.txt", report), "--output", self.path("out"), *words)
+
+    def page_of(self, name, *words):
+        seen = self.publish(content(EXAMPLES, name + ".txt"), content(EXAMPLES, name + ".report.txt"), *words)
+        self.assertEqual((seen.returncode, sorted(os.listdir(self.path("out")))), (0, FILES), seen.stderr)
+        return Page(content(self.path("out"), "results.html").decode())
+
+    def table(self, name):
+        return list(csv.DictReader(content(self.path("out"), name + ".csv").decode().splitlines()))
+
+    def assert_refused(self, seen, words):
+        self.assertEqual((seen.returncode, seen.stdout), (1, b""))
+        self.assertIn(words, seen.stderr.decode())
+        self.assertNotIn(b"Traceback", seen.stderr)
+        self.assertFalse(os.path.exists(self.path("out")))
+
+
+class Figures(Folder):
+    def test_the_page_says_what_the_report_says(self):
+        for name in NAMES:
+            with self.subTest(name=name):
+                page, groups = self.page_of(name), told_by(content(EXAMPLES, name + ".report.txt"))
+                costs = {names: cost for names, _, _, cost in groups}
+                first = groups[0][1]
+                heading, *rows, last = page.texts("table-bidders")
+                self.assertEqual({row[0]: row[-3] for row in rows if row[0] in first},
+                                 {bidder: "{:,}".format(amount) for bidder, amount in first.items()})
+                self.assertEqual({row[0] for row in rows if row[-3] == "0"}, {row[0] for row in rows} - set(first))
+                self.assertEqual([row[-1] for row in rows],
+                                 ["{:,}".format(costs[row[0]]) if row[0] in costs else "not asked for" for row in rows])
+                self.assertEqual(last[-3], "{:,}".format(sum(first.values())))
+                self.assertEqual([(row[1].replace(", ", "+").replace("nobody", "-"), set(row[2].split(", ")) - {"nobody"}, row[3], row[4])
+                                  for row in page.texts("table-groups")[1:]],
+                                 [(names, set(winners), "{:,}".format(total), "{:,}".format(cost))
+                                  for names, winners, total, cost in groups])
+
+    def test_an_award_with_unsold_lots_and_a_pool(self):
+        """One lot of A is sold to Alpha, that of B to Gamma; the other lot of A is worth 18 unsold; the pool is full."""
+        page = self.page_of("worked_pool")
+        self.assertEqual(page.texts("table-bidders")[1:],
+                         [["Alpha", "1", "0", "1", "30", "10", "20"], ["Beta", "0", "0", "none won", "0", "0", "0"],
+                          ["Gamma", "0", "1", "1", "12", "5", "8"], ["All", "1", "1", "", "42", "15", ""]])
+        self.assertEqual(page.texts("table-categories")[1:],
+                         [["A", "2", "1", "1", "10", "18", "18"], ["B", "1", "1", "0", "5", "6", "0"],
+                          ["All", "3", "2", "1", "", "", "18"]])
+        self.assertEqual(page.texts("table-pools")[1:], [["Low", "2", "2", "0"]])
+
+    def test_a_winner_without_a_group_of_its_own(self):
+        """Gamma is left out beside Beta alone, so that no cost is told for it."""
+        page = self.page_of("worked")
+        self.assertEqual([row[-1] for row in page.texts("table-bidders")[1:4]], ["0", "8", "not asked for"])
+        self.assertNotIn("table-pools", page.tables)
+        self.assertEqual([row["opportunity cost"] for row in self.table("bidders")], ["0", "8", ""])
+
+    def test_the_tables_say_the_same_in_each_form(self):
+        for name in NAMES:
+            page = self.page_of(name)
+            told = json.loads(content(self.path("out"), "results.json"))
+            with self.subTest(name=name):
+                self.assertEqual(told["input_sha256"], hashlib.sha256(content(EXAMPLES, name + ".txt")).hexdigest())
+                for table, shown in (("categories", slice(1, -1)), ("pools", slice(1, None))):
+                    rows = [[str(value) for value in row.values()] for row in told[table]]
+                    self.assertEqual([list(row.values()) for row in self.table(table)], rows)
+                    self.assertEqual([[cell.replace(",", "") for cell in row] for row in page.tables and
+                                      page.texts("table-" + table)[shown]] if rows else [], rows)
+                self.assertEqual([(row["bidder"], row["amount"], row["reserve"]) for row in self.table("bidders")],
+                                 [(row["name"], str(row["amount"]), str(row["reserve"])) for row in told["bidders"]])
+                self.assertEqual([(row["total"], row["opportunity cost"]) for row in self.table("groups")],
+                                 [(str(row["total"]), str(row["cost"])) for row in told["groups"]])
+
+    def test_bars_have_the_lengths_of_their_figures(self):
+        self.page_of("worked_pool")
+        text = content(self.path("out"), "results.html").decode()
+        bars = text.partition('id="bars-bidders"')[2].partition("</figure>")[0]
+        self.assertEqual(re.findall(r'class="(\w+)" x="0%" y="0" width="([\d.]+)%', bars),
+                         [("full", "100"), ("cost", "66.67"), ("full", "40"), ("cost", "26.67")])
+        bars = text.partition('id="bars-categories"')[2].partition("</figure>")[0]
+        self.assertEqual(re.findall(r'class="(\w+)" x="([\d.]+)%" y="0" width="([\d.]+)%', bars),
+                         [("full", "0", "50"), ("open", "50", "50"), ("full", "0", "50")])
+
+
+class ForReaders(Folder):
+    def test_each_table_can_be_followed_without_eyes(self):
+        for name in NAMES:
+            page = self.page_of(name)
+            for table, rows in page.tables.items():
+                self.assertGreater(len(page.captions[table]), 20)
+                self.assertEqual({(tag, scope) for tag, scope, _ in rows[0]}, {("th", "col")})
+                for row in rows[1:]:
+                    self.assertEqual([(tag, scope) for tag, scope, _ in row], [("th", "row")] + [("td", None)] * (len(rows[0]) - 1))
+            self.assertEqual(len(page.ids), len(set(page.ids)))
+
+    def test_the_page_stands_alone(self):
+        page = self.page_of("spectrum_cap")
+        self.assertEqual(page.addresses, [])
+        self.assertNotRegex(content(self.path("out"), "results.html").decode(), r"https?:|url\(|@import|<script|<link")
+
+    def test_a_title_is_text(self):
+        self.page_of("worked", "--title", "3 < 4 & <b>more</b>")
+        self.assertIn(b"<h1>3 &lt; 4 &amp; &lt;b&gt;more&lt;/b&gt;</h1>", content(self.path("out"), "results.html"))
+
+    def test_what_is_told_of_the_run(self):
+        told = {"versions": {"wdp": "7", "cbc": "2.10.8"}, "times": {"Ended": "at noon"},
+                "groups": {"1": {"certified": True, "solver": "cbc", "seconds": 1234.5, "ties": [["Beta", "Gamma"]]}, "2": {"certified": False}}}
+        page = self.page_of("worked", "--run", self.write("run.json", json.dumps(told).encode()))
+        rows = page.texts("table-groups")
+        self.assertEqual(rows[1][2:3] + rows[1][5:], ["Alpha, Beta, Gamma (tie)", "yes", "cbc", "1,234.50"])
+        self.assertEqual([row[5] for row in rows[2:4]], ["no", "not told"])
+        text = content(self.path("out"), "results.html").decode()
+        for words in ("<dt>cbc</dt><dd>2.10.8</dd>", "at noon", "Tie in group 1", "Beta, Gamma", "1 of 4 totals are certified"):
+            self.assertIn(words, text)
+
+
+class Refused(Folder):
+    def test_reports_that_are_not_of_the_input(self):
+        data, report = content(EXAMPLES, "worked_pool.txt"), content(EXAMPLES, "worked_pool.report.txt")
+        rows = [(b"total 60\ncost 0\ngroup 2", b"total 61\ncost 0\ngroup 2", "group 1: the total is 61, and the winners and unsold lots bring 60"),
+                (b"cost 8\n", b"cost 9\n", "group 4: the cost is 9, and by the totals it is 8"),
+                (b"Alpha 1 30", b"Alpha 1 31", "line 2: the input has no such bid of Alpha"),
+                (b"Alpha 1 30", b"Alpha 4 30", "line 2: the input has no such bid of Alpha"),
+                (b"Alpha 1 30\nGamma 1 12", b"Gamma 1 12\nAlpha 1 30", "line 3: Alpha can't stand here"),
+                (b"Alpha 1 30", b"Delta 1 30", "line 2: Delta can't stand here"),
+                (b"group 2 Alpha\n", b"group 2 Alpha\nAlpha 1 30\n", "line 7: Alpha can't stand here"),
+                (b"Alpha 1 30\nGamma 1 12", b"Alpha 2 50", "group 1: the cap of pool Low is overstepped"),
+                (b"Alpha 1 30\nGamma 1 12", b"Beta 2 45", "group 1: more of A is sold than there is"),
+                (b"group 2 Alpha", b"group 2 Beta", "line 6: by the input this line is 'group 2 Alpha'"),
+                (b"cost 0\ngroup 2", b"group 2", "no cost behind the total"),
+                (report[-20:], report[-20:] + b"more\n", "the report goes on behind its last group"),
+                (report[report.index(b"group 5"):], b"", "by the input this line is 'group 5 Alpha+Gamma'")]
+        for old, new, words in rows:
+            with self.subTest(words=words):
+                self.assertIn(old, report)
+                self.assert_refused(self.publish(data, report.replace(old, new, 1)), words)
+
+    def test_inputs(self):
+        data, report = content(EXAMPLES, "worked.txt"), content(EXAMPLES, "worked.report.txt")
+        self.assert_refused(self.publish(data.replace(b"30,1,0", b"3,1,0"), report), "below the package's reserve")
+        self.assert_refused(self.publish(data.replace(b"\n-\n", b"\n"), report), "the input's first group isn't the empty one")
+        self.assert_refused(self.publish(data + b"%solution\nX1_1 1\n", report), "%solution")
+
+    def test_what_is_told_of_the_run(self):
+        data, report = content(EXAMPLES, "worked.txt"), content(EXAMPLES, "worked.report.txt")
+        for told, words in ((b"{", "no JSON"), (b"[]", "not an object of versions"), (b'{"versions": 1}', "versions isn't"),
+                            (b'{"groups": {"1": {"certified": "so"}}}', "group 1: certified"), (b'{"groups": {"-": {}}}', "groups isn't"),
+                            (b'{"groups": {"9": {}}}', "tells of group 9"), (b"\xff", "no JSON")):
+            self.assert_refused(self.publish(data, report, "--run", self.write("run.json", told)), words)
+
+    def test_ends(self):
+        data, report = content(EXAMPLES, "worked.txt"), content(EXAMPLES, "worked.report.txt")
+        self.assert_refused(results(self.path("none"), self.path("none"), "--output", self.path("out")), "No such file")
+        self.assertEqual(results(self.path("none")).returncode, 2)
+        self.write("file", b"")
+        seen = results(self.write("input.txt", data), self.write("report.txt", report), "--output", self.path("file/out"))
+        self.assert_refused(seen, "Not a directory")
+
+
+if __name__ == "__main__":
+    unittest.main()

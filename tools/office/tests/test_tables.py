@@ -1,0 +1,81 @@
+"""Records of comma separated values at their edges."""
+import unittest
+
+from office import tables, texts
+
+
+def values(text, delimiter=b","):
+    return [[cell.text for cell in record] for record in tables.records(text, delimiter)]
+
+
+class Records(unittest.TestCase):
+    ROWS = [
+        (b"", []),
+        (b"\n\r\n\r", []),
+        (b"a,b\n", [[b"a", b"b"]]),
+        (b"a,b", [[b"a", b"b"]]),
+        (b"a,b\rc", [[b"a", b"b"], [b"c"]]),
+        (b"a\r\n\r\nb\n", [[b"a"], [b"b"]]),
+        (b"a,\n", [[b"a", b""]]),
+        (b"a,", [[b"a", b""]]),
+        (b'""', [[b""]]),
+        (b'"a,b"\n', [[b"a,b"]]),
+        (b'"a""b"', [[b'a"b']]),
+        (b'"Al"pha', [[b"Alpha"]]),
+        (b'a"b"', [[b'a"b"']]),
+        (b'"a\nb', [[b"a\nb"]]),
+        (b' a , b', [[b" a ", b" b"]]),
+    ]
+
+    def test_rows(self):
+        for text, wanted in self.ROWS:
+            with self.subTest(text=text):
+                self.assertEqual(values(text), wanted)
+
+    def test_places(self):
+        first, second = tables.records(b'a,"b\r\nc",d\n\ne,f', first_line=4)
+        self.assertEqual([(cell.line, cell.column) for cell in first], [(4, 1), (4, 3), (5, 4)])
+        self.assertEqual([(cell.line, cell.column) for cell in second], [(7, 1), (7, 3)])
+
+    def test_written_records_are_read_back(self):
+        rows = [[b"a", b"1,5", b'"'], [b"%form", b"\n"], [b"b", b""]]
+        self.assertEqual(values(b"".join(map(tables.written, rows))), rows)
+        self.assertFalse(tables.written([b"%form"]).startswith(b"%"))
+
+
+class Spreadsheets(unittest.TestCase):
+    PLAIN = "Alpha,A,B\n30,1,0\n"
+    WAYS = [
+        (PLAIN.encode(), []),
+        (b"\xef\xbb\xbf" + PLAIN.encode(), ["byte order mark dropped"]),
+        (PLAIN.replace("\n", "\r\n").encode(), ["CR LF turned into LF"]),
+        (PLAIN.replace("\n", "\r").encode(), ["CR turned into LF"]),
+        (PLAIN.replace(",", ";").encode(), ["semicolons turned into commas"]),
+        (PLAIN.replace(",", "\t").encode("utf-16"), ["UTF-16 turned into UTF-8", "tabs turned into commas"]),
+        ("\ufeff".encode("utf-16-be") + PLAIN.encode("utf-16-be"), ["UTF-16 turned into UTF-8"]),
+        (PLAIN.replace("\n", ",,\n").encode(), ["empty fields at the end of rows dropped: 2"]),
+        ((PLAIN + ",,\n").encode(), ["empty rows dropped: 1"]),
+        (PLAIN.rstrip("\n").encode(), ["last line ended"]),
+    ]
+
+    def test_ways(self):
+        for data, changes in self.WAYS:
+            with self.subTest(data=data):
+                records, seen = texts.table(data, lambda records: 3)
+                self.assertEqual([[cell.text for cell in record] for record in records],
+                                 [[b"Alpha", b"A", b"B"], [b"30", b"1", b"0"]])
+                self.assertEqual(seen, changes)
+
+    def test_a_value_is_never_changed(self):
+        for value in (b'"1,234"', b"12 000", b" 5", b"1.0", b"12\xc2\xa0000"):
+            records, _ = texts.table(b"Alpha,A,B\n" + value + b",1,0\n", lambda records: 3)
+            self.assertEqual(records[1][0].text, value.strip(b'"'))
+
+    def test_no_text(self):
+        for data in (b"PK\x03\x04 a workbook", b"a\0b\0", b"\xff\xfea"):
+            with self.subTest(data=data), self.assertRaises(texts.NotText):
+                texts.decoded(data)
+
+
+if __name__ == "__main__":
+    unittest.main()
