@@ -1,0 +1,1 @@
+"""What the tests of a built wdp share: worked texts, and how a run is judged."""
