@@ -16,3 +16,5 @@ pub mod Bids
 pub mod Groups
 pub mod GroupNames
 pub mod GroupsText
+pub mod RulesFaultText
+pub mod GroupFaultText

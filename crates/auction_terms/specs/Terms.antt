@@ -1,5 +1,5 @@
 -- What the rules of an auction say, and their limits.
-use Rattle.std.specs.Prelude.{◌≢◌, ◌≤◌, ℕ, Bool, List, length, map, nat_lt, sum_by, All, AllPairs}
+use Rattle.std.specs.Prelude.{◌≡◌, ◌≢◌, ◌≤◌, ℕ, Bool, List, length, map, nat_lt, sum_by, All, AllPairs}
 use Rattle.std.specs.List.{list_any}
 use Rattle.auction_terms.specs.Packages.{Lots, WeightedCap}
 use Rattle.auction_terms.specs.declared.rules.Category.{Category}
@@ -38,7 +38,7 @@ pub record IsPool (pool : Pool) : Type 0 where
 abbrev pub AllDiffer : List (List ℕ) → Type 0
 AllDiffer names = AllPairs (λ a b. a ≢ b) names
 
--- categories and bidders within their limits, as far as they were read
+-- the step, and categories, bidders and pools within their limits
 pub record AreWithinLimits (t : Terms) : Type 0 where
   pub least_step : 1 ≤ t.step
   pub greatest_step : t.step ≤ GREATEST_AMOUNT
@@ -52,9 +52,10 @@ pub record AreWithinLimits (t : Terms) : Type 0 where
   pub category_names : AllDiffer (map (λ category. category.name) t.categories)
   pub bidder_names : AllDiffer (map (λ bidder. bidder.name) t.bidders)
 
--- the rules of an auction
+-- the rules of an auction; each pool has a weight for each category
 pub record AreTerms (t : Terms) : Type 0 where
   pub limits : AreWithinLimits t
+  pub weights : All (λ pool. length pool.weights ≡ length t.categories) t.pools
   pub some_category : 1 ≤ length t.categories
   pub some_bidder : 1 ≤ length t.bidders
 

@@ -1,6 +1,6 @@
 //! The text of the bidder groups.
 
-ghost use Rattle.std.specs.Prelude.{◌≡◌, ◌≤◌, ◌<◌, Err, [], ◌∷◌, IfOk, OnOk, length, map, not};
+ghost use Rattle.std.specs.Prelude.{◌≡◌, ◌≤◌, ◌<◌, Err, [], ◌∷◌, IfOk, OnOk, length, map, not, Some};
 ghost use Rattle.std.specs.List.{list_any};
 ghost use Rattle.std.specs.Str.{bytes_eq};
 ghost use Rattle.auction_terms.specs.FirstFault.{first_failed, first_fault};
@@ -9,6 +9,7 @@ ghost use Rattle.auction_terms.specs.GroupNames.{names_in};
 ghost use Rattle.auction_terms.specs.Groups.{IsGroup};
 ghost use Rattle.auction_terms.specs.Lines.{lines_of};
 ghost use Rattle.auction_terms.specs.declared.limits.TheConstants.{MOST_BIDDERS};
+ghost use Rattle.auction_terms.specs.GroupFaultText.{group_fault_text};
 ghost use Rattle.auction_terms.specs.declared.groups_text.GroupFault.TheVariants as fault;
 
 use crate::group_list::Groups;
@@ -18,23 +19,39 @@ use crate::limits::{MOST_GROUPS, TEXT_LIMIT};
 use crate::lines::LineReader;
 use crate::rules::{Bidder, Rules};
 use std::alloc::{AllocError, Global};
+use std::fmt;
 use thiserror::Error;
 
 /// Why a text is no list of groups. A place is the number of a line, from 1.
 #[derive(Clone, Copy, Debug, PartialEq, Eq, Error)]
 pub enum GroupFault {
-    #[error("the text has more than 4 MiB")]
+    /// The text has more than `TEXT_LIMIT` bytes.
     TooLarge,
-    #[error("line {place} is empty")]
+    /// The line is empty.
     EmptyLine { place: u32 },
-    #[error("line {place} names an unknown bidder")]
+    /// The line names an unknown bidder.
     UnknownBidder { place: u32 },
-    #[error("line {place} names a bidder twice")]
+    /// The line names a bidder twice.
     RepeatedBidder { place: u32 },
-    #[error("line {place} is one group too many")]
+    /// The line is one group too many.
     TooManyGroups { place: u32 },
-    #[error("out of memory")]
+    /// Memory was refused.
     OutOfMemory,
+}
+
+impl fmt::Display for GroupFault {
+    ghost output = { λ fault. Some (group_fault_text fault) };
+
+    fn fmt<W: fmt::Write>(&self, f: &mut fmt::Formatter<W>) -> fmt::Result {
+        match *self {
+            GroupFault::TooLarge => write!(f, "1 TooLarge"),
+            GroupFault::EmptyLine { place } => write!(f, "2 EmptyLine at line {place}"),
+            GroupFault::UnknownBidder { place } => write!(f, "3 UnknownBidder at line {place}"),
+            GroupFault::RepeatedBidder { place } => write!(f, "4 RepeatedBidder at line {place}"),
+            GroupFault::TooManyGroups { place } => write!(f, "5 TooManyGroups at line {place}"),
+            GroupFault::OutOfMemory => write!(f, "out of memory"),
+        }
+    }
 }
 
 impl From<AllocError> for GroupFault {

@@ -121,7 +121,7 @@ module _ (t : Terms) (sessions : List SessionOwn) (slots : List Slot) (are : Are
   slot-once = are.times_are b s known ∙ ap (times b s) (take_all (length sessions) sessions (omega arith)) ∙ once.each b s known
 
   pub slot-small : slot_of b s < length slots
-  slot-small = (let small = slot-within b s (length t.bidders) known.bidder_least known.bidder_most known.session_least (are.eight b s known) in let size = are.size in omega arith)
+  slot-small = (let small = slot-within b s (length t.bidders) known.bidder_least known.bidder_most known.session_least (are.most b s known) in let size = are.size in omega arith)
 
   pub slot-leads : (slot_at slots b s).place < length sessions
   slot-leads = are.within b s known (let one = slot-once in omega arith)

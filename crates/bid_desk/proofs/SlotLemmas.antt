@@ -7,6 +7,7 @@ use Rattle.std.proofs.lemmas.List.{get_or-map, get_or-replicate, get_or-set_othe
 use Rattle.std.proofs.lemmas.List.Sums.{count_by_more_no, count_by_more_yes}
 use Rattle.auction_terms.specs.Terms.{AreTerms, IsBidder, Terms}
 use Rattle.auction_terms.specs.declared.rules.Bidder.{Bidder}
+use Rattle.auction_terms.specs.declared.limits.TheConstants.{MOST_SESSIONS}
 use Rattle.bid_desk.specs.declared.slots.Slot.{Slot}
 use Rattle.bid_desk.specs.Holding.{SessionOwn}
 use Rattle.bid_desk.specs.Sessions.{IsSessionOf, session_limit}
@@ -14,31 +15,31 @@ use Rattle.bid_desk.specs.Settlement.{IsBefore, IsFirstMissing, StandOnce, is_na
 use Rattle.bid_desk.specs.Slots.{AllOnce, AreSlots, IsFirstWrong, empty_slot, slot_at, slot_of}
 
 -- a session has one slot, and no other session has it
-pub slot-same : (b s c u : ℕ) → 1 ≤ b → 1 ≤ s → s ≤ 8 → 1 ≤ c → 1 ≤ u → u ≤ 8 → slot_of b s ≡ slot_of c u → (b ≡ c) × (s ≡ u)
+pub slot-same : (b s c u : ℕ) → 1 ≤ b → 1 ≤ s → s ≤ MOST_SESSIONS → 1 ≤ c → 1 ≤ u → u ≤ MOST_SESSIONS → slot_of b s ≡ slot_of c u → (b ≡ c) × (s ≡ u)
 slot-same b s c u b_least s_least s_most c_least u_least u_most same = (omega arith, omega arith)
 
-pub slot-within : (b s n : ℕ) → 1 ≤ b → b ≤ n → 1 ≤ s → s ≤ 8 → slot_of b s < n * 8
+pub slot-within : (b s n : ℕ) → 1 ≤ b → b ≤ n → 1 ≤ s → s ≤ MOST_SESSIONS → slot_of b s < n * MOST_SESSIONS
 slot-within b s n b_least b_most s_least s_most = omega arith
 
 -- how many sessions a bidder has
 pub limit-at : (t : Terms) (b : ℕ) (d : Bidder) → b - 1 < length t.bidders → session_limit t b ≡ (slice_index_or t.bidders (b - 1) d).sessions
 limit-at t b d small = get_or-map (λ (bidder : Bidder). bidder.sessions) t.bidders (b - 1) d 0 small
 
--- a bidder has at most eight sessions
-pub at_most_eight : (t : Terms) → AreTerms t → (b s : ℕ) → IsSessionOf t b s → s ≤ 8
-at_most_eight t terms b s known =
+-- a bidder has few sessions
+pub few-sessions : (t : Terms) → AreTerms t → (b s : ℕ) → IsSessionOf t b s → s ≤ MOST_SESSIONS
+few-sessions t terms b s known =
     let least = known.bidder_least in
     let most = known.bidder_most in
-    let limit : session_limit t b ≤ 8 = by t.bidders terms.limits.each_bidder (omega arith) in
+    let limit : session_limit t b ≤ MOST_SESSIONS = by t.bidders terms.limits.each_bidder (omega arith) in
     let some = known.session_most in
     omega arith
   where
-    by : (bidders : List Bidder) → All IsBidder bidders → b - 1 < length bidders → slice_index (map (λ bidder. bidder.sessions) bidders) (b - 1) ≤ 8
+    by : (bidders : List Bidder) → All IsBidder bidders → b - 1 < length bidders → slice_index (map (λ bidder. bidder.sessions) bidders) (b - 1) ≤ MOST_SESSIONS
     by [] each small = absurd (omega arith)
     by (x ∷ bidders) each small = rw (get_or-map (λ (bidder : Bidder). bidder.sessions) (x ∷ bidders) (b - 1) x 0 small) (each (b - 1) x small).sessions
 
 -- an earlier session has an earlier slot
-pub slot-before : (b s c u : ℕ) → 1 ≤ b → 1 ≤ s → s ≤ 8 → 1 ≤ u → IsBefore b s c u → slot_of b s < slot_of c u
+pub slot-before : (b s c u : ℕ) → 1 ≤ b → 1 ≤ s → s ≤ MOST_SESSIONS → 1 ≤ u → IsBefore b s c u → slot_of b s < slot_of c u
 slot-before b s c u b_least s_least s_most u_least before =
     elim before [
       | inl less ↦ omega arith
@@ -46,7 +47,7 @@ slot-before b s c u b_least s_least s_most u_least before =
     ]
 
 -- the slot at a place is that of the session that the place names
-pub slot-place : (b s place : ℕ) → 1 ≤ b → 1 ≤ s → s ≤ 8 → slot_of b s ≡ place → (place / 8 ≡ b - 1) × (place % 8 ≡ s - 1)
+pub slot-place : (b s place : ℕ) → 1 ≤ b → 1 ≤ s → s ≤ MOST_SESSIONS → slot_of b s ≡ place → (place / MOST_SESSIONS ≡ b - 1) × (place % MOST_SESSIONS ≡ s - 1)
 slot-place b s place b_least s_least s_most is = (omega arith, omega arith)
 
 -- a session's name
@@ -64,14 +65,14 @@ other-named b s x other =
     ]
 
 -- no session was counted yet
-pub slots-empty : (t : Terms) (sessions : List SessionOwn) → AreTerms t → AreSlots t sessions 0 (replicate (length t.bidders * 8) empty_slot)
+pub slots-empty : (t : Terms) (sessions : List SessionOwn) → AreTerms t → AreSlots t sessions 0 (replicate (length t.bidders * MOST_SESSIONS) empty_slot)
 slots-empty t sessions terms =
-    let n = length t.bidders * 8 in
+    let n = length t.bidders * MOST_SESSIONS in
     let at : (b s : ℕ) → IsSessionOf t b s → slot_at (replicate n empty_slot) b s ≡ empty_slot = λ b s known.
-    get_or-replicate n (slot_of b s) empty_slot empty_slot (slot-within b s (length t.bidders) known.bidder_least known.bidder_most known.session_least (at_most_eight t terms b s known)) in
+    get_or-replicate n (slot_of b s) empty_slot empty_slot (slot-within b s (length t.bidders) known.bidder_least known.bidder_most known.session_least (few-sessions t terms b s known)) in
     record {
       size = length-replicate n empty_slot;
-      eight = at_most_eight t terms;
+      most = few-sessions t terms;
       times_are = λ b s known. ap (λ (o : Slot). o.times) (at b s known);
       within = λ b s known some. (let none : (slot_at (replicate n empty_slot) b s).times ≡ 0 = ap (λ (o : Slot). o.times) (at b s known) in absurd (omega arith));
       named = λ b s d known some. (let none : (slot_at (replicate n empty_slot) b s).times ≡ 0 = ap (λ (o : Slot). o.times) (at b s known) in absurd (omega arith));
@@ -91,7 +92,7 @@ module _ (t : Terms) (sessions : List SessionOwn) (n : ℕ) (slots : List Slot) 
 
   at-same : (b s : ℕ) → slot_of b s ≡ slot_of x.bidder x.session → slot_at counted b s ≡ slot
   at-same b s same =
-      let within : slot_of x.bidder x.session < length slots = (let w = slot-within x.bidder x.session (length t.bidders) known.bidder_least known.bidder_most known.session_least (was.eight x.bidder x.session known) in let size = was.size in omega arith) in
+      let within : slot_of x.bidder x.session < length slots = (let w = slot-within x.bidder x.session (length t.bidders) known.bidder_least known.bidder_most known.session_least (was.most x.bidder x.session known) in let size = was.size in omega arith) in
       ap (λ i. slice_index_or (set slots (slot_of x.bidder x.session) slot) i empty_slot) same ∙ get_or-set_same slots (slot_of x.bidder x.session) slot empty_slot within
 
   at-other : (b s : ℕ) → (slot_of b s ≡ slot_of x.bidder x.session → ⊥) → slot_at counted b s ≡ slot_at slots b s
@@ -99,7 +100,7 @@ module _ (t : Terms) (sessions : List SessionOwn) (n : ℕ) (slots : List Slot) 
 
   same-session : (b s : ℕ) → IsSessionOf t b s → slot_of b s ≡ slot_of x.bidder x.session → (b ≡ x.bidder) × (s ≡ x.session)
   same-session b s of_rules same =
-      slot-same b s x.bidder x.session of_rules.bidder_least of_rules.session_least (was.eight b s of_rules) known.bidder_least known.session_least (was.eight x.bidder x.session known) same
+      slot-same b s x.bidder x.session of_rules.bidder_least of_rules.session_least (was.most b s of_rules) known.bidder_least known.session_least (was.most x.bidder x.session known) same
 
   named-here : (b s : ℕ) → (b ≡ x.bidder) × (s ≡ x.session) → (d : SessionOwn) → is_named b s (slice_index_or sessions n d) ≡ true
   named-here b s same d = ap (is_named b s) (here d) ∙ is-named b s x (sym same.0) (sym same.1)
@@ -107,7 +108,7 @@ module _ (t : Terms) (sessions : List SessionOwn) (n : ℕ) (slots : List Slot) 
   pub slots-more : AreSlots t sessions (n + 1) counted
   slots-more = record {
     size = length-set slots (slot_of x.bidder x.session) slot ∙ was.size;
-    eight = was.eight;
+    most = was.most;
     times_are = λ b s of_rules. elim (cases_eq (slot_of b s) (slot_of x.bidder x.session)) [
       | inl same ↦
           let is = same-session b s of_rules same in

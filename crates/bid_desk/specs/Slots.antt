@@ -1,14 +1,15 @@
 -- Where each session stands in a list of sessions.
 use Rattle.std.specs.Prelude.{ℕ, ◌+◌, ◌-◌, ◌*◌, ◌≡◌, ◌≢◌, ◌<◌, ◌≤◌, List, length, take, slice_index_or, IsTrue}
 use Rattle.auction_terms.specs.Terms.{Terms}
+use Rattle.auction_terms.specs.declared.limits.TheConstants.{MOST_SESSIONS}
 use Rattle.bid_desk.specs.declared.slots.Slot.{Slot}
 use Rattle.bid_desk.specs.Holding.{SessionOwn}
 use Rattle.bid_desk.specs.Sessions.{IsSessionOf}
 use Rattle.bid_desk.specs.Settlement.{IsBefore, is_named, times}
 
--- the place of a session's slot: eight slots for each bidder
+-- the place of a session's slot: each bidder has one for each session that it may have
 abbrev pub slot_of : ℕ → ℕ → ℕ
-slot_of b s = (b - 1) * 8 + (s - 1)
+slot_of b s = (b - 1) * MOST_SESSIONS + (s - 1)
 
 abbrev pub empty_slot : Slot
 empty_slot = record { times = 0; place = 0 }
@@ -18,8 +19,8 @@ slot_at slots b s = slice_index_or slots (slot_of b s) empty_slot
 
 -- how often each session stands among the first n of a list, and where it stands last
 pub record AreSlots (t : Terms) (sessions : List SessionOwn) (n : ℕ) (slots : List Slot) : Type 0 where
-  pub size : length slots ≡ length t.bidders * 8
-  pub eight : (b s : ℕ) → IsSessionOf t b s → s ≤ 8
+  pub size : length slots ≡ length t.bidders * MOST_SESSIONS
+  pub most : (b s : ℕ) → IsSessionOf t b s → s ≤ MOST_SESSIONS
   pub times_are : (b s : ℕ) → IsSessionOf t b s → (slot_at slots b s).times ≡ times b s (take n sessions)
   pub within : (b s : ℕ) → IsSessionOf t b s → 1 ≤ (slot_at slots b s).times → (slot_at slots b s).place < n
   pub named : (b s : ℕ) (d : SessionOwn) → IsSessionOf t b s → 1 ≤ (slot_at slots b s).times → IsTrue (is_named b s (slice_index_or sessions (slot_at slots b s).place d))

@@ -6,7 +6,7 @@ ghost use Rattle.bid_desk.specs.Slots.{AllOnce, AreSlots, IsFirstWrong, slot_of}
 
 use crate::round::Round;
 use crate::session::Session;
-use auction_terms::Rules;
+use auction_terms::{MOST_SESSIONS, Rules};
 use std::alloc::{AllocError, Global};
 
 /// How often a session stands in a list, and where it stands last.
@@ -16,13 +16,16 @@ pub(crate) struct Slot {
     pub(crate) place: usize,
 }
 
-/// The place of a session's slot: eight slots for each bidder.
+/// How many slots a bidder has: one for each session that it may have.
+const SLOTS: usize = MOST_SESSIONS as usize;
+
+/// The place of a session's slot.
 pub(crate) fn slot_of(bidder: u16, session: u8) -> usize
     requires bidder { 1 ≤ bidder }
     requires session { 1 ≤ session }
     ensures { result ≡ slot_of bidder session }
 {
-    (usize::from(bidder) - 1) * 8 + (usize::from(session) - 1)
+    (usize::from(bidder) - 1) * SLOTS + (usize::from(session) - 1)
 }
 
 /// The slots of the sessions of all bidders.
@@ -36,7 +39,7 @@ pub(crate) fn slots_of<L: Round>(
     ensures terms { AreTerms L.rules }
 {
     let empty = Slot { times: 0, place: 0 };
-    let mut slots = vec![in alloc; empty; rules.bidders().len() * 8]?;
+    let mut slots = vec![in alloc; empty; rules.bidders().len() * SLOTS]?;
     for place in 0..sessions.len() {
         let slot = sessions[place].slot();
         let times = slots[slot].times + 1;
@@ -47,12 +50,12 @@ pub(crate) fn slots_of<L: Round>(
 
 /// The session whose slot is at a place, where the rules name one.
 pub(crate) fn session_at(rules: &Rules, place: usize) -> Option<(u16, u8)>
-    requires { place < length rules.now.bidders * 8 }
+    requires { place < length rules.now.bidders * MOST_SESSIONS }
     ensures some { IfSome result (λ x. IsSessionOf rules.now x.0 x.1 × (slot_of x.0 x.1 ≡ place)) }
     ensures none { IfNone result ((b s : ℕ) → IsSessionOf rules.now b s → slot_of b s ≢ place) }
 {
-    let bidder = place / 8;
-    let session = place % 8 + 1;
+    let bidder = place / SLOTS;
+    let session = place % SLOTS + 1;
     if session <= usize::from(rules.bidders()[bidder].sessions) {
         Some((bidder as u16 + 1, session as u8))
     } else {
@@ -62,8 +65,8 @@ pub(crate) fn session_at(rules: &Rules, place: usize) -> Option<(u16, u8)>
 
 /// The first session of the rules that does not stand just once.
 pub(crate) fn missing(rules: &Rules, slots: &[Slot]) -> Option<(u16, u8)>
-    requires size { length slots.now ≡ length rules.now.bidders * 8 }
-    requires eight { (b s : ℕ) → IsSessionOf rules.now b s → s ≤ 8 }
+    requires size { length slots.now ≡ length rules.now.bidders * MOST_SESSIONS }
+    requires most { (b s : ℕ) → IsSessionOf rules.now b s → s ≤ MOST_SESSIONS }
     ensures none { IfNone result (AllOnce rules.now slots.now) }
     ensures some { IfSome result (λ x. IsFirstWrong rules.now slots.now x.0 x.1) }
 {

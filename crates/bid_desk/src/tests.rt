@@ -1,7 +1,7 @@
 ghost use Rattle.std.specs.Prelude.{◌≡◌, ◌+◌, IfOk};
 ghost use Rattle.auction_terms.specs.Terms.{session_count};
 
-use crate::{Cause, Chair, ClosedBook, Desk, Round, Session, Stopped, Unsettled};
+use crate::{ClosedBook, Desk, Round, Session};
 use auction_terms::{Rules, read_rules};
 use bid_book::{Entry, Reply};
 use bid_forms::{Form, read_form};
@@ -12,6 +12,9 @@ use std::sync::{Arc, Wait};
 use std::test::Fail;
 use std::thread;
 use std::thread::Threads;
+
+mod raced;
+mod refused;
 
 const RULES: &[u8] =
     b"rules,1,1,,\ncategory,A,2,10,1\ncategory,B,1,5,1\nbidder,Alpha,9,2,\nbidder,Beta,9,1,\nbidder,Gamma,9,1,\n";
@@ -181,174 +184,6 @@ fn both_sessions_submit_and_withdraw(rt: HostRuntime) -> Result<(), Fail> {
     assert!(rt;
         replies_are(closed.history(), &one_after_the_other)
             || replies_are(closed.history(), &both_first)
-    );
-    Ok(())
-}
-
-/// What is settled.
-#[derive(Drop)]
-struct Parts<L: Round> {
-    stopped: Stopped<L>,
-    chair: Chair<L>,
-    sessions: Vec<Session<L>>,
-}
-
-/// Why these parts are not settled. They come back.
-fn cause<L: Round>(alloc: Global, parts: Parts<L>) -> Option<(Parts<L>, Cause)> {
-    let Parts {
-        stopped,
-        chair,
-        sessions,
-    } = parts;
-    match stopped.settle(alloc, chair, sessions) {
-        Ok(_) => None,
-        Err(refused) => {
-            let Unsettled {
-                stopped,
-                chair,
-                sessions,
-                cause,
-            } = refused;
-            Some((
-                Parts {
-                    stopped,
-                    chair,
-                    sessions,
-                },
-                cause,
-            ))
-        }
-    }
-}
-
-/// Why these parts are not settled without the session at a place, which then comes last.
-fn cause_without<L: Round>(
-    alloc: Global,
-    parts: Parts<L>,
-    place: usize,
-) -> Option<(Parts<L>, Cause)> {
-    let mut parts = parts;
-    if place >= parts.sessions.len() {
-        return None;
-    }
-    let session = parts.sessions.remove(place);
-    let (mut parts, cause) = cause(alloc, parts)?;
-    let _ = parts.sessions.push(session);
-    Some((parts, cause))
-}
-
-/// Closes the round of these parts.
-fn close<L: Round, R: Wait>(rt: &R, parts: Parts<L>) -> Parts<L> {
-    let Parts {
-        stopped,
-        mut chair,
-        sessions,
-    } = parts;
-    let desk = stopped.resume();
-    let _ = desk.enter(rt).close(&mut chair);
-    Parts {
-        stopped: desk.stop(),
-        chair,
-        sessions,
-    }
-}
-
-/// Why a desk is not settled: before the close, without Alpha's second session, and without Gamma's; and then its book.
-fn causes<L: Round, R: Wait>(
-    rt: &R,
-    alloc: Global,
-    blank: Blank,
-    rules: Rules,
-) -> Option<([Cause; 3], ClosedBook)>
-    requires name { blank.name ≡ L.name }
-    requires parts { blank.parts ≡ L.parts }
-    requires part_count { (blank.parts ≡ L.part_count) × (L.part_count ≡ session_count rules + 1) }
-    requires rules { rules ≡ L.rules }
-{
-    let Ok((desk, chair, sessions)) = Desk::<L>::open(alloc, blank, rules) else {
-        return None;
-    };
-    let (parts, open) = cause(
-        alloc,
-        Parts {
-            stopped: desk.stop(),
-            chair,
-            sessions,
-        },
-    )?;
-    let (parts, second) = cause_without(alloc, close(rt, parts), 1)?;
-    let (parts, gamma) = cause_without(alloc, parts, 2)?;
-    let Parts {
-        stopped,
-        chair,
-        sessions,
-    } = parts;
-    let closed = stopped.settle(alloc, chair, sessions).ok()?;
-    Some(([open, second, gamma], closed))
-}
-
-#[test]
-fn settlement_is_refused(rt: HostRuntime) -> Result<(), Fail> {
-    let rules = read_rules(rt.alloc(), RULES)?;
-    let blank = blank(&rules)?;
-    let (causes, closed) = causes::<Brand, _>(&rt, rt.alloc(), blank, rules).ok_or("settled")?;
-    assert!(rt;
-        causes
-            == [
-                Cause::StillOpen,
-                Cause::Sessions {
-                    bidder: 1,
-                    session: 2
-                },
-                Cause::Sessions {
-                    bidder: 3,
-                    session: 1
-                },
-            ]
-    );
-    assert_eq!(rt; closed.history().len(), 1);
-    Ok(())
-}
-
-/// Why a closed desk is not settled without any session of its first bidder.
-fn cause_without_both<L: Round, R: Wait>(
-    rt: &R,
-    alloc: Global,
-    blank: Blank,
-    rules: Rules,
-) -> Option<Cause>
-    requires name { blank.name ≡ L.name }
-    requires parts { blank.parts ≡ L.parts }
-    requires part_count { (blank.parts ≡ L.part_count) × (L.part_count ≡ session_count rules + 1) }
-    requires rules { rules ≡ L.rules }
-{
-    let Ok((desk, chair, mut sessions)) = Desk::<L>::open(alloc, blank, rules) else {
-        return None;
-    };
-    sessions.retain(|session| session.bidder() != 1);
-    let parts = close(
-        rt,
-        Parts {
-            stopped: desk.stop(),
-            chair,
-            sessions,
-        },
-    );
-    let (_, cause) = cause(alloc, parts)?;
-    Some(cause)
-}
-
-#[test]
-fn settlement_without_a_bidder(rt: HostRuntime) -> Result<(), Fail> {
-    let rules = read_rules(rt.alloc(), RULES)?;
-    let blank = blank(&rules)?;
-    let cause = cause_without_both::<Brand, _>(&rt, rt.alloc(), blank, rules);
-    assert!(rt;
-        cause
-            == Some(Cause::Sessions {
-                bidder: 1,
-                session: 1
-            })
     );
     Ok(())
 }

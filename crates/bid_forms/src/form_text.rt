@@ -1,6 +1,6 @@
 //! The text of a form.
 
-ghost use Rattle.std.specs.Prelude.{◌≡◌, ◌≤◌, ◌<◌, ◌+◌, ◌++◌, [], ◌∷◌, None, Err, All, IfOk, OnOk, IsTrue, drop, length, map};
+ghost use Rattle.std.specs.Prelude.{◌≡◌, ◌≤◌, ◌<◌, ◌+◌, ◌++◌, [], ◌∷◌, None, Some, Err, All, IfOk, OnOk, IsTrue, drop, length, map};
 ghost use Rattle.std.specs.Str.{bytes_eq};
 ghost use Rattle.std.specs.Cmp.Lexicographic.{pointwise};
 ghost use Rattle.csv.specs.Records.{fields_of};
@@ -11,6 +11,7 @@ ghost use Rattle.auction_terms.specs.declared.limits.TheConstants.{MOST_CATEGORI
 ghost use Rattle.bid_forms.specs.Fingerprints.{AreSeen};
 ghost use Rattle.bid_forms.specs.Offers.{IsWithinLimits, Meets, eligibility_of, is_bid_under, number_of_package, offers};
 ghost use Rattle.bid_forms.specs.FormText.{Answers, Tells, TellsFault, amount_checks, bid_fault, bid_of, bidder_in, fault_of_bid, form_of, header_checks, is_header, package_checks, quantities_in, quantity_checks};
+ghost use Rattle.bid_forms.specs.FormFaultText.{form_fault_text};
 ghost use Rattle.bid_forms.specs.declared.form_text.FormFault.TheVariants as fault;
 
 use crate::form::{Form, eligibility_of};
@@ -24,41 +25,74 @@ use auction_terms::{
 use csv::ByteRecord;
 use std::alloc::{AllocError, Global};
 use std::collections::HashSet;
+use std::fmt;
 use thiserror::Error;
 
 /// Why a text is no form. A place is the number of a record, from 1.
 #[derive(Clone, Copy, Debug, PartialEq, Eq, Error)]
 pub enum FormFault {
-    #[error("the text has more than 4 MiB")]
+    /// The text has more than `TEXT_LIMIT` bytes.
     TooLarge,
-    #[error("record {place} is not a bidder and then the categories in order")]
+    /// The first record isn't a bidder and then the categories in order, or there is no record.
     Header { place: u32 },
-    #[error("record {place} names an unknown bidder")]
+    /// The first record names an unknown bidder.
     UnknownBidder { place: u32 },
-    #[error("record {place} has not one field more than there are categories")]
+    /// The record hasn't one field more than there are categories.
     FieldCount { place: u32 },
-    #[error("the amount of record {place} is not 1 to 18 digits")]
+    /// The amount isn't 1 to 18 digits.
     AmountText { place: u32 },
-    #[error("the amount of record {place} is outside its limits")]
+    /// The amount is outside its limits.
     AmountRange { place: u32 },
-    #[error("the amount of record {place} is no multiple of the step")]
+    /// The amount is no multiple of the step.
     AmountStep { place: u32 },
-    #[error("a quantity of record {place} is not 1 to 18 digits")]
+    /// A quantity isn't 1 to 18 digits.
     QuantityText { place: u32 },
-    #[error("a quantity of record {place} is outside its limits")]
+    /// A quantity is outside its limits.
     QuantityRange { place: u32 },
-    #[error("record {place} has no lot")]
+    /// The package has no lot.
     EmptyPackage { place: u32 },
-    #[error("record {place} is over the bidder's eligibility")]
+    /// The package is over the bidder's eligibility.
     OverEligibility { place: u32 },
-    #[error("the amount of record {place} is below the reserve")]
+    /// The amount is below the reserve.
     BelowReserve { place: u32 },
-    #[error("record {place} repeats the package of bid {earlier}")]
+    /// The bid of the number `earlier`, from 1, has the same package.
     RepeatedPackage { place: u32, earlier: u32 },
-    #[error("record {place} is one bid too many")]
+    /// The record is one bid too many.
     TooManyBids { place: u32 },
-    #[error("out of memory")]
+    /// Memory was refused.
     OutOfMemory,
+}
+
+impl fmt::Display for FormFault {
+    ghost output = { λ fault. Some (form_fault_text fault) };
+
+    fn fmt<W: fmt::Write>(&self, f: &mut fmt::Formatter<W>) -> fmt::Result {
+        match *self {
+            FormFault::TooLarge => write!(f, "1 TooLarge"),
+            FormFault::Header { place } => write!(f, "2 Header at record {place}"),
+            FormFault::UnknownBidder { place } => write!(f, "3 UnknownBidder at record {place}"),
+            FormFault::FieldCount { place } => write!(f, "4 FieldCount at record {place}"),
+            FormFault::AmountText { place } => write!(f, "5 AmountText at record {place}"),
+            FormFault::AmountRange { place } => write!(f, "6 AmountRange at record {place}"),
+            FormFault::AmountStep { place } => write!(f, "7 AmountStep at record {place}"),
+            FormFault::QuantityText { place } => write!(f, "8 QuantityText at record {place}"),
+            FormFault::QuantityRange { place } => write!(f, "9 QuantityRange at record {place}"),
+            FormFault::EmptyPackage { place } => write!(f, "10 EmptyPackage at record {place}"),
+            FormFault::OverEligibility { place } => write!(
+                f,
+                "11 OverEligibility at record {place}"
+            ),
+            FormFault::BelowReserve { place } => write!(f, "12 BelowReserve at record {place}"),
+            FormFault::RepeatedPackage { place, earlier } => {
+                write!(
+                    f,
+                    "13 RepeatedPackage at record {place}, earlier bid {earlier}"
+                )
+            }
+            FormFault::TooManyBids { place } => write!(f, "14 TooManyBids at record {place}"),
+            FormFault::OutOfMemory => write!(f, "out of memory"),
+        }
+    }
 }
 
 impl From<AllocError> for FormFault {

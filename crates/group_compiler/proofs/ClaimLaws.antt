@@ -7,6 +7,7 @@ use Rattle.std.proofs.lemmas.List.Sums.{sum_by-cons, sum_by_push, sum_by-append,
 use Rattle.std.proofs.lemmas.Bool.Decides.{nat_tests}
 use Rattle.atomic_table.specs.Table.{Me, Allows, Splits, Joins, keeps, Final, Seen}
 use Rattle.group_compiler.specs.declared.steps.View.{View}
+use Rattle.group_compiler.specs.declared.limits.TheConstants.{ALL_DRAWS, WORKER_DRAWS}
 use Rattle.group_compiler.specs.Claims.{view, times, once_below, IsEachBelow, IsCounted, IsDrawn, left_of, right_of, joined}
 
 -- a sum after a change of one view
@@ -31,7 +32,7 @@ draws slots id me some_room s h size at fits =
     let w : View = view (v.drawn ++ n ∷ []) (v.room - 1) in
     let r = sum_set (λ (u : View). u.room) s.views id v w at in
     let all = h.rooms in
-    let low : n < 65600 = omega arith in
+    let low : n < ALL_DRAWS = omega arith in
     let next : (n + 1) % 2 ^ 64 ≡ n + 1 = mod-eq_of_lt (omega arith) in
     let word = one_set s.words ((n + 1) % 2 ^ 64) h.one_word in
     let word' : slice_index (slice_set s.words 0 ((n + 1) % 2 ^ 64)) 0 ≡ n + 1 = word.1 ∙ next in (
@@ -57,7 +58,7 @@ draws slots id me some_room s h size at fits =
       record { view_is = refl; slots = refl; below = low },
     )
 
-pub splits : (id : ℕ) (v : View) → 1025 ≤ v.room → Splits IsCounted id v (left_of v) (right_of v)
+pub splits : (id : ℕ) (v : View) → WORKER_DRAWS ≤ v.room → Splits IsCounted id v (left_of v) (right_of v)
 splits id v room s h at = record {
   one_word = h.one_word;
   each_once = λ x.
@@ -114,7 +115,7 @@ first_is [] n e = absurd (some-ne-none n (sym e))
 first_is (w ∷ ws) n e = some-injective w n e
 
 -- the claim that has every draw knows what all have drawn
-pub closes : (id : ℕ) (v : View) (words xs : List ℕ) (word : ℕ) → v.room + length v.drawn ≡ 65600 → Final (Seen IsCounted id v) words xs → get_elem? words 0 ≡ some word → IsEachBelow word v.drawn × (length v.drawn ≡ word)
+pub closes : (id : ℕ) (v : View) (words xs : List ℕ) (word : ℕ) → v.room + length v.drawn ≡ ALL_DRAWS → Final (Seen IsCounted id v) words xs → get_elem? words 0 ≡ some word → IsEachBelow word v.drawn × (length v.drawn ≡ word)
 closes id v words xs word whole f at =
     let s = f.0 in
     let h = f.1.0 in

@@ -1,16 +1,17 @@
--- What contracts see of a counter and of a claim.
+-- What contracts see of a counter and of a claim: of the counter what tells it from others, of the claim its counter and its draws.
 use Rattle.std.specs.Prelude.{◌≡◌, ℕ, List}
-use Rattle.group_compiler.specs.declared.claims.Claims.{Claims}
-use Rattle.group_compiler.specs.declared.claim.Claim.{Claim}
+use Rattle.atomic_table.specs.Seated.{TableId}
+
+pub record Claimed : Type 0 where
+  pub counter : TableId
+  -- the numbers that the claim has drawn, in order
+  pub drawn : List ℕ
+  -- how many draws it may still make
+  pub room : ℕ
+
+abbrev pub claimed : TableId → List ℕ → ℕ → Claimed
+claimed counter drawn room = record { counter = counter; drawn = drawn; room = room }
 
 -- the claim is of this counter
-abbrev pub IsOf : Claims → Claim → Type 0
-IsOf claims claim = claim.seat.table_id ≡ claims.table.shared.table_id
-
--- the numbers that the claim has drawn, in order
-abbrev pub drawn : Claim → List ℕ
-drawn claim = claim.seat.me.0.drawn
-
--- how many draws it may still make
-abbrev pub room : Claim → ℕ
-room claim = claim.seat.me.0.room
+abbrev pub IsOf : TableId → Claimed → Type 0
+IsOf counter claim = claim.counter ≡ counter

@@ -10,6 +10,7 @@ use crate::claim::Claim;
 use crate::steps::{Counted, Cut, Draws, View};
 use atomic_table::Table;
 use std::alloc::{AllocError, Global};
+use std::marker::Model;
 
 /// The counter. Its word is how many numbers were drawn.
 #[derive(Drop)]
@@ -19,35 +20,44 @@ pub struct Claims {
     ghost no_slots: { table.shared.table_id.slots ≡ 0 },
 }
 
+impl Model for Claims {
+    ghost use Rattle.atomic_table.specs.Seated.{TableId};
+
+    ghost Value = { TableId };
+
+    ghost view = { λ c. c.table.shared.table_id };
+}
+
 impl Claims {
     ghost use Rattle.std.specs.Prelude.{◌≡◌, ◌+◌, ◌<◌, ◌≤◌, [], ◌∷◌, ◌++◌, length, IfOk, OnErr};
     ghost use Rattle.group_compiler.specs.Claims.{IsEachBelow};
-    ghost use Rattle.group_compiler.specs.Claimed.{IsOf, drawn, room};
+    ghost use Rattle.group_compiler.specs.Claimed.{IsOf};
+    ghost use Rattle.group_compiler.specs.declared.limits.TheConstants.{ALL_DRAWS, WORKER_DRAWS};
 
-    /// A counter of which nothing is drawn, and the one claim to all its 65,600 draws.
+    /// A counter of which nothing is drawn, and the one claim to all its draws.
     pub fn open(alloc: Global) -> Result<(Claims, Claim), AllocError>
         ensures same { IfOk result (λ opened. IsOf opened.0 opened.1) }
-        ensures drawn { IfOk result (λ opened. drawn opened.1 ≡ []) }
-        ensures room { IfOk result (λ opened. room opened.1 ≡ 65600) }
+        ensures drawn { IfOk result (λ opened. opened.1.drawn ≡ []) }
+        ensures room { IfOk result (λ opened. opened.1.room ≡ ALL_DRAWS) }
     {
         let (table, seat) = Table::of_words(alloc, &[0], &())?;
         Ok((Claims { table }, Claim { seat }))
     }
 
-    /// Gives 1,025 of the claim's draws to a new claim.
+    /// Gives the draws of one worker to a new claim.
     pub fn split(&self, claim: &mut Claim) -> Result<Claim, AllocError>
         requires same { IsOf self.now claim.old }
-        requires room { 1025 ≤ room claim.old }
+        requires room { WORKER_DRAWS ≤ claim.old.room }
 
         // The claim keeps its list, and gives its draws away only where there is a new claim.
         ensures same { IsOf self.now claim.new }
-        ensures drawn { drawn claim.new ≡ drawn claim.old }
-        ensures room { IfOk result (λ other. room claim.new + room other ≡ room claim.old) }
-        ensures err { OnErr result (room claim.new ≡ room claim.old) }
+        ensures drawn { claim.new.drawn ≡ claim.old.drawn }
+        ensures room { IfOk result (λ other. claim.new.room + other.room ≡ claim.old.room) }
+        ensures err { OnErr result (claim.new.room ≡ claim.old.room) }
 
         ensures other { IfOk result (λ other. IsOf self.now other) }
-        ensures other_drawn { IfOk result (λ other. drawn other ≡ []) }
-        ensures other_room { IfOk result (λ other. room other ≡ 1025) }
+        ensures other_drawn { IfOk result (λ other. other.drawn ≡ []) }
+        ensures other_room { IfOk result (λ other. other.room ≡ WORKER_DRAWS) }
     {
         let seat = self.table.shared.split_seat::<Cut>(&mut claim.seat);
         Ok(Claim { seat })
@@ -56,11 +66,11 @@ impl Claims {
     /// Draws the next number, from 0, which no claim has drawn or will draw again.
     pub fn draw(&self, claim: &mut Claim) -> u64
         requires same { IsOf self.now claim.old }
-        requires room { 0 < room claim.old }
+        requires room { 0 < claim.old.room }
         ensures same { IsOf self.now claim.new }
-        ensures drawn { drawn claim.new ≡ drawn claim.old ++ result ∷ [] }
-        ensures room { room claim.new + 1 ≡ room claim.old }
-        ensures below { result < 65600 }
+        ensures drawn { claim.new.drawn ≡ claim.old.drawn ++ result ∷ [] }
+        ensures room { claim.new.room + 1 ≡ claim.old.room }
+        ensures below { result < ALL_DRAWS }
     {
         self.table.shared.fetch_add::<Draws>(&mut claim.seat, 0, 1)
     }
@@ -70,8 +80,8 @@ impl Claims {
         requires same { IsOf self.now claim.old }
         requires other { IsOf self.now other }
         ensures same { IsOf self.now claim.new }
-        ensures drawn { drawn claim.new ≡ drawn claim.old ++ drawn other }
-        ensures room { room claim.new ≡ room claim.old + room other }
+        ensures drawn { claim.new.drawn ≡ claim.old.drawn ++ other.drawn }
+        ensures room { claim.new.room ≡ claim.old.room + other.room }
     {
         let Claim { seat } = other;
         self.table.shared.join_seat::<Cut>(&mut claim.seat, seat);
@@ -80,9 +90,9 @@ impl Claims {
     /// How many numbers were drawn, where the claim has every draw: its list has the numbers below, each once and no other.
     pub fn close(self, claim: Claim) -> u64
         requires same { IsOf self claim }
-        requires whole { room claim + length (drawn claim) ≡ 65600 }
-        ensures each_once { IsEachBelow result (drawn claim) }
-        ensures count { length (drawn claim) ≡ result }
+        requires whole { claim.room + length claim.drawn ≡ ALL_DRAWS }
+        ensures each_once { IsEachBelow result claim.drawn }
+        ensures count { length claim.drawn ≡ result }
     {
         let Claims { table } = self;
         let Claim { seat } = claim;

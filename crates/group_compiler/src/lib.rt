@@ -6,6 +6,7 @@ mod claims;
 mod compiled;
 mod compiling;
 mod gate;
+mod limits;
 mod ordering;
 mod pool;
 mod steps;
@@ -16,6 +17,7 @@ pub use claims::Claims;
 pub use compiled::Compiled;
 pub use compiling::compile_one;
 pub use gate::{Gate, OpenGate};
+pub use limits::{ALL_DRAWS, MOST_WORKERS, WORKER_DRAWS};
 pub use pool::compile_all;
 
 #[cfg(test)]

@@ -9,9 +9,10 @@ ghost use Rattle.std.specs.Prelude.{◌≡◌, ◌+◌, ◌-◌, ◌*◌, ◌<�
 ghost use Rattle.auction_terms.specs.Terms.{lots_in};
 ghost use Rattle.bid_desk.specs.Closing.{book_of};
 ghost use Rattle.presolve.specs.Flags.{flags_of};
-ghost use Rattle.group_compiler.specs.Claimed.{IsOf, drawn, room};
+ghost use Rattle.group_compiler.specs.Claimed.{IsOf};
 ghost use Rattle.group_compiler.specs.Compiled.{compiled};
 ghost use Rattle.group_compiler.specs.Works.{IsJoined, IsWork, draws};
+ghost use Rattle.group_compiler.specs.declared.limits.TheConstants.{MOST_WORKERS, WORKER_DRAWS};
 
 use crate::claim::Claim;
 use crate::claims::Claims;
@@ -28,7 +29,7 @@ use std::sync::Wait;
 use std::thread;
 use std::thread::{Promise, Threads};
 
-/// What a worker's thread promises: its work from a claim of 1,025 draws.
+/// What a worker's thread promises: its work from a claim with the draws of one worker.
 #[derive(Drop)]
 pub struct WorkOfOneClaim {
     pub claims: Snapshot<Claims>,
@@ -39,8 +40,9 @@ pub struct WorkOfOneClaim {
 impl Promise<Result<Work, AllocError>> for WorkOfOneClaim {
     ghost use Rattle.std.specs.Prelude.{IfOk};
     ghost use Rattle.group_compiler.specs.Works.{IsJoined, IsWork, draws};
+    ghost use Rattle.group_compiler.specs.declared.limits.TheConstants.{WORKER_DRAWS};
 
-    ghost kept_by = { λ p r. IfOk r (λ work. IsWork p.claims.value p.book.value p.groups.value work × (draws work ≡ 1025)) };
+    ghost kept_by = { λ p r. IfOk r (λ work. IsWork p.claims.value p.book.value p.groups.value work × (draws work ≡ WORKER_DRAWS)) };
 }
 
 // The work of two claims, as that of one.
@@ -69,10 +71,10 @@ fn run_workers<R: Threads + Wait + Sync, G: Gate + Sync>(
 ) -> Result<Work, AllocError>
     requires flags { flags.now ≡ flags_of (lots_in book.now.rules) (book_of book.now) }
     requires same { IsOf claims.now claim }
-    requires fresh { drawn claim ≡ [] }
-    requires room { 1025 * workers ≤ room claim }
+    requires fresh { claim.drawn ≡ [] }
+    requires room { WORKER_DRAWS * workers ≤ claim.room }
     requires workers { 0 < workers }
-    ensures { IfOk result (λ work. IsWork claims.now book.now groups.now work × (draws work ≡ room claim)) }
+    ensures { IfOk result (λ work. IsWork claims.now book.now groups.now work × (draws work ≡ claim.room)) }
 {
     if workers == 1 {
         return compile_drawn(rt, alloc, book, flags, groups, claims, gate, claim);
@@ -82,8 +84,8 @@ fn run_workers<R: Threads + Wait + Sync, G: Gate + Sync>(
         thread::scope_env(),
         rt,
         |scope| -> Result<(Result<Work, AllocError>, Result<Work, AllocError>), AllocError>
-            requires { IsSync R.row × IsSync G.row × (flags.now ≡ flags_of (lots_in book.now.rules) (book_of book.now)) × IsOf claims.now other × (drawn other ≡ []) × (room other ≡ 1025) × IsOf claims.now claim × (drawn claim ≡ []) × (1025 * (workers - 1) ≤ room claim) × (1 < workers) }
-            ensures { IfOk result (λ r. IfOk r.0 (λ work. IsWork claims.entry.now book.entry.now groups.entry.now work × (draws work ≡ room claim)) × IfOk r.1 (λ work. IsWork claims.entry.now book.entry.now groups.entry.now work × (draws work ≡ 1025))) }
+            requires { IsSync R.row × IsSync G.row × (flags.now ≡ flags_of (lots_in book.now.rules) (book_of book.now)) × IsOf claims.now other × (other.drawn ≡ []) × (other.room ≡ WORKER_DRAWS) × IsOf claims.now claim × (claim.drawn ≡ []) × (WORKER_DRAWS * (workers - 1) ≤ claim.room) × (1 < workers) }
+            ensures { IfOk result (λ r. IfOk r.0 (λ work. IsWork claims.entry.now book.entry.now groups.entry.now work × (draws work ≡ claim.room)) × IfOk r.1 (λ work. IsWork claims.entry.now book.entry.now groups.entry.now work × (draws work ≡ WORKER_DRAWS))) }
         {
             let promise = WorkOfOneClaim {
                 claims: Snapshot::of(claims),
@@ -122,7 +124,7 @@ pub fn compile_all<'g, R: Threads + Wait + Sync, G: Gate + Sync>(
     gate: &G,
 ) -> Result<Vec<Compiled<'g>>, AllocError>
     requires some { 1 ≤ workers }
-    requires few { workers ≤ 64 }
+    requires few { workers ≤ MOST_WORKERS }
     ensures { IfOk result (λ all. all.items ≡ map (compiled book.now) groups.now) }
 {
     let flags = Flags::new(rt, alloc, book)?;

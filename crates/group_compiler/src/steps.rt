@@ -16,10 +16,11 @@ pub struct Counted;
 
 impl TableRule<u8, View, ()> for Counted {
     ghost use Rattle.group_compiler.specs.Claims.{IsCounted, view};
+    ghost use Rattle.group_compiler.specs.declared.limits.TheConstants.{ALL_DRAWS};
 
     ghost holds = { λ _. IsCounted };
 
-    ghost first = { λ _. view [] 65600 };
+    ghost first = { λ _. view [] ALL_DRAWS };
 }
 
 // A draw appends the number found.
@@ -31,7 +32,7 @@ impl Play<u8, View> for Draws {
     ghost then = { λ _ before found after. IsDrawn before found after };
 }
 
-// A cut gives 1,025 draws away, and a join takes the other's list and draws.
+// A cut gives the draws of one worker away, and a join takes the other's list and draws.
 pub struct Cut;
 
 impl Split<View> for Cut {

@@ -18,6 +18,9 @@ use std::test::Fail;
 use std::thread;
 use std::thread::Threads;
 
+mod refused;
+mod wide;
+
 const RULES: &[u8] =
     b"rules,1,1,,\ncategory,A,2,10,1\ncategory,B,1,5,1\nbidder,Alpha,9,2,\nbidder,Beta,9,1,\nbidder,Gamma,9,1,\n";
 
@@ -41,18 +44,24 @@ const FOUR_GROUPS: &[u8] = b"-\nAlpha\nBeta\nAlpha+Beta+Gamma\n";
 
 const TURNS: u64 = 10_000_000;
 
-/// Each worker waits until another one has come.
+/// The first and the second group set their flags, and each waits for the other's.
 #[derive(Drop)]
 struct Meeting {
-    arrived: AtomicU64,
+    first: AtomicU64,
+    second: AtomicU64,
     met: AtomicU64,
 }
 
 impl Gate for Meeting {
-    fn arrive<R: Wait>(&self, _rt: &R, _group: usize) {
-        self.arrived.fetch_add(1, SeqCst);
+    fn arrive<R: Wait>(&self, _rt: &R, group: usize) {
+        let (own, other) = if group == 1 {
+            (&self.first, &self.second)
+        } else {
+            (&self.second, &self.first)
+        };
+        own.store(1, SeqCst);
         for _ in 0..TURNS {
-            if self.arrived.load(SeqCst) >= 2 {
+            if other.load(SeqCst) == 1 {
                 self.met.fetch_add(1, SeqCst);
                 return;
             }
@@ -126,21 +135,24 @@ fn blank(rules: &Rules) -> Result<Blank, Fail>
     Ok(Blank::new(parts))
 }
 
-/// Submits the forms of the session's bidder through its first session.
-fn submit<L: Round, R: Wait>(
+/// Submits the forms of the session's bidder through its first session, and tells whether memory sufficed.
+fn submits<L: Round, R: Wait>(
     rt: &R,
     desk: &Desk<L>,
     session: &mut Session<L>,
     forms: &[Arc<Form, Global>],
-) {
+) -> bool {
     for form in forms {
         if session.session() == 1 && form.bidder() == session.bidder() && form.meets(desk.rules()) {
-            let _ = desk.enter(rt).submit(session, form, None);
+            if desk.enter(rt).submit(session, form, None).is_err() {
+                return false;
+            }
         }
     }
+    true
 }
 
-/// The book in which these forms stand.
+/// The book in which these forms stand. None where memory is short.
 fn settled<L: Round, R: Wait>(
     rt: &R,
     alloc: Global,
@@ -153,26 +165,36 @@ fn settled<L: Round, R: Wait>(
     requires part_count { (blank.parts ≡ L.part_count) × (L.part_count ≡ session_count rules + 1) }
     requires rules { rules ≡ L.rules }
 {
-    let Ok((desk, mut chair, mut sessions)) = Desk::<L>::open(alloc, blank, rules) else {
-        return None;
-    };
+    let (desk, mut chair, mut sessions) = Desk::<L>::open(alloc, blank, rules).ok()?;
     for session in &mut sessions {
-        submit(rt, &desk, session, forms);
+        if !submits(rt, &desk, session, forms) {
+            return None;
+        }
     }
-    let _ = desk.enter(rt).close(&mut chair);
+    desk.enter(rt).close(&mut chair).ok()?;
     desk.stop().settle(alloc, chair, sessions).ok()
 }
 
-/// The book of the worked auction.
-fn worked_book<R: Wait>(rt: &R, alloc: Global) -> Result<ClosedBook, Fail> {
-    let rules = read_rules(alloc, RULES)?;
+/// The book of rules and forms.
+fn book_of<R: Wait>(
+    rt: &R,
+    alloc: Global,
+    rules: &[u8],
+    texts: &[&[u8]],
+) -> Result<ClosedBook, Fail> {
+    let rules = read_rules(alloc, rules)?;
     let mut forms = Vec::new(alloc);
-    for text in &FORMS {
+    for text in texts {
         forms.push(Arc::new(alloc, read_form(alloc, *text, &rules)?)?)?;
     }
     let blank = blank(&rules)?;
     let book = settled::<Brand, _>(rt, alloc, blank, rules, forms.as_slice());
-    Ok(book.ok_or("settled")?)
+    Ok(book.ok_or("out of memory")?)
+}
+
+/// The book of the worked auction.
+fn worked_book<R: Wait>(rt: &R, alloc: Global) -> Result<ClosedBook, Fail> {
+    book_of(rt, alloc, RULES, &FORMS)
 }
 
 fn is_text(alloc: Global, compiled: &Compiled<'_>, text: &[u8]) -> bool {
@@ -264,7 +286,7 @@ fn frees<R: Threads + Wait + Sync>(
     Ok(all.len() == 3 && gate.freed.load(SeqCst) == 1)
 }
 
-/// How many of two workers come past the gate at which each waits for another one.
+/// How many of two workers come past the gate at which each waits for the other one.
 fn met<R: Threads + Wait + Sync>(
     rt: &R,
     alloc: Global,
@@ -272,10 +294,14 @@ fn met<R: Threads + Wait + Sync>(
     groups: &Groups,
 ) -> Result<u64, Fail> {
     let gate = Meeting {
-        arrived: AtomicU64::new(0),
+        first: AtomicU64::new(0),
+        second: AtomicU64::new(0),
         met: AtomicU64::new(0),
     };
-    let _all = compile_all(rt, alloc, book, groups, 2, &gate)?;
+    let all = compile_all(rt, alloc, book, groups, 2, &gate)?;
+    if all.len() != 2 || !is_text(alloc, &all[0], ALL) || !is_text(alloc, &all[1], WITHOUT_BETA) {
+        return Ok(0);
+    }
     Ok(gate.met.load(SeqCst))
 }
 
@@ -300,7 +326,7 @@ fn one_group_is_compiled(rt: HostRuntime) -> Result<(), Fail> {
 #[test]
 fn two_workers_meet(rt: HostRuntime) -> Result<(), Fail> {
     let book = worked_book(&rt, rt.alloc())?;
-    let groups = read_groups(rt.alloc(), b"-\nAlpha\n", book.rules())?;
+    let groups = read_groups(rt.alloc(), b"-\nBeta\n", book.rules())?;
     assert_eq!(rt; met(&rt, rt.alloc(), &book, &groups)?, 2);
     Ok(())
 }

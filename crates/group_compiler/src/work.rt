@@ -2,10 +2,12 @@
 
 ghost use Rattle.std.specs.Prelude.{◌≡◌, ◌+◌, ◌<◌, ◌≤◌, [], length, IfOk};
 ghost use Rattle.auction_terms.specs.Terms.{lots_in};
+ghost use Rattle.auction_terms.specs.declared.limits.TheConstants.{MOST_GROUPS};
 ghost use Rattle.bid_desk.specs.Closing.{book_of};
 ghost use Rattle.presolve.specs.Flags.{flags_of};
-ghost use Rattle.group_compiler.specs.Claimed.{IsOf, drawn, room};
+ghost use Rattle.group_compiler.specs.Claimed.{IsOf};
 ghost use Rattle.group_compiler.specs.Works.{IsProgramOf, IsWork, draws};
+ghost use Rattle.group_compiler.specs.declared.limits.TheConstants.{WORKER_DRAWS};
 
 use crate::claim::Claim;
 use crate::claims::Claims;
@@ -45,9 +47,9 @@ pub(crate) fn compile_drawn<R: Wait, G: Gate>(
 ) -> Result<Work, AllocError>
     requires flags { flags.now ≡ flags_of (lots_in book.now.rules) (book_of book.now) }
     requires same { IsOf claims.now claim }
-    requires fresh { drawn claim ≡ [] }
-    requires room { 1025 ≤ room claim }
-    ensures { IfOk result (λ work. IsWork claims.now book.now groups.now work × (draws work ≡ room claim)) }
+    requires fresh { claim.drawn ≡ [] }
+    requires room { WORKER_DRAWS ≤ claim.room }
+    ensures { IfOk result (λ work. IsWork claims.now book.now groups.now work × (draws work ≡ claim.room)) }
 {
     let count = groups.count() as u64;
     let mut results = Vec::new(alloc);
@@ -71,7 +73,7 @@ fn compile_numbered(
     number: u64,
 ) -> Result<Numbered, AllocError>
     requires flags { flags.now ≡ flags_of (lots_in book.now.rules) (book_of book.now) }
-    requires few { length groups.now ≤ 1024 }
+    requires few { length groups.now ≤ MOST_GROUPS }
     requires below { number < length groups.now }
     ensures number { IfOk result (λ numbered. numbered.number ≡ number) }
     ensures program { IfOk result (λ numbered. IsProgramOf book.now groups.now numbered) }

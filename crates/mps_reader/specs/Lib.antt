@@ -8,3 +8,4 @@ pub mod Ending
 pub mod Told
 pub mod Tracking
 pub mod Answer
+pub mod MpsFaultText

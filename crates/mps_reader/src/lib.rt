@@ -18,6 +18,7 @@ mod entries;
 mod fields;
 mod finishing;
 mod headers;
+mod limits;
 mod lines;
 mod markers;
 mod mps_fault;
@@ -37,5 +38,6 @@ mod tests;
 mod values;
 mod words;
 
+pub use limits::PROGRAM_LIMIT;
 pub use mps_fault::MpsFault;
-pub use reader::{TEXT_LIMIT, read_program};
+pub use reader::read_program;

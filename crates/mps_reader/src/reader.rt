@@ -8,15 +8,13 @@ ghost use Rattle.program_rows.specs.Meaning.{meaning};
 ghost use Rattle.program_rows.specs.declared.fault.FaultKind.TheVariants.{TooLarge};
 
 use crate::finishing::finished;
+use crate::limits::PROGRAM_LIMIT;
 use crate::mps_fault::MpsFault;
 use crate::reading::{start, take_line};
 use crate::refusal::Refusal;
 use auction_terms::LineReader;
 use program_rows::{FaultKind, Program};
 use std::alloc::Global;
-
-/// The most bytes of a text that is read.
-pub const TEXT_LIMIT: usize = 64 * 1024 * 1024;
 
 fn refused(line: usize, refusal: Refusal) -> MpsFault
     ensures line { result.line ≤ line }
@@ -32,7 +30,7 @@ fn refused(line: usize, refusal: Refusal) -> MpsFault
 }
 
 fn read_lines(alloc: Global, text: &[u8]) -> Result<Program, MpsFault>
-    requires { length text.now ≤ 67108864 }
+    requires { length text.now ≤ PROGRAM_LIMIT }
     ensures ends { OnOk result (Ends text.now) }
     ensures line { IfErr result (λ e. e.line ≤ length (lines_of text.now)) }
     ensures meaning { IsRead result (meaning text.now) }
@@ -61,12 +59,12 @@ fn read_lines(alloc: Global, text: &[u8]) -> Result<Program, MpsFault>
 
 /// The program that an MPS text describes, or its first faulty line.
 pub fn read_program(alloc: Global, text: &[u8]) -> Result<Program, MpsFault>
-    ensures too_large { 67108864 < length text.now → result ≡ Err (record { line = 0; kind = TooLarge }) }
+    ensures too_large { PROGRAM_LIMIT < length text.now → result ≡ Err (record { line = 0; kind = TooLarge }) }
     ensures ends { OnOk result (Ends text.now) }
     ensures line { IfErr result (λ e. e.line ≤ length (lines_of text.now)) }
-    ensures meaning { length text.now ≤ 67108864 → IsRead result (meaning text.now) }
+    ensures meaning { length text.now ≤ PROGRAM_LIMIT → IsRead result (meaning text.now) }
 {
-    if text.len() > TEXT_LIMIT {
+    if text.len() > PROGRAM_LIMIT {
         return Err(MpsFault {
             line: 0,
             kind: FaultKind::TooLarge,

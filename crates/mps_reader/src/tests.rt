@@ -1,12 +1,25 @@
 use crate::read_program;
-use program_rows::FaultKind;
+use program_rows::{FaultKind, same_program};
 use std::test::Fail;
+
+mod refused;
 
 const PLAIN: &[u8] =
     b"NAME wdp\nROWS\n N OBJ\n L B3\n L C1\n L C2\nCOLUMNS\n M1 'MARKER' 'INTORG'\n X3_1 OBJ -12\n X3_1 B3 1\n X3_1 C2 1\n M2 'MARKER' 'INTEND'\nRHS\n RHS B3 1\n RHS C1 2\n RHS C2 1\nBOUNDS\n UP BND X3_1 1\nENDATA\n";
 
 const FOREIGN: &[u8] =
     b"* made elsewhere\r\nNAME\r\nOBJSENSE MIN\r\nROWS\r\n\tN OBJ\r\n N SPARE\r\n L B3\r\n L C1\r\n L C2\r\n\r\nCOLUMNS\r\n X3_1 OBJ -1.2e1 SPARE 7\r\n X3_1 B3 1.0 C2 10e-1\r\nRHS\r\n B3 1 C1 2.0\r\n RHS C2 1\r\nBOUNDS\r\n BV X3_1\r\nENDATA\r\nnot read\r\n";
+
+const TWO_COLUMNS: &[u8] =
+    b"NAME wdp\nROWS\n N OBJ\n L B1\n G B2\n E C1\nCOLUMNS\n X1_1 OBJ -30\n X1_1 B1 1\n X1_1 C1 2\n X2_1 OBJ -20\n X2_1 B2 1\n X2_1 C1 1\nRHS\n RHS B1 1\n RHS C1 2\nBOUNDS\n BV BND X1_1\n BV BND X2_1\nENDATA\n";
+
+// The same program: its rows and its columns, and the lines of each, stand the other way round.
+const TWO_COLUMNS_TURNED: &[u8] =
+    b"NAME other\nROWS\n E C1\n G B2\n L B1\n N OBJ\nCOLUMNS\n X2_1 C1 1 B2 1\n X2_1 OBJ -20\n X1_1 C1 2\n X1_1 B1 1\n X1_1 OBJ -30\nRHS\n RHS C1 2\n RHS B1 1\nBOUNDS\n BV BND X2_1\n BV BND X1_1\nENDATA\n";
+
+// The turned one with another coefficient.
+const OTHER_COLUMNS: &[u8] =
+    b"NAME other\nROWS\n E C1\n G B2\n L B1\n N OBJ\nCOLUMNS\n X2_1 C1 2 B2 1\n X2_1 OBJ -20\n X1_1 C1 2\n X1_1 B1 1\n X1_1 OBJ -30\nRHS\n RHS C1 2\n RHS B1 1\nBOUNDS\n BV BND X2_1\n BV BND X1_1\nENDATA\n";
 
 // The plain text, each line with its line feed, with other bytes in place of one line, counted from 1.
 fn with_line(rt: &HostRuntime, number: usize, line: &[u8]) -> Result<Vec<u8>, Fail> {
@@ -119,7 +132,25 @@ fn refuses_lines(rt: HostRuntime) -> Result<(), Fail> {
 
 #[test]
 fn takes_an_objective_without_a_constant(rt: HostRuntime) -> Result<(), Fail> {
-    assert!(rt; fault_with(&rt, 14, b" RHS OBJ 0\n")? == None);
+    let text = with_line(&rt, 14, b" RHS OBJ 0\n")?;
+    let program = read_program(rt.alloc(), text.as_slice())?;
+    assert_eq!(rt; program.row_count(), 3);
+    assert_eq!(rt; program.row_name(0), b"B3".as_slice());
+    assert_eq!(rt; program.right_side(0), 0);
+    Ok(())
+}
+
+#[test]
+fn reads_one_program_in_any_order(rt: HostRuntime) -> Result<(), Fail> {
+    let program = read_program(rt.alloc(), TWO_COLUMNS)?;
+    let turned = read_program(rt.alloc(), TWO_COLUMNS_TURNED)?;
+    assert!(rt; program.row_count() == 3 && turned.row_count() == 3);
+    assert_eq!(rt; program.row_name(0), b"B1".as_slice());
+    assert_eq!(rt; turned.row_name(0), b"C1".as_slice());
+    assert!(rt; same_program(&program, &turned));
+    let other = read_program(rt.alloc(), OTHER_COLUMNS)?;
+    assert!(rt; !same_program(&program, &other));
+    assert!(rt; !same_program(&other, &program));
     Ok(())
 }
 

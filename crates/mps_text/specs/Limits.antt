@@ -1,9 +1,14 @@
--- How much a limited sink still takes, and how much of that in one put.
-use Rattle.std.specs.Prelude.{ℕ}
-use Rattle.mps_text.specs.declared.limit_sink.LimitSink.{LimitSink}
+-- A sink with limits, as contracts see it.
+use Rattle.std.specs.Prelude.{ℕ, List}
 
-abbrev pub room_of : LimitSink → ℕ
-room_of sink = sink.room
+pub record Limited : Type 0 where
+  -- the bytes that it has taken
+  pub taken : List ℕ
+  -- how much it still takes, and how much of that in one put
+  pub room : ℕ
+  pub most : ℕ
+  -- how many puts have failed
+  pub failures : ℕ
 
-abbrev pub most_of : LimitSink → ℕ
-most_of sink = sink.most
+abbrev pub limited : List ℕ → ℕ → ℕ → ℕ → Limited
+limited taken room most failures = record { taken = taken; room = room; most = most; failures = failures }

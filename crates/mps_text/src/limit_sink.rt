@@ -4,8 +4,9 @@ ghost use Rattle.mps_text.specs.Sinks.{one_more};
 
 use crate::sink::{Sink, SinkFailed};
 use std::alloc::Global;
+use std::marker::Model;
 
-/// A sink for tests: it takes at most `most` bytes a put, and fails once it has taken `room` altogether.
+/// A sink for tests: it takes at most `most` bytes a put, and fails once it has taken `room` altogether. Contracts see what it has taken and what is left of its limits.
 #[derive(Drop)]
 pub struct LimitSink {
     bytes: Vec<u8>,
@@ -14,15 +15,21 @@ pub struct LimitSink {
     failures: u64,
 }
 
-impl LimitSink {
-    ghost use Rattle.mps_text.specs.Limits.{room_of, most_of};
+impl Model for LimitSink {
+    ghost use Rattle.mps_text.specs.Limits.{Limited, limited};
 
+    ghost Value = { Limited };
+
+    ghost view = { λ s. limited s.bytes.items s.room s.most s.failures };
+}
+
+impl LimitSink {
     /// A sink without bytes, with room for so many, of which a put takes at most `most`.
     pub fn new(alloc: Global, room: usize, most: usize) -> Self
         ensures taken { ⟦<LimitSink as Sink>⟧.taken result ≡ Some [] }
         ensures failures { ⟦<LimitSink as Sink>⟧.failures result ≡ 0 }
-        ensures room { room_of result ≡ room }
-        ensures most { most_of result ≡ most }
+        ensures room { result.room ≡ room }
+        ensures most { result.most ≡ most }
     {
         LimitSink {
             bytes: Vec::new(alloc),
@@ -48,9 +55,7 @@ fn share(piece: usize, most: usize, room: usize) -> usize
 }
 
 impl Sink for LimitSink {
-    ghost use Rattle.mps_text.specs.Limits.{room_of, most_of};
-
-    ghost taken = { λ s. Some s.bytes.items };
+    ghost taken = { λ s. Some s.taken };
 
     ghost failures = { λ s. s.failures };
 
@@ -61,10 +66,10 @@ impl Sink for LimitSink {
         ensures kept { OnErr result (Keeps (⟦<LimitSink as Sink>⟧.taken self.old) (⟦<LimitSink as Sink>⟧.taken self.new)) }
         ensures succeeded { OnOk result (⟦<LimitSink as Sink>⟧.failures self.new ≡ ⟦<LimitSink as Sink>⟧.failures self.old) }
         ensures failed { OnErr result (⟦<LimitSink as Sink>⟧.failures self.new ≡ one_more (⟦<LimitSink as Sink>⟧.failures self.old)) }
-        ensures share { IfOk result (λ n. n ≡ min (length bytes.now) (min (most_of self.old) (room_of self.old))) }
-        ensures room { IfOk result (λ n. room_of self.new + n ≡ room_of self.old) }
-        ensures room_kept { OnErr result (room_of self.new ≡ room_of self.old) }
-        ensures most { most_of self.new ≡ most_of self.old }
+        ensures share { IfOk result (λ n. n ≡ min (length bytes.now) (min self.old.most self.old.room)) }
+        ensures room { IfOk result (λ n. self.new.room + n ≡ self.old.room) }
+        ensures room_kept { OnErr result (self.new.room ≡ self.old.room) }
+        ensures most { self.new.most ≡ self.old.most }
     {
         let count = share(bytes.len(), self.most, self.room);
         if count > 0 || bytes.is_empty() {

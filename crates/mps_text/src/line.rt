@@ -8,6 +8,12 @@ pub const LINES_LEN: usize = 1024;
 /// How long the front of a line is at most: a blank, a name and a blank.
 pub const FRONT_LEN: usize = 16;
 
+/// How long the name in a front is at most.
+pub const FRONT_NAME_LEN: usize = FRONT_LEN - 2;
+
+/// The room that a line is written in: its front, four bytes of a name, and four with the number.
+pub const LINE_ROOM: usize = FRONT_LEN + 8;
+
 /// Writes a name of two to four bytes from a place on: its first two bytes and its last two, with no branch on how many it has.
 fn write_name(line: &mut [u8], at: usize, name: &[u8])
     requires some { 2 ≤ length name.now }
@@ -54,13 +60,13 @@ pub fn write_line(
     name: &[u8],
     number: u8,
 ) -> usize
-    requires front { front_len ≤ 16 }
+    requires front { front_len ≤ FRONT_LEN }
     requires some { 2 ≤ length name.now }
     requires few { length name.now ≤ 4 }
     requires small { number < 100 }
-    requires room { at + 24 ≤ length lines.old }
+    requires room { at + LINE_ROOM ≤ length lines.old }
     ensures written { take result lines.new ≡ take at lines.old ++ (take front_len front.now ++ (name.now ++ (32 ∷ (decimal number ++ 10 ∷ [])))) }
-    ensures within { result ≤ at + 24 }
+    ensures within { result ≤ at + LINE_ROOM }
     ensures length { length lines.new ≡ length lines.old }
 {
     lines[at..at + FRONT_LEN].copy_from_slice(front);
@@ -71,9 +77,9 @@ pub fn write_line(
 
 /// Writes a blank, a name and a blank, and tells where they end.
 pub fn write_front(front: &mut [u8; FRONT_LEN], name: &[u8]) -> usize
-    requires short { length name.now ≤ 14 }
+    requires short { length name.now ≤ FRONT_NAME_LEN }
     ensures written { take result front.new ≡ 32 ∷ (name.now ++ 32 ∷ []) }
-    ensures within { result ≤ 16 }
+    ensures within { result ≤ FRONT_LEN }
 {
     let end = 1 + name.len();
     front[0] = b' ';

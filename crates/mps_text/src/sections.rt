@@ -11,7 +11,7 @@ ghost use Rattle.mps_text.specs.Bytes.{row_bytes, right_side_bytes, bound_bytes,
 use crate::adding::add;
 use crate::block::Block;
 use crate::data_lines::{add_three, add_two};
-use crate::line::{FRONT_LEN, LINES_LEN, write_front, write_line};
+use crate::line::{FRONT_LEN, FRONT_NAME_LEN, LINE_ROOM, LINES_LEN, write_front, write_line};
 use crate::sink::{Sink, SinkFailed};
 use itoa::Buffer;
 use program_rows::{Bounds, Column, Columns, Row, RowKind};
@@ -124,14 +124,14 @@ fn write_entry(
     name: &[u8],
     entry: &(usize, i64),
 ) -> Option<usize>
-    requires within { front_len ≤ 16 }
+    requires within { front_len ≤ FRONT_LEN }
     requires front { take front_len front.now ≡ 32 ∷ (name.now ++ 32 ∷ []) }
     ensures written { IfSome result (λ end. take end lines.new ≡ take at lines.old ++ entry_bytes (map shown_row rows.now) name.now entry.now) }
-    ensures within { IfSome result (λ end. end ≤ 1024) }
+    ensures within { IfSome result (λ end. end ≤ LINES_LEN) }
 {
     let _of_the_front = name;
     let row = name_at(rows, entry.0);
-    if at <= LINES_LEN - 24 && is_short(row, entry.1) {
+    if at <= LINES_LEN - LINE_ROOM && is_short(row, entry.1) {
         return Some(write_line(lines, at, front, front_len, row, entry.1 as u8));
     }
     None
@@ -144,9 +144,9 @@ fn write_entries(
     name: &[u8],
     entries: &[(usize, i64)],
 ) -> Option<usize>
-    requires { length name.now ≤ 14 }
+    requires { length name.now ≤ FRONT_NAME_LEN }
     ensures written { IfSome result (λ end. take end lines.new ≡ flat_map (entry_bytes (map shown_row rows.now) name.now) entries.now) }
-    ensures within { IfSome result (λ end. end ≤ 1024) }
+    ensures within { IfSome result (λ end. end ≤ LINES_LEN) }
 {
     let mut front = [0; FRONT_LEN];
     let front_len = write_front(&mut front, name);

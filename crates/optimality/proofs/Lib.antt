@@ -11,3 +11,4 @@ pub mod BranchLaws
 pub mod VerdictLaws
 pub mod LineCount
 pub mod Worked
+pub mod ProductBounds

@@ -12,3 +12,4 @@ pub mod Answers
 pub mod Branches
 pub mod Verdict
 pub mod Checking
+pub mod CertificateFaultText

@@ -1,5 +1,5 @@
 -- Opportunity costs lie between what the group's lots are worth and what the group pays.
-use Rattle.std.proofs.Common.{◌≡◌, ℕ, zero, suc, ◌+◌, ◌-◌, ◌≤◌, Bool, true, false, not, ◌==◌, List, [], ◌∷◌, is_some, length, map, refl, le_refl, le-leb, leb-true, arith, pos, ◌-ℤ◌, ◌≤ℤ◌}
+use Rattle.std.proofs.Common.{◌≡◌, ℕ, zero, suc, ◌+◌, ◌-◌, ◌≤◌, Bool, true, false, not, ◌==◌, List, [], ◌∷◌, is_some, length, map, refl, le_refl, le-leb, leb-true, ap₂, arith, pos, ◌-ℤ◌, ◌≤ℤ◌}
 use Rattle.std.specs.Prelude.{sum_by, filter, cond}
 use Rattle.std.specs.List.{range_with_len}
 use Rattle.std.proofs.lemmas.Bool.{and_parts, and_from}
@@ -15,7 +15,8 @@ use Rattle.auction_terms.proofs.WeighedLaws.{weighed_le}
 use Rattle.auction_terms.proofs.PackageLaws.{fits_smaller}
 use Rattle.auction_terms.proofs.AllocationLaws.{total_is}
 use Rattle.outcome.specs.Report.{amounts_of_group}
-use Rattle.outcome.specs.Costs.{CostsAreBounded, CostsCoverLots, worth_of_group}
+use Rattle.outcome.specs.Costs.{CostsAreBounded, CostsAreOwn, CostsCoverLots, IsGreatestTotal, worth_of_group}
+use Rattle.program_rows.specs.Faithful.{IsGreatest}
 
 -- ---- what smaller packages leave
 
@@ -104,3 +105,17 @@ costs_cover_lots lots book group first a sized best other =
     let same = freed (total lots book (filter outside first)) (total lots book first) (amounts_of_group book group first) (sum_by (amount_of book) (filter outside first)) (sum_by (amount_of book) first)
     (sum_by (weighed_choice lots.values book) first) (worth_of_group lots book group first) (sum_by (weighed_choice lots.values book) (filter outside first)) (worth_of_all lots) others all amounts worths in
     covered (total lots book a) (total lots book first) (amounts_of_group book group first) (total lots book (filter outside first)) (worth_of_group lots book group first) same (other.greatest (filter outside first) feasible)
+
+-- there is one greatest total
+one_greatest : (lots : Lots) (book : Book) (group : ℕ → Bool) (amount : ℕ) (a : List Choice) → IsGreatestTotal lots book group amount → IsGreatest lots book group a → total lots book a ≡ amount
+one_greatest lots book group amount a reached best =
+    let most = reached.greatest.greatest a best.feasible in
+    let least = best.greatest reached.allocation reached.greatest.feasible in
+    let is = reached.has_total in
+    omega arith
+
+pub costs_are_own : CostsAreOwn
+costs_are_own lots book group first a of_all less reached_by_all reached_less best other =
+    let whole = one_greatest lots book (λ b. false) of_all first reached_by_all best in
+    let part = one_greatest lots book (has group) less a reached_less other in
+    ap₂ (λ (t f : ℕ). pos t -ℤ (pos f -ℤ pos (amounts_of_group book group first))) part whole

@@ -1,5 +1,5 @@
 -- Opportunity costs of allocations of greatest total.
-use Rattle.std.specs.Prelude.{ℕ, ◌≤◌, false, List, filter, sum_by, pos, ◌≤ℤ◌}
+use Rattle.std.specs.Prelude.{◌≡◌, ℕ, ◌≤◌, Bool, false, List, filter, sum_by, ℤ, pos, ◌-ℤ◌, ◌≤ℤ◌}
 use Rattle.auction_terms.specs.Groups.{has}
 use Rattle.auction_terms.specs.declared.choices.Choice.{Choice}
 use Rattle.auction_terms.specs.Packages.{Lots}
@@ -26,3 +26,20 @@ worth_of_group lots book group a = sum_by (weighed_choice lots.values book) (fil
 abbrev pub CostsCoverLots : Type 0
 CostsCoverLots = (lots : Lots) (book : Book) (group : List ℕ) (first a : List Choice) → IsSized lots book
     → IsGreatest lots book (λ b. false) first → IsGreatest lots book (has group) a → pos (worth_of_group lots book group first) ≤ℤ cost lots book first group a
+
+-- a total that a feasible allocation without a group has, and none exceeds
+pub record IsGreatestTotal (lots : Lots) (book : Book) (group : ℕ → Bool) (amount : ℕ) : Type 0 where
+  pub allocation : List Choice
+  pub greatest : IsGreatest lots book group allocation
+  pub has_total : total lots book allocation ≡ amount
+
+-- the opportunity cost of a group that has these amounts of its own: the greatest total without it, less what is left of the greatest total of all without them
+abbrev pub opportunity_cost : ℕ → ℕ → ℕ → ℤ
+opportunity_cost of_all without own = pos without -ℤ (pos of_all -ℤ pos own)
+
+-- so the costs of allocations of greatest total are the auction's own, whichever allocations these are
+abbrev pub CostsAreOwn : Type 0
+CostsAreOwn = (lots : Lots) (book : Book) (group : List ℕ) (first a : List Choice) (of_all without : ℕ)
+    → IsGreatestTotal lots book (λ b. false) of_all → IsGreatestTotal lots book (has group) without
+    → IsGreatest lots book (λ b. false) first → IsGreatest lots book (has group) a
+    → cost lots book first group a ≡ opportunity_cost of_all without (amounts_of_group book group first)

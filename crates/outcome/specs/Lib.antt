@@ -6,3 +6,4 @@ pub mod Coming
 pub mod Sale
 pub mod Report
 pub mod Costs
+pub mod SolutionFaultText

@@ -1,12 +1,13 @@
 //! Totals and opportunity costs.
 
-ghost use Rattle.std.specs.Prelude.{◌≡◌, ◌≤◌, ◌+◌, ◌*◌, ◌^◌, length, sum_by};
+ghost use Rattle.std.specs.Prelude.{◌≡◌, ◌≤◌, ◌<◌, ◌+◌, ◌*◌, ◌^◌, length, sum_by};
 ghost use Rattle.auction_terms.specs.Terms.{lots_in};
 ghost use Rattle.auction_terms.specs.Allocations.{amount_of, total};
 ghost use Rattle.auction_terms.specs.declared.limits.TheConstants.{GREATEST_QUANTITY, GREATEST_VALUE, MOST_CATEGORIES};
 ghost use Rattle.bid_desk.specs.Closing.{book_of};
 ghost use Rattle.outcome.specs.Report.{amounts_of_group, cost};
 
+use crate::allocation::Allocation;
 use crate::sale::amount_of;
 use crate::unsold::worth_left;
 use auction_terms::{Choice, Group};
@@ -30,6 +31,14 @@ pub fn total_of(book: &ClosedBook, choices: &[Choice]) -> u128
     ensures small { result ≤ length choices.now * 2 ^ 64 + MOST_CATEGORIES * (GREATEST_VALUE * GREATEST_QUANTITY) }
 {
     amounts_of(book, choices) + worth_left(book, choices)
+}
+
+/// The sum of the amounts of an allocation, and what the lots are worth that it leaves.
+pub fn total(book: &ClosedBook, allocation: &Allocation) -> u128
+    ensures sum { result ≡ total (lots_in book.now.rules) (book_of book.now) allocation.now }
+    ensures small { result < 2 ^ 127 }
+{
+    total_of(book, allocation.choices())
 }
 
 /// The sum of the amounts of the group's bidders.

@@ -1,7 +1,7 @@
 //! Laws of the definitions: what a solution comes back to, and what costs say of best allocations.
 
 ghost use Rattle.outcome.specs.Coming.{AnswersOfSolversComeBack, PointsComeBack, SolutionsArePoints, SolutionsComeBack};
-ghost use Rattle.outcome.specs.Costs.{CostsAreBounded, CostsCoverLots};
+ghost use Rattle.outcome.specs.Costs.{CostsAreBounded, CostsAreOwn, CostsCoverLots};
 ghost use Rattle.outcome.specs.Winning.{TakesWhatIsNamed};
 
 /// The values that a solution tells are a point of the program.
@@ -37,4 +37,9 @@ pub fn a_cost_is_bounded()
 /// And it is at least what the lots of its bidders would be worth, were they left.
 pub fn a_cost_covers_the_lots()
     ensures { CostsCoverLots }
+{}
+
+/// And it is the auction's own: it depends on the greatest totals with the group and without it, and on the amounts of the group's own bids in the first allocation, and not on which allocations of greatest total were found.
+pub fn a_cost_is_the_auctions_own()
+    ensures { CostsAreOwn }
 {}

@@ -22,6 +22,7 @@ mod winning;
 mod writing;
 
 pub use allocation::Allocation;
+pub use costs::total;
 pub use fault::{SolutionFault, ValueFault};
 pub use heading::add_names_line;
 pub use limits::{SOLUTION_LIMIT, TOLERANCE_PARTS};

@@ -10,6 +10,8 @@ use program_rows::{Bounds, Columns, Point, Program, ProgramParts, Row, RowKind};
 use std::alloc::{AllocError, Global};
 use std::test::Fail;
 
+mod refused;
+
 fn row(alloc: Global, name: &[u8], most: i64) -> Result<Row, AllocError>
     ensures { IfOk result (λ r. shown_row r ≡ record { name = name.now; kind = AtMost; right_side = most }) }
 {

@@ -11,6 +11,9 @@ use std::alloc::Global;
 use std::fmt::Write;
 use std::test::Fail;
 
+mod books;
+mod refused;
+
 const RULES: &[u8] =
     b"rules,1,1,,\ncategory,A,2,10,1\ncategory,B,1,5,1\nbidder,Alpha,9,2,\nbidder,Beta,9,1,\nbidder,Gamma,9,1,\n";
 

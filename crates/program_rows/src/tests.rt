@@ -7,6 +7,8 @@ use crate::spelling::bid_named;
 use auction_terms::{Choice, Kept, read_rules};
 use std::test::Fail;
 
+mod refused;
+
 const RULES: &[u8] = b"rules,1,1,,\ncategory,A,2,10,1\ncategory,B,1,5,1\nbidder,Alpha,9,2,\n";
 
 const WITH_VALUES: &[u8] =

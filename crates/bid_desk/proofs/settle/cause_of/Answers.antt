@@ -12,8 +12,8 @@ use Rattle.bid_desk.proofs.SettleLemmas.{callers_from_entries, own_from_agrees}
 use Rattle.bid_desk.proofs.SlotLemmas.{first-missing, stand-once}
 use Rattle.bid_desk.proofs.settle.cause_of.Goals as goal
 
-pub missing-requires-clause-eight : goal.missing-requires-clause-eight
-missing-requires-clause-eight g c b s known = c.in_ok-slots.ensures.slots.eight b s (subst (λ (t : Terms). IsSessionOf t b s) c.stopped.invariant known)
+pub missing-requires-clause-most : goal.missing-requires-clause-most
+missing-requires-clause-most g c b s known = c.in_ok-slots.ensures.slots.most b s (subst (λ (t : Terms). IsSessionOf t b s) c.stopped.invariant known)
 
 pub returns-in-Some-clause-some : goal.returns-in-Some-clause-some
 returns-in-Some-clause-some g c =

@@ -64,7 +64,7 @@ returns-in-Some-difference-clause-differs g c =
       known = known;
       differs = session-differs t sessions slots c.requires.slots c.requires.once b s known at x place (sym c.index-sessions-at.is) h c.in-Some-difference.place
           (subst (λ (w : List (Call Offers × Reply Offers)). IsFirstDifference (own_pairs h (caller_of x)) w c.in-Some-difference.place) c.own.ensures.pairs differs);
-      first = λ d u earlier before. c.loop-slot.invariant d u earlier (subst (λ m. slot_of d u < m) is (slot-before d u b s earlier.bidder_least earlier.session_least (c.requires.slots.eight d u earlier) known.session_least before));
+      first = λ d u earlier before. c.loop-slot.invariant d u earlier (subst (λ m. slot_of d u < m) is (slot-before d u b s earlier.bidder_least earlier.session_least (c.requires.slots.most d u earlier) known.session_least before));
     }
 
 pub loop-slot-preserved : goal.loop-slot-preserved
@@ -91,7 +91,7 @@ loop-slot-preserved g c d u of_rules less =
                 let compared = c.in_ok-comparisons.ensures.each at x o (omega (arith, leads, place)) (sym w.index-sessions-at.is) (sym w.index-comparison.ensures) in
                 let own = w.in_default-difference.ensures.same (own_pairs h (caller_of x)) (subst (λ (v : List (Call Offers × Reply Offers)). IsCompared (own_pairs h (caller_of x)) v o) (sym w.own.ensures.pairs) compared) in
                 let agrees = session-agrees t sessions slots c.requires.slots c.requires.once b s known at x place (sym w.index-sessions-at.is) h (own ∙ w.own.ensures.pairs) in
-                let one = slot-same b s d u known.bidder_least known.session_least (c.requires.slots.eight b s known) of_rules.bidder_least of_rules.session_least (c.requires.slots.eight d u of_rules) (is ∙ sym same) in
+                let one = slot-same b s d u known.bidder_least known.session_least (c.requires.slots.most b s known) of_rules.bidder_least of_rules.session_least (c.requires.slots.most d u of_rules) (is ∙ sym same) in
                 subst (λ m. AgreesAt h sessions m u) one.0 (subst (λ m. AgreesAt h sessions b m) one.1 agrees)
             | in_default w ↦ absurd (w.in_default.ensures.none d u (subst (λ (t : Terms). IsSessionOf t d u) (sym c.requires.rules) of_rules) same)
           ]
@@ -104,7 +104,7 @@ returns-in-Some-difference-2-clause-differs g c =
     let compared = subst (λ (w : List (Call Offers × Reply Offers)). IsCompared (own_pairs h Chair) w c.in_ok-comparisons.comparisons.chair) (sym c.own-2.ensures.pairs) c.in_ok-comparisons.ensures.chair_is in (
       record {
         each = λ b s known. c.loop-slot.invariant b s known
-            (let within = slot-within b s (length t.bidders) known.bidder_least known.bidder_most known.session_least (c.requires.slots.eight b s known) in omega (arith, within, c.requires.slots.size, c.loop-slot-test.false));
+            (let within = slot-within b s (length t.bidders) known.bidder_least known.bidder_most known.session_least (c.requires.slots.most b s known) in omega (arith, within, c.requires.slots.size, c.loop-slot-test.false));
       },
       subst (λ (w : List (Call Offers × Reply Offers)). IsFirstDifference (own_pairs h Chair) w c.in-Some-difference-2.place) c.own-2.ensures.pairs (c.in-Some-difference-2.ensures.differs (own_pairs h Chair) compared),
     )
@@ -114,7 +114,7 @@ returns-clause-sessions g c =
     let t = g.L.Round.rules in
     record {
       each = λ b s known. c.loop-slot.invariant b s known
-          (let within = slot-within b s (length t.bidders) known.bidder_least known.bidder_most known.session_least (c.requires.slots.eight b s known) in omega (arith, within, c.requires.slots.size, c.loop-slot-test.false));
+          (let within = slot-within b s (length t.bidders) known.bidder_least known.bidder_most known.session_least (c.requires.slots.most b s known) in omega (arith, within, c.requires.slots.size, c.loop-slot-test.false));
     }
 
 pub returns-clause-chair : goal.returns-clause-chair

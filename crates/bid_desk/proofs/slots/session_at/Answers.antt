@@ -1,6 +1,6 @@
 use Rattle.std.proofs.Common.{ℕ, ◌≡◌, ◌+◌, ◌-◌, ◌/◌, ◌%◌, ◌<◌, ◌≤◌, length, ap, sym, ◌∙◌, arith}
 use Rattle.std.specs.Prelude.{slice_index_or}
-use Rattle.bid_desk.proofs.SlotLemmas.{at_most_eight, limit-at, slot-place}
+use Rattle.bid_desk.proofs.SlotLemmas.{few-sessions, limit-at, slot-place}
 use Rattle.auction_terms.specs.declared.rules.Bidder.{Bidder}
 use Rattle.bid_desk.specs.Sessions.{session_limit}
 use Rattle.bid_desk.proofs.slots.session_at.Goals as goal
@@ -8,7 +8,7 @@ use Rattle.bid_desk.proofs.slots.session_at.Goals as goal
 pub returns-else-session-from-clause-none : goal.returns-else-session-from-clause-none
 returns-else-session-from-clause-none c b s known is =
     let t = c.args.rules.now in
-    let at = slot-place b s c.args.place known.bidder_least known.session_least (at_most_eight t c.bidders.ensures.terms b s known) is in
+    let at = slot-place b s c.args.place known.bidder_least known.session_least (few-sessions t c.bidders.ensures.terms b s known) is in
     let least = known.bidder_least in
     let most = known.bidder_most in
     let x = c.index-bidders-bidder.result in

@@ -4,6 +4,7 @@ use Rattle.std.proofs.lemmas.List.{get_or_default, length-take-le}
 use Rattle.std.proofs.lemmas.List.Sums.{count_by-le-length}
 use Rattle.auction_terms.specs.Terms.{AreTerms, Terms}
 use Rattle.auction_terms.specs.declared.rules.Bidder.{Bidder}
+use Rattle.auction_terms.specs.declared.limits.TheConstants.{MOST_SESSIONS}
 use Rattle.bid_desk.specs.declared.slots.Slot.{Slot}
 use Rattle.bid_desk.specs.Holding.{SessionOwn}
 use Rattle.bid_desk.specs.Settlement.{is_named, times}
@@ -14,8 +15,8 @@ use Rattle.bid_desk.proofs.slots.slots_of.Goals as goal
 pub loop-place-init : goal.loop-place-init
 loop-place-init g c =
     let t = g.L.Round.rules in
-    let items : c.in_ok-slots.slots.items ≡ replicate (length t.bidders * 8) empty_slot =
-    c.in_ok-slots.ensures.items_if_clones_equal (λ y same. same) ∙ ap (λ (xs : List Bidder). replicate (length xs * 8) empty_slot) (c.bidders.ensures.value ∙ ap (λ (u : Terms). u.bidders) c.requires) in
+    let items : c.in_ok-slots.slots.items ≡ replicate (length t.bidders * MOST_SESSIONS) empty_slot =
+    c.in_ok-slots.ensures.items_if_clones_equal (λ y same. same) ∙ ap (λ (xs : List Bidder). replicate (length xs * MOST_SESSIONS) empty_slot) (c.bidders.ensures.value ∙ ap (λ (u : Terms). u.bidders) c.requires) in
     rw items (slots-empty t c.args.sessions.now (subst (λ u. AreTerms u) c.requires c.bidders.ensures.terms))
 
 pub index-requires : goal.index-requires
@@ -23,7 +24,7 @@ index-requires g c =
     let known = c.slot-slot.ensures.known in
     let x = c.index-sessions-place.result in
     let was = c.loop-place.invariant in
-    let small = slot-within x.bidder x.session (length g.L.Round.rules.bidders) known.bidder_least known.bidder_most known.session_least (was.eight x.bidder x.session known) in
+    let small = slot-within x.bidder x.session (length g.L.Round.rules.bidders) known.bidder_least known.bidder_most known.session_least (was.most x.bidder x.session known) in
     omega (arith, small, was.size, c.slot-slot.ensures.slot)
 
 -- the slot that is read
@@ -37,7 +38,7 @@ overflow_add-times g c =
     let known = c.slot-slot.ensures.known in
     let sessions = c.args.sessions.now in
     let place = c.loop-place.place in
-    let within = slot-within x.bidder x.session (length g.L.Round.rules.bidders) known.bidder_least known.bidder_most known.session_least (was.eight x.bidder x.session known) in
+    let within = slot-within x.bidder x.session (length g.L.Round.rules.bidders) known.bidder_least known.bidder_most known.session_least (was.most x.bidder x.session known) in
     let small : c.slot-slot.result < length c.loop-place.slots.items = omega (arith, within, was.size, c.slot-slot.ensures.slot) in
     let read : c.index.result.now.times ≡ times x.bidder x.session (take place sessions) =
     ap (λ (o : Slot). o.times) (read-is c.loop-place.slots.items c.slot-slot.result x.bidder x.session c.index.result.now small c.slot-slot.ensures.slot c.index.ensures) ∙ was.times_are x.bidder x.session known in
@@ -54,7 +55,7 @@ loop-place-preserved g c =
     let sessions = c.args.sessions.now in
     let place = c.loop-place.place in
     let slots = c.loop-place.slots.items in
-    let within = slot-within x.bidder x.session (length t.bidders) known.bidder_least known.bidder_most known.session_least (was.eight x.bidder x.session known) in
+    let within = slot-within x.bidder x.session (length t.bidders) known.bidder_least known.bidder_most known.session_least (was.most x.bidder x.session known) in
     let small : c.slot-slot.result < length slots = omega (arith, within, was.size, c.slot-slot.ensures.slot) in
     let read = read-is slots c.slot-slot.result x.bidder x.session c.index.result.now small c.slot-slot.ensures.slot c.index.ensures in
     let here = λ (d : SessionOwn). get_or_default sessions place d x c.loop-place-test.true ∙ sym c.index-sessions-place.is in
@@ -67,5 +68,5 @@ index_mut-requires g c =
     let known = c.slot-slot.ensures.known in
     let x = c.index-sessions-place.result in
     let was = c.loop-place.invariant in
-    let small = slot-within x.bidder x.session (length g.L.Round.rules.bidders) known.bidder_least known.bidder_most known.session_least (was.eight x.bidder x.session known) in
+    let small = slot-within x.bidder x.session (length g.L.Round.rules.bidders) known.bidder_least known.bidder_most known.session_least (was.most x.bidder x.session known) in
     omega (arith, small, was.size, c.slot-slot.ensures.slot)

@@ -1,7 +1,6 @@
-use Rattle.std.proofs.Common.{◌≡◌, ◌∙◌, false, true, sym}
+use Rattle.std.proofs.Common.{◌≡◌, ◌∙◌, false, sym}
 use Rattle.std.specs.Prelude.{nat_eq}
 use Rattle.std.specs.List.{list_any}
-use Rattle.bid_forms.specs.Fingerprints.{fingerprint}
 use Rattle.bid_forms.proofs.PackageFacts.{not-false, seen-more, still-known, unseen-is-new}
 use Rattle.bid_forms.proofs.seen.earlier.Goals as goal
 

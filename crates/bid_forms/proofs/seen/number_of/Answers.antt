@@ -1,4 +1,4 @@
-use Rattle.std.proofs.Common.{◌≡◌, ◌∙◌, Bool, true, false, ap, sym}
+use Rattle.std.proofs.Common.{◌≡◌, ◌∙◌, true, false, ap, sym}
 use Rattle.bid_forms.specs.Offers.{is_same}
 use Rattle.bid_forms.proofs.PackageFacts.{number-step}
 use Rattle.bid_forms.proofs.seen.number_of.Goals as goal

@@ -1,6 +1,6 @@
 use Rattle.std.proofs.Common.{◌≡◌, ◌+◌, arith}
 use Rattle.std.proofs.lemmas.Result.{IfOk-at_ok, IfOk-weaker}
-use Rattle.group_compiler.specs.Claimed.{room}
+use Rattle.group_compiler.specs.declared.limits.TheConstants.{WORKER_DRAWS}
 use Rattle.group_compiler.specs.declared.work.Work.{Work}
 use Rattle.group_compiler.specs.Works.{IsJoined, IsWork, draws}
 use Rattle.group_compiler.proofs.pool.+fn-run_workers-scope+run_workers.Goals as goal
@@ -11,15 +11,15 @@ returns g t c =
     let book = c.args.book.now in
     let groups = c.args.groups.now in
     let both = c.in_ok-mine.ensures.1 in
-    let mine = IfOk-at_ok (λ (work : Work). IsWork claims book groups work × (draws work ≡ room c.split.new.claim)) c.in_ok-mine-2.was both.0 in
-    let theirs = IfOk-at_ok (λ (work : Work). IsWork claims book groups work × (draws work ≡ 1025)) c.in_ok-theirs.was both.1 in
-    let given : room c.split.new.claim + room c.in_ok-other.other ≡ room c.args.claim = c.in_ok-other.ensures.room in
-    let taken : room c.in_ok-other.other ≡ 1025 = c.in_ok-other.ensures.other_room in
-    IfOk-weaker c.join_works.result (IsJoined claims c.in_ok-mine-2.field-0 c.in_ok-theirs.field-0) (λ (work : Work). IsWork claims book groups work × (draws work ≡ room c.args.claim))
+    let mine = IfOk-at_ok (λ (work : Work). IsWork claims book groups work × (draws work ≡ c.split.new.claim.room)) c.in_ok-mine-2.was both.0 in
+    let theirs = IfOk-at_ok (λ (work : Work). IsWork claims book groups work × (draws work ≡ WORKER_DRAWS)) c.in_ok-theirs.was both.1 in
+    let given : c.split.new.claim.room + c.in_ok-other.other.room ≡ c.args.claim.room = c.in_ok-other.ensures.room in
+    let taken : c.in_ok-other.other.room ≡ WORKER_DRAWS = c.in_ok-other.ensures.other_room in
+    IfOk-weaker c.join_works.result (IsJoined claims c.in_ok-mine-2.field-0 c.in_ok-theirs.field-0) (λ (work : Work). IsWork claims book groups work × (draws work ≡ c.args.claim.room))
     (λ work j.
-    let m : draws c.in_ok-mine-2.field-0 ≡ room c.split.new.claim = mine.1 in
-    let n : draws c.in_ok-theirs.field-0 ≡ 1025 = theirs.1 in
+    let m : draws c.in_ok-mine-2.field-0 ≡ c.split.new.claim.room = mine.1 in
+    let n : draws c.in_ok-theirs.field-0 ≡ WORKER_DRAWS = theirs.1 in
     let all : draws work ≡ draws c.in_ok-mine-2.field-0 + draws c.in_ok-theirs.field-0 = j.draws_are in
-    let whole : draws work ≡ room c.args.claim = omega arith in
+    let whole : draws work ≡ c.args.claim.room = omega arith in
     (j.work book groups mine.0 theirs.0, whole))
     c.join_works.ensures

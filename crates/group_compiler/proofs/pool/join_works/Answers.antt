@@ -1,7 +1,6 @@
 use Rattle.std.proofs.Common.{◌≡◌, ◌+◌, ◌++◌, length, ℕ, List, map, filter, nat_lt, sym, ◌∙◌, ap, subst, arith, length-append}
 use Rattle.std.specs.Prelude.{All}
 use Rattle.std.proofs.lemmas.List.Elements.{All-append}
-use Rattle.group_compiler.specs.Claimed.{drawn, room}
 use Rattle.group_compiler.specs.declared.work.Numbered.{Numbered}
 use Rattle.group_compiler.specs.Works.{IsFinished, IsProgramOf}
 use Rattle.group_compiler.proofs.WorkLaws.{finished_left, numbers_append}
@@ -9,11 +8,11 @@ use Rattle.group_compiler.proofs.pool.join_works.Goals as goal
 
 pub returns : goal.returns
 returns c =
-    let mine = drawn c.args.mine.claim in
-    let theirs = drawn c.args.theirs.claim in
-    let new : drawn c.join.new.claim ≡ mine ++ theirs = c.join.ensures.drawn in
-    let long : length (drawn c.join.new.claim) ≡ length mine + length theirs = ap (λ (xs : List ℕ). length xs) new ∙ length-append mine theirs in
-    let left : room c.join.new.claim ≡ room c.args.mine.claim + room c.args.theirs.claim = c.join.ensures.room in
+    let mine = c.args.mine.claim.drawn in
+    let theirs = c.args.theirs.claim.drawn in
+    let new : c.join.new.claim.drawn ≡ mine ++ theirs = c.join.ensures.drawn in
+    let long : length c.join.new.claim.drawn ≡ length mine + length theirs = ap (λ (xs : List ℕ). length xs) new ∙ length-append mine theirs in
+    let left : c.join.new.claim.room ≡ c.args.mine.claim.room + c.args.theirs.claim.room = c.join.ensures.room in
     let items : c.append.new.self.items ≡ c.args.mine.results.items ++ c.args.theirs.results.items = c.in_ok-append.ensures.items in
     record {
       work = λ book groups a b. record {

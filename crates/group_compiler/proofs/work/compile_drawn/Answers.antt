@@ -2,7 +2,6 @@ use Rattle.std.proofs.Common.{◌≡◌, ◌+◌, ◌<◌, ◌≤◌, ◌++◌, 
 use Rattle.std.specs.Prelude.{All}
 use Rattle.std.proofs.lemmas.List.{map-append}
 use Rattle.std.proofs.lemmas.List.Elements.{All-push}
-use Rattle.group_compiler.specs.Claimed.{drawn, room}
 use Rattle.group_compiler.specs.declared.work.Numbered.{Numbered}
 use Rattle.group_compiler.specs.Works.{IsFinished, IsProgramOf}
 use Rattle.group_compiler.proofs.WorkLaws.{kept_all, kept_but_last, finished_by}
@@ -13,13 +12,13 @@ loop-turn-preserved g c =
     let h = c.loop-turn.invariant in
     let groups = c.args.groups.now in
     let n = c.draw-number.result in
-    let old = drawn c.loop-turn.claim in
+    let old = c.loop-turn.claim.drawn in
     let r = c.in_ok-compile_numbered.field-0 in
     let before = c.loop-turn.results.items in
-    let new : drawn c.draw-number.new.claim ≡ old ++ n ∷ [] = c.draw-number.ensures.drawn in
-    let long : length (drawn c.draw-number.new.claim) ≡ length old + 1 = ap (λ (xs : List ℕ). length xs) new ∙ length-append old (n ∷ []) in
-    let left : room c.draw-number.new.claim + 1 ≡ room c.loop-turn.claim = c.draw-number.ensures.room in
-    let whole : room c.loop-turn.claim + length old ≡ room c.args.claim = h.whole in
+    let new : c.draw-number.new.claim.drawn ≡ old ++ n ∷ [] = c.draw-number.ensures.drawn in
+    let long : length c.draw-number.new.claim.drawn ≡ length old + 1 = ap (λ (xs : List ℕ). length xs) new ∙ length-append old (n ∷ []) in
+    let left : c.draw-number.new.claim.room + 1 ≡ c.loop-turn.claim.room = c.draw-number.ensures.room in
+    let whole : c.loop-turn.claim.room + length old ≡ c.args.claim.room = h.whole in
     let turns : length old ≡ c.loop-turn._turn = h.turns in
     let below : n < length groups = (let t = c.if-number-count.false in let e = c.count-count.ensures.count in omega arith) in
     let items = c.in_ok-push.ensures.items in
@@ -37,11 +36,11 @@ returns-then-number-count g c =
     let h = c.loop-turn.invariant in
     let count = length c.args.groups.now in
     let n = c.draw-number.result in
-    let old = drawn c.loop-turn.claim in
-    let new : drawn c.draw-number.new.claim ≡ old ++ n ∷ [] = c.draw-number.ensures.drawn in
-    let long : length (drawn c.draw-number.new.claim) ≡ length old + 1 = ap (λ (xs : List ℕ). length xs) new ∙ length-append old (n ∷ []) in
-    let left : room c.draw-number.new.claim + 1 ≡ room c.loop-turn.claim = c.draw-number.ensures.room in
-    let whole : room c.loop-turn.claim + length old ≡ room c.args.claim = h.whole in
+    let old = c.loop-turn.claim.drawn in
+    let new : c.draw-number.new.claim.drawn ≡ old ++ n ∷ [] = c.draw-number.ensures.drawn in
+    let long : length c.draw-number.new.claim.drawn ≡ length old + 1 = ap (λ (xs : List ℕ). length xs) new ∙ length-append old (n ∷ []) in
+    let left : c.draw-number.new.claim.room + 1 ≡ c.loop-turn.claim.room = c.draw-number.ensures.room in
+    let whole : c.loop-turn.claim.room + length old ≡ c.args.claim.room = h.whole in
     let above : count ≤ n = subst (λ (m : ℕ). m ≤ n) c.count-count.ensures.count c.if-number-count.true in (
       record {
         same = c.draw-number.ensures.same;
@@ -56,13 +55,13 @@ pub returns : goal.returns
 returns g c =
     let h = c.loop-turn.invariant in
     let count = length c.args.groups.now in
-    let turns : length (drawn c.loop-turn.claim) ≡ c.loop-turn._turn = h.turns in
+    let turns : length c.loop-turn.claim.drawn ≡ c.loop-turn._turn = h.turns in
     let over : count + 1 ≤ c.loop-turn._turn = subst (λ (m : ℕ). m + 1 ≤ c.loop-turn._turn) c.count-count.ensures.count c.loop-turn-test.false in (
       record {
         same = h.same;
-        numbers = h.numbers ∙ sym (kept_all count (drawn c.loop-turn.claim) h.below);
+        numbers = h.numbers ∙ sym (kept_all count c.loop-turn.claim.drawn h.below);
         results = h.results;
-        finished = inl (let k : count < length (drawn c.loop-turn.claim) = omega arith in k);
+        finished = inl (let k : count < length c.loop-turn.claim.drawn = omega arith in k);
       },
       h.whole,
     )

@@ -2,6 +2,7 @@ use Rattle.std.proofs.Common.{◌≡◌, ◌≤◌, ◌∷◌, ◌++◌, [], tak
 use Rattle.std.specs.Prelude.{flat_map}
 use Rattle.program_rows.specs.Parts.{shown_row}
 use Rattle.mps_text.specs.Bytes.{entry_bytes}
+use Rattle.mps_text.specs.declared.line.TheConstants.{FRONT_LEN, LINES_LEN}
 use Rattle.mps_text.proofs.sections.write_entries.Given as goal
 
 -- the lines so far stand one behind the other
@@ -9,6 +10,6 @@ abbrev pub invariant-loop-entry : goal.invariant-loop-entry
 invariant-loop-entry l = record {
   lines : take l.at l.lines ≡ flat_map (entry_bytes (map shown_row l.rows) l.name) (take l.entry-index l.entries);
   front : take l.front_len l.front ≡ 32 ∷ (l.name ++ 32 ∷ []);
-  within : l.front_len ≤ 16;
-  room : l.at ≤ 1024;
+  within : l.front_len ≤ FRONT_LEN;
+  room : l.at ≤ LINES_LEN;
 }

@@ -1,4 +1,4 @@
-use Rattle.group_compiler.proofs.tests.worked_book.Given as goal
+use Rattle.presolve.proofs.tests.books.book_of.Given as goal
 
 abbrev pub ghosts-settled-L-Ledger : goal.ghosts-settled-L-Ledger
 ghosts-settled-L-Ledger g a = record { name = a.blank.name; parts = a.blank.parts }

@@ -1,0 +1,80 @@
+//! Closed books in which given forms stand.
+
+ghost use Rattle.std.specs.Prelude.{◌≡◌, ◌+◌, IfOk};
+ghost use Rattle.auction_terms.specs.Terms.{session_count};
+
+use auction_terms::{Rules, read_rules};
+use bid_desk::{ClosedBook, Desk, Round, Session};
+use bid_forms::{Form, read_form};
+use std::alloc::Global;
+use std::marker::Brand;
+use std::sync::ledger::Blank;
+use std::sync::{Arc, Wait};
+use std::test::Fail;
+
+/// A ledger of as many parts as a desk needs.
+fn blank(rules: &Rules) -> Result<Blank, Fail>
+    ensures { IfOk result (λ blank. blank.parts ≡ session_count rules.now + 1) }
+{
+    let parts = (rules.session_count() as u64)
+        .checked_add(1)
+        .ok_or("parts")?;
+    Ok(Blank::new(parts))
+}
+
+/// Submits the forms of the session's bidder through its first session, and tells whether memory sufficed.
+fn submits<L: Round, R: Wait>(
+    rt: &R,
+    desk: &Desk<L>,
+    session: &mut Session<L>,
+    forms: &[Arc<Form, Global>],
+) -> bool {
+    for form in forms {
+        if session.session() == 1 && form.bidder() == session.bidder() && form.meets(desk.rules()) {
+            if desk.enter(rt).submit(session, form, None).is_err() {
+                return false;
+            }
+        }
+    }
+    true
+}
+
+/// The book in which these forms stand. None where memory is short.
+fn settled<L: Round, R: Wait>(
+    rt: &R,
+    alloc: Global,
+    blank: Blank,
+    rules: Rules,
+    forms: &[Arc<Form, Global>],
+) -> Option<ClosedBook>
+    requires name { blank.name ≡ L.name }
+    requires parts { blank.parts ≡ L.parts }
+    requires part_count { (blank.parts ≡ L.part_count) × (L.part_count ≡ session_count rules + 1) }
+    requires rules { rules ≡ L.rules }
+{
+    let (desk, mut chair, mut sessions) = Desk::<L>::open(alloc, blank, rules).ok()?;
+    for session in &mut sessions {
+        if !submits(rt, &desk, session, forms) {
+            return None;
+        }
+    }
+    desk.enter(rt).close(&mut chair).ok()?;
+    desk.stop().settle(alloc, chair, sessions).ok()
+}
+
+/// The book of rules and forms.
+pub fn book_of<R: Wait>(
+    rt: &R,
+    alloc: Global,
+    rules: &[u8],
+    texts: &[&[u8]],
+) -> Result<ClosedBook, Fail> {
+    let rules = read_rules(alloc, rules)?;
+    let mut forms = Vec::new(alloc);
+    for text in texts {
+        forms.push(Arc::new(alloc, read_form(alloc, *text, &rules)?)?)?;
+    }
+    let blank = blank(&rules)?;
+    let book = settled::<Brand, _>(rt, alloc, blank, rules, forms.as_slice());
+    Ok(book.ok_or("out of memory")?)
+}
