@@ -1,5 +1,5 @@
 -- What the stages of an auction tell.
-use Rattle.std.proofs.Common.{◌≡◌, ◌≤◌, ◌<◌, ◌+◌, ◌∷◌, ◌∙◌, [], ℕ, zero, suc, Bool, List, Option, None, Some, Result, Ok, Err, ap, ap₂, arith, length, map, refl, sym, inl, inr}
+use Rattle.std.proofs.Common.{◌≡◌, ◌≤◌, ◌<◌, ◌+◌, ◌∷◌, ◌∙◌, ℕ, zero, suc, true, List, Option, None, Some, Result, Ok, Err, ap, ap₂, arith, length, map, refl, sym, inl, inr}
 use Rattle.std.proofs.lemmas.List.{length-map}
 use Rattle.std.specs.List.{range_with_len}
 use denote.Ref.{Bor}
@@ -14,8 +14,8 @@ use Rattle.wdp.specs.Calls.{calls_told}
 use Rattle.wdp.specs.Exact.{Refuses, RefusesAuction}
 use Rattle.wdp.specs.Parts.{SplitInput, Tells, bytes_of, cut_lines, parts_in, split, values}
 use Rattle.wdp.specs.PartsTold.{count_fault, counted_parts, parts_told, split_input}
-use Rattle.wdp.specs.Plan.{miscounted}
-use Rattle.wdp.specs.Refused.{Refusal, Refused}
+use Rattle.wdp.specs.Plan.{miscounted, reads_auction}
+use Rattle.wdp.specs.Refused.{Refusal}
 use Rattle.wdp.specs.Stages.{and_then, refused_as, unless}
 use Rattle.wdp.specs.Submissions.{AreSubmitted, last_of}
 use Rattle.wdp.specs.TextsTold.{forms_told, groups_told, terms_told}
@@ -42,29 +42,29 @@ module _ (asked : Request) (input : List ℕ) (parts : Parts) where
       ap₂ (λ (rules groups : ℕ). miscounted asked rules groups (length (bytes_of parts.solutions.items))) (length-map parts.rules.items now) (length-map parts.groups.items now)
       ∙ ap (λ (solutions : ℕ). miscounted asked (length parts.rules.items) (length parts.groups.items) solutions) (length-map parts.solutions.items now)
 
-  counted : (found : Option CountedPart) → Tells (Ok parts) input → miscounted asked (length parts.rules.items) (length parts.groups.items) (length parts.solutions.items) ≡ found
+  counted : (found : Option CountedPart) → Tells asked (Ok parts) input → miscounted asked (length parts.rules.items) (length parts.groups.items) (length parts.solutions.items) ≡ found
       → parts_told asked input ≡ refused_as refusal.PartCount (unless found (values parts))
   counted found told is =
-      let cut : split_input input ≡ Ok (values parts) = ap (λ (f : Option PartFault). unless f (split (parts_in (cut_lines input)))) told.0 ∙ ap (λ (s : SplitInput). Ok s) (sym told.1) in
+      let cut : split_input asked input ≡ Ok (values parts) = ap (λ (f : Option PartFault). unless f (split asked (parts_in (cut_lines input)))) told.0 ∙ ap (λ (s : SplitInput). Ok s) (sym told.1) in
       ap (λ (r : Result SplitInput PartFault). and_then (refused_as refusal.Parts r) (counted_parts asked)) cut
       ∙ ap (λ (f : Option CountedPart). refused_as refusal.PartCount (unless f (values parts))) (counts ∙ is)
 
-  pub parts-are : Tells (Ok parts) input → miscounted asked (length parts.rules.items) (length parts.groups.items) (length parts.solutions.items) ≡ None → parts_told asked input ≡ Ok (values parts)
+  pub parts-are : Tells asked (Ok parts) input → miscounted asked (length parts.rules.items) (length parts.groups.items) (length parts.solutions.items) ≡ None → parts_told asked input ≡ Ok (values parts)
   parts-are told is = counted None told is
 
-  pub parts-miscounted : (part : CountedPart) → Tells (Ok parts) input → miscounted asked (length parts.rules.items) (length parts.groups.items) (length parts.solutions.items) ≡ Some part
+  pub parts-miscounted : (part : CountedPart) → Tells asked (Ok parts) input → miscounted asked (length parts.rules.items) (length parts.groups.items) (length parts.solutions.items) ≡ Some part
       → Refuses (parts_told asked input) (refusal.PartCount part)
   parts-miscounted part told is = inl (counted (Some part) told is)
 
 abbrev no_parts : PartFault → Result Parts PartFault
 no_parts f = Err f
 
-told-parts : (asked : Request) (input : List ℕ) (f : PartFault) → split_input input ≡ Err f → Refuses (parts_told asked input) (refusal.Parts f)
+told-parts : (asked : Request) (input : List ℕ) (f : PartFault) → split_input asked input ≡ Err f → Refuses (parts_told asked input) (refusal.Parts f)
 told-parts asked input f is = inl (ap (λ (r : Result SplitInput PartFault). and_then (refused_as refusal.Parts r) (counted_parts asked)) is)
 
-pub parts-refused : (asked : Request) (input : List ℕ) (f : PartFault) → Tells (no_parts f) input → Refuses (parts_told asked input) (refusal.Parts f)
+pub parts-refused : (asked : Request) (input : List ℕ) (f : PartFault) → Tells asked (no_parts f) input → Refuses (parts_told asked input) (refusal.Parts f)
 parts-refused asked input fault.OutOfMemory told = inr refl
-parts-refused asked input f told = told-parts asked input f (ap (λ (found : Option PartFault). unless found (split (parts_in (cut_lines input)))) told)
+parts-refused asked input f told = told-parts asked input f (ap (λ (found : Option PartFault). unless found (split asked (parts_in (cut_lines input)))) told)
 
 -- ---- the stages behind the parts
 
@@ -84,15 +84,15 @@ module _ (asked : Request) (input : List ℕ) (parts : SplitInput) (cut : parts_
         pub calls-refused : (r : Refusal) → Refuses (calls_told forms) r → Refuses (auction_told asked input) r
         calls-refused r refused = behind _ parts _ r cut (behind _ t _ r rules (behind _ forms _ r each (behind _ groups _ r known (stop _ _ r refused))))
 
-        pub auction-is : calls_told forms ≡ Ok forms → auction_told asked input ≡ Ok (auction_of t forms groups parts.solutions)
+        pub auction-is : calls_told forms ≡ Ok forms → auction_told asked input ≡ Ok (auction_of t forms groups parts)
         auction-is accepted = next _ _ _ _ cut (next _ _ _ _ rules (next _ _ _ _ each (next _ _ _ _ known (next _ _ _ _ accepted refl))))
 
 -- what the round leaves is a matter of the desk, or of memory
 pub round-refused : (asked : Request) (input : List ℕ) (parts : SplitInput) → parts_told asked input ≡ Ok parts → (t : Terms) → terms_told parts.rules ≡ Ok t → (forms : List Offers) → forms_told t parts.forms ≡ Ok forms
-    → (groups : List (List ℕ)) → groups_told t parts.groups ≡ Ok groups → calls_told forms ≡ Ok forms → (f : RoundFault) → RefusesAuction asked input (refusal.Round f)
-round-refused asked input parts cut t rules forms each groups known accepted round.OutOfMemory = inl (inr refl)
-round-refused asked input parts cut t rules forms each groups known accepted round.WrongAnswer =
-    inr (auction_of t forms groups parts.solutions, auction-is asked input parts cut t rules forms each groups known accepted, refl)
+    → (groups : List (List ℕ)) → groups_told t parts.groups ≡ Ok groups → calls_told forms ≡ Ok forms → reads_auction asked ≡ true → (f : RoundFault) → RefusesAuction asked input (refusal.Round f)
+round-refused asked input parts cut t rules forms each groups known accepted reads round.OutOfMemory = inl (inr refl)
+round-refused asked input parts cut t rules forms each groups known accepted reads round.WrongAnswer =
+    inr (reads, auction_of t forms groups parts, auction-is asked input parts cut t rules forms each groups known accepted, refl)
 
 -- ---- the book
 
@@ -112,11 +112,11 @@ sale-is book forms submitted =
     (λ b least most. ap (λ (form : Option Offers). bids_in form) (submitted.standing b least (omega arith))) in
     ap (sale_with book.rules) same
 
-abbrev sold : Sale → List (List ℕ) → List (List ℕ) → Auction
-sold sale groups solutions = record { sale = sale; groups = groups; solutions = solutions }
+abbrev sold : Sale → List (List ℕ) → SplitInput → Auction
+sold sale groups parts = record { sale = sale; groups = groups; solutions = parts.solutions; certificates = parts.certificates }
 
--- the auction that a settled book, groups and solutions are
-pub auction-held : (book : Closing) (t : Terms) (forms : List Offers) (groups solutions : List (List ℕ)) → book.rules ≡ t → AreSubmitted forms book
-    → auction_of t forms groups solutions ≡ record { sale = sale_of book; groups = groups; solutions = solutions }
-auction-held book t forms groups solutions rules submitted =
-    ap (λ (u : Terms). auction_of u forms groups solutions) (sym rules) ∙ ap (λ (sale : Sale). sold sale groups solutions) (sym (sale-is book forms submitted))
+-- the auction that a settled book and groups are, with the texts of solutions and certificates
+pub auction-held : (book : Closing) (t : Terms) (forms : List Offers) (groups : List (List ℕ)) (parts : SplitInput) → book.rules ≡ t → AreSubmitted forms book
+    → auction_of t forms groups parts ≡ record { sale = sale_of book; groups = groups; solutions = parts.solutions; certificates = parts.certificates }
+auction-held book t forms groups parts rules submitted =
+    ap (λ (u : Terms). auction_of u forms groups parts) (sym rules) ∙ ap (λ (sale : Sale). sold sale groups parts) (sym (sale-is book forms submitted))

@@ -1,7 +1,6 @@
 -- What commands write, and why they don't.
-use Rattle.std.proofs.Common.{◌≡◌, ◌≢◌, ◌≤◌, ◌<◌, ◌+◌, ◌-◌, ◌==◌, ◌++◌, ◌∷◌, ◌∙◌, [], ℕ, Bool, true, false, zero, suc, List, Option, None, Some, Result, Ok, Err, ap, arith, length, length-append, map, refl, slice_index_or, subst, sym, take, inl, inr}
-use Rattle.std.specs.Prelude.{IfErr, OnErr, OnOk, ◌⊎◌}
-use Rattle.std.specs.Io.KnownBytes.{Appends}
+use Rattle.std.proofs.Common.{◌≡◌, ◌≢◌, ◌≤◌, ◌<◌, ◌+◌, ◌-◌, ◌==◌, ◌++◌, ◌∷◌, ◌∙◌, [], ℕ, true, false, zero, suc, List, Option, None, Some, Result, Ok, Err, ap, arith, length, length-append, map, refl, slice_index_or, subst, sym, take, inl, inr}
+use Rattle.std.specs.Prelude.{IfErr, OnOk, ◌⊎◌}
 use Rattle.std.specs.List.{zip}
 use Rattle.std.proofs.lemmas.Bool.{eq-eqb, ne_eqb}
 use Rattle.std.proofs.lemmas.Bool.Decides.{leb_tells}
@@ -19,8 +18,8 @@ use Rattle.outcome.specs.Report.{allocation_text, report_text}
 use Rattle.outcome.specs.Sale.{sale_of}
 use Rattle.program_rows.specs.Program.{Table}
 use Rattle.wdp.specs.Auction.{Auction, auction_told}
-use Rattle.wdp.specs.Commands.{costs_text, program_text, winners_text}
-use Rattle.wdp.specs.Exact.{Ends, Refuses, RefusesAuction, IsUnsettled, Writes, by_put, by_refusal, held}
+use Rattle.wdp.specs.Commands.{program_text, winners_of_groups, winners_text}
+use Rattle.wdp.specs.Exact.{Ends, IsLeftOpen, Refuses, RefusesAuction, Writes, by_put, by_refusal, held}
 use Rattle.wdp.specs.GroupTexts.{EndsIn, in_turn, program_bytes, programs_bytes}
 use Rattle.wdp.specs.Parts.{bytes_of}
 use Rattle.wdp.specs.PartsTold.{only_text}
@@ -47,9 +46,9 @@ module _ {A T : Type 0} (told : Result A Refused) (a : A) (k : A → Result (Lis
 
 -- a request whose auction isn't there
 pub no-auction : (asked : Request) (input : List ℕ) (k : Auction → Result (List ℕ) Refused) (taken : Option (List ℕ)) (failures : ℕ) (r : Refusal) → RefusesAuction asked input r
-    → Ends (and_then (auction_told asked input) k) taken taken failures failures r ⊎ (IsUnsettled asked input r × (taken ≡ taken))
+    → Ends (and_then (auction_told asked input) k) taken taken failures failures r ⊎ (IsLeftOpen asked input r × (taken ≡ taken))
 no-auction asked input k taken failures r (inl refused) = inl (by_refusal (stop (auction_told asked input) k r refused) refl)
-no-auction asked input k taken failures r (inr unsettled) = inr (unsettled, refl)
+no-auction asked input k taken failures r (inr unsettled) = inr (inl unsettled, refl)
 
 -- how a command ends, in one of two ways
 pub ends-so : {T : Type 0} (told : Result (List ℕ) Refused) (Other : Refusal → Type 0) (result : Result T Refusal) (taken taken' : Option (List ℕ)) (failures failures' : ℕ)
@@ -109,26 +108,20 @@ no-group auction k few = elim (leb_tells k (length auction.groups)) [ inl (_, mo
 
 -- ---- what the solutions win, group by group
 
-pub not-empty : (auction : declared.Auction) → starts_empty auction.groups ≡ false → Refuses (costs_text (held auction)) refusal.FirstGroupNotEmpty
+pub not-empty : (auction : declared.Auction) → starts_empty auction.groups ≡ false → Refuses (winners_of_groups (held auction)) refusal.FirstGroupNotEmpty
 not-empty auction some = inl (rw some refl)
 
 module _ (auction : declared.Auction) (starts : starts_empty auction.groups ≡ true) where
   abbrev texts : List (List ℕ)
   texts = bytes_of auction.solutions.items
 
-  pub costs-miscounted : length auction.solutions.items ≢ length auction.groups → Refuses (costs_text (held auction)) (refusal.PartCount counted.Solutions)
-  costs-miscounted other =
+  pub solutions-miscounted : length auction.solutions.items ≢ length auction.groups → Refuses (winners_of_groups (held auction)) (refusal.PartCount counted.Solutions)
+  solutions-miscounted other =
       let differ : (length texts == length auction.groups) ≡ false = ne_eqb _ _ (λ same. other (sym (length-map auction.solutions.items (λ (text : Text). text.now)) ∙ same)) in
       inl (rw (starts, differ) refl)
 
-  module _ (solutions : List Text) (each : length auction.solutions.items ≡ length auction.groups) (same : solutions ≡ auction.solutions.items) where
-    goes-over : costs_text (held auction) ≡ and_then (each_in_turn (winners (sale_of auction.book)) 1 (zip auction.groups (bytes_of solutions))) (λ won. Ok (report_text (sale_of auction.book) auction.groups won))
-    goes-over =
-        let equal : (length texts == length auction.groups) ≡ true = eq-eqb _ _ (length-map auction.solutions.items (λ (text : Text). text.now) ∙ each) in
-        rw (starts, equal) (ap (λ (xs : List Text). and_then (each_in_turn (winners (sale_of auction.book)) 1 (zip auction.groups (bytes_of xs))) (λ won. Ok (report_text (sale_of auction.book) auction.groups won))) (sym same))
-
-    pub costs-written : (all : List (List Choice)) → each_in_turn (winners (sale_of auction.book)) 1 (zip auction.groups (bytes_of solutions)) ≡ Ok all → costs_text (held auction) ≡ Ok (report_text (sale_of auction.book) auction.groups all)
-    costs-written all won = goes-over ∙ next _ _ _ _ won refl
-
-    pub costs-refused : (r : Refusal) → Refuses (each_in_turn (winners (sale_of auction.book)) 1 (zip auction.groups (bytes_of solutions))) r → Refuses (costs_text (held auction)) r
-    costs-refused r refused = refuses-as _ _ r goes-over (stop _ _ r refused)
+  pub goes-over : (solutions : List Text) → length auction.solutions.items ≡ length auction.groups → solutions ≡ auction.solutions.items
+      → winners_of_groups (held auction) ≡ each_in_turn (winners (sale_of auction.book)) 1 (zip auction.groups (bytes_of solutions))
+  goes-over solutions each same =
+      let equal : (length texts == length auction.groups) ≡ true = eq-eqb _ _ (length-map auction.solutions.items (λ (text : Text). text.now) ∙ each) in
+      rw (starts, equal) (ap (λ (xs : List Text). each_in_turn (winners (sale_of auction.book)) 1 (zip auction.groups (bytes_of xs))) (sym same))

@@ -1,5 +1,5 @@
 -- A fault that a part of the program answers is the refusal that is told, or want of memory.
-use Rattle.std.proofs.Common.{◌≡◌, ◌∙◌, ℕ, Bool, true, List, Result, Ok, Err, ap, refl, sym, subst, inl, inr}
+use Rattle.std.proofs.Common.{◌≡◌, ◌∙◌, ℕ, Bool, List, Result, Err, ap, refl, sym, inl, inr}
 use Rattle.auction_terms.specs.GroupsText as groups_text
 use Rattle.auction_terms.specs.RulesText as rules_text
 use Rattle.auction_terms.specs.Terms.{Terms}
@@ -18,7 +18,6 @@ use Rattle.outcome.specs.declared.fault.SolutionFault.{SolutionFault}
 use Rattle.outcome.specs.declared.fault.SolutionFault.TheVariants as solution
 use Rattle.program_rows.specs.Program.{Table}
 use Rattle.program_rows.specs.declared.fault.FaultKind.{FaultKind}
-use Rattle.program_rows.specs.declared.fault.FaultKind.TheVariants as kind
 use Rattle.wdp.specs.Answer.{program_refused}
 use Rattle.wdp.specs.Exact.{Refuses}
 use Rattle.wdp.specs.Refused.{Refusal, Refused, is_memory, refused}

@@ -12,6 +12,7 @@ use Rattle.auction_terms.specs.RulesText as rules_text
 use Rattle.auction_terms.specs.Terms.{Terms}
 use Rattle.auction_terms.specs.declared.groups_text.GroupFault.{GroupFault}
 use Rattle.auction_terms.specs.declared.groups_text.GroupFault.TheVariants as group_fault
+use Rattle.auction_terms.specs.declared.limits.TheConstants.{TEXT_LIMIT}
 use Rattle.auction_terms.specs.declared.rules.Bidder.{Bidder}
 use Rattle.auction_terms.specs.declared.rules_text.RulesFault.{RulesFault}
 use Rattle.auction_terms.specs.declared.rules_text.RulesFault.TheVariants as rules_fault
@@ -19,6 +20,7 @@ use Rattle.bid_forms.specs.Offers.{Meets, Offers}
 use Rattle.bid_forms.specs.declared.form_text.FormFault.{FormFault}
 use Rattle.mps_reader.specs.Answer.{IsRead}
 use Rattle.mps_reader.specs.declared.mps_fault.MpsFault.{MpsFault}
+use Rattle.mps_reader.specs.declared.limits.TheConstants.{PROGRAM_LIMIT}
 use Rattle.program_rows.specs.Meaning.{meaning}
 use Rattle.program_rows.specs.Program.{Table}
 use Rattle.program_rows.specs.declared.fault.FaultKind.TheVariants as kind
@@ -90,8 +92,8 @@ ok-or-fault : {T E : Type 0} {P : Type 0} (x : T) (e : E) → Ok x ≡ Err e →
 ok-or-fault x e is = cc
 
 -- the fault of rules that are refused is what their text tells
-pub rules-faulted : (text : List ℕ) (f : RulesFault) → (4194304 < length text → no_rules f ≡ no_rules rules_fault.TooLarge)
-    → (length text ≤ 4194304 → rules_text.Answers (no_rules f) (rules_text.rules_of text)) → rules_text.Answers (no_rules f) (rules_in text)
+pub rules-faulted : (text : List ℕ) (f : RulesFault) → (TEXT_LIMIT < length text → no_rules f ≡ no_rules rules_fault.TooLarge)
+    → (length text ≤ TEXT_LIMIT → rules_text.Answers (no_rules f) (rules_text.rules_of text)) → rules_text.Answers (no_rules f) (rules_in text)
 rules-faulted text f large told = elim (leb_tells 4194305 (length text)) [
   | inl (is, more) ↦ (
       let e = large (omega arith) in
@@ -101,8 +103,8 @@ rules-faulted text f large told = elim (leb_tells 4194305 (length text)) [
 ]
 
 -- the same of groups
-pub groups-faulted : (bidders : List Bidder) (text : List ℕ) (f : GroupFault) → (4194304 < length text → no_groups f ≡ no_groups group_fault.TooLarge)
-    → (length text ≤ 4194304 → groups_text.Answers (no_groups f) (groups_text.groups_of bidders text)) → groups_text.Answers (no_groups f) (groups_in bidders text)
+pub groups-faulted : (bidders : List Bidder) (text : List ℕ) (f : GroupFault) → (TEXT_LIMIT < length text → no_groups f ≡ no_groups group_fault.TooLarge)
+    → (length text ≤ TEXT_LIMIT → groups_text.Answers (no_groups f) (groups_text.groups_of bidders text)) → groups_text.Answers (no_groups f) (groups_in bidders text)
 groups-faulted bidders text f large told = elim (leb_tells 4194305 (length text)) [
   | inl (is, more) ↦ (
       let e = large (omega arith) in
@@ -112,15 +114,15 @@ groups-faulted bidders text f large told = elim (leb_tells 4194305 (length text)
 ]
 
 -- rules that are read are what their text tells
-pub rules-tell : (text : List ℕ) (t : Terms) → (4194304 < length text → Ok t ≡ no_rules rules_fault.TooLarge) → (length text ≤ 4194304 → Ok t ≡ rules_text.rules_of text) → rules_in text ≡ Ok t
+pub rules-tell : (text : List ℕ) (t : Terms) → (TEXT_LIMIT < length text → Ok t ≡ no_rules rules_fault.TooLarge) → (length text ≤ TEXT_LIMIT → Ok t ≡ rules_text.rules_of text) → rules_in text ≡ Ok t
 rules-tell text t large told = elim (leb_tells 4194305 (length text)) [
   | inl (_, more) ↦ (let e = large (omega arith) in cc)
   | inr (is, few) ↦ rw is (sym (told (omega arith)))
 ]
 
 -- the same of groups
-pub groups-tell : (bidders : List Bidder) (text : List ℕ) (groups : List (List ℕ)) → (4194304 < length text → Ok groups ≡ no_groups group_fault.TooLarge)
-    → (length text ≤ 4194304 → Ok groups ≡ groups_text.groups_of bidders text) → groups_in bidders text ≡ Ok groups
+pub groups-tell : (bidders : List Bidder) (text : List ℕ) (groups : List (List ℕ)) → (TEXT_LIMIT < length text → Ok groups ≡ no_groups group_fault.TooLarge)
+    → (length text ≤ TEXT_LIMIT → Ok groups ≡ groups_text.groups_of bidders text) → groups_in bidders text ≡ Ok groups
 groups-tell bidders text groups large told = elim (leb_tells 4194305 (length text)) [
   | inl (_, more) ↦ ok-or-fault groups group_fault.TooLarge (large (omega arith))
   | inr (is, few) ↦ rw is (sym (told (omega arith)))
@@ -130,8 +132,8 @@ abbrev no_program : MpsFault → Result Table MpsFault
 no_program f = Err f
 
 -- a text that is refused is no program
-pub program-refused : (text : List ℕ) (f : MpsFault) → (67108864 < length text → no_program f ≡ no_program (record { line = 0; kind = kind.TooLarge }))
-    → (length text ≤ 67108864 → IsRead (no_program f) (meaning text)) → IsRead (no_program f) (program_in text)
+pub program-refused : (text : List ℕ) (f : MpsFault) → (PROGRAM_LIMIT < length text → no_program f ≡ no_program (record { line = 0; kind = kind.TooLarge }))
+    → (length text ≤ PROGRAM_LIMIT → IsRead (no_program f) (meaning text)) → IsRead (no_program f) (program_in text)
 program-refused text f large told = elim (leb_tells 67108865 (length text)) [
   | inl (is, more) ↦ (
       let e = large (omega arith) in
@@ -141,7 +143,7 @@ program-refused text f large told = elim (leb_tells 67108865 (length text)) [
 ]
 
 -- a text that is read is a program
-pub program-told : (text : List ℕ) (p : Table) → (67108864 < length text → Ok p ≡ no_program (record { line = 0; kind = kind.TooLarge })) → (length text ≤ 67108864 → IsRead (Ok p) (meaning text)) → program_in text ≡ Ok p
+pub program-told : (text : List ℕ) (p : Table) → (PROGRAM_LIMIT < length text → Ok p ≡ no_program (record { line = 0; kind = kind.TooLarge })) → (length text ≤ PROGRAM_LIMIT → IsRead (Ok p) (meaning text)) → program_in text ≡ Ok p
 program-told text p large told = elim (leb_tells 67108865 (length text)) [
   | inl (_, more) ↦ (let e = large (omega arith) in cc)
   | inr (is, few) ↦ rw is (told (omega arith))

@@ -12,6 +12,7 @@ use Rattle.std.proofs.lemmas.List.{append-nil, map-append}
 use Rattle.std.proofs.lemmas.List.Elements.{filter-append}
 use Rattle.wdp.specs.declared.part_kind.PartKind.{PartKind}
 use Rattle.wdp.specs.declared.part_kind.PartKind.TheVariants as kind
+use Rattle.wdp.specs.declared.request.Request.{Request}
 use Rattle.memchr.specs.Find.{FindsNeedle, OccursAt}
 use Rattle.wdp.specs.Parts.{Part, added, bytes_before, bytes_of_kind, first_line, onto_first_line, is_of_kind, is_same_kind, cut_lines, heads_part, input_fault, kind_named, name_of, part, part_fault, parts_in, split}
 
@@ -62,40 +63,42 @@ parts-headed text n end some is cut bytes parts =
     rw (cut, head, bytes, parts) refl
 
 -- a part of a kind that is told
-pub known-part : (before : List Part) (p : Part) (k : PartKind) → kind_named (name_of p.head) ≡ Some k → part_fault before p ≡ None
-known-part before p k is = rw is refl
+pub known-part : (asked : Request) (before : List Part) (p : Part) (k : PartKind) → kind_named asked (name_of p.head) ≡ Some k → part_fault asked before p ≡ None
+known-part asked before p k is = rw is refl
 
 one-part : (t : Bool) (p : Part) → map (λ (q : Part). q.bytes) (cond t (p ∷ []) []) ≡ cond t (p.bytes ∷ []) []
 one-part true p = refl
 one-part false p = refl
 
 -- the parts of one kind, with one more part
-bytes-more : (before : List Part) (p : Part) (k l : PartKind) → kind_named (name_of p.head) ≡ Some l
-    → bytes_of_kind k (before ++ p ∷ []) ≡ bytes_of_kind k before ++ cond (is_same_kind k l) (p.bytes ∷ []) []
-bytes-more before p k l is =
-    let one : map (λ (q : Part). q.bytes) (filter (is_of_kind k) (p ∷ [])) ≡ cond (is_same_kind k l) (p.bytes ∷ []) [] = rw is (one-part (is_same_kind k l) p) in
-    ap (map (λ (q : Part). q.bytes)) (filter-append (is_of_kind k) before (p ∷ []))
-    ∙ map-append (λ (q : Part). q.bytes) (filter (is_of_kind k) before) (filter (is_of_kind k) (p ∷ []))
-    ∙ ap (λ xs. bytes_of_kind k before ++ xs) one
+bytes-more : (asked : Request) (before : List Part) (p : Part) (k l : PartKind) → kind_named asked (name_of p.head) ≡ Some l
+    → bytes_of_kind asked k (before ++ p ∷ []) ≡ bytes_of_kind asked k before ++ cond (is_same_kind k l) (p.bytes ∷ []) []
+bytes-more asked before p k l is =
+    let one : map (λ (q : Part). q.bytes) (filter (is_of_kind asked k) (p ∷ [])) ≡ cond (is_same_kind k l) (p.bytes ∷ []) [] = rw is (one-part (is_same_kind k l) p) in
+    ap (map (λ (q : Part). q.bytes)) (filter-append (is_of_kind asked k) before (p ∷ []))
+    ∙ map-append (λ (q : Part). q.bytes) (filter (is_of_kind asked k) before) (filter (is_of_kind asked k) (p ∷ []))
+    ∙ ap (λ xs. bytes_of_kind asked k before ++ xs) one
 
 -- the same of each kind
-pub split-more : (before : List Part) (p : Part) (k : PartKind) → kind_named (name_of p.head) ≡ Some k → split (before ++ p ∷ []) ≡ added k p.bytes (split before)
-split-more before p k is = by k (bytes-more before p kind.Rules k is) (bytes-more before p kind.Form k is) (bytes-more before p kind.Groups k is) (bytes-more before p kind.Solution k is)
+pub split-more : (asked : Request) (before : List Part) (p : Part) (k : PartKind) → kind_named asked (name_of p.head) ≡ Some k → split asked (before ++ p ∷ []) ≡ added k p.bytes (split asked before)
+split-more asked before p k is = by k (bytes-more asked before p kind.Rules k is) (bytes-more asked before p kind.Form k is) (bytes-more asked before p kind.Groups k is) (bytes-more asked before p kind.Solution k is) (bytes-more asked before p kind.Certificate k is)
   where
     by : (l : PartKind)
-        → bytes_of_kind kind.Rules (before ++ p ∷ []) ≡ bytes_of_kind kind.Rules before ++ cond (is_same_kind kind.Rules l) (p.bytes ∷ []) []
-        → bytes_of_kind kind.Form (before ++ p ∷ []) ≡ bytes_of_kind kind.Form before ++ cond (is_same_kind kind.Form l) (p.bytes ∷ []) []
-        → bytes_of_kind kind.Groups (before ++ p ∷ []) ≡ bytes_of_kind kind.Groups before ++ cond (is_same_kind kind.Groups l) (p.bytes ∷ []) []
-        → bytes_of_kind kind.Solution (before ++ p ∷ []) ≡ bytes_of_kind kind.Solution before ++ cond (is_same_kind kind.Solution l) (p.bytes ∷ []) []
-        → split (before ++ p ∷ []) ≡ added l p.bytes (split before)
-    by kind.Rules r f g s = rw (r, f, g, s) (simp append-nil)
-    by kind.Form r f g s = rw (r, f, g, s) (simp append-nil)
-    by kind.Groups r f g s = rw (r, f, g, s) (simp append-nil)
-    by kind.Solution r f g s = rw (r, f, g, s) (simp append-nil)
+        → bytes_of_kind asked kind.Rules (before ++ p ∷ []) ≡ bytes_of_kind asked kind.Rules before ++ cond (is_same_kind kind.Rules l) (p.bytes ∷ []) []
+        → bytes_of_kind asked kind.Form (before ++ p ∷ []) ≡ bytes_of_kind asked kind.Form before ++ cond (is_same_kind kind.Form l) (p.bytes ∷ []) []
+        → bytes_of_kind asked kind.Groups (before ++ p ∷ []) ≡ bytes_of_kind asked kind.Groups before ++ cond (is_same_kind kind.Groups l) (p.bytes ∷ []) []
+        → bytes_of_kind asked kind.Solution (before ++ p ∷ []) ≡ bytes_of_kind asked kind.Solution before ++ cond (is_same_kind kind.Solution l) (p.bytes ∷ []) []
+        → bytes_of_kind asked kind.Certificate (before ++ p ∷ []) ≡ bytes_of_kind asked kind.Certificate before ++ cond (is_same_kind kind.Certificate l) (p.bytes ∷ []) []
+        → split asked (before ++ p ∷ []) ≡ added l p.bytes (split asked before)
+    by kind.Rules r f g s t = rw (r, f, g, s, t) (simp append-nil)
+    by kind.Form r f g s t = rw (r, f, g, s, t) (simp append-nil)
+    by kind.Groups r f g s t = rw (r, f, g, s, t) (simp append-nil)
+    by kind.Solution r f g s t = rw (r, f, g, s, t) (simp append-nil)
+    by kind.Certificate r f g s t = rw (r, f, g, s, t) (simp append-nil)
 
 -- where nothing is before the first part, the first fault is that of a part
-pub fault-of-parts : (text : List ℕ) → bytes_before (cut_lines text) ≡ [] → input_fault text ≡ first_fault part_fault [] (parts_in (cut_lines text))
-fault-of-parts text none = rw none refl
+pub fault-of-parts : (asked : Request) (text : List ℕ) → bytes_before (cut_lines text) ≡ [] → input_fault asked text ≡ first_fault (part_fault asked) [] (parts_in (cut_lines text))
+fault-of-parts asked text none = rw none refl
 
 -- where the scan for the first part stops at once, it stands there, or the text is empty
 pub starts-here : (text : List ℕ) (n : ℕ) → n ≤ 0 → (n < length text → heads_part (drop n text) ≡ true) → (text ≡ []) ⊎ (heads_part text ≡ true)
@@ -108,8 +111,8 @@ none-left [] is = refl
 none-left (x ∷ xs) is = (let e : length (x ∷ xs) ≡ 0 = (Decides-eqb (length (x ∷ xs)) 0).0 is in absurd (omega arith))
 
 -- a part of no known kind
-pub unknown-part : (before : List Part) (p : Part) → kind_named (name_of p.head) ≡ None → part_fault before p ≡ Some (fault.PartName (length before + 1))
-unknown-part before p is = rw is refl
+pub unknown-part : (asked : Request) (before : List Part) (p : Part) → kind_named asked (name_of p.head) ≡ None → part_fault asked before p ≡ Some (fault.PartName (length before + 1))
+unknown-part asked before p is = rw is refl
 
 -- the lines after the first one
 abbrev pub rest_of : List (List ℕ) → List (List ℕ)

@@ -16,3 +16,8 @@ if-err-weaker P Q (Err e) weaker holds = weaker e holds
 pub on-ok-both : {T E P Q S : Type 0} (r : Result T E) → (P → Q → S) → OnOk r P → OnOk r Q → OnOk r S
 on-ok-both (Ok x) follows p q = follows p q
 on-ok-both (Err e) follows p q = tt
+
+-- what holds anyhow
+pub on-ok-given : {T E P : Type 0} (r : Result T E) → P → OnOk r P
+on-ok-given (Ok x) holds = holds
+on-ok-given (Err e) holds = tt

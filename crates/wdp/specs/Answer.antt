@@ -2,14 +2,14 @@
 use Rattle.std.specs.Prelude.{ℕ, List, Result, Ok}
 use Rattle.program_rows.specs.declared.fault.FaultKind.{FaultKind}
 use Rattle.wdp.specs.Auction.{auction_told}
-use Rattle.wdp.specs.Commands.{costs_text, text_of_all, texts_of_groups, winners_text}
+use Rattle.wdp.specs.Commands.{costs_text, text_of_all, texts_of_groups, verified_text, winners_text}
 use Rattle.wdp.specs.InputTexts.{program_in}
 use Rattle.wdp.specs.Refused.{Refused}
 use Rattle.wdp.specs.Sizes.{sizes_text}
 use Rattle.wdp.specs.Stages.{and_then, refused_as}
 use Rattle.wdp.specs.declared.refusal.Refusal.TheVariants as refusal
 use Rattle.wdp.specs.declared.request.Request.{Request}
-use Rattle.wdp.specs.declared.request.Request.TheVariants.{Check, Compile, Map, Report, Text}
+use Rattle.wdp.specs.declared.request.Request.TheVariants.{Check, Compile, Map, Report, Text, Verify}
 
 abbrev pub program_refused : ℕ × FaultKind → Refused
 program_refused f = refusal.Program (record { line = f.0; kind = f.1 })
@@ -24,3 +24,4 @@ answer Check input = sizes_told input
 answer (Compile workers) input = and_then (auction_told (Compile workers) input) texts_of_groups
 answer (Map k) input = and_then (auction_told (Map k) input) (winners_text k)
 answer (Report workers) input = and_then (auction_told (Report workers) input) costs_text
+answer (Verify workers) input = and_then (auction_told (Verify workers) input) verified_text

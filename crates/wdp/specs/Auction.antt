@@ -12,14 +12,15 @@ use Rattle.wdp.specs.Stages.{and_then}
 use Rattle.wdp.specs.TextsTold.{forms_told, groups_told, terms_told}
 use Rattle.wdp.specs.declared.request.Request.{Request}
 
--- a sale, the groups that are left out of it, and the texts of solutions
+-- a sale, the groups that are left out of it, and the texts of solutions and of certificates
 pub record Auction : Type 0 where
   pub sale : Sale
   pub groups : List (List ℕ)
   pub solutions : List (List ℕ)
+  pub certificates : List (List ℕ)
 
-abbrev pub auction_of : Terms → List Offers → List (List ℕ) → List (List ℕ) → Auction
-auction_of t forms groups solutions = record { sale = sale_left t forms; groups = groups; solutions = solutions }
+abbrev pub auction_of : Terms → List Offers → List (List ℕ) → SplitInput → Auction
+auction_of t forms groups parts = record { sale = sale_left t forms; groups = groups; solutions = parts.solutions; certificates = parts.certificates }
 
 -- the auction of parts
 abbrev pub auction_in : SplitInput → Result Auction Refused
@@ -28,7 +29,7 @@ auction_in parts =
     and_then (forms_told t parts.forms) (λ forms.
     and_then (groups_told t parts.groups) (λ groups.
     and_then (calls_told forms) (λ accepted.
-    Ok (auction_of t accepted groups parts.solutions)))))
+    Ok (auction_of t accepted groups parts)))))
 
 abbrev pub auction_told : Request → List ℕ → Result Auction Refused
 auction_told asked input = and_then (parts_told asked input) auction_in

@@ -1,11 +1,12 @@
 -- What the texts of the input tell, their sizes included: rules, a form, groups, and a program.
-use Rattle.std.specs.Prelude.{◌≡◌, ◌+◌, ◌++◌, ◌∷◌, ⊤, ℕ, Bool, List, Result, Ok, Err, if◌then◌else◌, IfOk, length, map, nat_lt}
+use Rattle.std.specs.Prelude.{◌≡◌, ◌+◌, ◌++◌, ◌∷◌, ⊤, ℕ, List, Result, Ok, Err, if◌then◌else◌, IfOk, length, map, nat_lt}
 use denote.Ref.{Bor}
 use Rattle.auction_terms.specs.GroupsText.{groups_of}
 use Rattle.auction_terms.specs.RulesText.{rules_of}
 use Rattle.auction_terms.specs.Terms.{Terms}
 use Rattle.auction_terms.specs.declared.groups_text.GroupFault.{GroupFault}
 use Rattle.auction_terms.specs.declared.groups_text.GroupFault.TheVariants as group_fault
+use Rattle.auction_terms.specs.declared.limits.TheConstants.{TEXT_LIMIT}
 use Rattle.auction_terms.specs.declared.rules.Bidder.{Bidder}
 use Rattle.auction_terms.specs.declared.rules_text.RulesFault.{RulesFault}
 use Rattle.auction_terms.specs.declared.rules_text.RulesFault.TheVariants as rules_fault
@@ -13,6 +14,7 @@ use Rattle.bid_forms.specs.FormText.{Answers, form_of}
 use Rattle.bid_forms.specs.Offers.{Meets, Offers}
 use Rattle.bid_forms.specs.declared.form_text.FormFault.{FormFault}
 use Rattle.bid_forms.specs.declared.form_text.FormFault.TheVariants as fault
+use Rattle.mps_reader.specs.declared.limits.TheConstants.{PROGRAM_LIMIT}
 use Rattle.program_rows.specs.Meaning.{meaning}
 use Rattle.program_rows.specs.Program.{Table}
 use Rattle.program_rows.specs.declared.fault.FaultKind.{FaultKind}
@@ -21,17 +23,17 @@ use Rattle.wdp.specs.Refused.{Refusal}
 use Rattle.wdp.specs.declared.refusal.Refusal.TheVariants as refusal
 
 abbrev pub rules_in : List ℕ → Result Terms RulesFault
-rules_in text = if nat_lt 4194304 (length text) then Err rules_fault.TooLarge else rules_of text
+rules_in text = if nat_lt TEXT_LIMIT (length text) then Err rules_fault.TooLarge else rules_of text
 
 abbrev pub groups_in : List Bidder → List ℕ → Result (List (List ℕ)) GroupFault
-groups_in bidders text = if nat_lt 4194304 (length text) then Err group_fault.TooLarge else groups_of bidders text
+groups_in bidders text = if nat_lt TEXT_LIMIT (length text) then Err group_fault.TooLarge else groups_of bidders text
 
 abbrev pub form_in : Terms → List ℕ → Result Offers FormFault
-form_in t text = if nat_lt 4194304 (length text) then Err fault.TooLarge else form_of t text
+form_in t text = if nat_lt TEXT_LIMIT (length text) then Err fault.TooLarge else form_of t text
 
 -- the program, or the first faulty line and its fault
 abbrev pub program_in : List ℕ → Result Table (ℕ × FaultKind)
-program_in text = if nat_lt 67108864 (length text) then Err (0, kind.TooLarge) else meaning text
+program_in text = if nat_lt PROGRAM_LIMIT (length text) then Err (0, kind.TooLarge) else meaning text
 
 -- ---- forms that are read side by side
 

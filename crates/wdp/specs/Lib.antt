@@ -1,11 +1,14 @@
 pub mod Answer
+pub mod Asked
 pub mod Auction
 pub mod BookLeft
 pub mod Calls
+pub mod Certified
 pub mod Commands
 pub mod Exact
 pub mod GroupTexts
 pub mod InputTexts
+pub mod Judging
 pub mod Line
 pub mod Parts
 pub mod PartsTold
@@ -14,7 +17,9 @@ pub mod Refused
 pub mod Requests
 pub mod Runs
 pub mod Sizes
+pub mod Sold
 pub mod Stages
 pub mod Submissions
 pub mod TextsTold
+pub mod Verified
 pub mod Winners

@@ -10,8 +10,8 @@ use Rattle.wdp.specs.declared.refusal.Refusal.TheVariants as refusal
 use Rattle.wdp.specs.declared.request.Request.{Request}
 
 -- the parts of each kind
-abbrev pub split_input : List ℕ → Result SplitInput PartFault
-split_input input = unless (input_fault input) (split (parts_in (cut_lines input)))
+abbrev pub split_input : Request → List ℕ → Result SplitInput PartFault
+split_input asked input = unless (input_fault asked input) (split asked (parts_in (cut_lines input)))
 
 -- the first kind of which there are too few parts or too many
 abbrev pub count_fault : Request → SplitInput → Option CountedPart
@@ -21,7 +21,7 @@ abbrev pub counted_parts : Request → SplitInput → Result SplitInput Refused
 counted_parts asked parts = refused_as refusal.PartCount (unless (count_fault asked parts) parts)
 
 abbrev pub parts_told : Request → List ℕ → Result SplitInput Refused
-parts_told asked input = and_then (refused_as refusal.Parts (split_input input)) (counted_parts asked)
+parts_told asked input = and_then (refused_as refusal.Parts (split_input asked input)) (counted_parts asked)
 
 -- the text of the one part of a kind; where there is none, no text
 abbrev pub only_text : List (List ℕ) → List ℕ

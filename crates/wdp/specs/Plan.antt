@@ -1,5 +1,5 @@
 -- How many parts of groups and of solutions each command takes, beside one of rules and any number of forms.
-use Rattle.std.specs.Prelude.{◌==◌, ℕ, Bool, true, List, [], ◌∷◌, Option}
+use Rattle.std.specs.Prelude.{◌==◌, ℕ, Bool, true, false, [], ◌∷◌, Option}
 use Rattle.auction_terms.specs.FirstFault.{first_failed}
 use Rattle.wdp.specs.declared.reading.Count.{Count}
 use Rattle.wdp.specs.declared.reading.Count.TheVariants as count
@@ -8,6 +8,11 @@ use Rattle.wdp.specs.declared.refusal.CountedPart.TheVariants as counted
 use Rattle.wdp.specs.declared.request.Request.{Request}
 use Rattle.wdp.specs.declared.request.Request.TheVariants as request
 
+-- the input tells an auction; of `check` alone it is a program
+abbrev pub reads_auction : Request → Bool
+reads_auction request.Check = false
+reads_auction r = true
+
 abbrev pub groups_taken : Request → ℕ
 groups_taken request.Text = 0
 groups_taken r = 1
@@ -15,6 +20,7 @@ groups_taken r = 1
 abbrev pub solutions_taken : Request → Count
 solutions_taken (request.Map k) = count.Exactly 1
 solutions_taken (request.Report workers) = count.PerGroup
+solutions_taken (request.Verify workers) = count.PerGroup
 solutions_taken r = count.Exactly 0
 
 -- as many parts as are taken; any number, where there is to be one for each group

@@ -5,7 +5,8 @@ use Rattle.std.specs.declared.vec.Vec.{Vec}
 use Rattle.auction_terms.specs.declared.groups_text.GroupFault.TheVariants as groups
 use Rattle.auction_terms.specs.declared.rules_text.RulesFault.TheVariants as rules
 use Rattle.bid_forms.specs.declared.form_text.FormFault.TheVariants as form
-use Rattle.mps_reader.specs.declared.mps_fault.MpsFault.{MpsFault}
+use Rattle.optimality.specs.declared.fault.FaultKind as certificate
+use Rattle.optimality.specs.declared.fault.FaultKind.TheVariants as certificate_kind
 use Rattle.outcome.specs.declared.fault.SolutionFault.TheVariants as solution
 use Rattle.program_rows.specs.declared.fault.FaultKind.{FaultKind}
 use Rattle.program_rows.specs.declared.fault.FaultKind.TheVariants as kind
@@ -37,12 +38,17 @@ refused (refusal.Program f) = refusal.Program f
 refused (refusal.Solution n f) = refusal.Solution n f
 refused (refusal.BoundBroken n name) = refusal.BoundBroken n name.items
 refused (refusal.RowBroken n name) = refusal.RowBroken n name.items
+refused (refusal.Certificate n f) = refusal.Certificate n f
 refused (refusal.Write f) = refusal.Write f
 refused refusal.OutOfMemory = refusal.OutOfMemory
 
 abbrev pub is_memory_kind : FaultKind → Bool
 is_memory_kind kind.OutOfMemory = true
 is_memory_kind k = false
+
+abbrev pub is_memory_of_certificate : certificate.FaultKind → Bool
+is_memory_of_certificate certificate_kind.OutOfMemory = true
+is_memory_of_certificate k = false
 
 -- want of memory, wherever it was met
 abbrev pub is_memory : {Name : Type 0} → declared.Refusal Name → Bool
@@ -54,5 +60,6 @@ is_memory (refusal.Groups groups.OutOfMemory) = true
 is_memory (refusal.Round round.OutOfMemory) = true
 is_memory (refusal.Program f) = is_memory_kind f.kind
 is_memory (refusal.Solution n solution.OutOfMemory) = true
+is_memory (refusal.Certificate n f) = is_memory_of_certificate f.kind
 is_memory refusal.OutOfMemory = true
 is_memory r = false

@@ -1,44 +1,59 @@
 -- What a run leaves of its input and its output.
-use Rattle.std.specs.Prelude.{◌≡◌, ◌⊎◌, ◌≤◌, ⊤, ℕ, List, Option, length}
+use Rattle.std.specs.Prelude.{◌≡◌, ◌⊎◌, ◌≤◌, ◌+◌, ⊤, ℕ, List, Option, Ok, length}
 use Rattle.std.specs.Io.KnownBytes.{Appends, Consumes, IsAtEnd}
+use Rattle.clap.specs.Words.{Text}
+use Rattle.clap.specs.declared.error.kind.ErrorKind.{ErrorKind}
 use Rattle.mps_text.specs.Sinks.{HasFailed}
-use Rattle.wdp.specs.Exact.{IsUnwritten, IsWritten}
+use Rattle.wdp.specs.Asked.{AskForHelp, AskForNothing, IsShown, asked}
+use Rattle.wdp.specs.Exact.{Ends, IsUnwritten, IsWritten}
 use Rattle.wdp.specs.Refused.{Refusal}
-use Rattle.wdp.specs.Requests.{IsWithinLimits}
 use Rattle.wdp.specs.declared.input.InputFault.{InputFault}
 use Rattle.wdp.specs.declared.input.InputFault.TheVariants as fault
+use Rattle.wdp.specs.declared.input.TheConstants.{INPUT_LIMIT}
 use Rattle.wdp.specs.declared.refusal.Refusal.TheVariants as refusal
 use Rattle.wdp.specs.declared.request.Request.{Request}
 
--- the input was read to its end, and has at most 128 MiB
+-- the input was read to its end, and is within the limit
 pub record IsWhole (left left' : Option (List ℕ)) (input : List ℕ) : Type 0 where
-  pub few : length input ≤ 134217728
+  pub few : length input ≤ INPUT_LIMIT
   pub read : Consumes left left' input
   pub ended : IsAtEnd left'
 
--- what was read of an input that isn't taken: of one that is too large, 128 MiB and one byte; where a read failed, at most as much
-abbrev pub IsUntaken : InputFault → Option (List ℕ) → Option (List ℕ) → Type 0
-IsUntaken fault.TooLarge left left' = (front : List ℕ) × Consumes left left' front × (length front ≡ 134217729)
-IsUntaken fault.ReadFailed left left' = (front : List ℕ) × Consumes left left' front × (length front ≤ 134217729)
-IsUntaken fault.OutOfMemory left left' = ⊤
+-- what was read of an input that isn't taken: of one that is too large, one byte above the limit; where a read failed, which the counts of failed reads before and after tell, at most as much
+abbrev pub IsUntaken : InputFault → Option (List ℕ) → Option (List ℕ) → ℕ → ℕ → Type 0
+IsUntaken fault.TooLarge left left' reads reads' = (front : List ℕ) × Consumes left left' front × (length front ≡ INPUT_LIMIT + 1)
+IsUntaken fault.ReadFailed left left' reads reads' = HasFailed reads reads' × ((front : List ℕ) × Consumes left left' front × (length front ≤ INPUT_LIMIT + 1))
+IsUntaken fault.OutOfMemory left left' reads reads' = ⊤
 
 -- from what a reader had left and a sink had taken before to those after: the input was read, and what was asked for is written
 abbrev pub IsAnswered : Request → Option (List ℕ) → Option (List ℕ) → Option (List ℕ) → Option (List ℕ) → Type 0
 IsAnswered asked left left' taken taken' = (input : List ℕ) × IsWhole left left' input × IsWritten asked input taken taken'
 
 -- the input isn't taken, and nothing is written; or it was read, and what it tells isn't written
-pub data IsRefused (asked : Request) (left left' taken taken' : Option (List ℕ)) (failures failures' : ℕ) : Refusal → Type 0 where
-  by_input : {f : InputFault} → IsUntaken f left left' → taken' ≡ taken → IsRefused asked left left' taken taken' failures failures' (refusal.Input f)
-  by_text : {r : Refusal} → (input : List ℕ) → IsWhole left left' input → IsUnwritten asked input taken taken' failures failures' r → IsRefused asked left left' taken taken' failures failures' r
+pub data IsRefused (asked : Request) (left left' : Option (List ℕ)) (reads reads' : ℕ) (taken taken' : Option (List ℕ)) (failures failures' : ℕ) : Refusal → Type 0 where
+  by_input : {f : InputFault} → IsUntaken f left left' reads reads' → taken' ≡ taken → IsRefused asked left left' reads reads' taken taken' failures failures' (refusal.Input f)
+  by_text : {r : Refusal} → (input : List ℕ) → IsWhole left left' input → IsUnwritten asked input taken taken' failures failures' r → IsRefused asked left left' reads reads' taken taken' failures failures' r
 
--- a request is answered; or a text of help went out, and nothing was read
-abbrev pub IsDone : Option (List ℕ) → Option (List ℕ) → Option (List ℕ) → Option (List ℕ) → Type 0
-IsDone left left' taken taken' =
-    ((asked : Request) × IsWithinLimits asked × IsAnswered asked left left' taken taken')
-    ⊎ ((help : List ℕ) × (left' ≡ left) × Appends taken taken' help)
+-- what the words ask for is answered; or help went out, which they ask for, and nothing was read
+abbrev pub IsDone : List Text → Option (List ℕ) → Option (List ℕ) → Option (List ℕ) → Option (List ℕ) → Type 0
+IsDone words left left' taken taken' =
+    ((request : Request) × (asked words ≡ Ok request) × IsAnswered request left left' taken taken')
+    ⊎ (AskForHelp words × (left' ≡ left) × ((help : List ℕ) × Appends taken taken' help))
 
--- a request is refused; or nothing was read, since the words, or a text of help, could not be told
-abbrev pub IsRunRefused : Option (List ℕ) → Option (List ℕ) → Option (List ℕ) → Option (List ℕ) → ℕ → ℕ → Type 0
-IsRunRefused left left' taken taken' failures failures' =
-    ((asked : Request) × (r : Refusal) × IsWithinLimits asked × IsRefused asked left left' taken taken' failures failures' r)
-    ⊎ ((left' ≡ left) × ((taken' ≡ taken) ⊎ HasFailed failures failures'))
+-- a text of help could not be written
+abbrev pub IsUnshown : Option (List ℕ) → Option (List ℕ) → ℕ → ℕ → Refusal → Type 0
+IsUnshown taken taken' failures failures' r = (help : List ℕ) × Ends (Ok help) taken taken' failures failures' r
+
+-- why a run is refused: what the words ask for is; or help, which they ask for, could not be written; or memory was short before anything was read
+pub data IsUndone (words : List Text) (left left' : Option (List ℕ)) (reads reads' : ℕ) (taken taken' : Option (List ℕ)) (failures failures' : ℕ) : Refusal → Type 0 where
+  by_request : {r : Refusal} → (request : Request) → asked words ≡ Ok request → IsRefused request left left' reads reads' taken taken' failures failures' r → IsUndone words left left' reads reads' taken taken' failures failures' r
+  by_help : {r : Refusal} → AskForHelp words → left' ≡ left → IsUnshown taken taken' failures failures' r → IsUndone words left left' reads reads' taken taken' failures failures' r
+  by_memory : left' ≡ left → taken' ≡ taken → IsUndone words left left' reads reads' taken taken' failures failures' refusal.OutOfMemory
+
+-- why help, or the version, isn't shown: it could not be written, or memory was short
+abbrev pub IsUntold : ErrorKind → Option (List ℕ) → Option (List ℕ) → ℕ → ℕ → Refusal → Type 0
+IsUntold k taken taken' failures failures' r = (IsShown k × IsUnshown taken taken' failures failures' r) ⊎ ((r ≡ refusal.OutOfMemory) × (taken' ≡ taken))
+
+-- the words ask for nothing, and nothing is read or written
+abbrev pub IsUnasked : List Text → Option (List ℕ) → Option (List ℕ) → Option (List ℕ) → Option (List ℕ) → Type 0
+IsUnasked words left left' taken taken' = AskForNothing words × (left' ≡ left) × (taken' ≡ taken)

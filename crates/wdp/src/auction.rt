@@ -1,10 +1,12 @@
 //! The auction that an input tells.
 
-ghost use Rattle.std.specs.Prelude.{◌≡◌, IfErr, IfOk, Ok};
+ghost use Rattle.std.specs.Prelude.{◌≡◌, IfErr, IfOk, Ok, true};
 ghost use Rattle.wdp.specs.Auction.{auction_told};
 ghost use Rattle.wdp.specs.Exact.{HoldsForms, Refuses, RefusesAuction, held};
 ghost use Rattle.wdp.specs.Parts.{bytes_of, values};
 ghost use Rattle.wdp.specs.PartsTold.{parts_told};
+ghost use Rattle.wdp.specs.Plan.{reads_auction};
+ghost use Rattle.wdp.specs.Sold.{IsSold};
 ghost use Rattle.wdp.specs.TextsTold.{forms_told, groups_told, terms_told};
 
 use crate::calls::check_calls;
@@ -19,12 +21,13 @@ use std::alloc::Global;
 use std::sync::Wait;
 use std::thread::Threads;
 
-/// A settled auction, the groups that are left out of it, and the texts of solutions.
+/// A settled auction, the groups that are left out of it, and the texts of solutions and of certificates.
 #[derive(Drop)]
 pub struct Auction<'t> {
     pub book: ClosedBook,
     pub groups: Groups,
     pub solutions: Vec<&'t [u8]>,
+    pub certificates: Vec<&'t [u8]>,
 }
 
 // The parts of a text, as many as the request takes.
@@ -32,7 +35,7 @@ fn read_parts<'t>(alloc: Global, request: &Request, text: &'t [u8]) -> Result<Pa
     ensures told { IfOk result (λ parts. parts_told request.now text.now ≡ Ok (values parts)) }
     ensures refuses { IfErr result (Refuses (parts_told request.now text.now)) }
 {
-    let parts = split_parts(alloc, text)?;
+    let parts = split_parts(alloc, request, text)?;
     match miscounted(request, &parts) {
         None => Ok(parts),
         Some(part) => Err(Refusal::PartCount(part)),
@@ -59,8 +62,10 @@ pub fn read_auction<'t, R: Threads + Wait + Sync + AllocGlobal>(
     request: &Request,
     text: &'t [u8],
 ) -> Result<Auction<'t>, Refusal>
+    requires { reads_auction request.now ≡ true }
     ensures told { IfOk result (λ auction. auction_told request.now text.now ≡ Ok (held auction)) }
     ensures submitted { IfOk result (λ auction. HoldsForms request.now text.now auction.book) }
+    ensures sold { IfOk result (λ auction. IsSold request.now text.now (held auction)) }
     ensures refuses { IfErr result (RefusesAuction request.now text.now) }
 {
     let alloc: Global = rt.alloc();
@@ -70,10 +75,18 @@ pub fn read_auction<'t, R: Threads + Wait + Sync + AllocGlobal>(
     let groups = groups_in(alloc, parts.groups.as_slice(), &rules)?;
     check_calls(forms.as_slice())?;
     let book = close_round(rt, rules, forms)?;
-    let Parts { solutions, .. } = parts;
+    // Their contracts say that the book is closed and within limits, which makes the texts of its programs faithful.
+    let _rules = book.rules();
+    let _history = book.history();
+    let Parts {
+        solutions,
+        certificates,
+        ..
+    } = parts;
     Ok(Auction {
         book,
         groups,
         solutions,
+        certificates,
     })
 }

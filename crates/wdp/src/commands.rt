@@ -6,6 +6,7 @@ ghost use Rattle.auction_terms.specs.Allocations.{IsFeasible};
 ghost use Rattle.auction_terms.specs.Terms.{lots_in};
 ghost use Rattle.bid_desk.specs.Closing.{book_of};
 ghost use Rattle.group_compiler.specs.Compiled.{compiled, program_without};
+ghost use Rattle.group_compiler.specs.declared.limits.TheConstants.{MOST_WORKERS};
 ghost use Rattle.outcome.specs.Sale.{sale_of};
 ghost use Rattle.std.specs.List.{zip};
 ghost use Rattle.wdp.specs.Commands.{costs_text, text_of_all, texts_of_groups, winners_text};
@@ -13,6 +14,7 @@ ghost use Rattle.wdp.specs.Exact.{Ends, IsUnwritten, IsWritten, Refuses, Writes,
 ghost use Rattle.wdp.specs.Parts.{bytes_of};
 ghost use Rattle.wdp.specs.Requests.{IsWithinLimits};
 ghost use Rattle.wdp.specs.Runs.{IsAnswered, IsRefused};
+ghost use Rattle.wdp.specs.Sold.{HasReadSold, HasSold};
 ghost use Rattle.wdp.specs.Stages.{each_in_turn};
 ghost use Rattle.wdp.specs.Winners.{winners, winners_by};
 
@@ -20,11 +22,13 @@ use crate::auction::{Auction, read_auction};
 use crate::compile_run::run_compile;
 use crate::input::read_input;
 use crate::reading::only_text;
-use crate::refusal::{CountedPart, Refusal};
-use crate::report_run::allocations_won;
+use crate::refusal::Refusal;
+use crate::report_run::won_by_groups;
 use crate::request::Request;
 use crate::run_fault::RunFault;
 use crate::sizes::write_sizes;
+use crate::source::Source;
+use crate::verify::verify;
 use crate::winning::allocation_won;
 use auction_terms::Groups;
 use bid_desk::ClosedBook;
@@ -41,12 +45,13 @@ use std::thread::Threads;
 pub fn answer<R: Threads + Wait + Sync + AllocGlobal, I: Read, S: Sink>(
     rt: &R,
     request: Request,
-    input: &mut I,
+    input: &mut Source<I>,
     out: &mut S,
 ) -> Result<(), Refusal>
     requires { IsWithinLimits request }
-    ensures answered { OnOk result (IsAnswered request (I.remaining input.old) (I.remaining input.new) (S.taken out.old) (S.taken out.new)) }
-    ensures refused { IfErr result (IsRefused request (I.remaining input.old) (I.remaining input.new) (S.taken out.old) (S.taken out.new) (S.failures out.old) (S.failures out.new)) }
+    ensures answered { OnOk result (IsAnswered request (I.remaining input.old.reader) (I.remaining input.new.reader) (S.taken out.old) (S.taken out.new)) }
+    ensures sold { OnOk result (HasReadSold request (I.remaining input.old.reader) (I.remaining input.new.reader)) }
+    ensures refused { IfErr result (IsRefused request (I.remaining input.old.reader) (I.remaining input.new.reader) input.old.failures input.new.failures (S.taken out.old) (S.taken out.new) (S.failures out.old) (S.failures out.new)) }
 {
     let text = read_input(rt.alloc(), input)?;
     answer_text(rt, request, text.as_slice(), out)
@@ -61,6 +66,7 @@ fn answer_text<R: Threads + Wait + Sync + AllocGlobal, S: Sink>(
 ) -> Result<(), Refusal>
     requires { IsWithinLimits request }
     ensures written { OnOk result (IsWritten request text.now (S.taken out.old) (S.taken out.new)) }
+    ensures sold { OnOk result (HasSold request text.now) }
     ensures refused { IfErr result (IsUnwritten request text.now (S.taken out.old) (S.taken out.new) (S.failures out.old) (S.failures out.new)) }
 {
     match request {
@@ -69,6 +75,7 @@ fn answer_text<R: Threads + Wait + Sync + AllocGlobal, S: Sink>(
         Request::Check => check(rt.alloc(), text, out),
         Request::Map { group } => map(rt, text, group, out),
         Request::Report { workers } => write_report(rt, text, workers, out),
+        Request::Verify { workers } => verify(rt, text, workers, out),
     }
 }
 
@@ -80,8 +87,9 @@ fn compile<R: Threads + Wait + Sync + AllocGlobal, S: Sink>(
     out: &mut S,
 ) -> Result<(), Refusal>
     requires some { 1 ≤ workers }
-    requires few { workers ≤ 64 }
+    requires few { workers ≤ MOST_WORKERS }
     ensures written { OnOk result (IsWritten (Request.Compile workers) text.now (S.taken out.old) (S.taken out.new)) }
+    ensures sold { OnOk result (HasSold (Request.Compile workers) text.now) }
     ensures refused { IfErr result (IsUnwritten (Request.Compile workers) text.now (S.taken out.old) (S.taken out.new) (S.failures out.old) (S.failures out.new)) }
 {
     let auction = read_auction(rt, &Request::Compile { workers }, text)?;
@@ -96,7 +104,7 @@ fn write_programs_of<R: Threads + Wait + Sync + AllocGlobal, S: Sink>(
     out: &mut S,
 ) -> Result<(), Refusal>
     requires some { 1 ≤ workers }
-    requires few { workers ≤ 64 }
+    requires few { workers ≤ MOST_WORKERS }
     ensures written { OnOk result (Writes (texts_of_groups (held auction.now)) (S.taken out.old) (S.taken out.new)) }
     ensures refused { IfErr result (Ends (texts_of_groups (held auction.now)) (S.taken out.old) (S.taken out.new) (S.failures out.old) (S.failures out.new)) }
 {
@@ -127,6 +135,7 @@ fn write_text<R: Threads + Wait + Sync + AllocGlobal, S: Sink>(
     out: &mut S,
 ) -> Result<(), Refusal>
     ensures written { OnOk result (IsWritten Request.Text text.now (S.taken out.old) (S.taken out.new)) }
+    ensures sold { OnOk result (HasSold Request.Text text.now) }
     ensures refused { IfErr result (IsUnwritten Request.Text text.now (S.taken out.old) (S.taken out.new) (S.failures out.old) (S.failures out.new)) }
 {
     let auction = read_auction(rt, &Request::Text, text)?;
@@ -159,6 +168,7 @@ fn map<R: Threads + Wait + Sync + AllocGlobal, S: Sink>(
 ) -> Result<(), Refusal>
     requires { 1 ≤ k }
     ensures written { OnOk result (IsWritten (Request.Map k) text.now (S.taken out.old) (S.taken out.new)) }
+    ensures sold { OnOk result (HasSold (Request.Map k) text.now) }
     ensures refused { IfErr result (IsUnwritten (Request.Map k) text.now (S.taken out.old) (S.taken out.new) (S.failures out.old) (S.failures out.new)) }
 {
     let auction = read_auction(rt, &Request::Map { group: k }, text)?;
@@ -220,8 +230,9 @@ fn write_report<R: Threads + Wait + Sync + AllocGlobal, S: Sink>(
     out: &mut S,
 ) -> Result<(), Refusal>
     requires some { 1 ≤ workers }
-    requires few { workers ≤ 64 }
+    requires few { workers ≤ MOST_WORKERS }
     ensures written { OnOk result (IsWritten (Request.Report workers) text.now (S.taken out.old) (S.taken out.new)) }
+    ensures sold { OnOk result (HasSold (Request.Report workers) text.now) }
     ensures refused { IfErr result (IsUnwritten (Request.Report workers) text.now (S.taken out.old) (S.taken out.new) (S.failures out.old) (S.failures out.new)) }
 {
     let auction = read_auction(rt, &Request::Report { workers }, text)?;
@@ -236,42 +247,16 @@ fn write_costs<R: Threads + Wait + Sync + AllocGlobal, S: Sink>(
     out: &mut S,
 ) -> Result<(), Refusal>
     requires some { 1 ≤ workers }
-    requires few { workers ≤ 64 }
+    requires few { workers ≤ MOST_WORKERS }
     ensures written { OnOk result (Writes (costs_text (held auction.now)) (S.taken out.old) (S.taken out.new)) }
     ensures refused { IfErr result (Ends (costs_text (held auction.now)) (S.taken out.old) (S.taken out.new) (S.failures out.old) (S.failures out.new)) }
 {
-    let Auction {
-        book,
-        groups,
-        solutions,
-    } = auction;
-    if !groups.starts_empty() {
-        return Err(Refusal::FirstGroupNotEmpty);
-    }
-    if solutions.len() != groups.count() {
-        return Err(Refusal::PartCount(CountedPart::Solutions));
-    }
-    let allocations = won_by_all(rt, book, groups, workers, solutions.as_slice())?;
-    report(book, groups, allocations.as_slice(), out)?;
+    let won = won_by_groups(rt, auction, workers)?;
+    report(
+        &auction.book,
+        &auction.groups,
+        won.allocations.as_slice(),
+        out,
+    )?;
     Ok(())
-}
-
-// What the solution of each group's program wins, in order.
-fn won_by_all<R: Threads + Wait + Sync + AllocGlobal>(
-    rt: &R,
-    book: &ClosedBook,
-    groups: &Groups,
-    workers: usize,
-    solutions: &[&[u8]],
-) -> Result<Vec<Allocation>, Refusal>
-    requires some { 1 ≤ workers }
-    requires few { workers ≤ 64 }
-    requires count { length solutions.now ≡ length groups.now }
-    ensures count { IfOk result (λ all. vec_len all ≡ length groups.now) }
-    ensures won { IfOk result (λ all. each_in_turn (winners (sale_of book.now)) 1 (zip groups.now (bytes_of solutions.now)) ≡ Ok all.items) }
-    ensures refuses { IfErr result (Refuses (each_in_turn (winners (sale_of book.now)) 1 (zip groups.now (bytes_of solutions.now)))) }
-{
-    let alloc: Global = rt.alloc();
-    let programs = compile_all(rt, alloc, book, groups, workers, &OpenGate)?;
-    allocations_won(alloc, book, programs.as_slice(), solutions)
 }

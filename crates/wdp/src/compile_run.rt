@@ -8,6 +8,7 @@ ghost use Rattle.bid_desk.specs.Closing.{book_of};
 ghost use Rattle.mps_text.specs.FaithfulText.{IsFaithfulText};
 ghost use Rattle.mps_text.specs.Text.{text};
 ghost use Rattle.group_compiler.specs.Compiled.{compiled, program_without};
+ghost use Rattle.group_compiler.specs.declared.limits.TheConstants.{MOST_WORKERS};
 ghost use Rattle.wdp.specs.GroupTexts.{FailsAsTold, StopsAsTold, programs_bytes};
 
 use crate::group_texts::write_programs;
@@ -33,7 +34,7 @@ pub fn run_compile<R: Threads + Wait + Sync, G: Gate + Sync, S: Sink>(
     out: &mut S,
 ) -> Result<(), RunFault>
     requires some { 1 ≤ workers }
-    requires few { workers ≤ 64 }
+    requires few { workers ≤ MOST_WORKERS }
     ensures ok { OnOk result (Appends (S.taken out.old) (S.taken out.new) (programs_bytes book.now (map (compiled book.now) groups.now))) }
     ensures faithful { All (λ group. IsFaithfulText (lots_in book.now.rules) (book_of book.now) (has group) (text (program_without book.now group))) groups.now }
     ensures stopped { IfErr result (StopsAsTold book.now (map (compiled book.now) groups.now) (S.taken out.old) (S.taken out.new)) }

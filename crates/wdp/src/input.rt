@@ -3,6 +3,7 @@
 ghost use Rattle.std.specs.Prelude.{IfErr, IfOk};
 ghost use Rattle.wdp.specs.Runs.{IsUntaken, IsWhole};
 
+use crate::source::Source;
 use std::alloc::{AllocError, Global};
 use std::io::Read;
 
@@ -33,9 +34,9 @@ impl From<AllocError> for InputFault {
 }
 
 /// Reads all bytes of an input, and at most one byte more than the limit.
-pub fn read_input<I: Read>(alloc: Global, input: &mut I) -> Result<Vec<u8>, InputFault>
-    ensures whole { IfOk result (λ text. IsWhole (I.remaining input.old) (I.remaining input.new) text.items) }
-    ensures untaken { IfErr result (λ f. IsUntaken f (I.remaining input.old) (I.remaining input.new)) }
+pub fn read_input<I: Read>(alloc: Global, input: &mut Source<I>) -> Result<Vec<u8>, InputFault>
+    ensures whole { IfOk result (λ text. IsWhole (I.remaining input.old.reader) (I.remaining input.new.reader) text.items) }
+    ensures untaken { IfErr result (λ f. IsUntaken f (I.remaining input.old.reader) (I.remaining input.new.reader) input.old.failures input.new.failures) }
 {
     let mut text: Vec<u8> = Vec::new(alloc);
     let mut block = [0u8; BLOCK_LEN];

@@ -4,12 +4,13 @@
 pub mod auction;
 pub mod by_bidder;
 pub mod calls;
+pub mod certified;
 pub mod commands;
 pub mod compile_run;
-pub mod fault_names;
 pub mod group_texts;
 pub mod input;
 pub mod job;
+pub mod laws;
 pub mod part_kind;
 pub mod parts;
 pub mod pieces;
@@ -21,17 +22,23 @@ pub mod round;
 pub mod run;
 pub mod run_fault;
 pub mod sizes;
+pub mod source;
 pub mod telling;
 #[cfg(test)]
 mod tests;
+pub mod verify;
 pub mod winning;
 
 use mps_text::{Sink, StdSink};
+use pieces::write_pieces;
+use refusal::Refusal;
 use run::run;
+use source::Source;
 use std::alloc::{AllocError, Global};
 use std::io::ErrorKind;
 use std::process::ExitCode;
 use std::{env, io};
+use telling::tell;
 
 fn words(rt: &HostRuntime) -> io::Result<Vec<String>> {
     let words: Vec<String> = env::args(rt)?.collect(rt.alloc())?;
@@ -46,9 +53,17 @@ fn texts<'a>(alloc: Global, words: &'a [String]) -> Result<Vec<&'a str>, AllocEr
     Ok(texts)
 }
 
-fn refused<F: Sink>(faults: &mut F, line: &[u8], status: u8) -> ExitCode {
-    let _ = faults.put(line);
-    ExitCode::from(status)
+// Tells that memory is short.
+fn without_memory<F: Sink>(faults: &mut F) -> ExitCode {
+    tell(&Refusal::OutOfMemory, faults);
+    ExitCode::from(1)
+}
+
+// Tells that a word can't be read.
+fn without_words<F: Sink>(faults: &mut F) -> ExitCode {
+    let line: [&[u8]; 1] = [b"wdp: a word is no text\n"];
+    let _ = write_pieces(&line, faults);
+    ExitCode::from(2)
 }
 
 fn main(rt: HostRuntime) -> ExitCode {
@@ -57,18 +72,18 @@ fn main(rt: HostRuntime) -> ExitCode {
     let words = match words(&rt) {
         Ok(words) => words,
         Err(error) if error.kind() == ErrorKind::OutOfMemory => {
-            return refused(&mut faults, b"wdp: out of memory\n", 1);
+            return without_memory(&mut faults);
         }
-        Err(_) => return refused(&mut faults, b"wdp: a word is no text\n", 2),
+        Err(_) => return without_words(&mut faults),
     };
     match texts(rt.alloc(), words.as_slice()) {
         Ok(words) => ExitCode::from(run(
             &rt,
             words.as_slice(),
-            &mut rt.stdin(),
+            &mut Source::new(rt.stdin()),
             &mut out,
             &mut faults,
         )),
-        Err(AllocError) => refused(&mut faults, b"wdp: out of memory\n", 1),
+        Err(AllocError) => without_memory(&mut faults),
     }
 }

@@ -1,7 +1,9 @@
 //! The kinds of parts.
 
 ghost use Rattle.std.specs.Prelude.{◌≡◌};
-ghost use Rattle.wdp.specs.Parts.{kind_named};
+ghost use Rattle.wdp.specs.Parts.{certificates_for, kind_named};
+
+use crate::request::Request;
 
 /// What a part of the input holds.
 #[derive(Clone, Copy, Debug, PartialEq, Eq)]
@@ -10,11 +12,22 @@ pub enum PartKind {
     Form,
     Groups,
     Solution,
+    Certificate,
 }
 
-/// The kind of the parts that a name heads.
-pub fn kind_named(name: &[u8]) -> Option<PartKind>
-    ensures { result ≡ kind_named name.now }
+// Certificates are a kind for `verify` alone.
+fn certificates_for(request: &Request) -> Option<PartKind>
+    ensures { result ≡ certificates_for request.now }
+{
+    match request {
+        Request::Verify { workers: _ } => Some(PartKind::Certificate),
+        _ => None,
+    }
+}
+
+/// The kind that the name in the head of a part tells to a request.
+pub fn kind_named(request: &Request, name: &[u8]) -> Option<PartKind>
+    ensures { result ≡ kind_named request.now name.now }
 {
     if name == b"%rules".as_slice() {
         Some(PartKind::Rules)
@@ -24,6 +37,8 @@ pub fn kind_named(name: &[u8]) -> Option<PartKind>
         Some(PartKind::Groups)
     } else if name == b"%solution".as_slice() {
         Some(PartKind::Solution)
+    } else if name == b"%certificate".as_slice() {
+        certificates_for(request)
     } else {
         None
     }

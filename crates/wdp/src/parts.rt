@@ -4,6 +4,7 @@ ghost use Rattle.std.specs.Prelude.{◌≡◌, ◌≤◌, ◌<◌, ◌∷◌, �
 ghost use Rattle.wdp.specs.Parts.{Tells, added, heads_part, bytes_before, cut_lines, name_of, part, parts_in, values};
 
 use crate::part_kind::{PartKind, kind_named};
+use crate::request::Request;
 use auction_terms::LineReader;
 use memchr::memmem;
 use std::alloc::{AllocError, Global};
@@ -15,6 +16,7 @@ pub struct Parts<'t> {
     pub forms: Vec<&'t [u8]>,
     pub groups: Vec<&'t [u8]>,
     pub solutions: Vec<&'t [u8]>,
+    pub certificates: Vec<&'t [u8]>,
 }
 
 /// Why an input has no parts. A part is counted from 1.
@@ -112,13 +114,18 @@ fn add_part<'t>(parts: &mut Parts<'t>, kind: PartKind, bytes: &'t [u8]) -> Resul
         PartKind::Form => parts.forms.push(bytes)?,
         PartKind::Groups => parts.groups.push(bytes)?,
         PartKind::Solution => parts.solutions.push(bytes)?,
+        PartKind::Certificate => parts.certificates.push(bytes)?,
     }
     Ok(())
 }
 
-/// Splits the input into its parts. No byte is copied.
-pub fn split_parts<'t>(alloc: Global, text: &'t [u8]) -> Result<Parts<'t>, PartFault>
-    ensures { Tells result text.now }
+/// Splits the input of a request into its parts. No byte is copied.
+pub fn split_parts<'t>(
+    alloc: Global,
+    request: &Request,
+    text: &'t [u8],
+) -> Result<Parts<'t>, PartFault>
+    ensures { Tells request.now result text.now }
 {
     if body_end(text) > 0 {
         return Err(PartFault::BeforeFirst);
@@ -128,12 +135,13 @@ pub fn split_parts<'t>(alloc: Global, text: &'t [u8]) -> Result<Parts<'t>, PartF
         forms: Vec::new(alloc),
         groups: Vec::new(alloc),
         solutions: Vec::new(alloc),
+        certificates: Vec::new(alloc),
     };
     let mut rest = text;
     let mut count = 0;
     while !rest.is_empty() {
         let first = first_part(rest);
-        let Some(kind) = kind_named(head_name(first.head)) else {
+        let Some(kind) = kind_named(request, head_name(first.head)) else {
             return Err(PartFault::PartName { part: count + 1 });
         };
         add_part(&mut parts, kind, first.bytes)?;

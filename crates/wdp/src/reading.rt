@@ -43,7 +43,7 @@ pub fn solutions_taken(request: &Request) -> Count
 {
     match request {
         Request::Map { group: _ } => Count::Exactly(1),
-        Request::Report { workers: _ } => Count::PerGroup,
+        Request::Report { workers: _ } | Request::Verify { workers: _ } => Count::PerGroup,
         _ => Count::Exactly(0),
     }
 }

@@ -1,14 +1,20 @@
 //! The program on its words, its input and two sinks.
 
-ghost use Rattle.std.specs.Prelude.{◌≡◌, ◌⊎◌, ◌≤◌, List, ℕ};
+ghost use Rattle.std.specs.Prelude.{◌≡◌, ◌≢◌, ◌≤◌, List, ℕ};
 ghost use Rattle.std.specs.Io.KnownBytes.{Appends};
-ghost use Rattle.mps_text.specs.Sinks.{HasFailed};
-ghost use Rattle.wdp.specs.Runs.{IsDone, IsRunRefused};
+ghost use Rattle.clap.specs.Words.{kind_of};
+ghost use Rattle.clap.specs.declared.error.kind.ErrorKind.TheVariants as kind;
+ghost use Rattle.wdp.specs.Asked.{IsShown};
+ghost use Rattle.wdp.specs.Line.{IsToldWhy};
+ghost use Rattle.wdp.specs.Parts.{bytes_of};
+ghost use Rattle.wdp.specs.Requests.{IsWithinLimits};
+ghost use Rattle.wdp.specs.Runs.{IsAnswered, IsDone, IsRefused, IsUnasked, IsUndone, IsUnshown, IsUntold};
 
 use crate::commands::answer;
 use crate::pieces::write_pieces;
 use crate::refusal::Refusal;
-use crate::request::request_of;
+use crate::request::{Request, request_of};
+use crate::source::Source;
 use crate::telling::tell;
 use clap::Error;
 use clap::error::ErrorKind;
@@ -23,20 +29,37 @@ use std::thread::Threads;
 pub fn run<'a, R: Threads + Wait + Sync + AllocGlobal, I: Read, S: Sink, F: Sink>(
     rt: &R,
     words: &'a [&'a str],
-    input: &mut I,
+    input: &mut Source<I>,
     out: &mut S,
     faults: &mut F,
 ) -> u8
     ensures status { result ≤ 2 }
-    ensures done { result ≡ 0 → IsDone (I.remaining input.old) (I.remaining input.new) (S.taken out.old) (S.taken out.new) }
-    ensures refused { result ≡ 1 → IsRunRefused (I.remaining input.old) (I.remaining input.new) (S.taken out.old) (S.taken out.new) (S.failures out.old) (S.failures out.new) }
-    ensures words_refused { result ≡ 2 → (I.remaining input.new ≡ I.remaining input.old) × (S.taken out.new ≡ S.taken out.old) }
+    ensures done { result ≡ 0 → IsDone (bytes_of words.entry.now) (I.remaining input.old.reader) (I.remaining input.new.reader) (S.taken out.old) (S.taken out.new) }
+    ensures quiet { result ≡ 0 → F.taken faults.new ≡ F.taken faults.old }
+    ensures refused { result ≡ 1 → IsToldWhy (IsUndone (bytes_of words.entry.now) (I.remaining input.old.reader) (I.remaining input.new.reader) input.old.failures input.new.failures (S.taken out.old) (S.taken out.new) (S.failures out.old) (S.failures out.new)) (F.taken faults.old) (F.taken faults.new) (F.failures faults.old) (F.failures faults.new) }
+    ensures unasked { result ≡ 2 → IsUnasked (bytes_of words.entry.now) (I.remaining input.old.reader) (I.remaining input.new.reader) (S.taken out.old) (S.taken out.new) }
 {
     let alloc: Global = rt.alloc();
-    let request = match request_of(alloc, words) {
-        Ok(request) => request,
-        Err(error) => return tell_words(alloc, &error, out, faults),
-    };
+    match request_of(alloc, words) {
+        Ok(request) => answer_request(rt, request, input, out, faults),
+        Err(error) => tell_words(alloc, &error, out, faults),
+    }
+}
+
+// Answers a request, or tells why not.
+fn answer_request<R: Threads + Wait + Sync + AllocGlobal, I: Read, S: Sink, F: Sink>(
+    rt: &R,
+    request: Request,
+    input: &mut Source<I>,
+    out: &mut S,
+    faults: &mut F,
+) -> u8
+    requires { IsWithinLimits request }
+    ensures status { result ≤ 1 }
+    ensures answered { result ≡ 0 → IsAnswered request (I.remaining input.old.reader) (I.remaining input.new.reader) (S.taken out.old) (S.taken out.new) }
+    ensures quiet { result ≡ 0 → F.taken faults.new ≡ F.taken faults.old }
+    ensures refused { result ≡ 1 → IsToldWhy (IsRefused request (I.remaining input.old.reader) (I.remaining input.new.reader) input.old.failures input.new.failures (S.taken out.old) (S.taken out.new) (S.failures out.old) (S.failures out.new)) (F.taken faults.old) (F.taken faults.new) (F.failures faults.old) (F.failures faults.new) }
+{
     match answer(rt, request, input, out) {
         Ok(()) => 0,
         Err(refusal) => {
@@ -46,25 +69,38 @@ pub fn run<'a, R: Threads + Wait + Sync + AllocGlobal, I: Read, S: Sink, F: Sink
     }
 }
 
-// Help goes to the output; a fault of the words to the faults.
+// Help and the version go to the output; a fault of the words to the faults.
 fn tell_words<S: Sink, F: Sink>(alloc: Global, error: &Error, out: &mut S, faults: &mut F) -> u8
     ensures status { result ≤ 2 }
-    ensures help { result ≡ 0 → (help : List ℕ) × Appends (S.taken out.old) (S.taken out.new) help }
-    ensures refused { result ≡ 1 → (S.taken out.new ≡ S.taken out.old) ⊎ HasFailed (S.failures out.old) (S.failures out.new) }
-    ensures words_refused { result ≡ 2 → S.taken out.new ≡ S.taken out.old }
+    ensures help { result ≡ 0 → IsShown (kind_of error.now) × ((help : List ℕ) × Appends (S.taken out.old) (S.taken out.new) help) }
+    ensures quiet { result ≡ 0 → F.taken faults.new ≡ F.taken faults.old }
+    ensures refused { result ≡ 1 → IsToldWhy (IsUntold (kind_of error.now) (S.taken out.old) (S.taken out.new) (S.failures out.old) (S.failures out.new)) (F.taken faults.old) (F.taken faults.new) (F.failures faults.old) (F.failures faults.new) }
+    ensures unasked { result ≡ 2 → ¬ (IsShown (kind_of error.now)) × (kind_of error.now ≢ kind.OutOfMemory) × (S.taken out.new ≡ S.taken out.old) }
 {
-    let text = match format!(in alloc; "{error}") {
-        Ok(text) if error.kind() != ErrorKind::OutOfMemory => text,
+    match format!(in alloc; "{error}") {
+        Ok(text) if error.kind() != ErrorKind::OutOfMemory => {
+            if error.use_stderr() {
+                let pieces: [&[u8]; 1] = [text.as_bytes()];
+                let _ = write_pieces(&pieces, faults);
+                return 2;
+            }
+            show(text.as_bytes(), out, faults)
+        }
         _ => {
             tell(&Refusal::OutOfMemory, faults);
-            return 1;
+            1
         }
-    };
-    let pieces: [&[u8]; 1] = [text.as_bytes()];
-    if error.use_stderr() {
-        let _ = write_pieces(&pieces, faults);
-        return 2;
     }
+}
+
+// Writes help, or the version.
+fn show<S: Sink, F: Sink>(help: &[u8], out: &mut S, faults: &mut F) -> u8
+    ensures status { result ≤ 1 }
+    ensures help { result ≡ 0 → (help : List ℕ) × Appends (S.taken out.old) (S.taken out.new) help }
+    ensures quiet { result ≡ 0 → F.taken faults.new ≡ F.taken faults.old }
+    ensures refused { result ≡ 1 → IsToldWhy (IsUnshown (S.taken out.old) (S.taken out.new) (S.failures out.old) (S.failures out.new)) (F.taken faults.old) (F.taken faults.new) (F.failures faults.old) (F.failures faults.new) }
+{
+    let pieces: [&[u8]; 1] = [help];
     match write_pieces(&pieces, out) {
         Ok(()) => 0,
         Err(fault) => {

@@ -5,6 +5,7 @@ use crate::compile_run::run_compile;
 use crate::request::Request;
 use crate::run::run;
 use crate::run_fault::RunFault;
+use crate::source::Source;
 use group_compiler::OpenGate;
 use mps_text::{LimitSink, MemorySink};
 use std::alloc::Global;
@@ -86,7 +87,7 @@ fn ends_as_told<'w, R: Threads + Wait + Sync + AllocGlobal>(
     most: usize,
 ) -> Result<bool, Fail> {
     let alloc: Global = rt.alloc();
-    let mut input = input;
+    let mut input = Source::new(input);
     let mut out = LimitSink::new(alloc, room, most);
     let mut faults = MemorySink::new(alloc);
     let status = run(rt, words, &mut input, &mut out, &mut faults);
@@ -101,10 +102,10 @@ fn ends_as_told<'w, R: Threads + Wait + Sync + AllocGlobal>(
 fn a_failing_input_is_refused_at_every_byte(rt: HostRuntime) -> Result<(), Fail> {
     assert_eq!(rt; ONE_FORM.len(), 130);
     for room in 0..131usize {
-        let mut input = LimitReader {
+        let mut input = Source::new(LimitReader {
             rest: ONE_FORM,
             room,
-        };
+        });
         let mut out = MemorySink::new(rt.alloc());
         let mut faults = MemorySink::new(rt.alloc());
         assert_eq!(rt; run(&rt, &["wdp"], &mut input, &mut out, &mut faults), 1);
@@ -116,13 +117,13 @@ fn a_failing_input_is_refused_at_every_byte(rt: HostRuntime) -> Result<(), Fail>
 
 #[test]
 fn an_input_without_an_end_is_refused(rt: HostRuntime) -> Result<(), Fail> {
-    let mut input = Endless { given: 0 };
+    let mut input = Source::new(Endless { given: 0 });
     let mut out = MemorySink::new(rt.alloc());
     let mut faults = MemorySink::new(rt.alloc());
     assert_eq!(rt; run(&rt, &["wdp"], &mut input, &mut out, &mut faults), 1);
     assert_eq!(rt; faults.bytes(), b"wdp: input: too large\n".as_slice());
     assert_eq!(rt; out.bytes().len(), 0);
-    assert_eq!(rt; input.given, 134_217_729);
+    assert_eq!(rt; input.reader.given, 134_217_729);
     Ok(())
 }
 
@@ -209,7 +210,7 @@ fn wrong_words_are_refused(rt: HostRuntime) -> Result<(), Fail> {
         &["wdp", "map", "--group", "1025"],
     ];
     for words in rows {
-        let mut input = LimitReader { rest: b"", room: 0 };
+        let mut input = Source::new(LimitReader { rest: b"", room: 0 });
         let mut out = MemorySink::new(rt.alloc());
         let mut faults = MemorySink::new(rt.alloc());
         assert_eq!(rt; run(&rt, words, &mut input, &mut out, &mut faults), 2);
@@ -221,7 +222,7 @@ fn wrong_words_are_refused(rt: HostRuntime) -> Result<(), Fail> {
 
 #[test]
 fn help_goes_to_the_output(rt: HostRuntime) -> Result<(), Fail> {
-    let mut input = LimitReader { rest: b"", room: 0 };
+    let mut input = Source::new(LimitReader { rest: b"", room: 0 });
     let mut out = MemorySink::new(rt.alloc());
     let mut faults = MemorySink::new(rt.alloc());
     assert_eq!(rt;
@@ -235,7 +236,7 @@ fn help_goes_to_the_output(rt: HostRuntime) -> Result<(), Fail> {
 
 #[test]
 fn a_refused_line_changes_no_status(rt: HostRuntime) -> Result<(), Fail> {
-    let mut input: &[u8] = b"";
+    let mut input = Source::new(b"".as_slice());
     let mut out = MemorySink::new(rt.alloc());
     let mut faults = LimitSink::new(rt.alloc(), 5, 3);
     assert_eq!(rt; run(&rt, &["wdp"], &mut input, &mut out, &mut faults), 1);

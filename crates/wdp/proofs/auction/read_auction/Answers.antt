@@ -1,16 +1,16 @@
-use Rattle.std.proofs.Common.{◌≡◌, ◌∙◌, List, ℕ, Ok, Err, ap, inl, inr, refl, subst, sym}
+use Rattle.std.proofs.Common.{◌≡◌, ◌∙◌, List, ℕ, Ok, ap, inl, refl, subst, sym}
 use denote.Ref.{Bor}
-use Rattle.auction_terms.specs.Terms.{Terms}
+use Rattle.auction_terms.specs.Groups.{has}
+use Rattle.auction_terms.specs.Terms.{Terms, lots_in}
+use Rattle.bid_desk.specs.Closing.{book_of}
 use Rattle.bid_forms.specs.Offers.{Offers}
-use Rattle.wdp.specs.Auction.{Auction, auction_told}
+use Rattle.mps_text.proofs.FaithfulTexts.{presolved_text_is_faithful}
+use Rattle.wdp.specs.Auction.{Auction}
 use Rattle.wdp.specs.Calls.{calls_told}
 use Rattle.wdp.specs.Exact.{Refuses, RefusesAuction}
 use Rattle.wdp.specs.Parts.{bytes_of, values}
-use Rattle.wdp.specs.Refused.{Refused}
 use Rattle.wdp.specs.TextsTold.{forms_told, groups_told, terms_told}
 use Rattle.wdp.specs.declared.refusal.Refusal.TheVariants as refusal
-use Rattle.wdp.specs.declared.round.RoundFault.{RoundFault}
-use Rattle.wdp.specs.declared.round.RoundFault.TheVariants as round
 use Rattle.wdp.proofs.AuctionFacts.{auction-held, auction-is, calls-refused, forms-refused, groups-refused, round-refused, terms-refused}
 use Rattle.wdp.proofs.RefusalFacts.{if-err-of}
 use Rattle.wdp.proofs.StageFacts.{stop}
@@ -87,7 +87,7 @@ returns-in_err-book-clause-refuses g c =
     let known = subst (λ (xs : Texts). groups_told t (bytes_of xs) ≡ Ok groups) c.as_slice-3.ensures.value c.in_ok-groups.ensures.told in
     let accepted = subst (λ (xs : List Offers). calls_told xs ≡ Ok xs) c.as_slice-4.ensures.value c.in_ok-check_calls.ensures.accepted in
     if-err-of (RefusesAuction asked input) c.from_residual-in_err-book.result (refusal.Round f) c.from_residual-in_err-book.ensures.1
-    (round-refused asked input (values c.in_ok-parts.parts) c.in_ok-parts.ensures.told t rules forms each groups known accepted f)
+    (round-refused asked input (values c.in_ok-parts.parts) c.in_ok-parts.ensures.told t rules forms each groups known accepted c.requires f)
 
 pub returns-clause-told : goal.returns-clause-told
 returns-clause-told g c =
@@ -102,7 +102,7 @@ returns-clause-told g c =
     let known = subst (λ (xs : Texts). groups_told t (bytes_of xs) ≡ Ok groups) c.as_slice-3.ensures.value c.in_ok-groups.ensures.told in
     let accepted = subst (λ (xs : List Offers). calls_told xs ≡ Ok xs) c.as_slice-4.ensures.value c.in_ok-check_calls.ensures.accepted in
     auction-is asked input (values c.in_ok-parts.parts) c.in_ok-parts.ensures.told t rules forms each groups known accepted
-    ∙ ap (λ (a : Auction). Ok a) (auction-held book t forms groups (bytes_of c.in_ok-parts.parts.solutions.items) c.in_ok-book.ensures.rules c.in_ok-book.ensures.submitted)
+    ∙ ap (λ (a : Auction). Ok a) (auction-held book t forms groups (values c.in_ok-parts.parts) c.in_ok-book.ensures.rules c.in_ok-book.ensures.submitted)
 
 pub returns-clause-submitted : goal.returns-clause-submitted
 returns-clause-submitted g c =
@@ -118,4 +118,16 @@ returns-clause-submitted g c =
       rules_are = subst (λ (u : Terms). terms_told (bytes_of c.in_ok-parts.parts.rules.items) ≡ Ok u) same rules;
       forms_are = subst (λ (u : Terms). forms_told u (bytes_of c.in_ok-parts.parts.forms.items) ≡ Ok forms) same each;
       submitted = c.in_ok-book.ensures.submitted;
+    }
+
+pub returns-clause-sold : goal.returns-clause-sold
+returns-clause-sold g c =
+    let book = c.in_ok-book.book in
+    record {
+      told = returns-clause-told g c;
+      book = book;
+      closed = c.history-history.ensures.closing;
+      holds = returns-clause-submitted g c;
+      sale_is = refl;
+      faithful = λ group. presolved_text_is_faithful (lots_in book.rules) (book_of book) (has group) c.rules-rules.ensures.lots c.rules-rules.ensures.book;
     }

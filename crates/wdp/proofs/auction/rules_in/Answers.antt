@@ -1,4 +1,4 @@
-use Rattle.std.proofs.Common.{◌≡◌, ◌∙◌, ℕ, List, ap, sym, subst}
+use Rattle.std.proofs.Common.{◌∙◌, ℕ, List, ap, sym, subst}
 use Rattle.wdp.specs.Exact.{Refuses}
 use Rattle.wdp.specs.InputTexts.{rules_in}
 use Rattle.wdp.specs.Parts.{bytes_of}

@@ -1,4 +1,4 @@
-use Rattle.std.proofs.Common.{◌≡◌, ℕ, List, Ok, Result, ap, inl, refl}
+use Rattle.std.proofs.Common.{◌≡◌, ℕ, Ok, Result, ap, inl, refl}
 use Rattle.program_rows.specs.Program.{Table}
 use Rattle.program_rows.specs.declared.fault.FaultKind.{FaultKind}
 use Rattle.wdp.specs.Answer.{answer, program_refused}

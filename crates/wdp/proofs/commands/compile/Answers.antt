@@ -1,10 +1,10 @@
 use Rattle.std.proofs.Common.{◌≡◌}
 use Rattle.wdp.specs.Auction.{auction_told}
 use Rattle.wdp.specs.Commands.{texts_of_groups}
-use Rattle.wdp.specs.Exact.{IsUnsettled, IsUnwritten, held}
+use Rattle.wdp.specs.Exact.{IsLeftOpen, IsUnwritten, held}
 use Rattle.wdp.specs.declared.request.Request.TheVariants as request
 use Rattle.wdp.proofs.CommandFacts.{ends-behind, ends-so, no-auction, writes-behind}
-use Rattle.wdp.proofs.RefusalFacts.{if-err-of}
+use Rattle.wdp.proofs.RefusalFacts.{if-err-of, on-ok-given}
 use Rattle.wdp.proofs.commands.compile.Goals as goal
 
 pub returns-in_err-auction-clause-refused : goal.returns-in_err-auction-clause-refused
@@ -28,4 +28,7 @@ returns-clause-refused g c =
     let failures = g.S.Sink.failures c.args.out.now in
     let failures' = g.S.Sink.failures c.write_programs_of.new.out in
     let ends = ends-behind (auction_told (request.Compile c.args.workers) text) (held c.in_ok-auction.auction) texts_of_groups c.in_ok-auction.ensures.told c.write_programs_of.result taken taken' failures failures' c.write_programs_of.ensures.refused in
-    ends-so _ (λ r. IsUnsettled (request.Compile c.args.workers) text r × (taken' ≡ taken)) c.write_programs_of.result taken taken' failures failures' ends
+    ends-so _ (λ r. IsLeftOpen (request.Compile c.args.workers) text r × (taken' ≡ taken)) c.write_programs_of.result taken taken' failures failures' ends
+
+pub returns-clause-sold : goal.returns-clause-sold
+returns-clause-sold g c = on-ok-given c.write_programs_of.result (held c.in_ok-auction.auction, c.in_ok-auction.ensures.sold)

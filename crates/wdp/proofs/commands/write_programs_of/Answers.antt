@@ -1,4 +1,4 @@
-use Rattle.std.proofs.Common.{List, ℕ, Ok, ap, inl, inr, map, refl, subst}
+use Rattle.std.proofs.Common.{List, ℕ, Ok, ap, inr, map, refl, subst}
 use Rattle.group_compiler.specs.Compiled.{compiled}
 use Rattle.wdp.specs.Exact.{by_put, by_refusal}
 use Rattle.wdp.specs.GroupTexts.{FailsAsTold, StopsAsTold, programs_bytes}

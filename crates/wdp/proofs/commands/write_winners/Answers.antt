@@ -1,6 +1,4 @@
-use Rattle.std.proofs.Common.{◌≡◌, ◌≤◌, ◌-◌, ◌∙◌, Bor, [], ℕ, List, Ok, Err, Result, ap, arith, inl, inr, length, refl, rules, slice_index_or}
-use Rattle.std.proofs.lemmas.Bool.Decides.{leb_tells}
-use Rattle.auction_terms.specs.declared.choices.Choice.{Choice}
+use Rattle.std.proofs.Common.{◌≤◌, ◌-◌, ◌∙◌, Bor, ℕ, List, ap, length, refl, rules}
 use Rattle.outcome.specs.Report.{allocation_text}
 use Rattle.outcome.specs.Sale.{sale_of}
 use Rattle.wdp.specs.Commands.{winners_text}

@@ -1,0 +1,43 @@
+-- Certificates of what the groups win: each shows that no point of its group's program has an objective below minus the total, so that nobody wins more.
+use Rattle.std.specs.Prelude.{◌==◌, ℕ, List, Option, Result, Ok, Err, ℤ, pos, neg_ℤ, if◌then◌else◌, length, map}
+use Rattle.std.specs.List.{zip}
+use Rattle.std.specs.Option.{option_map}
+use Rattle.auction_terms.specs.Allocations.{total}
+use Rattle.auction_terms.specs.declared.choices.Choice.{Choice}
+use Rattle.optimality.specs.Verdict.{first_fault}
+use Rattle.optimality.specs.declared.fault.FaultKind.{FaultKind}
+use Rattle.outcome.specs.Sale.{Sale}
+use Rattle.program_rows.specs.Program.{Table}
+use Rattle.wdp.specs.Auction.{Auction}
+use Rattle.wdp.specs.BookLeft.{program_for}
+use Rattle.wdp.specs.Refused.{Refused}
+use Rattle.wdp.specs.Stages.{and_then, each_in_turn, unless}
+use Rattle.wdp.specs.declared.refusal.CountedPart.TheVariants as counted
+use Rattle.wdp.specs.declared.refusal.Refusal.TheVariants as refusal
+
+-- a certificate, and the objective below which it is to show no point of a program
+pub record ClaimedBound : Type 0 where
+  pub program : Table
+  pub least : ℤ
+  pub certificate : List ℕ
+
+-- what the certificate of a group is to show of what is won without the group
+abbrev pub bound_of : Sale → (List ℕ × List Choice) × List ℕ → ClaimedBound
+bound_of sale item = record { program = program_for sale item.0.0; least = neg_ℤ (pos (total sale.lots sale.book item.0.1)); certificate = item.1 }
+
+abbrev pub bounds_of : Auction → List (List Choice) → List ClaimedBound
+bounds_of auction won = map (bound_of auction.sale) (zip (zip auction.groups won) auction.certificates)
+
+-- a fault of the certificate of this number
+abbrev pub certificate_refused : ℕ → ℕ × FaultKind → Refused
+certificate_refused number f = refusal.Certificate number (record { line = f.0; kind = f.1 })
+
+-- the certificate of this number shows what it is to, or has a first fault
+abbrev pub shown : ℕ → ClaimedBound → Result (Unit {0}) Refused
+shown number bound = unless (option_map (certificate_refused number) (first_fault bound.program bound.least bound.certificate)) tt
+
+-- what the groups win, where there is a certificate for each, and each shows what it is to
+abbrev pub certified : Auction → List (List Choice) → Result (List (List Choice)) Refused
+certified auction won =
+    if length auction.certificates == length auction.groups then and_then (each_in_turn shown 1 (bounds_of auction won)) (λ all. Ok won)
+    else Err (refusal.PartCount counted.Certificates)
