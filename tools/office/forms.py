@@ -68,11 +68,12 @@ class Reader:
         """The quantities, or None where one of them isn't within its limits."""
         quantities = []
         for category, cell in zip(self.rules.categories, cells):
-            value, what = number(cell.text), "quantity of %s" % category.name.decode()
+            value = number(cell.text)
             if value is None:
-                self.fault(record, 8, "QuantityText", cell, number_words(what, cell.text))
+                words = number_words("quantity of %s" % category.name.decode(), cell.text)
+                self.fault(record, 8, "QuantityText", cell, words)
             elif value > limits.QUANTITY:
-                words = "{} is {}, above {:,}".format(what, shown(cell.text), limits.QUANTITY)
+                words = "quantity of {} is {}, above {:,}".format(category.name.decode(), shown(cell.text), limits.QUANTITY)
                 self.fault(record, 9, "QuantityRange", cell, words)
                 value = None
             quantities.append(value)

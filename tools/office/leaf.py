@@ -6,7 +6,7 @@ however they were found, and is exact in whole numbers.
 import numpy as np
 
 MOST = 10 ** 18
-WIDEST = 2 ** 127
+WIDEST = 2 ** 126
 
 
 class Bound:
@@ -113,7 +113,7 @@ class Leaf:
         return sorted((place, number) for place, number in multipliers.items() if number)
 
     def fits(self):
-        """Whether each number is at most 10^18, and no sum of the checker's can leave 128 bits."""
+        """Whether each number is at most 10^18, and no sum of the checker's reaches 2^126."""
         rows, scale = self.rows(), self.bound.scale
         if max([scale, *self.cuts, *(abs(number) for _, number in rows)]) > MOST:
             return False

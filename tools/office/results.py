@@ -49,7 +49,8 @@ class PoolResult:
 
 @dataclass
 class GroupResult:
-    """`certified` is None where nothing was told; `ties` are other winners that reach the same total."""
+    """`certified` is None where nothing was told; `ties` are other winners that reach the same total;
+    `asked_for_tie` tells whether a solver was asked for such winners."""
 
     number: int
     left_out: list
@@ -60,6 +61,7 @@ class GroupResult:
     solver: str | None
     seconds: float | None
     ties: list
+    asked_for_tie: bool | None
 
 
 @dataclass
@@ -85,6 +87,11 @@ class Results:
     def ties(self):
         """The groups in which other winners reach the same total."""
         return [group for group in self.groups if group.ties]
+
+    @property
+    def asked_for_ties(self):
+        """Whether a solver was asked for other winners of the same total in every group."""
+        return all(group.asked_for_tie for group in self.groups)
 
     @property
     def certified(self):
@@ -120,7 +127,7 @@ def group_result(number, outcome, rules, told):
     names = [bidder.name.decode() for bidder in rules.bidders]
     winners = [{"name": names[winner.bidder - 1], "bid": winner.bid, "amount": winner.amount} for winner in outcome.winners]
     return GroupResult(number, [names[bidder - 1] for bidder in outcome.left_out], winners, outcome.total, outcome.cost,
-                       told.certified, told.solver, told.seconds, told.ties)
+                       told.certified, told.solver, told.seconds, told.ties, told.asked_for_tie)
 
 
 def results_of(auction, outcomes, digests, title, told):
@@ -169,11 +176,11 @@ YES_NO = {True: "yes", False: "no", None: None}
 
 
 def groups_text(results):
-    """Names are joined as in the report; a tie that was seen is told by `yes`."""
+    """Names are joined as in the report; without a tie the field says `no` only where a solver was asked for one."""
     return table_text(
         ["group", "left out", "winners", "total", "opportunity cost", "certified", "solver", "seconds", "tie seen"],
         ([group.number, "+".join(group.left_out) or "-", "+".join(winner["name"] for winner in group.winners) or "-",
-          group.total, group.cost, YES_NO[group.certified], group.solver, group.seconds, "yes" if group.ties else None]
+          group.total, group.cost, YES_NO[group.certified], group.solver, group.seconds, "yes" if group.ties else "no" if group.asked_for_tie else None]
          for group in results.groups))
 
 

@@ -13,6 +13,7 @@ class GroupTold:
     solver: str | None = None
     seconds: float | None = None
     ties: list = field(default_factory=list)
+    asked_for_tie: bool | None = None
 
 
 @dataclass
@@ -42,6 +43,7 @@ KINDS = {
     "solver": lambda value: value is None or isinstance(value, str),
     "seconds": lambda value: value is None or isinstance(value, (int, float)) and not isinstance(value, bool),
     "ties": is_ties,
+    "asked_for_tie": lambda value: value is None or isinstance(value, bool),
 }
 
 
@@ -68,3 +70,8 @@ def read_run(data, source):
         raise Stopped("%s: groups isn't an object by their numbers" % source)
     return RunTold(told.get("versions", {}), told.get("times", {}),
                    {int(number): read_group(group, source, number) for number, group in groups.items()})
+
+
+def text_of(versions, times, groups):
+    """The JSON text that `read_run` reads."""
+    return (json.dumps({"versions": versions, "times": times, "groups": groups}, indent=1) + "\n").encode()

@@ -95,7 +95,7 @@ def run(tool, work):
     except MemoryError:
         say(tool, "out of memory")
     except OSError as error:
-        say(tool, error.strerror or str(error))
+        say(tool, ": ".join(filter(None, [error.filename and str(error.filename), error.strerror or str(error)])))
     except KeyboardInterrupt:
         say(tool, "interrupted")
     return 1

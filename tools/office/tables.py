@@ -6,14 +6,13 @@ of the text ends the record. A quote inside a field that doesn't begin with one 
 """
 import bisect
 import re
-from dataclasses import dataclass
+from typing import NamedTuple
 
 LINE_END = re.compile(rb"\r\n|\n|\r")
 QUOTED = re.compile(rb'[^"]*')
 
 
-@dataclass(frozen=True)
-class Field:
+class Field(NamedTuple):
     text: bytes
     line: int
     column: int
@@ -48,21 +47,40 @@ def _field(text, at, plain):
     return value + rest.group(), rest.end()
 
 
+def _plain_record(text, delimiter, line, column):
+    """The fields of a record without quotes."""
+    record = []
+    for value in text.split(delimiter):
+        record.append(Field(value, line, column))
+        column += len(value) + 1
+    return record
+
+
+def _record(text, at, delimiter, plain, lines):
+    """The fields of the record at a place, and where the next one may begin."""
+    record, end = [], at - 1
+    while not record or text[end:end + 1] == delimiter:
+        at = end + 1
+        value, end = _field(text, at, plain)
+        record.append(Field(value, *lines.place(at)))
+    return record, end + 1
+
+
 def records(text, delimiter=b",", first_line=1):
     """The records of a text, each a list of fields. `first_line` is the number of the text's first line in its file."""
     plain = re.compile(rb"[^\r\n" + re.escape(delimiter) + rb"]*")
+    whole_line = re.compile(rb"[^\r\n]*")
     lines, found, at = Lines(text, first_line), [], 0
     while at < len(text):
         if text[at] in b"\r\n":
             at += 1
             continue
-        record = []
-        while True:
-            value, end = _field(text, at, plain)
-            record.append(Field(value, *lines.place(at)))
+        end = whole_line.match(text, at).end()
+        if text.find(b'"', at, end) < 0:
+            found.append(_plain_record(text[at:end], delimiter, *lines.place(at)))
             at = end + 1
-            if text[end:end + 1] != delimiter:
-                break
+            continue
+        record, at = _record(text, at, delimiter, plain, lines)
         found.append(record)
     return found
 

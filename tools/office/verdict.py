@@ -9,7 +9,7 @@ from office.lines import fields, lines_of
 from office.numbers import NumberFault, whole_number
 from office.program import AT_LEAST, AT_MOST
 
-WIDEST = 2 ** 127
+WIDEST = 2 ** 126
 
 
 class Fault(NamedTuple):
@@ -186,7 +186,7 @@ class Reading:
         return sum(number for number, zero, one in bounds if one and (number < 0 or not zero))
 
     def may_be_large(self, leaf):
-        """Whether some order of adding up could leave 128 bits: a bound on all sizes together reaches 2^127."""
+        """Whether a checker in 128 bits may stop: a bound on all sizes together reaches 2^126."""
         column = leaf.scale * self.checker.widest_cost
         right = leaf.scale * (abs(self.least) + 1)
         for multiplier, split in zip(leaf.multipliers, self.splits):

@@ -1,0 +1,307 @@
+"""One step of an auction's workflow, in the auction's folder; each leaves its file whole or none.
+
+usage: tools/auction_step programs | first SOLVER | solve SOLVER GROUP | certify SOLVER GROUP | ties SOLVER GROUP
+                          | report SOLVER | verify SOLVER | results SOLVER
+
+tools/auction DIR has the engine start it. What is there already isn't made again, but for the results.
+"""
+import contextlib
+import os
+import signal
+import socket
+import subprocess
+import sys
+import time
+
+from office import folder, inputs, running
+from office.audit import printed, with_answers
+from office.choosing import solver_of
+from office.cut import columns_of, cut_off, other_of_same_total
+from office.ending import end_by_interrupt, end_with_parent
+from office.report import read_report
+from office.run_record import text_of
+from office.solving import KILLED, NO_SOLUTION, TIME_OUT, Failed, Wanted, column_names, solution, start_from
+from office.totals import Answers, check_totals, compare, ties
+
+TOOLS = os.path.dirname(os.path.dirname(os.path.realpath(__file__)))
+WHY = {KILLED: "killed", TIME_OUT: "out of time", folder.WRONG: folder.NOT_OPTIMAL}
+
+
+class Wrong(Exception):
+    """Wrong words for a step."""
+
+    def error(self, why):
+        raise running.Stopped(why, 2)
+
+
+def solver_named(name):
+    """The solver of the settings that has a name."""
+    for told in folder.settings()["solvers"]:
+        if told["name"] == name:
+            return solver_of(Wrong(), name if not told["command"] else None, told["command"], told["optimal"]), told["options"]
+    raise running.Stopped("the settings have no solver %s" % name, 2)
+
+
+def run_tool(words, text=b""):
+    """Status, output and messages of a program that ends with this one."""
+    try:
+        done = subprocess.run(words, input=text, capture_output=True, preexec_fn=end_with_parent)
+    except OSError as error:
+        raise running.Stopped("%s doesn't start: %s" % (words[0], error.strerror))
+    return done.returncode, done.stdout, done.stderr.decode(errors="replace").strip()
+
+
+def refused(name, status, messages):
+    if status < 0:
+        return running.Stopped("%s was killed by signal %d (%s)" % (name, -status, signal.strsignal(-status)), KILLED)
+    return running.Stopped(messages or "%s ended with status %d" % (name, status), status)
+
+
+def programs():
+    """Parts what wdp compiles into a file for each group, as it comes."""
+    given = folder.settings()
+    words = [given["wdp"], "compile", "--workers", str(given["workers"])]
+    os.makedirs("programs", exist_ok=True)
+    written = []
+    with open("input.txt", "rb") as text, subprocess.Popen(
+            words, stdin=text, stdout=subprocess.PIPE, stderr=subprocess.PIPE, preexec_fn=end_with_parent) as wdp:
+        with contextlib.ExitStack() as stack:
+            for line in wdp.stdout:
+                if line.startswith(b"* program "):
+                    stack.close()
+                    written.append(folder.program_path(len(written) + 1))
+                    part = stack.enter_context(open(written[-1] + ".writing", "wb"))
+                else:
+                    part.write(line)
+        messages = wdp.stderr.read().decode(errors="replace").strip()
+    if wdp.returncode != 0:
+        raise refused("wdp compile", wdp.returncode, messages)
+    for path in written:
+        os.replace(path + ".writing", path)
+
+
+def state_of(step, status):
+    """How a step ended that wasn't done; a program without a solution is none of an answer that isn't optimal."""
+    return "no solution" if step == "solve" and status == NO_SOLUTION else WHY.get(status, "failed")
+
+
+@contextlib.contextmanager
+def told(step, solver, group):
+    """Tells when a step of a group begins, and how it ends."""
+    now = folder.running_path(step, solver, group)
+    folder.write_json(now, {"since": time.time(), "host": socket.gethostname(), "process": os.getpid()})
+    ended, start = {"state": "interrupted"}, time.monotonic()
+    try:
+        yield
+        ended = {"state": "done"}
+    except (running.Stopped, Failed) as stopped:
+        ended = {"state": state_of(step, stopped.status), "words": str(stopped)}
+        raise running.Stopped("group %s: %s: %s" % (group, ended["state"], stopped), stopped.status)
+    except OSError as error:
+        ended = {"state": "failed", "words": "%s: %s" % (error.filename or "", error.strerror)}
+        raise
+    finally:
+        ended.update(seconds=round(time.monotonic() - start, 2), host=socket.gethostname(), ended=time.time())
+        if ended["state"] != "interrupted":
+            folder.write_json(folder.ended_path(step, solver, group), ended)
+        with contextlib.suppress(OSError):
+            os.unlink(now)
+
+
+def solved(name, group, text, step):
+    """The solution of a text by a solver, which starts from group 1's where it can."""
+    given, (solver, options) = folder.settings(), solver_named(name)
+    log = os.path.abspath(folder.log_path(step, name, group))
+    os.makedirs(os.path.dirname(log), exist_ok=True)
+    wanted = Wanted(given["time_limit"], log, options)
+    start = folder.read_json(folder.first_path(name)) if step == "solve" and given["start"] and group != "1" else {}
+    if solver.takes_start and start and not start["failed"]:
+        wanted.start = start_from(start["solution"].splitlines(), column_names(text))
+    return "".join(line + "\n" for line in solution(text, solver, wanted))
+
+
+def first(name):
+    """Tries group 1, from whose solution the others start; they go on where it has none."""
+    path, text = folder.path_of("solve", name, 1), ""
+    try:
+        text = running.content(path).decode("latin-1") if os.path.exists(path) else solved_group(name, "1")
+        failed = None
+    except running.Stopped as stopped:
+        failed = str(stopped)
+    folder.write_json(folder.first_path(name), {"solution": text, "failed": failed})
+
+
+def solved_group(name, group):
+    with told("solve", name, group):
+        return solved(name, group, running.content(folder.program_path(group)).decode("latin-1"), "solve")
+
+
+def solve(name, group):
+    path = folder.path_of("solve", name, group)
+    if os.path.exists(path):
+        return
+    tried = folder.read_json(folder.first_path(name)) if group == "1" else {}
+    if tried.get("failed"):
+        raise running.Stopped(tried["failed"])
+    text = tried["solution"] if tried else solved_group(name, group)
+    folder.write(path, text.encode("latin-1"))
+
+
+def certify(name, group):
+    """The certificate is checked before it counts."""
+    path, limit = folder.path_of("certify", name, group), folder.settings()["time_limit"]
+    texts = [folder.program_path(group), folder.path_of("solve", name, group)]
+    if os.path.exists(path):
+        return
+    with told("certify", name, group):
+        words = ["--time-limit", str(limit)] if limit else []
+        status, certificate, messages = run_tool([os.path.join(TOOLS, "certify"), *words, *texts])
+        if status != 0:
+            raise refused("certify", status, messages.replace("\n", "; "))
+        beside = path + ".unchecked"
+        folder.write(beside, certificate)
+        status, _, messages = run_tool([os.path.join(TOOLS, "check_certificate"), *texts, beside])
+        if status != 0:
+            os.unlink(beside)
+            raise refused("check_certificate", status, messages)
+        os.replace(beside, path)
+
+
+def find_ties(name, group):
+    """Asks the solver once more, with the winners cut off."""
+    path = folder.path_of("ties", name, group)
+    if os.path.exists(path):
+        return
+    with told("ties", name, group):
+        text = running.content(folder.program_path(group))
+        own = running.content(folder.path_of("solve", name, group))
+        cut = cut_off(text, columns_of(own)).decode("latin-1")
+        try:
+            other = other_of_same_total(text, own, solved(name, group, cut, "ties").encode("latin-1"))
+        except Failed as failed:
+            if failed.status != NO_SOLUTION:
+                raise
+            other = None  # there is no other solution at all
+        folder.write_json(path, {"winners": other})
+
+
+def auction_of_folder():
+    return inputs.read_input(running.content("input.txt"), "input.txt")
+
+
+def answers_of(solver, report, auction):
+    """The outcomes of a report, whose totals have to be able to be the greatest ones."""
+    answers = Answers(read_report(report, auction, "the report of %s" % solver), auction)
+    check_totals(answers)
+    return answers
+
+
+def whole(step):
+    """A step of the whole auction: tells why it failed."""
+    def work(*words):
+        try:
+            step(*words)
+        except running.Stopped as stopped:
+            name = step.__name__
+            folder.write_json(folder.ended_path(name, words[0] if words else "-", "all"),
+                              {"state": state_of(name, stopped.status), "words": str(stopped)})
+            raise
+    return work
+
+
+def of_each_group(step, solver, given):
+    """What a step left for each group."""
+    return [running.content(folder.path_of(step, solver, group)) for group in range(1, given["groups"] + 1)]
+
+
+def wdp_says(given, command, text):
+    """What a command of wdp prints of a text."""
+    status, output, messages = printed(given["wdp"], [command, "--workers", str(given["workers"])], text)
+    if status != 0:
+        raise refused("wdp " + command, status, messages)
+    return output
+
+
+def report(solver):
+    given = folder.settings()
+    output = wdp_says(given, "report", with_answers(running.content("input.txt"), of_each_group("solve", solver, given)))
+    answers_of(solver, output, auction_of_folder())
+    folder.write(folder.report_path(solver), output)
+
+
+def verify(solver):
+    """Leaves what `wdp verify` reads, once it has printed just the report of it."""
+    given = folder.settings()
+    text = with_answers(running.content("input.txt"), of_each_group("solve", solver, given), of_each_group("certify", solver, given))
+    if wdp_says(given, "verify", text) != running.content(folder.report_path(solver)):
+        raise running.Stopped("wdp verify prints another report than wdp report")
+    folder.write(folder.audit_path(solver), text)
+
+
+def ties_asked_for(solver, given):
+    """Of each group the other winners that the solver found with the first ones cut off."""
+    told = {}
+    for group in range(1, given["groups"] + 1):
+        winners = folder.read_json(folder.path_of("ties", solver, group)).get("winners")
+        if winners is not None:
+            told[group] = tuple(tuple(winner) for winner in winners)
+    return told
+
+
+def tie_names(winners, auction):
+    return ["%s with bid %d" % (auction.rules.bidders[bidder - 1].name.decode(), bid) for bidder, bid in winners]
+
+
+def all_ties(solver, answers, others, given, auction):
+    seen = ties(answers, others)
+    for group, winners in ties_asked_for(solver, given).items():
+        found = seen.setdefault(group, [])
+        if winners not in found:
+            found.append(winners)
+    return {group: [tie_names(winners, auction) for winners in found] for group, found in seen.items()}
+
+
+def of_group(solver, group, given):
+    """What the run tells of a group; no certificate is told where none was asked for."""
+    certified = os.path.exists(folder.path_of("certify", solver, group))
+    seconds = folder.read_json(folder.ended_path("solve", solver, group)).get("seconds")
+    return {"solver": solver, "seconds": seconds, "certified": certified or (False if given["certify"] else None),
+            "asked_for_tie": os.path.exists(folder.path_of("ties", solver, group))}
+
+
+def results(solver):
+    given, auction = folder.settings(), auction_of_folder()
+    with contextlib.suppress(FileNotFoundError):
+        os.unlink("results/%s/results.html" % solver)
+    answers = answers_of(solver, running.content(folder.report_path(solver)), auction)
+    others = [answers_of(other["name"], running.content(folder.report_path(other["name"])), auction)
+              for other in given["solvers"] if other["name"] != solver]
+    for other, its in zip([other for other in given["solvers"] if other["name"] != solver], others):
+        compare(answers, solver, its, other["name"])
+    groups = {str(group): of_group(solver, group, given) for group in range(1, given["groups"] + 1)}
+    for group, found in all_ties(solver, answers, others, given, auction).items():
+        groups[str(group)]["ties"] = found
+    solving = sum(group["seconds"] or 0 for group in groups.values())
+    times = {"Started": given["started"], "Seconds of solving": "{:,.2f}".format(solving),
+             "Results made": time.strftime("%Y-%m-%d %H:%M %Z")}
+    folder.write("run.json", text_of(given["versions"], times, groups))
+    status, _, messages = run_tool([os.path.join(TOOLS, "results"), "input.txt", folder.report_path(solver), "--run", "run.json",
+                                    "--title", given["title"], "--output", "results/%s" % solver])
+    if status != 0:
+        raise refused("results", status, messages)
+
+
+STEPS = {"programs": (whole(programs), 0), "first": (first, 1), "solve": (solve, 2), "certify": (certify, 2),
+         "ties": (find_ties, 2), "report": (whole(report), 1), "verify": (whole(verify), 1), "results": (whole(results), 1)}
+
+
+def main():
+    words = sys.argv[1:]
+    if words[:1] in (["-h"], ["--help"]):
+        running.print_bytes(__doc__.encode())
+        return 0
+    if not words or words[0] not in STEPS or len(words) - 1 != STEPS[words[0]][1]:
+        raise running.Stopped("wrong words; --help tells them", 2)
+    end_with_parent()
+    end_by_interrupt()
+    return STEPS[words[0]][0](*words[1:])
