@@ -15,18 +15,19 @@ use Rattle.optimality.specs.declared.fault.CertificateFault.{CertificateFault}
 use Rattle.optimality.specs.declared.fault.FaultKind.{FaultKind}
 use Rattle.optimality.specs.declared.fault.FaultKind.TheVariants as kind
 use Rattle.outcome.specs.Sale.{sale_of}
-use Rattle.wdp.specs.Auction.{Auction}
+use Rattle.auction_input.specs.Auction.{Auction}
 use Rattle.wdp.specs.Certified.{ClaimedBound, bound_of, bounds_of, certificate_refused, certified, shown}
-use Rattle.wdp.specs.Exact.{IsTooWide, Refuses, held}
+use Rattle.auction_input.specs.Refused.{Refuses, Refusal, Refused}
+use Rattle.auction_input.specs.Settled.{held}
+use Rattle.wdp.specs.Exact.{IsTooWide}
 use Rattle.wdp.specs.Judging.{AllShown, IsFirstFaulty, IsJudged, bound_by, bounds_by, claimed}
-use Rattle.wdp.specs.Parts.{bytes_of}
-use Rattle.wdp.specs.Refused.{Refusal, Refused}
-use Rattle.wdp.specs.Stages.{and_then, each_in_turn, unless}
-use Rattle.wdp.specs.declared.auction.Auction as declared
+use Rattle.auction_input.specs.Parts.{bytes_of}
+use Rattle.auction_input.specs.Stages.{and_then, each_in_turn, unless}
+use Rattle.auction_input.specs.declared.auction.Auction as declared
 use Rattle.wdp.specs.declared.certified.ClaimedBound as code
-use Rattle.wdp.specs.declared.refusal.CountedPart.TheVariants as counted
-use Rattle.wdp.specs.declared.refusal.Refusal.TheVariants as refusal
-use Rattle.wdp.proofs.StageFacts.{stop}
+use Rattle.auction_input.specs.declared.refusal.CountedPart.TheVariants as counted
+use Rattle.auction_input.specs.declared.refusal.Refusal.TheVariants as refusal
+use Rattle.auction_input.proofs.StageFacts.{stop}
 
 abbrev Verdict : Type 0
 Verdict = Result (Unit {0}) CertificateFault

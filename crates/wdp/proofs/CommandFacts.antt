@@ -17,20 +17,21 @@ use Rattle.mps_text.specs.declared.write_fault.WriteFault.TheVariants as write
 use Rattle.outcome.specs.Report.{allocation_text, report_text}
 use Rattle.outcome.specs.Sale.{sale_of}
 use Rattle.program_rows.specs.Program.{Table}
-use Rattle.wdp.specs.Auction.{Auction, auction_told}
+use Rattle.auction_input.specs.Auction.{Auction, auction_told}
 use Rattle.wdp.specs.Commands.{program_text, winners_of_groups, winners_text}
-use Rattle.wdp.specs.Exact.{Ends, IsLeftOpen, Refuses, RefusesAuction, Writes, by_put, by_refusal, held}
+use Rattle.auction_input.specs.Refused.{Refuses, Refusal, Refused}
+use Rattle.auction_input.specs.Settled.{RefusesAuction, held}
+use Rattle.wdp.specs.Exact.{Ends, IsLeftOpen, Writes, by_put, by_refusal}
 use Rattle.wdp.specs.GroupTexts.{EndsIn, in_turn, program_bytes, programs_bytes}
-use Rattle.wdp.specs.Parts.{bytes_of}
-use Rattle.wdp.specs.PartsTold.{only_text}
-use Rattle.wdp.specs.Refused.{Refusal, Refused}
-use Rattle.wdp.specs.Stages.{and_then, each_in_turn}
+use Rattle.auction_input.specs.Parts.{bytes_of}
+use Rattle.auction_input.specs.PartsTold.{only_text}
+use Rattle.auction_input.specs.Stages.{and_then, each_in_turn}
 use Rattle.wdp.specs.Winners.{winners, winners_by}
-use Rattle.wdp.specs.declared.auction.Auction as declared
-use Rattle.wdp.specs.declared.refusal.CountedPart.TheVariants as counted
-use Rattle.wdp.specs.declared.refusal.Refusal.TheVariants as refusal
-use Rattle.wdp.specs.declared.request.Request.{Request}
-use Rattle.wdp.proofs.StageFacts.{next, refuses-as, stop}
+use Rattle.auction_input.specs.declared.auction.Auction as declared
+use Rattle.auction_input.specs.declared.refusal.CountedPart.TheVariants as counted
+use Rattle.auction_input.specs.declared.refusal.Refusal.TheVariants as refusal
+use Rattle.auction_input.specs.declared.request.Request.{Request}
+use Rattle.auction_input.proofs.StageFacts.{next, refuses-as, stop}
 
 abbrev Text : Type 0
 Text = Bor (List ℕ)

@@ -5,8 +5,8 @@ use Rattle.std.specs.Io.KnownBytes.{Appends}
 use Rattle.mps_text.specs.Sinks.{HasFailed, SentFront}
 use Rattle.mps_text.specs.Written.{written_of}
 use Rattle.mps_text.specs.declared.write_fault.WriteFault.{WriteFault}
-use Rattle.wdp.specs.Line.{IsTold, Puts, line_of, name_told, refusal_text}
-use Rattle.wdp.specs.Refused.{Refused}
+use Rattle.auction_input.specs.Line.{IsTold, Puts, line_of, name_told, refusal_text}
+use Rattle.auction_input.specs.Refused.{Refused}
 
 pub puts : {T : Type 0} (bytes : List ℕ) (taken taken' : Option (List ℕ)) (failures failures' : ℕ) (r : Result T WriteFault) → OnOk r (Appends taken taken' bytes)
     → IfErr r (λ e. SentFront taken taken' bytes (written_of e)) → OnErr r (HasFailed failures failures') → Puts bytes taken taken' failures failures'

@@ -6,8 +6,8 @@ use Rattle.auction_terms.specs.declared.choices.Choice.{Choice}
 use Rattle.bid_desk.specs.Closing.{Closing}
 use Rattle.group_compiler.specs.Compiled.{GroupProgram, compiled, program_without}
 use Rattle.outcome.specs.Sale.{sale_of}
-use Rattle.wdp.specs.Refused.{Refused}
-use Rattle.wdp.specs.Stages.{and_then, each_in_turn}
+use Rattle.auction_input.specs.Refused.{Refused}
+use Rattle.auction_input.specs.Stages.{and_then, each_in_turn}
 use Rattle.wdp.specs.Winners.{winners, winners_by, winners_with}
 
 -- each program is that of its group

@@ -5,10 +5,11 @@ use Rattle.clap.specs.Words.{HasKind, Text, fault_of, kind_of}
 use Rattle.clap.specs.declared.error.Error.{Error}
 use Rattle.wdp.specs.Asked.{wdp}
 use Rattle.wdp.specs.Exact.{IsUnwritten, IsWritten}
-use Rattle.wdp.specs.Refused.{Refusal}
-use Rattle.wdp.specs.Runs.{IsAnswered, IsRefused, IsUndone, IsUntold, IsWhole, by_help, by_memory, by_text}
-use Rattle.wdp.specs.Sold.{HasReadSold, HasSold}
-use Rattle.wdp.specs.declared.request.Request.{Request}
+use Rattle.auction_input.specs.Refused.{Refusal}
+use Rattle.auction_input.specs.ReadInput.{IsWhole}
+use Rattle.wdp.specs.Runs.{IsAnswered, IsRefused, IsUndone, IsUntold, by_help, by_memory, by_text}
+use Rattle.auction_input.specs.Sold.{HasReadSold, HasSold}
+use Rattle.auction_input.specs.declared.request.Request.{Request}
 use Rattle.wdp.proofs.AskedFacts.{help-asked}
 
 module _ {T : Type 0} (asked : Request) (left left' : Option (List ℕ)) (reads reads' : ℕ) (taken taken' : Option (List ℕ)) (failures failures' : ℕ) (input text : List ℕ) (same : input ≡ text) (whole : IsWhole left left' text) where

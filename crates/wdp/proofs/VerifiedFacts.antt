@@ -26,25 +26,25 @@ use Rattle.program_rows.specs.Faithful.{IsFaithful, IsGreatest}
 use Rattle.program_rows.specs.Points.{objective}
 use Rattle.program_rows.specs.Program.{Table}
 use Rattle.wdp.specs.Answer.{answer}
-use Rattle.wdp.specs.Auction.{Auction, auction_in, auction_of, auction_told}
-use Rattle.wdp.specs.BookLeft.{book_left, program_for}
-use Rattle.wdp.specs.Calls.{calls_told}
+use Rattle.auction_input.specs.Auction.{Auction, auction_in, auction_of, auction_told}
+use Rattle.auction_input.specs.BookLeft.{book_left, program_for}
+use Rattle.auction_input.specs.Calls.{calls_told}
 use Rattle.wdp.specs.Certified.{ClaimedBound, bound_of, bounds_of, certificate_refused, certified, shown}
 use Rattle.wdp.specs.Commands.{report_of, verified_text, winners_of_groups}
-use Rattle.wdp.specs.Parts.{SplitInput}
-use Rattle.wdp.specs.PartsTold.{parts_told}
-use Rattle.wdp.specs.Refused.{Refused}
-use Rattle.wdp.specs.Stages.{and_then, each_in_turn, refused_as, unless}
-use Rattle.wdp.specs.TextsTold.{forms_told, groups_told, terms_told}
+use Rattle.auction_input.specs.Parts.{SplitInput}
+use Rattle.auction_input.specs.PartsTold.{parts_told}
+use Rattle.auction_input.specs.Refused.{Refused}
+use Rattle.auction_input.specs.Stages.{and_then, each_in_turn, refused_as, unless}
+use Rattle.auction_input.specs.TextsTold.{forms_told, groups_told, terms_told}
 use Rattle.wdp.specs.Exact.{IsWritten}
 use Rattle.wdp.specs.Verified.{IsGreatestWithout, IsOwnCost, IsTrueReport, VerifiedIsTrue, WritesTrueReport}
 use Rattle.wdp.specs.Winners.{solution_refused, winners, winners_by}
-use Rattle.wdp.specs.declared.refusal.CountedPart.TheVariants as counted
-use Rattle.wdp.specs.declared.refusal.Refusal.TheVariants as refusal
-use Rattle.wdp.specs.declared.request.Request.{Request}
-use Rattle.wdp.specs.declared.request.Request.TheVariants as request
-use Rattle.wdp.proofs.AnswerFacts.{ok-behind, ok-is, ok-refused_as, unless-ok}
-use Rattle.wdp.proofs.LimitFacts.{book-within, forms-within, terms-few}
+use Rattle.auction_input.specs.declared.refusal.CountedPart.TheVariants as counted
+use Rattle.auction_input.specs.declared.refusal.Refusal.TheVariants as refusal
+use Rattle.auction_input.specs.declared.request.Request.{Request}
+use Rattle.auction_input.specs.declared.request.Request.TheVariants as request
+use Rattle.auction_input.proofs.AnswerFacts.{ok-behind, ok-is, ok-refused_as, unless-ok}
+use Rattle.auction_input.proofs.LimitFacts.{book-within, forms-within, terms-few}
 
 -- ---- one group
 

@@ -2,14 +2,14 @@
 use Rattle.std.proofs.Common.{◌≡◌, ℕ, List, Option, Result, Ok, Err, ap, length, refl, subst, sym, inl, inr}
 use Rattle.std.specs.Prelude.{IfErr, ◌⊎◌}
 use Rattle.auction_terms.specs.declared.choices.Choice.{Choice}
-use Rattle.wdp.specs.Auction.{Auction, auction_told}
+use Rattle.auction_input.specs.Auction.{Auction, auction_told}
 use Rattle.wdp.specs.Certified.{bounds_of, certified}
 use Rattle.wdp.specs.Commands.{verified_text, winners_of_groups}
-use Rattle.wdp.specs.Exact.{Ends, IsBeyondSums, IsTooWide, IsUnwritten, Refuses, by_refusal}
-use Rattle.wdp.specs.Refused.{Refusal, Refused}
-use Rattle.wdp.specs.Stages.{and_then}
-use Rattle.wdp.specs.declared.request.Request.TheVariants as request
-use Rattle.wdp.proofs.StageFacts.{behind, stop}
+use Rattle.auction_input.specs.Refused.{Refuses, Refusal, Refused}
+use Rattle.wdp.specs.Exact.{Ends, IsBeyondSums, IsTooWide, IsUnwritten, by_refusal}
+use Rattle.auction_input.specs.Stages.{and_then}
+use Rattle.auction_input.specs.declared.request.Request.TheVariants as request
+use Rattle.auction_input.proofs.StageFacts.{behind, stop}
 
 -- an auction of which nothing is written
 pub unwritten : {T : Type 0} (workers : ℕ) (input : List ℕ) (auction : Auction) → auction_told (request.Verify workers) input ≡ Ok auction

@@ -6,14 +6,13 @@ use Rattle.auction_terms.specs.declared.choices.Choice.{Choice}
 use Rattle.auction_terms.specs.Allocations.{Book, IsFeasible, bid_of, is_eligible}
 use Rattle.auction_terms.specs.Packages.{Lots}
 use Rattle.program_rows.specs.Points.{AreAllowed}
-use Rattle.program_rows.specs.Program.{TableColumn}
+use Rattle.program_rows.specs.Program.{TableColumn, Table}
 use Rattle.outcome.specs.Solution.{solution}
 use Rattle.outcome.specs.Winning.{allocation_of}
 use Rattle.outcome.specs.declared.fault.SolutionFault.{SolutionFault}
-use Rattle.program_rows.specs.Program.{Table}
-use Rattle.wdp.specs.Stages.{refused_as}
+use Rattle.auction_input.specs.Stages.{refused_as}
 use Rattle.wdp.specs.Winners.{solution_refused, winners_by}
-use Rattle.wdp.proofs.StageFacts.{next}
+use Rattle.auction_input.proofs.StageFacts.{next}
 
 -- there is a value for each column
 pub allowed-length : (columns : List TableColumn) (values : List Bool) → AreAllowed columns values → length values ≡ length columns

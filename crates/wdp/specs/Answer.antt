@@ -1,15 +1,15 @@
 -- The program as one function: what goes to standard output, or the first refusal.
 use Rattle.std.specs.Prelude.{ℕ, List, Result, Ok}
+use Rattle.auction_input.specs.Auction.{auction_told}
+use Rattle.auction_input.specs.InputTexts.{program_in}
+use Rattle.auction_input.specs.Refused.{Refused}
+use Rattle.auction_input.specs.Stages.{and_then, refused_as}
+use Rattle.auction_input.specs.declared.refusal.Refusal.TheVariants as refusal
+use Rattle.auction_input.specs.declared.request.Request.TheVariants.{Check, Compile, Map, Report, Text, Verify}
+use Rattle.auction_input.specs.declared.request.Request.{Request}
 use Rattle.program_rows.specs.declared.fault.FaultKind.{FaultKind}
-use Rattle.wdp.specs.Auction.{auction_told}
 use Rattle.wdp.specs.Commands.{costs_text, text_of_all, texts_of_groups, verified_text, winners_text}
-use Rattle.wdp.specs.InputTexts.{program_in}
-use Rattle.wdp.specs.Refused.{Refused}
 use Rattle.wdp.specs.Sizes.{sizes_text}
-use Rattle.wdp.specs.Stages.{and_then, refused_as}
-use Rattle.wdp.specs.declared.refusal.Refusal.TheVariants as refusal
-use Rattle.wdp.specs.declared.request.Request.{Request}
-use Rattle.wdp.specs.declared.request.Request.TheVariants.{Check, Compile, Map, Report, Text, Verify}
 
 abbrev pub program_refused : ℕ × FaultKind → Refused
 program_refused f = refusal.Program (record { line = f.0; kind = f.1 })

@@ -1,19 +1,19 @@
 -- Certificates of what the groups win: each shows that no point of its group's program has an objective below minus the total, so that nobody wins more.
-use Rattle.std.specs.Prelude.{◌==◌, ℕ, List, Option, Result, Ok, Err, ℤ, pos, neg_ℤ, if◌then◌else◌, length, map}
+use Rattle.std.specs.Prelude.{◌==◌, ℕ, List, Result, Ok, Err, ℤ, pos, neg_ℤ, if◌then◌else◌, length, map}
 use Rattle.std.specs.List.{zip}
 use Rattle.std.specs.Option.{option_map}
+use Rattle.auction_input.specs.Auction.{Auction}
+use Rattle.auction_input.specs.BookLeft.{program_for}
+use Rattle.auction_input.specs.Refused.{Refused}
+use Rattle.auction_input.specs.Stages.{and_then, each_in_turn, unless}
+use Rattle.auction_input.specs.declared.refusal.CountedPart.TheVariants as counted
+use Rattle.auction_input.specs.declared.refusal.Refusal.TheVariants as refusal
 use Rattle.auction_terms.specs.Allocations.{total}
 use Rattle.auction_terms.specs.declared.choices.Choice.{Choice}
 use Rattle.optimality.specs.Verdict.{first_fault}
 use Rattle.optimality.specs.declared.fault.FaultKind.{FaultKind}
 use Rattle.outcome.specs.Sale.{Sale}
 use Rattle.program_rows.specs.Program.{Table}
-use Rattle.wdp.specs.Auction.{Auction}
-use Rattle.wdp.specs.BookLeft.{program_for}
-use Rattle.wdp.specs.Refused.{Refused}
-use Rattle.wdp.specs.Stages.{and_then, each_in_turn, unless}
-use Rattle.wdp.specs.declared.refusal.CountedPart.TheVariants as counted
-use Rattle.wdp.specs.declared.refusal.Refusal.TheVariants as refusal
 
 -- a certificate, and the objective below which it is to show no point of a program
 pub record ClaimedBound : Type 0 where

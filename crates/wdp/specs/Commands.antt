@@ -1,21 +1,21 @@
 -- What each command writes of an auction, or why it is refused.
 use Rattle.std.specs.Prelude.{◌==◌, ◌++◌, ◌-◌, ℕ, List, [], ◌∷◌, Result, Ok, Err, if◌then◌else◌, length, nat_le, slice_index_or}
 use Rattle.std.specs.List.{zip}
+use Rattle.auction_input.specs.Auction.{Auction}
+use Rattle.auction_input.specs.BookLeft.{program_for}
+use Rattle.auction_input.specs.PartsTold.{only_text}
+use Rattle.auction_input.specs.Refused.{Refused}
+use Rattle.auction_input.specs.Stages.{and_then, each_in_turn}
+use Rattle.auction_input.specs.declared.refusal.CountedPart.TheVariants as counted
+use Rattle.auction_input.specs.declared.refusal.Refusal.TheVariants as refusal
+use Rattle.auction_terms.specs.Groups.{starts_empty}
 use Rattle.auction_terms.specs.declared.choices.Choice.{Choice}
 use Rattle.mps_text.specs.Text.{text}
 use Rattle.outcome.specs.Report.{allocation_text, group_names, report_text}
 use Rattle.outcome.specs.Sale.{Sale}
-use Rattle.wdp.specs.Auction.{Auction}
-use Rattle.wdp.specs.BookLeft.{program_for}
-use Rattle.auction_terms.specs.Groups.{starts_empty}
 use Rattle.wdp.specs.Certified.{certified}
 use Rattle.wdp.specs.GroupTexts.{in_turn, program_number}
-use Rattle.wdp.specs.PartsTold.{only_text}
-use Rattle.wdp.specs.Refused.{Refused}
-use Rattle.wdp.specs.Stages.{and_then, each_in_turn}
 use Rattle.wdp.specs.Winners.{winners}
-use Rattle.wdp.specs.declared.refusal.CountedPart.TheVariants as counted
-use Rattle.wdp.specs.declared.refusal.Refusal.TheVariants as refusal
 
 -- the program with nobody left out
 abbrev pub text_of_all : Auction → Result (List ℕ) Refused

@@ -1,33 +1,20 @@
 -- What a command leaves, by what is told: the whole output, or the first refusal.
-use Rattle.std.specs.Prelude.{◌≡◌, ◌⊎◌, ◌+◌, ◌<◌, ℕ, true, List, Option, Result, Ok, Err, length, take}
+use Rattle.std.specs.Prelude.{◌≡◌, ◌⊎◌, ◌+◌, ◌<◌, ℕ, List, Option, Result, Ok, length, take}
 use Rattle.std.specs.Io.KnownBytes.{Appends}
+use Rattle.auction_input.specs.Auction.{Auction, auction_told}
+use Rattle.auction_input.specs.Refused.{Refusal, Refused, Refuses}
+use Rattle.auction_input.specs.Settled.{IsUnsettled}
+use Rattle.auction_input.specs.Stages.{each_in_turn}
+use Rattle.auction_input.specs.declared.refusal.Refusal.TheVariants as refusal
+use Rattle.auction_input.specs.declared.request.Request.TheVariants as request
+use Rattle.auction_input.specs.declared.request.Request.{Request}
 use Rattle.auction_terms.specs.declared.choices.Choice.{Choice}
-use Rattle.bid_desk.specs.Closing.{Closing}
-use Rattle.bid_forms.specs.Offers.{Offers}
 use Rattle.mps_text.specs.Sinks.{HasFailed, SentFront}
 use Rattle.mps_text.specs.declared.write_fault.WriteFault.TheVariants as write
 use Rattle.optimality.specs.declared.fault.FaultKind.TheVariants as certificate
-use Rattle.outcome.specs.Sale.{sale_of}
 use Rattle.wdp.specs.Answer.{answer}
-use Rattle.wdp.specs.Auction.{Auction, auction_told}
 use Rattle.wdp.specs.Certified.{ClaimedBound, bounds_of, shown}
 use Rattle.wdp.specs.Commands.{winners_of_groups}
-use Rattle.wdp.specs.Parts.{SplitInput, bytes_of}
-use Rattle.wdp.specs.PartsTold.{parts_told}
-use Rattle.wdp.specs.Plan.{reads_auction}
-use Rattle.wdp.specs.Refused.{Refusal, Refused, is_memory, refused}
-use Rattle.wdp.specs.Stages.{each_in_turn}
-use Rattle.wdp.specs.Submissions.{AreSubmitted}
-use Rattle.wdp.specs.TextsTold.{forms_told, terms_told}
-use Rattle.wdp.specs.declared.auction.Auction as declared
-use Rattle.wdp.specs.declared.refusal.Refusal.TheVariants as refusal
-use Rattle.wdp.specs.declared.request.Request.{Request}
-use Rattle.wdp.specs.declared.request.Request.TheVariants as request
-use Rattle.wdp.specs.declared.round.RoundFault.TheVariants as round
-
--- this is the refusal that is told, or memory was short
-abbrev pub Refuses : {A : Type 0} → Result A Refused → Refusal → Type 0
-Refuses told r = (told ≡ Err (refused r)) ⊎ (is_memory r ≡ true)
 
 -- the output that is told was written, and nothing else
 abbrev pub Writes : Result (List ℕ) Refused → Option (List ℕ) → Option (List ℕ) → Type 0
@@ -44,27 +31,6 @@ pub record IsCutShort (told : Result (List ℕ) Refused) (taken taken' : Option 
 pub data Ends (told : Result (List ℕ) Refused) (taken taken' : Option (List ℕ)) (failures failures' : ℕ) : Refusal → Type 0 where
   by_refusal : {r : Refusal} → Refuses told r → taken' ≡ taken → Ends told taken taken' failures failures' r
   by_put : {written : ℕ} → IsCutShort told taken taken' failures failures' written → Ends told taken taken' failures failures' (refusal.Write (write.Sink written))
-
--- the auction, which the request reads, is accepted, and the desk gave an answer that a round of these calls isn't given
-abbrev pub IsUnsettled : Request → List ℕ → Refusal → Type 0
-IsUnsettled asked input r = (reads_auction asked ≡ true) × (auction : Auction) × (auction_told asked input ≡ Ok auction) × (r ≡ refusal.Round round.WrongAnswer)
-
--- why an input leaves no settled auction
-abbrev pub RefusesAuction : Request → List ℕ → Refusal → Type 0
-RefusesAuction asked input r = Refuses (auction_told asked input) r ⊎ IsUnsettled asked input r
-
--- what an auction that is settled holds
-abbrev pub held : declared.Auction → Auction
-held auction = record { sale = sale_of auction.book; groups = auction.groups; solutions = bytes_of auction.solutions.items; certificates = bytes_of auction.certificates.items }
-
--- a book holds the forms that the input tells, which were submitted in their order under the rules that it tells
-pub record HoldsForms (asked : Request) (input : List ℕ) (book : Closing) : Type 0 where
-  pub parts : SplitInput
-  pub forms : List Offers
-  pub parts_are : parts_told asked input ≡ Ok parts
-  pub rules_are : terms_told parts.rules ≡ Ok book.rules
-  pub forms_are : forms_told book.rules parts.forms ≡ Ok forms
-  pub submitted : AreSubmitted forms book
 
 -- what a request asks for was written
 abbrev pub IsWritten : Request → List ℕ → Option (List ℕ) → Option (List ℕ) → Type 0

@@ -3,14 +3,14 @@ use Rattle.std.specs.Prelude.{◌≡◌, ◌≤◌, ◌<◌, ◌+◌, ◌-◌, �
 use Rattle.auction_terms.specs.Groups.{has}
 use Rattle.auction_terms.specs.Terms.{lots_in}
 use Rattle.bid_desk.specs.Closing.{Closing, book_of}
+use Rattle.group_compiler.specs.Compiled.{GroupProgram, program_without}
+use Rattle.mps_text.specs.FaithfulText.{IsFaithfulText}
+use Rattle.mps_text.specs.Sinks.{HasFailed, counted}
+use Rattle.mps_text.specs.Text.{text}
 use Rattle.outcome.specs.Report.{group_names}
 use Rattle.outcome.specs.Sale.{sale_of}
-use Rattle.mps_text.specs.Sinks.{HasFailed, counted}
-use Rattle.mps_text.specs.FaithfulText.{IsFaithfulText}
-use Rattle.mps_text.specs.Text.{text}
-use Rattle.group_compiler.specs.Compiled.{GroupProgram, program_without}
-use Rattle.wdp.specs.declared.run_fault.RunFault.{RunFault}
 use Rattle.wdp.specs.declared.run_fault.RunFault.TheVariants as fault
+use Rattle.wdp.specs.declared.run_fault.RunFault.{RunFault}
 
 -- the bytes of each item, numbered from k on, one after the other
 abbrev pub in_turn : {X : Type 0} → (ℕ → X → List ℕ) → ℕ → List X → List ℕ

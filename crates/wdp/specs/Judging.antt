@@ -1,6 +1,9 @@
 -- What the code holds of certificates while it judges them.
 use Rattle.std.specs.Prelude.{◌≡◌, ◌+◌, ◌++◌, ℕ, List, ◌∷◌, Result, Ok, Err, pos, neg_ℤ, map, replicate}
 use Rattle.std.specs.List.{zip}
+use Rattle.auction_input.specs.Refused.{Refusal}
+use Rattle.auction_input.specs.Stages.{each_in_turn}
+use Rattle.auction_input.specs.declared.refusal.Refusal.TheVariants as refusal
 use Rattle.auction_terms.specs.Allocations.{total}
 use Rattle.auction_terms.specs.Terms.{lots_in}
 use Rattle.auction_terms.specs.declared.choices.Choice.{Choice}
@@ -10,10 +13,7 @@ use Rattle.optimality.specs.Answers.{IsVerdict}
 use Rattle.optimality.specs.Verdict.{first_fault}
 use Rattle.optimality.specs.declared.fault.CertificateFault.{CertificateFault}
 use Rattle.wdp.specs.Certified.{ClaimedBound, shown}
-use Rattle.wdp.specs.Refused.{Refusal}
-use Rattle.wdp.specs.Stages.{each_in_turn}
 use Rattle.wdp.specs.declared.certified.ClaimedBound as declared
-use Rattle.wdp.specs.declared.refusal.Refusal.TheVariants as refusal
 
 -- the value of a bound that the code holds
 abbrev pub claimed : declared.ClaimedBound → ClaimedBound

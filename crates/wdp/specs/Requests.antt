@@ -1,8 +1,8 @@
 -- The numbers that a request may have.
 use Rattle.std.specs.Prelude.{◌≤◌, ⊤}
+use Rattle.auction_input.specs.declared.request.Request.TheVariants.{Compile, Map, Report, Verify}
+use Rattle.auction_input.specs.declared.request.Request.{Request}
 use Rattle.auction_terms.specs.declared.limits.TheConstants.{MOST_GROUPS}
-use Rattle.wdp.specs.declared.request.Request.{Request}
-use Rattle.wdp.specs.declared.request.Request.TheVariants.{Compile, Map, Report, Verify}
 use Rattle.group_compiler.specs.declared.limits.TheConstants.{MOST_WORKERS}
 
 -- how many workers, and which group, from 1 on

@@ -1,29 +1,15 @@
 -- What a run leaves of its input and its output.
-use Rattle.std.specs.Prelude.{◌≡◌, ◌⊎◌, ◌≤◌, ◌+◌, ⊤, ℕ, List, Option, Ok, length}
-use Rattle.std.specs.Io.KnownBytes.{Appends, Consumes, IsAtEnd}
+use Rattle.std.specs.Prelude.{◌≡◌, ◌⊎◌, ℕ, List, Option, Ok}
+use Rattle.std.specs.Io.KnownBytes.{Appends}
+use Rattle.auction_input.specs.ReadInput.{IsUntaken, IsWhole}
+use Rattle.auction_input.specs.Refused.{Refusal}
+use Rattle.auction_input.specs.declared.input.InputFault.{InputFault}
+use Rattle.auction_input.specs.declared.refusal.Refusal.TheVariants as refusal
+use Rattle.auction_input.specs.declared.request.Request.{Request}
 use Rattle.clap.specs.Words.{Text}
 use Rattle.clap.specs.declared.error.kind.ErrorKind.{ErrorKind}
-use Rattle.mps_text.specs.Sinks.{HasFailed}
 use Rattle.wdp.specs.Asked.{AskForHelp, AskForNothing, IsShown, asked}
 use Rattle.wdp.specs.Exact.{Ends, IsUnwritten, IsWritten}
-use Rattle.wdp.specs.Refused.{Refusal}
-use Rattle.wdp.specs.declared.input.InputFault.{InputFault}
-use Rattle.wdp.specs.declared.input.InputFault.TheVariants as fault
-use Rattle.wdp.specs.declared.input.TheConstants.{INPUT_LIMIT}
-use Rattle.wdp.specs.declared.refusal.Refusal.TheVariants as refusal
-use Rattle.wdp.specs.declared.request.Request.{Request}
-
--- the input was read to its end, and is within the limit
-pub record IsWhole (left left' : Option (List ℕ)) (input : List ℕ) : Type 0 where
-  pub few : length input ≤ INPUT_LIMIT
-  pub read : Consumes left left' input
-  pub ended : IsAtEnd left'
-
--- what was read of an input that isn't taken: of one that is too large, one byte above the limit; where a read failed, which the counts of failed reads before and after tell, at most as much
-abbrev pub IsUntaken : InputFault → Option (List ℕ) → Option (List ℕ) → ℕ → ℕ → Type 0
-IsUntaken fault.TooLarge left left' reads reads' = (front : List ℕ) × Consumes left left' front × (length front ≡ INPUT_LIMIT + 1)
-IsUntaken fault.ReadFailed left left' reads reads' = HasFailed reads reads' × ((front : List ℕ) × Consumes left left' front × (length front ≤ INPUT_LIMIT + 1))
-IsUntaken fault.OutOfMemory left left' reads reads' = ⊤
 
 -- from what a reader had left and a sink had taken before to those after: the input was read, and what was asked for is written
 abbrev pub IsAnswered : Request → Option (List ℕ) → Option (List ℕ) → Option (List ℕ) → Option (List ℕ) → Type 0

@@ -2,6 +2,8 @@
 use Rattle.std.specs.Prelude.{◌≡◌, ℕ, false, List, [], Option, Ok, slice_index_or}
 use Rattle.std.specs.Io.KnownBytes.{Appends}
 use Rattle.std.specs.List.{AllZip}
+use Rattle.auction_input.specs.Auction.{Auction, auction_told}
+use Rattle.auction_input.specs.declared.request.Request.TheVariants.{Verify}
 use Rattle.auction_terms.specs.Groups.{has}
 use Rattle.auction_terms.specs.declared.choices.Choice.{Choice}
 use Rattle.outcome.specs.Costs.{IsCost, IsGreatestTotal, opportunity_cost}
@@ -9,8 +11,6 @@ use Rattle.outcome.specs.Report.{amounts_of_group, cost, report_text}
 use Rattle.outcome.specs.Sale.{Sale}
 use Rattle.program_rows.specs.Faithful.{IsGreatest}
 use Rattle.wdp.specs.Answer.{answer}
-use Rattle.wdp.specs.Auction.{Auction, auction_told}
-use Rattle.wdp.specs.declared.request.Request.TheVariants.{Verify}
 
 -- a feasible allocation of greatest total without a group
 abbrev pub IsGreatestWithout : Sale → List ℕ → List Choice → Type 0

@@ -2,18 +2,18 @@
 use Rattle.std.specs.Prelude.{ℕ, List, [], Result, Ok, slice_get}
 use Rattle.std.specs.List.{zip}
 use Rattle.std.specs.Option.{option_map_or}
+use Rattle.auction_input.specs.BookLeft.{program_for}
+use Rattle.auction_input.specs.Refused.{Refused}
+use Rattle.auction_input.specs.Stages.{and_then, each_in_turn, refused_as}
+use Rattle.auction_input.specs.declared.refusal.Refusal.TheVariants as refusal
 use Rattle.auction_terms.specs.declared.choices.Choice.{Choice}
 use Rattle.group_compiler.specs.Compiled.{GroupProgram}
 use Rattle.outcome.specs.Sale.{Sale}
 use Rattle.outcome.specs.Solution.{solution}
 use Rattle.outcome.specs.Winning.{allocation_of}
-use Rattle.outcome.specs.declared.fault.SolutionFault.{SolutionFault}
 use Rattle.outcome.specs.declared.fault.SolutionFault.TheVariants as fault
+use Rattle.outcome.specs.declared.fault.SolutionFault.{SolutionFault}
 use Rattle.program_rows.specs.Program.{Table}
-use Rattle.wdp.specs.BookLeft.{program_for}
-use Rattle.wdp.specs.Refused.{Refused}
-use Rattle.wdp.specs.Stages.{and_then, each_in_turn, refused_as}
-use Rattle.wdp.specs.declared.refusal.Refusal.TheVariants as refusal
 
 -- the name of a column, and of a row, by its place from 0
 abbrev pub column_name : Table → ℕ → List ℕ

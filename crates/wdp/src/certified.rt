@@ -4,14 +4,15 @@ ghost use Rattle.std.specs.Prelude.{◌≡◌, ◌⊎◌, ◌++◌, ◌∷◌, [
 ghost use Rattle.std.specs.List.{AllZip};
 ghost use Rattle.group_compiler.specs.Compiled.{compiled};
 ghost use Rattle.wdp.specs.Certified.{bounds_of, certified, shown};
-ghost use Rattle.wdp.specs.Exact.{IsTooWide, Refuses, held};
+ghost use Rattle.auction_input.specs.Refused.{Refuses};
+ghost use Rattle.auction_input.specs.Settled.{held};
+ghost use Rattle.wdp.specs.Exact.{IsTooWide};
 ghost use Rattle.wdp.specs.Judging.{AllShown, IsFirstFaulty, IsJudged, bound_by, bounds_by, claimed};
-ghost use Rattle.wdp.specs.Parts.{bytes_of};
-ghost use Rattle.wdp.specs.Stages.{each_in_turn};
+ghost use Rattle.auction_input.specs.Parts.{bytes_of};
+ghost use Rattle.auction_input.specs.Stages.{each_in_turn};
 
-use crate::auction::Auction;
-use crate::refusal::{CountedPart, Refusal};
 use crate::report_run::Won;
+use auction_input::{Auction, CountedPart, Refusal};
 use bid_desk::ClosedBook;
 use group_compiler::Compiled;
 use optimality::{CertificateFault, check_certificate};

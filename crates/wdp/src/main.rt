@@ -1,39 +1,27 @@
 //! The winner determination compiler: the words and the standard streams, handed to `run`.
 #![tactic(auto)]
 
-pub mod auction;
-pub mod by_bidder;
-pub mod calls;
 pub mod certified;
 pub mod commands;
 pub mod compile_run;
 pub mod group_texts;
-pub mod input;
-pub mod job;
 pub mod laws;
-pub mod part_kind;
-pub mod parts;
 pub mod pieces;
-pub mod reading;
-pub mod refusal;
 pub mod report_run;
 pub mod request;
-pub mod round;
 pub mod run;
 pub mod run_fault;
 pub mod sizes;
-pub mod source;
 pub mod telling;
 #[cfg(test)]
 mod tests;
 pub mod verify;
 pub mod winning;
 
+use auction_input::{Refusal, Source};
 use mps_text::{Sink, StdSink};
 use pieces::write_pieces;
-use refusal::Refusal;
 use run::run;
-use source::Source;
 use std::alloc::{AllocError, Global};
 use std::io::ErrorKind;
 use std::process::ExitCode;

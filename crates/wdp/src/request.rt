@@ -5,27 +5,11 @@ ghost use Rattle.clap.specs.Words.{FailsBy, IsPlainArg, app_of, fault_of, found_
 ghost use Rattle.wdp.specs.Asked.{asked, check_app, compile_app, group, map_app, named, number_of, number_up_to, plain, report_app, text_app, verify_app, wdp, with_programs, with_solutions, workers};
 ghost use Rattle.wdp.specs.Requests.{IsWithinLimits};
 
+use auction_input::Request;
 use auction_terms::MOST_GROUPS;
 use clap::{Arg, ArgMatches, Command, Error, value_parser};
 use group_compiler::MOST_WORKERS;
 use std::alloc::{AllocError, Global};
-
-/// A command with its options.
-#[derive(Clone, Copy, Debug, PartialEq, Eq)]
-pub enum Request {
-    /// The program of the empty group.
-    Text,
-    /// The sizes of an MPS text.
-    Check,
-    /// The programs of all groups, by so many workers.
-    Compile { workers: usize },
-    /// What a solution wins without a group, which counts from 1.
-    Map { group: usize },
-    /// What the solutions of all groups win, and the groups' opportunity costs, by so many workers.
-    Report { workers: usize },
-    /// The same, where certificates show that nobody wins more, by so many workers.
-    Verify { workers: usize },
-}
 
 fn group_option<'a>(alloc: Global) -> Arg<'a>
     ensures rule { rule_of result ≡ group }

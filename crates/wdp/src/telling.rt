@@ -1,12 +1,12 @@
 //! The line that tells why a run ended.
 
 ghost use Rattle.std.specs.Prelude.{◌≡◌, IfSome};
-ghost use Rattle.wdp.specs.Line.{IsTold, Puts, line_of, refusal_text};
-ghost use Rattle.wdp.specs.Refused.{refused};
+ghost use Rattle.auction_input.specs.Line.{IsTold, Puts, line_of, refusal_text};
+ghost use Rattle.auction_input.specs.Refused.{refused};
 
 use crate::pieces::write_pieces;
-use crate::refusal::Refusal;
 use arrayvec::ArrayString;
+use auction_input::Refusal;
 use mps_text::Sink;
 use std::fmt::Write;
 

@@ -1,11 +1,9 @@
 //! What a run answers and leaves where its words are wrong, and where its input or its output fails at any byte.
 
-use crate::auction::{Auction, read_auction};
 use crate::compile_run::run_compile;
-use crate::request::Request;
 use crate::run::run;
 use crate::run_fault::RunFault;
-use crate::source::Source;
+use auction_input::{Auction, Request, Source, read_auction};
 use group_compiler::OpenGate;
 use mps_text::{LimitSink, MemorySink};
 use std::alloc::Global;

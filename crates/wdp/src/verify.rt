@@ -3,15 +3,14 @@
 ghost use Rattle.std.specs.Prelude.{◌≡◌, ◌⊎◌, ◌≤◌, IfErr, OnOk};
 ghost use Rattle.group_compiler.specs.declared.limits.TheConstants.{MOST_WORKERS};
 ghost use Rattle.wdp.specs.Commands.{verified_text};
-ghost use Rattle.wdp.specs.Exact.{Ends, IsBeyondSums, IsUnwritten, IsWritten, Writes, held};
-ghost use Rattle.wdp.specs.Sold.{HasSold};
+ghost use Rattle.auction_input.specs.Settled.{held};
+ghost use Rattle.wdp.specs.Exact.{Ends, IsBeyondSums, IsUnwritten, IsWritten, Writes};
+ghost use Rattle.auction_input.specs.Sold.{HasSold};
 ghost use Rattle.wdp.specs.Verified.{WritesTrueReport};
 
-use crate::auction::{Auction, read_auction};
 use crate::certified::check_certificates;
-use crate::refusal::Refusal;
 use crate::report_run::won_by_groups;
-use crate::request::Request;
+use auction_input::{Auction, Refusal, Request, read_auction};
 use mps_text::Sink;
 use outcome::report;
 use std::sync::Wait;

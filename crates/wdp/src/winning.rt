@@ -6,11 +6,10 @@ ghost use Rattle.auction_terms.specs.Groups.{has};
 ghost use Rattle.auction_terms.specs.Terms.{lots_in};
 ghost use Rattle.bid_desk.specs.Closing.{book_of};
 ghost use Rattle.program_rows.specs.Faithful.{IsFaithful};
-ghost use Rattle.wdp.specs.Exact.{Refuses};
-ghost use Rattle.wdp.specs.Refused.{refused};
+ghost use Rattle.auction_input.specs.Refused.{Refuses, refused};
 ghost use Rattle.wdp.specs.Winners.{column_name, row_name, solution_refused, winners_by};
 
-use crate::refusal::Refusal;
+use auction_input::Refusal;
 use auction_terms::Group;
 use bid_desk::ClosedBook;
 use outcome::{Allocation, SolutionFault, map_back, read_solution};

@@ -1,6 +1,6 @@
 use Rattle.std.proofs.Common.{◌≡◌, ◌++◌, drop, map}
 use Rattle.wdp.specs.Judging.{bounds_by, claimed}
-use Rattle.wdp.specs.Parts.{bytes_of}
+use Rattle.auction_input.specs.Parts.{bytes_of}
 use Rattle.wdp.proofs.certified.bounds_of.Given as goal
 
 abbrev pub invariant-loop-place : goal.invariant-loop-place

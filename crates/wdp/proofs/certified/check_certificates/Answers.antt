@@ -1,9 +1,9 @@
 use Rattle.std.proofs.Common.{◌≡◌, ◌≢◌, ◌∙◌, List, ap, inl, length, map, rules}
 use Rattle.auction_terms.specs.declared.choices.Choice.{Choice}
 use Rattle.wdp.specs.Certified.{bounds_of}
-use Rattle.wdp.specs.Exact.{held}
+use Rattle.auction_input.specs.Settled.{held}
 use Rattle.wdp.specs.Judging.{bounds_by, claimed}
-use Rattle.wdp.specs.Parts.{bytes_of}
+use Rattle.auction_input.specs.Parts.{bytes_of}
 use Rattle.wdp.specs.declared.certified.ClaimedBound as code
 use Rattle.wdp.proofs.CertifiedFacts.{are-certified-by, are-refused-by, bounds-are, certificates-miscounted}
 use Rattle.wdp.proofs.certified.check_certificates.Goals as goal

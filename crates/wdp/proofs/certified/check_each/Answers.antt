@@ -2,9 +2,9 @@ use Rattle.std.proofs.Common.{List, Result, inl, inr, map, refl, subst, sym}
 use Rattle.std.specs.List.{AllZip}
 use Rattle.optimality.specs.declared.fault.CertificateFault.{CertificateFault}
 use Rattle.wdp.specs.Judging.{IsJudged, claimed}
-use Rattle.wdp.specs.declared.refusal.Refusal.TheVariants as refusal
+use Rattle.auction_input.specs.declared.refusal.Refusal.TheVariants as refusal
 use Rattle.wdp.proofs.CertifiedFacts.{EndsChecks, all-checked, checks-ended}
-use Rattle.wdp.proofs.RefusalFacts.{if-err-of}
+use Rattle.auction_input.proofs.RefusalFacts.{if-err-of}
 use Rattle.wdp.proofs.certified.check_each.Goals as goal
 
 abbrev Verdicts : Type 0

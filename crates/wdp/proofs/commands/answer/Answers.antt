@@ -1,7 +1,7 @@
 use Rattle.std.proofs.Common.{refl}
 use Rattle.wdp.specs.Runs.{IsRefused, by_input}
-use Rattle.wdp.specs.declared.refusal.Refusal.TheVariants as refusal
-use Rattle.wdp.proofs.RefusalFacts.{if-err-of}
+use Rattle.auction_input.specs.declared.refusal.Refusal.TheVariants as refusal
+use Rattle.auction_input.proofs.RefusalFacts.{if-err-of}
 use Rattle.wdp.proofs.RunFacts.{answered, sold, unanswered}
 use Rattle.wdp.proofs.commands.answer.Goals as goal
 

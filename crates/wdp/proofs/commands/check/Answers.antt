@@ -3,16 +3,16 @@ use Rattle.program_rows.specs.Program.{Table}
 use Rattle.program_rows.specs.declared.fault.FaultKind.{FaultKind}
 use Rattle.wdp.specs.Answer.{answer, program_refused}
 use Rattle.wdp.specs.Exact.{IsUnwritten, by_refusal}
-use Rattle.wdp.specs.InputTexts.{program_in}
+use Rattle.auction_input.specs.InputTexts.{program_in}
 use Rattle.wdp.specs.Sizes.{sizes_text}
-use Rattle.wdp.specs.Stages.{and_then, refused_as}
-use Rattle.wdp.specs.declared.refusal.Refusal.TheVariants as refusal
-use Rattle.wdp.specs.declared.request.Request.TheVariants as request
+use Rattle.auction_input.specs.Stages.{and_then, refused_as}
+use Rattle.auction_input.specs.declared.refusal.Refusal.TheVariants as refusal
+use Rattle.auction_input.specs.declared.request.Request.TheVariants as request
 use Rattle.wdp.proofs.CommandFacts.{cut-short}
 use Rattle.wdp.proofs.FaultFacts.{program-refuses}
-use Rattle.wdp.proofs.InputTextFacts.{program-refused, program-told}
-use Rattle.wdp.proofs.RefusalFacts.{if-err-of}
-use Rattle.wdp.proofs.StageFacts.{stop}
+use Rattle.auction_input.proofs.InputTextFacts.{program-refused, program-told}
+use Rattle.auction_input.proofs.RefusalFacts.{if-err-of}
+use Rattle.auction_input.proofs.StageFacts.{stop}
 use Rattle.wdp.proofs.commands.check.Goals as goal
 
 pub returns-in_err-program-clause-refused : goal.returns-in_err-program-clause-refused

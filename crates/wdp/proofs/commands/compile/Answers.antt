@@ -1,10 +1,11 @@
 use Rattle.std.proofs.Common.{◌≡◌}
-use Rattle.wdp.specs.Auction.{auction_told}
+use Rattle.auction_input.specs.Auction.{auction_told}
 use Rattle.wdp.specs.Commands.{texts_of_groups}
-use Rattle.wdp.specs.Exact.{IsLeftOpen, IsUnwritten, held}
-use Rattle.wdp.specs.declared.request.Request.TheVariants as request
+use Rattle.auction_input.specs.Settled.{held}
+use Rattle.wdp.specs.Exact.{IsLeftOpen, IsUnwritten}
+use Rattle.auction_input.specs.declared.request.Request.TheVariants as request
 use Rattle.wdp.proofs.CommandFacts.{ends-behind, ends-so, no-auction, writes-behind}
-use Rattle.wdp.proofs.RefusalFacts.{if-err-of, on-ok-given}
+use Rattle.auction_input.proofs.RefusalFacts.{if-err-of, on-ok-given}
 use Rattle.wdp.proofs.commands.compile.Goals as goal
 
 pub returns-in_err-auction-clause-refused : goal.returns-in_err-auction-clause-refused

@@ -5,10 +5,10 @@ use Rattle.auction_terms.specs.Terms.{lots_in}
 use Rattle.bid_desk.specs.Closing.{book_of}
 use Rattle.group_compiler.specs.Compiled.{GroupProgram, program_without}
 use Rattle.std.specs.Prelude.{false}
-use Rattle.wdp.specs.Exact.{Refuses}
+use Rattle.auction_input.specs.Refused.{Refuses}
 use Rattle.wdp.specs.Winners.{winners_by}
-use Rattle.wdp.specs.declared.refusal.Refusal.TheVariants as refusal
-use Rattle.wdp.proofs.RefusalFacts.{if-err-of}
+use Rattle.auction_input.specs.declared.refusal.Refusal.TheVariants as refusal
+use Rattle.auction_input.proofs.RefusalFacts.{if-err-of}
 use Rattle.wdp.proofs.WinningFacts.{feasible-for_all, if-ok-weaker}
 use Rattle.wdp.proofs.commands.won_without.Goals as goal
 

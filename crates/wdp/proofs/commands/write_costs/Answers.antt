@@ -6,11 +6,12 @@ use Rattle.mps_text.specs.Written.{written_of}
 use Rattle.outcome.specs.Report.{report_text}
 use Rattle.outcome.specs.Sale.{sale_of}
 use Rattle.wdp.specs.Commands.{costs_text}
-use Rattle.wdp.specs.Exact.{Ends, by_refusal, held}
-use Rattle.wdp.specs.declared.refusal.Refusal.TheVariants as refusal
+use Rattle.auction_input.specs.Settled.{held}
+use Rattle.wdp.specs.Exact.{Ends, by_refusal}
+use Rattle.auction_input.specs.declared.refusal.Refusal.TheVariants as refusal
 use Rattle.wdp.proofs.CommandFacts.{cut-short}
-use Rattle.wdp.proofs.RefusalFacts.{if-err-of}
-use Rattle.wdp.proofs.StageFacts.{next, stop}
+use Rattle.auction_input.proofs.RefusalFacts.{if-err-of}
+use Rattle.auction_input.proofs.StageFacts.{next, stop}
 use Rattle.wdp.proofs.commands.write_costs.Goals as goal
 
 pub returns-clause-written : goal.returns-clause-written

@@ -10,10 +10,11 @@ use Rattle.mps_text.specs.Text.{text}
 use Rattle.mps_text.specs.Written.{written_of}
 use Rattle.program_rows.specs.Program.{Table}
 use Rattle.wdp.specs.Commands.{text_of_all}
-use Rattle.wdp.specs.Exact.{Ends, by_refusal, held}
-use Rattle.wdp.specs.declared.refusal.Refusal.TheVariants as refusal
+use Rattle.auction_input.specs.Settled.{held}
+use Rattle.wdp.specs.Exact.{Ends, by_refusal}
+use Rattle.auction_input.specs.declared.refusal.Refusal.TheVariants as refusal
 use Rattle.wdp.proofs.CommandFacts.{cut-short}
-use Rattle.wdp.proofs.RefusalFacts.{if-err-of}
+use Rattle.auction_input.proofs.RefusalFacts.{if-err-of}
 use Rattle.wdp.proofs.commands.write_program_of_all.Goals as goal
 
 pub returns-clause-written : goal.returns-clause-written

@@ -2,12 +2,13 @@ use Rattle.std.proofs.Common.{◌≤◌, ◌-◌, ◌∙◌, Bor, ℕ, List, ap,
 use Rattle.outcome.specs.Report.{allocation_text}
 use Rattle.outcome.specs.Sale.{sale_of}
 use Rattle.wdp.specs.Commands.{winners_text}
-use Rattle.wdp.specs.Exact.{Ends, by_refusal, held}
-use Rattle.wdp.specs.Parts.{bytes_of}
-use Rattle.wdp.specs.PartsTold.{only_text}
-use Rattle.wdp.specs.declared.refusal.Refusal.TheVariants as refusal
+use Rattle.auction_input.specs.Settled.{held}
+use Rattle.wdp.specs.Exact.{Ends, by_refusal}
+use Rattle.auction_input.specs.Parts.{bytes_of}
+use Rattle.auction_input.specs.PartsTold.{only_text}
+use Rattle.auction_input.specs.declared.refusal.Refusal.TheVariants as refusal
 use Rattle.wdp.proofs.CommandFacts.{cut-short, no-group, winners-refused, winners-written}
-use Rattle.wdp.proofs.RefusalFacts.{if-err-of}
+use Rattle.auction_input.proofs.RefusalFacts.{if-err-of}
 use Rattle.wdp.proofs.commands.write_winners.Goals as goal
 
 pub returns-clause-written : goal.returns-clause-written

@@ -3,11 +3,11 @@ use Rattle.std.proofs.lemmas.List.{drop_more}
 use Rattle.std.specs.List.{zip}
 use Rattle.auction_terms.specs.declared.choices.Choice.{Choice}
 use Rattle.group_compiler.specs.Compiled.{GroupProgram}
-use Rattle.wdp.specs.Exact.{Refuses}
-use Rattle.wdp.specs.Parts.{bytes_of}
+use Rattle.auction_input.specs.Refused.{Refuses}
+use Rattle.auction_input.specs.Parts.{bytes_of}
 use Rattle.wdp.specs.Winners.{winners_by_each, winners_with}
-use Rattle.wdp.proofs.RefusalFacts.{if-err-of}
-use Rattle.wdp.proofs.StageFacts.{IsLeft, left-more, left-refused}
+use Rattle.auction_input.proofs.RefusalFacts.{if-err-of}
+use Rattle.auction_input.proofs.StageFacts.{IsLeft, left-more, left-refused}
 use Rattle.wdp.proofs.report_run.allocations_won.Goals as goal
 
 abbrev Text : Type 0

@@ -1,8 +1,8 @@
 use Rattle.std.proofs.Common.{◌≡◌, ◌+◌, drop, length}
 use Rattle.std.specs.List.{zip}
-use Rattle.wdp.specs.Parts.{bytes_of}
+use Rattle.auction_input.specs.Parts.{bytes_of}
 use Rattle.wdp.specs.Winners.{winners_with}
-use Rattle.wdp.proofs.StageFacts.{IsLeft}
+use Rattle.auction_input.proofs.StageFacts.{IsLeft}
 use Rattle.wdp.proofs.report_run.allocations_won.Given as goal
 
 abbrev pub invariant-loop-place : goal.invariant-loop-place

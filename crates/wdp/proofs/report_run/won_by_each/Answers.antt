@@ -4,14 +4,14 @@ use Rattle.std.specs.List.{zip}
 use Rattle.group_compiler.specs.Compiled.{GroupProgram, compiled}
 use Rattle.std.specs.Prelude.{List, map}
 use Rattle.outcome.specs.Sale.{sale_of}
-use Rattle.wdp.specs.Exact.{Refuses}
-use Rattle.wdp.specs.Parts.{bytes_of}
-use Rattle.wdp.specs.Stages.{each_in_turn}
+use Rattle.auction_input.specs.Refused.{Refuses}
+use Rattle.auction_input.specs.Parts.{bytes_of}
+use Rattle.auction_input.specs.Stages.{each_in_turn}
 use Rattle.wdp.specs.Winners.{winners, winners_by_each}
-use Rattle.wdp.specs.declared.refusal.Refusal.TheVariants as refusal
-use Rattle.wdp.proofs.RefusalFacts.{if-err-of}
+use Rattle.auction_input.specs.declared.refusal.Refusal.TheVariants as refusal
+use Rattle.auction_input.proofs.RefusalFacts.{if-err-of}
 use Rattle.wdp.proofs.ReportFacts.{each-compiled, winners-compiled}
-use Rattle.wdp.proofs.StageFacts.{refuses-as}
+use Rattle.auction_input.proofs.StageFacts.{refuses-as}
 use Rattle.wdp.proofs.report_run.won_by_each.Goals as goal
 
 pub allocations_won-requires : goal.allocations_won-requires

@@ -1,6 +1,6 @@
 use Rattle.std.proofs.Common.{◌≡◌, ◌≢◌, ◌∙◌, IfErr, IfOk, Ok, sym, true, false, length, rules, subst}
 use Rattle.auction_terms.specs.Groups.{starts_empty}
-use Rattle.wdp.specs.Exact.{Refuses}
+use Rattle.auction_input.specs.Refused.{Refuses}
 use Rattle.wdp.proofs.CommandFacts.{goes-over, not-empty, solutions-miscounted}
 use Rattle.wdp.proofs.report_run.won_by_groups.Goals as goal
 

@@ -1,5 +1,5 @@
 use Rattle.std.proofs.Common.{arith, inl, inr, refl}
-use Rattle.wdp.specs.Parts.{bytes_of}
+use Rattle.auction_input.specs.Parts.{bytes_of}
 use Rattle.wdp.specs.Runs.{by_request}
 use Rattle.wdp.proofs.AskedFacts.{help-asked, nothing-asked}
 use Rattle.wdp.proofs.RunFacts.{untold}

@@ -1,5 +1,5 @@
 use Rattle.std.proofs.Common.{Ok, refl}
-use Rattle.wdp.specs.declared.refusal.Refusal.TheVariants as refusal
+use Rattle.auction_input.specs.declared.refusal.Refusal.TheVariants as refusal
 use Rattle.wdp.proofs.CommandFacts.{cut-short}
 use Rattle.wdp.proofs.run.show.Goals as goal
 

@@ -1,5 +1,5 @@
 use Rattle.std.proofs.Common.{inr, refl}
-use Rattle.wdp.specs.declared.refusal.Refusal.TheVariants as refusal
+use Rattle.auction_input.specs.declared.refusal.Refusal.TheVariants as refusal
 use Rattle.wdp.proofs.run.tell_words.Goals as goal
 
 pub returns-in_default-clause-refused : goal.returns-in_default-clause-refused

@@ -1,5 +1,5 @@
 use Rattle.std.proofs.Common.{◌∙◌}
-use Rattle.wdp.specs.Refused.{refused}
+use Rattle.auction_input.specs.Refused.{refused}
 use Rattle.wdp.proofs.LineFacts.{told-by}
 use Rattle.wdp.proofs.telling.tell.Goals as goal
 

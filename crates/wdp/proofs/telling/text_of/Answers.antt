@@ -1,7 +1,7 @@
 use Rattle.std.proofs.Common.{◌++◌, ◌∙◌, ap, ℕ, List}
 use Rattle.std.proofs.lemmas.Fmt.{contents_after_writes}
-use Rattle.wdp.specs.Line.{refusal_text}
-use Rattle.wdp.specs.Refused.{refused}
+use Rattle.auction_input.specs.Line.{refusal_text}
+use Rattle.auction_input.specs.Refused.{refused}
 use Rattle.wdp.proofs.telling.text_of.Goals as goal
 
 pub returns-in-Ok : goal.returns-in-Ok

@@ -1,10 +1,11 @@
 use Rattle.std.proofs.Common.{◌≡◌}
-use Rattle.wdp.specs.Auction.{auction_told}
+use Rattle.auction_input.specs.Auction.{auction_told}
 use Rattle.wdp.specs.Commands.{verified_text}
-use Rattle.wdp.specs.Exact.{IsUnwritten, held}
-use Rattle.wdp.specs.declared.request.Request.TheVariants as request
+use Rattle.auction_input.specs.Settled.{held}
+use Rattle.wdp.specs.Exact.{IsUnwritten}
+use Rattle.auction_input.specs.declared.request.Request.TheVariants as request
 use Rattle.wdp.proofs.CommandFacts.{no-auction, writes-behind}
-use Rattle.wdp.proofs.RefusalFacts.{if-err-of, on-ok-given}
+use Rattle.auction_input.proofs.RefusalFacts.{if-err-of, on-ok-given}
 use Rattle.wdp.proofs.VerifiedFacts.{writes-true}
 use Rattle.wdp.proofs.VerifyFacts.{unwritten}
 use Rattle.wdp.proofs.verify.verify.Goals as goal

@@ -4,12 +4,12 @@ use Rattle.auction_terms.specs.Terms.{lots_in}
 use Rattle.bid_desk.specs.Closing.{book_of}
 use Rattle.outcome.proofs.BackLaws.{points_come_back}
 use Rattle.outcome.specs.Solution.{solution}
-use Rattle.wdp.specs.Exact.{Refuses}
+use Rattle.auction_input.specs.Refused.{Refuses}
 use Rattle.wdp.specs.Winners.{winners_by}
-use Rattle.wdp.specs.declared.refusal.Refusal.TheVariants as refusal
+use Rattle.auction_input.specs.declared.refusal.Refusal.TheVariants as refusal
 use Rattle.wdp.proofs.FaultFacts.{solution-refuses}
-use Rattle.wdp.proofs.RefusalFacts.{if-err-of}
-use Rattle.wdp.proofs.StageFacts.{stop}
+use Rattle.auction_input.proofs.RefusalFacts.{if-err-of}
+use Rattle.auction_input.proofs.StageFacts.{stop}
 use Rattle.wdp.proofs.WinningFacts.{allowed-length, won-by}
 use Rattle.wdp.proofs.winning.allocation_won.Goals as goal
 

@@ -1,0 +1,149 @@
+-- What is read of texts is what they tell, their sizes included.
+use Rattle.std.proofs.Common.{◌≡◌, ◌+◌, ◌++◌, ◌∷◌, ◌<◌, ◌≤◌, [], ℕ, List, Result, Ok, Err, ap, arith, length, map, refl, subst, sym, inl, inr}
+use Rattle.std.specs.Prelude.{All, IfErr, IfOk}
+use Rattle.std.specs.List.{AllZip}
+use Rattle.std.specs.declared.alloc.Global.{Global}
+use Rattle.std.specs.declared.vec.Vec.{Vec}
+use Rattle.std.proofs.lemmas.List.Elements.{All-cons, All-nil}
+use Rattle.std.proofs.lemmas.Bool.Decides.{leb_tells}
+use denote.Ref.{Bor}
+use Rattle.auction_terms.specs.GroupsText as groups_text
+use Rattle.auction_terms.specs.RulesText as rules_text
+use Rattle.auction_terms.specs.Terms.{Terms}
+use Rattle.auction_terms.specs.declared.groups_text.GroupFault.{GroupFault}
+use Rattle.auction_terms.specs.declared.groups_text.GroupFault.TheVariants as group_fault
+use Rattle.auction_terms.specs.declared.limits.TheConstants.{TEXT_LIMIT}
+use Rattle.auction_terms.specs.declared.rules.Bidder.{Bidder}
+use Rattle.auction_terms.specs.declared.rules_text.RulesFault.{RulesFault}
+use Rattle.auction_terms.specs.declared.rules_text.RulesFault.TheVariants as rules_fault
+use Rattle.bid_forms.specs.Offers.{Meets, Offers}
+use Rattle.bid_forms.specs.declared.form_text.FormFault.{FormFault}
+use Rattle.mps_reader.specs.Answer.{IsRead}
+use Rattle.mps_reader.specs.declared.mps_fault.MpsFault.{MpsFault}
+use Rattle.mps_reader.specs.declared.limits.TheConstants.{PROGRAM_LIMIT}
+use Rattle.program_rows.specs.Meaning.{meaning}
+use Rattle.program_rows.specs.Program.{Table}
+use Rattle.program_rows.specs.declared.fault.FaultKind.TheVariants as kind
+use Rattle.auction_input.specs.Refused.{Refuses, Refusal}
+use Rattle.auction_input.specs.InputTexts.{IsAnswer, IsFirstErr, form_in, groups_in, program_in, rules_in}
+use Rattle.auction_input.specs.Parts.{bytes_of}
+use Rattle.auction_input.specs.Stages.{each_in_turn, refused_as}
+use Rattle.auction_input.specs.TextsTold.{form_told, forms_told}
+use Rattle.auction_input.specs.declared.refusal.Refusal.TheVariants as refusal
+use Rattle.auction_input.proofs.FaultFacts.{form-refuses, no_groups, no_rules}
+use Rattle.auction_input.proofs.StageFacts.{behind, next, stop}
+
+abbrev pub Text : Type 0
+Text = Bor (List ℕ)
+
+-- ---- forms
+
+-- texts whose answers are all forms tell those
+each-told : (t : Terms) (n : ℕ) (texts : List Text) (forms : List Offers) → AllZip (IsAnswer t) texts (map (λ form. Ok form) forms) → each_in_turn (form_told t) n (bytes_of texts) ≡ Ok forms
+each-told t n [] [] each = refl
+each-told t n [] (form ∷ forms) each = absurd each
+each-told t n (text ∷ texts) [] each = absurd each
+each-told t n (text ∷ texts) (form ∷ forms) each =
+    let head : form_told t n text.now ≡ Ok form = ap (λ r. refused_as (refusal.Form n) r) (sym each.0.tells) in
+    next _ _ _ _ head (next _ _ _ _ (each-told t (n + 1) texts forms each.1) refl)
+
+meet : (t : Terms) (texts : List Text) (forms : List Offers) → AllZip (IsAnswer t) texts (map (λ form. Ok form) forms) → All (Meets t) forms
+meet t [] [] each = All-nil (Meets t)
+meet t [] (form ∷ forms) each = absurd each
+meet t (text ∷ texts) [] each = absurd each
+meet t (text ∷ texts) (form ∷ forms) each = All-cons (Meets t) form forms each.0.meets (meet t texts forms each.1)
+
+pub all-told : (t : Terms) (texts : List Text) (answers : List (Result Offers FormFault)) (r : Result (Vec Offers Global) Refusal)
+    → AllZip (IsAnswer t) texts answers → IfOk r (λ forms. answers ≡ map (λ form. Ok form) forms.items) → IfOk r (λ forms. forms_told t (bytes_of texts) ≡ Ok forms.items)
+all-told t texts answers (Ok forms) each are = each-told t 1 texts forms.items (rw are at each)
+all-told t texts answers (Err e) each are = tt
+
+pub all-meet : (t : Terms) (texts : List Text) (answers : List (Result Offers FormFault)) (r : Result (Vec Offers Global) Refusal)
+    → AllZip (IsAnswer t) texts answers → IfOk r (λ forms. answers ≡ map (λ form. Ok form) forms.items) → IfOk r (λ forms. All (Meets t) forms.items)
+all-meet t texts answers (Ok forms) each are = meet t texts forms.items (rw are at each)
+all-meet t texts answers (Err e) each are = tt
+
+-- the first fault comes after the texts that tell forms
+first-refused : (t : Terms) (n m : ℕ) (texts : List Text) (before : List Offers) (f : FormFault) (after : List (Result Offers FormFault)) → n + length before ≡ m
+    → AllZip (IsAnswer t) texts (map (λ form. Ok form) before ++ Err f ∷ after) → Refuses (each_in_turn (form_told t) n (bytes_of texts)) (refusal.Form m f)
+first-refused t n m [] [] f after count each = absurd each
+first-refused t n m [] (form ∷ before) f after count each = absurd each
+first-refused t n m (text ∷ texts) [] f after count each =
+    let same : n ≡ m = omega arith in
+    subst (λ k. Refuses (each_in_turn (form_told t) n (bytes_of (text ∷ texts))) (refusal.Form k f)) same (stop _ _ (refusal.Form n f) (form-refuses n f (form_in t text.now) each.0.tells))
+first-refused t n m (text ∷ texts) (form ∷ before) f after count each =
+    let head : form_told t n text.now ≡ Ok form = ap (λ r. refused_as (refusal.Form n) r) (sym each.0.tells) in
+    behind _ form _ (refusal.Form m f) head (stop _ _ (refusal.Form m f) (first-refused t (n + 1) m texts before f after (omega arith) each.1))
+
+refusal-of : (t : Terms) (texts : List Text) (answers : List (Result Offers FormFault)) (e : Refusal) → AllZip (IsAnswer t) texts answers → IsFirstErr answers e → Refuses (forms_told t (bytes_of texts)) e
+refusal-of t texts answers (refusal.Form n f) each (before, after, are, count) = first-refused t 1 n texts before f after (omega arith) (rw are at each)
+refusal-of t texts answers refusal.OutOfMemory each is = inr refl
+refusal-of t texts answers e each is = absurd is
+
+pub all-refused : (t : Terms) (texts : List Text) (answers : List (Result Offers FormFault)) (r : Result (Vec Offers Global) Refusal)
+    → AllZip (IsAnswer t) texts answers → IfErr r (IsFirstErr answers) → IfErr r (Refuses (forms_told t (bytes_of texts)))
+all-refused t texts answers (Ok forms) each is = tt
+all-refused t texts answers (Err e) each is = refusal-of t texts answers e each is
+
+-- ---- sizes
+
+ok-or-fault : {T E : Type 0} {P : Type 0} (x : T) (e : E) → Ok x ≡ Err e → P
+ok-or-fault x e is = cc
+
+-- the fault of rules that are refused is what their text tells
+pub rules-faulted : (text : List ℕ) (f : RulesFault) → (TEXT_LIMIT < length text → no_rules f ≡ no_rules rules_fault.TooLarge)
+    → (length text ≤ TEXT_LIMIT → rules_text.Answers (no_rules f) (rules_text.rules_of text)) → rules_text.Answers (no_rules f) (rules_in text)
+rules-faulted text f large told = elim (leb_tells 4194305 (length text)) [
+  | inl (is, more) ↦ (
+      let e = large (omega arith) in
+      let same : f ≡ rules_fault.TooLarge = cc in
+      subst (λ x. rules_text.Answers (no_rules x) (rules_in text)) (sym same) (rw is refl))
+  | inr (is, few) ↦ rw is (told (omega arith))
+]
+
+-- the same of groups
+pub groups-faulted : (bidders : List Bidder) (text : List ℕ) (f : GroupFault) → (TEXT_LIMIT < length text → no_groups f ≡ no_groups group_fault.TooLarge)
+    → (length text ≤ TEXT_LIMIT → groups_text.Answers (no_groups f) (groups_text.groups_of bidders text)) → groups_text.Answers (no_groups f) (groups_in bidders text)
+groups-faulted bidders text f large told = elim (leb_tells 4194305 (length text)) [
+  | inl (is, more) ↦ (
+      let e = large (omega arith) in
+      let same : f ≡ group_fault.TooLarge = cc in
+      subst (λ x. groups_text.Answers (no_groups x) (groups_in bidders text)) (sym same) (rw is refl))
+  | inr (is, few) ↦ rw is (told (omega arith))
+]
+
+-- rules that are read are what their text tells
+pub rules-tell : (text : List ℕ) (t : Terms) → (TEXT_LIMIT < length text → Ok t ≡ no_rules rules_fault.TooLarge) → (length text ≤ TEXT_LIMIT → Ok t ≡ rules_text.rules_of text) → rules_in text ≡ Ok t
+rules-tell text t large told = elim (leb_tells 4194305 (length text)) [
+  | inl (_, more) ↦ (let e = large (omega arith) in cc)
+  | inr (is, few) ↦ rw is (sym (told (omega arith)))
+]
+
+-- the same of groups
+pub groups-tell : (bidders : List Bidder) (text : List ℕ) (groups : List (List ℕ)) → (TEXT_LIMIT < length text → Ok groups ≡ no_groups group_fault.TooLarge)
+    → (length text ≤ TEXT_LIMIT → Ok groups ≡ groups_text.groups_of bidders text) → groups_in bidders text ≡ Ok groups
+groups-tell bidders text groups large told = elim (leb_tells 4194305 (length text)) [
+  | inl (_, more) ↦ ok-or-fault groups group_fault.TooLarge (large (omega arith))
+  | inr (is, few) ↦ rw is (sym (told (omega arith)))
+]
+
+abbrev no_program : MpsFault → Result Table MpsFault
+no_program f = Err f
+
+-- a text that is refused is no program
+pub program-refused : (text : List ℕ) (f : MpsFault) → (PROGRAM_LIMIT < length text → no_program f ≡ no_program (record { line = 0; kind = kind.TooLarge }))
+    → (length text ≤ PROGRAM_LIMIT → IsRead (no_program f) (meaning text)) → IsRead (no_program f) (program_in text)
+program-refused text f large told = elim (leb_tells 67108865 (length text)) [
+  | inl (is, more) ↦ (
+      let e = large (omega arith) in
+      let same : f ≡ record { line = 0; kind = kind.TooLarge } = cc in
+      subst (λ x. IsRead (no_program x) (program_in text)) (sym same) (inr (rw is refl)))
+  | inr (is, few) ↦ rw is (told (omega arith))
+]
+
+-- a text that is read is a program
+pub program-told : (text : List ℕ) (p : Table) → (PROGRAM_LIMIT < length text → Ok p ≡ no_program (record { line = 0; kind = kind.TooLarge })) → (length text ≤ PROGRAM_LIMIT → IsRead (Ok p) (meaning text)) → program_in text ≡ Ok p
+program-told text p large told = elim (leb_tells 67108865 (length text)) [
+  | inl (_, more) ↦ (let e = large (omega arith) in cc)
+  | inr (is, few) ↦ rw is (told (omega arith))
+]

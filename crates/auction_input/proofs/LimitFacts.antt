@@ -1,0 +1,242 @@
+-- The book that an input leaves is within the limits.
+use Rattle.std.proofs.Common.{◌≡◌, ◌≤◌, ◌<◌, ◌+◌, ◌-◌, ◌==◌, ◌%◌, ◌++◌, ◌∷◌, ◌∙◌, [], ℕ, zero, suc, Bool, true, false, ◌&&◌, List, Option, None, Some, Result, Ok, Err, ap, append_assoc, arith, drop, eqb-true, leb-true, length, length-append, map, refl, subst, sym}
+use Rattle.std.specs.Prelude.{cond, filter, nat_le, nat_lt, not}
+use Rattle.std.specs.List.{AllByRecursion, last_or, list_all, range_with_len}
+use Rattle.std.specs.Option.{option_map_or}
+use Rattle.std.proofs.lemmas.Bool.{and_parts, ltb-true}
+use Rattle.std.proofs.lemmas.List.{append-nil, length-map, map-append}
+use Rattle.std.proofs.lemmas.List.Elements.{filter-append}
+use Rattle.std.proofs.lemmas.List.FromFn.{length-map-range_with_len}
+use Rattle.auction_terms.specs.Entries.{terms_of}
+use Rattle.auction_terms.specs.FirstFault.{first_failed, first_fault, option_or}
+use Rattle.auction_terms.specs.Limits.{IsBid, IsBook}
+use Rattle.auction_terms.specs.Numbers.{number_of}
+use Rattle.auction_terms.specs.Packages.{Lots}
+use Rattle.auction_terms.specs.Records.{Record, records_of}
+use Rattle.auction_terms.specs.RulesText as rules_text
+use Rattle.auction_terms.specs.RulesText.{bidder_of, entries_of, entry_fault, field, is_kind, kind_of, number_in, of_kind, rules_of, rules_of_records, version_of}
+use Rattle.auction_terms.specs.Terms.{Terms, lots_in}
+use Rattle.auction_terms.specs.declared.bids.Bid.{Bid}
+use Rattle.auction_terms.specs.declared.limits.TheConstants.{GREATEST_AMOUNT, GREATEST_QUANTITY, MOST_BIDDERS, MOST_BIDS}
+use Rattle.auction_terms.specs.declared.record_kinds.RecordKind.{RecordKind}
+use Rattle.auction_terms.specs.declared.record_kinds.RecordKind.TheVariants as kind
+use Rattle.auction_terms.specs.declared.record_kinds.Version.{Version}
+use Rattle.auction_terms.specs.declared.rules_text.RulesFault.{RulesFault}
+use Rattle.auction_terms.specs.declared.rules_text.RulesFault.TheVariants as rules_fault
+use Rattle.bid_desk.specs.Closing.{bids_in}
+use Rattle.bid_forms.specs.FormText as form_text
+use Rattle.bid_forms.specs.FormText.{amount_checks, bid_fault, bid_of, bidder_in, count_checks, fault_of_bid, form_of, form_of_records, header_checks, package_checks, place_checks, quantities_in, quantity_checks}
+use Rattle.bid_forms.specs.Offers.{Offers, are_quantities, eligibility_of, offers}
+use Rattle.bid_forms.specs.declared.form_text.FormFault.{FormFault}
+use Rattle.bid_forms.specs.declared.form_text.FormFault.TheVariants as form_fault
+use Rattle.auction_input.specs.BookLeft.{book_left}
+use Rattle.auction_input.specs.InputTexts.{form_in, rules_in}
+use Rattle.auction_input.specs.Refused.{Refused}
+use Rattle.auction_input.specs.Stages.{and_then, each_in_turn, refused_as}
+use Rattle.auction_input.specs.Submissions.{forms_of, last_of}
+use Rattle.auction_input.specs.TextsTold.{form_told, forms_told, terms_told}
+use Rattle.auction_input.proofs.AnswerFacts.{ok-behind, ok-is, ok-refused_as}
+
+-- ---- checks
+
+-- where none has failed, each holds
+none-failed : {F : Type 0} (checks : List (Bool × F)) → first_failed checks ≡ None → AllByRecursion (λ check. check.0 ≡ true) checks
+none-failed [] none = tt
+none-failed {F} ((test, f) ∷ checks) none = by test refl (none-failed checks)
+  where
+    by : (b : Bool) → test ≡ b → (first_failed checks ≡ None → AllByRecursion (λ check. check.0 ≡ true) checks) → AllByRecursion (λ check. check.0 ≡ true) ((test, f) ∷ checks)
+    by true is rest = (is, rest (rw is at none))
+    by false is rest = (let told : Some f ≡ None = rw is at none in cc)
+
+neither : {F : Type 0} (a b : Option F) → option_or a b ≡ None → (a ≡ None) × (b ≡ None)
+neither None b none = (refl, none)
+neither (Some f) b none = cc
+
+-- ---- rules
+
+-- there are at most so many bidders in records of which none has a fault
+few-bidders : (v : Version) (before more : List Record) → first_fault (entry_fault v) before more ≡ None → length (of_kind v kind.Bidder before) ≤ MOST_BIDDERS
+    → length (of_kind v kind.Bidder (before ++ more)) ≤ MOST_BIDDERS
+unfolding first_fault
+few-bidders v before [] none few = rw (append-nil before) few
+few-bidders v before (r ∷ more) none few =
+    let parts = neither (entry_fault v before r) (first_fault (entry_fault v) (before ++ r ∷ []) more) none in
+    let grown : length (of_kind v kind.Bidder (before ++ r ∷ [])) ≤ MOST_BIDDERS = one-more (kind_of v r) refl parts.0 in
+    subst (λ (rs : List Record). length (of_kind v kind.Bidder rs) ≤ MOST_BIDDERS) (append_assoc before (r ∷ []) more) (few-bidders v (before ++ r ∷ []) more parts.1 grown)
+  where
+    grows : of_kind v kind.Bidder (before ++ r ∷ []) ≡ of_kind v kind.Bidder before ++ of_kind v kind.Bidder (r ∷ [])
+    grows = filter-append (λ q. is_kind kind.Bidder (kind_of v q)) before (r ∷ [])
+
+    same : is_kind kind.Bidder (kind_of v r) ≡ false → length (of_kind v kind.Bidder (before ++ r ∷ [])) ≤ MOST_BIDDERS
+    same other =
+        let none_more : of_kind v kind.Bidder (r ∷ []) ≡ [] = rw other refl in
+        rw (grows, none_more, append-nil (of_kind v kind.Bidder before)) few
+
+    one-more : (k : Option RecordKind) → kind_of v r ≡ k → entry_fault v before r ≡ None → length (of_kind v kind.Bidder (before ++ r ∷ [])) ≤ MOST_BIDDERS
+    one-more None is free = same (rw is refl)
+    one-more (Some kind.Category) is free = same (rw is refl)
+    one-more (Some kind.Pool) is free = same (rw is refl)
+    one-more (Some kind.Member) is free = same (rw is refl)
+    one-more (Some kind.Bidder) is free =
+        let place = length before + 2 in
+        let here : List (Bool × RulesFault) = (length r == rules_text.field_count v, rules_fault.FieldCount place) ∷ rules_text.bidder_checks place (entries_of v before).bidders r in
+        let none_here : first_failed here ≡ None = rw is at free in
+        let checks = none-failed here none_here in
+        let room : nat_lt (length (map bidder_of (of_kind v kind.Bidder before))) MOST_BIDDERS ≡ true = checks.1.1.1.1.1.0 in
+        let below = ltb-true _ _ room in
+        let count = length-map (of_kind v kind.Bidder before) bidder_of in
+        let one : of_kind v kind.Bidder (r ∷ []) ≡ r ∷ [] = rw is refl in
+        let whole = length-append (of_kind v kind.Bidder before) (r ∷ []) in
+        rw (grows, one) (omega arith)
+
+rules-or : (o : Option RulesFault) (answer : Result Terms RulesFault) (t : Terms) → rules_text.fault_or o answer ≡ Ok t → (o ≡ None) × (answer ≡ Ok t)
+rules-or None answer t told = (refl, told)
+rules-or (Some f) answer t told = cc
+
+-- rules that records tell have at most so many bidders
+rules-few : (records : List Record) (t : Terms) → rules_of_records records ≡ Ok t → length t.bidders ≤ MOST_BIDDERS
+rules-few [] t told = cc
+rules-few (header ∷ more) t told = by (version_of header) (told)
+  where
+    few : (v : Version) → first_fault (entry_fault v) [] more ≡ None → (step count : ℕ) → rules_text.terms_or_none step count (entries_of v more) ≡ Ok t → length t.bidders ≤ MOST_BIDDERS
+    few v none step count are =
+        let within = few-bidders v [] more none (omega arith) in
+        let number = length-map (of_kind v kind.Bidder more) bidder_of in
+        none-empty (length (entries_of v more).categories == 0) (length (entries_of v more).bidders == 0) are
+      where
+        made : terms_of step (entries_of v more) ≡ t → length t.bidders ≤ MOST_BIDDERS
+        made is =
+            let within = few-bidders v [] more none (omega arith) in
+            let number = length-map (of_kind v kind.Bidder more) bidder_of in
+            subst (λ (u : Terms). length u.bidders ≤ MOST_BIDDERS) is (omega arith)
+
+        none-empty : (a b : Bool) → cond a (Err (rules_fault.NoCategory count)) (cond b (Err (rules_fault.NoBidder count)) (Ok (terms_of step (entries_of v more)))) ≡ Ok t → length t.bidders ≤ MOST_BIDDERS
+        none-empty true b e = cc
+        none-empty false true e = cc
+        none-empty false false e = made (ok-is _ (terms_of step (entries_of v more)) t refl e)
+
+    by : (version : Option Version) → option_map_or (λ v. rules_text.rules_after v header more) version (Err (rules_fault.Header 1)) ≡ Ok t → length t.bidders ≤ MOST_BIDDERS
+    by None e = cc
+    by (Some v) e =
+        let first = rules-or (first_failed (rules_text.header_checks v header)) _ t e in
+        let second = rules-or (first_fault (entry_fault v) [] more) _ t first.1 in
+        few v second.0 _ _ second.1
+
+-- ---- forms
+
+-- bids within the limits, few of them
+abbrev pub IsWithin : Lots → Offers → Type 0
+IsWithin lots form = (length form.bids ≤ MOST_BIDS) × AllByRecursion (IsBid lots) form.bids
+
+small : (quantities : List ℕ) → are_quantities quantities ≡ true → AllByRecursion (λ n. n ≤ GREATEST_QUANTITY) quantities
+small [] are = tt
+small (n ∷ quantities) are = (let parts = and_parts _ _ are in (leb-true n GREATEST_QUANTITY parts.0, small quantities parts.1))
+
+length-drop-one : {X : Type 0} (xs : List X) (n : ℕ) → length xs ≡ n + 1 → length (drop 1 xs) ≡ n
+length-drop-one [] n is = absurd (omega arith)
+length-drop-one (x ∷ xs) n is = omega arith
+
+-- a record without a fault tells a bid within the limits, and there is room for it
+bid-within : (t : Terms) (eligibility place : ℕ) (before : List Bid) (r : Record) → fault_of_bid t eligibility place before r ≡ None → IsBid (lots_in t) (bid_of r) × (length before < MOST_BIDS)
+bid-within t eligibility place before r free =
+    let counts = neither (first_failed (count_checks t.categories place r)) _ free in
+    let amounts = neither (first_failed (amount_checks t.step place r)) _ counts.1 in
+    let quantities = neither (first_failed (quantity_checks place r)) _ amounts.1 in
+    let packages = neither (first_failed (package_checks t.categories eligibility place (quantities_in r) (number_in 1 r))) _ quantities.1 in
+    let count = none-failed (count_checks t.categories place r) counts.0 in
+    let amount = none-failed (amount_checks t.step place r) amounts.0 in
+    let quantity = none-failed (quantity_checks place r) quantities.0 in
+    let room = none-failed (place_checks place before (quantities_in r)) packages.1 in
+    let wide = eqb-true (length r) (length t.categories + 1) count.0 in
+    let fields = length-drop-one r (length t.categories) wide in
+    let sized : length (quantities_in r) ≡ length (lots_in t).supply = length-map (drop 1 r) _ ∙ fields ∙ sym (length-map t.categories _) in
+    let most = and_parts _ _ amount.1.0 in (
+      record { sized = sized; quantities = small (quantities_in r) quantity.1.0; amount = leb-true _ _ most.1 },
+      ltb-true _ _ room.1.0,
+    )
+
+bids-within : (t : Terms) (eligibility : ℕ) (before more : List Record) → first_fault (bid_fault t eligibility) before more ≡ None → length before ≤ MOST_BIDS
+    → (length (before ++ more) ≤ MOST_BIDS) × AllByRecursion (IsBid (lots_in t)) (map bid_of more)
+unfolding first_fault
+bids-within t eligibility before [] none few = (rw (append-nil before) few, tt)
+bids-within t eligibility before (r ∷ more) none few =
+    let parts = neither (bid_fault t eligibility before r) (first_fault (bid_fault t eligibility) (before ++ r ∷ []) more) none in
+    let bid = bid-within t eligibility (length before + 2) (map bid_of before) r parts.0 in
+    let room = bid.1 in
+    let count = length-map before bid_of in
+    let grown = length-append before (r ∷ []) in
+    let rest = bids-within t eligibility (before ++ r ∷ []) more parts.1 (omega arith) in
+    (subst (λ (rs : List Record). length rs ≤ MOST_BIDS) (append_assoc before (r ∷ []) more) rest.0, (bid.0, rest.1))
+
+form-or : (o : Option FormFault) (answer : Result Offers FormFault) (form : Offers) → form_text.fault_or o answer ≡ Ok form → (o ≡ None) × (answer ≡ Ok form)
+form-or None answer form told = (refl, told)
+form-or (Some f) answer form told = cc
+
+form-within : (t : Terms) (records : List Record) (form : Offers) → form_of_records t records ≡ Ok form → IsWithin (lots_in t) form
+form-within t [] form told = cc
+form-within t (header ∷ more) form told =
+    let first = form-or (first_failed (header_checks t header)) _ form told in
+    let second = form-or (first_fault (bid_fault t (eligibility_of t (bidder_in t header))) [] more) _ form first.1 in
+    let within = bids-within t (eligibility_of t (bidder_in t header)) [] more second.0 (omega arith) in
+    let count = length-map more bid_of in
+    subst (λ (o : Offers). IsWithin (lots_in t) o) (ok-is _ (offers (bidder_in t header) (map bid_of more)) form refl second.1) (omega arith, within.1)
+
+-- ---- what an input tells
+
+unless-large : {A F : Type 0} (large : Bool) (f : F) (r : Result A F) (x : A) → cond large (Err f) r ≡ Ok x → r ≡ Ok x
+unless-large true f r x told = cc
+unless-large false f r x told = told
+
+pub terms-few : (texts : List (List ℕ)) (t : Terms) → terms_told texts ≡ Ok t → length t.bidders ≤ MOST_BIDDERS
+terms-few texts t told =
+    let inside = ok-refused_as _ _ t told in
+    rules-few _ t (unless-large _ rules_fault.TooLarge _ t inside)
+
+pub forms-within : (t : Terms) (n : ℕ) (texts : List (List ℕ)) (forms : List Offers) → each_in_turn (form_told t) n texts ≡ Ok forms → AllByRecursion (IsWithin (lots_in t)) forms
+forms-within t n [] forms told = (let none : [] ≡ forms = ok-is _ [] forms refl told in subst (λ (fs : List Offers). AllByRecursion (IsWithin (lots_in t)) fs) none tt)
+forms-within t n (text ∷ texts) forms told =
+    let first = ok-behind (form_told t n text) _ forms told in
+    let second = ok-behind (each_in_turn (form_told t) (n + 1) texts) _ forms first.2 in
+    let inside = ok-refused_as _ _ first.0 first.1 in
+    let head = form-within t _ first.0 (unless-large _ form_fault.TooLarge _ first.0 inside) in
+    let tail = forms-within t (n + 1) texts second.0 second.1 in
+    let are : first.0 ∷ second.0 ≡ forms = ok-is _ (first.0 ∷ second.0) forms refl second.2 in
+    subst (λ (fs : List Offers). AllByRecursion (IsWithin (lots_in t)) fs) are (head, tail)
+
+-- ---- the book
+
+abbrev BidsWithin : Lots → List Bid → Type 0
+BidsWithin lots bids = (length bids ≤ MOST_BIDS) × AllByRecursion (IsBid lots) bids
+
+last-within : (lots : Lots) (bidder : ℕ) (before : Option Offers) (forms : List Offers) → BidsWithin lots (bids_in before) → AllByRecursion (IsWithin lots) forms
+    → BidsWithin lots (bids_in (last_or before (filter (λ (form : Offers). form.bidder == bidder) forms)))
+last-within lots bidder before [] so_far within = so_far
+last-within lots bidder before (form ∷ forms) so_far within =
+    by (form.bidder == bidder) refl (last-within lots bidder (Some form) forms within.0 within.1) (last-within lots bidder before forms so_far within.1)
+  where
+    by : (b : Bool) → (form.bidder == bidder) ≡ b
+        → BidsWithin lots (bids_in (last_or (Some form) (filter (λ (f : Offers). f.bidder == bidder) forms)))
+        → BidsWithin lots (bids_in (last_or before (filter (λ (f : Offers). f.bidder == bidder) forms)))
+        → BidsWithin lots (bids_in (last_or before (filter (λ (f : Offers). f.bidder == bidder) (form ∷ forms))))
+    by true is here left = rw is here
+    by false is here left = rw is left
+
+each-few : (lots : Lots) (forms : List Offers) → AllByRecursion (IsWithin lots) forms → (a n : ℕ)
+    → AllByRecursion (λ form. length form ≤ MOST_BIDS) (map (λ bidder. bids_in (last_of bidder forms)) (range_with_len a n))
+each-few lots forms within a zero = tt
+each-few lots forms within a (suc n) = ((last-within lots a None forms (omega arith, tt) within).0, each-few lots forms within (a + 1) n)
+
+each-bids : (lots : Lots) (forms : List Offers) → AllByRecursion (IsWithin lots) forms → (a n : ℕ)
+    → AllByRecursion (λ form. AllByRecursion (IsBid lots) form) (map (λ bidder. bids_in (last_of bidder forms)) (range_with_len a n))
+each-bids lots forms within a zero = tt
+each-bids lots forms within a (suc n) = ((last-within lots a None forms (omega arith, tt) within).1, each-bids lots forms within (a + 1) n)
+
+-- the book that forms leave
+pub book-within : (t : Terms) (forms : List Offers) → length t.bidders ≤ MOST_BIDDERS → AllByRecursion (IsWithin (lots_in t)) forms → IsBook (lots_in t) (book_left t forms)
+book-within t forms few within =
+    let count = length-map-range_with_len (λ bidder. bids_in (last_of bidder forms)) 1 (length t.bidders) in
+    record {
+      bidders = omega arith;
+      forms = each-few (lots_in t) forms within 1 (length t.bidders);
+      bids = each-bids (lots_in t) forms within 1 (length t.bidders);
+    }

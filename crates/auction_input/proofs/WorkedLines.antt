@@ -1,0 +1,23 @@
+-- Lines that the function computes.
+use Rattle.std.specs.Prelude.{◌≡◌, refl, codes}
+use Rattle.std.specs.Fmt.{digits}
+use Rattle.bid_forms.specs.declared.form_text.FormFault.TheVariants as form
+use Rattle.program_rows.specs.declared.fault.FaultKind.TheVariants as kind
+use Rattle.auction_input.specs.Line.{line}
+use Rattle.auction_input.specs.declared.refusal.Refusal.TheVariants as refusal
+
+below_reserve : line (refusal.Form 1 (form.BelowReserve 2)) ≡ codes "wdp: form 1: 12 BelowReserve at record 2\n"
+unfolding digits
+below_reserve = refl
+
+repeated : line (refusal.Form 1 (form.RepeatedPackage 4 2)) ≡ codes "wdp: form 1: 13 RepeatedPackage at record 4, earlier bid 2\n"
+unfolding digits
+repeated = refl
+
+not_binary : line (refusal.Program (record { line = 35; kind = kind.NotBinary 3 })) ≡ codes "wdp: program: 22 NotBinary at line 35, column 3\n"
+unfolding digits
+not_binary = refl
+
+row_broken : line (refusal.RowBroken 1 (codes "B1")) ≡ codes "wdp: solution 1: 8 RowBroken at row B1\n"
+unfolding digits
+row_broken = refl

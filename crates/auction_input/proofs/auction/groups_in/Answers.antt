@@ -1,0 +1,27 @@
+use Rattle.std.proofs.Common.{◌∙◌, ℕ, List, ap, sym, subst}
+use Rattle.auction_input.specs.Refused.{Refuses}
+use Rattle.auction_input.specs.InputTexts.{groups_in}
+use Rattle.auction_input.specs.Parts.{bytes_of}
+use Rattle.auction_input.specs.Stages.{refused_as}
+use Rattle.auction_input.specs.TextsTold.{groups_told}
+use Rattle.auction_input.specs.declared.refusal.Refusal.TheVariants as refusal
+use Rattle.auction_input.proofs.FaultFacts.{groups-refuse}
+use Rattle.auction_input.proofs.InputTextFacts.{groups-faulted, groups-tell}
+use Rattle.auction_input.proofs.RefusalFacts.{if-err-of}
+use Rattle.auction_input.proofs.auction.groups_in.Goals as goal
+
+pub returns-clause-told : goal.returns-clause-told
+returns-clause-told c =
+    let text = c.only_text.result.now in
+    let bidders = c.args.rules.now.bidders in
+    let told = groups-tell bidders text c.in_ok-read_groups.field-0 c.in_ok-read_groups.ensures.too_large c.in_ok-read_groups.ensures.answer in
+    ap (λ (bytes : List ℕ). refused_as refusal.Groups (groups_in bidders bytes)) (sym c.only_text.ensures) ∙ ap (λ r. refused_as refusal.Groups r) told
+
+pub returns-in_err-read_groups-clause-refuses : goal.returns-in_err-read_groups-clause-refuses
+returns-in_err-read_groups-clause-refuses c =
+    let text = c.only_text.result.now in
+    let bidders = c.args.rules.now.bidders in
+    let f = c.in_err-read_groups.field-0.0 in
+    let refused = groups-refuse f (groups_in bidders text) (groups-faulted bidders text f c.in_err-read_groups.ensures.too_large c.in_err-read_groups.ensures.answer) in
+    if-err-of (Refuses (groups_told c.args.rules.now (bytes_of c.args.texts.now))) c.from_residual.result (refusal.Groups f) c.from_residual.ensures.1
+    (subst (λ (bytes : List ℕ). Refuses (refused_as refusal.Groups (groups_in bidders bytes)) (refusal.Groups f)) c.only_text.ensures refused)

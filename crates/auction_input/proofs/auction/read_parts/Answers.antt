@@ -1,0 +1,18 @@
+use Rattle.std.proofs.Common.{◌∙◌, sym}
+use Rattle.auction_input.specs.Refused.{Refuses}
+use Rattle.auction_input.specs.PartsTold.{parts_told}
+use Rattle.auction_input.specs.declared.refusal.Refusal.TheVariants as refusal
+use Rattle.auction_input.proofs.AuctionFacts.{parts-are, parts-miscounted, parts-refused}
+use Rattle.auction_input.proofs.RefusalFacts.{if-err-of}
+use Rattle.auction_input.proofs.auction.read_parts.Goals as goal
+
+pub returns-in_err-parts-clause-refuses : goal.returns-in_err-parts-clause-refuses
+returns-in_err-parts-clause-refuses c =
+    let f = c.in_err-parts.field-0.0 in
+    if-err-of (Refuses (parts_told c.args.request.now c.args.text.now)) c.from_residual.result (refusal.Parts f) c.from_residual.ensures.1 (parts-refused c.args.request.now c.args.text.now f c.in_err-parts.ensures)
+
+pub returns-in-None-clause-told : goal.returns-in-None-clause-told
+returns-in-None-clause-told c = parts-are c.args.request.now c.args.text.now c.in_ok-parts.parts c.in_ok-parts.ensures (sym c.miscounted.ensures ∙ c.in-None.is)
+
+pub returns-clause-refuses : goal.returns-clause-refuses
+returns-clause-refuses c = parts-miscounted c.args.request.now c.args.text.now c.in_ok-parts.parts c.in-Some.part c.in_ok-parts.ensures (sym c.miscounted.ensures ∙ c.in-Some.is)

@@ -1,0 +1,8 @@
+use Rattle.std.proofs.Common.{◌≡◌, take}
+use Rattle.auction_input.specs.Submissions.{AreAccepted, form_values}
+use Rattle.auction_input.proofs.job.submit_each.Given as goal
+
+abbrev pub invariant-loop-place : goal.invariant-loop-place
+invariant-loop-place g l =
+    (l.session.bidder ≡ l.initial.session.bidder) × (l.session.session ≡ l.initial.session.session)
+    × AreAccepted (take l.place (form_values l.forms)) l.session.pairs

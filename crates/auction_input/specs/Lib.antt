@@ -1,0 +1,15 @@
+pub mod Auction
+pub mod BookLeft
+pub mod Calls
+pub mod InputTexts
+pub mod Line
+pub mod Parts
+pub mod PartsTold
+pub mod Plan
+pub mod ReadInput
+pub mod Refused
+pub mod Settled
+pub mod Sold
+pub mod Stages
+pub mod Submissions
+pub mod TextsTold

@@ -1,0 +1,19 @@
+-- What was read of an input.
+use Rattle.std.specs.Prelude.{◌≡◌, ◌≤◌, ◌+◌, ⊤, ℕ, List, Option, length}
+use Rattle.std.specs.Io.KnownBytes.{Consumes, IsAtEnd}
+use Rattle.auction_input.specs.declared.input.InputFault.TheVariants as fault
+use Rattle.auction_input.specs.declared.input.InputFault.{InputFault}
+use Rattle.auction_input.specs.declared.input.TheConstants.{INPUT_LIMIT}
+use Rattle.mps_text.specs.Sinks.{HasFailed}
+
+-- the input was read to its end, and is within the limit
+pub record IsWhole (left left' : Option (List ℕ)) (input : List ℕ) : Type 0 where
+  pub few : length input ≤ INPUT_LIMIT
+  pub read : Consumes left left' input
+  pub ended : IsAtEnd left'
+
+-- what was read of an input that isn't taken: of one that is too large, one byte above the limit; where a read failed, which the counts of failed reads before and after tell, at most as much
+abbrev pub IsUntaken : InputFault → Option (List ℕ) → Option (List ℕ) → ℕ → ℕ → Type 0
+IsUntaken fault.TooLarge left left' reads reads' = (front : List ℕ) × Consumes left left' front × (length front ≡ INPUT_LIMIT + 1)
+IsUntaken fault.ReadFailed left left' reads reads' = HasFailed reads reads' × ((front : List ℕ) × Consumes left left' front × (length front ≤ INPUT_LIMIT + 1))
+IsUntaken fault.OutOfMemory left left' reads reads' = ⊤

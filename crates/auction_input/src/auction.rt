@@ -1,0 +1,93 @@
+//! The auction that an input tells.
+
+ghost use Rattle.std.specs.Prelude.{◌≡◌, IfErr, IfOk, Ok, true};
+ghost use Rattle.auction_input.specs.Auction.{auction_told};
+ghost use Rattle.auction_input.specs.Refused.{Refuses};
+ghost use Rattle.auction_input.specs.Settled.{HoldsForms, RefusesAuction, held};
+ghost use Rattle.auction_input.specs.Parts.{bytes_of, values};
+ghost use Rattle.auction_input.specs.PartsTold.{parts_told};
+ghost use Rattle.auction_input.specs.Plan.{reads_auction};
+ghost use Rattle.auction_input.specs.Sold.{IsSold};
+ghost use Rattle.auction_input.specs.TextsTold.{forms_told, groups_told, terms_told};
+
+use crate::calls::check_calls;
+use crate::parts::{Parts, split_parts};
+use crate::reading::{miscounted, only_text, read_forms};
+use crate::refusal::Refusal;
+use crate::request::Request;
+use crate::round::close_round;
+use auction_terms::{Groups, Rules, read_groups, read_rules};
+use bid_desk::ClosedBook;
+use std::alloc::Global;
+use std::sync::Wait;
+use std::thread::Threads;
+
+/// A settled auction, the groups that are left out of it, and the texts of solutions and of certificates.
+#[derive(Drop)]
+pub struct Auction<'t> {
+    pub book: ClosedBook,
+    pub groups: Groups,
+    pub solutions: Vec<&'t [u8]>,
+    pub certificates: Vec<&'t [u8]>,
+}
+
+// The parts of a text, as many as the request takes.
+fn read_parts<'t>(alloc: Global, request: &Request, text: &'t [u8]) -> Result<Parts<'t>, Refusal>
+    ensures told { IfOk result (λ parts. parts_told request.now text.now ≡ Ok (values parts)) }
+    ensures refuses { IfErr result (Refuses (parts_told request.now text.now)) }
+{
+    let parts = split_parts(alloc, request, text)?;
+    match miscounted(request, &parts) {
+        None => Ok(parts),
+        Some(part) => Err(Refusal::PartCount(part)),
+    }
+}
+
+fn rules_in(alloc: Global, texts: &[&[u8]]) -> Result<Rules, Refusal>
+    ensures told { IfOk result (λ rules. terms_told (bytes_of texts.now) ≡ Ok rules) }
+    ensures refuses { IfErr result (Refuses (terms_told (bytes_of texts.now))) }
+{
+    Ok(read_rules(alloc, only_text(texts))?)
+}
+
+fn groups_in(alloc: Global, texts: &[&[u8]], rules: &Rules) -> Result<Groups, Refusal>
+    ensures told { IfOk result (λ groups. groups_told rules.now (bytes_of texts.now) ≡ Ok groups) }
+    ensures refuses { IfErr result (Refuses (groups_told rules.now (bytes_of texts.now))) }
+{
+    Ok(read_groups(alloc, only_text(texts), rules)?)
+}
+
+/// Reads the rules, the forms and the groups, tests the call limit, and runs the round.
+pub fn read_auction<'t, R: Threads + Wait + Sync + AllocGlobal>(
+    rt: &R,
+    request: &Request,
+    text: &'t [u8],
+) -> Result<Auction<'t>, Refusal>
+    requires { reads_auction request.now ≡ true }
+    ensures told { IfOk result (λ auction. auction_told request.now text.now ≡ Ok (held auction)) }
+    ensures submitted { IfOk result (λ auction. HoldsForms request.now text.now auction.book) }
+    ensures sold { IfOk result (λ auction. IsSold request.now text.now (held auction)) }
+    ensures refuses { IfErr result (RefusesAuction request.now text.now) }
+{
+    let alloc: Global = rt.alloc();
+    let parts = read_parts(alloc, request, text)?;
+    let rules = rules_in(alloc, parts.rules.as_slice())?;
+    let forms = read_forms(rt, alloc, parts.forms.as_slice(), &rules)?;
+    let groups = groups_in(alloc, parts.groups.as_slice(), &rules)?;
+    check_calls(forms.as_slice())?;
+    let book = close_round(rt, rules, forms)?;
+    // Their contracts say that the book is closed and within limits, which makes the texts of its programs faithful.
+    let _rules = book.rules();
+    let _history = book.history();
+    let Parts {
+        solutions,
+        certificates,
+        ..
+    } = parts;
+    Ok(Auction {
+        book,
+        groups,
+        solutions,
+        certificates,
+    })
+}

@@ -1,0 +1,28 @@
+//! The call limit.
+
+ghost use Rattle.std.specs.Prelude.{◌≡◌, Err, IfErr, Ok, OnOk};
+ghost use Rattle.auction_input.specs.Calls.{calls_told};
+ghost use Rattle.auction_input.specs.Refused.{refused};
+
+use crate::refusal::Refusal;
+use bid_book::CALL_LIMIT;
+use bid_forms::Form;
+
+// A count for each bidder's number, from 0 to the greatest.
+const COUNTS_LEN: usize = 257;
+
+/// Tests that each form finds a call left of its bidder, as every form is one recorded call.
+pub fn check_calls(forms: &[Form]) -> Result<(), Refusal>
+    ensures accepted { OnOk result (calls_told forms.now ≡ Ok forms.now) }
+    ensures refused { IfErr result (λ r. calls_told forms.now ≡ Err (refused r)) }
+{
+    let mut counts = [0u32; COUNTS_LEN];
+    for place in 0..forms.len() {
+        let bidder = usize::from(forms[place].bidder());
+        if counts[bidder] >= CALL_LIMIT {
+            return Err(Refusal::CallLimit { form: place + 1 });
+        }
+        counts[bidder] += 1;
+    }
+    Ok(())
+}

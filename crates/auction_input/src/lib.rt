@@ -1,0 +1,26 @@
+//! Auctions from the input of the program: its parts, the rules, forms and groups that they tell, the round in which the
+//! forms are submitted, and why an input is refused.
+#![tactic(auto)]
+
+mod auction;
+mod by_bidder;
+mod calls;
+mod input;
+mod job;
+mod part_kind;
+mod parts;
+mod reading;
+mod refusal;
+mod request;
+mod round;
+mod source;
+
+pub use auction::{Auction, read_auction};
+pub use input::{INPUT_LIMIT, InputFault, read_input};
+pub use part_kind::PartKind;
+pub use parts::{PartFault, Parts, split_parts};
+pub use reading::{Count, only_text};
+pub use refusal::{CountedPart, Refusal};
+pub use request::Request;
+pub use round::RoundFault;
+pub use source::{ReadFailed, Source};

@@ -1,0 +1,161 @@
+//! Reading the parts of the input.
+
+ghost use Rattle.std.specs.Prelude.{◌≡◌, ◌++◌, ◌∷◌, [], All, IfErr, IfOk, Ok, OnOk, length, map};
+ghost use Rattle.std.specs.List.{AllZip};
+ghost use Rattle.bid_forms.specs.Offers.{Meets};
+ghost use Rattle.auction_input.specs.Refused.{Refuses};
+ghost use Rattle.auction_input.specs.InputTexts.{IsAnswer, IsFirstErr};
+ghost use Rattle.auction_input.specs.Parts.{bytes_of};
+ghost use Rattle.auction_input.specs.PartsTold.{only_text};
+ghost use Rattle.auction_input.specs.Plan.{groups_taken, miscounted, solutions_taken};
+ghost use Rattle.auction_input.specs.TextsTold.{forms_told};
+
+use crate::parts::Parts;
+use crate::refusal::{CountedPart, Refusal};
+use crate::request::Request;
+use auction_terms::Rules;
+use bid_forms::{Form, FormFault, read_form};
+use rayon::prelude::*;
+use std::alloc::{AllocError, Global};
+use std::thread::{Threads, join};
+
+/// How many parts of a kind a command takes.
+#[derive(Clone, Copy, Debug, PartialEq, Eq)]
+pub enum Count {
+    Exactly(usize),
+    /// As many as there are groups, which is tested once the groups are read.
+    PerGroup,
+}
+
+/// How many parts of groups a command takes.
+pub fn groups_taken(request: &Request) -> usize
+    ensures { result ≡ groups_taken request.now }
+{
+    match request {
+        Request::Text => 0,
+        _ => 1,
+    }
+}
+
+/// How many solutions a command takes.
+pub fn solutions_taken(request: &Request) -> Count
+    ensures { result ≡ solutions_taken request.now }
+{
+    match request {
+        Request::Map { group: _ } => Count::Exactly(1),
+        Request::Report { workers: _ } | Request::Verify { workers: _ } => Count::PerGroup,
+        _ => Count::Exactly(0),
+    }
+}
+
+/// The first kind of which there are too few parts or too many: one with rules, and as many with groups and with solutions as the command takes.
+pub fn miscounted(request: &Request, parts: &Parts<'_>) -> Option<CountedPart>
+    ensures { result ≡ miscounted request.now (length parts.now.rules.items) (length parts.now.groups.items) (length parts.now.solutions.items) }
+{
+    if parts.rules.len() != 1 {
+        return Some(CountedPart::Rules);
+    }
+    if parts.groups.len() != groups_taken(request) {
+        return Some(CountedPart::Groups);
+    }
+    match solutions_taken(request) {
+        Count::Exactly(count) if parts.solutions.len() != count => Some(CountedPart::Solutions),
+        _ => None,
+    }
+}
+
+/// The text of the one part of a kind; where there is none, no text.
+pub fn only_text<'t>(texts: &[&'t [u8]]) -> &'t [u8]
+    ensures { result.now ≡ only_text (bytes_of texts.now) }
+{
+    match texts.first() {
+        Some(text) => *text,
+        None => b"".as_slice(),
+    }
+}
+
+/// Reads forms, side by side.
+pub fn read_forms(
+    rt: &(impl Threads + Sync),
+    alloc: Global,
+    texts: &[&[u8]],
+    rules: &Rules,
+) -> Result<Vec<Form>, Refusal>
+    ensures told { IfOk result (λ forms. forms_told rules.now (bytes_of texts.now) ≡ Ok forms.items) }
+    ensures meet { IfOk result (λ forms. All (Meets rules.now) forms.items) }
+    ensures refuses { IfErr result (Refuses (forms_told rules.now (bytes_of texts.now))) }
+{
+    let answers = read_each(rt, alloc, texts, rules)?;
+    in_order(alloc, answers)
+}
+
+// What each text tells. Both halves of the texts are read side by side, each by as many threads as `rayon` takes: with
+// fewer, longer pieces more processors would be without work at the end.
+fn read_each(
+    rt: &(impl Threads + Sync),
+    alloc: Global,
+    texts: &[&[u8]],
+    rules: &Rules,
+) -> Result<Vec<Result<Form, FormFault>>, AllocError>
+    ensures { IfOk result (λ answers. AllZip (IsAnswer rules.now) texts.now answers.items) }
+{
+    let (first, second) = texts.split_at(texts.len() / 2);
+    let (front, back) = join(
+        rt,
+        move || -> Result<Vec<Result<Form, FormFault>>, AllocError>
+            ensures { IfOk result (λ answers. AllZip (IsAnswer rules.entry.now) first.entry.now answers.items) }
+        { read_half(rt, alloc, first, rules) },
+        move || -> Result<Vec<Result<Form, FormFault>>, AllocError>
+            ensures { IfOk result (λ answers. AllZip (IsAnswer rules.entry.now) second.entry.now answers.items) }
+        { read_half(rt, alloc, second, rules) },
+    );
+    let mut answers = front?;
+    let mut others = back?;
+    answers.append(&mut others)?;
+    Ok(answers)
+}
+
+// What each of these texts tells. Reading a form is worth a thread, however few there are.
+fn read_half(
+    rt: &(impl Threads + Sync),
+    alloc: Global,
+    texts: &[&[u8]],
+    rules: &Rules,
+) -> Result<Vec<Result<Form, FormFault>>, AllocError>
+    ensures { IfOk result (λ answers. AllZip (IsAnswer rules.now) texts.now answers.items) }
+{
+    texts
+        .par_iter()
+        .with_min_len(1)
+        .map(
+            |text: &&[u8]| -> Result<Form, FormFault>
+                ensures { IsAnswer rules.entry.now text.now result }
+            { read_form(alloc, *text, rules) },
+        )
+        .collect(rt, alloc)
+}
+
+// The forms, where each answer is one, or else the first fault.
+fn in_order(alloc: Global, answers: Vec<Result<Form, FormFault>>) -> Result<Vec<Form>, Refusal>
+    ensures forms { IfOk result (λ forms. answers.items ≡ map (λ form. Ok form) forms.items) }
+    ensures first { IfErr result (IsFirstErr answers.items) }
+{
+    let mut forms = Vec::new(alloc);
+    for answer in answers {
+        match answer {
+            Ok(form) => add_form(&mut forms, form)?,
+            Err(fault) => {
+                let form = forms.len() + 1;
+                return Err(Refusal::Form { form, fault });
+            }
+        }
+    }
+    Ok(forms)
+}
+
+fn add_form(forms: &mut Vec<Form>, form: Form) -> Result<(), AllocError>
+    ensures { OnOk result (forms.new.items ≡ forms.old.items ++ form ∷ []) }
+{
+    forms.push(form)?;
+    Ok(())
+}

@@ -1,0 +1,277 @@
+//! Why a run ends without its output.
+
+ghost use Rattle.std.specs.Prelude.{◌≡◌, Some};
+ghost use Rattle.auction_input.specs.Line.{name_told, refusal_text};
+ghost use Rattle.auction_input.specs.Refused.{is_memory, is_memory_kind, is_memory_of_certificate, refused};
+
+use crate::input::InputFault;
+use crate::parts::PartFault;
+use crate::round::RoundFault;
+use auction_terms::{GroupFault, RulesFault};
+use bid_forms::FormFault;
+use mps_reader::MpsFault;
+use mps_text::WriteFault;
+use optimality::CertificateFault;
+use outcome::SolutionFault;
+use program_rows::FaultKind;
+use std::alloc::AllocError;
+use std::fmt;
+
+/// The parts of which a command takes a certain number.
+#[derive(Clone, Copy, Debug, PartialEq, Eq)]
+pub enum CountedPart {
+    Rules,
+    Groups,
+    Solutions,
+    Certificates,
+}
+
+/// Why a run ends without its output, or with a front of it. Forms, groups, solutions and certificates count from 1. A name is bytes that the refusal owns;
+/// to definitions it is a list of them.
+#[derive(Drop)]
+pub enum Refusal<Name = Vec<u8>> {
+    Input(InputFault),
+    Parts(PartFault),
+    /// Parts are missing, or there are too many.
+    PartCount(CountedPart),
+    Rules(RulesFault),
+    Form {
+        form: usize,
+        fault: FormFault,
+    },
+    Groups(GroupFault),
+    /// The first form that its bidder had no call left for.
+    CallLimit {
+        form: usize,
+    },
+    Round(RoundFault),
+    /// There is no group of that number.
+    NoGroup {
+        group: usize,
+    },
+    /// The first group of a report is to be empty.
+    FirstGroupNotEmpty,
+    Program(MpsFault),
+    Solution {
+        solution: usize,
+        fault: SolutionFault,
+    },
+    /// A solution that breaks the bounds of the column of that name.
+    BoundBroken {
+        solution: usize,
+        column: Name,
+    },
+    /// A solution that doesn't meet the row of that name.
+    RowBroken {
+        solution: usize,
+        row: Name,
+    },
+    Certificate {
+        certificate: usize,
+        fault: CertificateFault,
+    },
+    Write(WriteFault),
+    OutOfMemory,
+}
+
+impl Refusal {
+    // Whether memory was short.
+    fn is_memory(&self) -> bool
+        ensures { result ≡ is_memory self.now }
+    {
+        match self {
+            Refusal::Input(InputFault::OutOfMemory)
+            | Refusal::Parts(PartFault::OutOfMemory)
+            | Refusal::Rules(RulesFault::OutOfMemory)
+            | Refusal::Form {
+                form: _,
+                fault: FormFault::OutOfMemory,
+            }
+            | Refusal::Groups(GroupFault::OutOfMemory)
+            | Refusal::Round(RoundFault::OutOfMemory)
+            | Refusal::Solution {
+                solution: _,
+                fault: SolutionFault::OutOfMemory,
+            }
+            | Refusal::OutOfMemory => true,
+            Refusal::Program(fault) => is_memory_kind(fault.kind),
+            Refusal::Certificate {
+                certificate: _,
+                fault,
+            } => is_memory_of_certificate(fault.kind),
+            _ => false,
+        }
+    }
+
+    /// The name of the column or row that is broken; of any other refusal none.
+    pub fn name(&self) -> &[u8]
+        ensures { result.now ≡ name_told (refused self.now) }
+    {
+        match self {
+            Refusal::BoundBroken {
+                solution: _,
+                column,
+            } => column.as_slice(),
+            Refusal::RowBroken { solution: _, row } => row.as_slice(),
+            _ => b"",
+        }
+    }
+}
+
+fn is_memory_kind(kind: FaultKind) -> bool
+    ensures { result ≡ is_memory_kind kind }
+{
+    match kind {
+        FaultKind::OutOfMemory => true,
+        _ => false,
+    }
+}
+
+fn is_memory_of_certificate(kind: optimality::FaultKind) -> bool
+    ensures { result ≡ is_memory_of_certificate kind }
+{
+    match kind {
+        optimality::FaultKind::OutOfMemory => true,
+        _ => false,
+    }
+}
+
+/// What is told of a refusal, but for the name of a column or row, which are bytes.
+impl fmt::Display for Refusal {
+    ghost output = { λ refusal. Some (refusal_text (refused refusal)) };
+
+    fn fmt<W: fmt::Write>(&self, f: &mut fmt::Formatter<W>) -> fmt::Result {
+        if self.is_memory() {
+            return write!(f, "out of memory");
+        }
+        match self {
+            Refusal::Input(InputFault::ReadFailed) => write!(f, "input: read failed"),
+            Refusal::Input(InputFault::TooLarge) => write!(f, "input: too large"),
+            Refusal::Parts(PartFault::BeforeFirst) => {
+                write!(f, "input: bytes before the first part")
+            }
+            Refusal::Parts(PartFault::PartName { part }) => {
+                write!(f, "input: part {part} not known")
+            }
+            Refusal::PartCount(CountedPart::Rules) => write!(f, "input: wrong number of rules"),
+            Refusal::PartCount(CountedPart::Groups) => write!(f, "input: wrong number of groups"),
+            Refusal::PartCount(CountedPart::Solutions) => {
+                write!(f, "input: wrong number of solutions")
+            }
+            Refusal::PartCount(CountedPart::Certificates) => {
+                write!(f, "input: wrong number of certificates")
+            }
+            Refusal::Rules(fault) => write!(f, "rules: {fault}"),
+            Refusal::Form { form, fault } => write!(f, "form {form}: {fault}"),
+            Refusal::Groups(fault) => write!(f, "groups: {fault}"),
+            Refusal::CallLimit { form } => write!(f, "form {form}: CallLimit"),
+            Refusal::Round(RoundFault::WrongAnswer) => write!(f, "desk: wrong answer"),
+            Refusal::NoGroup { group } => write!(f, "groups: no group {group}"),
+            Refusal::FirstGroupNotEmpty => write!(f, "groups: group 1 is not empty"),
+            Refusal::Program(fault) => write!(f, "program: {fault}"),
+            Refusal::Solution { solution, fault } => write!(f, "solution {solution}: {fault}"),
+            Refusal::BoundBroken {
+                solution,
+                column: _,
+            } => write!(f, "solution {solution}: 7 BoundBroken at column "),
+            Refusal::RowBroken { solution, row: _ } => {
+                write!(f, "solution {solution}: 8 RowBroken at row ")
+            }
+            Refusal::Certificate { certificate, fault } => {
+                write!(f, "certificate {certificate}: {fault}")
+            }
+            Refusal::Write(WriteFault::Sink { written }) => {
+                write!(f, "write failed after {written} bytes")
+            }
+            _ => write!(f, "out of memory"),
+        }
+    }
+}
+
+impl From<AllocError> for Refusal {
+    ghost use Rattle.std.specs.Prelude.{◌≡◌};
+    ghost use Rattle.auction_input.specs.declared.refusal.Refusal.TheVariants.{OutOfMemory};
+
+    ghost from_gives = { λ _ e. e ≡ OutOfMemory };
+
+    fn from(_: AllocError) -> Refusal {
+        Refusal::OutOfMemory
+    }
+}
+
+impl From<InputFault> for Refusal {
+    ghost use Rattle.std.specs.Prelude.{◌≡◌};
+    ghost use Rattle.auction_input.specs.declared.refusal.Refusal.TheVariants.{Input};
+
+    ghost from_gives = { λ fault e. e ≡ Input fault };
+
+    fn from(fault: InputFault) -> Refusal {
+        Refusal::Input(fault)
+    }
+}
+
+impl From<PartFault> for Refusal {
+    ghost use Rattle.std.specs.Prelude.{◌≡◌};
+    ghost use Rattle.auction_input.specs.declared.refusal.Refusal.TheVariants.{Parts};
+
+    ghost from_gives = { λ fault e. e ≡ Parts fault };
+
+    fn from(fault: PartFault) -> Refusal {
+        Refusal::Parts(fault)
+    }
+}
+
+impl From<RulesFault> for Refusal {
+    ghost use Rattle.std.specs.Prelude.{◌≡◌};
+    ghost use Rattle.auction_input.specs.declared.refusal.Refusal.TheVariants.{Rules};
+
+    ghost from_gives = { λ fault e. e ≡ Rules fault };
+
+    fn from(fault: RulesFault) -> Refusal {
+        Refusal::Rules(fault)
+    }
+}
+
+impl From<GroupFault> for Refusal {
+    ghost use Rattle.std.specs.Prelude.{◌≡◌};
+    ghost use Rattle.auction_input.specs.declared.refusal.Refusal.TheVariants.{Groups};
+
+    ghost from_gives = { λ fault e. e ≡ Groups fault };
+
+    fn from(fault: GroupFault) -> Refusal {
+        Refusal::Groups(fault)
+    }
+}
+
+impl From<MpsFault> for Refusal {
+    ghost use Rattle.std.specs.Prelude.{◌≡◌};
+    ghost use Rattle.auction_input.specs.declared.refusal.Refusal.TheVariants.{Program};
+
+    ghost from_gives = { λ fault e. e ≡ Program fault };
+
+    fn from(fault: MpsFault) -> Refusal {
+        Refusal::Program(fault)
+    }
+}
+
+impl From<RoundFault> for Refusal {
+    ghost use Rattle.std.specs.Prelude.{◌≡◌};
+    ghost use Rattle.auction_input.specs.declared.refusal.Refusal.TheVariants.{Round};
+
+    ghost from_gives = { λ fault e. e ≡ Round fault };
+
+    fn from(fault: RoundFault) -> Refusal {
+        Refusal::Round(fault)
+    }
+}
+
+impl From<WriteFault> for Refusal {
+    ghost use Rattle.std.specs.Prelude.{◌≡◌};
+    ghost use Rattle.auction_input.specs.declared.refusal.Refusal.TheVariants.{Write};
+
+    ghost from_gives = { λ fault e. e ≡ Write fault };
+
+    fn from(fault: WriteFault) -> Refusal {
+        Refusal::Write(fault)
+    }
+}

@@ -1,0 +1,18 @@
+//! What is asked of an input.
+
+/// A command with its options.
+#[derive(Clone, Copy, Debug, PartialEq, Eq)]
+pub enum Request {
+    /// The program of the empty group.
+    Text,
+    /// The sizes of an MPS text.
+    Check,
+    /// The programs of all groups, by so many workers.
+    Compile { workers: usize },
+    /// What a solution wins without a group, which counts from 1.
+    Map { group: usize },
+    /// What the solutions of all groups win, and the groups' opportunity costs, by so many workers.
+    Report { workers: usize },
+    /// The same, where certificates show that nobody wins more, by so many workers.
+    Verify { workers: usize },
+}

@@ -1,0 +1,204 @@
+//! The round: every bidder submits its forms, the chair closes, and the desk is settled.
+
+ghost use Rattle.std.specs.Prelude.{◌≡◌, ◌+◌, ◌++◌, ℕ, [], All, IfOk, Ok, OnOk, map};
+ghost use Rattle.std.specs.List.{AllZip};
+ghost use Rattle.auction_terms.specs.Terms.{session_count};
+ghost use Rattle.bid_desk.specs.Holding.{ChairOwn};
+ghost use Rattle.bid_desk.specs.Settlement.{IsSettled};
+ghost use Rattle.bid_forms.specs.Offers.{Meets};
+ghost use Rattle.auction_input.specs.Submissions.{AreFormsOf, AreSubmitted, ComesTo, IsFirstJob, IsIdle, forms_in};
+
+use crate::by_bidder::{by_bidder, forms_in};
+use crate::job::{Done, Job};
+use auction_terms::Rules;
+use bid_book::Reply;
+use bid_desk::{Cause, Chair, ClosedBook, Desk, Round, Session};
+use bid_forms::Form;
+use std::alloc::{AllocError, Global};
+use std::marker::Brand;
+use std::sync::ledger::Blank;
+use std::sync::{Arc, Wait};
+use std::thread;
+use std::thread::Threads;
+
+/// Why a round leaves no closed book.
+#[derive(Clone, Copy, Debug, PartialEq, Eq)]
+pub enum RoundFault {
+    /// The desk answered what a round of these calls isn't answered.
+    WrongAnswer,
+    OutOfMemory,
+}
+
+impl From<AllocError> for RoundFault {
+    fn from(_: AllocError) -> RoundFault {
+        RoundFault::OutOfMemory
+    }
+}
+
+/// Runs a round over these forms, one thread for each bidder that has some.
+pub fn close_round<R: Threads + Wait + Sync + AllocGlobal>(
+    rt: &R,
+    rules: Rules,
+    forms: Vec<Form>,
+) -> Result<ClosedBook, RoundFault>
+    requires { All (Meets rules) forms.items }
+    ensures rules { IfOk result (λ book. book.rules ≡ rules) }
+    ensures submitted { IfOk result (AreSubmitted forms.items) }
+{
+    let blank = Blank::new(part_count(&rules));
+    close_round_of::<Brand, _>(rt, blank, rules, forms)
+}
+
+// A part of the count of entries for each session, and one for the chair.
+fn part_count(rules: &Rules) -> u64
+    ensures { result ≡ session_count rules.now + 1 }
+{
+    let _within_limits = rules.bidders();
+    rules.session_count() as u64 + 1
+}
+
+// The round whose ledger and rules are those of `L`.
+fn close_round_of<L: Round + Send + Sync, R: Threads + Wait + Sync + AllocGlobal>(
+    rt: &R,
+    blank: Blank,
+    rules: Rules,
+    forms: Vec<Form>,
+) -> Result<ClosedBook, RoundFault>
+    requires name { blank.name ≡ L.name }
+    requires parts { blank.parts ≡ L.parts }
+    requires part_count { (blank.parts ≡ L.part_count) × (L.part_count ≡ session_count rules + 1) }
+    requires rules { rules ≡ L.rules }
+    requires meet { All (Meets L.rules) forms.items }
+    ensures rules { IfOk result (λ book. book.rules ≡ rules) }
+    ensures submitted { IfOk result (AreSubmitted forms.items) }
+{
+    let alloc: Global = rt.alloc();
+    let lists = by_bidder(alloc, rules.bidders().len(), forms)?;
+    let Ok((desk, chair, sessions)) = Desk::<L>::open(alloc, blank, rules) else {
+        return Err(RoundFault::OutOfMemory);
+    };
+    let (jobs, others) = jobs_of(alloc, sessions, lists.as_slice())?;
+    let done = run_each(rt, &desk, jobs)?;
+    let sessions = sessions_of(done, others)?;
+    settle(rt, desk, chair, sessions)
+}
+
+// The first session of each bidder with forms, with these forms; and the other sessions.
+fn jobs_of<'f, L: Round>(
+    alloc: Global,
+    sessions: Vec<Session<L>>,
+    lists: &'f [Vec<Arc<Form, Global>>],
+) -> Result<(Vec<Job<'f, L>>, Vec<Session<L>>), AllocError>
+    requires fresh { All (λ session. session.pairs ≡ []) sessions.items }
+    requires own { (b : ℕ) → AreFormsOf L.rules b (forms_in lists.now b) }
+    ensures jobs { IfOk result (λ made. All (IsFirstJob lists.now) made.0.items) }
+    ensures others { IfOk result (λ made. All (IsIdle lists.now) made.1.items) }
+{
+    let mut jobs = Vec::new(alloc);
+    let mut others = Vec::new(alloc);
+    for session in sessions {
+        if session.session() != 1 {
+            others.push(session)?;
+            continue;
+        }
+        let forms = forms_in(lists, session.bidder());
+        if forms.is_empty() {
+            others.push(session)?;
+        } else {
+            jobs.push(Job::new(session, forms))?;
+        }
+    }
+    Ok((jobs, others))
+}
+
+// Does each job, in a thread of its own.
+fn run_each<L: Round + Send + Sync, R: Threads + Wait + Sync + AllocGlobal>(
+    rt: &R,
+    desk: &Desk<L>,
+    jobs: Vec<Job<'_, L>>,
+) -> Result<Vec<Done<L>>, AllocError>
+    ensures { IfOk result (λ done. AllZip (λ job end. ComesTo job end.session end.ended) jobs.entry.items done.items) }
+{
+    thread::map_vec(
+        rt,
+        jobs,
+        &|job: Job<'_, L>| -> Done<L>
+            ensures { ComesTo job.entry result.session result.ended }
+        { job.run(rt, desk) },
+    )
+}
+
+// All sessions, where every submission was accepted.
+fn sessions_of<L: Round>(
+    done: Vec<Done<L>>,
+    others: Vec<Session<L>>,
+) -> Result<Vec<Session<L>>, RoundFault>
+    ensures ended { OnOk result (All (λ job. job.ended ≡ Ok tt) done.items) }
+    ensures sessions { IfOk result (λ sessions. sessions.items ≡ others.items ++ map (λ job. job.session) done.items) }
+{
+    let mut sessions = others;
+    let mut ended = Ok(());
+    for job in done {
+        let Done {
+            session,
+            ended: own,
+        } = job;
+        if sessions.push(session).is_err() {
+            return Err(RoundFault::OutOfMemory);
+        }
+        ended = first_of(ended, own);
+    }
+    ended?;
+    Ok(sessions)
+}
+
+// Of two ends the one to tell: want of memory, else a wrong answer.
+fn first_of(one: Result<(), RoundFault>, other: Result<(), RoundFault>) -> Result<(), RoundFault>
+    ensures { OnOk result ((one ≡ Ok tt) × (other ≡ Ok tt)) }
+{
+    match (one, other) {
+        (Ok(()), end) => end,
+        (end, Ok(())) => end,
+        (Err(RoundFault::OutOfMemory), _) => Err(RoundFault::OutOfMemory),
+        (_, Err(RoundFault::OutOfMemory)) => Err(RoundFault::OutOfMemory),
+        _ => Err(RoundFault::WrongAnswer),
+    }
+}
+
+// The chair closes, and the desk is settled.
+fn settle<L: Round, R: Wait + AllocGlobal>(
+    rt: &R,
+    desk: Desk<L>,
+    chair: Chair<L>,
+    sessions: Vec<Session<L>>,
+) -> Result<ClosedBook, RoundFault>
+    ensures rules { IfOk result (λ book. book.rules ≡ L.rules) }
+    ensures settled { IfOk result (λ book. (chair : ChairOwn) × IsSettled L.rules book.history chair sessions.items) }
+{
+    let mut chair = chair;
+    close(rt, &desk, &mut chair)?;
+    match desk.stop().settle(rt.alloc(), chair, sessions) {
+        Ok(book) => Ok(book),
+        Err(unsettled) => Err(fault_of(&unsettled.cause)),
+    }
+}
+
+fn fault_of(cause: &Cause) -> RoundFault {
+    match cause {
+        Cause::OutOfMemory => RoundFault::OutOfMemory,
+        _ => RoundFault::WrongAnswer,
+    }
+}
+
+// The chair closes the round, which is open.
+fn close<L: Round, R: Wait>(
+    rt: &R,
+    desk: &Desk<L>,
+    chair: &mut Chair<L>,
+) -> Result<(), RoundFault> {
+    match desk.enter(rt).close(chair) {
+        Ok(Reply::Closed { was_open: true }) => Ok(()),
+        Ok(_) => Err(RoundFault::WrongAnswer),
+        Err(_) => Err(RoundFault::OutOfMemory),
+    }
+}

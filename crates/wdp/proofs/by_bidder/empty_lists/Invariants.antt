@@ -1,6 +1,0 @@
-use Rattle.std.proofs.Common.{◌≡◌, [], vec_len}
-use Rattle.wdp.specs.Submissions.{AreByBidder}
-use Rattle.wdp.proofs.by_bidder.empty_lists.Given as goal
-
-abbrev pub invariant-loop : goal.invariant-loop
-invariant-loop l = (vec_len l.lists ≡ l.counter) × AreByBidder [] l.lists.items

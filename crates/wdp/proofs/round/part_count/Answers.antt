@@ -1,9 +1,0 @@
-use Rattle.std.proofs.Common.{arith}
-use Rattle.wdp.proofs.SubmissionFacts.{few-sessions}
-use Rattle.wdp.proofs.round.part_count.Goals as goal
-
-pub overflow_add-result : goal.overflow_add-result
-overflow_add-result c =
-    let few = few-sessions c.args.rules.now c.bidders-within_limits.ensures.terms in
-    let count = c.session_count.ensures in
-    omega arith
