@@ -1,32 +1,13 @@
 //! The winner determination compiler: the words and the standard streams, handed to `run`.
 #![tactic(auto)]
 
-pub mod certified;
-pub mod commands;
-pub mod compile_run;
-pub mod group_texts;
-pub mod laws;
-pub mod pieces;
-pub mod report_run;
-pub mod request;
-pub mod run;
-pub mod run_fault;
-pub mod sizes;
-pub mod telling;
-#[cfg(test)]
-mod tests;
-pub mod verify;
-pub mod winning;
-
+use answers::{run, tell, write_pieces};
 use auction_input::{Refusal, Source};
 use mps_text::{Sink, StdSink};
-use pieces::write_pieces;
-use run::run;
 use std::alloc::{AllocError, Global};
 use std::io::ErrorKind;
 use std::process::ExitCode;
 use std::{env, io};
-use telling::tell;
 
 fn words(rt: &HostRuntime) -> io::Result<Vec<String>> {
     let words: Vec<String> = env::args(rt)?.collect(rt.alloc())?;

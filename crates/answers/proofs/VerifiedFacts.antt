@@ -1,0 +1,175 @@
+-- What certificates show of what groups win.
+use Rattle.std.proofs.Common.{◌≡◌, ◌≤◌, ◌+◌, ◌==◌, ◌∷◌, ◌∙◌, [], ℕ, zero, suc, Bool, true, false, List, Option, None, Some, Result, Ok, Err, ap, arith, eqb-true, length, map, refl, subst, sym}
+use Rattle.std.specs.Prelude.{OnOk, cond, neg_ℤ, pos, slice_index_or}
+use Rattle.std.specs.List.{AllZip, zip}
+use Rattle.std.specs.Option.{option_map}
+use Rattle.std.proofs.lemmas.Int.{ints}
+use Rattle.auction_terms.specs.Allocations.{Book, IsFeasible, total}
+use Rattle.auction_terms.specs.Groups.{has, starts_empty}
+use Rattle.auction_terms.specs.Keeping.{kept_of}
+use Rattle.auction_terms.specs.Limits.{IsBook}
+use Rattle.auction_terms.specs.declared.choices.Choice.{Choice}
+use Rattle.bid_forms.specs.Offers.{Offers}
+use Rattle.optimality.proofs.BoundLaws.{shown-is-bound}
+use Rattle.optimality.proofs.VerdictLaws.{verdict}
+use Rattle.optimality.specs.Laws.{IsBound}
+use Rattle.optimality.specs.Verdict.{first_fault}
+use Rattle.optimality.specs.declared.fault.FaultKind.{FaultKind}
+use Rattle.outcome.proofs.BackLaws.{solutions_come_back}
+use Rattle.outcome.proofs.CostLaws.{costs_are_bounded, costs_are_own}
+use Rattle.outcome.specs.Report.{report_text}
+use Rattle.outcome.specs.Sale.{Sale}
+use Rattle.outcome.specs.Solution.{solution}
+use Rattle.outcome.specs.Winning.{allocation_of}
+use Rattle.program_rows.proofs.FaithfulLaws.{presolved_is_faithful}
+use Rattle.program_rows.specs.Faithful.{IsFaithful, IsGreatest}
+use Rattle.program_rows.specs.Points.{objective}
+use Rattle.program_rows.specs.Program.{Table}
+use Rattle.answers.specs.Answer.{answer}
+use Rattle.auction_input.specs.Auction.{Auction, auction_in, auction_of, auction_told}
+use Rattle.auction_input.specs.BookLeft.{book_left, program_for}
+use Rattle.auction_input.specs.Calls.{calls_told}
+use Rattle.answers.specs.Certified.{ClaimedBound, bound_of, bounds_of, certificate_refused, certified, shown}
+use Rattle.answers.specs.Commands.{report_of, verified_text, winners_of_groups}
+use Rattle.auction_input.specs.Parts.{SplitInput}
+use Rattle.auction_input.specs.PartsTold.{parts_told}
+use Rattle.auction_input.specs.Refused.{Refused}
+use Rattle.auction_input.specs.Stages.{and_then, each_in_turn, refused_as, unless}
+use Rattle.auction_input.specs.TextsTold.{forms_told, groups_told, terms_told}
+use Rattle.answers.specs.Exact.{IsWritten}
+use Rattle.answers.specs.Verified.{IsGreatestWithout, IsOwnCost, IsTrueReport, VerifiedIsTrue, WritesTrueReport}
+use Rattle.answers.specs.Winners.{solution_refused, winners, winners_by}
+use Rattle.auction_input.specs.declared.refusal.CountedPart.TheVariants as counted
+use Rattle.auction_input.specs.declared.refusal.Refusal.TheVariants as refusal
+use Rattle.auction_input.specs.declared.request.Request.{Request}
+use Rattle.auction_input.specs.declared.request.Request.TheVariants as request
+use Rattle.auction_input.proofs.AnswerFacts.{ok-behind, ok-is, ok-refused_as, unless-ok}
+use Rattle.auction_input.proofs.LimitFacts.{book-within, forms-within, terms-few}
+
+-- ---- one group
+
+-- a bound that is shown is one
+shown-bound : (number : ℕ) (bound : ClaimedBound) (u : Unit {0}) → shown number bound ≡ Ok u → IsBound bound.program bound.least
+shown-bound number bound u told =
+    let none = (unless-ok (option_map (certificate_refused number) (first_fault bound.program bound.least bound.certificate)) tt u told).0 in
+    let faultless : first_fault bound.program bound.least bound.certificate ≡ None = no-fault (first_fault bound.program bound.least bound.certificate) none in
+    let (certificate, tells, shows) = (verdict bound.program bound.least bound.certificate).0 faultless in
+    shown-is-bound bound.program bound.least certificate shows
+  where
+    no-fault : (o : Option (ℕ × FaultKind)) → option_map (certificate_refused number) o ≡ None → o ≡ None
+    no-fault None e = refl
+    no-fault (Some f) e = cc
+
+-- what is won without a group, of which a bound is shown, is of greatest total
+greatest-of : (sale : Sale) (number : ℕ) (group text certificate : List ℕ) (a : List Choice) (u : Unit {0}) → IsBook sale.lots sale.book
+    → winners sale number (group, text) ≡ Ok a → shown number (bound_of sale ((group, a), certificate)) ≡ Ok u → IsGreatestWithout sale group a
+greatest-of sale number group text certificate a u within won told =
+    let p : Table = program_for sale group in
+    let (point, point_is, wins) = ok-behind (refused_as (solution_refused p number) (solution p text)) _ a won in
+    let solved = ok-refused_as (solution_refused p number) (solution p text) point point_is in
+    let comes = solutions_come_back sale.lots sale.book (has group) text point within solved in
+    let is : allocation_of p point ≡ a = ok-is _ (allocation_of p point) a refl wins in
+    let faithful = presolved_is_faithful sale.lots sale.book (has group) within in
+    let bound = shown-bound number (bound_of sale ((group, a), certificate)) u told in
+    record {
+      feasible = subst (λ (x : List Choice). IsFeasible sale.lots sale.book (has group) x) is comes.feasible;
+      greatest = λ other f.
+          let m = faithful.is_matched other f in
+          let l = bound m.values m.is_point in
+          let g = m.no_less in
+          omega (arith, ints);
+    }
+
+-- ---- all groups
+
+all-greatest : (sale : Sale) (n : ℕ) (groups texts certificates : List (List ℕ)) (won : List (List Choice)) (all : List (Unit {0})) → IsBook sale.lots sale.book
+    → length texts ≡ length groups → length certificates ≡ length groups
+    → each_in_turn (winners sale) n (zip groups texts) ≡ Ok won → each_in_turn shown n (map (bound_of sale) (zip (zip groups won) certificates)) ≡ Ok all
+    → AllZip (IsGreatestWithout sale) groups won
+all-greatest sale n [] texts certificates won all within count counts wins told = (let none : [] ≡ won = ok-is _ [] won refl wins in subst (λ (xs : List (List Choice)). AllZip (IsGreatestWithout sale) [] xs) none tt)
+all-greatest sale n (group ∷ groups) [] certificates won all within count counts wins told = absurd (omega arith)
+all-greatest sale n (group ∷ groups) (text ∷ texts) [] won all within count counts wins told = absurd (omega arith)
+all-greatest sale n (group ∷ groups) (text ∷ texts) (certificate ∷ certificates) won all within count counts wins told =
+    let (a, a_is, more_wins) = ok-behind (winners sale n (group, text)) _ won wins in
+    let (more, more_are, are) = ok-behind (each_in_turn (winners sale) (n + 1) (zip groups texts)) _ won more_wins in
+    let is : a ∷ more ≡ won = ok-is _ (a ∷ more) won refl are in
+    let told_now : each_in_turn shown n (map (bound_of sale) (zip (zip (group ∷ groups) (a ∷ more)) (certificate ∷ certificates))) ≡ Ok all = rw (← is) at told in
+    let (u, u_is, more_told) = ok-behind (shown n (bound_of sale ((group, a), certificate))) _ all told_now in
+    let (us, us_are, _) = ok-behind (each_in_turn shown (n + 1) (map (bound_of sale) (zip (zip groups more) certificates))) _ all more_told in
+    let head = greatest-of sale n group text certificate a u within a_is u_is in
+    let tail = all-greatest sale (n + 1) groups texts certificates more us within (omega arith) (omega arith) more_are us_are in
+    subst (λ (xs : List (List Choice)). AllZip (IsGreatestWithout sale) (group ∷ groups) xs) is (head, tail)
+
+-- ---- costs
+
+own-costs : (sale : Sale) (first : List Choice) → IsGreatest sale.lots sale.book (λ b. false) first → (groups : List (List ℕ)) (won : List (List Choice)) → AllZip (IsGreatestWithout sale) groups won
+    → AllZip (IsOwnCost sale first) groups won
+own-costs sale first best [] [] each = tt
+own-costs sale first best [] (a ∷ won) each = absurd each
+own-costs sale first best (group ∷ groups) [] each = absurd each
+own-costs sale first best (group ∷ groups) (a ∷ won) each = (
+  record {
+    own = λ of_all without by_all by_others. costs_are_own sale.lots sale.book group first a of_all without by_all by_others best each.0;
+    law = costs_are_bounded sale.lots sale.book group first a best each.0;
+  },
+  own-costs sale first best groups won each.1,
+)
+
+first-greatest : (sale : Sale) (groups : List (List ℕ)) (won : List (List Choice)) → starts_empty groups ≡ true → AllZip (IsGreatestWithout sale) groups won
+    → IsGreatest sale.lots sale.book (λ b. false) (slice_index_or won 0 [])
+first-greatest sale [] won starts each = absurd (cc)
+first-greatest sale (group ∷ groups) [] starts each = absurd each
+first-greatest sale ([] ∷ groups) (a ∷ won) starts each = each.0
+first-greatest sale ((b ∷ group) ∷ groups) (a ∷ won) starts each = (let none : length (b ∷ group) ≡ 0 = eqb-true (length (b ∷ group)) 0 starts in absurd (omega arith))
+
+-- ---- an auction
+
+when-counted : {A : Type 0} (test : Bool) (r : Result A Refused) (e : Refused) (x : A) → cond test r (Err e) ≡ Ok x → (test ≡ true) × (r ≡ Ok x)
+when-counted true r e x told = (refl, told)
+when-counted false r e x told = cc
+
+true-report : (auction : Auction) (out : List ℕ) → IsBook auction.sale.lots auction.sale.book → verified_text auction ≡ Ok out → IsTrueReport auction out
+true-report auction out within told =
+    let (won, won_is, written) = ok-behind (and_then (winners_of_groups auction) (certified auction)) (report_of auction) out told in
+    let (allocations, wins, certifies) = ok-behind (winners_of_groups auction) (certified auction) won won_is in
+    let (starts, counted_wins) = when-counted (starts_empty auction.groups) _ refusal.FirstGroupNotEmpty allocations wins in
+    let (count, each) = when-counted (length auction.solutions == length auction.groups) _ (refusal.PartCount counted.Solutions) allocations counted_wins in
+    let (counts, all_told) = when-counted (length auction.certificates == length auction.groups) _ (refusal.PartCount counted.Certificates) won certifies in
+    let (all, shown_are, same) = ok-behind (each_in_turn shown 1 (bounds_of auction allocations)) _ won all_told in
+    let is : allocations ≡ won = ok-is _ allocations won refl same in
+    let greatest = all-greatest auction.sale 1 auction.groups auction.solutions auction.certificates allocations all within (eqb-true _ _ count) (eqb-true _ _ counts) each shown_are in
+    let first = first-greatest auction.sale auction.groups allocations starts greatest in
+    let text : report_text auction.sale auction.groups won ≡ out = ok-is _ (report_text auction.sale auction.groups won) out refl written in
+    record {
+      won = allocations;
+      text = sym text ∙ ap (λ (xs : List (List Choice)). report_text auction.sale auction.groups xs) (sym is);
+      greatest = greatest;
+      costs = own-costs auction.sale (slice_index_or allocations 0 []) first auction.groups allocations greatest;
+    }
+
+-- ---- an input
+
+-- an auction that is told has a book within the limits
+pub auction-within : (asked : Request) (input : List ℕ) (auction : Auction) → auction_told asked input ≡ Ok auction → IsBook auction.sale.lots auction.sale.book
+auction-within asked input auction told =
+    let (parts, parts_are, more) = ok-behind (parts_told asked input) auction_in auction told in
+    let (t, t_is, more_forms) = ok-behind (terms_told parts.rules) _ auction more in
+    let (forms, forms_are, more_groups) = ok-behind (forms_told t parts.forms) _ auction more_forms in
+    let (groups, groups_are, more_calls) = ok-behind (groups_told t parts.groups) _ auction more_groups in
+    let (accepted, accepted_is, made) = ok-behind (calls_told forms) _ auction more_calls in
+    let same : forms ≡ accepted = (unless-ok _ forms accepted (ok-refused_as refusal.CallLimit _ accepted accepted_is)).1 in
+    let is : auction_of t accepted groups parts ≡ auction = ok-is _ (auction_of t accepted groups parts) auction refl made in
+    let within = book-within t forms (terms-few parts.rules t t_is) (forms-within t 1 parts.forms forms forms_are) in
+    subst (λ (a : Auction). IsBook a.sale.lots a.sale.book) is (rw (← same) within)
+
+pub verified-is-true : VerifiedIsTrue
+verified-is-true workers input out told =
+    let (auction, auction_is, text) = ok-behind (auction_told (request.Verify workers) input) verified_text out told in
+    (auction, auction_is, true-report auction out (auction-within (request.Verify workers) input auction auction_is) text)
+
+-- what is written at Ok is a true report
+pub writes-true : {T E : Type 0} (workers : ℕ) (input : List ℕ) (result : Result T E) (taken taken' : Option (List ℕ)) → OnOk result (IsWritten (request.Verify workers) input taken taken') → OnOk result (WritesTrueReport workers input taken taken')
+writes-true workers input (Ok x) taken taken' (out, told, sent) =
+    let (auction, auction_is, report) = verified-is-true workers input out told in
+    record { auction = auction; out = out; told = auction_is; is_true = report; sent = sent }
+writes-true workers input (Err e) taken taken' written = tt

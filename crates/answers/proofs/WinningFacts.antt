@@ -1,0 +1,63 @@
+-- What a point of a program wins.
+use Rattle.std.proofs.Common.{◌≡◌, ◌≤◌, ℕ, Bool, true, false, List, [], ◌∷◌, Option, None, Some, length, refl, ap, sym, zero, suc, arith}
+use Rattle.std.specs.Prelude.{not, ◌&&◌, is_some, slice_get, slice_index_or, IfOk, OnErr, Result, Ok, Err}
+use Rattle.std.specs.Option.{option_map, option_map_or}
+use Rattle.auction_terms.specs.declared.choices.Choice.{Choice}
+use Rattle.auction_terms.specs.Allocations.{Book, IsFeasible, bid_of, is_eligible}
+use Rattle.auction_terms.specs.Packages.{Lots}
+use Rattle.program_rows.specs.Points.{AreAllowed}
+use Rattle.program_rows.specs.Program.{TableColumn, Table}
+use Rattle.outcome.specs.Solution.{solution}
+use Rattle.outcome.specs.Winning.{allocation_of}
+use Rattle.outcome.specs.declared.fault.SolutionFault.{SolutionFault}
+use Rattle.auction_input.specs.Stages.{refused_as}
+use Rattle.answers.specs.Winners.{solution_refused, winners_by}
+use Rattle.auction_input.proofs.StageFacts.{next}
+
+-- there is a value for each column
+pub allowed-length : (columns : List TableColumn) (values : List Bool) → AreAllowed columns values → length values ≡ length columns
+allowed-length [] [] allowed = refl
+allowed-length [] (v ∷ values) allowed = absurd allowed
+allowed-length (c ∷ columns) [] allowed = absurd allowed
+allowed-length (c ∷ columns) (v ∷ values) allowed = ap suc (allowed-length columns values allowed.1)
+
+second : (x y : Bool) → (x && y) ≡ true → y ≡ true
+second true y is = is
+second false y is = cc
+
+-- what is feasible without a group is feasible with nobody left out
+pub feasible-for_all : (lots : Lots) (book : Book) (group : ℕ → Bool) (a : List Choice) → IsFeasible lots book group a → IsFeasible lots book (λ b. false) a
+feasible-for_all lots book group a feasible = record {
+  one_bid_each = feasible.one_bid_each;
+  eligible = λ k d small. by (slice_index_or a k d) (feasible.eligible k d small);
+  fit = feasible.fit;
+}
+  where
+    by : (c : Choice) → is_eligible book group c ≡ true → is_eligible book (λ b. false) c ≡ true
+    by c is = second (not (group c.bidder)) (is_some (bid_of book c)) is
+
+-- what follows of the value of a result
+pub if-ok-weaker : {T E : Type 0} (P Q : T → Type 0) (r : Result T E) → ((x : T) → P x → Q x) → IfOk r P → IfOk r Q
+if-ok-weaker P Q (Ok x) weaker holds = weaker x holds
+if-ok-weaker P Q (Err e) weaker holds = tt
+
+-- what holds holds at an error too
+pub on-err-of : {T E P : Type 0} (r : Result T E) → P → OnErr r P
+on-err-of (Ok x) holds = tt
+on-err-of (Err e) holds = holds
+
+-- what a point of the program wins
+pub won-by : (p : Table) (number : ℕ) (text : List ℕ) (point : List Bool) (a : List Choice) → Ok point ≡ solution p text → a ≡ allocation_of p point → winners_by p number text ≡ Ok a
+won-by p number text point a tells is =
+    next _ _ _ _ (ap (λ (r : Result (List Bool) SolutionFault). refused_as (solution_refused p number) r) (sym tells)) (ap (λ (won : List Choice). Ok won) (sym is))
+
+-- the name at a place, where there is one
+pub name-at : {X : Type 0} (name : X → List ℕ) (found : Option X) (bytes : List ℕ) → option_map name found ≡ Some bytes → bytes ≡ option_map_or name found []
+name-at name (Some x) bytes is = cc
+name-at name None bytes is = absurd (cc)
+
+-- the name at a place where there is none
+pub no-name : {X : Type 0} (name : X → List ℕ) (xs : List X) (k : ℕ) → length xs ≤ k → option_map_or name (slice_get xs k) [] ≡ []
+no-name name [] k least = refl
+no-name name (x ∷ xs) zero least = absurd (omega arith)
+no-name name (x ∷ xs) (suc k) least = no-name name xs k (omega arith)

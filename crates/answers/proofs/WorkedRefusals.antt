@@ -1,0 +1,28 @@
+-- Refusals that the function computes: the number of parts, a part, rules, forms and groups.
+use Rattle.std.specs.Prelude.{◌≡◌, refl, Err, codes}
+use Rattle.csv.specs.Records.{field_at}
+use Rattle.csv.proofs.OnLiterals.{csv_on_literals}
+use Rattle.auction_terms.specs.FirstFault.{first_fault}
+use Rattle.auction_terms.specs.declared.rules_text.RulesFault.TheVariants as rules_fault
+use Rattle.bid_forms.specs.declared.form_text.FormFault.TheVariants as form_fault
+use Rattle.auction_input.specs.declared.refusal.CountedPart.TheVariants as counted
+use Rattle.auction_input.specs.declared.parts.PartFault.TheVariants as part_fault
+use Rattle.answers.specs.Answer.{answer}
+use Rattle.auction_input.specs.declared.refusal.Refusal.TheVariants as refusal
+use Rattle.auction_input.specs.declared.request.Request.TheVariants.{Text}
+
+two_rules : answer Text (codes "%rules\nrules,1,1,,\ncategory,A,2,10,1\ncategory,B,1,5,1\nbidder,Alpha,9,2,\nbidder,Beta,9,1,\nbidder,Gamma,9,1,\n%rules\nrules,1,1,,\ncategory,A,2,10,1\ncategory,B,1,5,1\nbidder,Alpha,9,2,\nbidder,Beta,9,1,\nbidder,Gamma,9,1,\n") ≡ Err (refusal.PartCount counted.Rules)
+unfolding first_fault
+two_rules = refl
+
+bytes_before : answer Text (codes "x") ≡ Err (refusal.Parts part_fault.BeforeFirst)
+unfolding first_fault
+bytes_before = refl
+
+four_fields : answer Text (codes "%rules\nrules,1,1,,\ncategory,A,2,10\ncategory,B,1,5,1\nbidder,Alpha,9,2,\nbidder,Beta,9,1,\nbidder,Gamma,9,1,\n") ≡ Err (refusal.Rules (rules_fault.FieldCount 2))
+unfolding csv_on_literals field_at first_fault
+four_fields = refl
+
+below_reserve : answer Text (codes "%rules\nrules,1,1,,\ncategory,A,2,10,1\ncategory,B,1,5,1\nbidder,Alpha,9,2,\nbidder,Beta,9,1,\nbidder,Gamma,9,1,\n%form\nAlpha,A,B\n14,1,1\n") ≡ Err (refusal.Form 1 (form_fault.BelowReserve 2))
+unfolding csv_on_literals field_at first_fault
+below_reserve = refl

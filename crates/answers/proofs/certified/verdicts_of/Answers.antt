@@ -1,0 +1,13 @@
+use Rattle.std.proofs.Common.{ap, ◌∙◌, sym, subst}
+use Rattle.std.specs.List.{AllZip}
+use Rattle.rayon.proofs.ListFacts.{IfOk-then}
+use Rattle.rayon.proofs.ToStd.{slice-AllZip}
+use Rattle.answers.specs.Judging.{IsJudged}
+use Rattle.answers.proofs.certified.verdicts_of.Goals as goal
+
+pub returns : goal.returns
+returns g c =
+    let slice = ap (λ it. it.base.slice.now) c.map.ensures.base ∙ ap (λ it. it.slice.now) c.with_min_len.ensures.base ∙ c.par_iter.ensures in
+    IfOk-then c.collect.result _ _ c.collect.ensures (λ v h.
+    let chain = h.1 in
+    subst (AllZip IsJudged c.args.bounds.now) (sym h.2) (slice-AllZip chain.0 c.args.bounds.now (chain.1 ∙ slice) IsJudged h.0 chain.2))

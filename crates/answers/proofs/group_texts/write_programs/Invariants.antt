@@ -1,0 +1,14 @@
+use Rattle.std.proofs.Common.{◌≡◌, [], take}
+use Rattle.std.specs.Io.KnownBytes.{Appends}
+use Rattle.mps_text.specs.Sinks.{Counts}
+use Rattle.answers.specs.GroupTexts.{programs_bytes}
+use Rattle.answers.proofs.group_texts.write_programs.Given as goal
+
+-- the groups so far have gone out, and nothing waits
+abbrev pub invariant-loop-place : goal.invariant-loop-place
+invariant-loop-place g l = record {
+  waiting : l.block.waiting.items ≡ [];
+  gone : Appends (g.S.Sink.taken l.initial.out) (g.S.Sink.taken l.out) (programs_bytes l.fn.book (take l.place l.programs));
+  count : Counts (g.S.Sink.taken l.initial.out) (g.S.Sink.taken l.out) 0 l.block.sent;
+  failures : g.S.Sink.failures l.out ≡ g.S.Sink.failures l.initial.out;
+}

@@ -1,0 +1,6 @@
+use Rattle.std.proofs.Common.{◌≡◌, take}
+use Rattle.answers.specs.Sizes.{entry_count}
+use Rattle.answers.proofs.sizes.entry_count.Given as goal
+
+abbrev pub invariant-loop-column : goal.invariant-loop-column
+invariant-loop-column l = l.count ≡ entry_count (take l.column l.program.columns)

@@ -1,0 +1,48 @@
+//! Compiling all groups and writing their programs.
+
+ghost use Rattle.std.specs.Prelude.{◌≡◌, ◌≤◌, [], All, IfErr, OnOk, map};
+ghost use Rattle.std.specs.Io.KnownBytes.{Appends};
+ghost use Rattle.auction_terms.specs.Groups.{has};
+ghost use Rattle.auction_terms.specs.Terms.{lots_in};
+ghost use Rattle.bid_desk.specs.Closing.{book_of};
+ghost use Rattle.mps_text.specs.FaithfulText.{IsFaithfulText};
+ghost use Rattle.mps_text.specs.Text.{text};
+ghost use Rattle.group_compiler.specs.Compiled.{compiled, program_without};
+ghost use Rattle.group_compiler.specs.declared.limits.TheConstants.{MOST_WORKERS};
+ghost use Rattle.answers.specs.GroupTexts.{FailsAsTold, StopsAsTold, programs_bytes};
+
+use crate::group_texts::write_programs;
+use crate::run_fault::RunFault;
+use auction_terms::Groups;
+use bid_desk::ClosedBook;
+use group_compiler::{Gate, compile_all};
+use mps_text::Sink;
+use std::alloc::{AllocError, Global};
+use std::sync::Wait;
+use std::thread::Threads;
+
+/// Compiles all groups with 1 to 64 workers, and writes for each in order a line `* program k NAMES` and the text of its
+/// program. Each point of a text maps back to a feasible allocation of the same total, and each feasible allocation is
+/// matched by a point of at least its total.
+pub fn run_compile<R: Threads + Wait + Sync, G: Gate + Sync, S: Sink>(
+    rt: &R,
+    alloc: Global,
+    book: &ClosedBook,
+    groups: &Groups,
+    workers: usize,
+    gate: &G,
+    out: &mut S,
+) -> Result<(), RunFault>
+    requires some { 1 ≤ workers }
+    requires few { workers ≤ MOST_WORKERS }
+    ensures ok { OnOk result (Appends (S.taken out.old) (S.taken out.new) (programs_bytes book.now (map (compiled book.now) groups.now))) }
+    ensures faithful { All (λ group. IsFaithfulText (lots_in book.now.rules) (book_of book.now) (has group) (text (program_without book.now group))) groups.now }
+    ensures stopped { IfErr result (StopsAsTold book.now (map (compiled book.now) groups.now) (S.taken out.old) (S.taken out.new)) }
+    ensures failed { IfErr result (FailsAsTold (S.failures out.old) (S.failures out.new)) }
+{
+    let _rules = book.rules();
+    match compile_all(rt, alloc, book, groups, workers, gate) {
+        Ok(programs) => write_programs(book, programs.as_slice(), out),
+        Err(AllocError) => Err(RunFault::OutOfMemory { written: 0 }),
+    }
+}

@@ -1,0 +1,33 @@
+//! What the program answers to its words and its input: the text or the report of each command, or the line of a refusal.
+#![tactic(auto)]
+
+mod certified;
+mod commands;
+mod compile_run;
+mod group_texts;
+pub mod laws;
+mod pieces;
+mod report_run;
+mod request;
+mod run_fault;
+mod running;
+mod sizes;
+mod telling;
+#[cfg(test)]
+mod tests;
+mod verifying;
+mod winning;
+
+pub use certified::check_certificates;
+pub use commands::answer;
+pub use compile_run::run_compile;
+pub use group_texts::write_programs;
+pub use pieces::write_pieces;
+pub use report_run::{Won, won_by_groups};
+pub use request::request_of;
+pub use run_fault::RunFault;
+pub use running::run;
+pub use sizes::write_sizes;
+pub use telling::tell;
+pub use verifying::verify;
+pub use winning::allocation_won;

@@ -1,0 +1,186 @@
+//! What the words ask for.
+
+ghost use Rattle.std.specs.Prelude.{◌≡◌, ◌≤◌, IfOk, Ok, false, map};
+ghost use Rattle.clap.specs.Words.{FailsBy, IsPlainArg, app_of, fault_of, found_of, rows_of, rule_of, subcommand_of, subcommand_rows_of};
+ghost use Rattle.answers.specs.Asked.{asked, check_app, compile_app, group, map_app, named, number_of, number_up_to, plain, report_app, text_app, verify_app, wdp, with_programs, with_solutions, workers};
+ghost use Rattle.answers.specs.Requests.{IsWithinLimits};
+
+use auction_input::Request;
+use auction_terms::MOST_GROUPS;
+use clap::{Arg, ArgMatches, Command, Error, value_parser};
+use group_compiler::MOST_WORKERS;
+use std::alloc::{AllocError, Global};
+
+fn group_option<'a>(alloc: Global) -> Arg<'a>
+    ensures rule { rule_of result ≡ group }
+    ensures plain { IsPlainArg result }
+    ensures local { result.global ≡ false }
+{
+    Arg::new(alloc, "group")
+        .long("group")
+        .value_name("K")
+        .help("The group that is left out, counted from 1")
+        .required(true)
+        .value_parser(value_parser!(u64).range(1..=i64::from(MOST_GROUPS)))
+}
+
+fn workers_option<'a>(alloc: Global) -> Arg<'a>
+    ensures rule { rule_of result ≡ workers }
+    ensures plain { IsPlainArg result }
+    ensures local { result.global ≡ false }
+{
+    Arg::new(alloc, "workers")
+        .long("workers")
+        .value_name("N")
+        .help("How many workers compile")
+        .value_parser(value_parser!(u64).range(1..=MOST_WORKERS as i64))
+        .default_value("1")
+}
+
+fn text_command<'a>(alloc: Global) -> Command<'a>
+    ensures { app_of result ≡ text_app }
+{
+    Command::new(alloc, "text").about(
+        "Prints the program of the empty group, as no command does too",
+    )
+}
+
+fn check_command<'a>(alloc: Global) -> Command<'a>
+    ensures { app_of result ≡ check_app }
+{
+    Command::new(alloc, "check").about("Prints the sizes of an MPS text")
+}
+
+fn compile_command<'a>(alloc: Global) -> Result<Command<'a>, AllocError>
+    ensures { IfOk result (λ command. app_of command ≡ compile_app) }
+{
+    Command::new(alloc, "compile")
+        .about("Prints the programs of all groups")
+        .arg(workers_option(alloc))
+}
+
+fn map_command<'a>(alloc: Global) -> Result<Command<'a>, AllocError>
+    ensures { IfOk result (λ command. app_of command ≡ map_app) }
+{
+    Command::new(alloc, "map")
+        .about("Prints what a solution wins")
+        .arg(group_option(alloc))
+}
+
+fn report_command<'a>(alloc: Global) -> Result<Command<'a>, AllocError>
+    ensures { IfOk result (λ command. app_of command ≡ report_app) }
+{
+    Command::new(alloc, "report")
+        .about("Prints what the solutions of all groups win, and the groups' opportunity costs")
+        .arg(workers_option(alloc))
+}
+
+fn verify_command<'a>(alloc: Global) -> Result<Command<'a>, AllocError>
+    ensures { IfOk result (λ command. app_of command ≡ verify_app) }
+{
+    Command::new(alloc, "verify")
+        .about("Prints the report of solutions that certificates show to be optimal")
+        .arg(workers_option(alloc))
+}
+
+// The commands that need no solution.
+fn with_programs<'a>(alloc: Global, wdp: Command<'a>) -> Result<Command<'a>, AllocError>
+    ensures { IfOk result (λ command. app_of command ≡ with_programs (app_of wdp.entry)) }
+{
+    wdp.subcommand(text_command(alloc))?
+        .subcommand(compile_command(alloc)?)?
+        .subcommand(check_command(alloc))
+}
+
+// The commands that take solutions.
+fn with_solutions<'a>(alloc: Global, wdp: Command<'a>) -> Result<Command<'a>, AllocError>
+    ensures { IfOk result (λ command. app_of command ≡ with_solutions (app_of wdp.entry)) }
+{
+    wdp.subcommand(map_command(alloc)?)?
+        .subcommand(report_command(alloc)?)?
+        .subcommand(verify_command(alloc)?)
+}
+
+// What stands below the options in the help.
+const EXAMPLE: &str =
+    "Example: wdp compile --workers 4 < examples/worked.txt\n\nThe manual: man docs/wdp.1; the formats: docs/FORMATS.md; each refusal: docs/FAULTS.md";
+
+fn plain_command<'a>(alloc: Global) -> Command<'a>
+    ensures { app_of result ≡ plain }
+{
+    Command::new(alloc, "wdp")
+        .about("Compiles the winner determination of a combinatorial clock auction")
+        .version("1.0.0")
+        .after_help(EXAMPLE)
+}
+
+fn command<'a>(alloc: Global) -> Result<Command<'a>, AllocError>
+    ensures { IfOk result (λ command. app_of command ≡ wdp) }
+{
+    with_solutions(alloc, with_programs(alloc, plain_command(alloc))?)
+}
+
+// The number that a text writes, from 1 to the most; of any other text 1. The parser has tested it to be within.
+fn number_up_to(most: usize, text: &str) -> usize
+    ensures number { result ≡ number_up_to most text.now }
+    ensures least { 1 ≤ result }
+    ensures most { 1 ≤ most → result ≤ most }
+{
+    match text.parse::<usize>() {
+        Ok(number) if 1 <= number && number <= most => number,
+        _ => 1,
+    }
+}
+
+// The number that an option has.
+fn number_of(matches: &ArgMatches<'_>, id: &str, most: usize) -> usize
+    ensures number { result ≡ number_of id.now most (rows_of (found_of matches.now)) }
+    ensures least { 1 ≤ result }
+    ensures most { 1 ≤ most → result ≤ most }
+{
+    match matches.get_str(id) {
+        Some(text) => number_up_to(most, text),
+        None => 1,
+    }
+}
+
+// The request of the command that was found.
+fn read(matches: &ArgMatches<'_>) -> Request
+    ensures request { result ≡ named (subcommand_rows_of matches.now) }
+    ensures limits { IsWithinLimits result }
+{
+    match matches.subcommand() {
+        Some(("compile", found)) => Request::Compile {
+            workers: number_of(found, "workers", MOST_WORKERS),
+        },
+        Some(("check", _)) => Request::Check,
+        Some(("map", found)) => Request::Map {
+            group: number_of(found, "group", MOST_GROUPS as usize),
+        },
+        Some(("report", found)) => Request::Report {
+            workers: number_of(found, "workers", MOST_WORKERS),
+        },
+        Some(("verify", found)) => Request::Verify {
+            workers: number_of(found, "workers", MOST_WORKERS),
+        },
+        _ => Request::Text,
+    }
+}
+
+// What the parser makes of the words.
+fn matches_of<'a>(alloc: Global, words: &'a [&'a str]) -> Result<ArgMatches<'a>, Error>
+    ensures faults { FailsBy (fault_of wdp (map (λ word. word.now) words.entry.now)) result }
+    ensures subcommand { IfOk result (λ m. subcommand_rows_of m ≡ subcommand_of wdp (map (λ word. word.now) words.entry.now)) }
+{
+    command(alloc)?.try_get_matches_from(words)
+}
+
+/// The request of the words, the program's own name first.
+pub fn request_of<'a>(alloc: Global, words: &'a [&'a str]) -> Result<Request, Error>
+    ensures request { IfOk result (λ request. asked (map (λ word. word.now) words.entry.now) ≡ Ok request) }
+    ensures faults { FailsBy (fault_of wdp (map (λ word. word.now) words.entry.now)) result }
+    ensures limits { IfOk result IsWithinLimits }
+{
+    let matches = matches_of(alloc, words)?;
+    Ok(read(&matches))
+}

@@ -1,0 +1,44 @@
+//! The sizes of a program.
+
+ghost use Rattle.std.specs.Prelude.{◌≡◌, IfErr, OnErr, OnOk};
+ghost use Rattle.std.specs.Io.KnownBytes.{Appends};
+ghost use Rattle.mps_text.specs.Sinks.{HasFailed, SentFront};
+ghost use Rattle.mps_text.specs.Written.{written_of};
+ghost use Rattle.answers.specs.Sizes.{entry_count, sizes_text};
+
+use crate::pieces::write_pieces;
+use itoa::Buffer;
+use mps_text::{Sink, WriteFault};
+use program_rows::Program;
+
+// How many entries the columns have outside the objective.
+fn entry_count(program: &Program) -> u64
+    ensures { result ≡ entry_count program.now.columns }
+{
+    let mut count: u64 = 0;
+    for column in 0..program.column_count() {
+        count = count.saturating_add(program.entries(column).len() as u64);
+    }
+    count
+}
+
+/// Writes how many rows beside the objective, columns and entries outside the objective there are. It takes no memory.
+pub fn write_sizes<S: Sink>(program: &Program, out: &mut S) -> Result<(), WriteFault>
+    ensures ok { OnOk result (Appends (S.taken out.old) (S.taken out.new) (sizes_text program.now)) }
+    ensures err { IfErr result (λ e. SentFront (S.taken out.old) (S.taken out.new) (sizes_text program.now) (written_of e)) }
+    ensures failed { OnErr result (HasFailed (S.failures out.old) (S.failures out.new)) }
+{
+    let mut rows = Buffer::new();
+    let mut columns = Buffer::new();
+    let mut entries = Buffer::new();
+    let pieces: [&[u8]; 7] = [
+        b"rows ",
+        rows.format(program.row_count() as u64).as_bytes(),
+        b" columns ",
+        columns.format(program.column_count() as u64).as_bytes(),
+        b" entries ",
+        entries.format(entry_count(program)).as_bytes(),
+        b"\n",
+    ];
+    write_pieces(&pieces, out)
+}

@@ -1,0 +1,248 @@
+//! What a run answers and leaves where its words are wrong, and where its input or its output fails at any byte.
+
+use crate::compile_run::run_compile;
+use crate::run_fault::RunFault;
+use crate::running::run;
+use auction_input::{Auction, Request, Source, read_auction};
+use group_compiler::OpenGate;
+use mps_text::{LimitSink, MemorySink};
+use std::alloc::Global;
+use std::io;
+use std::io::Read;
+use std::sync::Wait;
+use std::test::Fail;
+use std::thread::Threads;
+
+const ONE_FORM: &[u8] =
+    b"%rules\nrules,1,1,,\ncategory,A,2,10,1\ncategory,B,1,5,1\nbidder,Alpha,9,2,\nbidder,Beta,9,1,\nbidder,Gamma,9,1,\n%form\nGamma,A,B\n12,0,1\n";
+
+const ONE_FORM_TEXT: &[u8] =
+    b"NAME wdp\nROWS\n N OBJ\n L B3\n L C1\n L C2\nCOLUMNS\n M1 'MARKER' 'INTORG'\n X3_1 OBJ -12\n X3_1 B3 1\n X3_1 C2 1\n M2 'MARKER' 'INTEND'\nRHS\n RHS B3 1\n RHS C1 2\n RHS C2 1\nBOUNDS\n UP BND X3_1 1\nENDATA\n";
+
+const TWO_GROUPS: &[u8] =
+    b"%rules\nrules,1,1,,\ncategory,A,2,10,1\ncategory,B,1,5,1\nbidder,Alpha,9,2,\nbidder,Beta,9,1,\nbidder,Gamma,9,1,\n%form\nGamma,A,B\n12,0,1\n%groups\nGamma\n-\n";
+
+/// 90 bytes of the first group, and 204 of the second one.
+const TWO_PROGRAMS: &[u8] =
+    b"* program 1 Gamma\nNAME wdp\nROWS\n N OBJ\n L C1\n L C2\nCOLUMNS\nRHS\n RHS C1 2\n RHS C2 1\nENDATA\n* program 2 -\nNAME wdp\nROWS\n N OBJ\n L B3\n L C1\n L C2\nCOLUMNS\n M1 'MARKER' 'INTORG'\n X3_1 OBJ -12\n X3_1 B3 1\n X3_1 C2 1\n M2 'MARKER' 'INTEND'\nRHS\n RHS B3 1\n RHS C1 2\n RHS C2 1\nBOUNDS\n UP BND X3_1 1\nENDATA\n";
+
+const SOLVED: &[u8] =
+    b"%rules\nrules,1,1,,\ncategory,A,2,10,1\ncategory,B,1,5,1\nbidder,Alpha,9,2,\nbidder,Beta,9,1,\nbidder,Gamma,9,1,\n%form\nAlpha,A,B\n30,1,0\n50,2,1\n28,1,1\n%form\nBeta,A,B\n20,1,0\n45,3,0\n%form\nGamma,A,B\n12,0,1\n%groups\n-\n%solution\nX1_1 0.999999\nX2_1 1\nX3_1 1\n";
+
+const WINNERS: &[u8] = b"Alpha 1 30\nBeta 1 20\nGamma 1 12\ntotal 62\n";
+
+const SOLVED_TWICE: &[u8] =
+    b"%rules\nrules,1,1,,\ncategory,A,2,10,1\ncategory,B,1,5,1\nbidder,Alpha,9,2,\nbidder,Beta,9,1,\nbidder,Gamma,9,1,\n%form\nAlpha,A,B\n30,1,0\n50,2,1\n28,1,1\n%form\nBeta,A,B\n20,1,0\n45,3,0\n%form\nGamma,A,B\n12,0,1\n%groups\n-\nBeta\n%solution\nX1_1 0.999999\nX2_1 1\nX3_1 1\n%solution\nX1_2 1\n";
+
+const REPORT: &[u8] =
+    b"group 1 -\nAlpha 1 30\nBeta 1 20\nGamma 1 12\ntotal 62\ncost 0\ngroup 2 Beta\nAlpha 2 50\ntotal 50\ncost 8\n";
+
+/// Gives its bytes one by one, and fails once it was asked for more than `room` of them.
+#[derive(Drop)]
+struct LimitReader {
+    rest: &'static [u8],
+    room: usize,
+}
+
+impl Read for LimitReader {
+    fn read(&mut self, buf: &mut [u8]) -> io::Result<usize> {
+        if self.room == 0 {
+            return Err(io::ErrorKind::Other.into());
+        }
+        self.room -= 1;
+        match (self.rest.split_first(), buf.first_mut()) {
+            (Some((byte, rest)), Some(place)) => {
+                *place = *byte;
+                self.rest = rest;
+                Ok(1)
+            }
+            _ => Ok(0),
+        }
+    }
+}
+
+/// Fills whatever it is asked to, without an end.
+#[derive(Drop)]
+struct Endless {
+    given: usize,
+}
+
+impl Read for Endless {
+    fn read(&mut self, buf: &mut [u8]) -> io::Result<usize> {
+        self.given = self.given.saturating_add(buf.len());
+        Ok(buf.len())
+    }
+}
+
+/// Whether a run, whose output is to be `whole`, ends as it has to on a sink that takes so many bytes a put and has so
+/// much room: the output's front went out, and the line tells how many bytes of it.
+fn ends_as_told<'w, R: Threads + Wait + Sync + AllocGlobal>(
+    rt: &R,
+    words: &'w [&'w str],
+    input: &[u8],
+    whole: &[u8],
+    room: usize,
+    most: usize,
+) -> Result<bool, Fail> {
+    let alloc: Global = rt.alloc();
+    let mut input = Source::new(input);
+    let mut out = LimitSink::new(alloc, room, most);
+    let mut faults = MemorySink::new(alloc);
+    let status = run(rt, words, &mut input, &mut out, &mut faults);
+    if room >= whole.len() {
+        return Ok(status == 0 && out.bytes() == whole && faults.bytes().is_empty());
+    }
+    let line = format!(in alloc; "wdp: write failed after {room} bytes\n")?;
+    Ok(status == 1 && out.bytes() == &whole[..room] && faults.bytes() == line.as_bytes())
+}
+
+#[test]
+fn a_failing_input_is_refused_at_every_byte(rt: HostRuntime) -> Result<(), Fail> {
+    assert_eq!(rt; ONE_FORM.len(), 130);
+    for room in 0..131usize {
+        let mut input = Source::new(LimitReader {
+            rest: ONE_FORM,
+            room,
+        });
+        let mut out = MemorySink::new(rt.alloc());
+        let mut faults = MemorySink::new(rt.alloc());
+        assert_eq!(rt; run(&rt, &["wdp"], &mut input, &mut out, &mut faults), 1);
+        assert_eq!(rt; faults.bytes(), b"wdp: input: read failed\n".as_slice());
+        assert_eq!(rt; out.bytes().len(), 0);
+    }
+    Ok(())
+}
+
+#[test]
+fn an_input_without_an_end_is_refused(rt: HostRuntime) -> Result<(), Fail> {
+    let mut input = Source::new(Endless { given: 0 });
+    let mut out = MemorySink::new(rt.alloc());
+    let mut faults = MemorySink::new(rt.alloc());
+    assert_eq!(rt; run(&rt, &["wdp"], &mut input, &mut out, &mut faults), 1);
+    assert_eq!(rt; faults.bytes(), b"wdp: input: too large\n".as_slice());
+    assert_eq!(rt; out.bytes().len(), 0);
+    assert_eq!(rt; input.reader.given, 134_217_729);
+    Ok(())
+}
+
+#[test]
+fn a_text_fails_at_every_byte(rt: HostRuntime) -> Result<(), Fail> {
+    for room in 0..191usize {
+        let ended = ends_as_told(&rt, &["wdp", "text"], ONE_FORM, ONE_FORM_TEXT, room, 7)?;
+        assert!(rt; ended, "at {room}");
+    }
+    assert!(rt; ends_as_told(&rt, &["wdp"], ONE_FORM, ONE_FORM_TEXT, 12, 3)?);
+    assert!(rt; ends_as_told(&rt, &[], ONE_FORM, ONE_FORM_TEXT, 190, 7)?);
+    Ok(())
+}
+
+#[test]
+fn programs_fail_at_every_byte(rt: HostRuntime) -> Result<(), Fail> {
+    let words: [&str; 4] = ["wdp", "compile", "--workers", "2"];
+    for room in 0..295usize {
+        let ended = ends_as_told(&rt, &words, TWO_GROUPS, TWO_PROGRAMS, room, 7)?;
+        assert!(rt; ended, "at {room}");
+    }
+    Ok(())
+}
+
+#[test]
+fn winners_fail_at_every_byte(rt: HostRuntime) -> Result<(), Fail> {
+    let words: [&str; 4] = ["wdp", "map", "--group", "1"];
+    for room in 0..42usize {
+        let ended = ends_as_told(&rt, &words, SOLVED, WINNERS, room, 7)?;
+        assert!(rt; ended, "at {room}");
+    }
+    Ok(())
+}
+
+#[test]
+fn a_report_fails_at_every_byte(rt: HostRuntime) -> Result<(), Fail> {
+    let words: [&str; 4] = ["wdp", "report", "--workers", "64"];
+    for room in 0..102usize {
+        let ended = ends_as_told(&rt, &words, SOLVED_TWICE, REPORT, room, 7)?;
+        assert!(rt; ended, "at {room}");
+    }
+    Ok(())
+}
+
+/// The fault of two programs on a sink with so much room, where its front went out.
+fn fault_at<R: Threads + Wait + Sync>(
+    rt: &R,
+    alloc: Global,
+    auction: &Auction<'_>,
+    room: usize,
+) -> Option<RunFault> {
+    let mut out = LimitSink::new(alloc, room, 7);
+    let Auction { book, groups, .. } = auction;
+    let ended = run_compile(rt, alloc, book, groups, 2, &OpenGate, &mut out);
+    if room < TWO_PROGRAMS.len() && out.bytes() == &TWO_PROGRAMS[..room] {
+        ended.err()
+    } else {
+        None
+    }
+}
+
+#[test]
+fn a_fault_names_the_group_of_the_next_byte(rt: HostRuntime) -> Result<(), Fail> {
+    let request = Request::Compile { workers: 2 };
+    let auction = read_auction(&rt, &request, TWO_GROUPS)
+        .ok()
+        .ok_or("auction")?;
+    for room in 0..294usize {
+        let group = if room < 90 { 1 } else { 2 };
+        let written = room as u64;
+        let told = RunFault::Sink { group, written };
+        assert_eq!(rt; fault_at(&rt, rt.alloc(), &auction, room), Some(told));
+    }
+    Ok(())
+}
+
+#[test]
+fn wrong_words_are_refused(rt: HostRuntime) -> Result<(), Fail> {
+    let rows: [&[&str]; 5] = [
+        &["wdp", "solve"],
+        &["wdp", "map"],
+        &["wdp", "compile", "--workers", "65"],
+        &["wdp", "report", "--workers", "0"],
+        &["wdp", "map", "--group", "1025"],
+    ];
+    for words in rows {
+        let mut input = Source::new(LimitReader { rest: b"", room: 0 });
+        let mut out = MemorySink::new(rt.alloc());
+        let mut faults = MemorySink::new(rt.alloc());
+        assert_eq!(rt; run(&rt, words, &mut input, &mut out, &mut faults), 2);
+        assert_eq!(rt; out.bytes().len(), 0);
+        assert!(rt; faults.bytes().len() > 0);
+    }
+    Ok(())
+}
+
+#[test]
+fn help_goes_to_the_output(rt: HostRuntime) -> Result<(), Fail> {
+    let mut input = Source::new(LimitReader { rest: b"", room: 0 });
+    let mut out = MemorySink::new(rt.alloc());
+    let mut faults = MemorySink::new(rt.alloc());
+    assert_eq!(rt;
+        run(&rt, &["wdp", "--help"], &mut input, &mut out, &mut faults),
+        0
+    );
+    assert!(rt; out.bytes().len() > 0);
+    assert_eq!(rt; faults.bytes().len(), 0);
+    Ok(())
+}
+
+#[test]
+fn a_refused_line_changes_no_status(rt: HostRuntime) -> Result<(), Fail> {
+    let mut input = Source::new(b"".as_slice());
+    let mut out = MemorySink::new(rt.alloc());
+    let mut faults = LimitSink::new(rt.alloc(), 5, 3);
+    assert_eq!(rt; run(&rt, &["wdp"], &mut input, &mut out, &mut faults), 1);
+    assert_eq!(rt; faults.bytes(), b"wdp: ".as_slice());
+    assert_eq!(rt;
+        run(&rt, &["wdp", "solve"], &mut input, &mut out, &mut faults),
+        2
+    );
+    assert_eq!(rt; out.bytes().len(), 0);
+    Ok(())
+}

@@ -1,0 +1,81 @@
+//! What a solution wins.
+
+ghost use Rattle.std.specs.Prelude.{◌≡◌, IfErr, IfOk, Ok};
+ghost use Rattle.auction_terms.specs.Allocations.{IsFeasible};
+ghost use Rattle.auction_terms.specs.Groups.{has};
+ghost use Rattle.auction_terms.specs.Terms.{lots_in};
+ghost use Rattle.bid_desk.specs.Closing.{book_of};
+ghost use Rattle.program_rows.specs.Faithful.{IsFaithful};
+ghost use Rattle.auction_input.specs.Refused.{Refuses, refused};
+ghost use Rattle.answers.specs.Winners.{column_name, row_name, solution_refused, winners_by};
+
+use auction_input::Refusal;
+use auction_terms::Group;
+use bid_desk::ClosedBook;
+use outcome::{Allocation, SolutionFault, map_back, read_solution};
+use program_rows::Program;
+use std::alloc::{AllocError, Global};
+
+/// The allocation that a solution of a group's program wins. The solution is told by its number, from 1.
+pub fn allocation_won(
+    alloc: Global,
+    book: &ClosedBook,
+    group: &Group,
+    program: &Program,
+    solution: usize,
+    text: &[u8],
+) -> Result<Allocation, Refusal>
+    requires { IsFaithful (lots_in book.now.rules) (book_of book.now) (has group.now) program.now }
+    ensures feasible { IfOk result (λ a. IsFeasible (lots_in book.now.rules) (book_of book.now) (has group.now) a) }
+    ensures won { IfOk result (λ a. winners_by program.now solution text.now ≡ Ok a) }
+    ensures refuses { IfErr result (Refuses (winners_by program.now solution text.now)) }
+{
+    match read_solution(alloc, text, program) {
+        Ok(point) => Ok(map_back(alloc, program, &point)?),
+        Err(fault) => Err(refused(alloc, program, solution, fault)?),
+    }
+}
+
+// A fault of a solution, with the name of what it breaks.
+fn refused(
+    alloc: Global,
+    program: &Program,
+    solution: usize,
+    fault: SolutionFault,
+) -> Result<Refusal, AllocError>
+    ensures { IfOk result (λ r. refused r ≡ solution_refused program.now solution fault) }
+{
+    match fault {
+        SolutionFault::BoundBroken { column } => {
+            let column = Vec::from_slice(alloc, column_name(program, column))?;
+            Ok(Refusal::BoundBroken { solution, column })
+        }
+        SolutionFault::RowBroken { row } => {
+            let row = Vec::from_slice(alloc, row_name(program, row))?;
+            Ok(Refusal::RowBroken { solution, row })
+        }
+        _ => Ok(Refusal::Solution { solution, fault }),
+    }
+}
+
+// The name of a column; where there is none, no name.
+fn column_name(program: &Program, column: usize) -> &[u8]
+    ensures { result.now ≡ column_name program.now column }
+{
+    if column < program.column_count() {
+        program.column_name(column)
+    } else {
+        b"".as_slice()
+    }
+}
+
+// The name of a row; where there is none, no name.
+fn row_name(program: &Program, row: usize) -> &[u8]
+    ensures { result.now ≡ row_name program.now row }
+{
+    if row < program.row_count() {
+        program.row_name(row)
+    } else {
+        b"".as_slice()
+    }
+}

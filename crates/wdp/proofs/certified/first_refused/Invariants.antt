@@ -1,5 +1,0 @@
-use Rattle.std.proofs.Common.{◌≡◌, Ok, replicate, take}
-use Rattle.wdp.proofs.certified.first_refused.Given as goal
-
-abbrev pub invariant-loop-place : goal.invariant-loop-place
-invariant-loop-place l = take l.place l.verdicts ≡ replicate l.place (Ok tt)

@@ -1,4 +1,0 @@
-use Rattle.wdp.proofs.run.answer_request.Goals as goal
-
-pub returns-in-Err-clause-refused : goal.returns-in-Err-clause-refused
-returns-in-Err-clause-refused g c = λ one. (c.in-Err.refusal, c.in-Err.ensures.refused, c.tell.ensures)

@@ -1,7 +1,0 @@
-use Rattle.std.proofs.Common.{Ok, refl}
-use Rattle.auction_input.specs.declared.refusal.Refusal.TheVariants as refusal
-use Rattle.wdp.proofs.CommandFacts.{cut-short}
-use Rattle.wdp.proofs.run.show.Goals as goal
-
-pub returns-in-Err-clause-refused : goal.returns-in-Err-clause-refused
-returns-in-Err-clause-refused g c = λ one. (refusal.Write c.in-Err.fault, (_, cut-short (Ok _) _ _ _ _ _ c.in-Err.fault refl c.in-Err.ensures.err c.in-Err.ensures.failed), c.tell.ensures)

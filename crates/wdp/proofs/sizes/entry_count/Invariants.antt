@@ -1,6 +1,0 @@
-use Rattle.std.proofs.Common.{◌≡◌, take}
-use Rattle.wdp.specs.Sizes.{entry_count}
-use Rattle.wdp.proofs.sizes.entry_count.Given as goal
-
-abbrev pub invariant-loop-column : goal.invariant-loop-column
-invariant-loop-column l = l.count ≡ entry_count (take l.column l.program.columns)
