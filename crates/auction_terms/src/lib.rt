@@ -38,6 +38,3 @@ pub use records::RecordReader;
 pub use rules::{Bidder, Category, Pool, Rules};
 pub use rules_text::{RulesFault, field, read_rules};
 pub use weights::Weights;
-
-#[cfg(test)]
-mod tests;

@@ -23,6 +23,3 @@ pub use records::CALL_LIMIT;
 pub use reply::Reply;
 pub use standing::Standing;
 pub use step::StepError;
-
-#[cfg(test)]
-mod tests;

@@ -24,6 +24,3 @@ pub use open::OpenError;
 pub use round::Round;
 pub use session::Session;
 pub use settle::{Cause, Unsettled};
-
-#[cfg(test)]
-mod tests;

@@ -19,6 +19,3 @@ pub use compiling::compile_one;
 pub use gate::{Gate, OpenGate};
 pub use limits::{ALL_DRAWS, MOST_WORKERS, WORKER_DRAWS};
 pub use pool::compile_all;
-
-#[cfg(test)]
-mod tests;

@@ -33,8 +33,6 @@ mod row_table;
 mod rows;
 mod sections;
 mod senses;
-#[cfg(test)]
-mod tests;
 mod values;
 mod words;
 

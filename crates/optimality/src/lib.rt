@@ -30,6 +30,3 @@ mod terms;
 pub use fault::{CertificateFault, FaultKind};
 pub use optimum::check_optimum;
 pub use reader::check_certificate;
-
-#[cfg(test)]
-mod tests;

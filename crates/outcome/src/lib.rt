@@ -29,6 +29,3 @@ pub use limits::{SOLUTION_LIMIT, TOLERANCE_PARTS};
 pub use reading::read_solution;
 pub use winning::map_back;
 pub use writing::{report, write_allocation};
-
-#[cfg(test)]
-mod tests;

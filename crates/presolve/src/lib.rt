@@ -12,6 +12,3 @@ mod shelves;
 pub use flags::Flags;
 pub use keeping::kept;
 pub use order::by_size;
-
-#[cfg(test)]
-mod tests;

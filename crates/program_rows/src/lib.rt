@@ -45,6 +45,3 @@ pub use same::same_program;
 pub use token::read_token;
 pub use token_fault::TokenFault;
 pub use token_parts::TokenParts;
-
-#[cfg(test)]
-mod tests;

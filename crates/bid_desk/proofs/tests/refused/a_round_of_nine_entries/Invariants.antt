@@ -1,7 +1,0 @@
-use Rattle.bid_desk.proofs.tests.refused.a_round_of_nine_entries.Given as goal
-
-abbrev pub ghosts-round-L-Ledger : goal.ghosts-round-L-Ledger
-ghosts-round-L-Ledger g a = record { name = a.blank.name; parts = a.blank.parts }
-
-abbrev pub ghosts-round-L-Round : goal.ghosts-round-L-Round
-ghosts-round-L-Round g a = record { rules = a.rules; part_count = a.blank.parts }

@@ -1,0 +1,255 @@
+ghost use Rattle.std.specs.Prelude.{◌≡◌, ◌+◌, IfOk};
+ghost use Rattle.auction_terms.specs.Terms.{session_count};
+
+use auction_terms::{Rules, read_rules};
+use bid_book::{Entry, Reply};
+use bid_desk::{ClosedBook, Desk, Round, Session};
+use bid_forms::{Form, read_form};
+use std::alloc::Global;
+use std::marker::Brand;
+use std::sync::ledger::Blank;
+use std::sync::{Arc, Wait};
+use std::test::Fail;
+use std::thread;
+use std::thread::Threads;
+
+mod raced;
+mod refused;
+
+const RULES: &[u8] =
+    b"rules,1,1,,\ncategory,A,2,10,1\ncategory,B,1,5,1\nbidder,Alpha,9,2,\nbidder,Beta,9,1,\nbidder,Gamma,9,1,\n";
+
+const ALPHA: &[u8] = b"Alpha,A,B\n30,1,0\n50,2,1\n28,1,1\n";
+
+fn alpha(alloc: Global, rules: &Rules) -> Result<Arc<Form, Global>, Fail> {
+    Ok(Arc::new(alloc, read_form(alloc, ALPHA, rules)?)?)
+}
+
+/// A ledger of as many parts as a desk needs.
+fn blank(rules: &Rules) -> Result<Blank, Fail>
+    ensures { IfOk result (λ blank. blank.parts ≡ session_count rules.now + 1) }
+{
+    let parts = (rules.session_count() as u64)
+        .checked_add(1)
+        .ok_or("parts")?;
+    Ok(Blank::new(parts))
+}
+
+/// Whether the replies of a history are these, in order.
+fn replies_are(history: &[Entry], replies: &[Reply]) -> bool {
+    history.len() == replies.len()
+        && (0..replies.len()).all(|place| history[place].reply.is_same(&replies[place]))
+}
+
+/// Submits a form through a session of its bidder, whatever the answer.
+fn submit<L: Round, R: Wait>(
+    rt: &R,
+    desk: &Desk<L>,
+    session: &mut Session<L>,
+    form: &Arc<Form, Global>,
+) {
+    if form.bidder() == session.bidder() && form.meets(desk.rules()) {
+        let _ = desk.enter(rt).submit(session, form, None);
+    }
+}
+
+/// The first two sessions submit, each on its own thread.
+fn both_submit<L: Round + Send + Sync, R: Threads + Wait + Sync>(
+    rt: &R,
+    desk: &Desk<L>,
+    sessions: &mut [Session<L>],
+    form: &Arc<Form, Global>,
+) {
+    if sessions.len() < 2 {
+        return;
+    }
+    let (first, second) = sessions.split_at_mut(1);
+    thread::join(
+        rt,
+        || submit(rt, desk, &mut first[0], form),
+        || submit(rt, desk, &mut second[0], form),
+    );
+}
+
+/// Each of the first two sessions withdraws over 1, each on its own thread.
+fn both_submit_and_withdraw<L: Round + Send + Sync, R: Threads + Wait + Sync>(
+    rt: &R,
+    desk: &Desk<L>,
+    sessions: &mut [Session<L>],
+    form: &Arc<Form, Global>,
+) {
+    if sessions.len() < 2 {
+        return;
+    }
+    let (first, second) = sessions.split_at_mut(1);
+    thread::join(
+        rt,
+        || submit_and_withdraw(rt, desk, &mut first[0], form),
+        || submit_and_withdraw(rt, desk, &mut second[0], form),
+    );
+}
+
+fn submit_and_withdraw<L: Round, R: Wait>(
+    rt: &R,
+    desk: &Desk<L>,
+    session: &mut Session<L>,
+    form: &Arc<Form, Global>,
+) {
+    submit(rt, desk, session, form);
+    let _ = desk.enter(rt).withdraw(session, 1);
+}
+
+/// Both sessions of the first bidder submit, the chair closes, and the desk is settled.
+fn submitted<L: Round + Send + Sync, R: Threads + Wait + Sync>(
+    rt: &R,
+    alloc: Global,
+    blank: Blank,
+    rules: Rules,
+    form: &Arc<Form, Global>,
+) -> Option<ClosedBook>
+    requires name { blank.name ≡ L.name }
+    requires parts { blank.parts ≡ L.parts }
+    requires part_count { (blank.parts ≡ L.part_count) × (L.part_count ≡ session_count rules + 1) }
+    requires rules { rules ≡ L.rules }
+{
+    let Ok((desk, mut chair, mut sessions)) = Desk::<L>::open(alloc, blank, rules) else {
+        return None;
+    };
+    both_submit(rt, &desk, &mut sessions, form);
+    let _ = desk.enter(rt).close(&mut chair);
+    desk.stop().settle(alloc, chair, sessions).ok()
+}
+
+#[test]
+fn both_sessions_submit(rt: HostRuntime) -> Result<(), Fail> {
+    let rules = read_rules(rt.alloc(), RULES)?;
+    let form = alpha(rt.alloc(), &rules)?;
+    let blank = blank(&rules)?;
+    let closed = submitted::<Brand, _>(&rt, rt.alloc(), blank, rules, &form).ok_or("settled")?;
+    assert!(rt;
+        replies_are(
+            closed.history(),
+            &[
+                Reply::Accepted { number: 1 },
+                Reply::Stale { standing: Some(1) },
+                Reply::Closed { was_open: true },
+            ],
+        )
+    );
+    assert!(rt; closed.form(1).is_some_and(|stands| stands.is_same(&form)));
+    Ok(())
+}
+
+/// The same, where each of the two sessions then withdraws over 1.
+fn withdrawn<L: Round + Send + Sync, R: Threads + Wait + Sync>(
+    rt: &R,
+    alloc: Global,
+    blank: Blank,
+    rules: Rules,
+    form: &Arc<Form, Global>,
+) -> Option<ClosedBook>
+    requires name { blank.name ≡ L.name }
+    requires parts { blank.parts ≡ L.parts }
+    requires part_count { (blank.parts ≡ L.part_count) × (L.part_count ≡ session_count rules + 1) }
+    requires rules { rules ≡ L.rules }
+{
+    let Ok((desk, mut chair, mut sessions)) = Desk::<L>::open(alloc, blank, rules) else {
+        return None;
+    };
+    both_submit_and_withdraw(rt, &desk, &mut sessions, form);
+    let _ = desk.enter(rt).close(&mut chair);
+    desk.stop().settle(alloc, chair, sessions).ok()
+}
+
+#[test]
+fn both_sessions_submit_and_withdraw(rt: HostRuntime) -> Result<(), Fail> {
+    let rules = read_rules(rt.alloc(), RULES)?;
+    let form = alpha(rt.alloc(), &rules)?;
+    let blank = blank(&rules)?;
+    let closed = withdrawn::<Brand, _>(&rt, rt.alloc(), blank, rules, &form).ok_or("settled")?;
+    let one_after_the_other = [
+        Reply::Accepted { number: 1 },
+        Reply::Withdrawn { number: 2 },
+        Reply::Accepted { number: 3 },
+        Reply::Stale { standing: Some(3) },
+        Reply::Closed { was_open: true },
+    ];
+    let both_first = [
+        Reply::Accepted { number: 1 },
+        Reply::Stale { standing: Some(1) },
+        Reply::Withdrawn { number: 2 },
+        Reply::Stale { standing: None },
+        Reply::Closed { was_open: true },
+    ];
+    assert!(rt;
+        replies_are(closed.history(), &one_after_the_other)
+            || replies_are(closed.history(), &both_first)
+    );
+    Ok(())
+}
+
+/// Shows 500 times by each of the first two sessions, and once more by the first.
+fn show_to_the_limit<L: Round, R: Wait>(
+    rt: &R,
+    desk: &Desk<L>,
+    sessions: &mut [Session<L>],
+) -> Option<Reply> {
+    if sessions.len() < 2 {
+        return None;
+    }
+    for _ in 0..500 {
+        let _ = desk.enter(rt).show(&mut sessions[0]);
+        let _ = desk.enter(rt).show(&mut sessions[1]);
+    }
+    desk.enter(rt).show(&mut sessions[0]).ok()
+}
+
+/// A round in which the first bidder comes to the limit, and the last one submits.
+fn at_the_limit<L: Round, R: Wait>(
+    rt: &R,
+    alloc: Global,
+    blank: Blank,
+    rules: Rules,
+    form: &Arc<Form, Global>,
+) -> Option<(Reply, ClosedBook)>
+    requires name { blank.name ≡ L.name }
+    requires parts { blank.parts ≡ L.parts }
+    requires part_count { (blank.parts ≡ L.part_count) × (L.part_count ≡ session_count rules + 1) }
+    requires rules { rules ≡ L.rules }
+{
+    let Ok((desk, mut chair, mut sessions)) = Desk::<L>::open(alloc, blank, rules) else {
+        return None;
+    };
+    let last = show_to_the_limit(rt, &desk, &mut sessions)?;
+    for session in &mut sessions {
+        submit(rt, &desk, session, form);
+    }
+    let _ = desk.enter(rt).close(&mut chair);
+    let closed = desk.stop().settle(alloc, chair, sessions).ok()?;
+    Some((last, closed))
+}
+
+/// Whether a session came to the limit of its calls, and the form that another one submitted stands at the end.
+fn ends_at_the_limit(last: &Reply, closed: &ClosedBook) -> bool {
+    let history = closed.history();
+    match history.get(1000) {
+        Some(entry) => {
+            last.is_same(&Reply::CallLimit)
+                && history.len() == 1002
+                && entry.reply.is_same(&Reply::Accepted { number: 1 })
+        }
+        None => false,
+    }
+}
+
+#[test]
+fn most_calls_settle(rt: HostRuntime) -> Result<(), Fail> {
+    let rules = read_rules(rt.alloc(), RULES)?;
+    let form = read_form(rt.alloc(), b"Gamma,A,B\n12,0,1\n", &rules)?;
+    let form = Arc::new(rt.alloc(), form)?;
+    let blank = blank(&rules)?;
+    let settled = at_the_limit::<Brand, _>(&rt, rt.alloc(), blank, rules, &form);
+    let (last, closed) = settled.ok_or("settled")?;
+    assert!(rt; ends_at_the_limit(&last, &closed));
+    Ok(())
+}

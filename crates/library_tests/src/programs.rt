@@ -1,0 +1,88 @@
+use auction_terms::{Choice, Kept, read_rules};
+use mps_reader::read_program;
+use program_rows::{Bounds, Columns, Point, build, same_program};
+use std::test::Fail;
+
+mod refused;
+
+const TWO_BIDS: &[u8] =
+    b"NAME\nROWS\n N OBJ\n L C1\nCOLUMNS\n X256_4000 C1 1\n X01_1 C1 1\nRHS\nBOUNDS\n BV BND X256_4000\n BV BND X01_1\nENDATA\n";
+
+const RULES: &[u8] = b"rules,1,1,,\ncategory,A,2,10,1\ncategory,B,1,5,1\nbidder,Alpha,9,2,\n";
+
+const WITH_VALUES: &[u8] =
+    b"rules,2,1,,,\ncategory,A,2,10,1,40\ncategory,B,1,5,1,0\nbidder,Alpha,9,2,,\n";
+
+const WITH_POOLS: &[u8] =
+    b"rules,3,1,,,\ncategory,A,2,10,1,0\ncategory,B,1,5,1,0\npool,Low,2,,,\nmember,Low,A,1,,\nmember,Low,B,1,,\nbidder,Alpha,9,2,,\n";
+
+#[test]
+fn without_bids_the_categories_have_their_rows(rt: HostRuntime) -> Result<(), Fail> {
+    let Ok(rules) = read_rules(rt.alloc(), RULES) else {
+        return Err(Fail::from("the rules"));
+    };
+    let program = build(rt.alloc(), &rules, &Kept::new(Vec::new(rt.alloc())))?;
+    assert_eq!(rt; program.row_count(), 2);
+    assert_eq!(rt; program.row_name(1), b"C2".as_slice());
+    assert!(rt; same_program(&program, &program));
+    Ok(())
+}
+
+#[test]
+fn lots_with_a_value_have_a_column(rt: HostRuntime) -> Result<(), Fail> {
+    let Ok(rules) = read_rules(rt.alloc(), WITH_VALUES) else {
+        return Err(Fail::from("the rules"));
+    };
+    let program = build(rt.alloc(), &rules, &Kept::new(Vec::new(rt.alloc())))?;
+    assert_eq!(rt; program.row_count(), 2);
+    assert_eq!(rt; program.column_count(), 1);
+    assert_eq!(rt; program.column_name(0), b"K".as_slice());
+    assert_eq!(rt; program.bounds(0), Bounds::One);
+    assert_eq!(rt; program.cost(0), -80);
+    Ok(())
+}
+
+#[test]
+fn pools_have_their_rows(rt: HostRuntime) -> Result<(), Fail> {
+    let Ok(rules) = read_rules(rt.alloc(), WITH_POOLS) else {
+        return Err(Fail::from("the rules"));
+    };
+    let program = build(rt.alloc(), &rules, &Kept::new(Vec::new(rt.alloc())))?;
+    assert_eq!(rt; program.row_count(), 3);
+    assert_eq!(rt; program.row_name(2), b"P1".as_slice());
+    assert_eq!(rt; program.right_side(2), 2);
+    assert_eq!(rt; program.column_count(), 0);
+    Ok(())
+}
+
+#[test]
+fn columns_lie_side_by_side(rt: HostRuntime) -> Result<(), Fail> {
+    let mut columns = Columns::new(rt.alloc());
+    columns.push(b"X1_1", Bounds::ZeroOrOne, -30, &[(0, 1), (2, 1)])?;
+    columns.push(b"K", Bounds::One, 7, &[])?;
+    assert_eq!(rt; columns.len(), 2);
+    assert_eq!(rt; columns.column(1).name, b"K".as_slice());
+    Ok(())
+}
+
+#[test]
+fn a_point_tells_its_values(rt: HostRuntime) -> Result<(), Fail> {
+    let point = Point::new([false, true].to_vec(rt.alloc())?);
+    assert!(rt; point.value(1));
+    Ok(())
+}
+
+#[test]
+fn names_spell_bids(rt: HostRuntime) -> Result<(), Fail> {
+    let greatest = Choice {
+        bidder: 256,
+        bid: 4000,
+    };
+    let program = read_program(rt.alloc(), TWO_BIDS)?;
+    assert_eq!(rt; program.column_count(), 2);
+    assert_eq!(rt; program.column_name(0), b"X256_4000".as_slice());
+    assert!(rt; program.column_bid(0) == Some(greatest));
+    assert_eq!(rt; program.column_name(1), b"X01_1".as_slice());
+    assert!(rt; program.column_bid(1).is_none());
+    Ok(())
+}

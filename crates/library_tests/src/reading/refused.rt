@@ -1,0 +1,39 @@
+//! What is read where any one growth is refused (see tools/refuse_calls): nothing, for want of memory, or what is read with
+//! ample memory.
+
+use super::{FOREIGN, PLAIN};
+use mps_reader::read_program;
+use program_rows::{FaultKind, same_program};
+use std::test::Fail;
+
+#[test]
+fn a_program_or_want_of_memory(rt: HostRuntime) -> Result<(), Fail> {
+    for text in [PLAIN, FOREIGN] {
+        let program = read_program(rt.alloc(), text)?;
+        let again = read_program(rt.alloc(), text)?;
+        assert_eq!(rt; program.row_count(), 3);
+        assert_eq!(rt; program.column_count(), 1);
+        assert!(rt; same_program(&program, &again));
+    }
+    Ok(())
+}
+
+#[test]
+fn a_fault_or_want_of_memory(rt: HostRuntime) -> Result<(), Fail> {
+    for (end, line, kind) in [
+        (70usize, 9usize, FaultKind::NoEnd),
+        (181, 18, FaultKind::UnknownColumn),
+        (184, 19, FaultKind::Section),
+    ] {
+        match read_program(rt.alloc(), &PLAIN[..end]) {
+            Ok(_) => assert!(rt; false, "at {end}"),
+            Err(fault) => {
+                if fault.kind == FaultKind::OutOfMemory && fault.line == 0 {
+                    return Err(Fail::from("out of memory"));
+                }
+                assert!(rt; fault.line == line && fault.kind == kind, "at {end}");
+            }
+        }
+    }
+    Ok(())
+}

@@ -1,0 +1,131 @@
+ghost use Rattle.std.specs.Prelude.{None};
+
+use auction_terms::{Kept, Rules, read_rules};
+use mps_text::{
+    BLOCK_LEN, Block, LimitSink, MemorySink, Sink, SinkFailed, StdSink, WriteFault, add,
+    add_pieces, send, write_program,
+};
+use program_rows::build;
+use std::alloc::Global;
+use std::test::Fail;
+
+mod refused;
+
+/// A sink that notes the shortest and the longest piece that it was handed.
+#[derive(Drop)]
+struct Lengths {
+    count: usize,
+    shortest: usize,
+    longest: usize,
+}
+
+impl Sink for Lengths {
+    ghost taken = { λ _. None };
+
+    ghost failures = { λ _. 0 };
+
+    fn put(&mut self, bytes: &[u8]) -> Result<usize, SinkFailed> {
+        self.count = self.count.saturating_add(bytes.len());
+        self.shortest = self.shortest.min(bytes.len());
+        self.longest = self.longest.max(bytes.len());
+        Ok(bytes.len())
+    }
+}
+
+const RULES: &[u8] = b"rules,1,1,,\ncategory,A,2,10,1\ncategory,B,1,5,1\nbidder,Alpha,9,2,\n";
+
+const TEXT: &[u8] =
+    b"NAME wdp\nROWS\n N OBJ\n L C1\n L C2\nCOLUMNS\nRHS\n RHS C1 2\n RHS C2 1\nENDATA\n";
+
+fn rules(alloc: Global) -> Result<Rules, Fail> {
+    match read_rules(alloc, RULES) {
+        Ok(rules) => Ok(rules),
+        Err(_) => Err(Fail::from("rules")),
+    }
+}
+
+#[test]
+fn a_program_without_columns_is_written(rt: HostRuntime) -> Result<(), Fail> {
+    let rules = rules(rt.alloc())?;
+    let program = build(rt.alloc(), &rules, &Kept::new(Vec::new(rt.alloc())))?;
+    let mut sink = MemorySink::new(rt.alloc());
+    assert!(rt; write_program(&program, &mut sink).is_ok());
+    assert_eq!(rt; sink.bytes(), TEXT);
+    Ok(())
+}
+
+#[test]
+fn a_sink_that_fails_holds_the_front(rt: HostRuntime) -> Result<(), Fail> {
+    let rules = rules(rt.alloc())?;
+    let program = build(rt.alloc(), &rules, &Kept::new(Vec::new(rt.alloc())))?;
+    let mut sink = LimitSink::new(rt.alloc(), 12, 3);
+    assert_eq!(rt;
+        write_program(&program, &mut sink),
+        Err(WriteFault::Sink { written: 12 })
+    );
+    assert_eq!(rt; sink.bytes(), b"NAME wdp\nROW".as_slice());
+    Ok(())
+}
+
+#[test]
+fn a_sink_fails_after_each_number_of_bytes(rt: HostRuntime) -> Result<(), Fail> {
+    let rules = rules(rt.alloc())?;
+    let program = build(rt.alloc(), &rules, &Kept::new(Vec::new(rt.alloc())))?;
+    for room in 0..TEXT.len() {
+        let mut sink = LimitSink::new(rt.alloc(), room, 7);
+        let told = write_program(&program, &mut sink);
+        assert!(rt;
+            told == Err(WriteFault::Sink {
+                written: room as u64
+            }),
+            "room for {room}"
+        );
+        assert_eq!(rt; sink.bytes(), &TEXT[..room]);
+    }
+    let mut sink = LimitSink::new(rt.alloc(), TEXT.len(), 7);
+    assert!(rt; write_program(&program, &mut sink).is_ok());
+    assert_eq!(rt; sink.bytes(), TEXT);
+    Ok(())
+}
+
+#[test]
+fn pieces_go_out_in_order(rt: HostRuntime) -> Result<(), Fail> {
+    let mut sink = MemorySink::new(rt.alloc());
+    let mut block = Block::new();
+    let pieces: [&[u8]; 3] = [b"NAME", b" wdp", b"\n"];
+    assert!(rt; add_pieces(&mut block, &mut sink, &pieces).is_ok());
+    assert_eq!(rt; sink.bytes().len(), 0);
+    assert!(rt; send(&mut block, &mut sink).is_ok());
+    assert_eq!(rt; sink.bytes(), b"NAME wdp\n".as_slice());
+    assert_eq!(rt; block.sent, 9);
+    Ok(())
+}
+
+#[test]
+fn long_names_go_out_in_pieces(rt: HostRuntime) -> Result<(), Fail> {
+    let name = vec![in rt.alloc(); b'R'; 70_000]?;
+    let mut sink = Lengths {
+        count: 0,
+        shortest: usize::MAX,
+        longest: 0,
+    };
+    let mut block = Block::new();
+    assert!(rt; add(&mut block, &mut sink, b" L ").is_ok());
+    assert!(rt; add(&mut block, &mut sink, name.as_slice()).is_ok());
+    assert!(rt; add(&mut block, &mut sink, b"\n").is_ok());
+    assert!(rt; send(&mut block, &mut sink).is_ok());
+    assert_eq!(rt; sink.count, 70_004);
+    assert!(rt; sink.shortest >= 1 && sink.longest <= BLOCK_LEN);
+    Ok(())
+}
+
+#[test]
+fn a_failing_writer_is_a_failing_sink(rt: HostRuntime) -> Result<(), Fail> {
+    let mut room = [0u8; 4];
+    let mut sink = StdSink::new(room.as_mut_slice());
+    let mut block = Block::new();
+    assert!(rt; add(&mut block, &mut sink, b"NAME wdp").is_ok());
+    assert!(rt; send(&mut block, &mut sink).is_err());
+    assert_eq!(rt; block.sent, 4);
+    Ok(())
+}
