@@ -13,8 +13,6 @@ mod run_fault;
 mod running;
 mod sizes;
 mod telling;
-#[cfg(test)]
-mod tests;
 mod verifying;
 mod winning;
 

@@ -16,6 +16,8 @@ mod programs;
 #[cfg(test)]
 mod reading;
 #[cfg(test)]
+mod runs;
+#[cfg(test)]
 mod solutions;
 #[cfg(test)]
 mod terms;

@@ -1,8 +1,6 @@
 //! What a run answers and leaves where its words are wrong, and where its input or its output fails at any byte.
 
-use crate::compile_run::run_compile;
-use crate::run_fault::RunFault;
-use crate::running::run;
+use answers::{RunFault, run, run_compile};
 use auction_input::{Auction, Request, Source, read_auction};
 use group_compiler::OpenGate;
 use mps_text::{LimitSink, MemorySink};
