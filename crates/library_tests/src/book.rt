@@ -2,22 +2,16 @@ ghost use Rattle.std.specs.Prelude.{◌≡◌};
 ghost use Rattle.std.specs.Arc.{arc_value};
 ghost use Rattle.bid_book.specs.History.{MayMake, call_value};
 
+use crate::worked;
+use crate::worked::{GAMMA, RULES, form_of, shown};
 use auction_terms::read_rules;
-use bid_book::{Book, CALL_LIMIT, Call, Caller, Reply, Standing};
-use bid_forms::{Form, read_form};
+use bid_book::{Book, CALL_LIMIT, Call, Caller, Reply};
+use bid_forms::Form;
 use std::alloc::Global;
 use std::sync::Arc;
 use std::test::Fail;
 
 mod refused;
-
-const RULES: &[u8] =
-    b"rules,1,1,,\ncategory,A,2,10,1\ncategory,B,1,5,1\nbidder,Alpha,9,2,\nbidder,Beta,9,1,\nbidder,Gamma,9,1,\n";
-
-fn form_of(alloc: Global, text: &[u8]) -> Result<Arc<Form, Global>, Fail> {
-    let rules = read_rules(alloc, RULES)?;
-    Ok(Arc::new(alloc, read_form(alloc, text, &rules)?)?)
-}
 
 /// Whether a book answers a call so.
 fn answers(book: &mut Book, caller: Caller, call: Call, reply: Reply) -> bool
@@ -44,13 +38,6 @@ fn answers_form(
         Call::Submit { form, over },
         reply,
     ))
-}
-
-fn shown(form: &Arc<Form, Global>, number: u32) -> Result<Reply, Fail> {
-    let form = Arc::try_clone(form)?;
-    Ok(Reply::Shown {
-        standing: Some(Standing { number, form }),
-    })
 }
 
 const ALPHA: Caller = Caller::Session {
@@ -86,7 +73,8 @@ fn closes(book: &mut Book, form: &Arc<Form, Global>) -> Result<bool, Fail> {
 
 #[test]
 fn a_session_in_order(rt: HostRuntime) -> Result<(), Fail> {
-    let form = form_of(rt.alloc(), b"Alpha,A,B\n30,1,0\n50,2,1\n28,1,1\n")?;
+    let rules = read_rules(rt.alloc(), RULES)?;
+    let form = form_of(rt.alloc(), &rules, worked::ALPHA)?;
     let mut book = Book::new(rt.alloc());
     assert!(rt; submits_and_withdraws(&mut book, &form)?);
     assert!(rt; book.is_open());
@@ -115,7 +103,8 @@ fn a_limit_of_calls(rt: HostRuntime) -> Result<(), Fail> {
     assert!(rt; answers_all_of_alpha(&mut book));
     assert!(rt; answers(&mut book, ALPHA, Call::Show, Reply::CallLimit));
     assert_eq!(rt; book.history().len(), 1000);
-    let form = form_of(rt.alloc(), b"Gamma,A,B\n12,0,1\n")?;
+    let rules = read_rules(rt.alloc(), RULES)?;
+    let form = form_of(rt.alloc(), &rules, GAMMA)?;
     assert!(rt; answers_form(&mut book, &form, None, Reply::Accepted { number: 1 })?);
     Ok(())
 }

@@ -1,24 +1,11 @@
-ghost use Rattle.std.specs.Prelude.{◌≡◌, IfOk};
-ghost use Rattle.program_rows.specs.declared.row.RowKind.TheVariants.{AtMost};
-ghost use Rattle.program_rows.specs.Parts.{shown_row};
-
+use crate::worked::row;
 use optimality::{FaultKind, check_certificate, check_optimum};
-use program_rows::{Bounds, Columns, Point, Program, ProgramParts, Row, RowKind};
+use program_rows::{Bounds, Columns, Point, Program, ProgramParts};
 use std::alloc::{AllocError, Global};
 use std::test::Fail;
 
 // That no point of the odd cycle lies below 3.
 const SHOWN: &[u8] = b"# X1 is 0, or it is 1\nsplit 0 X1 1\n\nbound 1 2 B 2\nbound 1 2 A1 2 A2 2\n";
-
-fn row(alloc: Global, name: &[u8], most: i64) -> Result<Row, AllocError>
-    ensures { IfOk result (λ r. shown_row r ≡ record { name = name.now; kind = AtMost; right_side = most }) }
-{
-    Ok(Row {
-        name: Vec::from_slice(alloc, name)?,
-        kind: RowKind::AtMost,
-        right_side: most,
-    })
-}
 
 /// Three columns, any two of which exclude one another, and a fixed one: half of each is the best of the fractions, at 2.
 fn odd_cycle(alloc: Global) -> Result<Program, AllocError> {

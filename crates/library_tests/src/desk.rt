@@ -1,10 +1,12 @@
-ghost use Rattle.std.specs.Prelude.{◌≡◌, ◌+◌, IfOk};
+ghost use Rattle.std.specs.Prelude.{◌≡◌, ◌+◌};
 ghost use Rattle.auction_terms.specs.Terms.{session_count};
 
+use crate::worked::books::blank;
+use crate::worked::{ALPHA, GAMMA, RULES, form_of};
 use auction_terms::{Rules, read_rules};
 use bid_book::{Entry, Reply};
 use bid_desk::{ClosedBook, Desk, Round, Session};
-use bid_forms::{Form, read_form};
+use bid_forms::Form;
 use std::alloc::Global;
 use std::marker::Brand;
 use std::sync::ledger::Blank;
@@ -15,25 +17,6 @@ use std::thread::Threads;
 
 mod raced;
 mod refused;
-
-const RULES: &[u8] =
-    b"rules,1,1,,\ncategory,A,2,10,1\ncategory,B,1,5,1\nbidder,Alpha,9,2,\nbidder,Beta,9,1,\nbidder,Gamma,9,1,\n";
-
-const ALPHA: &[u8] = b"Alpha,A,B\n30,1,0\n50,2,1\n28,1,1\n";
-
-fn alpha(alloc: Global, rules: &Rules) -> Result<Arc<Form, Global>, Fail> {
-    Ok(Arc::new(alloc, read_form(alloc, ALPHA, rules)?)?)
-}
-
-/// A ledger of as many parts as a desk needs.
-fn blank(rules: &Rules) -> Result<Blank, Fail>
-    ensures { IfOk result (λ blank. blank.parts ≡ session_count rules.now + 1) }
-{
-    let parts = (rules.session_count() as u64)
-        .checked_add(1)
-        .ok_or("parts")?;
-    Ok(Blank::new(parts))
-}
 
 /// Whether the replies of a history are these, in order.
 fn replies_are(history: &[Entry], replies: &[Reply]) -> bool {
@@ -123,7 +106,7 @@ fn submitted<L: Round + Send + Sync, R: Threads + Wait + Sync>(
 #[test]
 fn both_sessions_submit(rt: HostRuntime) -> Result<(), Fail> {
     let rules = read_rules(rt.alloc(), RULES)?;
-    let form = alpha(rt.alloc(), &rules)?;
+    let form = form_of(rt.alloc(), &rules, ALPHA)?;
     let blank = blank(&rules)?;
     let closed = submitted::<Brand, _>(&rt, rt.alloc(), blank, rules, &form).ok_or("settled")?;
     assert!(rt;
@@ -164,7 +147,7 @@ fn withdrawn<L: Round + Send + Sync, R: Threads + Wait + Sync>(
 #[test]
 fn both_sessions_submit_and_withdraw(rt: HostRuntime) -> Result<(), Fail> {
     let rules = read_rules(rt.alloc(), RULES)?;
-    let form = alpha(rt.alloc(), &rules)?;
+    let form = form_of(rt.alloc(), &rules, ALPHA)?;
     let blank = blank(&rules)?;
     let closed = withdrawn::<Brand, _>(&rt, rt.alloc(), blank, rules, &form).ok_or("settled")?;
     let one_after_the_other = [
@@ -245,8 +228,7 @@ fn ends_at_the_limit(last: &Reply, closed: &ClosedBook) -> bool {
 #[test]
 fn most_calls_settle(rt: HostRuntime) -> Result<(), Fail> {
     let rules = read_rules(rt.alloc(), RULES)?;
-    let form = read_form(rt.alloc(), b"Gamma,A,B\n12,0,1\n", &rules)?;
-    let form = Arc::new(rt.alloc(), form)?;
+    let form = form_of(rt.alloc(), &rules, GAMMA)?;
     let blank = blank(&rules)?;
     let settled = at_the_limit::<Brand, _>(&rt, rt.alloc(), blank, rules, &form);
     let (last, closed) = settled.ok_or("settled")?;

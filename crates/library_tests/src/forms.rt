@@ -1,3 +1,4 @@
+use crate::worked::{ALPHA, BETA, GAMMA, RULES, WIDE_RULES};
 use auction_terms::{Rules, read_rules};
 use bid_forms::{FormFault, read_form};
 use std::alloc::Global;
@@ -6,14 +7,11 @@ use std::test::Fail;
 
 mod refused;
 
-const RULES: &[u8] =
-    b"rules,1,1,,\ncategory,A,2,10,1\ncategory,B,1,5,1\nbidder,Alpha,9,2,\nbidder,Beta,9,1,\nbidder,Gamma,9,1,\n";
-
 /// Each text is a form of its bidder, with so many bids.
 const FORMS: [(&[u8], u16, usize); 9] = [
-    (b"Alpha,A,B\n30,1,0\n50,2,1\n28,1,1\n", 1, 3),
-    (b"Beta,A,B\n20,1,0\n45,3,0\n", 2, 2),
-    (b"Gamma,A,B\n12,0,1\n", 3, 1),
+    (ALPHA, 1, 3),
+    (BETA, 2, 2),
+    (GAMMA, 3, 1),
     (b"Alpha,A,B\n15,1,1\n", 1, 1),
     (b"Alpha,A,B\n0015,01,1\n", 1, 1),
     (b"\"Alpha\",\"A\",\"B\"\n", 1, 0),
@@ -143,10 +141,7 @@ fn form_text(alloc: Global, count: u32) -> Result<String, Fail> {
 
 #[test]
 fn counts_bids(rt: HostRuntime) -> Result<(), Fail> {
-    let rules = read_rules(
-        rt.alloc(),
-        b"rules,1,1,,\ncategory,A,10000,0,0\ncategory,B,10000,0,0\nbidder,Alpha,0,1,\n",
-    )?;
+    let rules = read_rules(rt.alloc(), WIDE_RULES)?;
     let most = form_text(rt.alloc(), 4000)?;
     assert_eq!(rt;
         read_form(rt.alloc(), most.as_bytes(), &rules)?.bids().len(),

@@ -1,35 +1,19 @@
 //! What is ordered and kept of worked forms and of forms of 4,000 bids, beside a plain comparison of all pairs.
 
+use crate::worked::books::book_of;
+use crate::worked::{
+    ALPHA, BETA, GAMMA, RULES, RULES_OF_20, RULES_OF_40, RULES_OF_A_POOL, WIDE_RULES,
+};
 use auction_terms::{Bid, GREATEST_AMOUNT, Rules, read_groups, read_rules};
 use bid_desk::ClosedBook;
 use bid_forms::read_form;
-use books::book_of;
 use presolve::{Flags, by_size};
 use std::alloc::Global;
 use std::fmt::Write;
 use std::test::Fail;
 use std::thread::Threads;
 
-mod books;
 mod refused;
-
-const RULES: &[u8] =
-    b"rules,1,1,,\ncategory,A,2,10,1\ncategory,B,1,5,1\nbidder,Alpha,9,2,\nbidder,Beta,9,1,\nbidder,Gamma,9,1,\n";
-
-// A lot of A is worth 40 where it is left.
-const RULES_OF_40: &[u8] =
-    b"rules,2,1,,,\ncategory,A,2,10,1,40\ncategory,B,1,5,1,0\nbidder,Alpha,9,2,,\nbidder,Beta,9,1,,\nbidder,Gamma,9,1,,\n";
-
-// A lot of A is worth 20 where it is left.
-const RULES_OF_20: &[u8] =
-    b"rules,2,1,,,\ncategory,A,2,10,1,20\ncategory,B,1,5,1,0\nbidder,Alpha,9,2,,\nbidder,Beta,9,1,,\nbidder,Gamma,9,1,,\n";
-
-// At most two lots together.
-const RULES_OF_A_POOL: &[u8] =
-    b"rules,3,1,,,\ncategory,A,2,10,1,0\ncategory,B,1,5,1,0\npool,Low,2,,,\nmember,Low,A,1,,\nmember,Low,B,1,,\nbidder,Alpha,9,2,,\nbidder,Beta,9,1,,\nbidder,Gamma,9,1,,\n";
-
-const WIDE_RULES: &[u8] =
-    b"rules,1,1,,\ncategory,A,10000,0,0\ncategory,B,10000,0,0\nbidder,Alpha,0,1,\n";
 
 const FIVE_RULES: &[u8] =
     b"rules,1,1,,\ncategory,A,3,0,0\ncategory,B,3,0,0\ncategory,C,2,0,0\ncategory,D,3,0,0\ncategory,E,3,0,0\nbidder,Alpha,0,1,\n";
@@ -55,12 +39,6 @@ const WIDE: Plain = Plain {
     values: &[0, 0],
     caps: &[],
 };
-
-const ALPHA: &[u8] = b"Alpha,A,B\n30,1,0\n50,2,1\n28,1,1\n";
-
-const BETA: &[u8] = b"Beta,A,B\n20,1,0\n45,3,0\n";
-
-const GAMMA: &[u8] = b"Gamma,A,B\n12,0,1\n";
 
 const NO_BID: &[u8] = b"Gamma,A,B\n";
 

@@ -24,4 +24,6 @@ mod terms;
 #[cfg(test)]
 mod texts;
 #[cfg(test)]
+mod worked;
+#[cfg(test)]
 mod workers;

@@ -1,3 +1,4 @@
+use crate::worked::RULES_OF_ONE;
 use auction_terms::{Choice, Kept, read_rules};
 use mps_reader::read_program;
 use program_rows::{Bounds, Columns, Point, build, same_program};
@@ -8,8 +9,6 @@ mod refused;
 const TWO_BIDS: &[u8] =
     b"NAME\nROWS\n N OBJ\n L C1\nCOLUMNS\n X256_4000 C1 1\n X01_1 C1 1\nRHS\nBOUNDS\n BV BND X256_4000\n BV BND X01_1\nENDATA\n";
 
-const RULES: &[u8] = b"rules,1,1,,\ncategory,A,2,10,1\ncategory,B,1,5,1\nbidder,Alpha,9,2,\n";
-
 const WITH_VALUES: &[u8] =
     b"rules,2,1,,,\ncategory,A,2,10,1,40\ncategory,B,1,5,1,0\nbidder,Alpha,9,2,,\n";
 
@@ -18,7 +17,7 @@ const WITH_POOLS: &[u8] =
 
 #[test]
 fn without_bids_the_categories_have_their_rows(rt: HostRuntime) -> Result<(), Fail> {
-    let Ok(rules) = read_rules(rt.alloc(), RULES) else {
+    let Ok(rules) = read_rules(rt.alloc(), RULES_OF_ONE) else {
         return Err(Fail::from("the rules"));
     };
     let program = build(rt.alloc(), &rules, &Kept::new(Vec::new(rt.alloc())))?;

@@ -1,26 +1,15 @@
 ghost use Rattle.std.specs.Prelude.{◌≡◌, ◌∷◌, [], true, false, length, IfOk};
-ghost use Rattle.program_rows.specs.declared.row.RowKind.TheVariants.{AtMost};
-ghost use Rattle.program_rows.specs.Parts.{shown_row};
 ghost use Rattle.program_rows.specs.Faithful.{back};
 ghost use Rattle.outcome.specs.Winning.{IsMap};
 
+use crate::worked::row;
 use auction_terms::Choice;
 use outcome::{SolutionFault, map_back, read_solution};
-use program_rows::{Bounds, Columns, Point, Program, ProgramParts, Row, RowKind};
+use program_rows::{Bounds, Columns, Point, Program, ProgramParts};
 use std::alloc::{AllocError, Global};
 use std::test::Fail;
 
 mod refused;
-
-fn row(alloc: Global, name: &[u8], most: i64) -> Result<Row, AllocError>
-    ensures { IfOk result (λ r. shown_row r ≡ record { name = name.now; kind = AtMost; right_side = most }) }
-{
-    Ok(Row {
-        name: Vec::from_slice(alloc, name)?,
-        kind: RowKind::AtMost,
-        right_side: most,
-    })
-}
 
 /// The program of three bidders' kept bids.
 fn program_of_three(alloc: Global) -> Result<Program, AllocError>

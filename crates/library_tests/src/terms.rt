@@ -1,5 +1,6 @@
 ghost use Rattle.std.specs.Prelude.{◌≡◌, ◌≤◌, ◌^◌, IfOk, length};
 
+use crate::worked::{RULES, RULES_OF_20, RULES_OF_40, RULES_OF_A_POOL};
 use auction_terms::{
     Bid, GroupFault, Groups, LineReader, Package, Quantities, RecordReader, Rules, RulesFault,
     Weights, field, number, read_groups, read_rules,
@@ -8,9 +9,6 @@ use csv::ByteRecord;
 use std::test::Fail;
 
 mod refused;
-
-const RULES: &[u8] =
-    b"rules,1,1,,\ncategory,A,2,10,1\ncategory,B,1,5,1\nbidder,Alpha,9,2,\nbidder,Beta,9,1,\nbidder,Gamma,9,1,\n";
 
 #[test]
 fn reads_rules(rt: HostRuntime) -> Result<(), Fail> {
@@ -84,19 +82,7 @@ fn refuses_rules_by_the_first_fault(rt: HostRuntime) {
     }
 }
 
-// The worked rules with a value of 40 for a lot of A.
-const VALUED: &[u8] =
-    b"rules,2,1,,,\ncategory,A,2,10,1,40\ncategory,B,1,5,1,0\nbidder,Alpha,9,2,,\nbidder,Beta,9,1,,\nbidder,Gamma,9,1,,\n";
-
-// The same with a value of 20.
-const VALUED_AT_A_TIE: &[u8] =
-    b"rules,2,1,,,\ncategory,A,2,10,1,20\ncategory,B,1,5,1,0\nbidder,Alpha,9,2,,\nbidder,Beta,9,1,,\nbidder,Gamma,9,1,,\n";
-
-// The worked rules with a pool of all lots, of which two may be sold.
-const POOLED: &[u8] =
-    b"rules,3,1,,,\ncategory,A,2,10,1,0\ncategory,B,1,5,1,0\npool,Low,2,,,\nmember,Low,A,1,,\nmember,Low,B,1,,\nbidder,Alpha,9,2,,\nbidder,Beta,9,1,,\nbidder,Gamma,9,1,,\n";
-
-// The same with a weight of 2 for a lot of A, and a cap of 3.
+// The pool with a weight of 2 for a lot of A, and a cap of 3.
 const POOLED_BY_WEIGHT: &[u8] =
     b"rules,3,1,,,\ncategory,A,2,10,1,0\ncategory,B,1,5,1,0\npool,Low,3,,,\nmember,Low,A,2,,\nmember,Low,B,1,,\nbidder,Alpha,9,2,,\nbidder,Beta,9,1,,\nbidder,Gamma,9,1,,\n";
 
@@ -104,13 +90,13 @@ const POOLED_BY_WEIGHT: &[u8] =
 fn reads_values(rt: HostRuntime) -> Result<(), Fail> {
     for (text, values) in [
         (RULES, [0, 0]),
-        (VALUED, [40, 0]),
-        (VALUED_AT_A_TIE, [20, 0]),
+        (RULES_OF_40, [40, 0]),
+        (RULES_OF_20, [20, 0]),
         (
             b"rules,2,1,,,\ncategory,A,2,10,1,1000000000000\ncategory,B,1,5,1,0007\nbidder,Alpha,9,2,x,y\n".as_slice(),
             [1_000_000_000_000, 7],
         ),
-        (POOLED, [0, 0]),
+        (RULES_OF_A_POOL, [0, 0]),
     ] {
         let rules = read_rules(rt.alloc(), text)?;
         assert_eq!(rt; rules.categories().len(), 2);
@@ -125,7 +111,7 @@ fn reads_values(rt: HostRuntime) -> Result<(), Fail> {
 #[test]
 fn reads_pools(rt: HostRuntime) -> Result<(), Fail> {
     for (text, cap, weights) in [
-        (POOLED, 2, [1, 1]),
+        (RULES_OF_A_POOL, 2, [1, 1]),
         (POOLED_BY_WEIGHT, 3, [2, 1]),
         // A category behind the pool's members is none of them.
         (
@@ -146,10 +132,10 @@ fn reads_pools(rt: HostRuntime) -> Result<(), Fail> {
         assert_eq!(rt; first.cap, cap);
         assert!(rt; first.weights.as_slice() == weights.as_slice());
     }
-    let rules = read_rules(rt.alloc(), POOLED)?;
+    let rules = read_rules(rt.alloc(), RULES_OF_A_POOL)?;
     assert_eq!(rt; rules.pools().len(), 1);
     assert_eq!(rt; rules.pools()[0].name.as_bytes(), b"Low".as_slice());
-    assert_eq!(rt; read_rules(rt.alloc(), VALUED)?.pools().len(), 0);
+    assert_eq!(rt; read_rules(rt.alloc(), RULES_OF_40)?.pools().len(), 0);
     Ok(())
 }
 
@@ -457,12 +443,12 @@ fn fits_packages_into_supply_and_pools(rt: HostRuntime) -> Result<(), Fail> {
         (RULES, 2, 1, true),
         (RULES, 3, 0, false),
         (RULES, 0, 2, false),
-        (VALUED, 2, 1, true),
-        (POOLED, 1, 0, true),
-        (POOLED, 2, 0, true),
-        (POOLED, 1, 1, true),
-        (POOLED, 2, 1, false),
-        (POOLED, 0, 2, false),
+        (RULES_OF_40, 2, 1, true),
+        (RULES_OF_A_POOL, 1, 0, true),
+        (RULES_OF_A_POOL, 2, 0, true),
+        (RULES_OF_A_POOL, 1, 1, true),
+        (RULES_OF_A_POOL, 2, 1, false),
+        (RULES_OF_A_POOL, 0, 2, false),
         (POOLED_BY_WEIGHT, 1, 1, true),
         (POOLED_BY_WEIGHT, 2, 0, false),
         (POOLED_BY_WEIGHT, 0, 1, true),
@@ -477,9 +463,9 @@ fn fits_packages_into_supply_and_pools(rt: HostRuntime) -> Result<(), Fail> {
 #[test]
 fn loads_pools(rt: HostRuntime) -> Result<(), Fail> {
     for (text, first, second, load) in [
-        (POOLED, 1, 0, 1),
-        (POOLED, 2, 1, 3),
-        (POOLED, 0, 0, 0),
+        (RULES_OF_A_POOL, 1, 0, 1),
+        (RULES_OF_A_POOL, 2, 1, 3),
+        (RULES_OF_A_POOL, 0, 0, 0),
         (POOLED_BY_WEIGHT, 1, 0, 2),
         (POOLED_BY_WEIGHT, 1, 1, 3),
         (POOLED_BY_WEIGHT, 2, 1, 5),
@@ -513,7 +499,7 @@ fn tells_nets(rt: HostRuntime) -> Result<(), Fail> {
         (0, 1, 12, 12, 12, 12),
     ] {
         assert!(rt; first <= 10_000 && second <= 10_000 && amount <= 1_000_000_000_000);
-        for (text, told) in [(RULES, plain), (VALUED, valued), (VALUED_AT_A_TIE, tie)] {
+        for (text, told) in [(RULES, plain), (RULES_OF_40, valued), (RULES_OF_20, tie)] {
             let rules = read_rules(rt.alloc(), text)?;
             assert_eq!(rt; net(&rt, &rules, first, second, amount)?, told);
         }
@@ -525,9 +511,9 @@ fn tells_nets(rt: HostRuntime) -> Result<(), Fail> {
 fn tells_what_all_lots_are_worth(rt: HostRuntime) -> Result<(), Fail> {
     for (text, worth) in [
         (RULES, 0),
-        (VALUED, 80),
-        (VALUED_AT_A_TIE, 40),
-        (POOLED, 0),
+        (RULES_OF_40, 80),
+        (RULES_OF_20, 40),
+        (RULES_OF_A_POOL, 0),
         (
             b"rules,2,1,,,\ncategory,A,10000,10,1,1000000000000\ncategory,B,3,5,1,7\nbidder,Alpha,9,2,,\n".as_slice(),
             10_000_000_000_000_021,

@@ -1,5 +1,6 @@
 ghost use Rattle.std.specs.Prelude.{None};
 
+use crate::worked::RULES_OF_ONE;
 use auction_terms::{Kept, Rules, read_rules};
 use mps_text::{
     BLOCK_LEN, Block, LimitSink, MemorySink, Sink, SinkFailed, StdSink, WriteFault, add,
@@ -32,13 +33,11 @@ impl Sink for Lengths {
     }
 }
 
-const RULES: &[u8] = b"rules,1,1,,\ncategory,A,2,10,1\ncategory,B,1,5,1\nbidder,Alpha,9,2,\n";
-
 const TEXT: &[u8] =
     b"NAME wdp\nROWS\n N OBJ\n L C1\n L C2\nCOLUMNS\nRHS\n RHS C1 2\n RHS C2 1\nENDATA\n";
 
 fn rules(alloc: Global) -> Result<Rules, Fail> {
-    match read_rules(alloc, RULES) {
+    match read_rules(alloc, RULES_OF_ONE) {
         Ok(rules) => Ok(rules),
         Err(_) => Err(Fail::from("rules")),
     }

@@ -1,34 +1,22 @@
 //! What workers compile of a worked auction, and that they work side by side, each on whatever group comes next.
 
-ghost use Rattle.std.specs.Prelude.{◌≡◌, ◌+◌, ◌≤◌, IfOk};
-ghost use Rattle.auction_terms.specs.Terms.{session_count};
+ghost use Rattle.std.specs.Prelude.{◌≤◌};
 
-use auction_terms::{Groups, Rules, read_groups, read_rules};
-use bid_desk::{ClosedBook, Desk, Round, Session};
-use bid_forms::{Form, read_form};
+use crate::worked::books::worked_book;
+use auction_terms::{Groups, Rules, read_groups};
+use bid_desk::ClosedBook;
 use group_compiler::{Claims, Compiled, Gate, OpenGate, compile_all, compile_one};
 use mps_text::MemorySink;
 use std::alloc::{AllocError, Global};
-use std::marker::Brand;
+use std::sync::Wait;
 use std::sync::atomic::AtomicU64;
 use std::sync::atomic::Ordering::SeqCst;
-use std::sync::ledger::Blank;
-use std::sync::{Arc, Wait};
 use std::test::Fail;
 use std::thread;
 use std::thread::Threads;
 
 mod refused;
 mod wide;
-
-const RULES: &[u8] =
-    b"rules,1,1,,\ncategory,A,2,10,1\ncategory,B,1,5,1\nbidder,Alpha,9,2,\nbidder,Beta,9,1,\nbidder,Gamma,9,1,\n";
-
-const FORMS: [&[u8]; 3] = [
-    b"Alpha,A,B\n30,1,0\n50,2,1\n28,1,1\n",
-    b"Beta,A,B\n20,1,0\n45,3,0\n",
-    b"Gamma,A,B\n12,0,1\n",
-];
 
 const ALL: &[u8] =
     b"NAME wdp\nROWS\n N OBJ\n L B1\n L B2\n L B3\n L C1\n L C2\nCOLUMNS\n M1 'MARKER' 'INTORG'\n X1_1 OBJ -30\n X1_1 B1 1\n X1_1 C1 1\n X1_2 OBJ -50\n X1_2 B1 1\n X1_2 C1 2\n X1_2 C2 1\n X2_1 OBJ -20\n X2_1 B2 1\n X2_1 C1 1\n X3_1 OBJ -12\n X3_1 B3 1\n X3_1 C2 1\n M2 'MARKER' 'INTEND'\nRHS\n RHS B1 1\n RHS B2 1\n RHS B3 1\n RHS C1 2\n RHS C2 1\nBOUNDS\n UP BND X1_1 1\n UP BND X1_2 1\n UP BND X2_1 1\n UP BND X3_1 1\nENDATA\n";
@@ -123,78 +111,6 @@ impl Counts {
     fn are_each_one(&self) -> bool {
         self.strays.load(SeqCst) == 0 && self.groups.iter().all(|count| count.load(SeqCst) == 1)
     }
-}
-
-/// A ledger of as many parts as a desk needs.
-fn blank(rules: &Rules) -> Result<Blank, Fail>
-    ensures { IfOk result (λ blank. blank.parts ≡ session_count rules.now + 1) }
-{
-    let parts = (rules.session_count() as u64)
-        .checked_add(1)
-        .ok_or("parts")?;
-    Ok(Blank::new(parts))
-}
-
-/// Submits the forms of the session's bidder through its first session, and tells whether memory sufficed.
-fn submits<L: Round, R: Wait>(
-    rt: &R,
-    desk: &Desk<L>,
-    session: &mut Session<L>,
-    forms: &[Arc<Form, Global>],
-) -> bool {
-    for form in forms {
-        if session.session() == 1 && form.bidder() == session.bidder() && form.meets(desk.rules()) {
-            if desk.enter(rt).submit(session, form, None).is_err() {
-                return false;
-            }
-        }
-    }
-    true
-}
-
-/// The book in which these forms stand. None where memory is short.
-fn settled<L: Round, R: Wait>(
-    rt: &R,
-    alloc: Global,
-    blank: Blank,
-    rules: Rules,
-    forms: &[Arc<Form, Global>],
-) -> Option<ClosedBook>
-    requires name { blank.name ≡ L.name }
-    requires parts { blank.parts ≡ L.parts }
-    requires part_count { (blank.parts ≡ L.part_count) × (L.part_count ≡ session_count rules + 1) }
-    requires rules { rules ≡ L.rules }
-{
-    let (desk, mut chair, mut sessions) = Desk::<L>::open(alloc, blank, rules).ok()?;
-    for session in &mut sessions {
-        if !submits(rt, &desk, session, forms) {
-            return None;
-        }
-    }
-    desk.enter(rt).close(&mut chair).ok()?;
-    desk.stop().settle(alloc, chair, sessions).ok()
-}
-
-/// The book of rules and forms.
-fn book_of<R: Wait>(
-    rt: &R,
-    alloc: Global,
-    rules: &[u8],
-    texts: &[&[u8]],
-) -> Result<ClosedBook, Fail> {
-    let rules = read_rules(alloc, rules)?;
-    let mut forms = Vec::new(alloc);
-    for text in texts {
-        forms.push(Arc::new(alloc, read_form(alloc, *text, &rules)?)?)?;
-    }
-    let blank = blank(&rules)?;
-    let book = settled::<Brand, _>(rt, alloc, blank, rules, forms.as_slice());
-    Ok(book.ok_or("out of memory")?)
-}
-
-/// The book of the worked auction.
-fn worked_book<R: Wait>(rt: &R, alloc: Global) -> Result<ClosedBook, Fail> {
-    book_of(rt, alloc, RULES, &FORMS)
 }
 
 fn is_text(alloc: Global, compiled: &Compiled<'_>, text: &[u8]) -> bool {

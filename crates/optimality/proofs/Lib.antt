@@ -10,5 +10,4 @@ pub mod TermLaws
 pub mod BranchLaws
 pub mod VerdictLaws
 pub mod LineCount
-pub mod Worked
 pub mod ProductBounds

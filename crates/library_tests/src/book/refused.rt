@@ -3,7 +3,10 @@
 
 ghost use Rattle.bid_book.specs.History.{MayMake, call_value};
 
-use super::{ALPHA, form_of, shown};
+use super::ALPHA;
+use crate::worked;
+use crate::worked::{RULES, form_of, shown};
+use auction_terms::read_rules;
 use bid_book::{Book, Call, Caller, Reply, StepError};
 use bid_forms::Form;
 use std::alloc::Global;
@@ -66,7 +69,8 @@ fn closes(book: &mut Book, form: &Arc<Form, Global>) -> Result<bool, Fail> {
 
 #[test]
 fn nine_entries(rt: HostRuntime) -> Result<(), Fail> {
-    let form = form_of(rt.alloc(), b"Alpha,A,B\n30,1,0\n50,2,1\n28,1,1\n")?;
+    let rules = read_rules(rt.alloc(), RULES)?;
+    let form = form_of(rt.alloc(), &rules, worked::ALPHA)?;
     let mut book = Book::new(rt.alloc());
     assert!(rt; submits_and_withdraws(&mut book, &form)?);
     assert!(rt; closes(&mut book, &form)?);

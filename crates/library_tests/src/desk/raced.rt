@@ -3,7 +3,9 @@
 ghost use Rattle.std.specs.Prelude.{◌≡◌, ◌+◌};
 ghost use Rattle.auction_terms.specs.Terms.{session_count};
 
-use super::{RULES, alpha, blank, replies_are, submit};
+use super::{replies_are, submit};
+use crate::worked::books::blank;
+use crate::worked::{ALPHA, RULES, form_of};
 use auction_terms::{Rules, read_rules};
 use bid_book::Reply;
 use bid_desk::{Chair, ClosedBook, Desk, Round, Session};
@@ -81,7 +83,7 @@ fn is_one_or_the_other(closed: &ClosedBook, form: &Form) -> bool {
 fn a_thousand_submissions_against_the_close(rt: HostRuntime) -> Result<(), Fail> {
     for round in 0..1000u32 {
         let rules = read_rules(rt.alloc(), RULES)?;
-        let form = alpha(rt.alloc(), &rules)?;
+        let form = form_of(rt.alloc(), &rules, ALPHA)?;
         let blank = blank(&rules)?;
         let closed = raced::<Brand, _>(&rt, rt.alloc(), blank, rules, &form).ok_or("settled")?;
         assert!(rt; is_one_or_the_other(&closed, &form), "round {round}");

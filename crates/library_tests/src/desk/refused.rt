@@ -4,9 +4,11 @@
 ghost use Rattle.std.specs.Prelude.{◌≡◌, ◌+◌};
 ghost use Rattle.auction_terms.specs.Terms.{session_count};
 
-use super::{RULES, alpha, blank, replies_are};
+use super::replies_are;
+use crate::worked::books::blank;
+use crate::worked::{ALPHA, RULES, form_of, shown};
 use auction_terms::{Rules, read_rules};
-use bid_book::{Entry, Reply, Standing};
+use bid_book::{Entry, Reply};
 use bid_desk::{Cause, Chair, ClosedBook, Desk, OpenError, Round, Session, Stopped, Unsettled};
 use bid_forms::Form;
 use std::alloc::Global;
@@ -57,17 +59,10 @@ const ROUND: [Ask; 9] = [
     Ask::Close,
 ];
 
-fn shown(number: u32, form: &Arc<Form, Global>) -> Result<Reply, Fail> {
-    let form = Arc::try_clone(form)?;
-    Ok(Reply::Shown {
-        standing: Some(Standing { number, form }),
-    })
-}
-
 /// The answers of the round.
 fn answers_of(form: &Arc<Form, Global>) -> Result<[Reply; 9], Fail> {
-    let first = shown(1, form)?;
-    let last = shown(3, form)?;
+    let first = shown(form, 1)?;
+    let last = shown(form, 3)?;
     Ok([
         Reply::Accepted { number: 1 },
         first,
@@ -216,7 +211,7 @@ fn round<L: Round, R: Wait>(
 #[test]
 fn a_round_of_nine_entries(rt: HostRuntime) -> Result<(), Fail> {
     let rules = read_rules(rt.alloc(), RULES)?;
-    let form = alpha(rt.alloc(), &rules)?;
+    let form = form_of(rt.alloc(), &rules, ALPHA)?;
     let blank = blank(&rules)?;
     let replies = answers_of(&form)?;
     let closed = round::<Brand, _>(&rt, rt.alloc(), blank, rules, &form, &replies);

@@ -1,7 +1,7 @@
 //! What is read where any one growth is refused (see tools/refuse_calls): nothing, for want of memory, or what is read with
 //! ample memory.
 
-use super::RULES;
+use crate::worked::RULES;
 use auction_terms::read_rules;
 use bid_forms::{FormFault, read_form};
 use std::test::Fail;

@@ -1,8 +1,9 @@
 //! What is kept and ordered, by the calls themselves. Where any one growth is refused (see tools/refuse_calls), they tell
 //! want of memory, or the same.
 
-use super::books::book_of;
-use super::{ALPHA, BETA, GAMMA, KEPT, RULES};
+use super::KEPT;
+use crate::worked::books::{book_of, worked_book};
+use crate::worked::{ALPHA, RULES};
 use auction_terms::{Kept, KeptBid, Rules, read_groups, read_rules};
 use bid_desk::ClosedBook;
 use bid_forms::read_form;
@@ -43,7 +44,7 @@ fn keeps<R: Threads + Sync>(
 
 #[test]
 fn the_worked_forms_are_kept(rt: HostRuntime) -> Result<(), Fail> {
-    let book = book_of(&rt, rt.alloc(), RULES, &[ALPHA, BETA, GAMMA])?;
+    let book = worked_book(&rt, rt.alloc())?;
     for (line, bids) in [
         (
             b"-\n".as_slice(),

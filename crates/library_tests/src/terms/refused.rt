@@ -1,7 +1,7 @@
 //! What the readers answer where any one growth is refused (see tools/refuse_calls): that memory is short, or what they
 //! answer with ample memory.
 
-use super::RULES;
+use crate::worked::RULES;
 use auction_terms::{
     Bidder, Category, GroupFault, Groups, Pool, RulesFault, read_groups, read_rules,
 };

@@ -1,7 +1,8 @@
 //! What is written where any one growth is refused (see tools/refuse_calls): the whole text, or a front of it of as many
 //! bytes as the fault tells. Writing itself takes no memory.
 
-use super::{RULES, TEXT};
+use super::TEXT;
+use crate::worked::RULES_OF_ONE;
 use auction_terms::{Kept, read_rules};
 use mps_text::{MemorySink, WriteFault, write_program};
 use program_rows::build;
@@ -9,7 +10,7 @@ use std::test::Fail;
 
 #[test]
 fn a_text_or_its_front(rt: HostRuntime) -> Result<(), Fail> {
-    let rules = read_rules(rt.alloc(), RULES)?;
+    let rules = read_rules(rt.alloc(), RULES_OF_ONE)?;
     let program = build(rt.alloc(), &rules, &Kept::new(Vec::new(rt.alloc())))?;
     let mut sink = MemorySink::new(rt.alloc());
     match write_program(&program, &mut sink) {

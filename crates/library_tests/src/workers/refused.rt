@@ -1,7 +1,8 @@
 //! What is compiled, by the calls themselves. Where any one growth or start of a thread is refused (see
 //! tools/refuse_calls), they tell want of memory, or the same.
 
-use super::{ALL, WITHOUT_ALL, WITHOUT_BETA, worked_book};
+use super::{ALL, WITHOUT_ALL, WITHOUT_BETA};
+use crate::worked::books::worked_book;
 use auction_terms::read_groups;
 use group_compiler::{Claims, Compiled, OpenGate, compile_all, compile_one};
 use mps_text::{MemorySink, WriteFault};

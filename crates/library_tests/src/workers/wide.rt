@@ -1,14 +1,12 @@
 //! The programs of the largest form, by several workers.
 
-use super::book_of;
+use crate::worked::WIDE_RULES;
+use crate::worked::books::book_of;
 use auction_terms::read_groups;
 use group_compiler::{OpenGate, compile_all};
 use std::alloc::Global;
 use std::fmt::Write;
 use std::test::Fail;
-
-const WIDE_RULES: &[u8] =
-    b"rules,1,1,,\ncategory,A,10000,0,0\ncategory,B,10000,0,0\nbidder,Alpha,0,1,\n";
 
 /// Bid j offers j for j lots of A and 4,001 - j of B, so none of the 4,000 dominates another.
 fn text_of_4000(alloc: Global) -> Result<String, Fail> {

@@ -1,6 +1,6 @@
 use Rattle.std.proofs.Common.{◌≡◌, ◌∷◌, [], map}
 use Rattle.program_rows.specs.Parts.{shown_row, table_of}
-use Rattle.optimality.proofs.Worked.{is_program_of, odd, rows_are}
+use Rattle.library_tests.proofs.OddCycle.{is_program_of, odd, rows_are}
 use Rattle.library_tests.proofs.certificates.odd_cycle.Goals as goal
 
 pub from_parts-requires : goal.from_parts-requires

@@ -1,6 +1,7 @@
 use Rattle.std.proofs.Common.{◌≡◌, ◌∙◌, [], map, ap}
 use Rattle.program_rows.specs.Parts.{shown_row, table_of}
-use Rattle.outcome.proofs.Worked.{fixed, is_fixed_program}
+use Rattle.outcome.proofs.Worked.{fixed}
+use Rattle.library_tests.proofs.ThreeBidders.{is_fixed_program}
 use Rattle.library_tests.proofs.solutions.a_fixed_column_is_not_left_out.Goals as goal
 
 pub from_parts-program-requires : goal.from_parts-program-requires

@@ -1,4 +1,4 @@
-use Rattle.library_tests.proofs.workers.book_of.Given as goal
+use Rattle.library_tests.proofs.worked.books.book_of.Given as goal
 
 abbrev pub ghosts-settled-L-Ledger : goal.ghosts-settled-L-Ledger
 ghosts-settled-L-Ledger g a = record { name = a.blank.name; parts = a.blank.parts }

@@ -3,9 +3,10 @@
 ghost use Rattle.std.specs.Prelude.{◌≡◌, ◌+◌, IfOk};
 ghost use Rattle.auction_terms.specs.Terms.{session_count};
 
+use super::{ALPHA, BETA, GAMMA, RULES, form_of};
 use auction_terms::{Rules, read_rules};
 use bid_desk::{ClosedBook, Desk, Round, Session};
-use bid_forms::{Form, read_form};
+use bid_forms::Form;
 use std::alloc::Global;
 use std::marker::Brand;
 use std::sync::ledger::Blank;
@@ -13,7 +14,7 @@ use std::sync::{Arc, Wait};
 use std::test::Fail;
 
 /// A ledger of as many parts as a desk needs.
-fn blank(rules: &Rules) -> Result<Blank, Fail>
+pub fn blank(rules: &Rules) -> Result<Blank, Fail>
     ensures { IfOk result (λ blank. blank.parts ≡ session_count rules.now + 1) }
 {
     let parts = (rules.session_count() as u64)
@@ -72,9 +73,14 @@ pub fn book_of<R: Wait>(
     let rules = read_rules(alloc, rules)?;
     let mut forms = Vec::new(alloc);
     for text in texts {
-        forms.push(Arc::new(alloc, read_form(alloc, *text, &rules)?)?)?;
+        forms.push(form_of(alloc, &rules, *text)?)?;
     }
     let blank = blank(&rules)?;
     let book = settled::<Brand, _>(rt, alloc, blank, rules, forms.as_slice());
     Ok(book.ok_or("out of memory")?)
+}
+
+/// The book of the worked auction.
+pub fn worked_book<R: Wait>(rt: &R, alloc: Global) -> Result<ClosedBook, Fail> {
+    book_of(rt, alloc, RULES, &[ALPHA, BETA, GAMMA])
 }
