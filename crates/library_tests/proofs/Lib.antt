@@ -1,3 +1,4 @@
 mod Named
 mod OddCycle
 mod ThreeBidders
+mod LongName

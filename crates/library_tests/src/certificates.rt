@@ -4,6 +4,8 @@ use program_rows::{Bounds, Columns, Point, Program, ProgramParts};
 use std::alloc::{AllocError, Global};
 use std::test::Fail;
 
+mod refused;
+
 // That no point of the odd cycle lies below 3.
 const SHOWN: &[u8] = b"# X1 is 0, or it is 1\nsplit 0 X1 1\n\nbound 1 2 B 2\nbound 1 2 A1 2 A2 2\n";
 

@@ -10,26 +10,36 @@ use program_rows::build;
 use std::alloc::Global;
 use std::test::Fail;
 
+mod long_names;
 mod refused;
 
-/// A sink that notes the shortest and the longest piece that it was handed.
+/// A sink that keeps its bytes, and notes the shortest and the longest piece that it was handed.
 #[derive(Drop)]
 struct Lengths {
-    count: usize,
+    text: MemorySink,
     shortest: usize,
     longest: usize,
+}
+
+impl Lengths {
+    fn new(alloc: Global) -> Lengths {
+        Lengths {
+            text: MemorySink::new(alloc),
+            shortest: usize::MAX,
+            longest: 0,
+        }
+    }
 }
 
 impl Sink for Lengths {
     ghost taken = { λ _. None };
 
-    ghost failures = { λ _. 0 };
+    ghost failures = { λ s. ⟦<MemorySink as Sink>⟧.failures s.text };
 
     fn put(&mut self, bytes: &[u8]) -> Result<usize, SinkFailed> {
-        self.count = self.count.saturating_add(bytes.len());
         self.shortest = self.shortest.min(bytes.len());
         self.longest = self.longest.max(bytes.len());
-        Ok(bytes.len())
+        self.text.put(bytes)
     }
 }
 
@@ -103,17 +113,13 @@ fn pieces_go_out_in_order(rt: HostRuntime) -> Result<(), Fail> {
 #[test]
 fn long_names_go_out_in_pieces(rt: HostRuntime) -> Result<(), Fail> {
     let name = vec![in rt.alloc(); b'R'; 70_000]?;
-    let mut sink = Lengths {
-        count: 0,
-        shortest: usize::MAX,
-        longest: 0,
-    };
+    let mut sink = Lengths::new(rt.alloc());
     let mut block = Block::new();
     assert!(rt; add(&mut block, &mut sink, b" L ").is_ok());
     assert!(rt; add(&mut block, &mut sink, name.as_slice()).is_ok());
     assert!(rt; add(&mut block, &mut sink, b"\n").is_ok());
     assert!(rt; send(&mut block, &mut sink).is_ok());
-    assert_eq!(rt; sink.count, 70_004);
+    assert_eq!(rt; sink.text.bytes().len(), 70_004);
     assert!(rt; sink.shortest >= 1 && sink.longest <= BLOCK_LEN);
     Ok(())
 }

@@ -7,7 +7,7 @@ use super::ALPHA;
 use crate::worked;
 use crate::worked::{RULES, form_of, shown};
 use auction_terms::read_rules;
-use bid_book::{Book, Call, Caller, Reply, StepError};
+use bid_book::{Book, Call, Caller, Reply, Standing, StepError};
 use bid_forms::Form;
 use std::alloc::Global;
 use std::sync::Arc;
@@ -75,5 +75,24 @@ fn nine_entries(rt: HostRuntime) -> Result<(), Fail> {
     assert!(rt; submits_and_withdraws(&mut book, &form)?);
     assert!(rt; closes(&mut book, &form)?);
     assert_eq!(rt; book.history().len(), 9);
+    Ok(())
+}
+
+#[test]
+fn another_owner_or_want_of_memory(rt: HostRuntime) -> Result<(), Fail> {
+    let rules = read_rules(rt.alloc(), RULES)?;
+    let form = form_of(rt.alloc(), &rules, worked::ALPHA)?;
+    let reply = shown(&form, 7)?;
+    assert!(rt; reply.share()?.is_same(&reply));
+    let standing = Standing {
+        number: 7,
+        form: Arc::try_clone(&form)?,
+    };
+    assert!(rt; standing.share()?.is_same(&standing));
+    let call = Call::Submit {
+        form,
+        over: Some(7),
+    };
+    assert!(rt; call.share()?.is_same(&call));
     Ok(())
 }

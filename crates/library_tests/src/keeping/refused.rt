@@ -7,7 +7,7 @@ use crate::worked::{ALPHA, RULES};
 use auction_terms::{Kept, KeptBid, Rules, read_groups, read_rules};
 use bid_desk::ClosedBook;
 use bid_forms::read_form;
-use presolve::{by_size, kept};
+use presolve::{Flags, by_size, kept};
 use std::alloc::Global;
 use std::sync::Wait;
 use std::test::Fail;
@@ -96,5 +96,35 @@ fn an_order_or_want_of_memory(rt: HostRuntime) -> Result<(), Fail> {
     let form = read_form(rt.alloc(), ALPHA, &rules)?;
     let numbers = by_size(rt.alloc(), &form, &rules)?;
     assert_eq!(rt; numbers.as_slice(), [1u16, 3, 2].as_slice());
+    Ok(())
+}
+
+/// Whether flags made once keep these bids, time after time, where the bidders of a line are left out.
+fn flags_keep<R: Threads + Sync>(
+    rt: &R,
+    alloc: Global,
+    book: &ClosedBook,
+    line: &[u8],
+    bids: &[(u16, u16)],
+) -> Result<bool, Fail> {
+    let groups = read_groups(alloc, line, book.rules())?;
+    if groups.count() != 1 {
+        return Ok(false);
+    }
+    let flags = Flags::new(rt, alloc, book)?;
+    for _ in 0..2 {
+        if !are_kept(&flags.kept(alloc, book, groups.group(1))?, bids) {
+            return Ok(false);
+        }
+    }
+    Ok(true)
+}
+
+#[test]
+fn flags_or_want_of_memory(rt: HostRuntime) -> Result<(), Fail> {
+    let book = worked_book(&rt, rt.alloc())?;
+    let all = [(1u16, 1u16), (1, 2), (2, 1), (3, 1)];
+    assert!(rt; flags_keep(&rt, rt.alloc(), &book, b"-\n", &all)?);
+    assert!(rt; flags_keep(&rt, rt.alloc(), &book, b"Gamma+Alpha\n", &[(2, 1)])?);
     Ok(())
 }

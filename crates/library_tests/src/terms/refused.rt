@@ -3,8 +3,10 @@
 
 use crate::worked::RULES;
 use auction_terms::{
-    Bidder, Category, GroupFault, Groups, Pool, RulesFault, read_groups, read_rules,
+    Bidder, Category, GroupFault, Groups, Pool, RecordReader, RulesFault, field, read_groups,
+    read_rules,
 };
+use csv::ByteRecord;
 use std::test::Fail;
 
 const POOLS: &[u8] =
@@ -108,5 +110,18 @@ fn one_empty_group_or_want_of_memory(rt: HostRuntime) -> Result<(), Fail> {
     let groups = Groups::only_empty(rt.alloc())?;
     assert_eq!(rt; groups.count(), 1);
     assert!(rt; groups.starts_empty());
+    Ok(())
+}
+
+#[test]
+fn records_or_want_of_memory(rt: HostRuntime) -> Result<(), Fail> {
+    let mut records = RecordReader::new(rt.alloc(), b"a,\"b\"\"c\"\r\n\nd");
+    let mut row = ByteRecord::new(rt.alloc());
+    assert!(rt; records.next(&mut row)?);
+    assert_eq!(rt; field(&row, 1), b"a".as_slice());
+    assert_eq!(rt; field(&row, 2), b"b\"c".as_slice());
+    assert!(rt; records.next(&mut row)?);
+    assert_eq!(rt; field(&row, 1), b"d".as_slice());
+    assert!(rt; !records.next(&mut row)?);
     Ok(())
 }
