@@ -10,6 +10,7 @@ use bid_forms::read_form;
 use presolve::{Flags, by_size};
 use std::alloc::Global;
 use std::fmt::Write;
+use std::sync::Wait;
 use std::test::Fail;
 use std::thread::Threads;
 
@@ -192,6 +193,29 @@ fn keeps_as_all_pairs<R: Threads + Sync>(
     Ok(bids.len() == count && plain.as_slice() == kept.as_slice())
 }
 
+// Whether the flags keep so many of the largest form of a kind.
+fn keeps_so_many<R: Threads + Wait + Sync>(
+    rt: &R,
+    alloc: Global,
+    many: Many,
+    count: usize,
+) -> Result<bool, Fail> {
+    let text = text_of_many(alloc, many, 4000)?;
+    let book = book_of(rt, alloc, WIDE_RULES, &[text.as_bytes()])?;
+    Ok(kept_by_flags(rt, alloc, &book)?.len() == count)
+}
+
+// Whether the flags keep the same of a form of 200 bids of a kind as comparing all pairs does.
+fn keeps_few_as_all_pairs<R: Threads + Wait + Sync>(
+    rt: &R,
+    alloc: Global,
+    many: Many,
+) -> Result<bool, Fail> {
+    let text = text_of_many(alloc, many, 200)?;
+    let book = book_of(rt, alloc, WIDE_RULES, &[text.as_bytes()])?;
+    keeps_as_all_pairs(rt, alloc, &book, WIDE, 200)
+}
+
 fn ordered(alloc: Global, rules: &Rules, text: &[u8]) -> Result<Vec<u16>, Fail> {
     let form = read_form(alloc, text, rules)?;
     Ok(by_size(alloc, &form, rules)?)
@@ -263,12 +287,8 @@ fn large_forms_keep_what_none_dominates(rt: HostRuntime) -> Result<(), Fail> {
         (Many::AgainstEachOther, 4000),
     ];
     for (many, count) in &rows {
-        let text = text_of_many(rt.alloc(), *many, 4000)?;
-        let book = book_of(&rt, rt.alloc(), WIDE_RULES, &[text.as_bytes()])?;
-        assert_eq!(rt; kept_by_flags(&rt, rt.alloc(), &book)?.len(), *count);
-        let text = text_of_many(rt.alloc(), *many, 200)?;
-        let book = book_of(&rt, rt.alloc(), WIDE_RULES, &[text.as_bytes()])?;
-        assert!(rt; keeps_as_all_pairs(&rt, rt.alloc(), &book, WIDE, 200)?);
+        assert!(rt; keeps_so_many(&rt, rt.alloc(), *many, *count)?);
+        assert!(rt; keeps_few_as_all_pairs(&rt, rt.alloc(), *many)?);
     }
     Ok(())
 }
