@@ -11,6 +11,8 @@ use std::sync::Wait;
 use std::test::Fail;
 use std::thread::Threads;
 
+mod refused;
+
 const ONE_FORM: &[u8] =
     b"%rules\nrules,1,1,,\ncategory,A,2,10,1\ncategory,B,1,5,1\nbidder,Alpha,9,2,\nbidder,Beta,9,1,\nbidder,Gamma,9,1,\n%form\nGamma,A,B\n12,0,1\n";
 

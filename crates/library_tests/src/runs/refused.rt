@@ -1,0 +1,161 @@
+//! What the program's calls answer. Where any one growth or start of a thread is refused (see tools/refuse_calls), they
+//! tell want of memory and have put nothing, or the same.
+
+ghost use Rattle.std.specs.Prelude.{ℕ, List, Option, None};
+
+use super::{
+    ONE_FORM, ONE_FORM_TEXT, REPORT, SOLVED, SOLVED_TWICE, TWO_GROUPS, TWO_PROGRAMS, WINNERS,
+};
+use answers::{RunFault, run, run_compile, tell};
+use auction_input::{PartFault, Refusal, Request, Source, read_auction, split_parts};
+use group_compiler::OpenGate;
+use mps_text::{Sink, SinkFailed};
+use std::sync::Wait;
+use std::test::Fail;
+use std::thread::Threads;
+
+const SHORT: &[u8] = b"wdp: out of memory\n";
+
+/// Compares the bytes that it takes with those that it expects, and takes no memory.
+#[derive(Drop)]
+struct Expected {
+    whole: &'static [u8],
+    rest: &'static [u8],
+    is_other: bool,
+}
+
+impl Expected {
+    fn new(whole: &'static [u8]) -> Expected {
+        Expected {
+            whole,
+            rest: whole,
+            is_other: false,
+        }
+    }
+
+    /// Whether it has taken just what it expects.
+    fn is_whole(&self) -> bool {
+        !self.is_other && self.rest.is_empty()
+    }
+
+    /// Whether it has taken nothing.
+    fn is_untouched(&self) -> bool {
+        !self.is_other && self.rest.len() == self.whole.len()
+    }
+}
+
+impl Sink for Expected {
+    ghost taken = { λ _. None };
+
+    ghost failures = { λ _. 0 };
+
+    fn put(&mut self, bytes: &[u8]) -> Result<usize, SinkFailed> {
+        match self.rest.strip_prefix(bytes) {
+            Some(rest) => self.rest = rest,
+            None => self.is_other = true,
+        }
+        Ok(bytes.len())
+    }
+}
+
+/// Want of memory where the refusal tells it, and else another failure.
+fn failure(refusal: &Refusal) -> Fail {
+    let mut faults = Expected::new(SHORT);
+    tell(refusal, &mut faults);
+    if faults.is_whole() {
+        Fail::from("out of memory")
+    } else {
+        Fail::from("another refusal")
+    }
+}
+
+/// Runs the program: the output is to be this one; or else nothing is put, and one line tells want of memory.
+fn answers<'w, R: Threads + Wait + Sync + AllocGlobal>(
+    rt: &R,
+    words: &'w [&'w str],
+    input: &[u8],
+    output: &'static [u8],
+) -> Result<(), Fail> {
+    let mut out = Expected::new(output);
+    let mut faults = Expected::new(SHORT);
+    match run(rt, words, &mut Source::new(input), &mut out, &mut faults) {
+        0 if out.is_whole() && faults.is_untouched() => Ok(()),
+        1 if out.is_untouched() && faults.is_whole() => Err(Fail::from("out of memory")),
+        _ => Err(Fail::from("another end")),
+    }
+}
+
+#[test]
+fn parts_or_want_of_memory(rt: HostRuntime) -> Result<(), Fail> {
+    let parts = match split_parts(rt.alloc(), &Request::Text, TWO_GROUPS) {
+        Ok(parts) => parts,
+        Err(PartFault::OutOfMemory) => return Err(Fail::from("out of memory")),
+        Err(_) => return Err(Fail::from("parts")),
+    };
+    assert_eq!(rt; parts.rules.len(), 1);
+    assert_eq!(rt;
+        parts.forms.as_slice(),
+        [b"Gamma,A,B\n12,0,1\n".as_slice()].as_slice()
+    );
+    assert_eq!(rt;
+        parts.groups.as_slice(),
+        [b"Gamma\n-\n".as_slice()].as_slice()
+    );
+    assert_eq!(rt; parts.solutions.len(), 0);
+    Ok(())
+}
+
+#[test]
+fn programs_or_want_of_memory(rt: HostRuntime) -> Result<(), Fail> {
+    let auction = match read_auction(&rt, &Request::Compile { workers: 2 }, TWO_GROUPS) {
+        Ok(auction) => auction,
+        Err(refusal) => return Err(failure(&refusal)),
+    };
+    let mut out = Expected::new(TWO_PROGRAMS);
+    let ended = run_compile(
+        &rt,
+        rt.alloc(),
+        &auction.book,
+        &auction.groups,
+        2,
+        &OpenGate,
+        &mut out,
+    );
+    match ended {
+        Ok(()) if out.is_whole() => Ok(()),
+        Err(RunFault::OutOfMemory { written: 0 }) if out.is_untouched() => {
+            Err(Fail::from("out of memory"))
+        }
+        _ => Err(Fail::from("another end")),
+    }
+}
+
+#[test]
+fn a_text_or_want_of_memory(rt: HostRuntime) -> Result<(), Fail> {
+    answers(&rt, &["wdp"], ONE_FORM, ONE_FORM_TEXT)
+}
+
+#[test]
+fn texts_or_want_of_memory(rt: HostRuntime) -> Result<(), Fail> {
+    answers(
+        &rt,
+        &["wdp", "compile", "--workers", "2"],
+        TWO_GROUPS,
+        TWO_PROGRAMS,
+    )
+}
+
+#[test]
+fn winners_or_want_of_memory(rt: HostRuntime) -> Result<(), Fail> {
+    answers(&rt, &["wdp", "map", "--group", "1"], SOLVED, WINNERS)
+}
+
+#[test]
+fn a_report_or_want_of_memory(rt: HostRuntime) -> Result<(), Fail> {
+    answers(
+        &rt,
+        &["wdp", "report", "--workers", "2"],
+        SOLVED_TWICE,
+        REPORT,
+    )
+}
