@@ -37,6 +37,16 @@ const SOLVED_TWICE: &[u8] =
 const REPORT: &[u8] =
     b"group 1 -\nAlpha 1 30\nBeta 1 20\nGamma 1 12\ntotal 62\ncost 0\ngroup 2 Beta\nAlpha 2 50\ntotal 50\ncost 8\n";
 
+/// What `check` tells of `ONE_FORM_TEXT`.
+const SIZES: &[u8] = b"rows 3 columns 1 entries 2\n";
+
+/// Four groups with their solutions, and with a certificate for each.
+const CERTIFIED: &[u8] =
+    b"%rules\nrules,1,1,,\ncategory,A,2,10,1\ncategory,B,1,5,1\nbidder,Alpha,9,2,\nbidder,Beta,9,1,\nbidder,Gamma,9,1,\n%form\nAlpha,A,B\n30,1,0\n50,2,1\n28,1,1\n%form\nBeta,A,B\n20,1,0\n45,3,0\n%form\nGamma,A,B\n12,0,1\n%groups\n-\nAlpha\nBeta\nBeta+Gamma\n%solution\nX1_1 1\nX2_1 1\nX3_1 1\n%solution\nX2_1 1\nX3_1 1\n%solution\nX1_2 1\n%solution\nX1_2 1\n%certificate\nsplit 0 X1_1 1 X1_2 1\nbound 1 50 B2 20 B3 12\nbound 1 0 B1 10 C1 20 C2 12\n%certificate\nbound 1 B2 20 B3 12\n%certificate\nbound 1 B1 38 C2 12\n%certificate\nbound 1 B1 50\n";
+
+const VERIFIED: &[u8] =
+    b"group 1 -\nAlpha 1 30\nBeta 1 20\nGamma 1 12\ntotal 62\ncost 0\ngroup 2 Alpha\nBeta 1 20\nGamma 1 12\ntotal 32\ncost 0\ngroup 3 Beta\nAlpha 2 50\ntotal 50\ncost 8\ngroup 4 Beta+Gamma\nAlpha 2 50\ntotal 50\ncost 20\n";
+
 /// Gives its bytes one by one, and fails once it was asked for more than `room` of them.
 #[derive(Drop)]
 struct LimitReader {
@@ -161,6 +171,25 @@ fn a_report_fails_at_every_byte(rt: HostRuntime) -> Result<(), Fail> {
     let words: [&str; 4] = ["wdp", "report", "--workers", "64"];
     for room in 0..102usize {
         let ended = ends_as_told(&rt, &words, SOLVED_TWICE, REPORT, room, 7)?;
+        assert!(rt; ended, "at {room}");
+    }
+    Ok(())
+}
+
+#[test]
+fn sizes_fail_at_every_byte(rt: HostRuntime) -> Result<(), Fail> {
+    for room in 0..28usize {
+        let ended = ends_as_told(&rt, &["wdp", "check"], ONE_FORM_TEXT, SIZES, room, 7)?;
+        assert!(rt; ended, "at {room}");
+    }
+    Ok(())
+}
+
+#[test]
+fn a_verified_report_fails_at_every_byte(rt: HostRuntime) -> Result<(), Fail> {
+    let words: [&str; 4] = ["wdp", "verify", "--workers", "2"];
+    for room in 0..197usize {
+        let ended = ends_as_told(&rt, &words, CERTIFIED, VERIFIED, room, 7)?;
         assert!(rt; ended, "at {room}");
     }
     Ok(())

@@ -4,7 +4,8 @@
 ghost use Rattle.std.specs.Prelude.{ℕ, List, Option, None};
 
 use super::{
-    ONE_FORM, ONE_FORM_TEXT, REPORT, SOLVED, SOLVED_TWICE, TWO_GROUPS, TWO_PROGRAMS, WINNERS,
+    CERTIFIED, ONE_FORM, ONE_FORM_TEXT, REPORT, SIZES, SOLVED, SOLVED_TWICE, TWO_GROUPS,
+    TWO_PROGRAMS, VERIFIED, WINNERS,
 };
 use answers::{RunFault, run, run_compile, tell};
 use auction_input::{PartFault, Refusal, Request, Source, read_auction, split_parts};
@@ -157,5 +158,20 @@ fn a_report_or_want_of_memory(rt: HostRuntime) -> Result<(), Fail> {
         &["wdp", "report", "--workers", "2"],
         SOLVED_TWICE,
         REPORT,
+    )
+}
+
+#[test]
+fn sizes_or_want_of_memory(rt: HostRuntime) -> Result<(), Fail> {
+    answers(&rt, &["wdp", "check"], ONE_FORM_TEXT, SIZES)
+}
+
+#[test]
+fn a_verified_report_or_want_of_memory(rt: HostRuntime) -> Result<(), Fail> {
+    answers(
+        &rt,
+        &["wdp", "verify", "--workers", "2"],
+        CERTIFIED,
+        VERIFIED,
     )
 }
