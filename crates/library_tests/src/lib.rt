@@ -1,14 +1,8 @@
-//! The libraries' calls as another crate makes them, with worked values.
+//! The calls of the libraries above the round, from kept bids to runs, as another crate makes them, with worked values.
 #![tactic(auto)]
 
 #[cfg(test)]
-mod book;
-#[cfg(test)]
 mod certificates;
-#[cfg(test)]
-mod desk;
-#[cfg(test)]
-mod forms;
 #[cfg(test)]
 mod keeping;
 #[cfg(test)]
@@ -19,8 +13,6 @@ mod reading;
 mod runs;
 #[cfg(test)]
 mod solutions;
-#[cfg(test)]
-mod terms;
 #[cfg(test)]
 mod texts;
 #[cfg(test)]

@@ -5,7 +5,6 @@ ghost use Rattle.program_rows.specs.declared.row.RowKind.TheVariants.{AtMost};
 ghost use Rattle.program_rows.specs.Parts.{shown_row};
 
 use auction_terms::Rules;
-use bid_book::{Reply, Standing};
 use bid_forms::{Form, read_form};
 use program_rows::{Row, RowKind};
 use std::alloc::{AllocError, Global};
@@ -45,14 +44,6 @@ pub const GAMMA: &[u8] = b"Gamma,A,B\n12,0,1\n";
 
 pub fn form_of(alloc: Global, rules: &Rules, text: &[u8]) -> Result<Arc<Form, Global>, Fail> {
     Ok(Arc::new(alloc, read_form(alloc, text, rules)?)?)
-}
-
-/// The reply that a form stands.
-pub fn shown(form: &Arc<Form, Global>, number: u32) -> Result<Reply, Fail> {
-    let form = Arc::try_clone(form)?;
-    Ok(Reply::Shown {
-        standing: Some(Standing { number, form }),
-    })
 }
 
 pub fn row(alloc: Global, name: &[u8], most: i64) -> Result<Row, AllocError>

@@ -4,8 +4,7 @@ ghost use Rattle.std.specs.Prelude.{◌≡◌, ◌+◌};
 ghost use Rattle.auction_terms.specs.Terms.{session_count};
 
 use super::{replies_are, submit};
-use crate::worked::books::blank;
-use crate::worked::{ALPHA, RULES, form_of};
+use crate::worked::{ALPHA, RULES, blank, form_of};
 use auction_terms::{Rules, read_rules};
 use bid_book::Reply;
 use bid_desk::{Chair, ClosedBook, Desk, Round, Session};

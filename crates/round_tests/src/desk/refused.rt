@@ -5,8 +5,7 @@ ghost use Rattle.std.specs.Prelude.{◌≡◌, ◌+◌};
 ghost use Rattle.auction_terms.specs.Terms.{session_count};
 
 use super::replies_are;
-use crate::worked::books::blank;
-use crate::worked::{ALPHA, RULES, form_of, shown};
+use crate::worked::{ALPHA, RULES, blank, form_of, shown};
 use auction_terms::{Rules, read_rules};
 use bid_book::{Entry, Reply};
 use bid_desk::{Cause, Chair, ClosedBook, Desk, OpenError, Round, Session, Stopped, Unsettled};

@@ -1,8 +1,7 @@
 ghost use Rattle.std.specs.Prelude.{◌≡◌, ◌+◌};
 ghost use Rattle.auction_terms.specs.Terms.{session_count};
 
-use crate::worked::books::blank;
-use crate::worked::{ALPHA, GAMMA, RULES, form_of};
+use crate::worked::{ALPHA, GAMMA, RULES, blank, form_of};
 use auction_terms::{Rules, read_rules};
 use bid_book::{Entry, Reply};
 use bid_desk::{ClosedBook, Desk, Round, Session};
