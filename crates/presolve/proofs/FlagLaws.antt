@@ -13,9 +13,9 @@ use Rattle.auction_terms.specs.Packages.{Lots, is_within, is_smaller, fits, size
 use Rattle.auction_terms.specs.Domination.{is_no_cheaper, dominates, pays, is_kept}
 use Rattle.auction_terms.proofs.PackageLaws.{fits_smaller, within_at, size_le, size_lt}
 use Rattle.auction_terms.proofs.WeighedLaws.{le_test}
-use Rattle.presolve.proofs.MaskLaws.{mask_within}
+use Rattle.presolve.proofs.MaskLaws.{mask_within, over_within}
 use Rattle.presolve.specs.declared.order.SizedBid.{SizedBid}
-use Rattle.presolve.specs.Sizes.{IsUpTo, Sized, sized_of, fitting_from, IsOrdered, AreRivals, TellsItsBid, TellsItsNet, beats}
+use Rattle.presolve.specs.Sizes.{IsUpTo, Sized, sized_of, fitting_from, IsOrdered, IsAlike, AreRivals, TellsItsBid, TellsItsNet, beats}
 
 -- behind a bid that isn't smaller there is none that is smaller
 none_below : (n : ℕ) (r : SizedBid) (rivals : List SizedBid) → n ≤ r.size → ((k : ℕ) (d : SizedBid) → k < length rivals → r.size ≤ (slice_index_or rivals k d).size) → AllByRecursion (λ (s : SizedBid). n ≤ s.size) rivals
@@ -66,19 +66,24 @@ none_over_peak x s told less = none_over x s s.place (subst (λ (most : ℕ). sl
 none_lacking : (x s : SizedBid) → TellsItsBid s → TellsItsBid x → length s.bid.now.package ≡ length x.bid.now.package → bit_and s.mask x.mask ≢ s.mask → beats x s ≡ false
 none_lacking x s told own long lacks = none_uncovered x s (false_from_ne_true (is_within s.bid.now.package x.bid.now.package) (λ w. lacks (ap₂ bit_and told.mask own.mask ∙ mask_within s.bid.now.package x.bid.now.package long w ∙ sym told.mask)))
 
+-- nor is one that hasn't more than the middle quantity where the rival has
+none_below_middle : (x s : SizedBid) → IsAlike x s → length s.bid.now.package ≡ length x.bid.now.package → bit_and s.high x.high ≢ s.high → beats x s ≡ false
+none_below_middle x s alike long lacks = none_uncovered x s (false_from_ne_true (is_within s.bid.now.package x.bid.now.package) (λ w. lacks (ap₂ bit_and alike.second alike.first ∙ over_within alike.middles s.bid.now.package x.bid.now.package long w ∙ sym alike.second)))
+
 -- nor is one that is out of reach
-pub out_of_reach : (x s : SizedBid) (more lacks peak : Bool) → TellsItsBid s → TellsItsBid x → length s.bid.now.package ≡ length x.bid.now.package
-    → (more ≡ true → s.net <ℤ x.net) → (lacks ≡ true → bit_and s.mask x.mask ≢ s.mask) → (peak ≡ true → slice_index x.bid.now.package s.place < s.most)
-    → IsTrue ((more || lacks) || peak) → beats x s ≡ false
-out_of_reach x s true lacks peak told own long a b c t = none_above x s (a refl)
-out_of_reach x s false true peak told own long a b c t = none_lacking x s told own long (b refl)
-out_of_reach x s false false true told own long a b c t = none_over_peak x s told (c refl)
-out_of_reach x s false false false told own long a b c t = absurd (both_ways false refl t)
+pub out_of_reach : (x s : SizedBid) (more lacks low peak : Bool) → TellsItsBid s → TellsItsBid x → length s.bid.now.package ≡ length x.bid.now.package → IsAlike x s
+    → (more ≡ true → s.net <ℤ x.net) → (lacks ≡ true → bit_and s.mask x.mask ≢ s.mask) → (low ≡ true → bit_and s.high x.high ≢ s.high) → (peak ≡ true → slice_index x.bid.now.package s.place < s.most)
+    → IsTrue (((more || lacks) || low) || peak) → beats x s ≡ false
+out_of_reach x s true lacks low peak told own long alike a b e c t = none_above x s (a refl)
+out_of_reach x s false true low peak told own long alike a b e c t = none_lacking x s told own long (b refl)
+out_of_reach x s false false true peak told own long alike a b e c t = none_below_middle x s alike long (e refl)
+out_of_reach x s false false false true told own long alike a b e c t = none_over_peak x s told (c refl)
+out_of_reach x s false false false false told own long alike a b e c t = absurd (both_ways false refl t)
 
 -- the net of one that is in reach isn't lower
-pub within_reach : (s x : ℤ) (more lacks peak : Bool) → (more ≡ false → x ≤ℤ s) → ((more || lacks) || peak) ≡ false → x ≤ℤ s
-within_reach s x false lacks peak a t = a refl
-within_reach s x true lacks peak a t = absurd (both_ways true t refl)
+pub within_reach : (s x : ℤ) (more lacks low peak : Bool) → (more ≡ false → x ≤ℤ s) → (((more || lacks) || low) || peak) ≡ false → x ≤ℤ s
+within_reach s x false lacks low peak a t = a refl
+within_reach s x true lacks low peak a t = absurd (both_ways true t refl)
 
 -- a smaller rival within the bid beats it where its net isn't lower
 pub beaten_at : (x : SizedBid) (rivals : List SizedBid) (i : ℕ) (r : SizedBid) → i < length rivals → r ≡ get_or rivals i r → r.size < x.size → x.net ≤ℤ r.net → is_within r.bid.now.package x.bid.now.package ≡ true

@@ -1,15 +1,15 @@
 -- Laws of masks: what is within a package has no category but those of the package, and a walk by the bits comes to every place that has one.
-use Rattle.std.proofs.Common.{◌≡◌, ◌≢◌, ◌⊎◌, ⊎_elim, inl, inr, ◌+◌, ◌-◌, ◌*◌, ◌/◌, ◌%◌, ◌<◌, ◌≤◌, ◌^◌, ◌==◌, ℕ, zero, suc, Bool, true, false, cond, nat_le, List, [], ◌∷◌, length, slice_index, drop, arith, refl, sym, ap, ap₂, ◌∙◌, ne_eqb}
+use Rattle.std.proofs.Common.{◌≡◌, ◌≢◌, ◌⊎◌, ⊎_elim, inl, inr, ◌+◌, ◌-◌, ◌*◌, ◌/◌, ◌%◌, ◌<◌, ◌≤◌, ◌^◌, ◌==◌, ℕ, zero, suc, Bool, true, false, cond, nat_le, nat_lt, List, [], ◌∷◌, length, slice_index, drop, arith, refl, sym, ap, ap₂, ◌∙◌, ne_eqb}
 use Rattle.std.specs.Int.{bit_at, from_bool, trailing_zeros, w32}
 use Rattle.std.specs.Int.Bits.{bit_and}
-use Rattle.std.proofs.lemmas.Bool.{and_parts, both_ways, cases_eq, cases_lt, cond-false, lt-leb}
+use Rattle.std.proofs.lemmas.Bool.{and_parts, both_ways, cases_eq, cases_lt, cond-false, cond-true, le-ltb, leb-true, lt-leb, lt-ltb}
 use Rattle.std.proofs.lemmas.List.{length-drop}
 use Rattle.std.proofs.Math.Nat.{pow-suc}
 use Rattle.std.proofs.Math.Pow.{pow_mono}
 use Rattle.std.proofs.lemmas.Nat.{and_block, and_le_l}
 use Rattle.std.proofs.lemmas.Nat.Bits.{bit_at-suc, bit_at-trailing_zeros, bit_at_above, bit_at_and, bit_at_lowest}
 use Rattle.auction_terms.specs.Packages.{is_within}
-use Rattle.presolve.specs.Masks.{mask_of}
+use Rattle.presolve.specs.Masks.{mask_of, mask_over}
 
 one_bit : (b : Bool) → cond b 0 1 ≤ 1
 one_bit true = omega arith
@@ -52,6 +52,41 @@ mask_within (x ∷ xs) (y ∷ ys) long within =
     let other = one_bit (y == 0) in
     let block = and_block 1 (mask_of xs) (mask_of ys) (some_bit x) (some_bit y) (omega arith) (omega arith) in
     block ∙ ap₂ (λ (m n : ℕ). m * 2 + n) (mask_within xs ys (omega arith) parts.1) (bit_within x y parts.0)
+
+over_bit_at_most : (b : Bool) → cond b 1 0 ≤ 1
+over_bit_at_most true = omega arith
+over_bit_at_most false = omega arith
+
+-- a bit for each category
+pub over_below : (ms xs : List ℕ) → mask_over ms xs < 2 ^ length xs
+over_below ms [] = omega arith
+over_below [] (x ∷ xs) = (let some = pow_mono {i = 0} {j = length (x ∷ xs)} (omega arith) in omega arith)
+over_below (m ∷ ms) (x ∷ xs) = (let rest = over_below ms xs in let more = pow-suc 2 (length xs) in let low = over_bit_at_most (nat_lt m x) in omega arith)
+
+pub over_room : (k : ℕ) (ms xs : List ℕ) → 1 ≤ k → length xs ≤ 32 → mask_over (drop k ms) (drop k xs) < 2 ^ 31
+over_room k ms xs some few = (let below = over_below (drop k ms) (drop k xs) in let least = short k xs some few in omega arith)
+
+over_bit_within : (m x y : ℕ) → nat_le x y ≡ true → bit_and (cond (nat_lt m x) 1 0) (cond (nat_lt m y) 1 0) ≡ cond (nat_lt m x) 1 0
+over_bit_within m x y within = ⊎_elim
+    (λ (less : m < x). (let own : cond (nat_lt m x) 1 0 ≡ 1 = cond-true (nat_lt m x) 1 0 (lt-ltb m x less) in
+    let other : cond (nat_lt m y) 1 0 ≡ 1 = cond-true (nat_lt m y) 1 0 (lt-ltb m y (let up = leb-true x y within in omega arith)) in
+    ap₂ (λ (a b : ℕ). bit_and a b) own other ∙ sym own))
+    (λ (most : x ≤ m). (let own : cond (nat_lt m x) 1 0 ≡ 0 = cond-false (nat_lt m x) 1 0 (le-ltb m x most) in
+    let none : bit_and 0 (cond (nat_lt m y) 1 0) ≡ 0 = (let low = and_le_l 0 (cond (nat_lt m y) 1 0) in omega arith) in
+    ap (λ (a : ℕ). bit_and a (cond (nat_lt m y) 1 0)) own ∙ none ∙ sym own))
+    (cases_lt m x)
+
+-- what is within a package is over in no category but those where the package is
+pub over_within : (ms xs ys : List ℕ) → length xs ≡ length ys → is_within xs ys ≡ true → bit_and (mask_over ms xs) (mask_over ms ys) ≡ mask_over ms xs
+over_within ms [] ys long within = (let low = and_le_l 0 (mask_over ms ys) in omega arith)
+over_within ms (x ∷ xs) [] long within = absurd (omega arith)
+over_within [] (x ∷ xs) (y ∷ ys) long within = (let low = and_le_l 0 0 in omega arith)
+over_within (m ∷ ms) (x ∷ xs) (y ∷ ys) long within =
+    let parts = and_parts (nat_le x y) (is_within xs ys) within in
+    let own = over_bit_at_most (nat_lt m x) in
+    let other = over_bit_at_most (nat_lt m y) in
+    let block = and_block 1 (mask_over ms xs) (mask_over ms ys) (cond (nat_lt m x) 1 0) (cond (nat_lt m y) 1 0) (omega arith) (omega arith) in
+    block ∙ ap₂ (λ (a b : ℕ). a * 2 + b) (over_within ms xs ys (omega arith) parts.1) (over_bit_within m x y parts.0)
 
 -- the bits of a number with one more, the lowest
 pub first_bit : (m b : ℕ) → b ≤ 1 → bit_at (m * 2 + b) 0 ≡ b

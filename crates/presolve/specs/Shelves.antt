@@ -3,7 +3,7 @@ use Rattle.std.specs.Prelude.{◌≡◌, ◌+◌, ◌*◌, ◌<◌, ◌≤◌, �
 use Rattle.std.specs.List.{AllZip, list_any}
 use Rattle.presolve.specs.declared.order.SizedBid.{SizedBid}
 use Rattle.presolve.specs.declared.shelves.Shelf.{Shelf}
-use Rattle.presolve.specs.Sizes.{AreRivals, beats}
+use Rattle.presolve.specs.Sizes.{AreRivals, IsAlike, beats}
 
 -- rising nets, none below that of the bid at its place
 pub record AreGreatest (bids : List SizedBid) (greatest : List ℤ) : Type 0 where
@@ -32,6 +32,10 @@ pub record IsStocked (n place : ℕ) (shelf : Shelf) : Type 0 where
 pub record AreStocked (n : ℕ) (shelves : List Shelf) : Type 0 where
   pub count : length shelves ≡ n
   pub each : (k : ℕ) (d : Shelf) → k < n → IsStocked n k (slice_index_or shelves k d)
+
+-- the bids on the shelves and the bid tell their masks by the same middle quantities
+abbrev pub AreAlike : SizedBid → List Shelf → Type 0
+AreAlike x shelves = (k : ℕ) (d : Shelf) → k < length shelves → All (IsAlike x) (slice_index_or shelves k d).bids.items
 
 -- a mask of the places at which a bid on the shelf may have none: one bit for each, the lowest one for the first
 abbrev pub bare_places : List Shelf → ℕ

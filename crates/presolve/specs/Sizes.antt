@@ -6,7 +6,7 @@ use Rattle.auction_terms.specs.Packages.{Lots, is_within, fits, size}
 use Rattle.auction_terms.specs.Domination.{net}
 use Rattle.auction_terms.specs.Allocations.{bid_at}
 use Rattle.presolve.specs.declared.order.SizedBid.{SizedBid}
-use Rattle.presolve.specs.Masks.{mask_of}
+use Rattle.presolve.specs.Masks.{mask_of, mask_over}
 
 -- how many lots bid j of a form asks for
 abbrev pub size_at : List Bid → ℕ → ℕ
@@ -49,6 +49,16 @@ pub record TellsItsBid (s : SizedBid) : Type 0 where
   pub place : s.place < length s.bid.now.package
   pub most : s.most ≡ slice_index s.bid.now.package s.place
 
+-- it tells of which categories its bid has more than the middle quantities
+abbrev pub IsOver : List ℕ → SizedBid → Type 0
+IsOver middles s = s.high ≡ mask_over middles s.bid.now.package
+
+-- both tell it by the same middle quantities
+pub record IsAlike (x s : SizedBid) : Type 0 where
+  pub middles : List ℕ
+  pub first : IsOver middles x
+  pub second : IsOver middles s
+
 -- it tells the net of its bid
 abbrev pub TellsItsNet : Lots → SizedBid → Type 0
 TellsItsNet lots s = s.net ≡ net lots s.bid.now
@@ -60,6 +70,8 @@ pub record IsOrdered (lots : Lots) (form : List Bid) (bids : List SizedBid) : Ty
   pub moved : IsPermutation fitting bids
   pub rising : AllPairs (λ s t. IsUpTo s.size s.number t.size t.number) bids
   pub told : All TellsItsBid bids
+  pub middles : List ℕ
+  pub over : All (IsOver middles) bids
   pub nets : All (TellsItsNet lots) bids
 
 -- bids with a quantity for each of n categories, by rising size

@@ -7,8 +7,8 @@ ghost use Rattle.auction_terms.specs.Packages.{is_within};
 ghost use Rattle.auction_terms.specs.Terms.{lots_in};
 ghost use Rattle.auction_terms.specs.declared.limits.TheConstants.{MOST_BIDS};
 ghost use Rattle.bid_forms.specs.Offers.{IsWithinLimits};
-ghost use Rattle.presolve.specs.Shelves.{AreGreatest, AreStocked, bare_places, is_beaten_on};
-ghost use Rattle.presolve.specs.Sizes.{AreRivals, TellsItsBid, beats};
+ghost use Rattle.presolve.specs.Shelves.{AreAlike, AreGreatest, AreStocked, bare_places, is_beaten_on};
+ghost use Rattle.presolve.specs.Sizes.{AreRivals, IsAlike, TellsItsBid, beats};
 
 use crate::order::{SizedBid, ordered};
 use crate::shelves::{Shelf, bare_places, shelves};
@@ -29,18 +29,21 @@ fn first_over(quantities: &[u16], others: &[u16]) -> Option<usize>
     None
 }
 
-// Whether the rival's net is lower than the bid's, it has a category that the bid has none of, or it has more at its peak.
-// All is asked at once, since none of it is likely enough to be worth a branch.
+// Whether the rival's net is lower than the bid's, it has a category that the bid has none of, it has more than the middle
+// quantity of a category where the bid hasn't, or it has more at its peak. All is asked at once, since none of it is
+// likely enough to be worth a branch.
 fn is_out_of_reach(rival: &SizedBid<'_>, bid: &SizedBid<'_>) -> bool
     requires rival { TellsItsBid rival.now }
     requires bid { TellsItsBid bid.now }
     requires sized { length rival.now.bid.now.package ≡ length bid.now.bid.now.package }
+    requires alike { IsAlike bid.now rival.now }
     ensures beyond { IsTrue result → beats bid.now rival.now ≡ false }
     ensures net { result ≡ false → bid.now.net ≤ℤ rival.now.net }
 {
     let quantities = bid.bid.package.quantities();
     (rival.net < bid.net)
         | (rival.mask & bid.mask != rival.mask)
+        | (rival.high & bid.high != rival.high)
         | (rival.most > quantities[usize::from(rival.place)])
 }
 
@@ -49,6 +52,7 @@ fn is_out_of_reach(rival: &SizedBid<'_>, bid: &SizedBid<'_>) -> bool
 fn is_beaten(rivals: &[SizedBid<'_>], bid: &SizedBid<'_>) -> bool
     requires rivals { AreRivals (length bid.now.bid.now.package) rivals.now }
     requires bid { TellsItsBid bid.now }
+    requires alike { All (IsAlike bid.now) rivals.now }
     ensures { result ≡ list_any (beats bid.now) rivals.now }
 {
     let quantities = bid.bid.package.quantities();
@@ -75,6 +79,7 @@ fn is_beaten_at(shelf: &Shelf<'_>, bid: &SizedBid<'_>) -> bool
     requires rivals { AreRivals (length bid.now.bid.now.package) shelf.now.bids.items }
     requires greatest { AreGreatest shelf.now.bids.items shelf.now.greatest.items }
     requires bid { TellsItsBid bid.now }
+    requires alike { All (IsAlike bid.now) shelf.now.bids.items }
     ensures { result ≡ list_any (beats bid.now) shelf.now.bids.items }
 {
     let first = first_as_great(&shelf.greatest, bid.net);
@@ -111,6 +116,7 @@ fn is_beaten_on(shelves: &[Shelf<'_>], bare: u32, bid: &SizedBid<'_>) -> bool
     requires shelves { AreStocked (length bid.now.bid.now.package) shelves.now }
     requires bare { bare ≡ bare_places shelves.now }
     requires bid { TellsItsBid bid.now }
+    requires alike { AreAlike bid.now shelves.now }
     ensures { result ≡ is_beaten_on shelves.now bid.now }
 {
     let quantities = bid.bid.package.quantities();
@@ -131,6 +137,7 @@ fn is_kept_beside(shelves: &[Shelf<'_>], bare: u32, bid: &SizedBid<'_>) -> bool
     requires shelves { AreStocked (length bid.now.bid.now.package) shelves.now }
     requires bare { bare ≡ bare_places shelves.now }
     requires bid { TellsItsBid bid.now }
+    requires alike { AreAlike bid.now shelves.now }
     ensures { result ≡ (int_le (pos 0) bid.now.net && not (is_beaten_on shelves.now bid.now)) }
 {
     bid.net >= 0 && !is_beaten_on(shelves, bare, bid)

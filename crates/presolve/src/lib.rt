@@ -6,6 +6,7 @@ mod flags;
 mod form_flags;
 mod keeping;
 mod masks;
+mod middles;
 mod order;
 mod shelves;
 

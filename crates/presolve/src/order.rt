@@ -3,24 +3,26 @@
 ghost use Rattle.std.specs.Prelude.{◌≡◌, ◌≤◌, ◌<◌, All, length, map, slice_index, IfOk};
 ghost use Rattle.auction_terms.specs.Packages.{size};
 ghost use Rattle.auction_terms.specs.Terms.{lots_in};
-ghost use Rattle.presolve.specs.Sizes.{fitting_from, sized_of, IsBySize, IsOrdered, TellsItsBid, TellsItsNet};
+ghost use Rattle.presolve.specs.Sizes.{fitting_from, sized_of, IsBySize, IsOrdered, IsOver, TellsItsBid, TellsItsNet};
 ghost use Rattle.auction_terms.specs.declared.limits.TheConstants.{GREATEST_AMOUNT, MOST_BIDS, MOST_CATEGORIES};
 ghost use Rattle.bid_forms.specs.Offers.{IsWithinLimits};
 
-use crate::masks::mask_of;
+use crate::masks::{mask_of, mask_over};
+use crate::middles::middles;
 use auction_terms::{Bid, Rules};
 use bid_forms::Form;
 use std::alloc::{AllocError, Global};
 
-/// A bid that fits, with the size of its package and its number in its form. Its net, the mask of the categories of which
-/// it has some and its peak (a place of its package, with the quantity there) stand here too, so that most comparisons
-/// need no look at the bid itself.
+/// A bid that fits, with the size of its package and its number in its form. Its net, the masks of the categories of which
+/// it has some and of which it has more than the middle quantity, and its peak (a place of its package, with the quantity
+/// there) stand here too, so that most comparisons need no look at the bid itself.
 #[derive(Clone, Copy)]
 pub(crate) struct SizedBid<'b> {
     pub(crate) net: i64,
     pub(crate) bid: &'b Bid,
     pub(crate) size: u32,
     pub(crate) mask: u32,
+    pub(crate) high: u32,
     pub(crate) most: u16,
     pub(crate) place: u16,
     pub(crate) number: u16,
@@ -41,11 +43,13 @@ fn peak(quantities: &[u16]) -> usize
     (greatest % 32) as usize
 }
 
-// A bid with its net, its size, its number, its mask and its peak.
-fn sized<'b>(rules: &Rules, bid: &'b Bid, number: u16) -> SizedBid<'b>
-    requires { bid.now.amount ≤ GREATEST_AMOUNT }
+// A bid with its net, its size, its number, its masks and its peak.
+fn sized<'b>(rules: &Rules, middles: &[u16], bid: &'b Bid, number: u16) -> SizedBid<'b>
+    requires amount { bid.now.amount ≤ GREATEST_AMOUNT }
+    requires middles { length middles.now ≡ length bid.now.package }
     ensures same { sized_of result ≡ record { size = size bid.now.package; number = number; bid = bid.now } }
     ensures told { TellsItsBid result }
+    ensures over { IsOver middles.now result }
     ensures net { TellsItsNet (lots_in rules.now) result }
 {
     let quantities = bid.package.quantities();
@@ -55,6 +59,7 @@ fn sized<'b>(rules: &Rules, bid: &'b Bid, number: u16) -> SizedBid<'b>
         bid,
         size: bid.package.size(),
         mask: mask_of(quantities),
+        high: mask_over(middles, quantities),
         most: quantities[place],
         place: place as u16,
         number,
@@ -65,19 +70,22 @@ fn sized<'b>(rules: &Rules, bid: &'b Bid, number: u16) -> SizedBid<'b>
 fn fitting<'b>(
     alloc: Global,
     rules: &Rules,
+    middles: &[u16],
     bids: &'b [Bid],
 ) -> Result<Vec<SizedBid<'b>>, AllocError>
     requires few { length bids.now ≤ MOST_BIDS }
     requires sized { All (λ bid. length bid.package ≡ length rules.now.categories) bids.now }
     requires limits { All IsWithinLimits bids.now }
+    requires middles { length middles.now ≡ length rules.now.categories }
     ensures same { IfOk result (λ fitting. map sized_of fitting.items ≡ fitting_from (lots_in rules.now) 1 bids.now) }
     ensures told { IfOk result (λ fitting. All TellsItsBid fitting.items) }
+    ensures over { IfOk result (λ fitting. All (IsOver middles.now) fitting.items) }
     ensures nets { IfOk result (λ fitting. All (TellsItsNet (lots_in rules.now)) fitting.items) }
 {
     let mut fitting = Vec::with_capacity(alloc, bids.len())?;
     for (place, bid) in bids.iter().enumerate() {
         if bid.package.fits(rules) {
-            fitting.push(sized(rules, bid, place as u16 + 1))?;
+            fitting.push(sized(rules, middles, bid, place as u16 + 1))?;
         }
     }
     Ok(fitting)
@@ -94,7 +102,8 @@ pub(crate) fn ordered<'b>(
     requires limits { All IsWithinLimits bids.now }
     ensures { IfOk result (λ ordered. IsOrdered (lots_in rules.now) bids.now ordered.items) }
 {
-    let mut ordered = fitting(alloc, rules, bids)?;
+    let middles = middles(alloc, bids, rules.categories().len())?;
+    let mut ordered = fitting(alloc, rules, &middles, bids)?;
     ordered.sort_unstable_by_key(
         |bid: &SizedBid| -> (u32, u16)
             ensures { result ≡ (bid.now.size, bid.now.number) }

@@ -1,13 +1,14 @@
-use Rattle.std.proofs.Common.{◌≡◌, ◌∙◌, ◌<◌, ◌≤◌, ◌+◌, ◌&&◌, ℕ, ℤ, pos, int_le, All, Bool, sym, ap, ap₂, subst, length, List, not, true, false, slice_index_or, arith}
+use Rattle.std.proofs.Common.{◌≡◌, ◌∙◌, ◌<◌, ◌≤◌, ◌+◌, ◌&&◌, ◌==◌, ℕ, ℤ, pos, int_le, All, Bool, sym, ap, ap₂, subst, length, List, not, true, false, slice_index_or, arith}
 use Rattle.auction_terms.specs.declared.rules.Category.{Category}
 use Rattle.auction_terms.specs.declared.bids.Bid.{Bid}
 use Rattle.auction_terms.specs.Packages.{Lots, fits}
 use Rattle.auction_terms.specs.Terms.{lots_in}
 use Rattle.std.proofs.lemmas.List.{length-set}
+use Rattle.std.proofs.lemmas.List.Elements.{All-filter}
 use Rattle.presolve.specs.declared.order.SizedBid.{SizedBid}
 use Rattle.presolve.specs.declared.shelves.Shelf.{Shelf}
-use Rattle.presolve.specs.Shelves.{AreShelves, bare_places, is_beaten_on}
-use Rattle.presolve.specs.Sizes.{IsOrdered, TellsItsBid, TellsItsNet, beats}
+use Rattle.presolve.specs.Shelves.{AreAlike, AreShelves, bare_places, is_beaten_on}
+use Rattle.presolve.specs.Sizes.{IsAlike, IsOrdered, IsOver, TellsItsBid, TellsItsNet, beats}
 use Rattle.presolve.proofs.FlagLaws.{all_fit, all_kept, are_rivals, rivals_suffice, stands}
 use Rattle.presolve.proofs.NumberLaws.{after_failing, after_passing, are_numbered, flags_by_number, none_left_over}
 use Rattle.presolve.proofs.ShelfLaws.{any_on, stocked}
@@ -17,6 +18,15 @@ use Rattle.presolve.proofs.form_flags.flags_of_form.Goals.{then-is_kept_beside, 
 -- the shelves of a form's rivals, as the calls answer them
 shelves_are : (m n : List Category) (lent rivals : List SizedBid) (shelves : List Shelf) → m ≡ n → lent ≡ rivals → AreShelves (length m) lent shelves → AreShelves (length n) rivals shelves
 shelves_are m n lent rivals shelves categories same a = subst (λ (rs : List SizedBid). AreShelves (length n) rs shelves) same (subst (λ (k : List Category). AreShelves (length k) lent shelves) categories a)
+
+-- the bids on the shelves tell their masks as one of them does
+alike_on : (lots : Lots) (n : ℕ) (form : List Bid) (items : List SizedBid) (shelves : List Shelf) (k : ℕ) (x : SizedBid) → IsOrdered lots form items → AreShelves n items shelves → k < length items → x ≡ slice_index_or items k x → AreAlike x shelves
+alike_on lots n form items shelves k x o a within is = λ i d small.
+    let shelf : Shelf = slice_index_or shelves i d in
+    let own : IsOver o.middles x = subst (IsOver o.middles) (sym is) (o.over k x within) in
+    let count = a.count in
+    subst (λ (bids : List SizedBid). All (IsAlike x) bids) (sym (a.each i d (omega arith)).own)
+    (All-filter (λ (s : SizedBid). s.place == i) (IsAlike x) items (λ j e l. record { middles = o.middles; first = own; second = o.over j e l }))
 
 pub is_kept_beside-requires : goal.is_kept_beside-requires
 is_kept_beside-requires c =
@@ -33,6 +43,7 @@ is_kept_beside-requires c =
       shelves = rw (size, c.deref-in-loop-rival.ensures.value) stock;
       bare = c.bare_places-bare.ensures ∙ ap bare_places (c.deref-2.ensures.value ∙ sym c.deref-in-loop-rival.ensures.value);
       bid = subst TellsItsBid (sym at) (rivals.told c.loop-rival.rival-index c.rival-item.result small);
+      alike = rw c.deref-in-loop-rival.ensures.value (alike_on lots (length categories) c.args.bids.now items c.in_ok-shelves.shelves.items c.loop-rival.rival-index c.rival-item.result c.in_ok-rivals.ensures shelves small at);
     }
 
 pub overflow_sub-from : goal.overflow_sub-from

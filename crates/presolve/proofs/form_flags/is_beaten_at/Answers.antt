@@ -2,8 +2,9 @@ use Rattle.std.proofs.Common.{◌≤◌, ℤ, ◌<ℤ◌, SFits, w64, rules, Lis
 use Rattle.std.specs.Prelude.{All}
 use Rattle.std.specs.List.{list_any}
 use Rattle.std.proofs.lemmas.Int.{to_z-of_z}
+use Rattle.std.proofs.lemmas.List.Elements.{All-drop}
 use Rattle.presolve.specs.declared.order.SizedBid.{SizedBid}
-use Rattle.presolve.specs.Sizes.{AreRivals, beats}
+use Rattle.presolve.specs.Sizes.{AreRivals, IsAlike, beats}
 use Rattle.presolve.proofs.GreatestLaws.{as_many, none_up_to, rivals_from}
 use Rattle.presolve.proofs.form_flags.is_beaten_at.Goals as goal
 
@@ -25,6 +26,7 @@ is_beaten-requires c =
     record {
       rivals = subst (λ (xs : List SizedBid). AreRivals n xs) (sym lent) (rivals_from n first shelf.bids.items c.requires.rivals);
       bid = c.requires.bid;
+      alike = subst (λ (xs : List SizedBid). All (IsAlike c.args.bid.now) xs) (sym lent) (All-drop (IsAlike c.args.bid.now) first shelf.bids.items c.requires.alike);
     }
 
 pub returns : goal.returns

@@ -6,7 +6,8 @@ use Rattle.std.proofs.lemmas.List.Folds.{list_any_at, list_any_none}
 use Rattle.std.proofs.lemmas.Nat.{and_le_l, or_lt}
 use Rattle.std.proofs.lemmas.Nat.Bits.{bit_at-zero}
 use Rattle.presolve.specs.declared.shelves.Shelf.{Shelf}
-use Rattle.presolve.specs.Sizes.{beats}
+use Rattle.std.specs.Prelude.{All}
+use Rattle.presolve.specs.Sizes.{IsAlike, beats}
 use Rattle.presolve.specs.Shelves.{AreStocked, IsStocked}
 use Rattle.presolve.proofs.MaskLaws.{lowest_taken, lowest_within, mask_below}
 use Rattle.presolve.proofs.ShelfLaws.{bare_below, none_on, none_passed}
@@ -51,6 +52,13 @@ pub is_beaten_at-requires-clause-greatest : goal.is_beaten_at-requires-clause-gr
 is_beaten_at-requires-clause-greatest c =
     let stocked = stocked_at (length c.args.bid.now.bid.now.package) c.loop-left.left c.args.shelves.now c.index-shelves-place.result c.requires.shelves c.loop-left-test.true (let fits = c.loop-left.auto.left-fits in omega arith) c.loop-left.invariant.within c.index-shelves-place.is in
     stocked.greatest
+
+pub is_beaten_at-requires-clause-alike : goal.is_beaten_at-requires-clause-alike
+is_beaten_at-requires-clause-alike c =
+    let shelves = c.args.shelves.now in
+    let fits = c.loop-left.auto.left-fits in
+    let within = lowest_within c.loop-left.left (length shelves) c.loop-left-test.true (omega arith) c.loop-left.invariant.within in
+    subst (λ (s : Shelf). All (IsAlike c.args.bid.now) s.bids.items) (sym c.index-shelves-place.is) (c.requires.alike (trailing_zeros w32 c.loop-left.left) c.index-shelves-place.result within)
 
 pub returns-then-is_beaten_at : goal.returns-then-is_beaten_at
 returns-then-is_beaten_at c =

@@ -12,9 +12,10 @@ returns-clause-beyond c beyond =
     let own = c.quantities-quantities.ensures.quantities in
     let theirs : SFits w64 rival.net = search rules in
     let mine : SFits w64 bid.net = search rules in
-    out_of_reach bid rival (int_lt rival.net bid.net) (not (nat_eq (bit_and rival.mask bid.mask) rival.mask)) (nat_lt (slice_index quantities c.from.result) rival.most) c.requires.rival c.requires.bid c.requires.sized
+    out_of_reach bid rival (int_lt rival.net bid.net) (not (nat_eq (bit_and rival.mask bid.mask) rival.mask)) (not (nat_eq (bit_and rival.high bid.high) rival.high)) (nat_lt (slice_index quantities c.from.result) rival.most) c.requires.rival c.requires.bid c.requires.sized c.requires.alike
     (λ e. less_from rival.net bid.net e)
     (λ e none. both_ways (not (nat_eq (bit_and rival.mask bid.mask) rival.mask)) (ap not (eq-eqb (bit_and rival.mask bid.mask) rival.mask none)) e)
+    (λ e none. both_ways (not (nat_eq (bit_and rival.high bid.high) rival.high)) (ap not (eq-eqb (bit_and rival.high bid.high) rival.high none)) e)
     (λ e. rw (← own, ← c.from.ensures) (ltb-true (slice_index quantities c.from.result) rival.most e))
     (simp to_z-of_z at beyond)
 
@@ -25,4 +26,4 @@ returns-clause-net c reach =
     let quantities = c.quantities-quantities.result.now in
     let theirs : SFits w64 rival.net = search rules in
     let mine : SFits w64 bid.net = search rules in
-    within_reach rival.net bid.net (int_lt rival.net bid.net) (not (nat_eq (bit_and rival.mask bid.mask) rival.mask)) (nat_lt (slice_index quantities c.from.result) rival.most) (λ e. not_less_from rival.net bid.net e) (simp to_z-of_z at reach)
+    within_reach rival.net bid.net (int_lt rival.net bid.net) (not (nat_eq (bit_and rival.mask bid.mask) rival.mask)) (not (nat_eq (bit_and rival.high bid.high) rival.high)) (nat_lt (slice_index quantities c.from.result) rival.most) (λ e. not_less_from rival.net bid.net e) (simp to_z-of_z at reach)
