@@ -18,3 +18,4 @@ pub mod KeptLaws
 pub mod LookupLaws
 pub mod NamedItems
 pub mod SameLaws
+pub mod NameSetLaws

@@ -18,3 +18,4 @@ pub mod Pieces
 pub mod Joined
 pub mod Bounded
 pub mod Building
+pub mod Seeds
