@@ -2,10 +2,9 @@
 use Rattle.std.specs.Prelude.{◌≡◌, ℕ, zero, suc, Bool, true, false, ◌==◌, List, [], ◌∷◌, ◌++◌, length, map, bytes_eq, Option, Some, None, IfSome, ℤ, pos, is_none, if◌then◌else◌}
 use Rattle.std.specs.List.{AllByRecursion, IsDistinct, list_any}
 use Rattle.std.specs.Option.{option_map}
-use Rattle.std.specs.declared.hash.FoldHasher.{FoldHasher}
-use Rattle.std.specs.declared.hash.BuildHasherDefault.{BuildHasherDefault}
 use denote.Ref.{Bor}
 use Rattle.indexmap.specs.IndexSet.{IndexSet}
+use Rattle.program_rows.specs.declared.name_set.Seeded.{Seeded}
 use Rattle.program_rows.specs.declared.row.Row.{Row}
 use Rattle.program_rows.specs.Program.{TableRow}
 use Rattle.program_rows.specs.Parts.{IsName, shown_row}
@@ -14,7 +13,7 @@ use Rattle.mps_reader.specs.Reading.{bytes_of}
 use Rattle.mps_reader.specs.declared.row_table.Rows.{Rows}
 
 abbrev pub NameSet : Type 0
-NameSet = IndexSet (Bor (List ℕ)) (BuildHasherDefault FoldHasher)
+NameSet = IndexSet (Bor (List ℕ)) Seeded
 
 -- the names of a set, in order
 abbrev pub names_of : NameSet → List (List ℕ)

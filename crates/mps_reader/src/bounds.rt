@@ -16,7 +16,7 @@ use crate::column_table::ColumnTable;
 use crate::refusal::Refusal;
 use crate::values::take_bit;
 use crate::words::is;
-use program_rows::FaultKind;
+use program_rows::{FaultKind, place_of};
 
 fn is_bound_type(word: &[u8]) -> bool
     ensures { result ≡ is_one_of word.now (codes "UP" ∷ codes "LO" ∷ codes "FX" ∷ codes "BV" ∷ []) }
@@ -108,7 +108,7 @@ pub fn take_bound<'t>(columns: &mut ColumnTable<'t>, fields: &[&[u8]]) -> Result
 {
     let is_binary = take_bound_type(fields)?;
     let at = place_of_column(is_binary, fields.len());
-    let Some(index) = columns.names.get_index_of(fields[at]) else {
+    let Some(index) = place_of(&columns.names, &columns.next, fields[at]) else {
         return Err(Refusal::Fault(FaultKind::UnknownColumn));
     };
     if is_binary {

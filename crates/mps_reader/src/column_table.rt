@@ -3,13 +3,16 @@ ghost use Rattle.mps_reader.specs.Columns.{IsEmptyColumns};
 use crate::column_state::ColumnState;
 use crate::open_column::OpenColumn;
 use indexmap::IndexSet;
-use program_rows::Columns;
+use program_rows::{Columns, NameSet, Seeded};
 use std::alloc::Global;
+use std::cell::Cell;
 
 /// Columns by name, in the order of the text.
 #[derive(Drop)]
 pub struct ColumnTable<'t> {
-    pub names: IndexSet<&'t [u8]>,
+    pub names: NameSet<'t>,
+    /// Where the next name of a bound is looked for first.
+    pub next: Cell<usize>,
     pub states: Vec<ColumnState>,
     /// The columns whose lines are all read.
     pub done: Columns,
@@ -21,11 +24,12 @@ pub struct ColumnTable<'t> {
 }
 
 impl<'t> ColumnTable<'t> {
-    pub fn new(alloc: Global) -> ColumnTable<'t>
+    pub fn new(alloc: Global, seed: Seeded) -> ColumnTable<'t>
         ensures { IsEmptyColumns result }
     {
         ColumnTable {
-            names: IndexSet::new(alloc),
+            names: IndexSet::with_hasher(alloc, seed),
+            next: Cell::new(0),
             states: Vec::new(alloc),
             done: Columns::new(alloc),
             current: None,

@@ -66,7 +66,7 @@ fn take_entry<'t>(
     ensures tells { OnOk result (PairsFit stamp rows.old column.old → (number : List ℕ → ℤ) → OpenTells (option_now rows.old.objective) (row_names rows.old.rows.items) number column.old
         → OpenTells (option_now rows.old.objective) (row_names rows.old.rows.items) (λ name. if bytes_eq name row.now then value token.now else number name) column.new) }
 {
-    let index = stamp_row(&rows.names, &mut rows.stamps, row, stamp)?;
+    let index = stamp_row(&rows.names, &rows.next, &mut rows.stamps, row, stamp)?;
     let value = take_number(token)?;
     put(
         column,

@@ -4,12 +4,12 @@ ghost use Rattle.std.specs.Prelude.{◌≡◌, ◌∷◌, [], ◌++◌, not, byt
 ghost use Rattle.std.specs.List.{list_any, IsDistinct};
 ghost use Rattle.mps_reader.specs.Rows.{names_of};
 
-use indexmap::IndexSet;
+use program_rows::NameSet;
 use std::alloc::AllocFailed;
 
 /// Adds a name, and tells whether it is new.
 pub fn insert_name<'t>(
-    names: &mut IndexSet<&'t [u8]>,
+    names: &mut NameSet<'t>,
     name: &'t [u8],
 ) -> Result<bool, AllocFailed<&'t [u8]>>
     ensures new { IfOk result (λ is_new. is_new ≡ not (list_any (bytes_eq name.now) (names_of names.old))) }

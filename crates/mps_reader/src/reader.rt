@@ -13,7 +13,7 @@ use crate::mps_fault::MpsFault;
 use crate::reading::{start, take_line};
 use crate::refusal::Refusal;
 use auction_terms::LineReader;
-use program_rows::{FaultKind, Program};
+use program_rows::{FaultKind, Program, Seeded};
 use std::alloc::Global;
 
 fn refused(line: usize, refusal: Refusal) -> MpsFault
@@ -35,7 +35,7 @@ fn read_lines(alloc: Global, text: &[u8]) -> Result<Program, MpsFault>
     ensures line { IfErr result (λ e. e.line ≤ length (lines_of text.now)) }
     ensures meaning { IsRead result (meaning text.now) }
 {
-    let mut reading = start(alloc);
+    let mut reading = start(alloc, Seeded::by_text(text));
     let mut lines = LineReader::new(text);
     let mut place: usize = 0;
     while let Some(line) = lines.next() {

@@ -25,18 +25,18 @@ use crate::rows::take_row;
 use crate::sections::Section;
 use crate::senses::take_sense_line;
 use crate::words::is;
-use program_rows::FaultKind;
+use program_rows::{FaultKind, Seeded};
 use std::alloc::Global;
 
-/// Nothing, before the first line.
-pub fn start<'t>(alloc: Global) -> Reading<'t>
+/// Nothing, before the first line. The seed is that of the sets of names.
+pub fn start<'t>(alloc: Global, seed: Seeded) -> Reading<'t>
     ensures fit { ReadingFits result }
     ensures tells { ReadingTells [] result }
 {
     Reading {
         section: Section::Start,
-        rows: Rows::new(alloc),
-        columns: ColumnTable::new(alloc),
+        rows: Rows::new(alloc, seed),
+        columns: ColumnTable::new(alloc, seed),
     }
 }
 

@@ -48,7 +48,7 @@ fn take_right_side<'t>(
     ensures stamps { OnOk result ((has : List ℕ → Bool) → StampsAre rows.old.stamps.items stamp (names_of rows.old.names) has → StampsAre rows.new.stamps.items stamp (names_of rows.old.names) (λ name. bytes_eq name row.now || has name)) }
     ensures rows { OnOk result ((side : List ℕ → ℤ) (lines : List LineFields) → map shown_row rows.old.rows.items ≡ rows_by side lines → map shown_row rows.new.rows.items ≡ rows_by (λ name. if bytes_eq name row.now then value token.now else side name) lines) }
 {
-    let index = stamp_row(&rows.names, &mut rows.stamps, row, stamp)?;
+    let index = stamp_row(&rows.names, &rows.next, &mut rows.stamps, row, stamp)?;
     let value = take_number(token)?;
     refuse!(
         is_constant(is_objective(rows.objective, row), value),

@@ -14,9 +14,9 @@ use crate::names::insert_name;
 use crate::refusal::Refusal;
 use crate::row_table::Rows;
 use crate::words::is;
-use indexmap::IndexSet;
-use program_rows::{FaultKind, Row, RowKind};
+use program_rows::{FaultKind, NameSet, Row, RowKind, place_of};
 use std::alloc::{AllocError, Global};
+use std::cell::Cell;
 
 fn is_row_type(letter: &[u8]) -> bool
     ensures { result ≡ is_one_of letter.now row_types }
@@ -84,9 +84,10 @@ pub fn take_row<'t>(rows: &mut Rows<'t>, fields: &[&'t [u8]]) -> Result<(), Refu
     Ok(())
 }
 
-/// Stamps the row that a pair names, and gives its place among all.
-pub fn stamp_row<'t>(
-    names: &IndexSet<&'t [u8]>,
+/// Stamps the row that a pair names, and gives its place among all. `next` holds where it is looked for first.
+pub fn stamp_row(
+    names: &NameSet,
+    next: &Cell<usize>,
     stamps: &mut Vec<usize>,
     row: &[u8],
     stamp: usize,
@@ -98,7 +99,7 @@ pub fn stamp_row<'t>(
     ensures fresh { IfOk result (λ i. (d : ℕ) → slice_get stamps.old.items i ≡ Some d → (d == stamp) ≡ false) }
     ensures stamped { IfOk result (λ i. stamps.new.items ≡ slice_set stamps.old.items i stamp) }
 {
-    let Some(index) = names.get_index_of(row) else {
+    let Some(index) = place_of(names, next, row) else {
         return Err(Refusal::Fault(FaultKind::UnknownRow));
     };
     refuse!(stamps[index] == stamp, EntryRepeated);
