@@ -9,26 +9,26 @@ ghost use Rattle.outcome.specs.declared.limits.TheConstants.{SOLUTION_LIMIT};
 ghost use Rattle.outcome.specs.Solution.{told, pair_fault, line_fault, is_skipped};
 ghost use Rattle.outcome.specs.Reading.{bytes_of, said_by};
 
+use crate::columns::ColumnFinder;
 use crate::fault::SolutionFault;
 use crate::fields::next_field;
 use crate::values::{at_line, value_of};
 use auction_terms::LineReader;
-use indexmap::IndexSet;
 
 /// Notes the value that a line gives a column.
 fn take_pair(
-    columns: &IndexSet<&[u8]>,
+    columns: &ColumnFinder,
     said: &mut [Option<bool>],
     place: usize,
     name: &[u8],
     token: &[u8],
 ) -> Result<(), SolutionFault>
-    requires { length said.old ≡ length columns.now.keys }
-    ensures answer { (before : List (List ℕ)) → said.old ≡ said_by (bytes_of columns.now.keys) before → result ≡ told (pair_fault (bytes_of columns.now.keys) before place name.now token.now) tt }
-    ensures kept { OnOk result ((before : List (List ℕ)) (line : List ℕ) → IsDistinct bytes_eq (bytes_of columns.now.keys) → said.old ≡ said_by (bytes_of columns.now.keys) before
-        → is_skipped line ≡ false → fields line ≡ name.now ∷ token.now ∷ [] → said.new ≡ said_by (bytes_of columns.now.keys) (before ++ line ∷ [])) }
+    requires { length said.old ≡ length columns.now.names.keys }
+    ensures answer { (before : List (List ℕ)) → said.old ≡ said_by (bytes_of columns.now.names.keys) before → result ≡ told (pair_fault (bytes_of columns.now.names.keys) before place name.now token.now) tt }
+    ensures kept { OnOk result ((before : List (List ℕ)) (line : List ℕ) → IsDistinct bytes_eq (bytes_of columns.now.names.keys) → said.old ≡ said_by (bytes_of columns.now.names.keys) before
+        → is_skipped line ≡ false → fields line ≡ name.now ∷ token.now ∷ [] → said.new ≡ said_by (bytes_of columns.now.names.keys) (before ++ line ∷ [])) }
 {
-    let Some(column) = columns.get_index_of(name) else {
+    let Some(column) = columns.place(name) else {
         return Err(SolutionFault::UnknownColumn { place });
     };
     if said[column].is_some() {
@@ -49,15 +49,15 @@ fn is_comment(line: &[u8]) -> bool
 
 /// Takes a line, of which `place` is the number.
 fn take_line(
-    columns: &IndexSet<&[u8]>,
+    columns: &ColumnFinder,
     said: &mut [Option<bool>],
     place: usize,
     line: &[u8],
 ) -> Result<(), SolutionFault>
-    requires { length said.old ≡ length columns.now.keys }
-    ensures answer { (before : List (List ℕ)) → said.old ≡ said_by (bytes_of columns.now.keys) before → place ≡ length before + 1 → result ≡ told (line_fault (bytes_of columns.now.keys) before line.now) tt }
-    ensures kept { OnOk result ((before : List (List ℕ)) → IsDistinct bytes_eq (bytes_of columns.now.keys) → said.old ≡ said_by (bytes_of columns.now.keys) before
-        → said.new ≡ said_by (bytes_of columns.now.keys) (before ++ line.now ∷ [])) }
+    requires { length said.old ≡ length columns.now.names.keys }
+    ensures answer { (before : List (List ℕ)) → said.old ≡ said_by (bytes_of columns.now.names.keys) before → place ≡ length before + 1 → result ≡ told (line_fault (bytes_of columns.now.names.keys) before line.now) tt }
+    ensures kept { OnOk result ((before : List (List ℕ)) → IsDistinct bytes_eq (bytes_of columns.now.names.keys) → said.old ≡ said_by (bytes_of columns.now.names.keys) before
+        → said.new ≡ said_by (bytes_of columns.now.names.keys) (before ++ line.now ∷ [])) }
 {
     if is_comment(line) {
         return Ok(());
@@ -76,16 +76,16 @@ fn take_line(
 
 /// Takes the lines of a text.
 pub fn take_lines(
-    columns: &IndexSet<&[u8]>,
+    columns: &ColumnFinder,
     said: &mut [Option<bool>],
     text: &[u8],
 ) -> Result<(), SolutionFault>
-    requires sized { length said.old ≡ length columns.now.keys }
-    requires distinct { IsDistinct bytes_eq (bytes_of columns.now.keys) }
-    requires nothing { said.old ≡ said_by (bytes_of columns.now.keys) [] }
+    requires sized { length said.old ≡ length columns.now.names.keys }
+    requires distinct { IsDistinct bytes_eq (bytes_of columns.now.names.keys) }
+    requires nothing { said.old ≡ said_by (bytes_of columns.now.names.keys) [] }
     requires small { length text.now ≤ SOLUTION_LIMIT }
-    ensures answer { result ≡ told (first_fault (line_fault (bytes_of columns.now.keys)) [] (lines_of text.now)) tt }
-    ensures said { OnOk result (said.new ≡ said_by (bytes_of columns.now.keys) (lines_of text.now)) }
+    ensures answer { result ≡ told (first_fault (line_fault (bytes_of columns.now.names.keys)) [] (lines_of text.now)) tt }
+    ensures said { OnOk result (said.new ≡ said_by (bytes_of columns.now.names.keys) (lines_of text.now)) }
 {
     let mut lines = LineReader::new(text);
     let mut place = 0;

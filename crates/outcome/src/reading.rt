@@ -9,7 +9,7 @@ ghost use Rattle.outcome.specs.declared.fault.SolutionFault.TheVariants as fault
 ghost use Rattle.outcome.specs.declared.limits.TheConstants.{SOLUTION_LIMIT};
 ghost use Rattle.outcome.specs.Solution.{Answers, column_names, line_fault, solution, told, values_of};
 
-use crate::columns::names_of;
+use crate::columns::finder_of;
 use crate::fault::SolutionFault;
 use crate::limits::SOLUTION_LIMIT;
 use crate::lines::take_lines;
@@ -37,9 +37,9 @@ fn read_values(alloc: Global, bytes: &[u8], program: &Program) -> Result<Point, 
     requires small { length bytes.now ≤ SOLUTION_LIMIT }
     ensures { Answers result (told (first_fault (line_fault (column_names program.now)) [] (lines_of bytes.now)) (values_of (column_names program.now) (lines_of bytes.now))) }
 {
-    let names = names_of(alloc, program)?;
+    let columns = finder_of(alloc, program)?;
     let mut said = nothing_said(alloc, program.column_count())?;
-    take_lines(&names, &mut said, bytes)?;
+    take_lines(&columns, &mut said, bytes)?;
     Ok(Point::new(values_from(alloc, &said)?))
 }
 

@@ -1,5 +1,5 @@
 -- Rules and kept bids stand within the limits of what is for sale and of offers.
-use Rattle.std.proofs.Common.{◌≡◌, zero, suc, ◌≤◌, ◌^◌, List, [], ◌∷◌, length, map, arith, sym, ◌∙◌}
+use Rattle.std.proofs.Common.{◌≡◌, zero, suc, ◌≤◌, List, [], ◌∷◌, length, map, arith, sym, ◌∙◌}
 use Rattle.std.specs.Prelude.{All, AllPairs}
 use Rattle.std.specs.List.{AllByRecursion}
 use Rattle.std.proofs.lemmas.List.{length-map}
@@ -9,7 +9,6 @@ use Rattle.auction_terms.specs.declared.rules.Pool.{Pool}
 use Rattle.auction_terms.specs.declared.bids.KeptBid.{KeptBid}
 use Rattle.auction_terms.specs.declared.limits.TheConstants.{GREATEST_QUANTITY, GREATEST_VALUE, GREATEST_WEIGHT}
 use Rattle.auction_terms.specs.Packages.{Lots}
-use Rattle.auction_terms.specs.Keeping.{Offer}
 use Rattle.auction_terms.specs.Terms.{Terms, IsCategory, IsPool, AreTerms, cap_of, lots_in}
 use Rattle.auction_terms.specs.Bids.{IsKeptBid, Precedes, AreKept}
 use Rattle.auction_terms.specs.Limits.{IsLots, IsWeightedCap, IsOffer, IsBefore, AreOffers}

@@ -1,5 +1,5 @@
 -- A name at a guessed place.
-use Rattle.std.proofs.Common.{nat_lt, lt-ltb, ◌≡◌, ℕ, zero, suc, ◌<◌, Bool, true, false, ◌||◌, List, [], ◌∷◌, Option, Some, None, length, map, slice_get, refl, sym, ap, ◌∙◌, arith}
+use Rattle.std.proofs.Common.{nat_lt, lt-ltb, ◌≡◌, ℕ, zero, suc, ◌+◌, ◌<◌, Bool, true, false, ◌||◌, List, [], ◌∷◌, Option, Some, None, drop, fold, length, map, slice_get, refl, sym, ap, ◌∙◌, arith}
 use Rattle.std.specs.Prelude.{bytes_eq, position}
 use Rattle.std.specs.Option.{option_map, option_map_or}
 use Rattle.std.specs.List.{AllByRecursion, list_any, position_or_len, IsDistinct}
@@ -51,3 +51,12 @@ module _ (name : List ℕ) where
       let inside = within ks i h in
       let less : nat_lt (position_or_len is ks) (length ks) ≡ true = lt-ltb (position_or_len is ks) (length ks) (omega arith) in
       ap (λ (n : ℕ). Some n) here ∙ sym (cond-true (nat_lt (position_or_len is ks) (length ks)) (Some (position_or_len is ks)) None less)
+
+-- one item more is folded
+pub folds_on : {A : Type 0} (f : A → List ℕ → A) (a : A) (names : List (List ℕ)) (i : ℕ) (name : List ℕ) → slice_get names i ≡ Some name → fold f a (drop i names) ≡ fold f (f a name) (drop (i + 1) names)
+folds_on f a names i name e = let after : suc i ≡ i + 1 = omega arith in here f a names i name e ∙ ap (λ (k : ℕ). fold f (f a name) (drop k names)) after
+  where
+    here : {A : Type 0} (f : A → List ℕ → A) (a : A) (names : List (List ℕ)) (i : ℕ) (name : List ℕ) → slice_get names i ≡ Some name → fold f a (drop i names) ≡ fold f (f a name) (drop (suc i) names)
+    here f a [] i name e = cc
+    here f a (n ∷ names) zero name e = let same : n ≡ name = cc in ap (λ (m : List ℕ). fold f (f a m) names) same
+    here f a (n ∷ names) (suc i) name e = here f a names i name e

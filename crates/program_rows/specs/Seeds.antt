@@ -1,9 +1,17 @@
--- The seed of a set of names.
-use Rattle.std.specs.Prelude.{ℕ, List}
+-- The seeds of sets of names.
+use Rattle.std.specs.Prelude.{List, ℕ, ◌++◌, fold, map}
 use Rattle.std.specs.Hash.{le_bytes}
 use Rattle.std.specs.Hash.DefaultHasher as sip
 use Rattle.std.specs.declared.hash.DefaultHasher.{DefaultHasher}
+use Rattle.program_rows.specs.Program.{Table}
 
--- a hasher that has taken a text, and then its own hash of that text
-abbrev pub seed : List ℕ → DefaultHasher
-seed text = sip.write (sip.write sip.initial text) (le_bytes 8 (sip.finish (sip.write sip.initial text)))
+-- a hasher that has taken its own hash last
+abbrev pub sealed : DefaultHasher → DefaultHasher
+sealed hasher = sip.write hasher (le_bytes 8 (sip.finish hasher))
+
+-- the seed of texts, one behind the other
+abbrev pub seed : List (List ℕ) → DefaultHasher
+seed texts = sealed (fold sip.write sip.initial texts)
+
+abbrev pub all_names : Table → List (List ℕ)
+all_names p = map (λ c. c.name) p.columns ++ map (λ r. r.name) p.rows

@@ -1,10 +1,12 @@
 //! Names in the order in which they came, found by hashes that nobody can choose beforehand.
 
-ghost use Rattle.std.specs.Prelude.{◌≡◌, ◌<◌, length, position, slice_get, is_some, false, bytes_eq, IfSome};
+ghost use Rattle.std.specs.Prelude.{◌≡◌, ◌<◌, ◌∷◌, [], length, position, slice_get, is_some, false, bytes_eq, IfSome, fold, map};
+ghost use Rattle.std.specs.Hash.DefaultHasher as sip;
 ghost use Rattle.std.specs.List.{list_any};
 ghost use Rattle.std.specs.Option.{option_map_or};
-ghost use Rattle.program_rows.specs.Seeds.{seed};
+ghost use Rattle.program_rows.specs.Seeds.{all_names, sealed, seed};
 
+use crate::program::Program;
 use indexmap::IndexSet;
 use std::cell::Cell;
 use std::hash::{BuildHasher, DefaultHasher, Hasher};
@@ -18,17 +20,51 @@ pub struct Seeded {
 /// Names, each once, in the order in which they came.
 pub type NameSet<'t> = IndexSet<&'t [u8], Seeded>;
 
+/// Lets a hasher take its own hash: a text can't be led to a hasher that was chosen before, word by word.
+fn sealed(hasher: DefaultHasher) -> Seeded
+    ensures { result.start ≡ sealed hasher }
+{
+    let mut start = hasher;
+    start.write_u64(hasher.finish());
+    Seeded { start }
+}
+
+fn with_column_names(hasher: DefaultHasher, program: &Program) -> DefaultHasher
+    ensures { result ≡ fold sip.write hasher (map (λ c. c.name) program.now.columns) }
+{
+    let mut hasher = hasher;
+    for column in 0..program.column_count() {
+        hasher.write(program.column_name(column));
+    }
+    hasher
+}
+
+fn with_row_names(hasher: DefaultHasher, program: &Program) -> DefaultHasher
+    ensures { result ≡ fold sip.write hasher (map (λ r. r.name) program.now.rows) }
+{
+    let mut hasher = hasher;
+    for row in 0..program.row_count() {
+        hasher.write(program.row_name(row));
+    }
+    hasher
+}
+
 impl Seeded {
-    /// The seed that a text has: another text has another one, so that names which collide can't be put into a text without
-    /// changing by which seed they are hashed. Its own hash goes in last: a text can't be led to a seed word by word.
+    /// The seed of a text. Names that collide can't be put into a text without changing the seed by which they are hashed.
     pub fn by_text(text: &[u8]) -> Seeded
-        ensures { result.start ≡ seed text.now }
+        ensures { result.start ≡ seed (text.now ∷ []) }
     {
-        let mut start = DefaultHasher::new();
-        start.write(text);
-        let hash = start.finish();
-        start.write_u64(hash);
-        Seeded { start }
+        let mut hasher = DefaultHasher::new();
+        hasher.write(text);
+        sealed(hasher)
+    }
+
+    /// The seed of all names of a program.
+    pub fn by_names(program: &Program) -> Seeded
+        ensures { result.start ≡ seed (all_names program.now) }
+    {
+        let columns = with_column_names(DefaultHasher::new(), program);
+        sealed(with_row_names(columns, program))
     }
 }
 

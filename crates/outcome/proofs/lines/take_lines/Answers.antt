@@ -16,7 +16,7 @@ pub loop-line-preserved : goal.loop-line-preserved
 loop-line-preserved c =
     let (before, so_far, place, count, said) = c.loop-line.invariant in
     let line = c.in-Some.line.now in
-    let columns = bytes_of c.args.columns.now.keys in
+    let columns = bytes_of c.args.columns.now.names.keys in
     let none = told_none _ _ _ (c.in_ok-take_line.ensures.answer before said (omega (arith, place))) in
     let more = checked-more (line_fault columns) (lines_of c.args.text.now) before c.loop-line.lines c.next.new.self line so_far c.in-Some.ensures none in
     let n = length-append before (line ∷ []) in
@@ -27,7 +27,7 @@ pub returns-in_err-take_line-clause-answer : goal.returns-in_err-take_line-claus
 returns-in_err-take_line-clause-answer c =
     let (before, so_far, place, count, said) = c.loop-line.invariant in
     let line = c.in-Some.line.now in
-    let columns = bytes_of c.args.columns.now.keys in
+    let columns = bytes_of c.args.columns.now.names.keys in
     let same : c.from_residual.result ≡ Err c.in_err-take_line.field-0.0 = search rules in
     let some = told_some _ _ _ (c.in_err-take_line.ensures.answer before said (omega (arith, place))) in
     let first = checked-fault (line_fault columns) (lines_of c.args.text.now) before c.loop-line.lines c.next.new.self line c.in_err-take_line.field-0.0 so_far c.in-Some.ensures some in
@@ -36,11 +36,11 @@ returns-in_err-take_line-clause-answer c =
 pub returns-clause-answer : goal.returns-clause-answer
 returns-clause-answer c =
     let (before, so_far, place, count, said) = c.loop-line.invariant in
-    let end = checked-all (line_fault (bytes_of c.args.columns.now.keys)) (lines_of c.args.text.now) before (rw c.in_default.ensures at so_far) in
+    let end = checked-all (line_fault (bytes_of c.args.columns.now.names.keys)) (lines_of c.args.text.now) before (rw c.in_default.ensures at so_far) in
     told_fine _ _ end.0
 
 pub returns-clause-said : goal.returns-clause-said
 returns-clause-said c =
     let (before, so_far, place, count, said) = c.loop-line.invariant in
-    let end = checked-all (line_fault (bytes_of c.args.columns.now.keys)) (lines_of c.args.text.now) before (rw c.in_default.ensures at so_far) in
+    let end = checked-all (line_fault (bytes_of c.args.columns.now.names.keys)) (lines_of c.args.text.now) before (rw c.in_default.ensures at so_far) in
     rw end.1 said

@@ -12,17 +12,17 @@ use Rattle.outcome.proofs.reading.read_values.Goals as goal
 pub take_lines-requires-clause-nothing : goal.take_lines-requires-clause-nothing
 take_lines-requires-clause-nothing c =
     let columns = c.args.program.now.columns in
-    let count : c.column_count.result ≡ length (bytes_of c.in_ok-names.names.keys) = c.column_count.ensures ∙ sym (ap length c.in_ok-names.ensures ∙ length-map columns (λ (d : TableColumn). d.name)) in
-    c.deref_mut.ensures.value ∙ c.in_ok-said.ensures ∙ nothing_said (bytes_of c.in_ok-names.names.keys) c.column_count.result count
+    let count : c.column_count.result ≡ length (bytes_of c.in_ok-columns.columns.names.keys) = c.column_count.ensures ∙ sym (ap length c.in_ok-columns.ensures ∙ length-map columns (λ (d : TableColumn). d.name)) in
+    c.deref_mut.ensures.value ∙ c.in_ok-said.ensures ∙ nothing_said (bytes_of c.in_ok-columns.columns.names.keys) c.column_count.result count
 
 pub returns : goal.returns
 returns c =
-    let names = bytes_of c.in_ok-names.names.keys in
+    let names = bytes_of c.in_ok-columns.columns.names.keys in
     let lines = lines_of c.args.bytes.now in
     let none : first_fault (line_fault names) [] lines ≡ None = told_none _ _ _ c.in_ok-take_lines.ensures.answer in
-    let fine : first_fault (line_fault (column_names c.args.program.now)) [] lines ≡ None = rw c.in_ok-names.ensures at none in
+    let fine : first_fault (line_fault (column_names c.args.program.now)) [] lines ≡ None = rw c.in_ok-columns.ensures at none in
     let size : length c.take_lines.new.said ≡ c.in_ok-said.said.len = omega (arith, c.take_lines.auto.said, c.deref_mut.ensures.len) in
     let said : c.deref.result.now ≡ said_by names lines = c.deref.ensures.value ∙ take_at c.take_lines.new.said _ c.in_ok-said.said.len size ∙ c.in_ok-take_lines.ensures.said in
     let read : c.new.result ≡ values_of (column_names c.args.program.now) lines =
-    c.new.ensures ∙ c.in_ok-values_from.ensures ∙ ap (map (λ (o : Option Bool). unwrap_or o false)) said ∙ read_off names lines ∙ ap (λ (ns : List (List ℕ)). values_of ns lines) c.in_ok-names.ensures in
+    c.new.ensures ∙ c.in_ok-values_from.ensures ∙ ap (map (λ (o : Option Bool). unwrap_or o false)) said ∙ read_off names lines ∙ ap (λ (ns : List (List ℕ)). values_of ns lines) c.in_ok-columns.ensures in
     ap (λ (vs : List Bool). Ok vs) read ∙ told_fine _ _ fine

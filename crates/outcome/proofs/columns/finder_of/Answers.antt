@@ -2,7 +2,7 @@ use Rattle.std.proofs.Common.{◌≡◌, ◌∙◌, sym}
 use Rattle.std.proofs.lemmas.Option.{slice_get-map}
 use Rattle.program_rows.specs.Program.{TableColumn}
 use Rattle.outcome.proofs.ColumnLaws.{one_more}
-use Rattle.outcome.proofs.columns.names_of.Goals as goal
+use Rattle.outcome.proofs.columns.finder_of.Goals as goal
 
 pub loop-column-preserved : goal.loop-column-preserved
 loop-column-preserved c =

@@ -1,7 +1,7 @@
 use Rattle.std.proofs.Common.{◌≡◌, take}
 use Rattle.outcome.specs.Solution.{column_names}
 use Rattle.outcome.specs.Reading.{bytes_of}
-use Rattle.outcome.proofs.columns.names_of.Given as goal
+use Rattle.outcome.proofs.columns.finder_of.Given as goal
 
 -- the names so far
 abbrev pub invariant-loop-column : goal.invariant-loop-column
