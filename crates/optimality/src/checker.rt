@@ -1,7 +1,7 @@
 use crate::row_forms::Form;
-use indexmap::IndexSet;
-use program_rows::Program;
+use program_rows::{NameSet, Program};
 use std::alloc::Global;
+use std::cell::Cell;
 
 /// What a certificate is checked against.
 #[derive(Drop)]
@@ -9,9 +9,13 @@ pub struct Checker<'p> {
     pub alloc: Global,
     pub program: &'p Program,
     /// The names of the program's columns, in order.
-    pub columns: IndexSet<&'p [u8]>,
+    pub columns: NameSet<'p>,
+    /// Where the next column is looked for first.
+    pub next_column: Cell<usize>,
     /// The names of its rows, in order.
-    pub rows: IndexSet<&'p [u8]>,
+    pub rows: NameSet<'p>,
+    /// Where the next row is looked for first.
+    pub next_row: Cell<usize>,
     /// Its rows, in order, each as a form over its columns: a leaf goes over the rows that it names alone.
     pub row_forms: Vec<Form>,
     /// The bound that the certificate is to show.

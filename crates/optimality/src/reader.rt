@@ -15,8 +15,9 @@ use crate::names::{column_names, row_names};
 use crate::refusal::Refusal;
 use crate::row_forms::row_forms;
 use auction_terms::LineReader;
-use program_rows::Program;
+use program_rows::{Program, Seeded};
 use std::alloc::{AllocError, Global};
+use std::cell::Cell;
 
 fn refused(line: usize, refusal: Refusal) -> CertificateFault
     ensures { IsRefused line refusal result }
@@ -59,14 +60,17 @@ fn new_checker(alloc: Global, program: &Program, least: i128) -> Result<Checker<
     ensures program { IfOk result (λ checker. checker.program.now ≡ program.now) }
     ensures least { IfOk result (λ checker. checker.least ≡ least) }
 {
-    let columns = column_names(alloc, program)?;
-    let rows = row_names(alloc, program)?;
+    let seed = Seeded::by_names(program);
+    let columns = column_names(alloc, program, seed)?;
+    let rows = row_names(alloc, program, seed)?;
     let forms = row_forms(alloc, program)?;
     Ok(Checker {
         alloc,
         program,
         columns,
+        next_column: Cell::new(0),
         rows,
+        next_row: Cell::new(0),
         row_forms: forms,
         least,
     })

@@ -13,35 +13,44 @@ use crate::fault::FaultKind;
 use crate::fields::next_field;
 use crate::numbers::take_number;
 use crate::refusal::Refusal;
-use indexmap::IndexSet;
+use program_rows::{NameSet, place_of};
 use std::alloc::Global;
+use std::cell::Cell;
 
-fn take_place(names: &IndexSet<&[u8]>, unknown: FaultKind, name: &[u8]) -> Result<usize, Refusal>
+fn take_place(
+    names: &NameSet,
+    next: &Cell<usize>,
+    unknown: FaultKind,
+    name: &[u8],
+) -> Result<usize, Refusal>
     ensures { Answers (λ place. place) result (place_told (bytes_of names.now.keys) unknown name.now) }
 {
-    match names.get_index_of(name) {
+    match place_of(names, next, name) {
         Some(place) => Ok(place),
         None => Err(Refusal::Fault(unknown)),
     }
 }
 
 fn take_term(
-    names: &IndexSet<&[u8]>,
+    names: &NameSet,
+    next: &Cell<usize>,
     unknown: FaultKind,
     name: &[u8],
     token: &[u8],
 ) -> Result<(usize, i64), Refusal>
     ensures { Answers (λ term. term) result (term_told (bytes_of names.now.keys) unknown name.now token.now) }
 {
-    let place = take_place(names, unknown, name)?;
+    let place = take_place(names, next, unknown, name)?;
     let number = take_number(token)?;
     Ok((place, number))
 }
 
-/// Names and numbers to the end of a line. A name that is not among the names has the fault `unknown`.
+/// Names and numbers to the end of a line. A name that is not among the names has the fault `unknown`; `next` holds where one is
+/// looked for first.
 fn take_terms(
     alloc: Global,
-    names: &IndexSet<&[u8]>,
+    names: &NameSet,
+    next: &Cell<usize>,
     unknown: FaultKind,
     text: &[u8],
 ) -> Result<Vec<(usize, i64)>, Refusal>
@@ -53,7 +62,7 @@ fn take_terms(
         let Some(token) = next_field(name.rest) else {
             return Err(Refusal::Fault(FaultKind::Fields));
         };
-        let term = take_term(names, unknown, name.text, token.text)?;
+        let term = take_term(names, next, unknown, name.text, token.text)?;
         terms.push(term)?;
         rest = token.rest;
     }
@@ -68,6 +77,7 @@ pub fn take_column_terms(checker: &Checker, text: &[u8]) -> Result<Vec<(usize, i
     take_terms(
         checker.alloc,
         &checker.columns,
+        &checker.next_column,
         FaultKind::UnknownColumn,
         text,
     )
@@ -78,5 +88,11 @@ pub fn take_row_terms(checker: &Checker, text: &[u8]) -> Result<Vec<(usize, i64)
     requires { IsPrepared checker.now }
     ensures { Answers (λ terms. terms.items) result (terms_told (row_names checker.now.program.now) UnknownRow (fields text.now)) }
 {
-    take_terms(checker.alloc, &checker.rows, FaultKind::UnknownRow, text)
+    take_terms(
+        checker.alloc,
+        &checker.rows,
+        &checker.next_row,
+        FaultKind::UnknownRow,
+        text,
+    )
 }
