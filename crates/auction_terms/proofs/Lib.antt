@@ -1,5 +1,6 @@
 pub mod FirstFaultFacts
 pub mod RecordFacts
+pub mod PlainFacts
 pub mod TermsFacts
 pub mod RulesTextFacts
 pub mod LineFacts

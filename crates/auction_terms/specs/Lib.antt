@@ -1,5 +1,7 @@
 pub mod FirstFault
 pub mod Records
+pub mod PlainRecords
+pub mod Sources
 pub mod Names
 pub mod Numbers
 pub mod Terms

@@ -14,6 +14,7 @@ mod lines;
 mod names;
 mod numbers;
 mod packages;
+mod plain_records;
 mod record_kinds;
 mod records;
 mod rules;
