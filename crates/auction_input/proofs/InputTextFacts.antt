@@ -1,9 +1,7 @@
 -- What is read of texts is what they tell, their sizes included.
 use Rattle.std.proofs.Common.{◌≡◌, ◌+◌, ◌++◌, ◌∷◌, ◌<◌, ◌≤◌, [], ℕ, List, Result, Ok, Err, ap, arith, length, map, refl, subst, sym, inl, inr}
-use Rattle.std.specs.Prelude.{All, IfErr, IfOk}
+use Rattle.std.specs.Prelude.{All, IfErr, OnOk}
 use Rattle.std.specs.List.{AllZip}
-use Rattle.std.specs.declared.alloc.Global.{Global}
-use Rattle.std.specs.declared.vec.Vec.{Vec}
 use Rattle.std.proofs.lemmas.List.Elements.{All-cons, All-nil}
 use Rattle.std.proofs.lemmas.Bool.Decides.{leb_tells}
 use denote.Ref.{Bor}
@@ -25,10 +23,10 @@ use Rattle.program_rows.specs.Meaning.{meaning}
 use Rattle.program_rows.specs.Program.{Table}
 use Rattle.program_rows.specs.declared.fault.FaultKind.TheVariants as kind
 use Rattle.auction_input.specs.Refused.{Refuses, Refusal}
-use Rattle.auction_input.specs.InputTexts.{IsAnswer, IsFirstErr, form_in, groups_in, program_in, rules_in}
+use Rattle.auction_input.specs.InputTexts.{AreAdded, IsAnswer, IsFirstErr, form_in, groups_in, program_in, rules_in}
 use Rattle.auction_input.specs.Parts.{bytes_of}
 use Rattle.auction_input.specs.Stages.{each_in_turn, refused_as}
-use Rattle.auction_input.specs.TextsTold.{form_told, forms_told}
+use Rattle.auction_input.specs.TextsTold.{HaveMore, form_told, more_told}
 use Rattle.auction_input.specs.declared.refusal.Refusal.TheVariants as refusal
 use Rattle.auction_input.proofs.FaultFacts.{form-refuses, no_groups, no_rules}
 use Rattle.auction_input.proofs.StageFacts.{behind, next, stop}
@@ -53,15 +51,15 @@ meet t [] (form ∷ forms) each = absurd each
 meet t (text ∷ texts) [] each = absurd each
 meet t (text ∷ texts) (form ∷ forms) each = All-cons (Meets t) form forms each.0.meets (meet t texts forms each.1)
 
-pub all-told : (t : Terms) (texts : List Text) (answers : List (Result Offers FormFault)) (r : Result (Vec Offers Global) Refusal)
-    → AllZip (IsAnswer t) texts answers → IfOk r (λ forms. answers ≡ map (λ form. Ok form) forms.items) → IfOk r (λ forms. forms_told t (bytes_of texts) ≡ Ok forms.items)
-all-told t texts answers (Ok forms) each are = each-told t 1 texts forms.items (rw are at each)
-all-told t texts answers (Err e) each are = tt
+-- forms that are added are those that the texts tell
+all-added : (t : Terms) (texts : List Text) (answers : List (Result Offers FormFault)) (old new : List Offers) → AllZip (IsAnswer t) texts answers → AreAdded answers old new → HaveMore t (bytes_of texts) old new
+all-added t texts answers old new each (more, added, are) =
+    let told = rw are at each in
+    (more, added, each-told t (length old + 1) texts more told, meet t texts more told)
 
-pub all-meet : (t : Terms) (texts : List Text) (answers : List (Result Offers FormFault)) (r : Result (Vec Offers Global) Refusal)
-    → AllZip (IsAnswer t) texts answers → IfOk r (λ forms. answers ≡ map (λ form. Ok form) forms.items) → IfOk r (λ forms. All (Meets t) forms.items)
-all-meet t texts answers (Ok forms) each are = meet t texts forms.items (rw are at each)
-all-meet t texts answers (Err e) each are = tt
+pub if-added : {A : Type 0} (t : Terms) (texts : List Text) (answers : List (Result Offers FormFault)) (old new : List Offers) (r : Result A Refusal) → AllZip (IsAnswer t) texts answers → OnOk r (AreAdded answers old new) → OnOk r (HaveMore t (bytes_of texts) old new)
+if-added t texts answers old new (Ok _) each added = all-added t texts answers old new each added
+if-added t texts answers old new (Err e) each added = tt
 
 -- the first fault comes after the texts that tell forms
 first-refused : (t : Terms) (n m : ℕ) (texts : List Text) (before : List Offers) (f : FormFault) (after : List (Result Offers FormFault)) → n + length before ≡ m
@@ -75,15 +73,14 @@ first-refused t n m (text ∷ texts) (form ∷ before) f after count each =
     let head : form_told t n text.now ≡ Ok form = ap (λ r. refused_as (refusal.Form n) r) (sym each.0.tells) in
     behind _ form _ (refusal.Form m f) head (stop _ _ (refusal.Form m f) (first-refused t (n + 1) m texts before f after (omega arith) each.1))
 
-refusal-of : (t : Terms) (texts : List Text) (answers : List (Result Offers FormFault)) (e : Refusal) → AllZip (IsAnswer t) texts answers → IsFirstErr answers e → Refuses (forms_told t (bytes_of texts)) e
-refusal-of t texts answers (refusal.Form n f) each (before, after, are, count) = first-refused t 1 n texts before f after (omega arith) (rw are at each)
-refusal-of t texts answers refusal.OutOfMemory each is = inr refl
-refusal-of t texts answers e each is = absurd is
+all-refused : (t : Terms) (count : ℕ) (texts : List Text) (answers : List (Result Offers FormFault)) (e : Refusal) → AllZip (IsAnswer t) texts answers → IsFirstErr count answers e → Refuses (more_told t count (bytes_of texts)) e
+all-refused t count texts answers (refusal.Form n f) each (before, after, are, number) = first-refused t (count + 1) n texts before f after (omega arith) (rw are at each)
+all-refused t count texts answers refusal.OutOfMemory each is = inr refl
+all-refused t count texts answers e each is = absurd is
 
-pub all-refused : (t : Terms) (texts : List Text) (answers : List (Result Offers FormFault)) (r : Result (Vec Offers Global) Refusal)
-    → AllZip (IsAnswer t) texts answers → IfErr r (IsFirstErr answers) → IfErr r (Refuses (forms_told t (bytes_of texts)))
-all-refused t texts answers (Ok forms) each is = tt
-all-refused t texts answers (Err e) each is = refusal-of t texts answers e each is
+pub if-refused : {A : Type 0} (t : Terms) (count : ℕ) (texts : List Text) (answers : List (Result Offers FormFault)) (r : Result A Refusal) → AllZip (IsAnswer t) texts answers → IfErr r (IsFirstErr count answers) → IfErr r (Refuses (more_told t count (bytes_of texts)))
+if-refused t count texts answers (Ok x) each first = tt
+if-refused t count texts answers (Err e) each first = all-refused t count texts answers e each first
 
 -- ---- sizes
 

@@ -2,6 +2,7 @@ pub mod AnswerFacts
 pub mod AuctionFacts
 pub mod CallFacts
 pub mod FaultFacts
+pub mod FormStageFacts
 pub mod InputTextFacts
 pub mod LimitFacts
 pub mod PartFacts

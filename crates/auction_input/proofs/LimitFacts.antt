@@ -1,23 +1,22 @@
 -- The book that an input leaves is within the limits.
-use Rattle.std.proofs.Common.{◌≡◌, ◌≤◌, ◌<◌, ◌+◌, ◌-◌, ◌==◌, ◌%◌, ◌++◌, ◌∷◌, ◌∙◌, [], ℕ, zero, suc, Bool, true, false, ◌&&◌, List, Option, None, Some, Result, Ok, Err, ap, append_assoc, arith, drop, eqb-true, leb-true, length, length-append, map, refl, subst, sym}
-use Rattle.std.specs.Prelude.{cond, filter, nat_le, nat_lt, not}
-use Rattle.std.specs.List.{AllByRecursion, last_or, list_all, range_with_len}
+use Rattle.std.proofs.Common.{◌≡◌, ◌≤◌, ◌<◌, ◌+◌, ◌==◌, ◌++◌, ◌∷◌, ◌∙◌, [], ℕ, zero, suc, Bool, true, false, List, Option, None, Some, Result, Ok, Err, append_assoc, arith, drop, eqb-true, leb-true, length, length-append, map, refl, subst, sym}
+use Rattle.std.specs.Prelude.{cond, filter, nat_lt}
+use Rattle.std.specs.List.{AllByRecursion, last_or, range_with_len}
 use Rattle.std.specs.Option.{option_map_or}
 use Rattle.std.proofs.lemmas.Bool.{and_parts, ltb-true}
-use Rattle.std.proofs.lemmas.List.{append-nil, length-map, map-append}
+use Rattle.std.proofs.lemmas.List.{append-nil, length-map}
 use Rattle.std.proofs.lemmas.List.Elements.{filter-append}
 use Rattle.std.proofs.lemmas.List.FromFn.{length-map-range_with_len}
 use Rattle.auction_terms.specs.Entries.{terms_of}
 use Rattle.auction_terms.specs.FirstFault.{first_failed, first_fault, option_or}
 use Rattle.auction_terms.specs.Limits.{IsBid, IsBook}
-use Rattle.auction_terms.specs.Numbers.{number_of}
 use Rattle.auction_terms.specs.Packages.{Lots}
-use Rattle.auction_terms.specs.Records.{Record, records_of}
+use Rattle.auction_terms.specs.Records.{Record}
 use Rattle.auction_terms.specs.RulesText as rules_text
 use Rattle.auction_terms.specs.RulesText.{bidder_of, entries_of, entry_fault, field, is_kind, kind_of, number_in, of_kind, rules_of, rules_of_records, version_of}
 use Rattle.auction_terms.specs.Terms.{Terms, lots_in}
 use Rattle.auction_terms.specs.declared.bids.Bid.{Bid}
-use Rattle.auction_terms.specs.declared.limits.TheConstants.{GREATEST_AMOUNT, GREATEST_QUANTITY, MOST_BIDDERS, MOST_BIDS}
+use Rattle.auction_terms.specs.declared.limits.TheConstants.{GREATEST_QUANTITY, MOST_BIDDERS, MOST_BIDS}
 use Rattle.auction_terms.specs.declared.record_kinds.RecordKind.{RecordKind}
 use Rattle.auction_terms.specs.declared.record_kinds.RecordKind.TheVariants as kind
 use Rattle.auction_terms.specs.declared.record_kinds.Version.{Version}
@@ -30,11 +29,9 @@ use Rattle.bid_forms.specs.Offers.{Offers, are_quantities, eligibility_of, offer
 use Rattle.bid_forms.specs.declared.form_text.FormFault.{FormFault}
 use Rattle.bid_forms.specs.declared.form_text.FormFault.TheVariants as form_fault
 use Rattle.auction_input.specs.BookLeft.{book_left}
-use Rattle.auction_input.specs.InputTexts.{form_in, rules_in}
-use Rattle.auction_input.specs.Refused.{Refused}
-use Rattle.auction_input.specs.Stages.{and_then, each_in_turn, refused_as}
-use Rattle.auction_input.specs.Submissions.{forms_of, last_of}
-use Rattle.auction_input.specs.TextsTold.{form_told, forms_told, terms_told}
+use Rattle.auction_input.specs.Stages.{each_in_turn}
+use Rattle.auction_input.specs.Submissions.{last_of}
+use Rattle.auction_input.specs.TextsTold.{form_told, terms_told}
 use Rattle.auction_input.proofs.AnswerFacts.{ok-behind, ok-is, ok-refused_as}
 
 -- ---- checks

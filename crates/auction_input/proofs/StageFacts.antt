@@ -1,5 +1,5 @@
 -- What stages tell together.
-use Rattle.std.proofs.Common.{◌≡◌, ◌+◌, ◌++◌, ◌∷◌, ◌∙◌, [], ℕ, List, Result, Ok, Err, ap, append_assoc, refl, sym, inl, inr}
+use Rattle.std.proofs.Common.{◌≡◌, ◌+◌, ◌++◌, ◌∷◌, ◌∙◌, [], ℕ, List, Result, Ok, Err, ap, append_assoc, arith, length, refl, sym, inl, inr}
 use Rattle.std.proofs.lemmas.List.{append-nil}
 use Rattle.auction_input.specs.Refused.{Refuses, Refusal, Refused}
 use Rattle.auction_input.specs.Stages.{and_then, each_in_turn}
@@ -49,6 +49,58 @@ module _ {X A E : Type 0} (tell : ℕ → X → Result A E) where
   left-fault n items told x rest e left tells =
       left ∙ ap (λ (r : Result A E). and_then (and_then r (λ first. and_then (each_in_turn tell (n + 1) rest) (λ more. Ok (first ∷ more)))) (λ more. Ok (told ++ more))) tells
 
+  -- items of which the first tell their values, and what the rest tells
+  apart : (told : Result A E) (front back : Result (List A) E)
+      → and_then told (λ y. and_then (and_then front (λ ys. and_then back (λ zs. Ok (ys ++ zs)))) (λ more. Ok (y ∷ more))) ≡ and_then (and_then told (λ y. and_then front (λ ys. Ok (y ∷ ys)))) (λ ys. and_then back (λ zs. Ok (ys ++ zs)))
+  apart (Ok y) (Ok ys) (Ok zs) = refl
+  apart (Ok y) (Ok ys) (Err e) = refl
+  apart (Ok y) (Err e) back = refl
+  apart (Err e) front back = refl
+
+  each-apart : (n m : ℕ) (front back : List X) → n + length front ≡ m
+      → each_in_turn tell n (front ++ back) ≡ and_then (each_in_turn tell n front) (λ ys. and_then (each_in_turn tell m back) (λ zs. Ok (ys ++ zs)))
+  each-apart n m [] back count =
+      let same : n ≡ m = omega arith in
+      ap (λ k. each_in_turn tell k back) same ∙ onto-none (each_in_turn tell m back)
+  each-apart n m (x ∷ front) back count =
+      ap (λ (r : Result (List A) E). and_then (tell n x) (λ y. and_then r (λ more. Ok (y ∷ more)))) (each-apart (n + 1) m front back (omega arith))
+      ∙ apart (tell n x) (each_in_turn tell (n + 1) front) (each_in_turn tell m back)
+
+  onto-all : (told ys : List A) (r : Result (List A) E) → and_then (and_then r (λ zs. Ok (ys ++ zs))) (λ more. Ok (told ++ more)) ≡ and_then r (λ more. Ok ((told ++ ys) ++ more))
+  onto-all told ys (Ok zs) = ap (λ (xs : List A). Ok xs) (sym (append_assoc told ys zs))
+  onto-all told ys (Err e) = refl
+
+  -- the next items tell their values
+  pub left-stage : (n m : ℕ) (items : List X) (told : List A) (stage rest : List X) (ys : List A) → n + length stage ≡ m → IsLeft n items told (stage ++ rest) → each_in_turn tell n stage ≡ Ok ys
+      → IsLeft m items (told ++ ys) rest
+  left-stage n m items told stage rest ys count left tells =
+      left ∙ ap (λ (r : Result (List A) E). and_then r (λ more. Ok (told ++ more))) (each-apart n m stage rest count)
+      ∙ ap (λ (r : Result (List A) E). and_then (and_then r (λ front. and_then (each_in_turn tell m rest) (λ zs. Ok (front ++ zs)))) (λ more. Ok (told ++ more))) tells
+      ∙ onto-all told ys (each_in_turn tell m rest)
+
+  pub left-stage-fault : (n : ℕ) (items : List X) (told : List A) (stage rest : List X) (e : E) → IsLeft n items told (stage ++ rest) → each_in_turn tell n stage ≡ Err e → each_in_turn tell 1 items ≡ Err e
+  left-stage-fault n items told stage rest e left tells =
+      left ∙ ap (λ (r : Result (List A) E). and_then r (λ more. Ok (told ++ more))) (each-apart n (n + length stage) stage rest refl)
+      ∙ ap (λ (r : Result (List A) E). and_then (and_then r (λ front. and_then (each_in_turn tell (n + length stage) rest) (λ zs. Ok (front ++ zs)))) (λ more. Ok (told ++ more))) tells
+
+  -- as many values are told as there are items
+  one-more : (told : Result A E) (r : Result (List A) E) (ys : List A) (n : ℕ) → ((zs : List A) → r ≡ Ok zs → length zs ≡ n) → and_then told (λ y. and_then r (λ more. Ok (y ∷ more))) ≡ Ok ys → length ys ≡ n + 1
+  one-more (Ok y) (Ok zs) [] n as_many is = cc
+  one-more (Ok y) (Ok zs) (x ∷ ys) n as_many is =
+      let same : ys ≡ zs = cc in
+      let count = as_many zs refl in
+      let size = ap (λ (xs : List A). length xs) same in
+      omega arith
+  one-more (Ok y) (Err e) ys n as_many is = cc
+  one-more (Err e) r ys n as_many is = cc
+
+  pub each-count : (n : ℕ) (items : List X) (ys : List A) → each_in_turn tell n items ≡ Ok ys → length ys ≡ length items
+  each-count n [] [] is = refl
+  each-count n [] (y ∷ ys) is = cc
+  each-count n (x ∷ items) ys is =
+      let size = one-more (tell n x) (each_in_turn tell (n + 1) items) ys (length items) (λ zs told. each-count (n + 1) items zs told) is in
+      omega arith
+
   pub left-none : (n : ℕ) (items : List X) (told : List A) → IsLeft n items told [] → each_in_turn tell 1 items ≡ Ok told
   left-none n items told left = left ∙ ap (λ (xs : List A). Ok xs) (append-nil told)
 
@@ -57,3 +109,9 @@ pub left-refused : {X A : Type 0} (tell : ℕ → X → Result A Refused) (n : �
     → Refuses (each_in_turn tell 1 items) r
 left-refused tell n items told x rest r left (inl is) = inl (left-fault tell n items told x rest _ left is)
 left-refused tell n items told x rest r left (inr memory) = inr memory
+
+-- a stage of items refuses
+pub left-stage-refused : {X A : Type 0} (tell : ℕ → X → Result A Refused) (n : ℕ) (items : List X) (told : List A) (stage rest : List X) (r : Refusal) → IsLeft tell n items told (stage ++ rest)
+    → Refuses (each_in_turn tell n stage) r → Refuses (each_in_turn tell 1 items) r
+left-stage-refused tell n items told stage rest r left (inl is) = inl (left-stage-fault tell n items told stage rest _ left is)
+left-stage-refused tell n items told stage rest r left (inr memory) = inr memory

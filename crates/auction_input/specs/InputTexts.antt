@@ -42,8 +42,12 @@ pub record IsAnswer (t : Terms) (text : Bor (List ℕ)) (answer : Result Offers 
   pub tells : Answers answer (form_in t text.now)
   pub meets : IfOk answer (Meets t)
 
--- an answer that is a fault comes after forms alone, and has this number; or memory was short
-abbrev pub IsFirstErr : List (Result Offers FormFault) → Refusal → Type 0
-IsFirstErr answers (refusal.Form n f) = (before : List Offers) × (after : List (Result Offers FormFault)) × (answers ≡ map (λ form. Ok form) before ++ Err f ∷ after) × (n ≡ length before + 1)
-IsFirstErr answers refusal.OutOfMemory = ⊤
-IsFirstErr answers r = ⊥
+-- all answers are forms, and stand behind those that were read before
+abbrev pub AreAdded : List (Result Offers FormFault) → List Offers → List Offers → Type 0
+AreAdded answers old new = (more : List Offers) × (new ≡ old ++ more) × (answers ≡ map (λ form. Ok form) more)
+
+-- an answer that is a fault comes after forms alone, and has this number behind so many forms; or memory was short
+abbrev pub IsFirstErr : ℕ → List (Result Offers FormFault) → Refusal → Type 0
+IsFirstErr count answers (refusal.Form n f) = (before : List Offers) × (after : List (Result Offers FormFault)) × (answers ≡ map (λ form. Ok form) before ++ Err f ∷ after) × (n ≡ count + length before + 1)
+IsFirstErr count answers refusal.OutOfMemory = ⊤
+IsFirstErr count answers r = ⊥

@@ -1,14 +1,14 @@
 //! Reading the parts of the input.
 
-ghost use Rattle.std.specs.Prelude.{◌≡◌, ◌++◌, ◌∷◌, [], All, IfErr, IfOk, Ok, OnOk, length, map};
+ghost use Rattle.std.specs.Prelude.{◌≡◌, ◌++◌, ◌∷◌, [], All, IfErr, IfOk, Ok, OnOk, length};
 ghost use Rattle.std.specs.List.{AllZip};
 ghost use Rattle.bid_forms.specs.Offers.{Meets};
 ghost use Rattle.auction_input.specs.Refused.{Refuses};
-ghost use Rattle.auction_input.specs.InputTexts.{IsAnswer, IsFirstErr};
+ghost use Rattle.auction_input.specs.InputTexts.{AreAdded, IsAnswer, IsFirstErr};
 ghost use Rattle.auction_input.specs.Parts.{bytes_of};
 ghost use Rattle.auction_input.specs.PartsTold.{only_text};
 ghost use Rattle.auction_input.specs.Plan.{groups_taken, miscounted, solutions_taken};
-ghost use Rattle.auction_input.specs.TextsTold.{forms_told};
+ghost use Rattle.auction_input.specs.TextsTold.{HaveMore, forms_told, more_told};
 
 use crate::parts::Parts;
 use crate::refusal::{CountedPart, Refusal};
@@ -74,7 +74,11 @@ pub fn only_text<'t>(texts: &[&'t [u8]]) -> &'t [u8]
     }
 }
 
-/// Reads forms, side by side.
+// How many forms are read side by side before the first fault among them is told: enough that the threads of a stage are
+// worth their start, and few enough that no more than a moment's work is done on forms behind a faulty one.
+const STAGE_LEN: usize = 4_096;
+
+/// Reads forms, side by side in stages, up to the first stage with a faulty one.
 pub fn read_forms(
     rt: &(impl Threads + Sync),
     alloc: Global,
@@ -85,8 +89,29 @@ pub fn read_forms(
     ensures meet { IfOk result (λ forms. All (Meets rules.now) forms.items) }
     ensures refuses { IfErr result (Refuses (forms_told rules.now (bytes_of texts.now))) }
 {
+    let mut forms = Vec::new(alloc);
+    let mut start = 0;
+    while start < texts.len() {
+        let end = start + STAGE_LEN.min(texts.len() - start);
+        read_more(rt, alloc, &mut forms, &texts[start..end], rules)?;
+        start = end;
+    }
+    Ok(forms)
+}
+
+// Reads the forms of a stage, behind those that are read.
+fn read_more(
+    rt: &(impl Threads + Sync),
+    alloc: Global,
+    forms: &mut Vec<Form>,
+    texts: &[&[u8]],
+    rules: &Rules,
+) -> Result<(), Refusal>
+    ensures told { OnOk result (HaveMore rules.now (bytes_of texts.now) forms.old.items forms.new.items) }
+    ensures refuses { IfErr result (Refuses (more_told rules.now (length forms.old.items) (bytes_of texts.now))) }
+{
     let answers = read_each(rt, alloc, texts, rules)?;
-    in_order(alloc, answers)
+    add_forms(forms, answers)
 }
 
 // What each text tells. Both halves of the texts are read side by side, each by as many threads as `rayon` takes: with
@@ -135,22 +160,21 @@ fn read_half(
         .collect(rt, alloc)
 }
 
-// The forms, where each answer is one, or else the first fault.
-fn in_order(alloc: Global, answers: Vec<Result<Form, FormFault>>) -> Result<Vec<Form>, Refusal>
-    ensures forms { IfOk result (λ forms. answers.items ≡ map (λ form. Ok form) forms.items) }
-    ensures first { IfErr result (IsFirstErr answers.items) }
+// Adds the forms, where each answer is one, or tells the first fault.
+fn add_forms(forms: &mut Vec<Form>, answers: Vec<Result<Form, FormFault>>) -> Result<(), Refusal>
+    ensures added { OnOk result (AreAdded answers.items forms.old.items forms.new.items) }
+    ensures first { IfErr result (IsFirstErr (length forms.old.items) answers.items) }
 {
-    let mut forms = Vec::new(alloc);
     for answer in answers {
         match answer {
-            Ok(form) => add_form(&mut forms, form)?,
+            Ok(form) => add_form(forms, form)?,
             Err(fault) => {
                 let form = forms.len() + 1;
                 return Err(Refusal::Form { form, fault });
             }
         }
     }
-    Ok(forms)
+    Ok(())
 }
 
 fn add_form(forms: &mut Vec<Form>, form: Form) -> Result<(), AllocError>
