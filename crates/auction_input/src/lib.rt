@@ -7,6 +7,7 @@ mod by_bidder;
 mod calls;
 mod input;
 mod job;
+pub mod laws;
 mod part_kind;
 mod parts;
 mod reading;

@@ -1,25 +1,30 @@
 //! Laws over the definitions alone: which fault is the first, and what presolve may drop so that nothing is lost.
 
-ghost use Rattle.std.specs.Prelude.{◌≡◌, [], List, Some};
-ghost use Rattle.auction_terms.specs.FirstFault.{IsFirstFault, first_fault};
+ghost use Rattle.std.specs.Prelude.{ℕ, List};
+ghost use Rattle.auction_terms.specs.FirstFault.{TellsTheFirst};
+ghost use Rattle.auction_terms.specs.GroupsText.{line_fault, name_fault};
 ghost use Rattle.auction_terms.specs.Packages.{SmallerFits, SmallerLoadsNoMore};
 ghost use Rattle.auction_terms.specs.Allocations.{LoadsAddUp, TotalsAreNets};
 ghost use Rattle.auction_terms.specs.Domination.{SmallerSizesSuffice};
 ghost use Rattle.auction_terms.specs.Keeping.{KeepsTheBest, KeptAreEnough};
 ghost use Rattle.auction_terms.specs.Limits.{KeptAreOffers};
-ghost use Rattle.auction_terms.specs.Records.{Record};
 ghost use Rattle.auction_terms.specs.RulesText.{entry_fault};
 ghost use Rattle.auction_terms.specs.declared.record_kinds.Version.{Version};
-ghost use Rattle.auction_terms.specs.declared.rules_text.RulesFault.{RulesFault};
+ghost use Rattle.auction_terms.specs.declared.rules.Bidder.{Bidder};
 
-/// The fault that the records after a header tell is that of its first record with a fault.
-pub fn first_fault_is_first()
-    ensures { (version : Version) (entries : List Record) (f : RulesFault) → first_fault (entry_fault version) [] entries ≡ Some f → IsFirstFault (entry_fault version) entries f }
+/// The records behind the header of rules have the fault of the first of them with a fault.
+pub fn records_of_rules_tell_their_first_fault()
+    ensures { (version : Version) → TellsTheFirst (entry_fault version) }
 {}
 
-/// And the fault of a record before which no record has one is the fault that they tell.
-pub fn first_fault_is_told()
-    ensures { (version : Version) (entries : List Record) (f : RulesFault) → IsFirstFault (entry_fault version) entries f → first_fault (entry_fault version) [] entries ≡ Some f }
+/// And so have the lines of a text of groups.
+pub fn lines_of_groups_tell_their_first_fault()
+    ensures { (bidders : List Bidder) → TellsTheFirst (line_fault bidders) }
+{}
+
+/// And so have the names in a line of groups.
+pub fn names_of_a_group_tell_their_first_fault()
+    ensures { (bidders : List Bidder) (line : ℕ) → TellsTheFirst (name_fault bidders line) }
 {}
 
 /// A package that is at most another loads no pool more.

@@ -1,0 +1,16 @@
+//! Laws over the definitions alone: which part of the input, and which form beyond the call limit, is refused.
+
+ghost use Rattle.auction_terms.specs.FirstFault.{TellsTheFirst};
+ghost use Rattle.auction_input.specs.Calls.{one_too_many};
+ghost use Rattle.auction_input.specs.Parts.{part_fault};
+ghost use Rattle.auction_input.specs.declared.request.Request.{Request};
+
+/// The parts of an input have the fault of the first of them with a fault.
+pub fn parts_tell_their_first_fault()
+    ensures { (request : Request) → TellsTheFirst (part_fault request) }
+{}
+
+/// The form that meets the call limit is the first for which its bidder has no call left.
+pub fn forms_tell_the_first_beyond_the_call_limit()
+    ensures { TellsTheFirst one_too_many }
+{}
