@@ -24,7 +24,6 @@ use auction_terms::{
 };
 use csv::ByteRecord;
 use std::alloc::{AllocError, Global};
-use std::collections::HashSet;
 use std::fmt;
 use thiserror::Error;
 
@@ -231,14 +230,14 @@ fn read_bid(
     before: &[Bid],
     row: &ByteRecord,
 ) -> Result<Bid, FormFault>
-    requires seen { AreSeen seen.old.keys before.now }
+    requires seen { AreSeen seen.old.multiplier seen.old.prints.keys before.now }
     requires few { length before.now ≤ MOST_BIDS }
     ensures answer { Tells result (fault_of_bid rules.now eligibility place before.now (fields_of row.now)) (bid_of (fields_of row.now)) }
     ensures limits { IfOk result IsWithinLimits }
     ensures allowed { IfOk result (λ bid. IsTrue (is_bid_under rules.now eligibility bid)) }
     ensures new { IfOk result (λ bid. number_of_package bid.package before.now ≡ None) }
     ensures room { OnOk result (length before.now < MOST_BIDS) }
-    ensures seen { IfOk result (λ bid. AreSeen seen.new.keys (before.now ++ bid ∷ [])) }
+    ensures seen { IfOk result (λ bid. AreSeen seen.new.multiplier seen.new.prints.keys (before.now ++ bid ∷ [])) }
 {
     refuse!(
         row.len() != rules.categories().len() + 1,
@@ -261,16 +260,18 @@ fn read_bids(
     rules: &Rules,
     bidder: u16,
     reader: &mut RecordReader,
+    none_seen: Seen,
 ) -> Result<Form, FormFault>
     requires some { 1 ≤ bidder }
     requires known { bidder ≤ length rules.now.bidders }
     requires few { length reader.old ≤ TEXT_LIMIT + 1 }
+    requires none_seen { none_seen.prints.keys ≡ [] }
     ensures answer { Tells result (first_fault (bid_fault rules.now (eligibility_of rules.now bidder)) [] reader.old) (offers bidder (map bid_of reader.old)) }
     ensures meets { IfOk result (Meets rules.now) }
 {
     let eligibility = eligibility_of(rules, bidder);
     let mut row = ByteRecord::new(alloc);
-    let mut seen: Seen = HashSet::new(alloc);
+    let mut seen = none_seen;
     let mut bids = Vec::new(alloc);
     let mut place = 2u32;
     while reader.next(&mut row)? {
@@ -294,5 +295,11 @@ pub fn read_form(alloc: Global, bytes: &[u8], rules: &Rules) -> Result<Form, For
     let mut row = ByteRecord::new(alloc);
     refuse!(!reader.next(&mut row)?, FormFault::Header { place: 1 });
     let bidder = read_header(rules, &row)?;
-    read_bids(alloc, rules, bidder, &mut reader)
+    read_bids(
+        alloc,
+        rules,
+        bidder,
+        &mut reader,
+        Seen::of_text(alloc, bytes),
+    )
 }

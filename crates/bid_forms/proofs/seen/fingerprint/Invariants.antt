@@ -4,4 +4,4 @@ use Rattle.bid_forms.specs.Fingerprints.{fingerprint}
 use Rattle.bid_forms.proofs.seen.fingerprint.Given as goal
 
 abbrev pub invariant-loop-quantity : goal.invariant-loop-quantity
-invariant-loop-quantity l = fold (λ sum quantity. (sum * 11400714819323198485 % 2 ^ 64 + quantity) % 2 ^ 64) l.sum (drop l.quantity-index l.quantities) ≡ fingerprint l.quantities
+invariant-loop-quantity l = fold (λ sum quantity. (sum * l.multiplier % 2 ^ 64 + quantity) % 2 ^ 64) l.sum (drop l.quantity-index l.quantities) ≡ fingerprint l.multiplier l.quantities
