@@ -4,27 +4,28 @@ ghost use Rattle.std.specs.Prelude.{◌≡◌, ◌<◌, ◌∷◌, [], length, p
 ghost use Rattle.std.specs.Hash.DefaultHasher as sip;
 ghost use Rattle.std.specs.List.{list_any};
 ghost use Rattle.std.specs.Option.{option_map_or};
-ghost use Rattle.program_rows.specs.Seeds.{all_names, sealed, seed};
+ghost use Rattle.program_rows.specs.Seeds.{all_names, seed, started};
 
 use crate::program::Program;
 use indexmap::IndexSet;
 use std::cell::Cell;
-use std::hash::{BuildHasher, DefaultHasher, Hasher};
+use std::hash::{BuildHasher, DefaultHasher, FoldHasher, Hasher};
 
 /// Makes the hashers of a set of names. All of them start from one seed.
 #[derive(Clone, Copy)]
 pub struct Seeded {
-    pub start: DefaultHasher,
+    pub start: FoldHasher,
 }
 
 /// Names, each once, in the order in which they came.
 pub type NameSet<'t> = IndexSet<&'t [u8], Seeded>;
 
-/// Lets a hasher take its own hash: a text can't be led to a hasher that was chosen before, word by word.
-fn sealed(hasher: DefaultHasher) -> Seeded
-    ensures { result.start ≡ sealed hasher }
+/// Names are hashed by a quick hasher, byte by byte, and where it starts is told by a thorough one, which can't be led to an
+/// answer that was chosen before.
+fn started(hasher: DefaultHasher) -> Seeded
+    ensures { result.start ≡ started hasher }
 {
-    let mut start = hasher;
+    let mut start = FoldHasher::default();
     start.write_u64(hasher.finish());
     Seeded { start }
 }
@@ -56,7 +57,7 @@ impl Seeded {
     {
         let mut hasher = DefaultHasher::new();
         hasher.write(text);
-        sealed(hasher)
+        started(hasher)
     }
 
     /// The seed of all names of a program.
@@ -64,16 +65,16 @@ impl Seeded {
         ensures { result.start ≡ seed (all_names program.now) }
     {
         let columns = with_column_names(DefaultHasher::new(), program);
-        sealed(with_row_names(columns, program))
+        started(with_row_names(columns, program))
     }
 }
 
 impl BuildHasher for Seeded {
-    type Hasher = DefaultHasher;
+    type Hasher = FoldHasher;
 
     ghost build_hasher = { λ s. s.start };
 
-    fn build_hasher(&self) -> DefaultHasher {
+    fn build_hasher(&self) -> FoldHasher {
         self.start
     }
 }
