@@ -23,7 +23,9 @@ loop-start-smaller g c =
     omega arith
 
 pub returns-clause-told : goal.returns-clause-told
-returns-clause-told g c = all-read c.args.rules.now c.args.texts.now c.loop-start.start c.loop-start.forms.items c.loop-start-test.false c.loop-start.invariant
+returns-clause-told g c =
+    let all : length c.args.texts.now ≤ c.loop-start.start = omega arith in
+    all-read c.args.rules.now c.args.texts.now c.loop-start.start c.loop-start.forms.items all c.loop-start.invariant
 
 pub returns-clause-meet : goal.returns-clause-meet
 returns-clause-meet g c = c.loop-start.invariant.3
