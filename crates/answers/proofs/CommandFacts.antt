@@ -18,7 +18,9 @@ use Rattle.outcome.specs.Report.{allocation_text, report_text}
 use Rattle.outcome.specs.Sale.{sale_of}
 use Rattle.program_rows.specs.Program.{Table}
 use Rattle.auction_input.specs.Auction.{Auction, auction_told}
-use Rattle.answers.specs.Commands.{program_text, winners_of_groups, winners_text}
+use Rattle.answers.specs.commands.Compile.{program_text}
+use Rattle.answers.specs.commands.Map.{winners_text}
+use Rattle.answers.specs.commands.Report.{winners_of_groups}
 use Rattle.auction_input.specs.Refused.{Refuses, Refusal, Refused}
 use Rattle.auction_input.specs.Settled.{RefusesAuction, held}
 use Rattle.answers.specs.Exact.{Ends, IsLeftOpen, Writes, by_put, by_refusal}

@@ -30,7 +30,8 @@ use Rattle.auction_input.specs.Auction.{Auction, auction_in, auction_of, auction
 use Rattle.auction_input.specs.BookLeft.{book_left, program_for}
 use Rattle.auction_input.specs.Calls.{calls_told}
 use Rattle.answers.specs.Certified.{ClaimedBound, bound_of, bounds_of, certificate_refused, certified, shown}
-use Rattle.answers.specs.Commands.{report_of, verified_text, winners_of_groups}
+use Rattle.answers.specs.commands.Report.{report_of, winners_of_groups}
+use Rattle.answers.specs.commands.Verify.{verified_text}
 use Rattle.auction_input.specs.Parts.{SplitInput}
 use Rattle.auction_input.specs.PartsTold.{parts_told}
 use Rattle.auction_input.specs.Refused.{Refused}

@@ -4,7 +4,8 @@ use Rattle.std.specs.Prelude.{IfErr, ◌⊎◌}
 use Rattle.auction_terms.specs.declared.choices.Choice.{Choice}
 use Rattle.auction_input.specs.Auction.{Auction, auction_told}
 use Rattle.answers.specs.Certified.{bounds_of, certified}
-use Rattle.answers.specs.Commands.{verified_text, winners_of_groups}
+use Rattle.answers.specs.commands.Report.{winners_of_groups}
+use Rattle.answers.specs.commands.Verify.{verified_text}
 use Rattle.auction_input.specs.Refused.{Refuses, Refusal, Refused}
 use Rattle.answers.specs.Exact.{Ends, IsBeyondSums, IsTooWide, IsUnwritten, by_refusal}
 use Rattle.auction_input.specs.Stages.{and_then}

@@ -8,7 +8,11 @@ use Rattle.auction_input.specs.declared.refusal.Refusal.TheVariants as refusal
 use Rattle.auction_input.specs.declared.request.Request.TheVariants.{Check, Compile, Map, Report, Text, Verify}
 use Rattle.auction_input.specs.declared.request.Request.{Request}
 use Rattle.program_rows.specs.declared.fault.FaultKind.{FaultKind}
-use Rattle.answers.specs.Commands.{costs_text, text_of_all, texts_of_groups, verified_text, winners_text}
+use Rattle.answers.specs.commands.Compile.{texts_of_groups}
+use Rattle.answers.specs.commands.Map.{winners_text}
+use Rattle.answers.specs.commands.Report.{costs_text}
+use Rattle.answers.specs.commands.Text.{text_of_all}
+use Rattle.answers.specs.commands.Verify.{verified_text}
 use Rattle.answers.specs.Sizes.{sizes_text}
 
 abbrev pub program_refused : ℕ × FaultKind → Refused

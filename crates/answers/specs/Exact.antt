@@ -14,7 +14,7 @@ use Rattle.mps_text.specs.declared.write_fault.WriteFault.TheVariants as write
 use Rattle.optimality.specs.declared.fault.FaultKind.TheVariants as certificate
 use Rattle.answers.specs.Answer.{answer}
 use Rattle.answers.specs.Certified.{ClaimedBound, bounds_of, shown}
-use Rattle.answers.specs.Commands.{winners_of_groups}
+use Rattle.answers.specs.commands.Report.{winners_of_groups}
 
 -- the output that is told was written, and nothing else
 abbrev pub Writes : Result (List ℕ) Refused → Option (List ℕ) → Option (List ℕ) → Type 0

@@ -1,7 +1,6 @@
 pub mod Answer
 pub mod Asked
 pub mod Certified
-pub mod Commands
 pub mod Exact
 pub mod GroupTexts
 pub mod Judging
@@ -10,3 +9,4 @@ pub mod Runs
 pub mod Sizes
 pub mod Verified
 pub mod Winners
+pub mod commands

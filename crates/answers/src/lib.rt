@@ -13,11 +13,11 @@ mod run_fault;
 mod running;
 mod sizes;
 mod telling;
-mod verifying;
 mod winning;
 
 pub use certified::check_certificates;
 pub use commands::answer;
+pub use commands::verify::verify;
 pub use compile_run::run_compile;
 pub use group_texts::write_programs;
 pub use pieces::write_pieces;
@@ -27,5 +27,4 @@ pub use run_fault::RunFault;
 pub use running::run;
 pub use sizes::write_sizes;
 pub use telling::tell;
-pub use verifying::verify;
 pub use winning::allocation_won;

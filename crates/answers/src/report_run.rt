@@ -6,7 +6,7 @@ ghost use Rattle.std.specs.List.{zip};
 ghost use Rattle.auction_terms.specs.Groups.{starts_empty};
 ghost use Rattle.group_compiler.specs.Compiled.{compiled};
 ghost use Rattle.outcome.specs.Sale.{sale_of};
-ghost use Rattle.answers.specs.Commands.{winners_of_groups};
+ghost use Rattle.answers.specs.commands.Report.{winners_of_groups};
 ghost use Rattle.auction_input.specs.Refused.{Refuses};
 ghost use Rattle.auction_input.specs.Settled.{held};
 ghost use Rattle.auction_input.specs.Parts.{bytes_of};

@@ -1,0 +1,55 @@
+//! The command `compile`: the programs of all groups.
+
+ghost use Rattle.std.specs.Prelude.{◌≤◌, IfErr, OnOk};
+ghost use Rattle.answers.specs.Exact.{Ends, IsUnwritten, IsWritten, Writes};
+ghost use Rattle.answers.specs.commands.Compile.{texts_of_groups};
+ghost use Rattle.auction_input.specs.Settled.{held};
+ghost use Rattle.auction_input.specs.Sold.{HasSold};
+ghost use Rattle.group_compiler.specs.declared.limits.TheConstants.{MOST_WORKERS};
+
+use crate::compile_run::run_compile;
+use crate::run_fault::RunFault;
+use auction_input::{Auction, Refusal, Request, read_auction};
+use group_compiler::OpenGate;
+use mps_text::{Sink, WriteFault};
+use std::sync::Wait;
+use std::thread::Threads;
+
+/// Writes the programs of all groups.
+pub fn compile<R: Threads + Wait + Sync + AllocGlobal, S: Sink>(
+    rt: &R,
+    text: &[u8],
+    workers: usize,
+    out: &mut S,
+) -> Result<(), Refusal>
+    requires some { 1 ≤ workers }
+    requires few { workers ≤ MOST_WORKERS }
+    ensures written { OnOk result (IsWritten (Request.Compile workers) text.now (S.taken out.old) (S.taken out.new)) }
+    ensures sold { OnOk result (HasSold (Request.Compile workers) text.now) }
+    ensures refused { IfErr result (IsUnwritten (Request.Compile workers) text.now (S.taken out.old) (S.taken out.new) (S.failures out.old) (S.failures out.new)) }
+{
+    let auction = read_auction(rt, &Request::Compile { workers }, text)?;
+    write_programs_of(rt, &auction, workers, out)
+}
+
+// The programs of all groups of an auction.
+fn write_programs_of<R: Threads + Wait + Sync + AllocGlobal, S: Sink>(
+    rt: &R,
+    auction: &Auction<'_>,
+    workers: usize,
+    out: &mut S,
+) -> Result<(), Refusal>
+    requires some { 1 ≤ workers }
+    requires few { workers ≤ MOST_WORKERS }
+    ensures written { OnOk result (Writes (texts_of_groups (held auction.now)) (S.taken out.old) (S.taken out.new)) }
+    ensures refused { IfErr result (Ends (texts_of_groups (held auction.now)) (S.taken out.old) (S.taken out.new) (S.failures out.old) (S.failures out.new)) }
+{
+    let Auction { book, groups, .. } = auction;
+    match run_compile(rt, rt.alloc(), book, groups, workers, &OpenGate, out) {
+        Ok(()) => Ok(()),
+        Err(RunFault::OutOfMemory { written: _ }) => Err(Refusal::OutOfMemory),
+        Err(RunFault::Sink { group: _, written }) => {
+            Err(Refusal::Write(WriteFault::Sink { written }))
+        }
+    }
+}

@@ -1,0 +1,87 @@
+//! The command `map`: what one solution wins.
+
+ghost use Rattle.std.specs.Prelude.{◌≡◌, ◌≤◌, ◌-◌, [], IfErr, IfOk, Ok, OnOk, false, length, slice_index_or};
+ghost use Rattle.answers.specs.Exact.{Ends, IsUnwritten, IsWritten, Writes};
+ghost use Rattle.answers.specs.Winners.{winners_by};
+ghost use Rattle.answers.specs.commands.Map.{winners_text};
+ghost use Rattle.auction_input.specs.Refused.{Refuses};
+ghost use Rattle.auction_input.specs.Settled.{held};
+ghost use Rattle.auction_input.specs.Sold.{HasSold};
+ghost use Rattle.auction_terms.specs.Allocations.{IsFeasible};
+ghost use Rattle.auction_terms.specs.Terms.{lots_in};
+ghost use Rattle.bid_desk.specs.Closing.{book_of};
+ghost use Rattle.group_compiler.specs.Compiled.{program_without};
+
+use crate::winning::allocation_won;
+use auction_input::{Auction, Refusal, Request, only_text, read_auction};
+use auction_terms::Groups;
+use bid_desk::ClosedBook;
+use group_compiler::compile_one;
+use mps_text::Sink;
+use outcome::{Allocation, write_allocation};
+use std::alloc::Global;
+use std::sync::Wait;
+use std::thread::Threads;
+
+/// Writes what the solution of a group's program wins.
+pub fn map<R: Threads + Wait + Sync + AllocGlobal, S: Sink>(
+    rt: &R,
+    text: &[u8],
+    k: usize,
+    out: &mut S,
+) -> Result<(), Refusal>
+    requires { 1 ≤ k }
+    ensures written { OnOk result (IsWritten (Request.Map k) text.now (S.taken out.old) (S.taken out.new)) }
+    ensures sold { OnOk result (HasSold (Request.Map k) text.now) }
+    ensures refused { IfErr result (IsUnwritten (Request.Map k) text.now (S.taken out.old) (S.taken out.new) (S.failures out.old) (S.failures out.new)) }
+{
+    let auction = read_auction(rt, &Request::Map { group: k }, text)?;
+    write_winners(rt, &auction, k, out)
+}
+
+// What the one solution wins without group k of an auction.
+fn write_winners<R: Threads + Wait + Sync + AllocGlobal, S: Sink>(
+    rt: &R,
+    auction: &Auction<'_>,
+    k: usize,
+    out: &mut S,
+) -> Result<(), Refusal>
+    requires { 1 ≤ k }
+    ensures written { OnOk result (Writes (winners_text k (held auction.now)) (S.taken out.old) (S.taken out.new)) }
+    ensures refused { IfErr result (Ends (winners_text k (held auction.now)) (S.taken out.old) (S.taken out.new) (S.failures out.old) (S.failures out.new)) }
+{
+    let Auction { book, groups, .. } = auction;
+    if k > groups.count() {
+        return Err(Refusal::NoGroup { group: k });
+    }
+    let solution = only_text(auction.solutions.as_slice());
+    let allocation = won_without(rt, book, groups, k, solution)?;
+    write_allocation(book, &allocation, out)?;
+    Ok(())
+}
+
+// What the solution of the program of group k wins.
+fn won_without<R: Threads + Wait + Sync + AllocGlobal>(
+    rt: &R,
+    book: &ClosedBook,
+    groups: &Groups,
+    k: usize,
+    solution: &[u8],
+) -> Result<Allocation, Refusal>
+    requires some { 1 ≤ k }
+    requires within { k ≤ length groups.now }
+    ensures feasible { IfOk result (λ a. IsFeasible (lots_in book.now.rules) (book_of book.now) (λ b. false) a) }
+    ensures won { IfOk result (λ a. winners_by (program_without book.now (slice_index_or groups.now (k - 1) [])) 1 solution.now ≡ Ok a) }
+    ensures refuses { IfErr result (Refuses (winners_by (program_without book.now (slice_index_or groups.now (k - 1) [])) 1 solution.now)) }
+{
+    let alloc: Global = rt.alloc();
+    let compiled = compile_one(rt, alloc, book, groups, k)?;
+    allocation_won(
+        alloc,
+        book,
+        groups.group(k),
+        compiled.program(),
+        1,
+        solution,
+    )
+}

@@ -1,0 +1,59 @@
+//! The command `verify`: a report of solutions that certificates show to be optimal.
+
+ghost use Rattle.std.specs.Prelude.{◌≡◌, ◌⊎◌, ◌≤◌, IfErr, OnOk};
+ghost use Rattle.group_compiler.specs.declared.limits.TheConstants.{MOST_WORKERS};
+ghost use Rattle.answers.specs.commands.Verify.{verified_text};
+ghost use Rattle.auction_input.specs.Settled.{held};
+ghost use Rattle.answers.specs.Exact.{Ends, IsBeyondSums, IsUnwritten, IsWritten, Writes};
+ghost use Rattle.auction_input.specs.Sold.{HasSold};
+ghost use Rattle.answers.specs.Verified.{WritesTrueReport};
+
+use crate::certified::check_certificates;
+use crate::report_run::won_by_groups;
+use auction_input::{Auction, Refusal, Request, read_auction};
+use mps_text::Sink;
+use outcome::report;
+use std::sync::Wait;
+use std::thread::Threads;
+
+/// Writes what the solutions of all groups win, and the groups' opportunity costs, where certificates show that nobody
+/// wins more without its group.
+pub fn verify<R: Threads + Wait + Sync + AllocGlobal, S: Sink>(
+    rt: &R,
+    text: &[u8],
+    workers: usize,
+    out: &mut S,
+) -> Result<(), Refusal>
+    requires some { 1 ≤ workers }
+    requires few { workers ≤ MOST_WORKERS }
+    ensures written { OnOk result (IsWritten (Request.Verify workers) text.now (S.taken out.old) (S.taken out.new)) }
+    ensures sold { OnOk result (HasSold (Request.Verify workers) text.now) }
+    ensures true_report { OnOk result (WritesTrueReport workers text.now (S.taken out.old) (S.taken out.new)) }
+    ensures refused { IfErr result (IsUnwritten (Request.Verify workers) text.now (S.taken out.old) (S.taken out.new) (S.failures out.old) (S.failures out.new)) }
+{
+    let auction = read_auction(rt, &Request::Verify { workers }, text)?;
+    write_verified(rt, &auction, workers, out)
+}
+
+// What the solutions of an auction win, and the groups' opportunity costs, where certificates show that nobody wins more.
+fn write_verified<R: Threads + Wait + Sync + AllocGlobal, S: Sink>(
+    rt: &R,
+    auction: &Auction<'_>,
+    workers: usize,
+    out: &mut S,
+) -> Result<(), Refusal>
+    requires some { 1 ≤ workers }
+    requires few { workers ≤ MOST_WORKERS }
+    ensures written { OnOk result (Writes (verified_text (held auction.now)) (S.taken out.old) (S.taken out.new)) }
+    ensures refused { IfErr result (λ r. Ends (verified_text (held auction.now)) (S.taken out.old) (S.taken out.new) (S.failures out.old) (S.failures out.new) r ⊎ (IsBeyondSums (held auction.now) r × (S.taken out.new ≡ S.taken out.old))) }
+{
+    let won = won_by_groups(rt, auction, workers)?;
+    check_certificates(rt, rt.alloc(), auction, &won)?;
+    report(
+        &auction.book,
+        &auction.groups,
+        won.allocations.as_slice(),
+        out,
+    )?;
+    Ok(())
+}
