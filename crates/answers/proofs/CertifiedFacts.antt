@@ -1,5 +1,5 @@
 -- What certificates come to, one after the other.
-use Rattle.std.proofs.Common.{◌≡◌, ◌≢◌, ◌<◌, ◌+◌, ◌++◌, ◌∷◌, ◌∙◌, [], ℕ, zero, suc, Bool, true, false, List, Option, None, Some, Result, Ok, Err, ap, arith, length, map, refl, replicate, subst, sym, take, inl, inr}
+use Rattle.std.proofs.Common.{◌≡◌, ◌≢◌, ◌<◌, ◌+◌, ◌++◌, ◌∷◌, ◌∙◌, [], ℕ, zero, suc, true, false, List, Option, Some, Result, Ok, Err, ap, arith, length, map, refl, replicate, subst, sym, take, inl, inr}
 use Rattle.std.specs.Prelude.{◌==◌, ◌⊎◌, IfErr, OnOk}
 use Rattle.std.specs.List.{AllZip, zip}
 use Rattle.std.specs.Option.{option_map}
@@ -15,12 +15,11 @@ use Rattle.optimality.specs.declared.fault.CertificateFault.{CertificateFault}
 use Rattle.optimality.specs.declared.fault.FaultKind.{FaultKind}
 use Rattle.optimality.specs.declared.fault.FaultKind.TheVariants as kind
 use Rattle.outcome.specs.Sale.{sale_of}
-use Rattle.auction_input.specs.Auction.{Auction}
 use Rattle.answers.specs.Certified.{ClaimedBound, bound_of, bounds_of, certificate_refused, certified, shown}
 use Rattle.auction_input.specs.Refused.{Refuses, Refusal, Refused}
 use Rattle.auction_input.specs.Settled.{held}
 use Rattle.answers.specs.Exact.{IsTooWide}
-use Rattle.answers.specs.Judging.{AllShown, IsFirstFaulty, IsJudged, bound_by, bounds_by, claimed}
+use Rattle.answers.specs.Judging.{AllShown, IsFirstFaulty, IsJudged, bounds_by, claimed}
 use Rattle.auction_input.specs.Parts.{bytes_of}
 use Rattle.auction_input.specs.Stages.{and_then, each_in_turn, unless}
 use Rattle.auction_input.specs.declared.auction.Auction as declared

@@ -14,7 +14,7 @@ use Rattle.mps_text.specs.Sinks.{HasFailed, SentFront}
 use Rattle.mps_text.specs.Written.{written_of}
 use Rattle.mps_text.specs.declared.write_fault.WriteFault.{WriteFault}
 use Rattle.mps_text.specs.declared.write_fault.WriteFault.TheVariants as write
-use Rattle.outcome.specs.Report.{allocation_text, report_text}
+use Rattle.outcome.specs.Report.{allocation_text}
 use Rattle.outcome.specs.Sale.{sale_of}
 use Rattle.program_rows.specs.Program.{Table}
 use Rattle.auction_input.specs.Auction.{Auction, auction_told}

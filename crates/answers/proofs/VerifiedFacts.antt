@@ -1,15 +1,13 @@
 -- What certificates show of what groups win.
-use Rattle.std.proofs.Common.{◌≡◌, ◌≤◌, ◌+◌, ◌==◌, ◌∷◌, ◌∙◌, [], ℕ, zero, suc, Bool, true, false, List, Option, None, Some, Result, Ok, Err, ap, arith, eqb-true, length, map, refl, subst, sym}
-use Rattle.std.specs.Prelude.{OnOk, cond, neg_ℤ, pos, slice_index_or}
+use Rattle.std.proofs.Common.{◌≡◌, ◌+◌, ◌==◌, ◌∷◌, ◌∙◌, [], ℕ, Bool, true, false, List, Option, None, Some, Result, Ok, Err, ap, arith, eqb-true, length, map, refl, subst, sym}
+use Rattle.std.specs.Prelude.{OnOk, cond, slice_index_or}
 use Rattle.std.specs.List.{AllZip, zip}
 use Rattle.std.specs.Option.{option_map}
 use Rattle.std.proofs.lemmas.Int.{ints}
-use Rattle.auction_terms.specs.Allocations.{Book, IsFeasible, total}
+use Rattle.auction_terms.specs.Allocations.{IsFeasible}
 use Rattle.auction_terms.specs.Groups.{has, starts_empty}
-use Rattle.auction_terms.specs.Keeping.{kept_of}
 use Rattle.auction_terms.specs.Limits.{IsBook}
 use Rattle.auction_terms.specs.declared.choices.Choice.{Choice}
-use Rattle.bid_forms.specs.Offers.{Offers}
 use Rattle.optimality.proofs.BoundLaws.{shown-is-bound}
 use Rattle.optimality.proofs.VerdictLaws.{verdict}
 use Rattle.optimality.specs.Laws.{IsBound}
@@ -22,24 +20,21 @@ use Rattle.outcome.specs.Sale.{Sale}
 use Rattle.outcome.specs.Solution.{solution}
 use Rattle.outcome.specs.Winning.{allocation_of}
 use Rattle.program_rows.proofs.FaithfulLaws.{presolved_is_faithful}
-use Rattle.program_rows.specs.Faithful.{IsFaithful, IsGreatest}
-use Rattle.program_rows.specs.Points.{objective}
+use Rattle.program_rows.specs.Faithful.{IsGreatest}
 use Rattle.program_rows.specs.Program.{Table}
-use Rattle.answers.specs.Answer.{answer}
 use Rattle.auction_input.specs.Auction.{Auction, auction_in, auction_of, auction_told}
-use Rattle.auction_input.specs.BookLeft.{book_left, program_for}
+use Rattle.auction_input.specs.BookLeft.{program_for}
 use Rattle.auction_input.specs.Calls.{calls_told}
 use Rattle.answers.specs.Certified.{ClaimedBound, bound_of, bounds_of, certificate_refused, certified, shown}
 use Rattle.answers.specs.commands.Report.{report_of, winners_of_groups}
 use Rattle.answers.specs.commands.Verify.{verified_text}
-use Rattle.auction_input.specs.Parts.{SplitInput}
 use Rattle.auction_input.specs.PartsTold.{parts_told}
 use Rattle.auction_input.specs.Refused.{Refused}
-use Rattle.auction_input.specs.Stages.{and_then, each_in_turn, refused_as, unless}
+use Rattle.auction_input.specs.Stages.{and_then, each_in_turn, refused_as}
 use Rattle.auction_input.specs.TextsTold.{forms_told, groups_told, terms_told}
 use Rattle.answers.specs.Exact.{IsWritten}
 use Rattle.answers.specs.Verified.{IsGreatestWithout, IsOwnCost, IsTrueReport, VerifiedIsTrue, WritesTrueReport}
-use Rattle.answers.specs.Winners.{solution_refused, winners, winners_by}
+use Rattle.answers.specs.Winners.{solution_refused, winners}
 use Rattle.auction_input.specs.declared.refusal.CountedPart.TheVariants as counted
 use Rattle.auction_input.specs.declared.refusal.Refusal.TheVariants as refusal
 use Rattle.auction_input.specs.declared.request.Request.{Request}

@@ -1,4 +1,4 @@
-use Rattle.std.proofs.Common.{◌≤◌, ◌-◌, ◌∙◌, Bor, ℕ, List, ap, length, refl, rules}
+use Rattle.std.proofs.Common.{◌≤◌, ◌∙◌, Bor, ℕ, List, ap, length, refl, rules}
 use Rattle.outcome.specs.Report.{allocation_text}
 use Rattle.outcome.specs.Sale.{sale_of}
 use Rattle.answers.specs.commands.Map.{winners_text}

@@ -1,4 +1,4 @@
-use Rattle.std.proofs.Common.{List, ap, refl, subst}
+use Rattle.std.proofs.Common.{List, refl, subst}
 use Rattle.std.specs.Io.KnownBytes.{Appends}
 use Rattle.auction_terms.specs.declared.choices.Choice.{Choice}
 use Rattle.mps_text.specs.Sinks.{SentFront}

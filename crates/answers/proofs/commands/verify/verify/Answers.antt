@@ -1,4 +1,3 @@
-use Rattle.std.proofs.Common.{◌≡◌}
 use Rattle.auction_input.specs.Auction.{auction_told}
 use Rattle.answers.specs.commands.Verify.{verified_text}
 use Rattle.auction_input.specs.Settled.{held}

@@ -1,4 +1,4 @@
-use Rattle.std.proofs.Common.{◌≡◌, List, ap, inl, inr, refl, subst}
+use Rattle.std.proofs.Common.{◌≡◌, List, inl, refl, subst}
 use Rattle.std.specs.Prelude.{◌⊎◌}
 use Rattle.std.specs.Io.KnownBytes.{Appends}
 use Rattle.auction_terms.specs.declared.choices.Choice.{Choice}
