@@ -28,6 +28,14 @@ impl MemorySink {
     {
         self.bytes.as_slice()
     }
+
+    /// Those bytes, once no more are to come.
+    pub fn into_bytes(self) -> Vec<u8>
+        ensures { ⟦<MemorySink as Sink>⟧.taken self ≡ Some result.items }
+    {
+        let MemorySink { bytes, .. } = self;
+        bytes
+    }
 }
 
 impl Sink for MemorySink {

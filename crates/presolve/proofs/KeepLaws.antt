@@ -23,7 +23,7 @@ use Rattle.auction_terms.specs.Limits.{AreOffers, IsBefore, IsBook}
 use Rattle.auction_terms.specs.Offers.{offers, offer_of}
 use Rattle.auction_terms.proofs.LimitLaws.{kept_are_offers}
 use Rattle.bid_desk.specs.Closing.{Closing, book_of, bids_in, form_standing}
-use Rattle.presolve.specs.Flags.{flags_of, flags_of_bidders, flags_of_form, flagged_from}
+use Rattle.presolve.specs.Flags.{flags_of, flags_of_bidders, flags_of_form, flagged_from, kept_in_form}
 
 -- a book has a form for each bidder of its rules
 pub length_book : (c : Closing) (t : Terms) (bidders : List Bidder) → bidders ≡ t.bidders → t ≡ c.rules → length bidders ≡ length (book_of c)
@@ -33,6 +33,16 @@ length_book c t bidders e r =
 -- the form of the next bidder, and those behind
 pub next_form : (book : Book) (i : ℕ) → i < length book → drop i book ≡ form_of book (i + 1) ∷ drop (i + 1) book
 next_form book i l = drop-cons book i [] l ∙ ap (λ (n : ℕ). form_of book n ∷ drop n book) (let e : suc i ≡ i + 1 = omega arith in e)
+
+-- what holds of all holds of the first
+before_first : {X : Type 0} (P : X → Type 0) (xs ys : List X) → AllByRecursion P (xs ++ ys) → AllByRecursion P xs
+before_first P [] ys a = tt
+before_first P (x ∷ xs) ys a = (a.0, before_first P xs ys a.1)
+
+-- offers in two parts
+pub offers_parted : (lots : Lots) (xs ys : List Offer) → AreOffers lots (xs ++ ys) → AreOffers lots xs × AreOffers lots ys
+offers_parted lots [] ys a = (tt, a)
+offers_parted lots (x ∷ xs) ys a = let rest = offers_parted lots xs ys a.2 in ((a.0, before_first (IsBefore x) xs ys a.1, rest.0), rest.1)
 
 module _ (lots : Lots) (book : Book) (group : ℕ → Bool) where
   pub kept_outside : (b j : ℕ) (form : List Bid) (rest : List Bid) → group b ≡ false → form_of book b ≡ form → flagged_from b j rest (map (is_kept lots form) rest) ≡ filter (is_kept_offer lots book group) (offers_of_form b j rest)
@@ -63,6 +73,19 @@ module _ (lots : Lots) (book : Book) (group : ℕ → Bool) where
   kept_more i old new l h n =
       let own = filter (is_kept_offer lots book group) (offers_of_form (i + 1) 1 (form_of book (i + 1))) in
       ap (λ (os : List Offer). os ++ kept_from (1 + (i + 1)) (i + 1)) n ∙ append_assoc old own (kept_from (1 + (i + 1)) (i + 1)) ∙ ap (λ (os : List Offer). old ++ os) (sym (next_kept i l)) ∙ h
+
+  kept_from_are : (i : ℕ) → i ≤ length book → IsBook lots book → AreOffers lots (kept_from (1 + i) i)
+  kept_from_are zero l limits = kept_are_offers lots book group limits
+  kept_from_are (suc i) l limits =
+      let own = filter (is_kept_offer lots book group) (offers_of_form (i + 1) 1 (form_of book (i + 1))) in
+      let both = subst (AreOffers lots) (next_kept i (omega arith)) (kept_from_are i (omega arith) limits) in
+      let next : i + 1 ≡ suc i = omega arith in
+      subst (λ (n : ℕ). AreOffers lots (kept_from (1 + n) n)) next (offers_parted lots own (kept_from (1 + (i + 1)) (i + 1)) both).1
+
+  pub form_are : (i : ℕ) → i < length book → IsBook lots book → AreOffers lots (filter (is_kept_offer lots book group) (offers_of_form (i + 1) 1 (form_of book (i + 1))))
+  form_are i l limits =
+      let own = filter (is_kept_offer lots book group) (offers_of_form (i + 1) 1 (form_of book (i + 1))) in
+      (offers_parted lots own (kept_from (1 + (i + 1)) (i + 1)) (subst (AreOffers lots) (next_kept i l) (kept_from_are i (omega arith) limits))).0
 
   pub all_kept : (i : ℕ) (os : List Offer) → length book ≤ i → os ++ kept_from (1 + i) i ≡ kept_of lots book group → os ≡ kept_of lots book group
   all_kept i os l h = sym (append-nil os) ∙ ap (λ (rest : Book). os ++ filter (is_kept_offer lots book group) (offers_from (1 + i) rest)) (sym (drop_all i book l)) ∙ h
@@ -98,6 +121,18 @@ are_kept lots book group ks limits each e = record {
   each = each;
   rising = rising lots ks (subst (λ (os : List Offer). AreOffers lots os) (sym e) (kept_are_offers lots book group limits));
 }
+
+-- the kept bids of a form, by the flags of that form
+pub form_are_kept : (lots : Lots) (book : Book) (b : ℕ) (ks : List KeptBid) → 1 ≤ b → b ≤ length book → IsBook lots book → All IsKeptBid ks → offers ks ≡ kept_in_form lots b (form_of book b) → AreKept ks
+form_are_kept lots book zero ks some within limits each e = absurd (omega arith)
+form_are_kept lots book (suc i) ks some within limits each e =
+    let nobody : ℕ → Bool = λ n. false in
+    let next : i + 1 ≡ suc i = omega arith in
+    let own = subst (λ (n : ℕ). AreOffers lots (filter (is_kept_offer lots book nobody) (offers_of_form n 1 (form_of book n)))) next (form_are lots book nobody i (omega arith) limits) in
+    record {
+      each = each;
+      rising = rising lots ks (subst (AreOffers lots) (sym (e ∙ kept_outside lots book nobody (suc i) 1 (form_of book (suc i)) (form_of book (suc i)) refl refl)) own);
+    }
 
 -- the forms of the bidders from one on are those of the book from there on
 forms_from : (book : Book) (i n : ℕ) → i + n ≡ length book → map (form_of book) (range_with_len (i + 1) n) ≡ drop i book

@@ -26,3 +26,7 @@ flagged_from b j (x ∷ form) (flag ∷ flags) =
     if flag
     then record { bidder = b; number = j; bid = x } ∷ flagged_from b (j + 1) form flags
     else flagged_from b (j + 1) form flags
+
+-- the kept bids of bidder b's form
+abbrev pub kept_in_form : Lots → ℕ → List Bid → List Offer
+kept_in_form lots b form = flagged_from b 1 form (flags_of_form lots form)

@@ -1,7 +1,7 @@
 //! Which bids of a closed book are kept. It doesn't depend on who is left out, so one `Flags` serves every group.
 
 use crate::form_flags::flags_of_form;
-use crate::keeping::keep_bidder;
+use crate::keeping::{keep_bidder, keep_form};
 use auction_terms::{Group, Kept};
 use bid_desk::ClosedBook;
 use rayon::prelude::*;
@@ -24,13 +24,14 @@ impl Model for Flags {
 }
 
 impl Flags {
-    ghost use Rattle.std.specs.Prelude.{◌≡◌, IfOk};
+    ghost use Rattle.std.specs.Prelude.{◌≡◌, ◌≤◌, IfOk, length};
+    ghost use Rattle.auction_terms.specs.Allocations.{form_of};
     ghost use Rattle.auction_terms.specs.Groups.{has};
     ghost use Rattle.auction_terms.specs.Keeping.{kept_of};
     ghost use Rattle.auction_terms.specs.Offers.{offers};
     ghost use Rattle.auction_terms.specs.Terms.{lots_in};
     ghost use Rattle.bid_desk.specs.Closing.{book_of};
-    ghost use Rattle.presolve.specs.Flags.{flags_of};
+    ghost use Rattle.presolve.specs.Flags.{flags_of, kept_in_form};
 
     /// The flags of a book, by several threads.
     pub fn new(
@@ -60,6 +61,25 @@ impl Flags {
             keep_bidder(&mut kept, book, group, place as u16 + 1, &self.forms[place])?;
         }
         Ok(Kept::new(kept))
+    }
+
+    /// The kept bids of one bidder's form, in order, where these are the flags of the book.
+    pub fn kept_in_form<'b>(
+        &self,
+        alloc: Global,
+        book: &'b ClosedBook,
+        bidder: u16,
+    ) -> Result<Kept<'b>, AllocError>
+        requires flags { self.now ≡ flags_of (lots_in book.now.rules) (book_of book.now) }
+        requires some { 1 ≤ bidder }
+        requires bidders { bidder ≤ length (book_of book.now) }
+        ensures { IfOk result (λ kept. offers kept ≡ kept_in_form (lots_in book.now.rules) bidder (form_of (book_of book.now) bidder)) }
+    {
+        let _rules = book.rules();
+        let mut own = Vec::new(alloc);
+        let flags = &self.forms[bidder as usize - 1];
+        keep_form(&mut own, book, bidder, flags)?;
+        Ok(Kept::new(own))
     }
 }
 

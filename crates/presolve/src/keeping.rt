@@ -11,7 +11,7 @@ ghost use Rattle.auction_terms.specs.Terms.{lots_in};
 ghost use Rattle.auction_terms.specs.declared.limits.TheConstants.{MOST_BIDDERS, MOST_BIDS};
 ghost use Rattle.bid_desk.specs.Closing.{book_of};
 ghost use Rattle.bid_forms.specs.Offers.{IsWithinLimits};
-ghost use Rattle.presolve.specs.Flags.{flagged_from};
+ghost use Rattle.presolve.specs.Flags.{flagged_from, kept_in_form};
 
 use crate::flags::Flags;
 use auction_terms::{Bid, Group, Kept, KeptBid};
@@ -51,6 +51,23 @@ pub(crate) fn keep_bidder<'b>(
     if group.has(bidder) {
         return Ok(());
     }
+    keep_form(kept, book, bidder, flags)
+}
+
+// Adds the kept bids of a bidder's form.
+pub(crate) fn keep_form<'b>(
+    kept: &mut Vec<KeptBid<'b>>,
+    book: &'b ClosedBook,
+    bidder: u16,
+    flags: &[bool],
+) -> Result<(), AllocError>
+    requires some { 1 ≤ bidder }
+    requires bidders { bidder ≤ MOST_BIDDERS }
+    requires flags { flags.now ≡ map (is_kept (lots_in book.now.rules) (form_of (book_of book.now) bidder)) (form_of (book_of book.now) bidder) }
+    requires each { All IsKeptBid kept.old.items }
+    ensures added { OnOk result (offers kept.new.items ≡ offers kept.old.items ++ kept_in_form (lots_in book.now.rules) bidder (form_of (book_of book.now) bidder)) }
+    ensures each { OnOk result (All IsKeptBid kept.new.items) }
+{
     match book.form(bidder) {
         None => Ok(()),
         Some(form) => keep_flagged(kept, bidder, form.bids(), flags),

@@ -1,12 +1,13 @@
 // The program of a list of kept bids.
-ghost use Rattle.std.specs.Prelude.{◌≡◌, ◌≤◌, ◌<◌, ◌+◌, ◌^◌, ◌++◌, ◌∷◌, [], ◌==◌, All, Some, cond, length, map, neg_ℤ, slice_get, IfOk, OnOk};
+ghost use Rattle.std.specs.Prelude.{◌≡◌, ◌≤◌, ◌<◌, ◌+◌, ◌^◌, ◌++◌, ◌∷◌, [], ◌==◌, All, Some, codes, cond, length, map, neg_ℤ, slice_get, IfOk, OnOk};
 ghost use Rattle.auction_terms.specs.declared.limits.TheConstants.{GREATEST_AMOUNT};
 ghost use Rattle.auction_terms.specs.Bids.{AreKept};
 ghost use Rattle.auction_terms.specs.Domination.{net};
 ghost use Rattle.auction_terms.specs.Offers.{offer_of, offers};
 ghost use Rattle.auction_terms.specs.Terms.{lots_in};
 ghost use Rattle.program_rows.specs.Building.{IsThere, built_column};
-ghost use Rattle.program_rows.specs.Rows.{bidder_subjects, column_of, program_of, subjects as subjects_of, weight, worth_column};
+ghost use Rattle.program_rows.specs.Parts.{shown_row};
+ghost use Rattle.program_rows.specs.Rows.{bidder_subjects, column_of, program_of, row_of, subjects as subjects_of, weight, worth_column};
 
 use crate::bounds::Bounds;
 use crate::columns::Columns;
@@ -120,10 +121,16 @@ fn columns(
     Ok(columns)
 }
 
-/// The program of the kept bids: the objective `OBJ`, a row `Bb` for each bidder with a bid, a row `Cc` for each category and a row `Pp` for each pool, a column `Xb_j` for each bid, and a column `K` for what all lots are worth where that isn't 0.
-pub fn build(alloc: Global, rules: &Rules, kept: &Kept<'_>) -> Result<Program, AllocError>
+/// The rows and the columns of the program of the kept bids, without the column `K`: what `build` makes, where no lot has a value.
+pub fn build_bids(
+    alloc: Global,
+    rules: &Rules,
+    kept: &Kept<'_>,
+) -> Result<ProgramParts, AllocError>
     requires sized { All (λ k. length k.offer.now.package ≡ length rules.now.categories) kept.now }
-    ensures { IfOk result (λ program. program ≡ program_of (lots_in rules.now) (offers kept.now)) }
+    ensures objective { IfOk result (λ parts. parts.objective_name.items ≡ codes "OBJ") }
+    ensures rows { IfOk result (λ parts. map shown_row parts.rows.items ≡ map (row_of (lots_in rules.now)) (subjects_of (lots_in rules.now) (offers kept.now))) }
+    ensures columns { IfOk result (λ parts. parts.columns ≡ map (column_of (lots_in rules.now) (subjects_of (lots_in rules.now) (offers kept.now))) (offers kept.now)) }
 {
     let kept = kept.bids();
     let mut subjects = bidders(alloc, kept)?;
@@ -131,11 +138,22 @@ pub fn build(alloc: Global, rules: &Rules, kept: &Kept<'_>) -> Result<Program, A
     add_categories(&mut subjects, rules.categories().len() as u8)?;
     add_pools(&mut subjects, rules.pools().len() as u8)?;
     let rows = rows(alloc, rules, &subjects)?;
-    let mut columns = columns(alloc, rules, &subjects, first, kept)?;
-    add_worth(&mut columns, rules)?;
-    Ok(Program::from_parts(ProgramParts {
+    let columns = columns(alloc, rules, &subjects, first, kept)?;
+    Ok(ProgramParts {
         objective_name: objective_name(alloc)?,
         rows,
         columns,
-    }))
+    })
+}
+
+/// The program of the kept bids: the objective `OBJ`, a row `Bb` for each bidder with a bid, a row `Cc` for each category and a row `Pp` for each pool, a column `Xb_j` for each bid, and a column `K` for what all lots are worth where that isn't 0.
+pub fn build(alloc: Global, rules: &Rules, kept: &Kept<'_>) -> Result<Program, AllocError>
+    requires sized { All (λ k. length k.offer.now.package ≡ length rules.now.categories) kept.now }
+    ensures { IfOk result (λ program. program ≡ program_of (lots_in rules.now) (offers kept.now)) }
+{
+    let _terms = rules.categories();
+    let _bids = kept.bids();
+    let mut parts = build_bids(alloc, rules, kept)?;
+    add_worth(&mut parts.columns, rules)?;
+    Ok(Program::from_parts(parts))
 }

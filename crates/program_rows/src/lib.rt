@@ -32,7 +32,7 @@ mod token_fault;
 mod token_parts;
 
 pub use bounds::Bounds;
-pub use building::build;
+pub use building::{build, build_bids};
 pub use column::Column;
 pub use columns::Columns;
 pub use digits::digits_behind;

@@ -1,12 +1,10 @@
-use Rattle.std.proofs.Common.{◌≡◌, ◌++◌, List, sym, ap, ap₂, ◌∙◌, append-nil, Bool, OnOk, refl, subst}
-use Rattle.auction_terms.specs.declared.bids.Bid.{Bid}
+use Rattle.std.proofs.Common.{◌≡◌, ◌++◌, List, sym, ap, ◌∙◌, append-nil, OnOk, refl, subst}
 use Rattle.auction_terms.specs.Allocations.{form_of}
 use Rattle.auction_terms.specs.Groups.{has}
 use Rattle.auction_terms.specs.Keeping.{Offer}
 use Rattle.auction_terms.specs.Offers.{offers}
 use Rattle.auction_terms.specs.Terms.{lots_in}
 use Rattle.bid_desk.specs.Closing.{book_of}
-use Rattle.presolve.specs.Flags.{flagged_from}
 use Rattle.presolve.proofs.KeepLaws.{kept_outside, none_inside}
 use Rattle.presolve.proofs.keeping.keep_bidder.Goals as goal
 
@@ -15,13 +13,11 @@ returns-then-has-clause-added c =
     let book = book_of c.args.book.now in
     sym (ap (λ (os : List Offer). offers c.args.kept.now.items ++ os) (none_inside (lots_in c.args.book.now.rules) book (has c.args.group.now) c.args.bidder 1 (form_of book c.args.bidder) (sym c.has.ensures.member ∙ c.if-has.true)) ∙ append-nil (offers c.args.kept.now.items))
 
-pub returns-in-Some-clause-added : goal.returns-in-Some-clause-added
-returns-in-Some-clause-added c =
+pub returns-clause-added : goal.returns-clause-added
+returns-clause-added c =
     let book = book_of c.args.book.now in
     let lots = lots_in c.args.book.now.rules in
     let b = c.args.bidder in
     let form = form_of book b in
-    let bids : c.bids.result.now ≡ form = c.bids.ensures.bids ∙ c.in-Some.ensures.bids in
-    let own = ap₂ (λ (xs : List Bid) (flags : List Bool). flagged_from b 1 xs flags) bids c.requires.flags
-    ∙ kept_outside lots book (has c.args.group.now) b 1 form form (sym c.has.ensures.member ∙ c.if-has.false) refl in
-    subst (λ (os : List Offer). OnOk c.keep_flagged.result (offers c.keep_flagged.new.kept.items ≡ offers c.args.kept.now.items ++ os)) own c.keep_flagged.ensures.added
+    let own = kept_outside lots book (has c.args.group.now) b 1 form form (sym c.has.ensures.member ∙ c.if-has.false) refl in
+    subst (λ (os : List Offer). OnOk c.keep_form.result (offers c.keep_form.new.kept.items ≡ offers c.args.kept.now.items ++ os)) own c.keep_form.ensures.added
