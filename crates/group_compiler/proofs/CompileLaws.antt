@@ -18,9 +18,13 @@ sized_offers : (lots : Lots) (ks : List KeptBid) → AreOffers lots (offers ks) 
 sized_offers lots [] a = tt
 sized_offers lots (k ∷ ks) a = (a.0.bid.sized, sized_offers lots ks a.2)
 
--- kept bids have a quantity for each category
-pub kept_are_sized : (rules : Terms) (book : Book) (group : ℕ → Bool) (ks : List KeptBid) → IsBook (lots_in rules) book → offers ks ≡ kept_of (lots_in rules) book group → All (λ (k : KeptBid). length k.offer.now.package ≡ length rules.categories) ks
-kept_are_sized rules book group ks limits e =
-    let are = subst (λ (os : List Offer). AreOffers (lots_in rules) os) (sym e) (kept_are_offers (lots_in rules) book group limits) in
+-- offers in order have a quantity for each category
+pub offers_are_sized : (rules : Terms) (ks : List KeptBid) → AreOffers (lots_in rules) (offers ks) → All (λ (k : KeptBid). length k.offer.now.package ≡ length rules.categories) ks
+offers_are_sized rules ks are =
     subst (λ (n : ℕ). All (λ (k : KeptBid). length k.offer.now.package ≡ n) ks) (length-map rules.categories (λ (category : Category). category.supply))
     (All-from_recursion (λ (k : KeptBid). length k.offer.now.package ≡ length (lots_in rules).supply) ks (sized_offers (lots_in rules) ks are))
+
+-- and so have kept bids
+pub kept_are_sized : (rules : Terms) (book : Book) (group : ℕ → Bool) (ks : List KeptBid) → IsBook (lots_in rules) book → offers ks ≡ kept_of (lots_in rules) book group → All (λ (k : KeptBid). length k.offer.now.package ≡ length rules.categories) ks
+kept_are_sized rules book group ks limits e =
+    offers_are_sized rules ks (subst (λ (os : List Offer). AreOffers (lots_in rules) os) (sym e) (kept_are_offers (lots_in rules) book group limits))

@@ -123,16 +123,19 @@ are_kept lots book group ks limits each e = record {
 }
 
 -- the kept bids of a form, by the flags of that form
-pub form_are_kept : (lots : Lots) (book : Book) (b : ℕ) (ks : List KeptBid) → 1 ≤ b → b ≤ length book → IsBook lots book → All IsKeptBid ks → offers ks ≡ kept_in_form lots b (form_of book b) → AreKept ks
-form_are_kept lots book zero ks some within limits each e = absurd (omega arith)
-form_are_kept lots book (suc i) ks some within limits each e =
+pub form_offers : (lots : Lots) (book : Book) (b : ℕ) → 1 ≤ b → b ≤ length book → IsBook lots book → AreOffers lots (kept_in_form lots b (form_of book b))
+form_offers lots book zero some within limits = absurd (omega arith)
+form_offers lots book (suc i) some within limits =
     let nobody : ℕ → Bool = λ n. false in
     let next : i + 1 ≡ suc i = omega arith in
     let own = subst (λ (n : ℕ). AreOffers lots (filter (is_kept_offer lots book nobody) (offers_of_form n 1 (form_of book n)))) next (form_are lots book nobody i (omega arith) limits) in
-    record {
-      each = each;
-      rising = rising lots ks (subst (AreOffers lots) (sym (e ∙ kept_outside lots book nobody (suc i) 1 (form_of book (suc i)) (form_of book (suc i)) refl refl)) own);
-    }
+    subst (AreOffers lots) (sym (kept_outside lots book nobody (suc i) 1 (form_of book (suc i)) (form_of book (suc i)) refl refl)) own
+
+pub form_are_kept : (lots : Lots) (book : Book) (b : ℕ) (ks : List KeptBid) → 1 ≤ b → b ≤ length book → IsBook lots book → All IsKeptBid ks → offers ks ≡ kept_in_form lots b (form_of book b) → AreKept ks
+form_are_kept lots book b ks some within limits each e = record {
+  each = each;
+  rising = rising lots ks (subst (AreOffers lots) (sym e) (form_offers lots book b some within limits));
+}
 
 -- the forms of the bidders from one on are those of the book from there on
 forms_from : (book : Book) (i n : ℕ) → i + n ≡ length book → map (form_of book) (range_with_len (i + 1) n) ≡ drop i book

@@ -1,0 +1,6 @@
+pub mod Sections
+pub mod BidLines
+pub mod Joined
+mod Outside
+mod PageLines
+mod Slots

@@ -1,0 +1,16 @@
+//! The texts of all groups from the texts of forms.
+#![tactic(auto)]
+
+pub mod laws;
+mod ordering;
+mod page;
+mod pages;
+mod rendering;
+mod section;
+mod workers;
+mod writing;
+
+pub use page::Page;
+pub use pages::Pages;
+pub use section::Section;
+pub use writing::add_group_text;
