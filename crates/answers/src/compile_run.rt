@@ -15,13 +15,14 @@ use crate::group_texts::write_programs;
 use crate::run_fault::RunFault;
 use auction_terms::Groups;
 use bid_desk::ClosedBook;
-use group_compiler::{Gate, compile_all};
+use group_compiler::Gate;
+use group_pages::Pages;
 use mps_text::Sink;
 use std::alloc::{AllocError, Global};
 use std::sync::Wait;
 use std::thread::Threads;
 
-/// Compiles all groups with 1 to 64 workers, and writes for each in order a line `* program k NAMES` and the text of its
+/// Renders each form's kept bids once, with 1 to 64 workers, and writes for each in order a line `* program k NAMES` and the text of its
 /// program. Each point of a text maps back to a feasible allocation of the same total, and each feasible allocation is
 /// matched by a point of at least its total.
 pub fn run_compile<R: Threads + Wait + Sync, G: Gate + Sync, S: Sink>(
@@ -41,8 +42,8 @@ pub fn run_compile<R: Threads + Wait + Sync, G: Gate + Sync, S: Sink>(
     ensures failed { IfErr result (FailsAsTold (S.failures out.old) (S.failures out.new)) }
 {
     let _rules = book.rules();
-    match compile_all(rt, alloc, book, groups, workers, gate) {
-        Ok(programs) => write_programs(book, programs.as_slice(), out),
+    match Pages::of_book(rt, alloc, book, groups.count(), workers, gate) {
+        Ok(pages) => write_programs(book, &pages, groups, out),
         Err(AllocError) => Err(RunFault::OutOfMemory { written: 0 }),
     }
 }

@@ -122,11 +122,7 @@ fn columns(
 }
 
 /// The rows and the columns of the program of the kept bids, without the column `K`: what `build` makes, where no lot has a value.
-pub fn build_bids(
-    alloc: Global,
-    rules: &Rules,
-    kept: &Kept<'_>,
-) -> Result<ProgramParts, AllocError>
+pub fn build_bids(alloc: Global, rules: &Rules, kept: &Kept<'_>) -> Result<ProgramParts, AllocError>
     requires sized { All (λ k. length k.offer.now.package ≡ length rules.now.categories) kept.now }
     ensures objective { IfOk result (λ parts. parts.objective_name.items ≡ codes "OBJ") }
     ensures rows { IfOk result (λ parts. map shown_row parts.rows.items ≡ map (row_of (lots_in rules.now)) (subjects_of (lots_in rules.now) (offers kept.now))) }
