@@ -6,6 +6,8 @@ mod certificates;
 #[cfg(test)]
 mod keeping;
 #[cfg(test)]
+mod pages;
+#[cfg(test)]
 mod programs;
 #[cfg(test)]
 mod reading;

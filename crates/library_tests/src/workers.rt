@@ -3,6 +3,7 @@
 ghost use Rattle.std.specs.Prelude.{◌≤◌};
 
 use crate::worked::books::worked_book;
+use answers::run_compile;
 use auction_terms::{Groups, Rules, read_groups};
 use bid_desk::ClosedBook;
 use group_compiler::{Claims, Compiled, Gate, OpenGate, compile_all, compile_one};
@@ -202,6 +203,24 @@ fn frees<R: Threads + Wait + Sync>(
     Ok(all.len() == 3 && gate.freed.load(SeqCst) == 1)
 }
 
+/// The same of two workers that make the pages of the texts of three groups.
+fn frees_pages<R: Threads + Wait + Sync>(
+    rt: &R,
+    alloc: Global,
+    book: &ClosedBook,
+    groups: &Groups,
+    held: usize,
+) -> bool {
+    let gate = HeldGroup {
+        held,
+        others: AtomicU64::new(0),
+        freed: AtomicU64::new(0),
+    };
+    let mut out = MemorySink::new(alloc);
+    let ended = run_compile(rt, alloc, book, groups, 2, &gate, &mut out);
+    ended.is_ok() && gate.freed.load(SeqCst) == 1
+}
+
 /// How many of two workers come past the gate at which each waits for the other one.
 fn met<R: Threads + Wait + Sync>(
     rt: &R,
@@ -219,6 +238,25 @@ fn met<R: Threads + Wait + Sync>(
         return Ok(0);
     }
     Ok(gate.met.load(SeqCst))
+}
+
+/// The same of two workers that make the pages of the texts of two groups.
+fn met_at_pages<R: Threads + Wait + Sync>(
+    rt: &R,
+    alloc: Global,
+    book: &ClosedBook,
+    groups: &Groups,
+) -> u64 {
+    let gate = Meeting {
+        first: AtomicU64::new(0),
+        second: AtomicU64::new(0),
+        met: AtomicU64::new(0),
+    };
+    let mut out = MemorySink::new(alloc);
+    match run_compile(rt, alloc, book, groups, 2, &gate, &mut out) {
+        Ok(()) => gate.met.load(SeqCst),
+        Err(_) => 0,
+    }
 }
 
 #[test]
@@ -248,11 +286,32 @@ fn two_workers_meet(rt: HostRuntime) -> Result<(), Fail> {
 }
 
 #[test]
+fn two_workers_meet_at_pages(rt: HostRuntime) -> Result<(), Fail> {
+    let book = worked_book(&rt, rt.alloc())?;
+    let groups = read_groups(rt.alloc(), b"-\nBeta\n", book.rules())?;
+    assert_eq!(rt; met_at_pages(&rt, rt.alloc(), &book, &groups), 2);
+    Ok(())
+}
+
+#[test]
 fn no_worker_keeps_a_share(rt: HostRuntime) -> Result<(), Fail> {
     let book = worked_book(&rt, rt.alloc())?;
     let groups = read_groups(rt.alloc(), b"-\nAlpha\nBeta\n", book.rules())?;
     for held in [1usize, 2, 3] {
         assert!(rt; frees(&rt, rt.alloc(), &book, &groups, held)?, "at {held}");
+    }
+    Ok(())
+}
+
+#[test]
+fn no_worker_keeps_a_share_of_pages(rt: HostRuntime) -> Result<(), Fail> {
+    let book = worked_book(&rt, rt.alloc())?;
+    let groups = read_groups(rt.alloc(), b"-\nAlpha\nBeta\n", book.rules())?;
+    for held in [1usize, 2, 3] {
+        assert!(rt;
+            frees_pages(&rt, rt.alloc(), &book, &groups, held),
+            "at {held}"
+        );
     }
     Ok(())
 }

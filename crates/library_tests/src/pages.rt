@@ -1,0 +1,98 @@
+//! Pages of a worked auction, and the texts that are joined from them.
+
+use crate::worked::books::worked_book;
+use auction_terms::{Group, Groups, read_groups};
+use bid_desk::ClosedBook;
+use group_compiler::{OpenGate, compile_one};
+use group_pages::{Page, Pages, Section, add_group_text};
+use mps_text::{Block, MemorySink, send};
+use std::alloc::Global;
+use std::test::Fail;
+use std::thread::Threads;
+
+mod refused;
+
+/// The text of a group that is joined from pages. It is empty where memory is short.
+fn joined(alloc: Global, pages: &Pages, group: &Group) -> MemorySink {
+    let mut block = Block::new();
+    let mut sink = MemorySink::new(alloc);
+    let added = add_group_text(&mut block, &mut sink, pages, group);
+    if added.is_err() || send(&mut block, &mut sink).is_err() {
+        return MemorySink::new(alloc);
+    }
+    sink
+}
+
+/// Whether a page has these lines in its sections.
+fn has_lines(page: &Page, rows: &[u8], columns: &[u8], right_sides: &[u8], bounds: &[u8]) -> bool {
+    page.lines(Section::Rows) == rows
+        && page.lines(Section::Columns) == columns
+        && page.lines(Section::RightSides) == right_sides
+        && page.lines(Section::Bounds) == bounds
+}
+
+/// Whether each group's text from pages is that of its program.
+fn are_texts_of_programs(
+    rt: &(impl Threads + Sync),
+    alloc: Global,
+    book: &ClosedBook,
+    groups: &Groups,
+    pages: &Pages,
+) -> Result<bool, Fail> {
+    for place in 0..groups.count() {
+        let compiled = compile_one(rt, alloc, book, groups, place + 1)?;
+        let mut sink = MemorySink::new(alloc);
+        let written = compiled.write_to(&mut sink);
+        let text = joined(alloc, pages, groups.group(place + 1));
+        if written.is_err() || text.bytes() != sink.bytes() {
+            return Ok(false);
+        }
+    }
+    Ok(true)
+}
+
+#[test]
+fn a_page_has_the_lines_of_kept_bids(rt: HostRuntime) -> Result<(), Fail> {
+    let book = worked_book(&rt, rt.alloc())?;
+    let pages = Pages::of_book(&rt, rt.alloc(), &book, 0, 1, &OpenGate)?;
+    let Some(beta) = pages.forms().get(1) else {
+        return Err(Fail::from("forms"));
+    };
+    assert!(rt;
+        has_lines(
+            beta,
+            b" L B2\n",
+            b" X2_1 OBJ -20\n X2_1 B2 1\n X2_1 C1 1\n",
+            b" RHS B2 1\n",
+            b" UP BND X2_1 1\n",
+        )
+    );
+    assert!(rt;
+        has_lines(
+            pages.lots(),
+            b" L C1\n L C2\n",
+            b"",
+            b" RHS C1 2\n RHS C2 1\n",
+            b"",
+        )
+    );
+    Ok(())
+}
+
+#[test]
+fn texts_from_pages_are_those_of_programs(rt: HostRuntime) -> Result<(), Fail> {
+    let book = worked_book(&rt, rt.alloc())?;
+    let groups = read_groups(
+        rt.alloc(),
+        b"-\nBeta\nAlpha+Beta\nAlpha+Beta+Gamma\n",
+        book.rules(),
+    )?;
+    for workers in [1usize, 2, 64] {
+        let pages = Pages::of_book(&rt, rt.alloc(), &book, groups.count(), workers, &OpenGate)?;
+        assert!(rt;
+            are_texts_of_programs(&rt, rt.alloc(), &book, &groups, &pages)?,
+            "by {workers}"
+        );
+    }
+    Ok(())
+}
