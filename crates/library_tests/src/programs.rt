@@ -1,7 +1,9 @@
 use crate::worked::RULES_OF_ONE;
 use auction_terms::{Choice, Kept, read_rules};
+use indexmap::IndexSet;
 use mps_reader::read_program;
-use program_rows::{Bounds, Columns, Point, build, same_program};
+use program_rows::{Bounds, Columns, NameSet, Point, Seeded, build, place_of, same_program};
+use std::cell::Cell;
 use std::test::Fail;
 
 mod refused;
@@ -38,6 +40,20 @@ fn lots_with_a_value_have_a_column(rt: HostRuntime) -> Result<(), Fail> {
     assert_eq!(rt; program.column_name(0), b"K".as_slice());
     assert_eq!(rt; program.bounds(0), Bounds::One);
     assert_eq!(rt; program.cost(0), -80);
+    Ok(())
+}
+
+#[test]
+fn names_are_found_in_any_order(rt: HostRuntime) -> Result<(), Fail> {
+    let mut names: NameSet = IndexSet::with_hasher(rt.alloc(), Seeded::by_text(TWO_BIDS));
+    names.insert(b"X1_1")?;
+    names.insert(b"X1_2")?;
+    names.insert(b"X2_1")?;
+    let next = Cell::new(0);
+    assert_eq!(rt; place_of(&names, &next, b"X1_2"), Some(1));
+    assert_eq!(rt; place_of(&names, &next, b"X2_1"), Some(2));
+    assert_eq!(rt; place_of(&names, &next, b"X1_1"), Some(0));
+    assert_eq!(rt; place_of(&names, &next, b"X3_1"), None);
     Ok(())
 }
 
