@@ -19,7 +19,7 @@ use Rattle.answers.specs.Certified.{ClaimedBound, bound_of, bounds_of, certifica
 use Rattle.auction_input.specs.Refused.{Refuses, Refusal, Refused}
 use Rattle.auction_input.specs.Settled.{held}
 use Rattle.answers.specs.Exact.{IsTooWide}
-use Rattle.answers.specs.Judging.{AllShown, IsFirstFaulty, IsJudged, bounds_by, claimed}
+use Rattle.answers.specs.inside.Judging.{AllShown, IsFirstFaulty, IsJudged, bounds_by, claimed}
 use Rattle.auction_input.specs.Parts.{bytes_of}
 use Rattle.auction_input.specs.Stages.{and_then, each_in_turn, unless}
 use Rattle.auction_input.specs.declared.auction.Auction as declared

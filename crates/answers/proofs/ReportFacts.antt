@@ -8,7 +8,8 @@ use Rattle.group_compiler.specs.Compiled.{GroupProgram, compiled, program_withou
 use Rattle.outcome.specs.Sale.{sale_of}
 use Rattle.auction_input.specs.Refused.{Refused}
 use Rattle.auction_input.specs.Stages.{and_then, each_in_turn}
-use Rattle.answers.specs.Winners.{winners, winners_by, winners_with}
+use Rattle.answers.specs.Winners.{winners, winners_by}
+use Rattle.answers.specs.inside.Winners.{winners_with}
 
 -- each program is that of its group
 pub each-compiled : (book : Closing) (groups : List (List ℕ)) → All (λ (c : GroupProgram). c ≡ compiled book c.group) (map (compiled book) groups)

@@ -7,7 +7,8 @@ use Rattle.answers.specs.Asked.{wdp}
 use Rattle.answers.specs.Exact.{IsUnwritten, IsWritten}
 use Rattle.auction_input.specs.Refused.{Refusal}
 use Rattle.auction_input.specs.ReadInput.{IsWhole}
-use Rattle.answers.specs.Runs.{IsAnswered, IsRefused, IsUndone, IsUntold, by_help, by_memory, by_text}
+use Rattle.answers.specs.Runs.{IsAnswered, IsRefused, IsUndone, by_help, by_memory, by_text}
+use Rattle.answers.specs.inside.Runs.{IsUntold}
 use Rattle.auction_input.specs.Sold.{HasReadSold, HasSold}
 use Rattle.auction_input.specs.declared.request.Request.{Request}
 use Rattle.answers.proofs.AskedFacts.{help-asked}

@@ -1,10 +1,7 @@
 -- What is written for all groups: for each in order a line with its number and names, and then the text of its program.
 use Rattle.std.specs.Prelude.{◌≡◌, ◌≤◌, ◌<◌, ◌+◌, ◌-◌, ⊤, ℕ, List, [], ◌∷◌, ◌++◌, Option, None, Some, codes, decimal, length, take}
-use Rattle.auction_terms.specs.Groups.{has}
-use Rattle.auction_terms.specs.Terms.{lots_in}
-use Rattle.bid_desk.specs.Closing.{Closing, book_of}
-use Rattle.group_compiler.specs.Compiled.{GroupProgram, program_without}
-use Rattle.mps_text.specs.FaithfulText.{IsFaithfulText}
+use Rattle.bid_desk.specs.Closing.{Closing}
+use Rattle.group_compiler.specs.Compiled.{GroupProgram}
 use Rattle.mps_text.specs.Sinks.{HasFailed, counted}
 use Rattle.mps_text.specs.Text.{text}
 use Rattle.outcome.specs.Report.{group_names}
@@ -32,10 +29,6 @@ program_bytes book k c = program_line book k c.group ++ text c.program
 -- those of all groups
 abbrev pub programs_bytes : Closing → List GroupProgram → List ℕ
 programs_bytes book programs = in_turn (program_bytes book) 1 programs
-
--- the text of a group's program is faithful to the book
-abbrev pub IsFaithfulWithout : Closing → List ℕ → Type 0
-IsFaithfulWithout book group = IsFaithfulText (lots_in book.rules) (book_of book) (has group) (text (program_without book group))
 
 -- where a sink tells its bytes: what went out is the first bytes of the whole, as many as are told, and the next byte is one of the line or the text of that group
 abbrev pub EndsIn : Closing → List GroupProgram → ℕ → ℕ → Option (List ℕ) → Option (List ℕ) → Type 0

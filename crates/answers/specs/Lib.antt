@@ -3,10 +3,10 @@ pub mod Asked
 pub mod Certified
 pub mod Exact
 pub mod GroupTexts
-pub mod Judging
 pub mod Requests
 pub mod Runs
 pub mod Sizes
 pub mod Verified
 pub mod Winners
 pub mod commands
+pub mod inside

@@ -8,7 +8,7 @@ use Rattle.auction_input.specs.declared.refusal.Refusal.TheVariants as refusal
 use Rattle.auction_input.specs.declared.request.Request.{Request}
 use Rattle.clap.specs.Words.{Text}
 use Rattle.clap.specs.declared.error.kind.ErrorKind.{ErrorKind}
-use Rattle.answers.specs.Asked.{AskForHelp, AskForNothing, IsShown, asked}
+use Rattle.answers.specs.Asked.{AskForHelp, AskForNothing, asked}
 use Rattle.answers.specs.Exact.{Ends, IsUnwritten, IsWritten}
 
 -- from what a reader had left and a sink had taken before to those after: the input was read, and what was asked for is written
@@ -35,10 +35,6 @@ pub data IsUndone (words : List Text) (left left' : Option (List ℕ)) (reads re
   by_request : {r : Refusal} → (request : Request) → asked words ≡ Ok request → IsRefused request left left' reads reads' taken taken' failures failures' r → IsUndone words left left' reads reads' taken taken' failures failures' r
   by_help : {r : Refusal} → AskForHelp words → left' ≡ left → IsUnshown taken taken' failures failures' r → IsUndone words left left' reads reads' taken taken' failures failures' r
   by_memory : left' ≡ left → taken' ≡ taken → IsUndone words left left' reads reads' taken taken' failures failures' refusal.OutOfMemory
-
--- why help, or the version, isn't shown: it could not be written, or memory was short
-abbrev pub IsUntold : ErrorKind → Option (List ℕ) → Option (List ℕ) → ℕ → ℕ → Refusal → Type 0
-IsUntold k taken taken' failures failures' r = (IsShown k × IsUnshown taken taken' failures failures' r) ⊎ ((r ≡ refusal.OutOfMemory) × (taken' ≡ taken))
 
 -- the words ask for nothing, and nothing is read or written
 abbrev pub IsUnasked : List Text → Option (List ℕ) → Option (List ℕ) → Option (List ℕ) → Option (List ℕ) → Type 0

@@ -4,10 +4,9 @@ use Rattle.std.specs.List.{zip}
 use Rattle.std.specs.Option.{option_map_or}
 use Rattle.auction_input.specs.BookLeft.{program_for}
 use Rattle.auction_input.specs.Refused.{Refused}
-use Rattle.auction_input.specs.Stages.{and_then, each_in_turn, refused_as}
+use Rattle.auction_input.specs.Stages.{and_then, refused_as}
 use Rattle.auction_input.specs.declared.refusal.Refusal.TheVariants as refusal
 use Rattle.auction_terms.specs.declared.choices.Choice.{Choice}
-use Rattle.group_compiler.specs.Compiled.{GroupProgram}
 use Rattle.outcome.specs.Sale.{Sale}
 use Rattle.outcome.specs.Solution.{solution}
 use Rattle.outcome.specs.Winning.{allocation_of}
@@ -35,10 +34,3 @@ winners_by p number text = and_then (refused_as (solution_refused p number) (sol
 -- the winners without a group, by its solution
 abbrev pub winners : Sale → ℕ → List ℕ × List ℕ → Result (List Choice) Refused
 winners sale number group_and_text = winners_by (program_for sale group_and_text.0) number group_and_text.1
-
--- the winners by a group's program and its solution, and by each
-abbrev pub winners_with : ℕ → GroupProgram × List ℕ → Result (List Choice) Refused
-winners_with number made_and_text = winners_by made_and_text.0.program number made_and_text.1
-
-abbrev pub winners_by_each : List GroupProgram → List (List ℕ) → Result (List (List Choice)) Refused
-winners_by_each programs solutions = each_in_turn winners_with 1 (zip programs solutions)

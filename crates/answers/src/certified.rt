@@ -7,7 +7,7 @@ ghost use Rattle.answers.specs.Certified.{bounds_of, certified, shown};
 ghost use Rattle.auction_input.specs.Refused.{Refuses};
 ghost use Rattle.auction_input.specs.Settled.{held};
 ghost use Rattle.answers.specs.Exact.{IsTooWide};
-ghost use Rattle.answers.specs.Judging.{AllShown, IsFirstFaulty, IsJudged, bound_by, bounds_by, claimed};
+ghost use Rattle.answers.specs.inside.Judging.{AllShown, IsFirstFaulty, IsJudged, bound_by, bounds_by, claimed};
 ghost use Rattle.auction_input.specs.Parts.{bytes_of};
 ghost use Rattle.auction_input.specs.Stages.{each_in_turn};
 

@@ -11,7 +11,8 @@ ghost use Rattle.auction_input.specs.Refused.{Refuses};
 ghost use Rattle.auction_input.specs.Settled.{held};
 ghost use Rattle.auction_input.specs.Parts.{bytes_of};
 ghost use Rattle.auction_input.specs.Stages.{each_in_turn};
-ghost use Rattle.answers.specs.Winners.{winners, winners_by, winners_by_each};
+ghost use Rattle.answers.specs.Winners.{winners, winners_by};
+ghost use Rattle.answers.specs.inside.Winners.{winners_by_each};
 
 use crate::winning::allocation_won;
 use auction_input::{Auction, CountedPart, Refusal};

@@ -10,7 +10,8 @@ use Rattle.bid_forms.specs.Offers.{Meets, Offers}
 use Rattle.auction_input.specs.Parts.{bytes_of}
 use Rattle.auction_input.specs.Refused.{Refusal, Refuses}
 use Rattle.auction_input.specs.Stages.{each_in_turn}
-use Rattle.auction_input.specs.TextsTold.{HaveMore, form_told, forms_told, more_told}
+use Rattle.auction_input.specs.inside.TextsTold.{HaveMore, more_told}
+use Rattle.auction_input.specs.TextsTold.{form_told, forms_told}
 use Rattle.auction_input.proofs.InputTextFacts.{Text}
 use Rattle.auction_input.proofs.StageFacts.{IsLeft, each-count, left-first, left-none, left-stage, left-stage-refused}
 

@@ -23,10 +23,12 @@ use Rattle.program_rows.specs.Meaning.{meaning}
 use Rattle.program_rows.specs.Program.{Table}
 use Rattle.program_rows.specs.declared.fault.FaultKind.TheVariants as kind
 use Rattle.auction_input.specs.Refused.{Refuses, Refusal}
-use Rattle.auction_input.specs.InputTexts.{AreAdded, IsAnswer, IsFirstErr, form_in, groups_in, program_in, rules_in}
+use Rattle.auction_input.specs.inside.InputTexts.{AreAdded, IsAnswer, IsFirstErr}
+use Rattle.auction_input.specs.InputTexts.{form_in, groups_in, program_in, rules_in}
 use Rattle.auction_input.specs.Parts.{bytes_of}
 use Rattle.auction_input.specs.Stages.{each_in_turn, refused_as}
-use Rattle.auction_input.specs.TextsTold.{HaveMore, form_told, more_told}
+use Rattle.auction_input.specs.inside.TextsTold.{HaveMore, more_told}
+use Rattle.auction_input.specs.TextsTold.{form_told}
 use Rattle.auction_input.specs.declared.refusal.Refusal.TheVariants as refusal
 use Rattle.auction_input.proofs.FaultFacts.{form-refuses, no_groups, no_rules}
 use Rattle.auction_input.proofs.StageFacts.{behind, next, stop}

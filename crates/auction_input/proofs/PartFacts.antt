@@ -11,7 +11,8 @@ use Rattle.auction_input.specs.declared.part_kind.PartKind.{PartKind}
 use Rattle.auction_input.specs.declared.part_kind.PartKind.TheVariants as kind
 use Rattle.auction_input.specs.declared.request.Request.{Request}
 use Rattle.memchr.specs.Find.{FindsNeedle, OccursAt}
-use Rattle.auction_input.specs.Parts.{Part, added, bytes_before, bytes_of_kind, first_line, onto_first_line, is_of_kind, is_same_kind, cut_lines, heads_part, input_fault, kind_named, name_of, part, part_fault, parts_in, split}
+use Rattle.auction_input.specs.Parts.{Part, bytes_before, bytes_of_kind, first_line, onto_first_line, is_of_kind, is_same_kind, cut_lines, heads_part, input_fault, kind_named, name_of, part, part_fault, parts_in, split}
+use Rattle.auction_input.specs.inside.Parts.{added}
 
 -- a text with a line feed, none before it
 pub cut-at : (text : List ℕ) (end : ℕ) → end < length text → ((k : ℕ) → k < end → is_line_feed (slice_index text k) ≡ false) → is_line_feed (slice_index text end) ≡ true

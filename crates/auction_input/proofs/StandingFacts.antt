@@ -23,7 +23,8 @@ use Rattle.bid_desk.specs.Closing.{Closing, form_standing}
 use Rattle.bid_desk.specs.Holding.{ChairOwn, IsCallerOf, SessionOwn}
 use Rattle.bid_desk.specs.Sessions.{IsSessionOf}
 use Rattle.bid_desk.specs.Settlement.{IsSettled, OwnIs, is_named}
-use Rattle.auction_input.specs.Submissions.{AreAccepted, AreSubmitted, HasSubmitted, forms_of}
+use Rattle.auction_input.specs.Submissions.{AreAccepted, AreSubmitted, forms_of}
+use Rattle.auction_input.specs.inside.Submissions.{HasSubmitted}
 
 abbrev History : Type 0
 History = List (Entry Offers)

@@ -20,7 +20,8 @@ use Rattle.bid_book.specs.declared.reply.Reply.TheVariants.{Accepted, CallLimit}
 use Rattle.bid_desk.specs.Holding.{Holding, IsRecorded, SessionOwn}
 use Rattle.bid_desk.specs.Opening.{all_sessions, fresh_session, sessions_of}
 use Rattle.bid_forms.specs.Offers.{Meets, Offers}
-use Rattle.auction_input.specs.Submissions.{AreAccepted, AreByBidder, AreFormsOf, HasSubmitted, HaveOneMore, IsAccepted, ComesTo, IsFirstJob, IsFormOf, IsIdle, JobOwn, form_values, forms_in, forms_of}
+use Rattle.auction_input.specs.Submissions.{AreAccepted, IsAccepted, forms_of}
+use Rattle.auction_input.specs.inside.Submissions.{AreByBidder, AreFormsOf, HasSubmitted, HaveOneMore, ComesTo, IsFirstJob, IsFormOf, IsIdle, JobOwn, form_values, forms_in}
 
 abbrev Shared : Type 0
 Shared = Arc Offers Global

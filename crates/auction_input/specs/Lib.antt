@@ -13,3 +13,4 @@ pub mod Sold
 pub mod Stages
 pub mod Submissions
 pub mod TextsTold
+pub mod inside

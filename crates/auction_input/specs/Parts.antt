@@ -109,14 +109,6 @@ split asked parts = record {
   certificates = bytes_of_kind asked kind.Certificate parts;
 }
 
--- with the bytes of one more part
-abbrev pub added : PartKind → List ℕ → SplitInput → SplitInput
-added kind.Rules bytes input = record input { rules = input.rules ++ bytes ∷ [] }
-added kind.Form bytes input = record input { forms = input.forms ++ bytes ∷ [] }
-added kind.Groups bytes input = record input { groups = input.groups ++ bytes ∷ [] }
-added kind.Solution bytes input = record input { solutions = input.solutions ++ bytes ∷ [] }
-added kind.Certificate bytes input = record input { certificates = input.certificates ++ bytes ∷ [] }
-
 abbrev pub bytes_of : List (Bor (List ℕ)) → List (List ℕ)
 bytes_of texts = map (λ (text : Bor (List ℕ)). text.now) texts
 

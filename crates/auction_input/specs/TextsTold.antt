@@ -6,7 +6,7 @@ use Rattle.auction_input.specs.Refused.{Refused}
 use Rattle.auction_input.specs.Stages.{each_in_turn, refused_as}
 use Rattle.auction_input.specs.declared.refusal.Refusal.TheVariants as refusal
 use Rattle.auction_terms.specs.Terms.{Terms}
-use Rattle.bid_forms.specs.Offers.{Meets, Offers}
+use Rattle.bid_forms.specs.Offers.{Offers}
 
 abbrev pub terms_told : List (List ℕ) → Result Terms Refused
 terms_told texts = refused_as refusal.Rules (rules_in (only_text texts))
@@ -17,14 +17,6 @@ form_told t number text = refused_as (refusal.Form number) (form_in t text)
 
 abbrev pub forms_told : Terms → List (List ℕ) → Result (List Offers) Refused
 forms_told t texts = each_in_turn (form_told t) 1 texts
-
--- what further forms tell, behind so many
-abbrev pub more_told : Terms → ℕ → List (List ℕ) → Result (List Offers) Refused
-more_told t count texts = each_in_turn (form_told t) (count + 1) texts
-
--- forms, and behind them those that further texts tell
-abbrev pub HaveMore : Terms → List (List ℕ) → List Offers → List Offers → Type 0
-HaveMore t texts old new = (more : List Offers) × (new ≡ old ++ more) × (more_told t (length old) texts ≡ Ok more) × All (Meets t) more
 
 -- a command that takes no groups has no text of them, which tells none
 abbrev pub groups_told : Terms → List (List ℕ) → Result (List (List ℕ)) Refused

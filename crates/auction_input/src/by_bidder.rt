@@ -2,7 +2,7 @@
 
 ghost use Rattle.std.specs.Prelude.{◌≡◌, ◌+◌, ◌<◌, ◌≤◌, [], All, IfOk, OnOk, vec_len};
 ghost use Rattle.auction_terms.specs.declared.limits.TheConstants.{MOST_BIDDERS};
-ghost use Rattle.auction_input.specs.Submissions.{AreByBidder, HaveOneMore, form_values, forms_in};
+ghost use Rattle.auction_input.specs.inside.Submissions.{AreByBidder, HaveOneMore, form_values, forms_in};
 
 use bid_forms::Form;
 use std::alloc::{AllocError, Global};

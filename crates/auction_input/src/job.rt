@@ -1,7 +1,8 @@
 //! What a bidder's thread does.
 
 ghost use Rattle.std.specs.Prelude.{◌≡◌, [], OnOk, map};
-ghost use Rattle.auction_input.specs.Submissions.{AreAccepted, AreFormsOf, ComesTo, form_values};
+ghost use Rattle.auction_input.specs.Submissions.{AreAccepted};
+ghost use Rattle.auction_input.specs.inside.Submissions.{AreFormsOf, ComesTo, form_values};
 
 use crate::round::RoundFault;
 use bid_book::Reply;
@@ -20,7 +21,7 @@ pub struct Job<'f, L: Round> {
 
 impl<'f, L: Round> Model for Job<'f, L> {
     ghost use Rattle.std.specs.Prelude.{◌≡◌, []};
-    ghost use Rattle.auction_input.specs.Submissions.{AreFormsOf, JobOwn, form_values};
+    ghost use Rattle.auction_input.specs.inside.Submissions.{AreFormsOf, JobOwn, form_values};
 
     ghost Value = { JobOwn };
 

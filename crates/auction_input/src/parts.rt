@@ -1,7 +1,8 @@
 //! The parts of the input.
 
 ghost use Rattle.std.specs.Prelude.{◌≡◌, ◌≤◌, ◌<◌, ◌∷◌, ◌⊎◌, [], OnOk, drop, length, take, true};
-ghost use Rattle.auction_input.specs.Parts.{Tells, added, heads_part, bytes_before, cut_lines, name_of, part, parts_in, values};
+ghost use Rattle.auction_input.specs.Parts.{Tells, heads_part, bytes_before, cut_lines, name_of, part, parts_in, values};
+ghost use Rattle.auction_input.specs.inside.Parts.{added};
 
 use crate::part_kind::{PartKind, kind_named};
 use crate::request::Request;

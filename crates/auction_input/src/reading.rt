@@ -4,11 +4,12 @@ ghost use Rattle.std.specs.Prelude.{◌≡◌, ◌++◌, ◌∷◌, [], All, IfE
 ghost use Rattle.std.specs.List.{AllZip};
 ghost use Rattle.bid_forms.specs.Offers.{Meets};
 ghost use Rattle.auction_input.specs.Refused.{Refuses};
-ghost use Rattle.auction_input.specs.InputTexts.{AreAdded, IsAnswer, IsFirstErr};
+ghost use Rattle.auction_input.specs.inside.InputTexts.{AreAdded, IsAnswer, IsFirstErr};
 ghost use Rattle.auction_input.specs.Parts.{bytes_of};
 ghost use Rattle.auction_input.specs.PartsTold.{only_text};
 ghost use Rattle.auction_input.specs.Plan.{groups_taken, miscounted, solutions_taken};
-ghost use Rattle.auction_input.specs.TextsTold.{HaveMore, forms_told, more_told};
+ghost use Rattle.auction_input.specs.inside.TextsTold.{HaveMore, more_told};
+ghost use Rattle.auction_input.specs.TextsTold.{forms_told};
 
 use crate::parts::Parts;
 use crate::refusal::{CountedPart, Refusal};

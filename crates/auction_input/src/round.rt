@@ -6,7 +6,8 @@ ghost use Rattle.auction_terms.specs.Terms.{session_count};
 ghost use Rattle.bid_desk.specs.Holding.{ChairOwn};
 ghost use Rattle.bid_desk.specs.Settlement.{IsSettled};
 ghost use Rattle.bid_forms.specs.Offers.{Meets};
-ghost use Rattle.auction_input.specs.Submissions.{AreFormsOf, AreSubmitted, ComesTo, IsFirstJob, IsIdle, forms_in};
+ghost use Rattle.auction_input.specs.inside.Submissions.{AreFormsOf, ComesTo, IsFirstJob, IsIdle, forms_in};
+ghost use Rattle.auction_input.specs.Submissions.{AreSubmitted};
 
 use crate::by_bidder::{by_bidder, forms_in};
 use crate::job::{Done, Job};

@@ -8,7 +8,8 @@ use Rattle.std.proofs.Math.Seq.{drop-cons}
 use Rattle.std.specs.List.{list_any}
 use Rattle.std.specs.Str.{bytes_eq}
 use Rattle.auction_terms.specs.FirstFault.{first_failed}
-use Rattle.auction_terms.specs.GroupsText.{Answers, Tells, TellsFault, fault_or, name_fault, numbers_from}
+use Rattle.auction_terms.specs.GroupsText.{Answers, fault_or, name_fault, numbers_from}
+use Rattle.auction_terms.specs.inside.GroupsText.{Tells, TellsFault}
 use Rattle.auction_terms.specs.declared.rules.Bidder.{Bidder}
 use Rattle.auction_terms.specs.declared.groups_text.GroupFault.{GroupFault}
 use Rattle.auction_terms.specs.declared.groups_text.GroupFault.TheVariants as fault

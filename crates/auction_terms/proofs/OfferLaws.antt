@@ -6,7 +6,8 @@ use Rattle.std.proofs.lemmas.Bool.{cond-true, cond-false}
 use Rattle.std.proofs.lemmas.List.Sums.{sum_by-cons, sum_by-append}
 use Rattle.auction_terms.specs.declared.bids.Bid.{Bid}
 use Rattle.auction_terms.specs.Allocations.{form_of, bid_at, bid_of}
-use Rattle.auction_terms.specs.Keeping.{Offer, choice_of, offers_of_form, offers_from}
+use Rattle.auction_terms.specs.Keeping.{Offer, offers_of_form, offers_from}
+use Rattle.auction_terms.specs.inside.Keeping.{choice_of}
 
 module _ {X : Type 0} where
   pub sum_zero : (g : X → ℕ) (xs : List X) → ((x : X) → g x ≡ 0) → sum_by g xs ≡ 0

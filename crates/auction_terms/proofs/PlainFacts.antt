@@ -9,7 +9,7 @@ use Rattle.csv.specs.declared.parser.State.{State}
 use Rattle.csv.specs.declared.parser.State.TheVariants as st
 use Rattle.csv.specs.declared.parser.Action.TheVariants as act
 use Rattle.memchr.specs.Find.{is_byte3}
-use Rattle.auction_terms.specs.PlainRecords.{BeginsNoLineEnd, HasNoQuote, IsBehind, TakesFields}
+use Rattle.auction_terms.specs.inside.PlainRecords.{BeginsNoLineEnd, HasNoQuote, IsBehind, TakesFields}
 use Rattle.auction_terms.proofs.RecordFacts.{records_from-next, records_from-none}
 
 -- a byte that neither ends a field nor is a quotation mark

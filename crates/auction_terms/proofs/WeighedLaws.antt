@@ -7,7 +7,7 @@ use Rattle.std.proofs.Math.Nat.{mul-add, mul-le-mul_left}
 use Rattle.std.proofs.lemmas.Int.{ints}
 use Rattle.std.proofs.lemmas.Bool.{and_parts, and_from, ltb-false, or_parts}
 use Rattle.std.proofs.lemmas.List.Sums.{sum_by-cons}
-use Rattle.auction_terms.specs.Terms.{has_values}
+use Rattle.auction_terms.specs.inside.Terms.{has_values}
 use Rattle.auction_terms.specs.declared.rules.Category.{Category}
 use Rattle.auction_terms.specs.declared.bids.Bid.{Bid}
 use Rattle.auction_terms.specs.declared.choices.Choice.{Choice}

@@ -2,10 +2,9 @@
 use Rattle.std.specs.Prelude.{◌≤◌, Bool, ◌&&◌, ℕ, List, ◌++◌, length, map, find, All}
 use Rattle.std.specs.Option.{option_map_or}
 use Rattle.std.specs.Str.{bytes_eq}
-use Rattle.auction_terms.specs.Terms.{AllDiffer, IsBidder, IsCategory, Terms, terms}
+use Rattle.auction_terms.specs.Terms.{Terms, terms}
 use Rattle.auction_terms.specs.declared.draft.Member.{Member}
 use Rattle.auction_terms.specs.declared.draft.NamedCap.{NamedCap}
-use Rattle.auction_terms.specs.declared.limits.TheConstants.{GREATEST_AMOUNT, GREATEST_WEIGHT, MOST_BIDDERS, MOST_CATEGORIES, MOST_POOLS}
 use Rattle.auction_terms.specs.declared.rules.Bidder.{Bidder}
 use Rattle.auction_terms.specs.declared.rules.Category.{Category}
 use Rattle.auction_terms.specs.declared.rules.Pool.{Pool}
@@ -19,32 +18,6 @@ pub record Entries : Type 0 where
 
 abbrev pub entries : List Category → List Bidder → List NamedCap → List Member → Entries
 entries categories bidders pools members = record { categories = categories; bidders = bidders; pools = pools; members = members }
-
--- what some records tell, and then others
-abbrev pub both : Entries → Entries → Entries
-both e f = entries (e.categories ++ f.categories) (e.bidders ++ f.bidders) (e.pools ++ f.pools) (e.members ++ f.members)
-
--- a pool without its weights, within the limits
-pub record IsNamedCap (pool : NamedCap) : Type 0 where
-  pub cap : pool.cap ≤ GREATEST_AMOUNT
-
--- a member of a pool within its limits
-pub record IsMember (member : Member) : Type 0 where
-  pub some_weight : 1 ≤ member.weight
-  pub weight : member.weight ≤ GREATEST_WEIGHT
-
--- entries within their limits, as far as they were read
-pub record AreEntries (e : Entries) : Type 0 where
-  pub category_count : length e.categories ≤ MOST_CATEGORIES
-  pub bidder_count : length e.bidders ≤ MOST_BIDDERS
-  pub pool_count : length e.pools ≤ MOST_POOLS
-  pub each_category : All IsCategory e.categories
-  pub each_bidder : All IsBidder e.bidders
-  pub each_pool : All IsNamedCap e.pools
-  pub each_member : All IsMember e.members
-  pub category_names : AllDiffer (map (λ category. category.name) e.categories)
-  pub bidder_names : AllDiffer (map (λ bidder. bidder.name) e.bidders)
-  pub pool_names : AllDiffer (map (λ pool. pool.name) e.pools)
 
 -- the member makes this category one of this pool
 abbrev pub is_member_of : List ℕ → List ℕ → Member → Bool

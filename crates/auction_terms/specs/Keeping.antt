@@ -26,9 +26,6 @@ pub record Offer : Type 0 where
   pub number : ℕ
   pub bid : Bid
 
-abbrev pub choice_of : Offer → Choice
-choice_of o = record { bidder = o.bidder; bid = o.number }
-
 -- the bids of bidder b, numbered from j on
 abbrev pub offers_of_form : ℕ → ℕ → List Bid → List Offer
 offers_of_form b j [] = []

@@ -1,7 +1,5 @@
 pub mod FirstFault
 pub mod Records
-pub mod PlainRecords
-pub mod Sources
 pub mod Names
 pub mod Numbers
 pub mod Terms
@@ -20,3 +18,4 @@ pub mod GroupNames
 pub mod GroupsText
 pub mod RulesFaultText
 pub mod GroupFaultText
+pub mod inside

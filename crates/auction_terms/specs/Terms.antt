@@ -63,10 +63,6 @@ pub record AreTerms (t : Terms) : Type 0 where
 abbrev pub session_count : Terms → ℕ
 session_count t = sum_by (λ bidder. bidder.sessions) t.bidders
 
--- a lot of some category has a value where it is left
-abbrev pub has_values : List Category → Bool
-has_values categories = list_any (λ category. nat_lt 0 category.value) categories
-
 -- the cap of a pool, without its name
 abbrev pub cap_of : Pool → WeightedCap
 cap_of pool = record { cap = pool.cap; weights = pool.weights }

@@ -38,7 +38,8 @@ pub(crate) struct Draft {
 }
 
 impl Model for Draft {
-    ghost use Rattle.auction_terms.specs.Entries.{AreEntries, Entries, entries};
+    ghost use Rattle.auction_terms.specs.inside.Entries.{AreEntries};
+    ghost use Rattle.auction_terms.specs.Entries.{Entries, entries};
 
     ghost Value = { Entries };
 
@@ -49,7 +50,8 @@ impl Model for Draft {
 
 impl Draft {
     ghost use Rattle.std.specs.Prelude.{◌≡◌, ◌≤◌, ◌<◌, [], ◌∷◌, ◌++◌, false, IfOk, OnOk, length};
-    ghost use Rattle.auction_terms.specs.Entries.{IsMember, IsNamedCap, entries, terms_of};
+    ghost use Rattle.auction_terms.specs.inside.Entries.{IsMember, IsNamedCap};
+    ghost use Rattle.auction_terms.specs.Entries.{entries, terms_of};
     ghost use Rattle.auction_terms.specs.RulesText.{has_name};
     ghost use Rattle.auction_terms.specs.Terms.{IsBidder, IsCategory};
 

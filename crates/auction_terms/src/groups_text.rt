@@ -4,7 +4,8 @@ ghost use Rattle.std.specs.Prelude.{◌≡◌, ◌≤◌, ◌<◌, Err, [], ◌�
 ghost use Rattle.std.specs.List.{list_any};
 ghost use Rattle.std.specs.Str.{bytes_eq};
 ghost use Rattle.auction_terms.specs.FirstFault.{first_failed, first_fault};
-ghost use Rattle.auction_terms.specs.GroupsText.{Answers, Tells, TellsFault, fault_of_line, group_of, groups_of, line_fault, name_fault, numbers_from};
+ghost use Rattle.auction_terms.specs.GroupsText.{Answers, fault_of_line, group_of, groups_of, line_fault, name_fault, numbers_from};
+ghost use Rattle.auction_terms.specs.inside.GroupsText.{Tells, TellsFault};
 ghost use Rattle.auction_terms.specs.GroupNames.{names_in};
 ghost use Rattle.auction_terms.specs.Groups.{IsGroup};
 ghost use Rattle.auction_terms.specs.Lines.{lines_of};

@@ -4,7 +4,7 @@ ghost use Rattle.std.specs.Prelude.{◌≡◌, ◌≤◌, ◌∷◌, [], drop, l
 ghost use Rattle.std.specs.Bool.{MatchBool};
 ghost use Rattle.csv.specs.Reading.{default_config, records};
 ghost use Rattle.csv.specs.Records.{fields_of, partial_of};
-ghost use Rattle.auction_terms.specs.PlainRecords.{HasNoQuote, BeginsNoLineEnd, TakesFields};
+ghost use Rattle.auction_terms.specs.inside.PlainRecords.{HasNoQuote, BeginsNoLineEnd, TakesFields};
 
 use csv::ByteRecord;
 use memchr::memchr3;

@@ -2,7 +2,8 @@
 
 ghost use Rattle.std.specs.Prelude.{◌≡◌, ◌≤◌, ◌<◌, ◌*◌, ◌^◌, All, length, map, slice_index};
 ghost use Rattle.auction_terms.specs.Packages.{weighed};
-ghost use Rattle.auction_terms.specs.Terms.{IsCategory, has_values};
+ghost use Rattle.auction_terms.specs.Terms.{IsCategory};
+ghost use Rattle.auction_terms.specs.inside.Terms.{has_values};
 ghost use Rattle.auction_terms.specs.declared.limits.TheConstants.{GREATEST_AMOUNT, GREATEST_VALUE, MOST_CATEGORIES};
 
 use crate::bids::Bid;

@@ -19,7 +19,7 @@ use Rattle.bid_book.specs.declared.reply.Reply.{Reply}
 use Rattle.bid_book.specs.declared.reply.Reply.TheVariants.{Accepted, Withdrawn, Shown, Stale, Closed, RoundOver, CallLimit}
 use Rattle.bid_book.specs.declared.records.Counts.{Counts}
 use Rattle.bid_book.specs.History.{reply_value, call_limit, answer, after, answer_to, MayMake, is_beside, entries_beside, is_change_reply, changes, left_standing, standing_after, has_close, standing_number, answer_to_change, standing_of, is_closed, IsRightAfter, IsLegal}
-use Rattle.bid_book.specs.Records.{Summarizes, counts_after, change_answer}
+use Rattle.bid_book.specs.inside.Records.{Summarizes, counts_after, change_answer}
 
 -- at a place of a list with one more item: the place is one of the list, or the new one
 get_push : {X : Type 0} (xs : List X) (x : X) (k : ℕ) (y : X) → slice_get (xs ++ x ∷ []) k ≡ Some y

@@ -27,7 +27,7 @@ impl Model for Book {
 
     ghost Value = { List (Entry Offers) };
 
-    ghost use Rattle.bid_book.specs.Records.{history_of, IsBook};
+    ghost use Rattle.bid_book.specs.inside.Records.{history_of, IsBook};
 
     ghost view = { λ b. history_of b.records };
 

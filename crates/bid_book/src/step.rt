@@ -3,7 +3,7 @@ ghost use Rattle.std.specs.Prelude.{ℕ, ◌≡◌, ◌+◌, ◌<◌, ◌≤◌,
 ghost use Rattle.std.specs.Option.{option_map};
 ghost use Rattle.indexmap.specs.IndexMap.{get, spare};
 ghost use Rattle.bid_book.specs.History.{call_value, reply_value, standing_value, entry_value, left_standing, entries_beside, answer_to, answer, after, call_limit, IsRightAfter, MayMake, is_closed};
-ghost use Rattle.bid_book.specs.Records.{counts_at, counts_after, standing_at, history_of, IsBook};
+ghost use Rattle.bid_book.specs.inside.Records.{counts_at, counts_after, standing_at, history_of, IsBook};
 
 use crate::call::Call;
 use crate::caller::Caller;

@@ -20,8 +20,8 @@ use Rattle.bid_desk.specs.declared.slots.Slot.{Slot}
 use Rattle.bid_desk.specs.Holding.{ChairOwn, IsCallerOf, IsEntryOf, SessionOwn, caller_of}
 use Rattle.bid_desk.specs.Sessions.{IsSessionOf}
 use Rattle.bid_desk.specs.Settlement.{AgreesAt, DiffersAt, IsFirstDifference, OwnIs, StandOnce, is_named, times}
-use Rattle.bid_desk.specs.Slots.{AreSlots, slot_at, slot_of}
-use Rattle.bid_desk.specs.Comparing.{AreCompared, IsCompared, IsWithin}
+use Rattle.bid_desk.specs.inside.Slots.{AreSlots, slot_at, slot_of}
+use Rattle.bid_desk.specs.inside.Comparing.{AreCompared, IsCompared, IsWithin}
 use Rattle.bid_desk.proofs.SettleLemmas.{first_here, own_pairs_more, own_pairs_other, take_next}
 use Rattle.bid_desk.proofs.SlotLemmas.{named-is, slot-within}
 

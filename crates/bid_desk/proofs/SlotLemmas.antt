@@ -12,7 +12,7 @@ use Rattle.bid_desk.specs.declared.slots.Slot.{Slot}
 use Rattle.bid_desk.specs.Holding.{SessionOwn}
 use Rattle.bid_desk.specs.Sessions.{IsSessionOf, session_limit}
 use Rattle.bid_desk.specs.Settlement.{IsBefore, IsFirstMissing, StandOnce, is_named, times}
-use Rattle.bid_desk.specs.Slots.{AllOnce, AreSlots, IsFirstWrong, empty_slot, slot_at, slot_of}
+use Rattle.bid_desk.specs.inside.Slots.{AllOnce, AreSlots, IsFirstWrong, empty_slot, slot_at, slot_of}
 
 -- a session has one slot, and no other session has it
 pub slot-same : (b s c u : ℕ) → 1 ≤ b → 1 ≤ s → s ≤ MOST_SESSIONS → 1 ≤ c → 1 ≤ u → u ≤ MOST_SESSIONS → slot_of b s ≡ slot_of c u → (b ≡ c) × (s ≡ u)

@@ -6,8 +6,8 @@ ghost use Rattle.bid_book.specs.declared.reply.Reply.{Reply};
 ghost use Rattle.bid_book.specs.History.{entry_value, call_value, reply_value};
 ghost use Rattle.bid_desk.specs.Holding.{IsEntryOf, pair_value};
 ghost use Rattle.bid_desk.specs.Settlement.{IsFirstDifference, StandOnce};
-ghost use Rattle.bid_desk.specs.Slots.{AreSlots};
-ghost use Rattle.bid_desk.specs.Comparing.{AreCompared, IsCompared, IsWithin};
+ghost use Rattle.bid_desk.specs.inside.Slots.{AreSlots};
+ghost use Rattle.bid_desk.specs.inside.Comparing.{AreCompared, IsCompared, IsWithin};
 
 use crate::chair::Chair;
 use crate::round::Round;

@@ -4,7 +4,7 @@ ghost use Rattle.auction_terms.specs.Terms.{AreTerms};
 ghost use Rattle.bid_book.specs.History.{entry_value, is_closed, own_pairs};
 ghost use Rattle.bid_desk.specs.Holding.{IsEntryOf};
 ghost use Rattle.bid_desk.specs.Settlement.{IsSettled, IsCause, IsFirstOfAll, StandOnce, AgreeAll};
-ghost use Rattle.bid_desk.specs.Slots.{AreSlots};
+ghost use Rattle.bid_desk.specs.inside.Slots.{AreSlots};
 
 use crate::chair::Chair;
 use crate::closed::ClosedBook;

@@ -2,7 +2,7 @@
 ghost use Rattle.std.specs.Prelude.{ℕ, ◌≡◌, ◌≢◌, ◌*◌, ◌<◌, ◌≤◌, length, IfOk, IfSome, IfNone};
 ghost use Rattle.auction_terms.specs.Terms.{AreTerms};
 ghost use Rattle.bid_desk.specs.Sessions.{IsSessionOf};
-ghost use Rattle.bid_desk.specs.Slots.{AllOnce, AreSlots, IsFirstWrong, slot_of};
+ghost use Rattle.bid_desk.specs.inside.Slots.{AllOnce, AreSlots, IsFirstWrong, slot_of};
 
 use crate::round::Round;
 use crate::session::Session;

@@ -8,9 +8,10 @@ ghost use Rattle.auction_terms.specs.FirstFault.{first_failed, first_fault};
 ghost use Rattle.auction_terms.specs.RulesText.{number_in};
 ghost use Rattle.auction_terms.specs.Terms.{AreTerms};
 ghost use Rattle.auction_terms.specs.declared.limits.TheConstants.{MOST_CATEGORIES};
-ghost use Rattle.bid_forms.specs.Fingerprints.{AreSeen};
+ghost use Rattle.bid_forms.specs.inside.Fingerprints.{AreSeen};
 ghost use Rattle.bid_forms.specs.Offers.{IsWithinLimits, Meets, eligibility_of, is_bid_under, number_of_package, offers};
-ghost use Rattle.bid_forms.specs.FormText.{Answers, Tells, TellsFault, amount_checks, bid_fault, bid_of, bidder_in, fault_of_bid, form_of, header_checks, is_header, package_checks, quantities_in, quantity_checks};
+ghost use Rattle.bid_forms.specs.FormText.{Answers, amount_checks, bid_fault, bid_of, bidder_in, fault_of_bid, form_of, header_checks, is_header, package_checks, quantities_in, quantity_checks};
+ghost use Rattle.bid_forms.specs.inside.FormText.{Tells, TellsFault};
 ghost use Rattle.bid_forms.specs.FormFaultText.{form_fault_text};
 ghost use Rattle.bid_forms.specs.declared.form_text.FormFault.TheVariants as fault;
 

@@ -2,7 +2,7 @@
 
 ghost use Rattle.std.specs.Prelude.{◌≡◌, ◌≤◌, ◌<◌, ◌∷◌, ◌++◌, [], All, IfOk, length};
 ghost use Rattle.auction_terms.specs.declared.limits.TheConstants.{MOST_BIDS};
-ghost use Rattle.bid_forms.specs.Fingerprints.{AreSeen, fingerprint};
+ghost use Rattle.bid_forms.specs.inside.Fingerprints.{AreSeen, fingerprint};
 ghost use Rattle.bid_forms.specs.Offers.{number_of_package};
 
 use auction_terms::Bid;

@@ -8,7 +8,8 @@ use Rattle.std.proofs.lemmas.Bool.Decides.{nat_tests}
 use Rattle.atomic_table.specs.Table.{Me, Allows, Splits, Joins, keeps, Final, Seen}
 use Rattle.group_compiler.specs.declared.steps.View.{View}
 use Rattle.group_compiler.specs.declared.limits.TheConstants.{ALL_DRAWS, WORKER_DRAWS}
-use Rattle.group_compiler.specs.Claims.{view, times, once_below, IsEachBelow, IsCounted, IsDrawn, left_of, right_of, joined}
+use Rattle.group_compiler.specs.inside.Claims.{view, IsCounted, IsDrawn, left_of, right_of, joined}
+use Rattle.group_compiler.specs.Claims.{times, once_below, IsEachBelow}
 
 -- a sum after a change of one view
 sum_set : (f : View → ℕ) (views : List View) (id : ℕ) (v w : View) → get_elem? views id ≡ some v → sum_by f (slice_set views id w) + f v ≡ sum_by f views + f w

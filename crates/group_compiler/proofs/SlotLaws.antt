@@ -8,8 +8,9 @@ use Rattle.std.proofs.lemmas.List.Elements.{All-pop, Contains-push_cases}
 use Rattle.std.proofs.lemmas.List.FromFn.{map-range_with_len_more}
 use Rattle.bid_desk.specs.Closing.{Closing}
 use Rattle.program_rows.specs.Program.{Table}
-use Rattle.group_compiler.specs.Compiled.{GroupProgram, group_with, compiled}
-use Rattle.group_compiler.specs.Works.{program_at}
+use Rattle.group_compiler.specs.Compiled.{GroupProgram, compiled}
+use Rattle.group_compiler.specs.inside.Compiled.{group_with}
+use Rattle.group_compiler.specs.inside.Works.{program_at}
 use Rattle.group_compiler.specs.declared.work.Numbered.{Numbered}
 
 module _ {X : Type 0} where

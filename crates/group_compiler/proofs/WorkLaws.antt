@@ -7,7 +7,7 @@ use Rattle.std.proofs.lemmas.List.Sums.{sum_by-cons}
 use Rattle.group_compiler.specs.Claims.{times, once_below, IsEachBelow}
 use Rattle.std.proofs.lemmas.List.Elements.{recursion_from_All, All-from_recursion, filter-append, filter_passes}
 use Rattle.group_compiler.specs.declared.work.Numbered.{Numbered}
-use Rattle.group_compiler.specs.Works.{IsFinished}
+use Rattle.group_compiler.specs.inside.Works.{IsFinished}
 
 filter_below : (count : ℕ) (xs : List ℕ) → AllByRecursion (λ n. n < count) xs → filter (λ n. nat_lt n count) xs ≡ xs
 filter_below count [] a = refl

@@ -9,9 +9,6 @@ pub record Claimed : Type 0 where
   -- how many draws it may still make
   pub room : ℕ
 
-abbrev pub claimed : TableId → List ℕ → ℕ → Claimed
-claimed counter drawn room = record { counter = counter; drawn = drawn; room = room }
-
 -- the claim is of this counter
 abbrev pub IsOf : TableId → Claimed → Type 0
 IsOf counter claim = claim.counter ≡ counter

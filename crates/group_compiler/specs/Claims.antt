@@ -1,11 +1,6 @@
 -- The counter from which workers draw group numbers: what each claim has drawn, and the rule of all claims together.
 use Rattle.std.specs.Prelude.{◌≡◌, ℕ, ◌+◌, ◌-◌, ◌<◌, cond, ◌==◌, nat_lt, List, [], ◌∷◌, ◌++◌, length, slice_index, sum_by, count_by}
 use Rattle.atomic_table.specs.Table.{State, Me}
-use Rattle.group_compiler.specs.declared.steps.View.{View}
-use Rattle.group_compiler.specs.declared.limits.TheConstants.{ALL_DRAWS, WORKER_DRAWS}
-
-abbrev pub view : List ℕ → ℕ → View
-view drawn room = record { drawn = drawn; room = room }
 
 -- how often x was drawn
 abbrev pub times : ℕ → List ℕ → ℕ
@@ -18,25 +13,3 @@ once_below x n = cond (nat_lt x n) 1 0
 -- the list holds the numbers below n, each once, and no other
 abbrev pub IsEachBelow : ℕ → List ℕ → Type 0
 IsEachBelow n drawn = (x : ℕ) → times x drawn ≡ once_below x n
-
--- the claims together hold the numbers below the word, each once; and the word and the draws that are left add up to all draws
-pub record IsCounted (s : State ℕ View) : Type 0 where
-  pub one_word : length s.words ≡ 1
-  pub each_once : (x : ℕ) → sum_by (λ (v : View). times x v.drawn) s.views ≡ once_below x (slice_index s.words 0)
-  pub lengths : sum_by (λ (v : View). length v.drawn) s.views ≡ slice_index s.words 0
-  pub rooms : slice_index s.words 0 + sum_by (λ (v : View). v.room) s.views ≡ ALL_DRAWS
-
--- the number found is appended, and one draw less is left
-pub record IsDrawn (before : Me ℕ View) (found : ℕ) (after : Me ℕ View) : Type 0 where
-  pub view_is : after.0 ≡ view (before.0.drawn ++ found ∷ []) (before.0.room - 1)
-  pub slots : after.1 ≡ before.1
-  pub below : found < ALL_DRAWS
-
-abbrev pub left_of : View → View
-left_of v = view v.drawn (v.room - WORKER_DRAWS)
-
-abbrev pub right_of : View → View
-right_of v = view [] WORKER_DRAWS
-
-abbrev pub joined : View → View → View
-joined v w = view (v.drawn ++ w.drawn) (v.room + w.room)

@@ -22,7 +22,3 @@ program_without book group = program_of (lots_in book.rules) (kept_of (lots_in b
 -- a group with its program
 abbrev pub compiled : Closing → List ℕ → GroupProgram
 compiled book group = group_program group (program_without book group)
-
--- the group with this number, from 0, and its program
-abbrev pub group_with : List (List ℕ) → (ℕ → Table) → ℕ → GroupProgram
-group_with groups program n = group_program (slice_index_or groups n []) (program n)

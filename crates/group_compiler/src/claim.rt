@@ -14,7 +14,8 @@ pub struct Claim {
 }
 
 impl Model for Claim {
-    ghost use Rattle.group_compiler.specs.Claimed.{Claimed, claimed};
+    ghost use Rattle.group_compiler.specs.Claimed.{Claimed};
+    ghost use Rattle.group_compiler.specs.inside.Claimed.{claimed};
 
     ghost Value = { Claimed };
 

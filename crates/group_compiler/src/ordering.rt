@@ -3,7 +3,7 @@
 ghost use Rattle.std.specs.Prelude.{◌≡◌, ◌<◌, ◌≤◌, ℕ, All, Contains, IfOk, length, map};
 ghost use Rattle.std.specs.List.{range_with_len};
 ghost use Rattle.program_rows.specs.Program.{Table};
-ghost use Rattle.group_compiler.specs.Compiled.{group_with};
+ghost use Rattle.group_compiler.specs.inside.Compiled.{group_with};
 
 use crate::compiled::Compiled;
 use crate::work::Numbered;

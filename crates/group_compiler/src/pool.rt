@@ -11,7 +11,7 @@ ghost use Rattle.bid_desk.specs.Closing.{book_of};
 ghost use Rattle.presolve.specs.Flags.{flags_of};
 ghost use Rattle.group_compiler.specs.Claimed.{IsOf};
 ghost use Rattle.group_compiler.specs.Compiled.{compiled};
-ghost use Rattle.group_compiler.specs.Works.{IsJoined, IsWork, draws};
+ghost use Rattle.group_compiler.specs.inside.Works.{IsJoined, IsWork, draws};
 ghost use Rattle.group_compiler.specs.declared.limits.TheConstants.{MOST_WORKERS, WORKER_DRAWS};
 
 use crate::claim::Claim;
@@ -39,7 +39,7 @@ pub struct WorkOfOneClaim {
 
 impl Promise<Result<Work, AllocError>> for WorkOfOneClaim {
     ghost use Rattle.std.specs.Prelude.{IfOk};
-    ghost use Rattle.group_compiler.specs.Works.{IsJoined, IsWork, draws};
+    ghost use Rattle.group_compiler.specs.inside.Works.{IsJoined, IsWork, draws};
     ghost use Rattle.group_compiler.specs.declared.limits.TheConstants.{WORKER_DRAWS};
 
     ghost kept_by = { λ p r. IfOk r (λ work. IsWork p.claims.value p.book.value p.groups.value work × (draws work ≡ WORKER_DRAWS)) };

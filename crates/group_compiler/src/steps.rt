@@ -15,7 +15,7 @@ pub struct View {
 pub struct Counted;
 
 impl TableRule<u8, View, ()> for Counted {
-    ghost use Rattle.group_compiler.specs.Claims.{IsCounted, view};
+    ghost use Rattle.group_compiler.specs.inside.Claims.{IsCounted, view};
     ghost use Rattle.group_compiler.specs.declared.limits.TheConstants.{ALL_DRAWS};
 
     ghost holds = { λ _. IsCounted };
@@ -27,7 +27,7 @@ impl TableRule<u8, View, ()> for Counted {
 pub struct Draws;
 
 impl Play<u8, View> for Draws {
-    ghost use Rattle.group_compiler.specs.Claims.{IsDrawn};
+    ghost use Rattle.group_compiler.specs.inside.Claims.{IsDrawn};
 
     ghost then = { λ _ before found after. IsDrawn before found after };
 }
@@ -36,7 +36,7 @@ impl Play<u8, View> for Draws {
 pub struct Cut;
 
 impl Split<View> for Cut {
-    ghost use Rattle.group_compiler.specs.Claims.{left_of, right_of};
+    ghost use Rattle.group_compiler.specs.inside.Claims.{left_of, right_of};
 
     ghost left = { left_of };
 
@@ -44,7 +44,7 @@ impl Split<View> for Cut {
 }
 
 impl Join<View> for Cut {
-    ghost use Rattle.group_compiler.specs.Claims.{joined, view};
+    ghost use Rattle.group_compiler.specs.inside.Claims.{joined, view};
 
     ghost both = { joined };
 

@@ -6,7 +6,7 @@ ghost use Rattle.auction_terms.specs.declared.limits.TheConstants.{MOST_GROUPS};
 ghost use Rattle.bid_desk.specs.Closing.{book_of};
 ghost use Rattle.presolve.specs.Flags.{flags_of};
 ghost use Rattle.group_compiler.specs.Claimed.{IsOf};
-ghost use Rattle.group_compiler.specs.Works.{IsProgramOf, IsWork, draws};
+ghost use Rattle.group_compiler.specs.inside.Works.{IsProgramOf, IsWork, draws};
 ghost use Rattle.group_compiler.specs.declared.limits.TheConstants.{WORKER_DRAWS};
 
 use crate::claim::Claim;

@@ -7,7 +7,8 @@ use Rattle.program_rows.specs.Program.{Table, TableColumn}
 use Rattle.program_rows.specs.Lines.{Line, Header, Data}
 use Rattle.program_rows.specs.Meaning.{LineFields}
 use Rattle.mps_text.specs.Text.{written, text, block, if_any, row_block, column_block, row_fields, right_side_fields, bound_fields, entry_fields, column_fields, marker_fields}
-use Rattle.mps_text.specs.Bytes.{row_bytes, right_side_bytes, bound_bytes, column_bytes, cost_bytes, where_any}
+use Rattle.mps_text.specs.Bytes.{row_bytes, right_side_bytes, bound_bytes, column_bytes, cost_bytes}
+use Rattle.mps_text.specs.inside.Bytes.{where_any}
 use Rattle.group_pages.specs.declared.section.Section.TheVariants.{Rows, Columns, RightSides, Bounds}
 use Rattle.group_pages.specs.Joining.{section_text}
 

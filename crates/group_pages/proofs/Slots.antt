@@ -10,7 +10,7 @@ use Rattle.presolve.proofs.KeepLaws.{next_form}
 use Rattle.group_compiler.proofs.SlotLaws.{get_here, get_other}
 use Rattle.group_pages.specs.declared.workers.Numbered.{Numbered}
 use Rattle.group_pages.specs.Pages.{PageText, page_of_form, pages_from}
-use Rattle.group_pages.specs.Works.{AreInPlace}
+use Rattle.group_pages.specs.inside.Works.{AreInPlace}
 
 both_some : (p q : PageText) → Some (Some p) ≡ Some (Some q) → p ≡ q
 both_some p q e = cc

@@ -1,3 +1,3 @@
 pub mod Pages
 pub mod Joining
-pub mod Works
+pub mod inside

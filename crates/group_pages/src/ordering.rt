@@ -5,7 +5,7 @@ ghost use Rattle.auction_terms.specs.Terms.{lots_in};
 ghost use Rattle.bid_desk.specs.Closing.{book_of};
 ghost use Rattle.presolve.specs.Flags.{flags_of};
 ghost use Rattle.group_pages.specs.Pages.{PageText, pages_from};
-ghost use Rattle.group_pages.specs.Works.{AreInPlace, page_at};
+ghost use Rattle.group_pages.specs.inside.Works.{AreInPlace, page_at};
 
 use crate::page::Page;
 use crate::workers::Numbered;

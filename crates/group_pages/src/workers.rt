@@ -9,7 +9,7 @@ ghost use Rattle.std.specs.Thread.{IsSync};
 ghost use Rattle.auction_terms.specs.Terms.{lots_in};
 ghost use Rattle.bid_desk.specs.Closing.{book_of};
 ghost use Rattle.presolve.specs.Flags.{flags_of};
-ghost use Rattle.group_pages.specs.Works.{IsPageOf};
+ghost use Rattle.group_pages.specs.inside.Works.{IsPageOf};
 
 use crate::page::Page;
 use bid_desk::ClosedBook;

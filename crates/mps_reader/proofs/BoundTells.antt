@@ -6,8 +6,8 @@ use Rattle.program_rows.specs.Lines.{Line}
 use Rattle.program_rows.specs.declared.fault.FaultKind.{FaultKind}
 use Rattle.program_rows.specs.declared.fault.FaultKind.TheVariants.{BoundType, Fields, UnknownColumn}
 use Rattle.program_rows.specs.Meaning.{LineFields, is_one_of, field, value, is_binary_bound, bound_column, bound_number, bit_fault, bound_fault, earliest_fault, when, is_column, column_names, column_lines, stands_in_integers}
-use Rattle.mps_reader.specs.Rows.{names_of}
-use Rattle.mps_reader.specs.Tracking.{ColumnsTell, state_values, told_values, bounded_values}
+use Rattle.mps_reader.specs.inside.Rows.{names_of}
+use Rattle.mps_reader.specs.inside.Tracking.{ColumnsTell, state_values, told_values, bounded_values}
 use Rattle.mps_reader.specs.declared.column_state.ColumnState.{ColumnState}
 use Rattle.mps_reader.specs.declared.column_table.ColumnTable.{ColumnTable}
 use Rattle.mps_reader.proofs.NameFacts.{same_name}

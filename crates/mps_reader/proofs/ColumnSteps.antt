@@ -10,8 +10,8 @@ use denote.Ref.{Bor}
 use Rattle.program_rows.specs.declared.bounds.Bounds.TheVariants.{ZeroOrOne}
 use Rattle.program_rows.specs.Program.{TableColumn}
 use Rattle.program_rows.specs.Parts.{IsName, AreEntries}
-use Rattle.mps_reader.specs.Rows.{names_of, option_now}
-use Rattle.mps_reader.specs.Columns.{AreDistinctEntries, IsApart, ColumnsFit, AddsColumn, PairsFit, BothFit}
+use Rattle.mps_reader.specs.inside.Rows.{names_of, option_now}
+use Rattle.mps_reader.specs.inside.Columns.{AreDistinctEntries, IsApart, ColumnsFit, AddsColumn, PairsFit, BothFit}
 use Rattle.mps_reader.specs.declared.column_table.ColumnTable.{ColumnTable}
 use Rattle.mps_reader.specs.declared.row_table.Rows.{Rows}
 use Rattle.mps_reader.specs.declared.open_column.OpenColumn.{OpenColumn}

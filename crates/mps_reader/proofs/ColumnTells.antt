@@ -15,10 +15,10 @@ use Rattle.program_rows.specs.declared.bounds.Bounds.TheVariants.{ZeroOrOne}
 use Rattle.program_rows.specs.Program.{TableColumn}
 use Rattle.program_rows.specs.Parts.{AreEntries}
 use Rattle.program_rows.specs.Meaning.{LineFields}
-use Rattle.mps_reader.specs.Columns.{same_place, ColumnsFit, AddsColumn}
-use Rattle.mps_reader.specs.Rows.{names_of}
-use Rattle.mps_reader.specs.Told.{told_names, told_entries, coefficient_in, entries_at}
-use Rattle.mps_reader.specs.Tracking.{worth, OpenTells, ColumnsTell, ColumnAdded, told_column, told_values, state_values}
+use Rattle.mps_reader.specs.inside.Columns.{same_place, ColumnsFit, AddsColumn}
+use Rattle.mps_reader.specs.inside.Rows.{names_of}
+use Rattle.mps_reader.specs.inside.Told.{told_names, told_entries, coefficient_in, entries_at}
+use Rattle.mps_reader.specs.inside.Tracking.{worth, OpenTells, ColumnsTell, ColumnAdded, told_column, told_values, state_values}
 use Rattle.mps_reader.specs.declared.column_table.ColumnTable.{ColumnTable}
 use Rattle.mps_reader.proofs.NameFacts.{all-push}
 use Rattle.mps_reader.proofs.EntryFacts.{sorted-entries}

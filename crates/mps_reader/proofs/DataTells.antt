@@ -8,12 +8,12 @@ use denote.Ref.{Bor}
 use Rattle.program_rows.specs.Lines.{Line, Data}
 use Rattle.program_rows.specs.Program.{TableColumn}
 use Rattle.program_rows.specs.Meaning.{LineFields, field, is_one_of, row_types, earliest_fault, when, section, data_under, is_declared, is_objective, objsense_fault, row_fault, column_fault, right_side_fault, bound_fault, data_fault}
-use Rattle.mps_reader.specs.Rows.{names_of, option_now, row_names, StampsAre}
-use Rattle.mps_reader.specs.Columns.{ColumnsFit}
-use Rattle.mps_reader.specs.Fit.{ReadingFits, IsClosed}
-use Rattle.mps_reader.specs.Sections.{word_of}
-use Rattle.mps_reader.specs.Told.{told_right_sides, bound_lines_of, side_in, coefficient_in, told_entries}
-use Rattle.mps_reader.specs.Tracking.{SectionTells, InRows, InColumns, InRightSides, AreStampsUpTo, ReadingTells, RowsTell, ColumnsTell, OpenTells, told_column}
+use Rattle.mps_reader.specs.inside.Rows.{names_of, option_now, row_names, StampsAre}
+use Rattle.mps_reader.specs.inside.Columns.{ColumnsFit}
+use Rattle.mps_reader.specs.inside.Fit.{ReadingFits, IsClosed}
+use Rattle.mps_reader.specs.inside.Sections.{word_of}
+use Rattle.mps_reader.specs.inside.Told.{told_right_sides, bound_lines_of, side_in, coefficient_in, told_entries}
+use Rattle.mps_reader.specs.inside.Tracking.{SectionTells, InRows, InColumns, InRightSides, AreStampsUpTo, ReadingTells, RowsTell, ColumnsTell, OpenTells, told_column}
 use Rattle.mps_reader.specs.declared.sections.Section.TheVariants as sections
 use Rattle.mps_reader.specs.declared.row_table.Rows.{Rows}
 use Rattle.mps_reader.specs.declared.column_table.ColumnTable.{ColumnTable}

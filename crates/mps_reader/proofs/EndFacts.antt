@@ -4,7 +4,7 @@ use Rattle.std.specs.Prelude.{bytes_eq, codes}
 use Rattle.std.specs.List.{AllByRecursion}
 use Rattle.program_rows.specs.Lines.{Skipped, Unprintable, Data, header_of}
 use Rattle.program_rows.specs.Meaning.{field, is_end}
-use Rattle.mps_reader.specs.Reading.{AreFirst}
+use Rattle.mps_reader.specs.inside.Reading.{AreFirst}
 use Rattle.mps_reader.specs.Ending.{IsPassed}
 
 pub end-of : (shown all : List (List ℕ)) → AreFirst shown all → bytes_eq (field 0 shown) (codes "ENDATA") ≡ is_end (header_of all)

@@ -8,9 +8,9 @@ use Rattle.program_rows.specs.Lines.{Line}
 use Rattle.program_rows.specs.declared.fault.FaultKind.{FaultKind}
 use Rattle.program_rows.specs.declared.fault.FaultKind.TheVariants.{UnknownRow, EntryRepeated}
 use Rattle.program_rows.specs.Meaning.{LineFields, Entry, field, line_entries, names, value, number_fault, earliest_fault, when, entries_fault, is_declared}
-use Rattle.mps_reader.specs.Rows.{StampsAre}
-use Rattle.mps_reader.specs.Told.{coefficient_in}
-use Rattle.mps_reader.specs.Tracking.{OpenTells}
+use Rattle.mps_reader.specs.inside.Rows.{StampsAre}
+use Rattle.mps_reader.specs.inside.Told.{coefficient_in}
+use Rattle.mps_reader.specs.inside.Tracking.{OpenTells}
 use Rattle.mps_reader.specs.declared.open_column.OpenColumn.{OpenColumn}
 use Rattle.mps_reader.proofs.NameFacts.{own_name, same_name}
 

@@ -8,7 +8,7 @@ use Rattle.std.proofs.lemmas.List.Elements.{All-from_recursion, recursion_from_A
 use Rattle.std.proofs.lemmas.Map.Keys.{IsDistinct-IsPermutation}
 use Rattle.std.proofs.lemmas.Bool.{eqb-true, eqb-false, ne_eqb, eq-eqb}
 use Rattle.program_rows.specs.Parts.{AreEntries}
-use Rattle.mps_reader.specs.Columns.{same_place, AreDistinctEntries}
+use Rattle.mps_reader.specs.inside.Columns.{same_place, AreDistinctEntries}
 
 flips : (x y : ℕ × ℤ) → same_place x y ≡ same_place y x
 flips x y = by (x.0 == y.0) refl

@@ -8,7 +8,7 @@ use Rattle.std.proofs.lemmas.Grind.{common_steps}
 use Rattle.std.proofs.lemmas.List.Splits.{slice_split_first}
 use Rattle.program_rows.specs.Lines.{fields, is_space, is_text_byte}
 use Rattle.program_rows.specs.Parts.{IsName}
-use Rattle.mps_reader.specs.Reading.{is_other}
+use Rattle.mps_reader.specs.inside.Reading.{is_other}
 
 -- the parts that are not empty
 abbrev pieces : (ℕ → Bool) → List ℕ → List (List ℕ)

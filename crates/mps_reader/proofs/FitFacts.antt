@@ -8,9 +8,9 @@ use Rattle.program_rows.specs.declared.bounds.Bounds.{Bounds}
 use Rattle.program_rows.specs.Program.{TableRow, TableColumn}
 use Rattle.program_rows.specs.Bounded.{bounded}
 use Rattle.program_rows.specs.Parts.{IsName, AreEntries, IsProgram, shown_row}
-use Rattle.mps_reader.specs.Rows.{names_of, option_now, row_names, with_side, IsObjective, RowsFit, IsEmptyTable}
-use Rattle.mps_reader.specs.Columns.{ColumnsFit, BothFit, IsApart, AreDistinctEntries, IsEmptyColumns}
-use Rattle.mps_reader.specs.Fit.{IsClosed, ReadingFits}
+use Rattle.mps_reader.specs.inside.Rows.{names_of, option_now, row_names, with_side, IsObjective, RowsFit, IsEmptyTable}
+use Rattle.mps_reader.specs.inside.Columns.{ColumnsFit, BothFit, IsApart, AreDistinctEntries, IsEmptyColumns}
+use Rattle.mps_reader.specs.inside.Fit.{IsClosed, ReadingFits}
 use Rattle.mps_reader.specs.declared.sections.Section.{Section}
 use Rattle.mps_reader.specs.declared.sections.Section.TheVariants as sections
 use Rattle.mps_reader.specs.declared.row_table.Rows.{Rows}

@@ -10,13 +10,13 @@ use Rattle.program_rows.specs.Lines.{Line, Header}
 use Rattle.program_rows.specs.declared.fault.FaultKind.{FaultKind}
 use Rattle.program_rows.specs.declared.fault.FaultKind.TheVariants.{NotBinary}
 use Rattle.program_rows.specs.Meaning.{LineFields, place_of, data_under, objective, header_fault, not_binary, is_binary, column_names}
-use Rattle.mps_reader.specs.Reading.{bytes_of}
-use Rattle.mps_reader.specs.Rows.{option_now, row_names}
-use Rattle.mps_reader.specs.Columns.{ColumnsFit}
-use Rattle.mps_reader.specs.Fit.{ReadingFits}
-use Rattle.mps_reader.specs.Sections.{word_of}
-use Rattle.mps_reader.specs.States.{is_binary_state, below_or_equal}
-use Rattle.mps_reader.specs.Tracking.{ReadingTells, ColumnsTell, state_values, told_values, bit}
+use Rattle.mps_reader.specs.inside.Reading.{bytes_of}
+use Rattle.mps_reader.specs.inside.Rows.{option_now, row_names}
+use Rattle.mps_reader.specs.inside.Columns.{ColumnsFit}
+use Rattle.mps_reader.specs.inside.Fit.{ReadingFits}
+use Rattle.mps_reader.specs.inside.Sections.{word_of}
+use Rattle.mps_reader.specs.inside.States.{is_binary_state, below_or_equal}
+use Rattle.mps_reader.specs.inside.Tracking.{ReadingTells, ColumnsTell, state_values, told_values, bit}
 use Rattle.mps_reader.specs.declared.column_state.ColumnState.{ColumnState}
 use Rattle.mps_reader.specs.declared.sections.Section.{Section}
 use Rattle.mps_reader.specs.declared.column_table.ColumnTable.{ColumnTable}

@@ -6,8 +6,8 @@ use Rattle.program_rows.specs.declared.fault.FaultKind.{FaultKind}
 use Rattle.program_rows.specs.declared.fault.FaultKind.TheVariants.{NotText, NoEnd}
 use Rattle.program_rows.specs.Meaning.{LineFields, field, fault, header_fault, data_fault, is_end, program, meaning, meaning_from, answer}
 use Rattle.auction_terms.specs.Lines.{lines_of}
-use Rattle.mps_reader.specs.Reading.{AreFirst}
-use Rattle.mps_reader.specs.Tracking.{ReadingTells}
+use Rattle.mps_reader.specs.inside.Reading.{AreFirst}
+use Rattle.mps_reader.specs.inside.Tracking.{ReadingTells}
 use Rattle.mps_reader.specs.declared.reading_state.Reading.{Reading}
 use Rattle.mps_reader.proofs.SectionTells.{skipped-tells, header-first, data-first, data-whole}
 

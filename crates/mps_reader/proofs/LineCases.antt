@@ -5,7 +5,7 @@ use Rattle.std.specs.List.{list_all, AllByRecursion}
 use Rattle.std.proofs.lemmas.Bool.{eqb-true, eqb-false, ne_eqb}
 use Rattle.program_rows.specs.Lines.{Skipped, Unprintable, Data, fields, line_of, header_of, is_space, is_text_byte}
 use Rattle.program_rows.specs.Parts.{IsName}
-use Rattle.mps_reader.specs.Reading.{AreFirst}
+use Rattle.mps_reader.specs.inside.Reading.{AreFirst}
 use Rattle.mps_reader.proofs.FieldFacts.{fields_names}
 
 pub line-empty : (bytes : List ℕ) → true ≡ (length bytes == 0) → line_of bytes ≡ Skipped

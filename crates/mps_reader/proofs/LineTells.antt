@@ -14,10 +14,10 @@ use Rattle.program_rows.specs.Meaning.{LineFields, Entry, field, pairs, names, l
 use Rattle.program_rows.specs.Lines.{Line}
 use Rattle.program_rows.specs.declared.fault.FaultKind.{FaultKind}
 use Rattle.program_rows.specs.declared.fault.FaultKind.TheVariants.{ColumnSplit}
-use Rattle.mps_reader.specs.Columns.{ColumnsFit}
-use Rattle.mps_reader.specs.Rows.{names_of, option_now, row_names, StampsAre}
-use Rattle.mps_reader.specs.Told.{told_lines, told_names, told_entries, coefficient_in, entries_at, nearest_column}
-use Rattle.mps_reader.specs.Tracking.{worth, OpenTells, ColumnsTell, ColumnAdded, InColumns, AreStampsUpTo, told_column, told_values, state_values, is_current}
+use Rattle.mps_reader.specs.inside.Columns.{ColumnsFit}
+use Rattle.mps_reader.specs.inside.Rows.{names_of, option_now, row_names, StampsAre}
+use Rattle.mps_reader.specs.inside.Told.{told_lines, told_names, told_entries, coefficient_in, entries_at, nearest_column}
+use Rattle.mps_reader.specs.inside.Tracking.{worth, OpenTells, ColumnsTell, ColumnAdded, InColumns, AreStampsUpTo, told_column, told_values, state_values, is_current}
 use Rattle.mps_reader.specs.declared.column_table.ColumnTable.{ColumnTable}
 use Rattle.mps_reader.specs.declared.open_column.OpenColumn.{OpenColumn}
 use Rattle.mps_reader.specs.declared.row_table.Rows.{Rows}

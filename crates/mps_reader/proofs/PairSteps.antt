@@ -7,10 +7,10 @@ use Rattle.std.proofs.lemmas.Bool.{eqb-false, both_ways, cases_eq, cases_order}
 use mathlib.Core.Logic.{◌⊎◌, inl, inr}
 use Rattle.std.proofs.lemmas.Bool.Decides.{Decides-int_eq}
 use Rattle.program_rows.specs.declared.row.Row.{Row}
-use Rattle.mps_reader.specs.Rows.{AreAt, RowsFit, names_of, row_names}
+use Rattle.mps_reader.specs.inside.Rows.{AreAt, RowsFit, names_of, row_names}
 use Rattle.mps_reader.specs.declared.row_table.Rows.{Rows}
 use Rattle.mps_reader.specs.declared.open_column.OpenColumn.{OpenColumn}
-use Rattle.mps_reader.specs.Columns.{AreDistinctEntries, IsApart, PairsFit, put_entries}
+use Rattle.mps_reader.specs.inside.Columns.{AreDistinctEntries, IsApart, PairsFit, put_entries}
 use Rattle.mps_reader.proofs.NameFacts.{length-bytes, placed, apart}
 use Rattle.mps_reader.proofs.EntryFacts.{entries-push, none-at-push}
 

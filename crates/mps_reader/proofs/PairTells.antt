@@ -9,9 +9,9 @@ use Rattle.std.proofs.lemmas.Bool.Decides.{Decides-int_eq}
 use mathlib.Core.Logic.{◌⊎◌, inl, inr}
 use denote.Ref.{Bor}
 use Rattle.program_rows.specs.Parts.{IsName}
-use Rattle.mps_reader.specs.Rows.{AreAt, StampsAre, IsObjective, option_now}
-use Rattle.mps_reader.specs.Columns.{put_entries}
-use Rattle.mps_reader.specs.Tracking.{worth, OpenTells}
+use Rattle.mps_reader.specs.inside.Rows.{AreAt, StampsAre, IsObjective, option_now}
+use Rattle.mps_reader.specs.inside.Columns.{put_entries}
+use Rattle.mps_reader.specs.inside.Tracking.{worth, OpenTells}
 use Rattle.mps_reader.specs.declared.open_column.OpenColumn.{OpenColumn}
 use Rattle.mps_reader.proofs.NameFacts.{same_name, own_name, all-rows, distinct-rows, placed}
 

@@ -10,11 +10,11 @@ use Rattle.program_rows.specs.Parts.{shown_row}
 use Rattle.program_rows.specs.declared.bounds.Bounds.{Bounds}
 use Rattle.program_rows.specs.declared.bounds.Bounds.TheVariants.{ZeroOrOne, Zero, One}
 use Rattle.program_rows.specs.Meaning.{data_under, program, rows, bounds, column, column_names, coefficient, objective, objective_name, not_zero}
-use Rattle.mps_reader.specs.Rows.{option_now, row_names}
-use Rattle.mps_reader.specs.Fit.{ReadingFits}
-use Rattle.mps_reader.specs.States.{state_bounds, upper_bounds}
-use Rattle.mps_reader.specs.Told.{entries_at}
-use Rattle.mps_reader.specs.Tracking.{ReadingTells, state_values, told_values, told_column, bit}
+use Rattle.mps_reader.specs.inside.Rows.{option_now, row_names}
+use Rattle.mps_reader.specs.inside.Fit.{ReadingFits}
+use Rattle.mps_reader.specs.inside.States.{state_bounds, upper_bounds}
+use Rattle.mps_reader.specs.inside.Told.{entries_at}
+use Rattle.mps_reader.specs.inside.Tracking.{ReadingTells, state_values, told_values, told_column, bit}
 use Rattle.mps_reader.specs.declared.column_state.ColumnState.{ColumnState}
 use Rattle.mps_reader.specs.declared.reading_state.Reading.{Reading}
 use Rattle.mps_reader.proofs.RowSteps.{names-shown}

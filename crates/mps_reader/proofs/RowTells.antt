@@ -9,9 +9,9 @@ use Rattle.std.proofs.lemmas.List.Folds.{find-append, list_any-append}
 use Rattle.program_rows.specs.Program.{TableRow}
 use Rattle.program_rows.specs.Parts.{shown_row}
 use Rattle.program_rows.specs.Meaning.{LineFields, field, is_free, kind_of}
-use Rattle.mps_reader.specs.Rows.{names_of, option_now, AddsFree, AddsBound}
-use Rattle.mps_reader.specs.Told.{declared_names, told_objective, told_right_sides, side_in, told_rows}
-use Rattle.mps_reader.specs.Tracking.{RowsTell, AreStampsUpTo}
+use Rattle.mps_reader.specs.inside.Rows.{names_of, option_now, AddsFree, AddsBound}
+use Rattle.mps_reader.specs.inside.Told.{declared_names, told_objective, told_right_sides, side_in, told_rows}
+use Rattle.mps_reader.specs.inside.Tracking.{RowsTell, AreStampsUpTo}
 use Rattle.mps_reader.specs.declared.row_table.Rows.{Rows}
 use Rattle.mps_reader.proofs.NameFacts.{all-push}
 

@@ -8,10 +8,10 @@ use Rattle.program_rows.specs.Lines.{Line, Skipped, Data}
 use Rattle.program_rows.specs.declared.fault.FaultKind.{FaultKind}
 use Rattle.program_rows.specs.declared.fault.FaultKind.TheVariants as kinds
 use Rattle.program_rows.specs.Meaning.{LineFields, place_of, section, data_under, field, is_one_of, is_binary_bound, earliest_fault, when, header_fault, data_fault, objsense_fault, row_fault, column_fault, right_side_fault, bound_fault, bound_column, bound_number, bit_fault, is_column}
-use Rattle.mps_reader.specs.Reading.{AreFirst}
-use Rattle.mps_reader.specs.Rows.{names_of, option_now}
-use Rattle.mps_reader.specs.Sections.{word_of}
-use Rattle.mps_reader.specs.Tracking.{SectionTells, BeforeRows, InRows, AreStampsUpTo, LinesTell, ReadingTells}
+use Rattle.mps_reader.specs.inside.Reading.{AreFirst}
+use Rattle.mps_reader.specs.inside.Rows.{names_of, option_now}
+use Rattle.mps_reader.specs.inside.Sections.{word_of}
+use Rattle.mps_reader.specs.inside.Tracking.{SectionTells, BeforeRows, InRows, AreStampsUpTo, LinesTell, ReadingTells}
 use Rattle.mps_reader.specs.declared.sections.Section.{Section}
 use Rattle.mps_reader.specs.declared.sections.Section.TheVariants as sections
 use Rattle.mps_reader.specs.declared.row_table.Rows.{Rows}

@@ -3,7 +3,7 @@ use Rattle.std.proofs.Common.{◌≡◌, ℕ, ◌<◌, Bool, true, false, List, 
 use Rattle.std.specs.Prelude.{codes, bytes_eq}
 use Rattle.std.proofs.lemmas.Slice.Eq.{bytes_eq-Decides}
 use Rattle.program_rows.specs.Meaning.{place_of}
-use Rattle.mps_reader.specs.Sections.{word_of, section_named}
+use Rattle.mps_reader.specs.inside.Sections.{word_of, section_named}
 
 -- a word has the place of the section that it names, and is its word where that has a place
 pub record IsNamed (text : List ℕ) : Type 0 where

@@ -15,9 +15,9 @@ use Rattle.program_rows.specs.declared.row.Row.{Row}
 use Rattle.program_rows.specs.Program.{TableRow}
 use Rattle.program_rows.specs.Parts.{shown_row}
 use Rattle.program_rows.specs.Meaning.{LineFields, field, pairs, kind_of, value, number_fault, earliest_fault, when, is_declared, is_objective, right_sides, line_right_sides, right_sides_fault, right_side_fault}
-use Rattle.mps_reader.specs.Reading.{bytes_of}
-use Rattle.mps_reader.specs.Rows.{StampsAre, row_names, with_side}
-use Rattle.mps_reader.specs.Told.{rows_by, side_in, side_fault}
+use Rattle.mps_reader.specs.inside.Reading.{bytes_of}
+use Rattle.mps_reader.specs.inside.Rows.{StampsAre, row_names, with_side}
+use Rattle.mps_reader.specs.inside.Told.{rows_by, side_in, side_fault}
 use Rattle.mps_reader.proofs.NameFacts.{own_name, same_name, length-bytes}
 use Rattle.mps_reader.proofs.RowSteps.{names-shown}
 use Rattle.mps_reader.proofs.PairTells.{flip-name, all-at}

@@ -6,8 +6,8 @@ use Rattle.std.proofs.lemmas.Bool.{ltb-true}
 use denote.Ref.{Bor}
 use Rattle.program_rows.specs.declared.fault.FaultKind.TheVariants.{UnknownRow, EntryRepeated}
 use Rattle.program_rows.specs.Meaning.{earliest_fault, when}
-use Rattle.mps_reader.specs.Reading.{bytes_of}
-use Rattle.mps_reader.specs.Rows.{StampsAre}
+use Rattle.mps_reader.specs.inside.Reading.{bytes_of}
+use Rattle.mps_reader.specs.inside.Rows.{StampsAre}
 use Rattle.mps_reader.proofs.NameFacts.{same_name}
 
 some-is : (b : Bool) (x i : ℕ) → Some i ≡ cond b (Some x) None → (b ≡ true) × (x ≡ i)

@@ -4,14 +4,8 @@ use Rattle.program_rows.specs.Program.{Table}
 use Rattle.program_rows.specs.declared.fault.FaultKind.{FaultKind}
 use Rattle.program_rows.specs.declared.fault.FaultKind.TheVariants.{OutOfMemory}
 use Rattle.mps_reader.specs.declared.mps_fault.MpsFault.{MpsFault}
-use Rattle.mps_reader.specs.declared.refusal.Refusal.{Refusal}
-use Rattle.mps_reader.specs.declared.refusal.Refusal.TheVariants.{Memory, Fault}
 
 -- the program that the text means, or its first faulty line and the fault; want of memory has no line
 abbrev pub IsRead : Result Table MpsFault → Result Table (ℕ × FaultKind) → Type 0
 IsRead (Ok program) meant = meant ≡ Ok program
 IsRead (Err fault) meant = (fault ≡ record { line = 0; kind = OutOfMemory }) ⊎ (meant ≡ Err (fault.line, fault.kind))
-
-abbrev pub IsRefused : ℕ → Refusal → MpsFault → Type 0
-IsRefused line Memory fault = fault ≡ record { line = 0; kind = OutOfMemory }
-IsRefused line (Fault kind) fault = fault ≡ record { line = line; kind = kind }

@@ -1,11 +1,4 @@
-pub mod Reading
-pub mod Sections
-pub mod Rows
-pub mod Columns
-pub mod States
-pub mod Fit
 pub mod Ending
-pub mod Told
-pub mod Tracking
 pub mod Answer
 pub mod MpsFaultText
+pub mod inside

@@ -5,10 +5,10 @@ ghost use Rattle.program_rows.specs.declared.fault.FaultKind.TheVariants.{BoundT
 ghost use Rattle.std.specs.List.{IsDistinct};
 ghost use Rattle.program_rows.specs.Lines.{Line};
 ghost use Rattle.program_rows.specs.Meaning.{LineFields, is_one_of, is_binary_bound, field, value, column_names, earliest_fault, when, bit_fault, bound_fault};
-ghost use Rattle.mps_reader.specs.Reading.{bytes_of, Answers};
-ghost use Rattle.mps_reader.specs.Columns.{BothFit};
-ghost use Rattle.mps_reader.specs.Rows.{names_of};
-ghost use Rattle.mps_reader.specs.Tracking.{ColumnsTell, bit, state_values, bounded_values};
+ghost use Rattle.mps_reader.specs.inside.Reading.{bytes_of, Answers};
+ghost use Rattle.mps_reader.specs.inside.Columns.{BothFit};
+ghost use Rattle.mps_reader.specs.inside.Rows.{names_of};
+ghost use Rattle.mps_reader.specs.inside.Tracking.{ColumnsTell, bit, state_values, bounded_values};
 ghost use Rattle.mps_reader.specs.declared.row_table.Rows as row_table;
 
 use crate::column_state::ColumnState;

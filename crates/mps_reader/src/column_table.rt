@@ -1,4 +1,4 @@
-ghost use Rattle.mps_reader.specs.Columns.{IsEmptyColumns};
+ghost use Rattle.mps_reader.specs.inside.Columns.{IsEmptyColumns};
 
 use crate::column_state::ColumnState;
 use crate::open_column::OpenColumn;

@@ -6,10 +6,10 @@ ghost use Rattle.std.specs.List.Sorted.{IsPermutation, IsNonDecreasingBy};
 ghost use Rattle.program_rows.specs.declared.fault.FaultKind.TheVariants.{ColumnSplit};
 ghost use Rattle.program_rows.specs.Meaning.{when, LineFields};
 ghost use Rattle.program_rows.specs.Parts.{IsName};
-ghost use Rattle.mps_reader.specs.Reading.{Answers};
-ghost use Rattle.mps_reader.specs.Rows.{names_of, option_now};
-ghost use Rattle.mps_reader.specs.Columns.{ColumnsFit, AddsColumn, IsApart};
-ghost use Rattle.mps_reader.specs.Tracking.{ColumnsTell, ColumnAdded, is_current};
+ghost use Rattle.mps_reader.specs.inside.Reading.{Answers};
+ghost use Rattle.mps_reader.specs.inside.Rows.{names_of, option_now};
+ghost use Rattle.mps_reader.specs.inside.Columns.{ColumnsFit, AddsColumn, IsApart};
+ghost use Rattle.mps_reader.specs.inside.Tracking.{ColumnsTell, ColumnAdded, is_current};
 
 use crate::column_state::ColumnState;
 use crate::column_table::ColumnTable;

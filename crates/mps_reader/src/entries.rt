@@ -6,12 +6,12 @@ ghost use Rattle.program_rows.specs.declared.fault.FaultKind.TheVariants.{Unknow
 ghost use Rattle.program_rows.specs.Lines.{Line};
 ghost use Rattle.program_rows.specs.Meaning.{earliest_fault, when, number_fault, value, field, Entry, names, is_declared, entries_fault, line_entries, LineFields, data_under, is_integer_open, is_marker, marker_fault, column_fault};
 ghost use Rattle.program_rows.specs.Parts.{IsName};
-ghost use Rattle.mps_reader.specs.Reading.{bytes_of, Answers};
-ghost use Rattle.mps_reader.specs.Rows.{RowsFit, StampsAre, names_of, row_names, option_now};
-ghost use Rattle.mps_reader.specs.Told.{coefficient_in};
-ghost use Rattle.mps_reader.specs.Tracking.{AreStampsUpTo, OpenTells, ColumnsTell, InColumns};
+ghost use Rattle.mps_reader.specs.inside.Reading.{bytes_of, Answers};
+ghost use Rattle.mps_reader.specs.inside.Rows.{RowsFit, StampsAre, names_of, row_names, option_now};
+ghost use Rattle.mps_reader.specs.inside.Told.{coefficient_in};
+ghost use Rattle.mps_reader.specs.inside.Tracking.{AreStampsUpTo, OpenTells, ColumnsTell, InColumns};
 ghost use Rattle.mps_reader.specs.declared.row_table.Rows as row_table;
-ghost use Rattle.mps_reader.specs.Columns.{ColumnsFit, put_entries, PairsFit, BothFit};
+ghost use Rattle.mps_reader.specs.inside.Columns.{ColumnsFit, put_entries, PairsFit, BothFit};
 
 use crate::column_table::ColumnTable;
 use crate::columns::{close_column, open_column};

@@ -2,7 +2,7 @@
 
 ghost use Rattle.std.specs.Prelude.{◌≡◌, ◌≤◌, ◌∷◌, [], take, drop, length, position, MatchOption};
 ghost use Rattle.program_rows.specs.Lines.{fields, is_space};
-ghost use Rattle.mps_reader.specs.Reading.{bytes_of, is_other};
+ghost use Rattle.mps_reader.specs.inside.Reading.{bytes_of, is_other};
 
 use arrayvec::ArrayVec;
 

@@ -4,11 +4,11 @@ ghost use Rattle.std.specs.Prelude.{◌≡◌, List, not, map, true, false, posi
 ghost use Rattle.program_rows.specs.Lines.{Line};
 ghost use Rattle.program_rows.specs.Meaning.{program};
 ghost use Rattle.program_rows.specs.declared.fault.FaultKind.TheVariants.{NotBinary};
-ghost use Rattle.mps_reader.specs.Reading.{Answers};
-ghost use Rattle.mps_reader.specs.Tracking.{ReadingTells};
-ghost use Rattle.mps_reader.specs.Fit.{ReadingFits};
-ghost use Rattle.mps_reader.specs.Rows.{option_now};
-ghost use Rattle.mps_reader.specs.States.{state_bounds, is_binary_state};
+ghost use Rattle.mps_reader.specs.inside.Reading.{Answers};
+ghost use Rattle.mps_reader.specs.inside.Tracking.{ReadingTells};
+ghost use Rattle.mps_reader.specs.inside.Fit.{ReadingFits};
+ghost use Rattle.mps_reader.specs.inside.Rows.{option_now};
+ghost use Rattle.mps_reader.specs.inside.States.{state_bounds, is_binary_state};
 
 use crate::column_state::ColumnState;
 use crate::reading_state::Reading;

@@ -4,8 +4,8 @@ ghost use Rattle.std.specs.Prelude.{◌≡◌, ◌∷◌, [], ◌==◌, ◌<◌,
 ghost use Rattle.program_rows.specs.Lines as spec;
 ghost use Rattle.program_rows.specs.declared.fault.FaultKind.TheVariants.{SectionLeftOut, Section, Fields, NoObjective};
 ghost use Rattle.program_rows.specs.Meaning.{is_one_of, sections_left_out, place_of, section, objective, earliest_fault, when, sense_fault, field, header_fault, not_binary};
-ghost use Rattle.mps_reader.specs.Reading.{bytes_of, Answers, AnswersUpTo};
-ghost use Rattle.mps_reader.specs.Sections.{word_of};
+ghost use Rattle.mps_reader.specs.inside.Reading.{bytes_of, Answers, AnswersUpTo};
+ghost use Rattle.mps_reader.specs.inside.Sections.{word_of};
 
 use crate::refusal::Refusal;
 use crate::sections::{Section, place, section_of};

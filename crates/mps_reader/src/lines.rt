@@ -3,7 +3,7 @@
 ghost use Rattle.std.specs.Prelude.{◌≡◌, ◌≤◌, ◌==◌, length, slice_index};
 ghost use Rattle.std.specs.List.{list_all};
 ghost use Rattle.program_rows.specs.Lines.{line_of, is_space, is_text_byte};
-ghost use Rattle.mps_reader.specs.Reading.{IsLine};
+ghost use Rattle.mps_reader.specs.inside.Reading.{IsLine};
 
 use crate::fields::{Fields, first_fields};
 

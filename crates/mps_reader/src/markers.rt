@@ -3,7 +3,7 @@
 ghost use Rattle.std.specs.Prelude.{◌≡◌, ◌∷◌, [], ◌&&◌, List, not, true, codes, bytes_eq, IfOk};
 ghost use Rattle.program_rows.specs.Lines as spec;
 ghost use Rattle.program_rows.specs.Meaning.{is_one_of, data_under, is_marker, is_integer_open, marker_fault, field};
-ghost use Rattle.mps_reader.specs.Reading.{bytes_of, Answers};
+ghost use Rattle.mps_reader.specs.inside.Reading.{bytes_of, Answers};
 
 use crate::refusal::Refusal;
 use crate::words::is;

@@ -2,7 +2,7 @@
 
 ghost use Rattle.std.specs.Prelude.{◌≡◌, ◌∷◌, [], ◌++◌, not, bytes_eq, IfOk, OnOk, if◌then◌else◌};
 ghost use Rattle.std.specs.List.{list_any, IsDistinct};
-ghost use Rattle.mps_reader.specs.Rows.{names_of};
+ghost use Rattle.mps_reader.specs.inside.Rows.{names_of};
 
 use program_rows::NameSet;
 use std::alloc::AllocFailed;

@@ -3,7 +3,8 @@
 ghost use Rattle.std.specs.Prelude.{◌≡◌, ◌≤◌, ◌<◌, length, Err, IfErr, OnOk};
 ghost use Rattle.auction_terms.specs.Lines.{lines_of};
 ghost use Rattle.mps_reader.specs.Ending.{Ends};
-ghost use Rattle.mps_reader.specs.Answer.{IsRead, IsRefused};
+ghost use Rattle.mps_reader.specs.Answer.{IsRead};
+ghost use Rattle.mps_reader.specs.inside.Answer.{IsRefused};
 ghost use Rattle.program_rows.specs.Meaning.{meaning};
 ghost use Rattle.program_rows.specs.declared.fault.FaultKind.TheVariants.{TooLarge};
 

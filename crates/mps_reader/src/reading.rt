@@ -6,9 +6,9 @@ ghost use Rattle.program_rows.specs.Lines as spec;
 ghost use Rattle.program_rows.specs.Lines.{Unprintable, line_of};
 ghost use Rattle.program_rows.specs.Meaning.{LineFields, field, is_end, fault, header_fault, data_fault};
 ghost use Rattle.program_rows.specs.Parts.{IsName};
-ghost use Rattle.mps_reader.specs.Reading.{bytes_of, Answers};
-ghost use Rattle.mps_reader.specs.Fit.{ReadingFits};
-ghost use Rattle.mps_reader.specs.Tracking.{ReadingTells};
+ghost use Rattle.mps_reader.specs.inside.Reading.{bytes_of, Answers};
+ghost use Rattle.mps_reader.specs.inside.Fit.{ReadingFits};
+ghost use Rattle.mps_reader.specs.inside.Tracking.{ReadingTells};
 
 use crate::bounds::take_bound;
 use crate::column_table::ColumnTable;

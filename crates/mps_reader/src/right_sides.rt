@@ -5,12 +5,12 @@ ghost use Rattle.std.specs.List.{list_any};
 ghost use Rattle.std.specs.Option.{option_map_or};
 ghost use Rattle.program_rows.specs.Lines.{Line};
 ghost use Rattle.program_rows.specs.Meaning.{LineFields, pairs, value, is_declared, is_objective, right_sides, right_sides_fault, right_side_fault};
-ghost use Rattle.mps_reader.specs.Reading.{bytes_of, Answers};
+ghost use Rattle.mps_reader.specs.inside.Reading.{bytes_of, Answers};
 ghost use Rattle.std.specs.Ordering.{int_eq};
 ghost use Rattle.program_rows.specs.Parts.{shown_row};
-ghost use Rattle.mps_reader.specs.Rows.{RowsFit, StampsAre, names_of, with_side};
-ghost use Rattle.mps_reader.specs.Told.{rows_by, side_in, side_fault, told_right_sides};
-ghost use Rattle.mps_reader.specs.Tracking.{RowsTell};
+ghost use Rattle.mps_reader.specs.inside.Rows.{RowsFit, StampsAre, names_of, with_side};
+ghost use Rattle.mps_reader.specs.inside.Told.{rows_by, side_in, side_fault, told_right_sides};
+ghost use Rattle.mps_reader.specs.inside.Tracking.{RowsTell};
 
 use crate::refusal::Refusal;
 use crate::row_table::Rows;

@@ -1,5 +1,5 @@
 ghost use Rattle.std.specs.Prelude.{◌≡◌, []};
-ghost use Rattle.mps_reader.specs.Rows.{RowsFit, names_of, IsEmptyTable};
+ghost use Rattle.mps_reader.specs.inside.Rows.{RowsFit, names_of, IsEmptyTable};
 
 use indexmap::IndexSet;
 use program_rows::{NameSet, Row, Seeded};

@@ -6,9 +6,9 @@ ghost use Rattle.std.specs.Option.{option_map, option_map_or};
 ghost use Rattle.program_rows.specs.declared.fault.FaultKind.TheVariants.{Fields, RowType, RowRepeated, UnknownRow, EntryRepeated};
 ghost use Rattle.program_rows.specs.Meaning.{is_one_of, row_types, kind_of, field, earliest_fault, when, LineFields};
 ghost use Rattle.program_rows.specs.Parts.{shown_row, IsName};
-ghost use Rattle.mps_reader.specs.Reading.{bytes_of, Answers};
-ghost use Rattle.mps_reader.specs.Rows.{names_of, RowsFit, AddsFree, AddsBound, StampsAre};
-ghost use Rattle.mps_reader.specs.Tracking.{RowsTell, AreStampsUpTo};
+ghost use Rattle.mps_reader.specs.inside.Reading.{bytes_of, Answers};
+ghost use Rattle.mps_reader.specs.inside.Rows.{names_of, RowsFit, AddsFree, AddsBound, StampsAre};
+ghost use Rattle.mps_reader.specs.inside.Tracking.{RowsTell, AreStampsUpTo};
 
 use crate::names::insert_name;
 use crate::refusal::Refusal;

@@ -2,7 +2,7 @@
 
 ghost use Rattle.std.specs.Prelude.{◌≡◌};
 ghost use Rattle.program_rows.specs.Meaning.{place_of};
-ghost use Rattle.mps_reader.specs.Sections.{word_of, section_named};
+ghost use Rattle.mps_reader.specs.inside.Sections.{word_of, section_named};
 
 use crate::words::is;
 

@@ -2,7 +2,7 @@
 
 ghost use Rattle.std.specs.Prelude.{◌≡◌, ◌∷◌, [], codes};
 ghost use Rattle.program_rows.specs.Meaning.{is_one_of, sense_fault, objsense_fault};
-ghost use Rattle.mps_reader.specs.Reading.{bytes_of, Answers};
+ghost use Rattle.mps_reader.specs.inside.Reading.{bytes_of, Answers};
 
 use crate::refusal::Refusal;
 use crate::words::is;

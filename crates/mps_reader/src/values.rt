@@ -2,8 +2,8 @@
 
 ghost use Rattle.std.specs.Prelude.{◌≡◌, IfOk};
 ghost use Rattle.program_rows.specs.Meaning.{number_fault, bit_fault, value};
-ghost use Rattle.mps_reader.specs.Reading.{Answers};
-ghost use Rattle.mps_reader.specs.Tracking.{bit};
+ghost use Rattle.mps_reader.specs.inside.Reading.{Answers};
+ghost use Rattle.mps_reader.specs.inside.Tracking.{bit};
 
 use crate::refusal::Refusal;
 use program_rows::{FaultKind, NumberFault, read_number};

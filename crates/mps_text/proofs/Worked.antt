@@ -4,7 +4,8 @@ use Rattle.std.specs.Fmt.{digits}
 use Rattle.auction_terms.specs.declared.bids.Bid.{Bid}
 use Rattle.auction_terms.specs.Packages.{Lots}
 use Rattle.auction_terms.specs.Allocations.{Book}
-use Rattle.auction_terms.specs.Keeping.{choice_of, kept_of}
+use Rattle.auction_terms.specs.inside.Keeping.{choice_of}
+use Rattle.auction_terms.specs.Keeping.{kept_of}
 use Rattle.program_rows.specs.Points.{broken_row}
 use Rattle.program_rows.specs.Rows.{program_of}
 use Rattle.program_rows.specs.Spelling.{column_bid}

@@ -9,6 +9,3 @@ pub record Limited : Type 0 where
   pub most : ℕ
   -- how many puts have failed
   pub failures : ℕ
-
-abbrev pub limited : List ℕ → ℕ → ℕ → ℕ → Limited
-limited taken room most failures = record { taken = taken; room = room; most = most; failures = failures }

@@ -16,7 +16,8 @@ pub struct LimitSink {
 }
 
 impl Model for LimitSink {
-    ghost use Rattle.mps_text.specs.Limits.{Limited, limited};
+    ghost use Rattle.mps_text.specs.Limits.{Limited};
+    ghost use Rattle.mps_text.specs.inside.Limits.{limited};
 
     ghost Value = { Limited };
 

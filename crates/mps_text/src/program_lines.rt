@@ -5,7 +5,8 @@ ghost use Rattle.program_rows.specs.Lines.{Data};
 ghost use Rattle.mps_text.specs.Text.{written};
 ghost use Rattle.program_rows.specs.Parts.{shown_row};
 ghost use Rattle.mps_text.specs.Adds.{Adds};
-ghost use Rattle.mps_text.specs.Bytes.{row_bytes, column_bytes, right_side_bytes, head_bytes, rows_bytes, opened_bytes, columns_bytes, right_sides_bytes, bounds_bytes, bound_bytes, to_columns_bytes, to_bounds_bytes, parts_bytes};
+ghost use Rattle.mps_text.specs.Bytes.{row_bytes, column_bytes, right_side_bytes, bound_bytes};
+ghost use Rattle.mps_text.specs.inside.Bytes.{head_bytes, rows_bytes, opened_bytes, columns_bytes, right_sides_bytes, bounds_bytes, to_columns_bytes, to_bounds_bytes, parts_bytes};
 
 use crate::adding::add;
 use crate::block::Block;

@@ -11,7 +11,8 @@ use Rattle.program_rows.specs.declared.bounds.Bounds.{Bounds}
 use Rattle.program_rows.specs.declared.bounds.Bounds.TheVariants.{ZeroOrOne, Zero, One}
 use Rattle.program_rows.specs.Program.{Table, TableRow, TableColumn}
 use Rattle.program_rows.specs.Points.{IsPoint, AreAllowed, allows, objective, row_sum, coefficient_at, meets}
-use Rattle.optimality.specs.Certificates.{Form, Cut, Certificate, Bound, Split, number_in, form_sum, side}
+use Rattle.optimality.specs.Certificates.{Form, Cut, Certificate, Bound, Split, number_in, side}
+use Rattle.optimality.specs.inside.Certificates.{form_sum}
 use Rattle.optimality.specs.Reduced.{cuts_number, rows_number, reduced, least_part, least_sum, cuts_right, rows_right, right_side_at}
 use Rattle.optimality.specs.Shows.{has_sign, may_have, leaf_value, LeafShows, ShowsWithin}
 use Rattle.optimality.specs.Laws.{ShownIsBound}

@@ -10,8 +10,8 @@ use Rattle.program_rows.specs.Points.{coefficient_at}
 use Rattle.program_rows.specs.Parts.{IsProgram}
 use Rattle.optimality.specs.Certificates.{Form, Cut, number_in}
 use Rattle.optimality.specs.Reduced.{cuts_number, rows_number, reduced, least_part, least_sum}
-use Rattle.optimality.specs.Adding.{number_at, with_more, with_form, with_cuts, form_at, with_rows, scaled_costs, leaf_numbers}
-use Rattle.optimality.specs.RowForms.{row_forms}
+use Rattle.optimality.specs.inside.Adding.{number_at, with_more, with_form, with_cuts, form_at, with_rows, scaled_costs, leaf_numbers}
+use Rattle.optimality.specs.inside.RowForms.{row_forms}
 use Rattle.optimality.proofs.Products.{times-sum}
 use Rattle.optimality.proofs.RowLaws.{row-form-at}
 

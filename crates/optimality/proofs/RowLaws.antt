@@ -13,8 +13,8 @@ use Rattle.program_rows.specs.Program.{Table, TableColumn}
 use Rattle.program_rows.specs.Points.{coefficient_at}
 use Rattle.program_rows.specs.Parts.{AreEntries, IsProgram}
 use Rattle.optimality.specs.Certificates.{Form, number_in}
-use Rattle.optimality.specs.Adding.{form_at}
-use Rattle.optimality.specs.RowForms.{with_term, with_entries, with_columns, row_forms, forms_of}
+use Rattle.optimality.specs.inside.Adding.{form_at}
+use Rattle.optimality.specs.inside.RowForms.{with_term, with_entries, with_columns, row_forms, forms_of}
 
 -- ---------- what the code does ----------
 

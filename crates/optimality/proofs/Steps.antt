@@ -9,7 +9,7 @@ use Rattle.std.proofs.lemmas.Int.{ints}
 use Rattle.program_rows.specs.Program.{TableRow, TableColumn}
 use Rattle.optimality.specs.Certificates.{Form, negated, side}
 use Rattle.optimality.specs.Reduced.{rows_right, right_side_at, least_part, least_sum}
-use Rattle.optimality.specs.Adding.{number_at, with_more, with_form, with_cuts, scaled_costs}
+use Rattle.optimality.specs.inside.Adding.{number_at, with_more, with_form, with_cuts, scaled_costs}
 
 -- what is left at a place is its element and what is left behind it
 rest : {A : Type 0} → (xs : List A) (i : ℕ) (d : A) → i < length xs → drop i xs ≡ get_or xs i d ∷ drop (i + 1) xs

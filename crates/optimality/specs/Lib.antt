@@ -2,14 +2,11 @@ pub mod Certificates
 pub mod Reduced
 pub mod Shows
 pub mod Laws
-pub mod Adding
-pub mod RowForms
-pub mod Holding
 pub mod Lines
 pub mod Told
 pub mod Telling
 pub mod Answers
 pub mod Branches
 pub mod Verdict
-pub mod Checking
 pub mod CertificateFaultText
+pub mod inside

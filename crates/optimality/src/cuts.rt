@@ -1,8 +1,8 @@
 //! The sides of open splits, as cuts.
 
 ghost use Rattle.std.specs.Prelude.{◌≡◌, OnOk, IfOk, length, pos, ◌+ℤ◌, ◌*ℤ◌};
-ghost use Rattle.optimality.specs.Adding.{with_cuts, with_form};
-ghost use Rattle.optimality.specs.Holding.{cut_of, cuts_of};
+ghost use Rattle.optimality.specs.inside.Adding.{with_cuts, with_form};
+ghost use Rattle.optimality.specs.inside.Holding.{cut_of, cuts_of};
 ghost use Rattle.optimality.specs.Reduced as reduced;
 
 use crate::arithmetic::{plus, signed, times};

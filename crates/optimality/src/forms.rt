@@ -1,7 +1,7 @@
 //! Multiples of forms, added place by place.
 
 ghost use Rattle.std.specs.Prelude.{◌≡◌, ◌^◌, ◌≤ℤ◌, OnOk, ◌*ℤ◌, neg_ℤ, pos, slice_set};
-ghost use Rattle.optimality.specs.Adding as adding;
+ghost use Rattle.optimality.specs.inside.Adding as adding;
 
 use crate::arithmetic::product;
 use crate::limit::Limit;

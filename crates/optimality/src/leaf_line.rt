@@ -3,8 +3,8 @@
 ghost use Rattle.std.specs.Prelude.{◌≡◌, IfOk, length};
 ghost use Rattle.std.specs.List.{list_all};
 ghost use Rattle.program_rows.specs.Lines.{fields};
-ghost use Rattle.optimality.specs.Answers.{Answers};
-ghost use Rattle.optimality.specs.Checking.{IsPrepared};
+ghost use Rattle.optimality.specs.inside.Answers.{Answers};
+ghost use Rattle.optimality.specs.inside.Checking.{IsPrepared};
 ghost use Rattle.optimality.specs.Shows as shows;
 ghost use Rattle.optimality.specs.Told.{BoundLine, bound_told, rows_told};
 

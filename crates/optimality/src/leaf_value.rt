@@ -1,11 +1,11 @@
 //! What a leaf comes to.
 
 ghost use Rattle.std.specs.Prelude.{◌≡◌, ◌-ℤ◌, ◌*ℤ◌, ◌+ℤ◌, IfOk, OnOk, length, pos};
-ghost use Rattle.optimality.specs.Adding.{leaf_numbers};
-ghost use Rattle.optimality.specs.Checking.{IsPrepared};
-ghost use Rattle.optimality.specs.Holding.{cuts_of};
+ghost use Rattle.optimality.specs.inside.Adding.{leaf_numbers};
+ghost use Rattle.optimality.specs.inside.Checking.{IsPrepared};
+ghost use Rattle.optimality.specs.inside.Holding.{cuts_of};
 ghost use Rattle.optimality.specs.Reduced as reduced;
-ghost use Rattle.optimality.specs.RowForms.{row_forms};
+ghost use Rattle.optimality.specs.inside.RowForms.{row_forms};
 ghost use Rattle.optimality.specs.Shows as shows;
 ghost use Rattle.optimality.specs.Verdict as verdict;
 

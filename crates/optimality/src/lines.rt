@@ -2,9 +2,10 @@
 
 ghost use Rattle.std.specs.Prelude.{◌≡◌, ◌==◌, not, bytes_eq, length, IfOk};
 ghost use Rattle.program_rows.specs.Lines.{fields};
-ghost use Rattle.optimality.specs.Answers.{Answers};
-ghost use Rattle.optimality.specs.Branches.{branches_of, cuts_above, opened};
-ghost use Rattle.optimality.specs.Checking.{IsPrepared};
+ghost use Rattle.optimality.specs.inside.Answers.{Answers};
+ghost use Rattle.optimality.specs.inside.Branches.{branches_of, opened};
+ghost use Rattle.optimality.specs.Branches.{cuts_above};
+ghost use Rattle.optimality.specs.inside.Checking.{IsPrepared};
 ghost use Rattle.optimality.specs.Lines as lines;
 ghost use Rattle.optimality.specs.Told.{and_then, bound_told, split_told};
 ghost use Rattle.optimality.specs.Verdict as verdict;

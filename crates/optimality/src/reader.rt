@@ -1,8 +1,9 @@
 //! One pass over the lines of a certificate.
 
 ghost use Rattle.std.specs.Prelude.{◌≡◌, ◌⊎◌, IfErr, IfOk, OnOk};
-ghost use Rattle.optimality.specs.Answers.{IsLimit, IsRefused, IsVerdict};
-ghost use Rattle.optimality.specs.Checking.{IsPrepared};
+ghost use Rattle.optimality.specs.Answers.{IsLimit, IsVerdict};
+ghost use Rattle.optimality.specs.inside.Answers.{IsRefused};
+ghost use Rattle.optimality.specs.inside.Checking.{IsPrepared};
 ghost use Rattle.optimality.specs.Laws.{IsBound};
 ghost use Rattle.optimality.specs.Telling.{IsShownBy};
 ghost use Rattle.optimality.specs.Verdict.{first_fault};

@@ -2,7 +2,7 @@
 
 ghost use Rattle.std.specs.Prelude.{◌≡◌, ◌<◌, Some, IfOk, OnOk, length, slice_get};
 ghost use Rattle.std.specs.Option.{option_map};
-ghost use Rattle.optimality.specs.Adding as adding;
+ghost use Rattle.optimality.specs.inside.Adding as adding;
 ghost use Rattle.optimality.specs.Reduced as reduced;
 
 use crate::arithmetic::{plus, product, signed};

@@ -1,8 +1,8 @@
 //! The rows of a program, each as a form over its columns.
 
 ghost use Rattle.std.specs.Prelude.{◌≡◌, [], IfOk, OnOk, replicate};
-ghost use Rattle.optimality.specs.RowForms as rows;
-ghost use Rattle.optimality.specs.RowForms.{forms_of, with_columns, with_entries, with_term};
+ghost use Rattle.optimality.specs.inside.RowForms as rows;
+ghost use Rattle.optimality.specs.inside.RowForms.{forms_of, with_columns, with_entries, with_term};
 
 use program_rows::Program;
 use std::alloc::{AllocError, Global};

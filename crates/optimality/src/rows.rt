@@ -1,9 +1,9 @@
 //! Multiples of rows: what they give the columns, and their right sides.
 
 ghost use Rattle.std.specs.Prelude.{◌≡◌, IfOk, OnOk, ◌+ℤ◌, ◌*ℤ◌};
-ghost use Rattle.optimality.specs.Adding.{form_at, with_form, with_rows};
+ghost use Rattle.optimality.specs.inside.Adding.{form_at, with_form, with_rows};
 ghost use Rattle.optimality.specs.Reduced as reduced;
-ghost use Rattle.optimality.specs.RowForms.{forms_of};
+ghost use Rattle.optimality.specs.inside.RowForms.{forms_of};
 
 use crate::arithmetic::{plus, product};
 use crate::forms::add_form;

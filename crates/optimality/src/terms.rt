@@ -2,10 +2,10 @@
 
 ghost use Rattle.std.specs.Prelude.{◌≡◌};
 ghost use Rattle.program_rows.specs.Lines.{fields};
-ghost use Rattle.optimality.specs.Answers.{Answers};
-ghost use Rattle.optimality.specs.Checking.{IsPrepared};
+ghost use Rattle.optimality.specs.inside.Answers.{Answers};
+ghost use Rattle.optimality.specs.inside.Checking.{IsPrepared};
 ghost use Rattle.optimality.specs.declared.fault.FaultKind.TheVariants.{UnknownColumn, UnknownRow};
-ghost use Rattle.optimality.specs.Holding.{bytes_of};
+ghost use Rattle.optimality.specs.inside.Holding.{bytes_of};
 ghost use Rattle.optimality.specs.Told.{column_names, place_told, row_names, term_told, terms_told};
 
 use crate::checker::Checker;

@@ -17,7 +17,7 @@ use Rattle.outcome.specs.declared.fault.ValueFault.{ValueFault}
 use Rattle.outcome.specs.declared.fault.SolutionFault.{SolutionFault}
 use Rattle.outcome.specs.declared.fault.SolutionFault.TheVariants as fault
 use Rattle.outcome.specs.Solution.{is_skipped, value_in, names, is_one, values_of, value_fault, pair_fault, told}
-use Rattle.outcome.specs.Reading.{bytes_of, said_of, said_by}
+use Rattle.outcome.specs.inside.Reading.{bytes_of, said_of, said_by}
 
 -- ---- one more line
 

@@ -3,7 +3,7 @@
 ghost use Rattle.std.specs.Prelude.{◌≡◌, ◌<◌, IfOk, IfSome, bytes_eq, length, position};
 ghost use Rattle.std.specs.List.{IsDistinct};
 ghost use Rattle.outcome.specs.Solution.{column_names};
-ghost use Rattle.outcome.specs.Reading.{bytes_of};
+ghost use Rattle.outcome.specs.inside.Reading.{bytes_of};
 
 use indexmap::IndexSet;
 use program_rows::{NameSet, Program, Seeded, place_of};

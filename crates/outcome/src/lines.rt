@@ -7,7 +7,7 @@ ghost use Rattle.auction_terms.specs.Lines.{lines_of};
 ghost use Rattle.program_rows.specs.Lines.{fields};
 ghost use Rattle.outcome.specs.declared.limits.TheConstants.{SOLUTION_LIMIT};
 ghost use Rattle.outcome.specs.Solution.{told, pair_fault, line_fault, is_skipped};
-ghost use Rattle.outcome.specs.Reading.{bytes_of, said_by};
+ghost use Rattle.outcome.specs.inside.Reading.{bytes_of, said_by};
 
 use crate::columns::ColumnFinder;
 use crate::fault::SolutionFault;

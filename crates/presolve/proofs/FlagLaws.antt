@@ -15,7 +15,8 @@ use Rattle.auction_terms.proofs.PackageLaws.{fits_smaller, within_at, size_le, s
 use Rattle.auction_terms.proofs.WeighedLaws.{le_test}
 use Rattle.presolve.proofs.MaskLaws.{mask_within, over_within}
 use Rattle.presolve.specs.declared.order.SizedBid.{SizedBid}
-use Rattle.presolve.specs.Sizes.{IsUpTo, Sized, sized_of, fitting_from, IsOrdered, IsAlike, AreRivals, TellsItsBid, TellsItsNet, beats}
+use Rattle.presolve.specs.Sizes.{IsUpTo}
+use Rattle.presolve.specs.inside.Sizes.{Sized, sized_of, fitting_from, IsOrdered, IsAlike, AreRivals, TellsItsBid, TellsItsNet, beats}
 
 -- behind a bid that isn't smaller there is none that is smaller
 none_below : (n : ℕ) (r : SizedBid) (rivals : List SizedBid) → n ≤ r.size → ((k : ℕ) (d : SizedBid) → k < length rivals → r.size ≤ (slice_index_or rivals k d).size) → AllByRecursion (λ (s : SizedBid). n ≤ s.size) rivals

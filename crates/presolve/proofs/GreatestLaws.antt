@@ -13,8 +13,8 @@ use Rattle.std.proofs.lemmas.List.Elements.{All-drop}
 use Rattle.std.proofs.lemmas.List.Quantifiers.{all_pairs_push}
 use Rattle.rayon.proofs.ListFacts.{AllZip-append}
 use Rattle.presolve.specs.declared.order.SizedBid.{SizedBid}
-use Rattle.presolve.specs.Sizes.{AreRivals, TellsItsBid, beats}
-use Rattle.presolve.specs.Shelves.{AreGreatest}
+use Rattle.presolve.specs.inside.Sizes.{AreRivals, TellsItsBid, beats}
+use Rattle.presolve.specs.inside.Shelves.{AreGreatest}
 use Rattle.presolve.proofs.FlagLaws.{none_above}
 
 -- a bid more, with a net that none so far is above

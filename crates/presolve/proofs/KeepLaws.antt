@@ -23,7 +23,8 @@ use Rattle.auction_terms.specs.Limits.{AreOffers, IsBefore, IsBook}
 use Rattle.auction_terms.specs.Offers.{offers, offer_of}
 use Rattle.auction_terms.proofs.LimitLaws.{kept_are_offers}
 use Rattle.bid_desk.specs.Closing.{Closing, book_of, bids_in, form_standing}
-use Rattle.presolve.specs.Flags.{flags_of, flags_of_bidders, flags_of_form, flagged_from, kept_in_form}
+use Rattle.presolve.specs.Flags.{flags_of, flags_of_form, flagged_from, kept_in_form}
+use Rattle.presolve.specs.inside.Flags.{flags_of_bidders}
 
 -- a book has a form for each bidder of its rules
 pub length_book : (c : Closing) (t : Terms) (bidders : List Bidder) → bidders ≡ t.bidders → t ≡ c.rules → length bidders ≡ length (book_of c)

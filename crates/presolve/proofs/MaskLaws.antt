@@ -9,7 +9,7 @@ use Rattle.std.proofs.Math.Pow.{pow_mono}
 use Rattle.std.proofs.lemmas.Nat.{and_block, and_le_l}
 use Rattle.std.proofs.lemmas.Nat.Bits.{bit_at-suc, bit_at-trailing_zeros, bit_at_above, bit_at_and, bit_at_lowest}
 use Rattle.auction_terms.specs.Packages.{is_within}
-use Rattle.presolve.specs.Masks.{mask_of, mask_over}
+use Rattle.presolve.specs.inside.Masks.{mask_of, mask_over}
 
 one_bit : (b : Bool) → cond b 0 1 ≤ 1
 one_bit true = omega arith

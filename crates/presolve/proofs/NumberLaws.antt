@@ -11,7 +11,7 @@ use Rattle.std.proofs.Math.ListN.{drop_of_length-le}
 use Rattle.auction_terms.specs.declared.bids.Bid.{Bid}
 use Rattle.auction_terms.specs.Packages.{Lots, fits, size}
 use Rattle.presolve.specs.declared.order.SizedBid.{SizedBid}
-use Rattle.presolve.specs.Sizes.{Sized, sized_of, fitting_from, IsOrdered}
+use Rattle.presolve.specs.inside.Sizes.{Sized, sized_of, fitting_from, IsOrdered}
 
 -- a bid with the number k that passes the test
 abbrev pub passes : (Bid → Bool) → ℕ → SizedBid → Bool

@@ -18,9 +18,9 @@ use Rattle.std.proofs.Math.Pow.{pow_mono}
 use Rattle.std.proofs.Math.Seq.{get_or-append_seam}
 use Rattle.presolve.specs.declared.order.SizedBid.{SizedBid}
 use Rattle.presolve.specs.declared.shelves.Shelf.{Shelf}
-use Rattle.presolve.specs.Masks.{mask_of}
-use Rattle.presolve.specs.Sizes.{AreRivals, TellsItsBid, beats}
-use Rattle.presolve.specs.Shelves.{AreGreatest, IsShelf, AreShelves, IsStocked, AreStocked, bare_places}
+use Rattle.presolve.specs.inside.Masks.{mask_of}
+use Rattle.presolve.specs.inside.Sizes.{AreRivals, TellsItsBid, beats}
+use Rattle.presolve.specs.inside.Shelves.{AreGreatest, IsShelf, AreShelves, IsStocked, AreStocked, bare_places}
 use Rattle.presolve.proofs.FlagLaws.{none_over_peak}
 use Rattle.presolve.proofs.GreatestLaws.{below_last, greatest_more}
 use Rattle.presolve.proofs.MaskLaws.{first_bit, next_bit, none_at}

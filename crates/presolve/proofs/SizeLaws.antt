@@ -14,7 +14,8 @@ use Rattle.std.proofs.lemmas.Bool.Decides.{nat_tests}
 use Rattle.auction_terms.specs.declared.bids.Bid.{Bid}
 use Rattle.auction_terms.specs.Packages.{Lots, fits, size}
 use Rattle.presolve.specs.declared.order.SizedBid.{SizedBid}
-use Rattle.presolve.specs.Sizes.{IsUpTo, IsBySize, Sized, sized_of, fitting_from, IsOrdered, is_fitting, size_at}
+use Rattle.presolve.specs.Sizes.{IsUpTo, IsBySize, is_fitting, size_at}
+use Rattle.presolve.specs.inside.Sizes.{Sized, sized_of, fitting_from, IsOrdered}
 
 -- what the order of pairs of a size and a number says
 pub up_to : (a m b n : ℕ) → is_lt (ordering_then (nat_cmp b a) (nat_cmp n m)) ≡ false → IsUpTo a m b n

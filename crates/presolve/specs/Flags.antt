@@ -3,7 +3,7 @@ use Rattle.std.specs.Prelude.{◌+◌, ℕ, Bool, if◌then◌else◌, List, [],
 use Rattle.auction_terms.specs.declared.bids.Bid.{Bid}
 use Rattle.auction_terms.specs.Packages.{Lots}
 use Rattle.auction_terms.specs.Domination.{is_kept}
-use Rattle.auction_terms.specs.Allocations.{Book, form_of}
+use Rattle.auction_terms.specs.Allocations.{Book}
 use Rattle.auction_terms.specs.Keeping.{Offer}
 
 -- whether each bid of a form is kept
@@ -13,10 +13,6 @@ flags_of_form lots form = map (is_kept lots form) form
 -- whether each bid of each form is kept
 abbrev pub flags_of : Lots → Book → List (List Bool)
 flags_of lots book = map (flags_of_form lots) book
-
--- whether each bid of the forms of these bidders is kept
-abbrev pub flags_of_bidders : Lots → Book → List ℕ → List (List Bool)
-flags_of_bidders lots book bidders = map (λ bidder. flags_of_form lots (form_of book bidder)) bidders
 
 -- the bids of bidder b whose flag is set, numbered from j on
 abbrev pub flagged_from : ℕ → ℕ → List Bid → List Bool → List Offer

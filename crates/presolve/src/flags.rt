@@ -88,7 +88,8 @@ ghost use Rattle.std.specs.List.{range_with_len};
 ghost use Rattle.auction_terms.specs.Allocations.{form_of};
 ghost use Rattle.auction_terms.specs.Terms.{lots_in};
 ghost use Rattle.bid_desk.specs.Closing.{book_of};
-ghost use Rattle.presolve.specs.Flags.{flags_of, flags_of_bidders, flags_of_form};
+ghost use Rattle.presolve.specs.Flags.{flags_of, flags_of_form};
+ghost use Rattle.presolve.specs.inside.Flags.{flags_of_bidders};
 
 // The flags of every form, by rising bidder. Both halves of the bidders are flagged side by side, each by as many threads
 // as `rayon` takes: with fewer, longer pieces more processors would be without work at the end.

@@ -7,8 +7,8 @@ ghost use Rattle.auction_terms.specs.Packages.{is_within};
 ghost use Rattle.auction_terms.specs.Terms.{lots_in};
 ghost use Rattle.auction_terms.specs.declared.limits.TheConstants.{MOST_BIDS};
 ghost use Rattle.bid_forms.specs.Offers.{IsWithinLimits};
-ghost use Rattle.presolve.specs.Shelves.{AreAlike, AreGreatest, AreStocked, bare_places, is_beaten_on};
-ghost use Rattle.presolve.specs.Sizes.{AreRivals, IsAlike, TellsItsBid, beats};
+ghost use Rattle.presolve.specs.inside.Shelves.{AreAlike, AreGreatest, AreStocked, bare_places, is_beaten_on};
+ghost use Rattle.presolve.specs.inside.Sizes.{AreRivals, IsAlike, TellsItsBid, beats};
 
 use crate::order::{SizedBid, ordered};
 use crate::shelves::{Shelf, bare_places, shelves};

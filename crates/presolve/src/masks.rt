@@ -2,7 +2,7 @@
 
 ghost use Rattle.std.specs.Prelude.{◌≡◌, ◌≤◌, length};
 ghost use Rattle.auction_terms.specs.declared.limits.TheConstants.{MOST_CATEGORIES};
-ghost use Rattle.presolve.specs.Masks.{mask_of, mask_over};
+ghost use Rattle.presolve.specs.inside.Masks.{mask_of, mask_over};
 
 // The categories of which there are some.
 pub(crate) fn mask_of(quantities: &[u16]) -> u32

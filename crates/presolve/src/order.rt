@@ -3,7 +3,8 @@
 ghost use Rattle.std.specs.Prelude.{◌≡◌, ◌≤◌, ◌<◌, All, length, map, slice_index, IfOk};
 ghost use Rattle.auction_terms.specs.Packages.{size};
 ghost use Rattle.auction_terms.specs.Terms.{lots_in};
-ghost use Rattle.presolve.specs.Sizes.{fitting_from, sized_of, IsBySize, IsOrdered, IsOver, TellsItsBid, TellsItsNet};
+ghost use Rattle.presolve.specs.inside.Sizes.{fitting_from, sized_of, IsOrdered, IsOver, TellsItsBid, TellsItsNet};
+ghost use Rattle.presolve.specs.Sizes.{IsBySize};
 ghost use Rattle.auction_terms.specs.declared.limits.TheConstants.{GREATEST_AMOUNT, MOST_BIDS, MOST_CATEGORIES};
 ghost use Rattle.bid_forms.specs.Offers.{IsWithinLimits};
 

@@ -2,7 +2,7 @@
 
 ghost use Rattle.std.specs.Prelude.{◌≡◌, ◌≤◌, List, [], ◌∷◌, ◌++◌, length, IfOk};
 ghost use Rattle.auction_terms.specs.declared.limits.TheConstants.{MOST_CATEGORIES};
-ghost use Rattle.presolve.specs.Shelves.{AreShelves, IsShelf, bare_places};
+ghost use Rattle.presolve.specs.inside.Shelves.{AreShelves, IsShelf, bare_places};
 
 use crate::order::SizedBid;
 use std::alloc::{AllocError, Global};

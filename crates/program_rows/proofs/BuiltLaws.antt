@@ -20,7 +20,7 @@ use Rattle.program_rows.specs.Parts.{IsProgram}
 use Rattle.program_rows.specs.Legal.{IsLegal}
 use Rattle.program_rows.specs.Program.{Table, TableRow, TableColumn}
 use Rattle.program_rows.specs.Rows.{bidder_subjects, lot_subjects, subjects, weight, row_of, entries_from, column_of, worth_column, program_of}
-use Rattle.program_rows.specs.Building.{IsThere, built_column}
+use Rattle.program_rows.specs.inside.Building.{IsThere, built_column}
 use Rattle.program_rows.proofs.LegalLaws.{Rises, all_dedup, bidders_few, bidders_never_fall, dedup_rises}
 
 abbrev bidders : List Offer → List ℕ

@@ -13,7 +13,7 @@ use Rattle.program_rows.specs.declared.bounds.Bounds.TheVariants.{ZeroOrOne, Zer
 use Rattle.program_rows.specs.Program.{TableRow, TableColumn}
 use Rattle.program_rows.specs.Points.{coefficient_at}
 use Rattle.program_rows.specs.Same.{row_named, coefficient_in}
-use Rattle.program_rows.specs.Comparing.{same_kind, same_bounds, name_at}
+use Rattle.program_rows.specs.inside.Comparing.{same_kind, same_bounds, name_at}
 
 -- ---------- tests ----------
 

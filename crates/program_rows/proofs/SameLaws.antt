@@ -14,7 +14,7 @@ use Rattle.program_rows.specs.Program.{Table, TableRow, TableColumn}
 use Rattle.program_rows.specs.Parts.{IsProgram, AreEntries}
 use Rattle.program_rows.specs.Points.{coefficient_at}
 use Rattle.program_rows.specs.Same.{row_named, column_named, coefficient_in, coefficient, terms_of, IsSameProgram}
-use Rattle.program_rows.specs.Comparing.{same_kind, same_bounds, row_agrees, row_stands, name_at, entry_stands, column_agrees, column_stands, stands_in, is_same}
+use Rattle.program_rows.specs.inside.Comparing.{same_kind, same_bounds, row_agrees, row_stands, name_at, entry_stands, column_agrees, column_stands, stands_in, is_same}
 use Rattle.program_rows.proofs.LookupLaws.{guessed}
 use Rattle.program_rows.proofs.NamedItems.{Place, all_pass, all_true, bounds_equal, bounds_itself, found_in, found_passes, in_no_row, in_row, is_row, kind_itself, kinds_equal, name_there, own, place_by, rows_equal, same_some, stands}
 

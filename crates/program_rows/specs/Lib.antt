@@ -8,14 +8,10 @@ pub mod Meaning
 pub mod Spelling
 pub mod Points
 pub mod Same
-pub mod Comparing
 pub mod Named
 pub mod Rows
 pub mod Faithful
 pub mod Legal
-pub mod Cut
-pub mod Pieces
-pub mod Joined
 pub mod Bounded
-pub mod Building
 pub mod Seeds
+pub mod inside

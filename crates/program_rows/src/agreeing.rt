@@ -1,7 +1,7 @@
 // Rows and columns of one program in another.
 ghost use Rattle.std.specs.Prelude.{◌≡◌, ◌<◌, Some, bytes_eq, length, map, slice_get};
 ghost use Rattle.std.specs.List.{IsDistinct, list_all};
-ghost use Rattle.program_rows.specs.Comparing as comparing;
+ghost use Rattle.program_rows.specs.inside.Comparing as comparing;
 ghost use Rattle.program_rows.specs.Parts.{shown_column, shown_row};
 ghost use Rattle.program_rows.specs.Same as same;
 

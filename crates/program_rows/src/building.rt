@@ -5,7 +5,7 @@ ghost use Rattle.auction_terms.specs.Bids.{AreKept};
 ghost use Rattle.auction_terms.specs.Domination.{net};
 ghost use Rattle.auction_terms.specs.Offers.{offer_of, offers};
 ghost use Rattle.auction_terms.specs.Terms.{lots_in};
-ghost use Rattle.program_rows.specs.Building.{IsThere, built_column};
+ghost use Rattle.program_rows.specs.inside.Building.{IsThere, built_column};
 ghost use Rattle.program_rows.specs.Parts.{shown_row};
 ghost use Rattle.program_rows.specs.Rows.{bidder_subjects, column_of, program_of, row_of, subjects as subjects_of, weight, worth_column};
 

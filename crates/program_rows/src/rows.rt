@@ -5,7 +5,7 @@ ghost use Rattle.auction_terms.specs.Bids.{AreKept};
 ghost use Rattle.auction_terms.specs.Offers.{offers};
 ghost use Rattle.auction_terms.specs.Terms.{lots_in};
 ghost use Rattle.program_rows.specs.declared.subject.Subject.TheVariants.{Bidder, Category, Pool};
-ghost use Rattle.program_rows.specs.Building.{IsThere};
+ghost use Rattle.program_rows.specs.inside.Building.{IsThere};
 ghost use Rattle.program_rows.specs.Parts.{shown_row};
 ghost use Rattle.program_rows.specs.Rows.{bidder_subjects, row_of};
 

@@ -1,7 +1,7 @@
 // Whether two programs are equal as maps.
 ghost use Rattle.std.specs.Prelude.{◌≡◌, IsTrue, ◌↔◌, bytes_eq, map};
 ghost use Rattle.std.specs.List.{IsDistinct, list_all};
-ghost use Rattle.program_rows.specs.Comparing as comparing;
+ghost use Rattle.program_rows.specs.inside.Comparing as comparing;
 ghost use Rattle.program_rows.specs.Parts.{IsProgram, shown_row, table_of};
 ghost use Rattle.program_rows.specs.Same.{IsSameProgram};
 

@@ -21,7 +21,7 @@ impl Subject {
     ghost use Rattle.auction_terms.specs.declared.limits.TheConstants.{GREATEST_AMOUNT};
     ghost use Rattle.auction_terms.specs.Offers.{offer_of};
     ghost use Rattle.auction_terms.specs.Terms.{lots_in};
-    ghost use Rattle.program_rows.specs.Building.{IsThere};
+    ghost use Rattle.program_rows.specs.inside.Building.{IsThere};
     ghost use Rattle.program_rows.specs.Parts.{shown_row};
     ghost use Rattle.program_rows.specs.Rows.{most, row_of, subject_name, weight};
 

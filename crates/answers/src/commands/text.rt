@@ -2,7 +2,7 @@
 
 ghost use Rattle.std.specs.Prelude.{[], IfErr, OnOk};
 ghost use Rattle.answers.specs.Exact.{Ends, IsUnwritten, IsWritten, Writes};
-ghost use Rattle.answers.specs.GroupTexts.{IsFaithfulWithout};
+ghost use Rattle.answers.specs.inside.GroupTexts.{IsFaithfulWithout};
 ghost use Rattle.answers.specs.commands.Text.{text_of_all};
 ghost use Rattle.auction_input.specs.Settled.{held};
 ghost use Rattle.auction_input.specs.Sold.{HasSold};

@@ -1,5 +1,5 @@
 use Rattle.std.proofs.Common.{◌≡◌, ◌++◌, drop, map}
-use Rattle.answers.specs.Judging.{bounds_by, claimed}
+use Rattle.answers.specs.inside.Judging.{bounds_by, claimed}
 use Rattle.auction_input.specs.Parts.{bytes_of}
 use Rattle.answers.proofs.certified.bounds_of.Given as goal
 

@@ -2,7 +2,7 @@ use Rattle.std.proofs.Common.{◌≡◌, ◌≢◌, ◌∙◌, List, ap, inl, le
 use Rattle.auction_terms.specs.declared.choices.Choice.{Choice}
 use Rattle.answers.specs.Certified.{bounds_of}
 use Rattle.auction_input.specs.Settled.{held}
-use Rattle.answers.specs.Judging.{bounds_by, claimed}
+use Rattle.answers.specs.inside.Judging.{bounds_by, claimed}
 use Rattle.auction_input.specs.Parts.{bytes_of}
 use Rattle.answers.specs.declared.certified.ClaimedBound as code
 use Rattle.answers.proofs.CertifiedFacts.{are-certified-by, are-refused-by, bounds-are, certificates-miscounted}

@@ -1,7 +1,7 @@
 use Rattle.std.proofs.Common.{List, Result, inl, inr, map, refl, subst, sym}
 use Rattle.std.specs.List.{AllZip}
 use Rattle.optimality.specs.declared.fault.CertificateFault.{CertificateFault}
-use Rattle.answers.specs.Judging.{IsJudged, claimed}
+use Rattle.answers.specs.inside.Judging.{IsJudged, claimed}
 use Rattle.auction_input.specs.declared.refusal.Refusal.TheVariants as refusal
 use Rattle.answers.proofs.CertifiedFacts.{EndsChecks, all-checked, checks-ended}
 use Rattle.auction_input.proofs.RefusalFacts.{if-err-of}

@@ -2,7 +2,7 @@ use Rattle.std.proofs.Common.{ap, ◌∙◌, sym, subst}
 use Rattle.std.specs.List.{AllZip}
 use Rattle.rayon.proofs.ListFacts.{IfOk-then}
 use Rattle.rayon.proofs.ToStd.{slice-AllZip}
-use Rattle.answers.specs.Judging.{IsJudged}
+use Rattle.answers.specs.inside.Judging.{IsJudged}
 use Rattle.answers.proofs.certified.verdicts_of.Goals as goal
 
 pub returns : goal.returns

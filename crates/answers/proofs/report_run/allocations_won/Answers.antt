@@ -5,7 +5,7 @@ use Rattle.auction_terms.specs.declared.choices.Choice.{Choice}
 use Rattle.group_compiler.specs.Compiled.{GroupProgram}
 use Rattle.auction_input.specs.Refused.{Refuses}
 use Rattle.auction_input.specs.Parts.{bytes_of}
-use Rattle.answers.specs.Winners.{winners_by_each, winners_with}
+use Rattle.answers.specs.inside.Winners.{winners_by_each, winners_with}
 use Rattle.auction_input.proofs.RefusalFacts.{if-err-of}
 use Rattle.auction_input.proofs.StageFacts.{IsLeft, left-more, left-refused}
 use Rattle.answers.proofs.report_run.allocations_won.Goals as goal

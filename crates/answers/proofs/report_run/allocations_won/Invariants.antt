@@ -1,7 +1,7 @@
 use Rattle.std.proofs.Common.{◌≡◌, ◌+◌, drop, length}
 use Rattle.std.specs.List.{zip}
 use Rattle.auction_input.specs.Parts.{bytes_of}
-use Rattle.answers.specs.Winners.{winners_with}
+use Rattle.answers.specs.inside.Winners.{winners_with}
 use Rattle.auction_input.proofs.StageFacts.{IsLeft}
 use Rattle.answers.proofs.report_run.allocations_won.Given as goal
 

@@ -7,7 +7,8 @@ use Rattle.outcome.specs.Sale.{sale_of}
 use Rattle.auction_input.specs.Refused.{Refuses}
 use Rattle.auction_input.specs.Parts.{bytes_of}
 use Rattle.auction_input.specs.Stages.{each_in_turn}
-use Rattle.answers.specs.Winners.{winners, winners_by_each}
+use Rattle.answers.specs.Winners.{winners}
+use Rattle.answers.specs.inside.Winners.{winners_by_each}
 use Rattle.auction_input.specs.declared.refusal.Refusal.TheVariants as refusal
 use Rattle.auction_input.proofs.RefusalFacts.{if-err-of}
 use Rattle.answers.proofs.ReportFacts.{each-compiled, winners-compiled}

@@ -1,5 +1,6 @@
 use Rattle.std.proofs.Common.{◌≡◌, take}
-use Rattle.auction_input.specs.Submissions.{AreAccepted, form_values}
+use Rattle.auction_input.specs.Submissions.{AreAccepted}
+use Rattle.auction_input.specs.inside.Submissions.{form_values}
 use Rattle.auction_input.proofs.job.submit_each.Given as goal
 
 abbrev pub invariant-loop-place : goal.invariant-loop-place

@@ -1,7 +1,8 @@
 use Rattle.std.proofs.Common.{◌≡◌, ◌∷◌, [], ◌++◌, ◌∙◌, sym, ap, arith, refl, length-append}
 use Rattle.std.specs.Prelude.{None, Some}
 use Rattle.auction_terms.proofs.FirstFaultFacts.{checked-all, checked-fault, checked-more}
-use Rattle.auction_input.specs.Parts.{added, bytes_before, cut_lines, kind_named, name_of, part, part_fault, parts_in, split}
+use Rattle.auction_input.specs.inside.Parts.{added}
+use Rattle.auction_input.specs.Parts.{bytes_before, cut_lines, kind_named, name_of, part, part_fault, parts_in, split}
 use Rattle.auction_input.proofs.PartFacts.{fault-of-parts, known-part, none-left, split-more, starts-here, unknown-part}
 use Rattle.auction_input.proofs.parts.split_parts.Goals as goal
 

@@ -2,7 +2,7 @@ use Rattle.std.proofs.Common.{ap, ◌∙◌, sym, subst}
 use Rattle.std.specs.List.{AllZip}
 use Rattle.rayon.proofs.ListFacts.{IfOk-then}
 use Rattle.rayon.proofs.ToStd.{slice-AllZip}
-use Rattle.auction_input.specs.InputTexts.{IsAnswer}
+use Rattle.auction_input.specs.inside.InputTexts.{IsAnswer}
 use Rattle.auction_input.proofs.reading.read_half.Goals as goal
 
 pub returns : goal.returns

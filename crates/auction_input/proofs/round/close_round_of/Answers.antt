@@ -3,7 +3,7 @@ use Rattle.std.specs.Prelude.{All}
 use Rattle.std.proofs.lemmas.List.Elements.{All-same}
 use Rattle.auction_terms.specs.Terms.{AreTerms}
 use Rattle.bid_desk.specs.Holding.{SessionOwn}
-use Rattle.auction_input.specs.Submissions.{AreByBidder, HasSubmitted}
+use Rattle.auction_input.specs.inside.Submissions.{AreByBidder, HasSubmitted}
 use Rattle.auction_input.specs.declared.job.Done.{Done}
 use Rattle.auction_input.proofs.StandingFacts.{round-submitted}
 use Rattle.auction_input.proofs.SubmissionFacts.{all-fresh, all-submitted, own-forms}

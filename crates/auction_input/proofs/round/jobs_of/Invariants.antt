@@ -1,6 +1,6 @@
 use Rattle.std.proofs.Common.{◌≡◌, [], All}
 use Rattle.bid_desk.specs.Holding.{SessionOwn}
-use Rattle.auction_input.specs.Submissions.{IsFirstJob, IsIdle}
+use Rattle.auction_input.specs.inside.Submissions.{IsFirstJob, IsIdle}
 use Rattle.auction_input.proofs.round.jobs_of.Given as goal
 
 abbrev pub invariant-loop-session : goal.invariant-loop-session

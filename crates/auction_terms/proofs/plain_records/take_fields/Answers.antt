@@ -2,7 +2,7 @@ use Rattle.std.proofs.Common.{◌≡◌, ◌+◌, ◌++◌, ◌∷◌, [], ◌�
 use Rattle.std.proofs.lemmas.List.Elements.{All-drop}
 use Rattle.csv.specs.Records.{fields_of}
 use Rattle.csv.specs.declared.parser.State.TheVariants as st
-use Rattle.auction_terms.specs.PlainRecords.{quote}
+use Rattle.auction_terms.specs.inside.PlainRecords.{quote}
 use Rattle.auction_terms.proofs.PlainFacts.{last_field, next_field, record_ends, taken_behind}
 use Rattle.auction_terms.proofs.plain_records.take_fields.Goals as goal
 

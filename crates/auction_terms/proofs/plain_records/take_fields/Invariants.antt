@@ -3,7 +3,7 @@ use Rattle.csv.specs.Machine.{next_record}
 use Rattle.csv.specs.Reading.{default_config}
 use Rattle.csv.specs.Records.{fields_of, partial_of}
 use Rattle.csv.specs.declared.parser.State.TheVariants as st
-use Rattle.auction_terms.specs.PlainRecords.{HasNoQuote}
+use Rattle.auction_terms.specs.inside.PlainRecords.{HasNoQuote}
 use Rattle.auction_terms.proofs.plain_records.take_fields.Given as goal
 
 -- with the fields so far, what is left reads as the whole does

@@ -4,7 +4,7 @@ use Rattle.bid_book.specs.declared.reply.Reply.TheVariants.{Accepted, Withdrawn,
 use Rattle.std.specs.Prelude.{length, Some}
 use Rattle.bid_book.proofs.HistoryLemmas.{changes_fit, change_answer-is}
 use Rattle.bid_book.specs.History.{entries_beside, changes, answer_to_change, standing_of, is_closed}
-use Rattle.bid_book.specs.Records.{change_answer, history_of}
+use Rattle.bid_book.specs.inside.Records.{change_answer, history_of}
 use Rattle.bid_book.proofs.records.reply_to.Goals as goal
 
 pub overflow_add-number : goal.overflow_add-number

@@ -2,7 +2,7 @@ use Rattle.std.proofs.Common.{◌≡◌, [], ◌∷◌, ◌++◌, arith, ap, sym
 use Rattle.std.specs.Prelude.{length}
 use Rattle.bid_book.specs.declared.caller.Caller.TheVariants.{Session, Chair}
 use Rattle.bid_book.specs.History.{call_limit, entries_beside, call_value}
-use Rattle.bid_book.specs.Records.{history_of}
+use Rattle.bid_book.specs.inside.Records.{history_of}
 use Rattle.bid_book.proofs.HistoryLemmas.{answer-limit, after-limit, answer-below, after-below, answer-below_recorded, right_below}
 use Rattle.bid_book.proofs.step.step_session.Goals as goal
 

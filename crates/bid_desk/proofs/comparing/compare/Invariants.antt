@@ -1,6 +1,6 @@
 use Rattle.std.specs.Prelude.{map, take}
 use Rattle.bid_book.specs.History.{entry_value}
-use Rattle.bid_desk.specs.Comparing.{AreCompared}
+use Rattle.bid_desk.specs.inside.Comparing.{AreCompared}
 use Rattle.bid_desk.proofs.comparing.compare.Given as goal
 
 abbrev pub invariant-loop-place : goal.invariant-loop-place

@@ -12,10 +12,10 @@ use Rattle.bid_book.specs.declared.entry.Entry.{Entry}
 use Rattle.bid_book.specs.declared.reply.Reply.{Reply}
 use Rattle.bid_book.specs.History.{call_value, entry_value, own_pairs, reply_value}
 use Rattle.bid_desk.specs.declared.comparing.Comparison.{Comparison}
-use Rattle.bid_desk.specs.Comparing.{IsCompared, IsWithin}
+use Rattle.bid_desk.specs.inside.Comparing.{IsCompared, IsWithin}
 use Rattle.bid_desk.specs.Holding.{IsEntryOf, caller_of, pair_value}
 use Rattle.bid_desk.specs.Sessions.{IsSessionOf}
-use Rattle.bid_desk.specs.Slots.{empty_slot, slot_at, slot_of}
+use Rattle.bid_desk.specs.inside.Slots.{empty_slot, slot_at, slot_of}
 use Rattle.bid_desk.proofs.CompareLemmas.{compared-chair, compared-session, compared-within, entry-known, slot-leads, slot-small}
 use Rattle.bid_desk.proofs.comparing.compare_entry.Goals as goal
 

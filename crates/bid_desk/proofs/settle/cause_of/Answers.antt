@@ -7,7 +7,7 @@ use Rattle.bid_book.specs.History.{entry_value, own_pairs}
 use Rattle.bid_desk.specs.declared.slots.Slot.{Slot}
 use Rattle.bid_desk.specs.Sessions.{IsSessionOf}
 use Rattle.bid_desk.specs.Settlement.{AgreeAll, IsFirstOfAll}
-use Rattle.bid_desk.specs.Slots.{AllOnce, AreSlots, IsFirstWrong}
+use Rattle.bid_desk.specs.inside.Slots.{AllOnce, AreSlots, IsFirstWrong}
 use Rattle.bid_desk.proofs.SettleLemmas.{callers_from_entries, own_from_agrees}
 use Rattle.bid_desk.proofs.SlotLemmas.{first-missing, stand-once}
 use Rattle.bid_desk.proofs.settle.cause_of.Goals as goal

@@ -8,11 +8,11 @@ use Rattle.bid_book.specs.declared.caller.Caller.TheVariants.{Session, Chair}
 use Rattle.bid_book.specs.declared.reply.Reply.{Reply}
 use Rattle.bid_book.specs.History.{entry_value, own_pairs}
 use Rattle.bid_desk.specs.declared.comparing.Comparison.{Comparison}
-use Rattle.bid_desk.specs.Comparing.{IsCompared}
+use Rattle.bid_desk.specs.inside.Comparing.{IsCompared}
 use Rattle.bid_desk.specs.Holding.{caller_of}
 use Rattle.bid_desk.specs.Sessions.{IsSessionOf}
 use Rattle.bid_desk.specs.Settlement.{AgreesAt, IsFirstDifference}
-use Rattle.bid_desk.specs.Slots.{empty_slot, slot_at, slot_of}
+use Rattle.bid_desk.specs.inside.Slots.{empty_slot, slot_at, slot_of}
 use Rattle.bid_desk.proofs.CompareLemmas.{session-agrees, session-differs, slot-leads}
 use Rattle.bid_desk.proofs.SlotLemmas.{slot-before, slot-same, slot-within}
 use Rattle.bid_desk.proofs.settle.differing.Goals.{in-Some+in_default-difference, in_default}

@@ -2,7 +2,7 @@ use Rattle.std.specs.Prelude.{ℕ, ◌<◌, map}
 use Rattle.bid_book.specs.History.{entry_value}
 use Rattle.bid_desk.specs.Sessions.{IsSessionOf}
 use Rattle.bid_desk.specs.Settlement.{AgreesAt}
-use Rattle.bid_desk.specs.Slots.{slot_of}
+use Rattle.bid_desk.specs.inside.Slots.{slot_of}
 use Rattle.bid_desk.proofs.settle.differing.Given as goal
 
 abbrev pub invariant-loop-slot : goal.invariant-loop-slot

@@ -1,6 +1,6 @@
 use Rattle.std.specs.Prelude.{ℕ, ◌≡◌, ◌<◌}
 use Rattle.bid_desk.specs.Sessions.{IsSessionOf}
-use Rattle.bid_desk.specs.Slots.{slot_at, slot_of}
+use Rattle.bid_desk.specs.inside.Slots.{slot_at, slot_of}
 use Rattle.bid_desk.proofs.slots.missing.Given as goal
 
 abbrev pub invariant-loop-place : goal.invariant-loop-place

@@ -8,7 +8,7 @@ use Rattle.auction_terms.specs.declared.limits.TheConstants.{MOST_SESSIONS}
 use Rattle.bid_desk.specs.declared.slots.Slot.{Slot}
 use Rattle.bid_desk.specs.Holding.{SessionOwn}
 use Rattle.bid_desk.specs.Settlement.{is_named, times}
-use Rattle.bid_desk.specs.Slots.{AreSlots, empty_slot, slot_at, slot_of}
+use Rattle.bid_desk.specs.inside.Slots.{AreSlots, empty_slot, slot_at, slot_of}
 use Rattle.bid_desk.proofs.SlotLemmas.{slot-within, slots-empty, slots-more}
 use Rattle.bid_desk.proofs.slots.slots_of.Goals as goal
 

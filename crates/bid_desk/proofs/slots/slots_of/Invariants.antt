@@ -1,4 +1,4 @@
-use Rattle.bid_desk.specs.Slots.{AreSlots}
+use Rattle.bid_desk.specs.inside.Slots.{AreSlots}
 use Rattle.bid_desk.proofs.slots.slots_of.Given as goal
 
 abbrev pub invariant-loop-place : goal.invariant-loop-place

@@ -1,6 +1,6 @@
 use Rattle.std.proofs.Common.{◌≡◌, drop}
 use Rattle.std.specs.Prelude.{◌+◌, ◌*◌, ◌%◌, ◌^◌, fold}
-use Rattle.bid_forms.specs.Fingerprints.{fingerprint}
+use Rattle.bid_forms.specs.inside.Fingerprints.{fingerprint}
 use Rattle.bid_forms.proofs.seen.fingerprint.Given as goal
 
 abbrev pub invariant-loop-quantity : goal.invariant-loop-quantity

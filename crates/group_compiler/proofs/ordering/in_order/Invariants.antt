@@ -2,7 +2,7 @@ use Rattle.std.proofs.Common.{◌≡◌, ◌⊎◌, ℕ, ◌<◌, ◌≤◌, map
 use Rattle.std.specs.Prelude.{All, Contains}
 use Rattle.std.specs.List.{range_with_len}
 use Rattle.program_rows.specs.Program.{Table}
-use Rattle.group_compiler.specs.Compiled.{group_with}
+use Rattle.group_compiler.specs.inside.Compiled.{group_with}
 use Rattle.group_compiler.specs.declared.work.Numbered.{Numbered}
 use Rattle.group_compiler.proofs.SlotLaws.{HasProgram}
 use Rattle.group_compiler.proofs.ordering.in_order.Given as goal

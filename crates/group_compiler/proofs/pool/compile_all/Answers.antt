@@ -2,7 +2,7 @@ use Rattle.std.proofs.Common.{◌∙◌}
 use Rattle.std.proofs.lemmas.Result.{IfOk-weaker}
 use Rattle.group_compiler.proofs.WorkLaws.{all_drawn, all_below}
 use Rattle.group_compiler.proofs.SlotLaws.{all_compiled}
-use Rattle.group_compiler.specs.Works.{program_at}
+use Rattle.group_compiler.specs.inside.Works.{program_at}
 use Rattle.group_compiler.proofs.pool.compile_all.Goals as goal
 
 pub in_order-requires-clause-below : goal.in_order-requires-clause-below

@@ -2,7 +2,7 @@ use Rattle.std.proofs.Common.{◌≡◌, ◌+◌, ◌++◌, length, ℕ, List, m
 use Rattle.std.specs.Prelude.{All}
 use Rattle.std.proofs.lemmas.List.Elements.{All-append}
 use Rattle.group_compiler.specs.declared.work.Numbered.{Numbered}
-use Rattle.group_compiler.specs.Works.{IsFinished, IsProgramOf}
+use Rattle.group_compiler.specs.inside.Works.{IsFinished, IsProgramOf}
 use Rattle.group_compiler.proofs.WorkLaws.{finished_left, numbers_append}
 use Rattle.group_compiler.proofs.pool.join_works.Goals as goal
 

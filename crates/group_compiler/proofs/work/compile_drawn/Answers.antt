@@ -3,7 +3,7 @@ use Rattle.std.specs.Prelude.{All}
 use Rattle.std.proofs.lemmas.List.{map-append}
 use Rattle.std.proofs.lemmas.List.Elements.{All-push}
 use Rattle.group_compiler.specs.declared.work.Numbered.{Numbered}
-use Rattle.group_compiler.specs.Works.{IsFinished, IsProgramOf}
+use Rattle.group_compiler.specs.inside.Works.{IsFinished, IsProgramOf}
 use Rattle.group_compiler.proofs.WorkLaws.{kept_all, kept_but_last, finished_by}
 use Rattle.group_compiler.proofs.work.compile_drawn.Goals as goal
 

@@ -1,7 +1,7 @@
 use Rattle.std.proofs.Common.{◌≡◌, ◌+◌, ◌<◌, length, map}
 use Rattle.std.specs.Prelude.{All}
 use Rattle.group_compiler.specs.Claimed.{IsOf}
-use Rattle.group_compiler.specs.Works.{IsProgramOf}
+use Rattle.group_compiler.specs.inside.Works.{IsProgramOf}
 use Rattle.group_compiler.specs.declared.work.Numbered.{Numbered}
 use Rattle.group_compiler.proofs.work.compile_drawn.Given as goal
 

@@ -1,6 +1,6 @@
 use Rattle.std.proofs.Common.{◌+◌, ◌∷◌, ◌∙◌, [], ℕ, List, Option, None, ap, length, length-append, sym, subst}
 use Rattle.group_pages.specs.Pages.{PageText}
-use Rattle.group_pages.specs.Works.{AreInPlace}
+use Rattle.group_pages.specs.inside.Works.{AreInPlace}
 use Rattle.group_pages.proofs.Slots.{none_more}
 use Rattle.group_pages.proofs.ordering.empty_slots.Goals as goal
 

@@ -2,7 +2,7 @@ use Rattle.std.proofs.Common.{◌≡◌, ℕ, length}
 use Rattle.std.specs.Prelude.{All}
 use Rattle.group_pages.specs.declared.workers.Numbered.{Numbered}
 use Rattle.group_pages.specs.Pages.{PageText}
-use Rattle.group_pages.specs.Works.{AreInPlace}
+use Rattle.group_pages.specs.inside.Works.{AreInPlace}
 use Rattle.group_pages.proofs.ordering.fill.Given as goal
 
 -- the pages that are left are right, and so are those in slots

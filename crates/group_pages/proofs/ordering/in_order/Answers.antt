@@ -1,7 +1,7 @@
 use Rattle.std.proofs.Common.{◌∙◌, ◌<◌, length, length-set, arith}
 use Rattle.auction_terms.specs.Terms.{lots_in}
 use Rattle.bid_desk.specs.Closing.{book_of}
-use Rattle.group_pages.specs.Works.{page_at}
+use Rattle.group_pages.specs.inside.Works.{page_at}
 use Rattle.group_pages.proofs.Slots.{others_in_place, page_more}
 use Rattle.group_pages.proofs.ordering.in_order.Goals as goal
 

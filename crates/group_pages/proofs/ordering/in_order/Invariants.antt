@@ -2,7 +2,7 @@ use Rattle.std.proofs.Common.{◌≡◌, ◌+◌, ◌≤◌, ◌++◌, ℕ, Some
 use Rattle.auction_terms.specs.Terms.{lots_in}
 use Rattle.bid_desk.specs.Closing.{book_of}
 use Rattle.group_pages.specs.Pages.{PageText, pages_from}
-use Rattle.group_pages.specs.Works.{page_at}
+use Rattle.group_pages.specs.inside.Works.{page_at}
 use Rattle.group_pages.proofs.ordering.in_order.Given as goal
 
 -- the pages so far, followed by those that are left, are all

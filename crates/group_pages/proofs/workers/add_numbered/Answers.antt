@@ -2,7 +2,7 @@ use Rattle.std.proofs.Common.{List, sym, subst}
 use Rattle.std.specs.Prelude.{All}
 use Rattle.std.proofs.lemmas.List.Elements.{All-push}
 use Rattle.group_pages.specs.declared.workers.Numbered.{Numbered}
-use Rattle.group_pages.specs.Works.{IsPageOf}
+use Rattle.group_pages.specs.inside.Works.{IsPageOf}
 use Rattle.group_pages.proofs.workers.add_numbered.Goals as goal
 
 pub returns : goal.returns

@@ -1,5 +1,5 @@
 use Rattle.std.specs.Prelude.{All}
-use Rattle.group_pages.specs.Works.{IsPageOf}
+use Rattle.group_pages.specs.inside.Works.{IsPageOf}
 use Rattle.group_pages.proofs.workers.make_drawn.Given as goal
 
 -- what is made so far is right

@@ -3,9 +3,9 @@ use Rattle.std.specs.Prelude.{bytes_eq, codes, Err, slice_get}
 use Rattle.std.specs.List.{list_any}
 use Rattle.program_rows.specs.declared.fault.FaultKind.TheVariants.{UnknownColumn}
 use Rattle.program_rows.specs.Meaning.{field, value, is_binary_bound, bound_place, bound_column, bound_number, is_column, bit_fault}
-use Rattle.mps_reader.specs.Reading.{bytes_of}
-use Rattle.mps_reader.specs.Rows.{names_of}
-use Rattle.mps_reader.specs.Tracking.{state_values, told_values, bounded_values}
+use Rattle.mps_reader.specs.inside.Reading.{bytes_of}
+use Rattle.mps_reader.specs.inside.Rows.{names_of}
+use Rattle.mps_reader.specs.inside.Tracking.{state_values, told_values, bounded_values}
 use Rattle.mps_reader.proofs.NameFacts.{any-names, length-bytes, own_name, same_name}
 use Rattle.mps_reader.proofs.RowSteps.{no_name, field-at}
 use Rattle.mps_reader.proofs.StampFacts.{found-row}

@@ -1,5 +1,5 @@
 use Rattle.std.proofs.Common.{[], ◌∙◌, ap, sym, length}
-use Rattle.mps_reader.specs.Rows.{names_of}
+use Rattle.mps_reader.specs.inside.Rows.{names_of}
 use Rattle.mps_reader.proofs.ColumnSteps.{opened-fit, apart-none, current-is}
 use Rattle.mps_reader.proofs.ColumnTells.{added-tells}
 use Rattle.mps_reader.proofs.columns.open_column.Goals as goal

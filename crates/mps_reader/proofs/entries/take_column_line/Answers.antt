@@ -2,11 +2,11 @@ use Rattle.std.proofs.Common.{rules, ◌≡◌, ◌==◌, ◌||◌, ◌∙◌, a
 use Rattle.std.specs.Prelude.{Err, codes, ◌++◌}
 use Rattle.std.specs.List.{list_any}
 use Rattle.program_rows.specs.Meaning.{field, names, is_marker, data_under, line_entries}
-use Rattle.mps_reader.specs.Reading.{bytes_of}
-use Rattle.mps_reader.specs.Rows.{names_of, option_now, row_names, StampsAre}
-use Rattle.mps_reader.specs.Told.{told_entries}
-use Rattle.mps_reader.specs.Tracking.{AreStampsUpTo}
-use Rattle.mps_reader.specs.Columns.{ColumnsFit, IsApart, PairsFit}
+use Rattle.mps_reader.specs.inside.Reading.{bytes_of}
+use Rattle.mps_reader.specs.inside.Rows.{names_of, option_now, row_names, StampsAre}
+use Rattle.mps_reader.specs.inside.Told.{told_entries}
+use Rattle.mps_reader.specs.inside.Tracking.{AreStampsUpTo}
+use Rattle.mps_reader.specs.inside.Columns.{ColumnsFit, IsApart, PairsFit}
 use Rattle.mps_reader.proofs.RowSteps.{no_name, field-at}
 use Rattle.mps_reader.proofs.PairSteps.{length-names}
 use Rattle.mps_reader.proofs.AnswerFacts.{handed-on}

@@ -2,11 +2,11 @@ use Rattle.std.proofs.Common.{rules, ◌≡◌, ◌||◌, ◌==◌, ◌∙◌, a
 use Rattle.std.specs.Prelude.{bytes_eq, Err, if◌then◌else◌}
 use Rattle.std.specs.List.{list_any}
 use Rattle.program_rows.specs.Meaning.{names, field, value, line_entries}
-use Rattle.mps_reader.specs.Reading.{bytes_of}
-use Rattle.mps_reader.specs.Rows.{names_of, option_now, row_names, StampsAre}
+use Rattle.mps_reader.specs.inside.Reading.{bytes_of}
+use Rattle.mps_reader.specs.inside.Rows.{names_of, option_now, row_names, StampsAre}
 use Rattle.mps_reader.specs.declared.row_table.Rows.{Rows}
-use Rattle.mps_reader.specs.Told.{coefficient_in}
-use Rattle.mps_reader.specs.Tracking.{OpenTells}
+use Rattle.mps_reader.specs.inside.Told.{coefficient_in}
+use Rattle.mps_reader.specs.inside.Tracking.{OpenTells}
 use Rattle.mps_reader.proofs.NameFacts.{length-bytes, or-false}
 use Rattle.mps_reader.proofs.RowSteps.{no_name, field-at}
 use Rattle.mps_reader.proofs.AnswerFacts.{handed-on}

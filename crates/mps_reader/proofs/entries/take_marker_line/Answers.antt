@@ -1,7 +1,7 @@
 use Rattle.std.proofs.Common.{refl, length, []}
-use Rattle.mps_reader.specs.Reading.{bytes_of}
+use Rattle.mps_reader.specs.inside.Reading.{bytes_of}
 use Rattle.mps_reader.proofs.LineTells.{marker-tells}
-use Rattle.mps_reader.specs.Rows.{names_of}
+use Rattle.mps_reader.specs.inside.Rows.{names_of}
 use Rattle.mps_reader.proofs.ColumnSteps.{begun-fit, apart-none}
 use Rattle.mps_reader.proofs.entries.take_marker_line.Goals as goal
 

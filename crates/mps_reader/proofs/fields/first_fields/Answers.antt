@@ -2,7 +2,7 @@ use Rattle.std.proofs.Common.{◌∙◌, ap, sym}
 use Rattle.std.specs.Prelude.{take}
 use Rattle.std.proofs.lemmas.Bool.{eqb-true}
 use Rattle.program_rows.specs.Lines.{fields}
-use Rattle.mps_reader.specs.Reading.{bytes_of}
+use Rattle.mps_reader.specs.inside.Reading.{bytes_of}
 use Rattle.mps_reader.proofs.FieldFacts.{take-front}
 use Rattle.mps_reader.proofs.NameFacts.{length-bytes}
 use Rattle.mps_reader.proofs.fields.first_fields.Goals as goal

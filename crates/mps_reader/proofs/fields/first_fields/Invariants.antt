@@ -1,6 +1,6 @@
 use Rattle.std.proofs.Common.{◌≡◌, ◌++◌, ◌-◌, ◌≤◌, length}
 use Rattle.program_rows.specs.Lines.{fields}
-use Rattle.mps_reader.specs.Reading.{bytes_of}
+use Rattle.mps_reader.specs.inside.Reading.{bytes_of}
 use Rattle.mps_reader.proofs.fields.first_fields.Given as goal
 
 -- the fields so far stand before those of the rest

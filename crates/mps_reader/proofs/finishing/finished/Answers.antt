@@ -1,7 +1,7 @@
 use Rattle.std.proofs.Common.{◌∙◌, ap, sym, subst, length, map}
 use Rattle.std.proofs.lemmas.List.{length-map}
 use Rattle.program_rows.specs.Parts.{IsProgram, shown_row}
-use Rattle.mps_reader.specs.States.{state_bounds}
+use Rattle.mps_reader.specs.inside.States.{state_bounds}
 use Rattle.mps_reader.proofs.FitFacts.{done-length, program-fits}
 use Rattle.mps_reader.proofs.ProgramTold.{program-told}
 use Rattle.mps_reader.proofs.finishing.finished.Goals as goal

@@ -2,8 +2,8 @@ use Rattle.std.proofs.Common.{sym, ap, ◌∙◌, ◌≡◌, ◌&&◌, ◌∷◌
 use Rattle.std.specs.Prelude.{nat_lt, codes}
 use Rattle.std.proofs.lemmas.Bool.{le-ltb, lt-ltb}
 use Rattle.program_rows.specs.Meaning.{is_one_of, place_of, section}
-use Rattle.mps_reader.specs.Reading.{bytes_of}
-use Rattle.mps_reader.specs.Sections.{word_of}
+use Rattle.mps_reader.specs.inside.Reading.{bytes_of}
+use Rattle.mps_reader.specs.inside.Sections.{word_of}
 use Rattle.mps_reader.proofs.SectionWords.{named}
 use Rattle.mps_reader.proofs.HeaderCases.{header-place, header-rest}
 use Rattle.mps_reader.proofs.headers.take_header.Goals as goal

@@ -1,6 +1,6 @@
 use Rattle.std.proofs.Common.{ℕ, sym, ◌∙◌, ap}
 use Rattle.std.specs.Prelude.{◌==◌}
-use Rattle.mps_reader.specs.Reading.{bytes_of}
+use Rattle.mps_reader.specs.inside.Reading.{bytes_of}
 use Rattle.mps_reader.proofs.NameFacts.{length-bytes}
 use Rattle.mps_reader.proofs.LineCases.{line-empty, line-comment, line-blank, line-unprintable, line-data, line-header, first-of}
 use Rattle.mps_reader.proofs.lines.read_line.Goals as goal

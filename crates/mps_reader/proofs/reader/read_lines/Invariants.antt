@@ -1,10 +1,10 @@
 use Rattle.std.proofs.Common.{◌≡◌, ℕ, List, ◌++◌, length, map}
 use Rattle.program_rows.specs.Lines.{Line, line_of}
 use Rattle.program_rows.specs.Meaning.{meaning, meaning_from}
-use Rattle.mps_reader.specs.Tracking.{ReadingTells}
+use Rattle.mps_reader.specs.inside.Tracking.{ReadingTells}
 use Rattle.std.specs.List.{AllByRecursion}
 use Rattle.auction_terms.specs.Lines.{lines_of}
-use Rattle.mps_reader.specs.Fit.{ReadingFits}
+use Rattle.mps_reader.specs.inside.Fit.{ReadingFits}
 use Rattle.mps_reader.specs.Ending.{IsPassed}
 use Rattle.mps_reader.proofs.reader.read_lines.Given as goal
 

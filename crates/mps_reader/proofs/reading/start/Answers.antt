@@ -1,6 +1,6 @@
 use Rattle.std.proofs.Common.{ap, length}
 use Rattle.std.specs.Prelude.{is_some}
-use Rattle.mps_reader.specs.Rows.{names_of}
+use Rattle.mps_reader.specs.inside.Rows.{names_of}
 use Rattle.mps_reader.proofs.ColumnSteps.{apart-none}
 use Rattle.mps_reader.proofs.FitFacts.{empty-columns}
 use Rattle.mps_reader.proofs.reading.start.Goals as goal

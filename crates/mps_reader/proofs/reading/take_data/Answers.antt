@@ -2,10 +2,10 @@ use Rattle.std.proofs.Common.{rules, ◌≡◌, ◌∙◌, ap, sym, codes, subst
 use Rattle.std.specs.Prelude.{Err, bytes_eq, ◌∷◌}
 use Rattle.std.specs.List.{list_any}
 use Rattle.program_rows.specs.Meaning.{data_under}
-use Rattle.mps_reader.specs.Reading.{bytes_of}
-use Rattle.mps_reader.specs.Rows.{names_of, option_now, row_names, StampsAre}
-use Rattle.mps_reader.specs.Told.{told_right_sides}
-use Rattle.mps_reader.specs.Sections.{word_of}
+use Rattle.mps_reader.specs.inside.Reading.{bytes_of}
+use Rattle.mps_reader.specs.inside.Rows.{names_of, option_now, row_names, StampsAre}
+use Rattle.mps_reader.specs.inside.Told.{told_right_sides}
+use Rattle.mps_reader.specs.inside.Sections.{word_of}
 use Rattle.mps_reader.proofs.NameFacts.{length-bytes}
 use Rattle.mps_reader.proofs.AnswerFacts.{handed-on}
 use Rattle.mps_reader.proofs.FitFacts.{row-fits, bound-fits}

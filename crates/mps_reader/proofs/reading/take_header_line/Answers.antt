@@ -2,8 +2,8 @@ use Rattle.std.proofs.Common.{rules, ◌≡◌, ◌∙◌, ap, sym, refl, arith,
 use Rattle.std.specs.Prelude.{Err, option_map, position, not}
 use Rattle.program_rows.specs.declared.fault.FaultKind.TheVariants.{NotBinary}
 use Rattle.program_rows.specs.Meaning.{field, header_fault}
-use Rattle.mps_reader.specs.Reading.{bytes_of}
-use Rattle.mps_reader.specs.States.{is_binary_state}
+use Rattle.mps_reader.specs.inside.Reading.{bytes_of}
+use Rattle.mps_reader.specs.inside.States.{is_binary_state}
 use Rattle.mps_reader.proofs.RowSteps.{no_name, field-at}
 use Rattle.mps_reader.proofs.AnswerFacts.{handed-on, handed-up}
 use Rattle.mps_reader.proofs.HeaderTells.{header-more, lacks-objective, first-open, header-tells, end-fault, other-fault}

@@ -1,9 +1,9 @@
 use Rattle.std.proofs.Common.{rules, ◌≡◌, ◌&&◌, ◌++◌, ◌∙◌, ap, sym, subst, ℕ, Some, None}
 use Rattle.std.specs.Prelude.{Err, nat_le}
 use Rattle.program_rows.specs.Meaning.{right_sides, right_sides_fault}
-use Rattle.mps_reader.specs.Reading.{bytes_of}
-use Rattle.mps_reader.specs.Rows.{names_of, option_now, StampsAre}
-use Rattle.mps_reader.specs.Told.{told_right_sides, side_in, rows_by, bound_lines_of}
+use Rattle.mps_reader.specs.inside.Reading.{bytes_of}
+use Rattle.mps_reader.specs.inside.Rows.{names_of, option_now, StampsAre}
+use Rattle.mps_reader.specs.inside.Told.{told_right_sides, side_in, rows_by, bound_lines_of}
 use Rattle.mps_reader.proofs.NameFacts.{length-bytes}
 use Rattle.mps_reader.proofs.AnswerFacts.{handed-on}
 use Rattle.mps_reader.proofs.SideTells.{has_side, line-pairs, line-fault}

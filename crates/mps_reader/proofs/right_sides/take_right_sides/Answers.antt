@@ -4,9 +4,9 @@ use Rattle.std.specs.List.{list_any}
 use Rattle.std.specs.Option.{option_map_or}
 use Rattle.program_rows.specs.Parts.{shown_row}
 use Rattle.program_rows.specs.Meaning.{pairs, value}
-use Rattle.mps_reader.specs.Reading.{bytes_of}
-use Rattle.mps_reader.specs.Rows.{names_of, StampsAre}
-use Rattle.mps_reader.specs.Told.{side_in}
+use Rattle.mps_reader.specs.inside.Reading.{bytes_of}
+use Rattle.mps_reader.specs.inside.Rows.{names_of, StampsAre}
+use Rattle.mps_reader.specs.inside.Told.{side_in}
 use Rattle.mps_reader.proofs.NameFacts.{length-bytes, or-false}
 use Rattle.mps_reader.proofs.RowSteps.{no_name, field-at}
 use Rattle.mps_reader.proofs.AnswerFacts.{handed-on}

@@ -6,8 +6,8 @@ use Rattle.std.proofs.lemmas.Result.{on_ok_weaker}
 use mir.Syntax.{w64}
 use mir.Val.{SFits, to_z, of_z}
 use Rattle.optimality.specs.Certificates.{Form}
-use Rattle.optimality.specs.Adding.{with_form}
-use Rattle.optimality.specs.Holding.{cut_of}
+use Rattle.optimality.specs.inside.Adding.{with_form}
+use Rattle.optimality.specs.inside.Holding.{cut_of}
 use Rattle.optimality.proofs.Steps.{no-form, side-added}
 use Rattle.optimality.proofs.cuts.add_cut.Goals as goal
 

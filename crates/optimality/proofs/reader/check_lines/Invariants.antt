@@ -1,6 +1,6 @@
 use Rattle.std.proofs.Common.{◌≡◌, ◌+◌, length}
 use Rattle.auction_terms.specs.Lines.{lines_of}
-use Rattle.optimality.specs.Branches.{opened}
+use Rattle.optimality.specs.inside.Branches.{opened}
 use Rattle.optimality.specs.Verdict.{fault_from, first_fault}
 use Rattle.optimality.proofs.reader.check_lines.Given as goal
 

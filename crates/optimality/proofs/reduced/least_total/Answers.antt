@@ -2,7 +2,7 @@ use Rattle.std.proofs.Common.{rules}
 use Rattle.std.proofs.lemmas.Int.{to_z-of_z}
 use mir.Syntax.{w128}
 use mir.Val.{SFits, to_z}
-use Rattle.optimality.specs.Adding.{number_at}
+use Rattle.optimality.specs.inside.Adding.{number_at}
 use Rattle.optimality.proofs.Steps.{least-step}
 use Rattle.optimality.proofs.reduced.least_total.Goals as goal
 

@@ -1,5 +1,5 @@
 use Rattle.std.proofs.Common.{◌≡◌, drop, ◌+ℤ◌}
-use Rattle.optimality.specs.Adding.{number_at}
+use Rattle.optimality.specs.inside.Adding.{number_at}
 use Rattle.optimality.specs.Reduced.{least_sum}
 use Rattle.optimality.proofs.reduced.least_total.Given as goal
 

@@ -1,5 +1,5 @@
 use Rattle.std.proofs.Common.{◌≡◌, ◌++◌, drop}
-use Rattle.optimality.specs.Adding as adding
+use Rattle.optimality.specs.inside.Adding as adding
 use Rattle.optimality.proofs.reduced.scaled_costs.Given as goal
 
 -- the scaled costs so far, and those of the columns that are left

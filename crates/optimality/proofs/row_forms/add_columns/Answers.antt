@@ -1,4 +1,4 @@
-use Rattle.optimality.specs.RowForms.{forms_of}
+use Rattle.optimality.specs.inside.RowForms.{forms_of}
 use Rattle.optimality.proofs.RowLaws.{columns-step}
 use Rattle.optimality.proofs.row_forms.add_columns.Goals as goal
 

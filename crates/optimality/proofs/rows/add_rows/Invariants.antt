@@ -1,6 +1,6 @@
 use Rattle.std.proofs.Common.{◌≡◌, drop}
-use Rattle.optimality.specs.Adding.{with_rows}
-use Rattle.optimality.specs.RowForms.{forms_of}
+use Rattle.optimality.specs.inside.Adding.{with_rows}
+use Rattle.optimality.specs.inside.RowForms.{forms_of}
 use Rattle.optimality.proofs.rows.add_rows.Given as goal
 
 -- the rows that are left, added to the numbers so far

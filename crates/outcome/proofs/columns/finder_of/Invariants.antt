@@ -1,6 +1,6 @@
 use Rattle.std.proofs.Common.{◌≡◌, take}
 use Rattle.outcome.specs.Solution.{column_names}
-use Rattle.outcome.specs.Reading.{bytes_of}
+use Rattle.outcome.specs.inside.Reading.{bytes_of}
 use Rattle.outcome.proofs.columns.finder_of.Given as goal
 
 -- the names so far

@@ -2,7 +2,7 @@ use Rattle.std.proofs.Common.{◌≡◌, ◌-◌, ◌+◌, ◌/◌, ℕ, Vec, Gl
 use Rattle.std.specs.List.{range_with_len}
 use Rattle.auction_terms.specs.Terms.{lots_in}
 use Rattle.bid_desk.specs.Closing.{book_of}
-use Rattle.presolve.specs.Flags.{flags_of_bidders}
+use Rattle.presolve.specs.inside.Flags.{flags_of_bidders}
 use Rattle.presolve.proofs.KeepLaws.{flags_joined, length_book}
 use Rattle.presolve.proofs.flags.flags_by_bidder.Goals as goal
 

@@ -7,8 +7,8 @@ use Rattle.std.proofs.lemmas.List.{length-set}
 use Rattle.std.proofs.lemmas.List.Elements.{All-filter}
 use Rattle.presolve.specs.declared.order.SizedBid.{SizedBid}
 use Rattle.presolve.specs.declared.shelves.Shelf.{Shelf}
-use Rattle.presolve.specs.Shelves.{AreAlike, AreShelves, bare_places, is_beaten_on}
-use Rattle.presolve.specs.Sizes.{IsAlike, IsOrdered, IsOver, TellsItsBid, TellsItsNet, beats}
+use Rattle.presolve.specs.inside.Shelves.{AreAlike, AreShelves, bare_places, is_beaten_on}
+use Rattle.presolve.specs.inside.Sizes.{IsAlike, IsOrdered, IsOver, TellsItsBid, TellsItsNet, beats}
 use Rattle.presolve.proofs.FlagLaws.{all_fit, all_kept, are_rivals, rivals_suffice, stands}
 use Rattle.presolve.proofs.NumberLaws.{after_failing, after_passing, are_numbered, flags_by_number, none_left_over}
 use Rattle.presolve.proofs.ShelfLaws.{any_on, stocked}

@@ -2,7 +2,7 @@ use Rattle.std.proofs.Common.{◌≡◌, ℕ, true, false, List, length, arith, 
 use Rattle.std.proofs.lemmas.Bool.{not-false, not-true}
 use Rattle.auction_terms.specs.Packages.{is_within}
 use Rattle.presolve.specs.declared.order.SizedBid.{SizedBid}
-use Rattle.presolve.specs.Sizes.{beats}
+use Rattle.presolve.specs.inside.Sizes.{beats}
 use Rattle.presolve.proofs.FlagLaws.{beaten_at, none_left, none_over, none_uncovered, passed_over}
 use Rattle.presolve.proofs.form_flags.is_beaten.Goals as goal
 use Rattle.presolve.proofs.form_flags.is_beaten.Goals.{then-not-is_out_of_reach+then-others-over+in-Some, then-not-is_out_of_reach+else-others-over, else-not-is_out_of_reach}

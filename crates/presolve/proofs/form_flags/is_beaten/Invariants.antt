@@ -1,6 +1,6 @@
 use Rattle.std.proofs.Common.{◌≡◌, ◌<◌, length, drop}
 use Rattle.std.specs.List.{list_any}
-use Rattle.presolve.specs.Sizes.{beats}
+use Rattle.presolve.specs.inside.Sizes.{beats}
 use Rattle.presolve.proofs.form_flags.is_beaten.Given as goal
 
 -- none of those so far beats the bid

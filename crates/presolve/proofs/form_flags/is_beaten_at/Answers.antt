@@ -4,7 +4,7 @@ use Rattle.std.specs.List.{list_any}
 use Rattle.std.proofs.lemmas.Int.{to_z-of_z}
 use Rattle.std.proofs.lemmas.List.Elements.{All-drop}
 use Rattle.presolve.specs.declared.order.SizedBid.{SizedBid}
-use Rattle.presolve.specs.Sizes.{AreRivals, IsAlike, beats}
+use Rattle.presolve.specs.inside.Sizes.{AreRivals, IsAlike, beats}
 use Rattle.presolve.proofs.GreatestLaws.{as_many, none_up_to, rivals_from}
 use Rattle.presolve.proofs.form_flags.is_beaten_at.Goals as goal
 

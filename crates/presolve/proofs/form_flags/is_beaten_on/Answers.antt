@@ -7,8 +7,8 @@ use Rattle.std.proofs.lemmas.Nat.{and_le_l, or_lt}
 use Rattle.std.proofs.lemmas.Nat.Bits.{bit_at-zero}
 use Rattle.presolve.specs.declared.shelves.Shelf.{Shelf}
 use Rattle.std.specs.Prelude.{All}
-use Rattle.presolve.specs.Sizes.{IsAlike, beats}
-use Rattle.presolve.specs.Shelves.{AreStocked, IsStocked}
+use Rattle.presolve.specs.inside.Sizes.{IsAlike, beats}
+use Rattle.presolve.specs.inside.Shelves.{AreStocked, IsStocked}
 use Rattle.presolve.proofs.MaskLaws.{lowest_taken, lowest_within, mask_below}
 use Rattle.presolve.proofs.ShelfLaws.{bare_below, none_on, none_passed}
 use Rattle.presolve.proofs.form_flags.is_beaten_on.Goals as goal

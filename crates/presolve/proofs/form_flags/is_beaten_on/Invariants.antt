@@ -2,7 +2,7 @@ use Rattle.std.proofs.Common.{◌≡◌, ◌<◌, ◌^◌, ℕ, false, length, s
 use Rattle.std.specs.Int.{bit_at}
 use Rattle.std.specs.List.{list_any}
 use Rattle.presolve.specs.declared.shelves.Shelf.{Shelf}
-use Rattle.presolve.specs.Sizes.{beats}
+use Rattle.presolve.specs.inside.Sizes.{beats}
 use Rattle.presolve.proofs.form_flags.is_beaten_on.Given as goal
 
 -- none on the shelves that aren't left beats the bid

@@ -1,5 +1,5 @@
 use Rattle.std.proofs.Common.{◌≡◌, drop}
-use Rattle.presolve.specs.Masks.{mask_of}
+use Rattle.presolve.specs.inside.Masks.{mask_of}
 use Rattle.presolve.proofs.masks.mask_of.Given as goal
 
 -- the mask of the categories so far, from the last one down

@@ -1,5 +1,5 @@
 use Rattle.std.proofs.Common.{◌≡◌, drop}
-use Rattle.presolve.specs.Masks.{mask_over}
+use Rattle.presolve.specs.inside.Masks.{mask_over}
 use Rattle.presolve.proofs.masks.mask_over.Given as goal
 
 -- the mask of the categories so far, from the last one down

@@ -1,7 +1,7 @@
 use Rattle.std.proofs.Common.{◌≡◌, ◌∙◌, ◌∷◌, [], arith, sym}
 use Rattle.std.proofs.lemmas.List.Elements.{All-append}
 use Rattle.auction_terms.specs.Terms.{lots_in}
-use Rattle.presolve.specs.Sizes.{IsOver, TellsItsBid, TellsItsNet}
+use Rattle.presolve.specs.inside.Sizes.{IsOver, TellsItsBid, TellsItsNet}
 use Rattle.presolve.proofs.SizeLaws.{fitting_less, fitting_more}
 use Rattle.presolve.proofs.order.fitting.Goals as goal
 use Rattle.presolve.proofs.order.fitting.Goals.{then-fits+in_ok-push, else-fits}

@@ -1,6 +1,6 @@
 use Rattle.std.proofs.Common.{◌≡◌, ◌+◌, ◌++◌, All, map, drop}
 use Rattle.auction_terms.specs.Terms.{lots_in}
-use Rattle.presolve.specs.Sizes.{IsOver, TellsItsBid, TellsItsNet, fitting_from, sized_of}
+use Rattle.presolve.specs.inside.Sizes.{IsOver, TellsItsBid, TellsItsNet, fitting_from, sized_of}
 use Rattle.presolve.proofs.order.fitting.Given as goal
 
 -- those so far, followed by those that are left, are all

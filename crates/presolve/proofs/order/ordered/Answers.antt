@@ -2,7 +2,8 @@ use Rattle.std.proofs.Common.{rules, arith}
 use Rattle.std.proofs.lemmas.Fn.{always_returns_same}
 use Rattle.std.proofs.lemmas.List.Sorted.{All-permutation}
 use Rattle.auction_terms.specs.Terms.{lots_in}
-use Rattle.presolve.specs.Sizes.{IsOver, IsUpTo, TellsItsBid, TellsItsNet}
+use Rattle.presolve.specs.inside.Sizes.{IsOver, TellsItsBid, TellsItsNet}
+use Rattle.presolve.specs.Sizes.{IsUpTo}
 use Rattle.presolve.specs.declared.order.SizedBid.{SizedBid}
 use Rattle.presolve.proofs.SizeLaws.{up_to, up_to_trans, all_pairs}
 use Rattle.presolve.proofs.order.ordered.Goals as goal

@@ -1,5 +1,5 @@
 use Rattle.std.proofs.Common.{◌≡◌, drop}
-use Rattle.presolve.specs.Shelves.{bare_places}
+use Rattle.presolve.specs.inside.Shelves.{bare_places}
 use Rattle.presolve.proofs.shelves.bare_places.Given as goal
 
 -- the mask of the places so far, from the last one down

@@ -1,5 +1,5 @@
 use Rattle.std.proofs.Common.{[]}
-use Rattle.presolve.specs.Shelves.{AreShelves}
+use Rattle.presolve.specs.inside.Shelves.{AreShelves}
 use Rattle.presolve.proofs.shelves.empty_shelves.Given as goal
 
 -- an empty shelf for each place so far

@@ -1,5 +1,5 @@
 use Rattle.std.proofs.Common.{take}
-use Rattle.presolve.specs.Shelves.{AreShelves}
+use Rattle.presolve.specs.inside.Shelves.{AreShelves}
 use Rattle.presolve.proofs.shelves.shelves.Given as goal
 
 -- the shelves of the rivals so far

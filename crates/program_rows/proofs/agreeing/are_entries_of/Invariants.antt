@@ -1,7 +1,7 @@
 use Rattle.std.proofs.Common.{◌≡◌, drop, map}
 use Rattle.std.specs.List.{list_all}
 use Rattle.program_rows.specs.Parts.{shown_row, shown_column}
-use Rattle.program_rows.specs.Comparing as comparing
+use Rattle.program_rows.specs.inside.Comparing as comparing
 use Rattle.program_rows.proofs.agreeing.are_entries_of.Given as goal
 
 -- those so far pass

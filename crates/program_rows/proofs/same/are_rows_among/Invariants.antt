@@ -1,7 +1,7 @@
 use Rattle.std.proofs.Common.{◌≡◌, drop, map}
 use Rattle.std.specs.List.{list_all}
 use Rattle.program_rows.specs.Parts.{shown_row}
-use Rattle.program_rows.specs.Comparing as comparing
+use Rattle.program_rows.specs.inside.Comparing as comparing
 use Rattle.program_rows.proofs.same.are_rows_among.Given as goal
 
 -- those so far pass

@@ -2,7 +2,7 @@ use Rattle.std.proofs.Common.{ap, sym, subst, ◌∙◌, ◌==◌, length, eq-eq
 use Rattle.std.proofs.lemmas.Bool.{both_ways, eqb-true}
 use Rattle.csv.specs.Reading.{default_config, records}
 use Rattle.csv.specs.Records.{fields_of}
-use Rattle.auction_terms.specs.PlainRecords.{BeginsNoLineEnd}
+use Rattle.auction_terms.specs.inside.PlainRecords.{BeginsNoLineEnd}
 use Rattle.auction_terms.proofs.PlainFacts.{no_record, record_taken}
 use Rattle.auction_terms.proofs.plain_records.PlainRecords.next.Goals as goal
 

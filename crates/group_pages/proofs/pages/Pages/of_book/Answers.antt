@@ -3,7 +3,7 @@ use Rattle.auction_terms.specs.Terms.{lots_in}
 use Rattle.auction_terms.specs.declared.limits.TheConstants.{MOST_BIDDERS}
 use Rattle.bid_desk.specs.Closing.{book_of}
 use Rattle.group_pages.specs.Pages.{PageText}
-use Rattle.group_pages.specs.Works.{page_at}
+use Rattle.group_pages.specs.inside.Works.{page_at}
 use Rattle.group_pages.proofs.Joined.{length_pages}
 use Rattle.group_pages.proofs.pages.Pages.of_book.Goals as goal
 

@@ -1,8 +1,8 @@
 -- What a certificate is checked against.
 use Rattle.std.specs.Prelude.{◌≡◌}
 use Rattle.optimality.specs.declared.checker.Checker.{Checker}
-use Rattle.optimality.specs.Holding.{bytes_of}
-use Rattle.optimality.specs.RowForms.{forms_of, row_forms}
+use Rattle.optimality.specs.inside.Holding.{bytes_of}
+use Rattle.optimality.specs.inside.RowForms.{forms_of, row_forms}
 use Rattle.optimality.specs.Told.{column_names, row_names}
 
 -- the names and the forms of rows are those of the program

@@ -8,9 +8,9 @@ use Rattle.program_rows.specs.declared.bounds.Bounds.TheVariants.{ZeroOrOne}
 use Rattle.program_rows.specs.Program.{TableColumn}
 use Rattle.program_rows.specs.Parts.{shown_row}
 use Rattle.program_rows.specs.Meaning.{LineFields, section, data_under, is_integer_open, names}
-use Rattle.mps_reader.specs.Rows.{names_of, option_now, row_names, StampsAre}
-use Rattle.mps_reader.specs.Sections.{word_of}
-use Rattle.mps_reader.specs.Told.{declared_names, told_objective, told_right_sides, told_rows, told_names, told_entries, coefficient_in, entries_at, nearest_column, told_lower, told_upper, told_integer}
+use Rattle.mps_reader.specs.inside.Rows.{names_of, option_now, row_names, StampsAre}
+use Rattle.mps_reader.specs.inside.Sections.{word_of}
+use Rattle.mps_reader.specs.inside.Told.{declared_names, told_objective, told_right_sides, told_rows, told_names, told_entries, coefficient_in, entries_at, nearest_column, told_lower, told_upper, told_integer}
 use Rattle.mps_reader.specs.declared.sections.Section.{Section}
 use Rattle.mps_reader.specs.declared.sections.Section.TheVariants as sections
 use Rattle.mps_reader.specs.declared.row_table.Rows.{Rows}

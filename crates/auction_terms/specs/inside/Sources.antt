@@ -3,8 +3,9 @@ use Rattle.std.specs.Prelude.{List, Some}
 use Rattle.csv.specs.Reading.{default_config, records}
 use Rattle.auction_terms.specs.declared.records.Source.{Source}
 use Rattle.auction_terms.specs.declared.records.Source.TheVariants as src
-use Rattle.auction_terms.specs.Records.{Record, ReadsPlainly, records_ahead}
-use Rattle.auction_terms.specs.PlainRecords.{HasNoQuote}
+use Rattle.auction_terms.specs.Records.{Record}
+use Rattle.auction_terms.specs.inside.Records.{ReadsPlainly, records_ahead}
+use Rattle.auction_terms.specs.inside.PlainRecords.{HasNoQuote}
 
 abbrev pub records_left : Source → List Record
 records_left (src.Plain plain) = records default_config plain.left.now

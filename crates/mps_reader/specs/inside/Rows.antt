@@ -9,7 +9,7 @@ use Rattle.program_rows.specs.declared.row.Row.{Row}
 use Rattle.program_rows.specs.Program.{TableRow}
 use Rattle.program_rows.specs.Parts.{IsName, shown_row}
 use Rattle.program_rows.specs.Meaning.{kind_of}
-use Rattle.mps_reader.specs.Reading.{bytes_of}
+use Rattle.mps_reader.specs.inside.Reading.{bytes_of}
 use Rattle.mps_reader.specs.declared.row_table.Rows.{Rows}
 
 abbrev pub NameSet : Type 0

@@ -1,7 +1,7 @@
 -- What holds of a reading after each line.
 use Rattle.std.specs.Prelude.{◌≡◌, false, is_some}
-use Rattle.mps_reader.specs.Rows.{RowsFit}
-use Rattle.mps_reader.specs.Columns.{BothFit}
+use Rattle.mps_reader.specs.inside.Rows.{RowsFit}
+use Rattle.mps_reader.specs.inside.Columns.{BothFit}
 use Rattle.mps_reader.specs.declared.sections.Section.{Section}
 use Rattle.mps_reader.specs.declared.sections.Section.TheVariants as sections
 use Rattle.mps_reader.specs.declared.column_table.ColumnTable.{ColumnTable}

@@ -3,7 +3,7 @@ use Rattle.std.specs.Prelude.{◌≡◌, ◌+◌, ◌*◌, ◌<◌, ◌≤◌, �
 use Rattle.std.specs.List.{AllZip, list_any}
 use Rattle.presolve.specs.declared.order.SizedBid.{SizedBid}
 use Rattle.presolve.specs.declared.shelves.Shelf.{Shelf}
-use Rattle.presolve.specs.Sizes.{AreRivals, IsAlike, beats}
+use Rattle.presolve.specs.inside.Sizes.{AreRivals, IsAlike, beats}
 
 -- rising nets, none below that of the bid at its place
 pub record AreGreatest (bids : List SizedBid) (greatest : List ℤ) : Type 0 where

@@ -8,8 +8,6 @@ use Rattle.program_rows.specs.Meaning.{LineFields, Entry, field, is_free, is_mar
 use Rattle.program_rows.specs.declared.fault.FaultKind.{FaultKind}
 use Rattle.program_rows.specs.declared.fault.FaultKind.TheVariants.{UnknownRow, EntryRepeated, ObjectiveConstant}
 
--- ---- rows
-
 abbrev pub declared_names : List LineFields → List (List ℕ)
 declared_names rows = map (field 1) (reverse rows)
 
@@ -37,8 +35,6 @@ rows_by side lines = map (λ fields. record { name = field 1 fields; kind = kind
 abbrev pub told_rows : List LineFields → List LineFields → List TableRow
 told_rows rows rights = rows_by (side_in (told_right_sides rights)) (bound_lines_of rows)
 
--- ---- columns
-
 abbrev pub told_lines : List LineFields → List LineFields
 told_lines lines = filter (λ fields. not (is_marker fields)) lines
 
@@ -61,8 +57,6 @@ entries_at place number (row ∷ rows) = if int_eq (number row) (pos 0) then ent
 abbrev pub nearest_column : List LineFields → Option (List ℕ)
 nearest_column [] = None
 nearest_column (fields ∷ before) = if is_marker fields then None else Some (field 0 fields)
-
--- ---- bounds
 
 abbrev pub told_bound : List (List ℕ) → List LineFields → List ℕ → Option LineFields
 told_bound types bounds column = find (λ fields. is_one_of (field 0 fields) types && bytes_eq column (bound_column fields)) bounds

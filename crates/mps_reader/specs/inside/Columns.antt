@@ -4,7 +4,7 @@ use Rattle.std.specs.Ordering.{int_eq}
 use Rattle.std.specs.List.{AllByRecursion, IsDistinct, list_any}
 use Rattle.std.specs.Option.{option_to_list}
 use Rattle.program_rows.specs.Parts.{IsName, AreEntries}
-use Rattle.mps_reader.specs.Rows.{names_of, option_now}
+use Rattle.mps_reader.specs.inside.Rows.{names_of, option_now}
 use Rattle.mps_reader.specs.declared.open_column.OpenColumn.{OpenColumn}
 use Rattle.mps_reader.specs.declared.column_table.ColumnTable.{ColumnTable}
 use Rattle.mps_reader.specs.declared.row_table.Rows.{Rows}

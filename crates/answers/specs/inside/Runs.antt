@@ -1,0 +1,13 @@
+-- What a run leaves of its input and its output.
+use Rattle.std.specs.Prelude.{◌≡◌, ◌⊎◌, ℕ, List, Option, Ok}
+use Rattle.std.specs.Io.KnownBytes.{Appends}
+use Rattle.auction_input.specs.Refused.{Refusal}
+use Rattle.auction_input.specs.declared.refusal.Refusal.TheVariants as refusal
+use Rattle.clap.specs.Words.{Text}
+use Rattle.clap.specs.declared.error.kind.ErrorKind.{ErrorKind}
+use Rattle.answers.specs.Asked.{IsShown}
+use Rattle.answers.specs.Runs.{IsUnshown}
+
+-- why help, or the version, isn't shown: it could not be written, or memory was short
+abbrev pub IsUntold : ErrorKind → Option (List ℕ) → Option (List ℕ) → ℕ → ℕ → Refusal → Type 0
+IsUntold k taken taken' failures failures' r = (IsShown k × IsUnshown taken taken' failures failures' r) ⊎ ((r ≡ refusal.OutOfMemory) × (taken' ≡ taken))

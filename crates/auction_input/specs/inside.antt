@@ -1,0 +1,4 @@
+pub mod InputTexts
+pub mod Parts
+pub mod Submissions
+pub mod TextsTold

@@ -1,0 +1,29 @@
+-- What the texts of the input tell, their sizes included: rules, a form, groups, and a program.
+use Rattle.std.specs.Prelude.{◌≡◌, ◌+◌, ◌++◌, ◌∷◌, ⊤, ℕ, List, Result, Ok, Err, if◌then◌else◌, IfOk, length, map, nat_lt}
+use Rattle.auction_input.specs.Refused.{Refusal}
+use Rattle.auction_input.specs.declared.refusal.Refusal.TheVariants as refusal
+use Rattle.auction_terms.specs.Terms.{Terms}
+use Rattle.auction_terms.specs.declared.groups_text.GroupFault.TheVariants as group_fault
+use Rattle.auction_terms.specs.declared.rules_text.RulesFault.TheVariants as rules_fault
+use Rattle.bid_forms.specs.FormText.{Answers}
+use Rattle.bid_forms.specs.Offers.{Meets, Offers}
+use Rattle.bid_forms.specs.declared.form_text.FormFault.TheVariants as fault
+use Rattle.bid_forms.specs.declared.form_text.FormFault.{FormFault}
+use Rattle.program_rows.specs.declared.fault.FaultKind.TheVariants as kind
+use denote.Ref.{Bor}
+use Rattle.auction_input.specs.InputTexts.{form_in}
+
+-- this is what a text tells, or want of memory stands in its place
+pub record IsAnswer (t : Terms) (text : Bor (List ℕ)) (answer : Result Offers FormFault) : Type 0 where
+  pub tells : Answers answer (form_in t text.now)
+  pub meets : IfOk answer (Meets t)
+
+-- all answers are forms, and stand behind those that were read before
+abbrev pub AreAdded : List (Result Offers FormFault) → List Offers → List Offers → Type 0
+AreAdded answers old new = (more : List Offers) × (new ≡ old ++ more) × (answers ≡ map (λ form. Ok form) more)
+
+-- an answer that is a fault comes after forms alone, and has this number behind so many forms; or memory was short
+abbrev pub IsFirstErr : ℕ → List (Result Offers FormFault) → Refusal → Type 0
+IsFirstErr count answers (refusal.Form n f) = (before : List Offers) × (after : List (Result Offers FormFault)) × (answers ≡ map (λ form. Ok form) before ++ Err f ∷ after) × (n ≡ count + length before + 1)
+IsFirstErr count answers refusal.OutOfMemory = ⊤
+IsFirstErr count answers r = ⊥

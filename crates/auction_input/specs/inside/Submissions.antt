@@ -1,0 +1,61 @@
+-- The forms of the input: by bidder, as the bidders' threads submit them, and as the closed book holds them.
+use Rattle.std.specs.Prelude.{◌≡◌, ◌≢◌, ◌≤◌, ◌==◌, ◌∷◌, ◌++◌, ℕ, List, [], Option, None, Result, All, OnOk, filter, length, map, slice_index_or}
+use Rattle.std.specs.Arc.{arc_value}
+use Rattle.std.specs.List.{AllZip, last_or}
+use Rattle.std.specs.declared.alloc.Global.{Global}
+use Rattle.std.specs.declared.sync.Arc.{Arc}
+use Rattle.std.specs.declared.vec.Vec.{Vec}
+use Rattle.auction_terms.specs.Terms.{Terms}
+use Rattle.bid_desk.specs.Holding.{SessionOwn}
+use Rattle.bid_forms.specs.Offers.{Meets, Offers}
+use Rattle.auction_input.specs.Submissions.{AreAccepted, forms_of}
+
+-- a form of this bidder that meets the rules
+pub record IsFormOf (t : Terms) (bidder : ℕ) (form : Offers) : Type 0 where
+  pub bidder_is : form.bidder ≡ bidder
+  pub meets : Meets t form
+
+abbrev pub AreFormsOf : Terms → ℕ → List Offers → Type 0
+AreFormsOf t bidder forms = All (IsFormOf t bidder) forms
+
+-- the forms out of their shares
+abbrev pub form_values : List (Arc Offers Global) → List Offers
+form_values forms = map (λ (form : Arc Offers Global). arc_value form) forms
+
+-- the forms in list b of these, out of their shares; where there is no list, none
+abbrev pub forms_in : List (Vec (Arc Offers Global) Global) → ℕ → List Offers
+forms_in lists b = slice_index_or (map (λ (list : Vec (Arc Offers Global) Global). form_values list.items) lists) b []
+
+-- list b has the forms of bidder b among these, in order
+abbrev pub AreByBidder : List Offers → List (Vec (Arc Offers Global) Global) → Type 0
+AreByBidder forms lists = (b : ℕ) → forms_in lists b ≡ forms_of b forms
+
+-- each list has grown by this form, if it is of its bidder
+abbrev pub HaveOneMore : Offers → List (Vec (Arc Offers Global) Global) → List (Vec (Arc Offers Global) Global) → Type 0
+HaveOneMore form lists lists' = (b : ℕ) → forms_in lists' b ≡ forms_in lists b ++ forms_of b (form ∷ [])
+
+-- a session, and the forms that it is to submit
+pub record JobOwn : Type 0 where
+  pub session : SessionOwn
+  pub forms : List Offers
+
+-- a first session, with the forms in the list of its bidder
+pub record IsFirstJob (lists : List (Vec (Arc Offers Global) Global)) (job : JobOwn) : Type 0 where
+  pub first : job.session.session ≡ 1
+  pub forms : job.forms ≡ forms_in lists job.session.bidder
+
+-- what a job came to: its session submitted its forms, in order, each accepted, unless it ended in a fault
+pub record ComesTo {E : Type 0} (job : JobOwn) (session : SessionOwn) (ended : Result (Unit {0}) E) : Type 0 where
+  pub bidder_is : session.bidder ≡ job.session.bidder
+  pub session_is : session.session ≡ job.session.session
+  pub accepted : OnOk ended (AreAccepted job.forms session.pairs)
+
+-- a session that made no call; if it is a first one, the list of its bidder is empty
+pub record IsIdle (lists : List (Vec (Arc Offers Global) Global)) (session : SessionOwn) : Type 0 where
+  pub fresh : session.pairs ≡ []
+  pub none : session.session ≡ 1 → forms_in lists session.bidder ≡ []
+
+-- a session's calls, if it is its bidder's first one: submissions of the bidder's forms, in order, each accepted; of any other session none
+pub record HasSubmitted (forms : List Offers) (session : SessionOwn) : Type 0 where
+  pub first : session.session ≡ 1 → AreAccepted (forms_of session.bidder forms) session.pairs
+  pub other : session.session ≢ 1 → session.pairs ≡ []

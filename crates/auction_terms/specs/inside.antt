@@ -1,0 +1,10 @@
+pub mod Entries
+pub mod FirstFault
+pub mod GroupNames
+pub mod GroupsText
+pub mod Keeping
+pub mod PlainRecords
+pub mod Records
+pub mod RulesText
+pub mod Sources
+pub mod Terms

@@ -1,0 +1,8 @@
+-- The first fault of a list whose items are checked one after the other, each given those before it.
+use Rattle.std.specs.Prelude.{◌≡◌, Bool, List, [], ◌∷◌, ◌++◌, Option, Some, None, Result, Ok, Err, ⊤, if◌then◌else◌}
+use Rattle.std.specs.Bool.{MatchBool}
+
+-- the result is the value where no check found a fault, and else that fault, or want of memory stands in its place
+abbrev pub TellsUnless : {T F : Type 0} → (F → Bool) → Result T F → Option F → T → Type 0
+TellsUnless is_memory (Ok x) found value = (found ≡ None) × (x ≡ value)
+TellsUnless is_memory (Err f) found value = MatchBool (is_memory f) ⊤ (found ≡ Some f)

@@ -1,0 +1,8 @@
+-- What the rules of an auction say, and their limits.
+use Rattle.std.specs.Prelude.{◌≡◌, ◌≢◌, ◌≤◌, ℕ, Bool, List, length, map, nat_lt, sum_by, All, AllPairs}
+use Rattle.std.specs.List.{list_any}
+use Rattle.auction_terms.specs.declared.rules.Category.{Category}
+
+-- a lot of some category has a value where it is left
+abbrev pub has_values : List Category → Bool
+has_values categories = list_any (λ category. nat_lt 0 category.value) categories

@@ -1,0 +1,4 @@
+pub mod Claimed
+pub mod Claims
+pub mod Compiled
+pub mod Works

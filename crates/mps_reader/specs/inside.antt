@@ -1,0 +1,9 @@
+pub mod Answer
+pub mod Columns
+pub mod Fit
+pub mod Reading
+pub mod Rows
+pub mod Sections
+pub mod States
+pub mod Told
+pub mod Tracking

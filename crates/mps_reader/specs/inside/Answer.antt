@@ -1,0 +1,10 @@
+-- What the reader answers.
+use Rattle.std.specs.Prelude.{◌≡◌, ◌⊎◌, ℕ, Result, Ok, Err}
+use Rattle.program_rows.specs.declared.fault.FaultKind.TheVariants.{OutOfMemory}
+use Rattle.mps_reader.specs.declared.mps_fault.MpsFault.{MpsFault}
+use Rattle.mps_reader.specs.declared.refusal.Refusal.{Refusal}
+use Rattle.mps_reader.specs.declared.refusal.Refusal.TheVariants.{Memory, Fault}
+
+abbrev pub IsRefused : ℕ → Refusal → MpsFault → Type 0
+IsRefused line Memory fault = fault ≡ record { line = 0; kind = OutOfMemory }
+IsRefused line (Fault kind) fault = fault ≡ record { line = line; kind = kind }

@@ -1,0 +1,24 @@
+-- What the code answers, as the definitions say it.
+use Rattle.std.specs.Prelude.{◌≡◌, ◌⊎◌, ℕ, Option, Some, None, Result, Ok, Err}
+use Rattle.optimality.specs.declared.fault.FaultKind.{FaultKind}
+use Rattle.optimality.specs.declared.fault.FaultKind.TheVariants.{OutOfMemory, TooLarge}
+use Rattle.optimality.specs.declared.fault.CertificateFault.{CertificateFault}
+use Rattle.optimality.specs.declared.limit.Limit.TheVariants as limits
+use Rattle.optimality.specs.declared.refusal.Refusal.{Refusal}
+use Rattle.optimality.specs.declared.refusal.Refusal.TheVariants.{Stopped, Fault}
+
+-- the value, as it is seen, or the fault; where a limit stops the code it says nothing
+abbrev pub Answers : {X Y : Type 0} → (X → Y) → Result X Refusal → Result Y FaultKind → Type 0
+Answers view (Ok x) told = told ≡ Ok (view x)
+Answers view (Err (Stopped limit)) told = Unit {0}
+Answers view (Err (Fault kind)) told = told ≡ Err kind
+
+abbrev pub IsStopped : Refusal → Type 0
+IsStopped (Stopped limit) = Unit {0}
+IsStopped (Fault kind) = ⊥
+
+-- the fault of a line that is not taken
+abbrev pub IsRefused : ℕ → Refusal → CertificateFault → Type 0
+IsRefused line (Stopped limits.Memory) fault = fault.kind ≡ OutOfMemory
+IsRefused line (Stopped limits.TooLarge) fault = fault.kind ≡ TooLarge
+IsRefused line (Fault kind) fault = fault ≡ record { line = line; kind = kind }

@@ -1,0 +1,4 @@
+pub mod Flags
+pub mod Masks
+pub mod Shelves
+pub mod Sizes

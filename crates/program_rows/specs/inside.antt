@@ -1,0 +1,5 @@
+pub mod Building
+pub mod Comparing
+pub mod Cut
+pub mod Joined
+pub mod Pieces
