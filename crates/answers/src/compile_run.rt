@@ -22,9 +22,9 @@ use std::alloc::{AllocError, Global};
 use std::sync::Wait;
 use std::thread::Threads;
 
-/// Renders each form's kept bids once, with 1 to 64 workers, and writes for each in order a line `* program k NAMES` and the text of its
-/// program. Each point of a text maps back to a feasible allocation of the same total, and each feasible allocation is
-/// matched by a point of at least its total.
+/// Renders the lines of each form's kept bids once, with 1 to 64 workers, and writes for each group in order a line
+/// `* program k NAMES` and the text of its program. Each point of a text maps back to a feasible allocation of the same
+/// total, and each feasible allocation is matched by a point of at least its total.
 pub fn run_compile<R: Threads + Wait + Sync, G: Gate + Sync, S: Sink>(
     rt: &R,
     alloc: Global,

@@ -50,6 +50,7 @@ fn page_at(
     requires slot { IfSome slot (λ page. page ≡ page_at book.now place) }
     ensures { IfOk result (λ page. page ≡ page_at book.now place) }
 {
+    // Its contract says that the rules are within limits, and so how many bidders there are.
     let _rules = book.rules();
     match slot {
         Some(page) => Ok(page),

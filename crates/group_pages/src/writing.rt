@@ -82,6 +82,7 @@ fn add_page<S: Sink>(
 ) -> Result<(), SinkFailed>
     ensures { Adds result (S.taken sink.old) (S.taken sink.new) block.old block.new (S.failures sink.old) (S.failures sink.new) (cond is_out [] (lines_of section page.now)) }
 {
+    // Reading the block shows that what waits fits it, also where nothing is added.
     let _known = block.sent;
     if is_out {
         return Ok(());
@@ -100,6 +101,7 @@ fn add_joined<S: Sink>(
     requires { length pages.now ≤ MOST_BIDDERS }
     ensures { Adds result (S.taken sink.old) (S.taken sink.new) block.old block.new (S.failures sink.old) (S.failures sink.new) (joined section (outside (has group.now) 1 pages.now)) }
 {
+    // Reading the block shows that what waits fits it, also where nothing is added.
     let _known = block.sent;
     for place in 0..pages.len() {
         let is_out = group.has(place as u16 + 1);

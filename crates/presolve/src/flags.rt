@@ -75,6 +75,7 @@ impl Flags {
         requires bidders { bidder ≤ length (book_of book.now) }
         ensures { IfOk result (λ kept. offers kept ≡ kept_in_form (lots_in book.now.rules) bidder (form_of (book_of book.now) bidder)) }
     {
+        // Its contract says that the rules are within limits, and so how many bidders there are.
         let _rules = book.rules();
         let mut own = Vec::new(alloc);
         let flags = &self.forms[bidder as usize - 1];
