@@ -43,5 +43,14 @@ def best(rounds, words, source, target, status=0, folder=None, processors=None):
     return min(seconds for seconds, _, _ in runs), min(used for _, used, _ in runs)
 
 
+def peak_memory(words, folder, text, out):
+    """Peak memory in bytes. GNU time stands between, since a child counts the memory of the process that starts it, and
+    Python's is larger than a small command's."""
+    note = os.path.join(folder, "memory")
+    run(["/usr/bin/time", "-q", "-f", "%M", "-o", note] + words, text, out, folder=folder)
+    with open(note) as file:
+        return int(file.read()) * 1024
+
+
 def load():
     return "%d processors, load %.1f" % (os.cpu_count(), os.getloadavg()[0])

@@ -1,27 +1,26 @@
 -- What certificates come to, one after the other.
 use Rattle.std.proofs.Common.{◌≡◌, ◌≢◌, ◌<◌, ◌+◌, ◌++◌, ◌∷◌, ◌∙◌, [], ℕ, zero, suc, true, false, List, Option, Some, Result, Ok, Err, ap, arith, length, map, refl, replicate, subst, sym, take, inl, inr}
 use Rattle.std.specs.Prelude.{◌==◌, ◌⊎◌, IfErr, OnOk}
-use Rattle.std.specs.List.{AllZip, zip}
+use Rattle.std.specs.List.{AllZip}
 use Rattle.std.specs.Option.{option_map}
 use Rattle.std.proofs.lemmas.Bool.{eq-eqb, ne_eqb}
 use Rattle.std.proofs.lemmas.List.{length-map}
 use denote.Ref.{Bor}
 use Rattle.auction_terms.specs.declared.choices.Choice.{Choice}
 use Rattle.bid_desk.specs.Closing.{Closing}
-use Rattle.group_compiler.specs.Compiled.{GroupProgram, compiled}
+use Rattle.group_compiler.specs.Compiled.{program_without}
 use Rattle.optimality.specs.Answers.{IsLimit}
 use Rattle.optimality.specs.Verdict.{first_fault}
 use Rattle.optimality.specs.declared.fault.CertificateFault.{CertificateFault}
 use Rattle.optimality.specs.declared.fault.FaultKind.{FaultKind}
 use Rattle.optimality.specs.declared.fault.FaultKind.TheVariants as kind
-use Rattle.outcome.specs.Sale.{sale_of}
-use Rattle.answers.specs.Certified.{ClaimedBound, bound_of, bounds_of, certificate_refused, certified, shown}
+use Rattle.answers.specs.Certified.{ClaimedBound, bounds_of, certificate_refused, certified, shown}
 use Rattle.auction_input.specs.Refused.{Refuses, Refusal, Refused}
 use Rattle.auction_input.specs.Settled.{held}
 use Rattle.answers.specs.Exact.{IsTooWide}
 use Rattle.answers.specs.inside.Judging.{AllShown, IsFirstFaulty, IsJudged, bounds_by, claimed}
-use Rattle.auction_input.specs.Parts.{bytes_of}
-use Rattle.auction_input.specs.Stages.{and_then, each_in_turn, unless}
+use Rattle.auction_terms.specs.Borrowed.{bytes_of}
+use Rattle.auction_terms.specs.Stages.{and_then, each_in_turn, unless}
 use Rattle.auction_input.specs.declared.auction.Auction as declared
 use Rattle.answers.specs.declared.certified.ClaimedBound as code
 use Rattle.auction_input.specs.declared.refusal.CountedPart.TheVariants as counted
@@ -35,16 +34,16 @@ abbrev ok : Verdict
 ok = Ok tt
 
 -- a certificate whose verdict is Ok shows what it is to
-shown-ok : (n : ℕ) (b : code.ClaimedBound) → IsJudged b ok → shown n (claimed b) ≡ Ok tt
-shown-ok n b judged = ap (λ (f : Option (ℕ × FaultKind)). unless (option_map (certificate_refused n) f) tt) judged.is
+shown-ok : (book : Closing) (n : ℕ) (b : code.ClaimedBound) → IsJudged book b ok → shown n (claimed book b) ≡ Ok tt
+shown-ok book n b judged = ap (λ (f : Option (ℕ × FaultKind)). unless (option_map (certificate_refused n) f) (Ok tt)) judged.is
 
 -- as many as there are
-pub all-shown : (n : ℕ) (bounds : List code.ClaimedBound) (count : ℕ) → AllZip IsJudged bounds (replicate count ok)
-    → each_in_turn shown n (map claimed bounds) ≡ Ok (replicate count tt)
-all-shown n [] zero each = refl
-all-shown n [] (suc count) each = absurd each
-all-shown n (b ∷ bounds) zero each = absurd each
-all-shown n (b ∷ bounds) (suc count) each = rw (shown-ok n b each.0, all-shown (n + 1) bounds count each.1) refl
+pub all-shown : (book : Closing) (n : ℕ) (bounds : List code.ClaimedBound) (count : ℕ) → AllZip (IsJudged book) bounds (replicate count ok)
+    → each_in_turn shown n (map (claimed book) bounds) ≡ Ok (replicate count tt)
+all-shown book n [] zero each = refl
+all-shown book n [] (suc count) each = absurd each
+all-shown book n (b ∷ bounds) zero each = absurd each
+all-shown book n (b ∷ bounds) (suc count) each = rw (shown-ok book n b each.0, all-shown book (n + 1) bounds count each.1) refl
 
 -- how a list of bounds ends at the first fault, which has number m
 data Stops (n : ℕ) (bounds : List ClaimedBound) (before : ℕ) (f : CertificateFault) : Type 0 where
@@ -52,27 +51,27 @@ data Stops (n : ℕ) (bounds : List ClaimedBound) (before : ℕ) (f : Certificat
   by_width : f.kind ≡ kind.TooLarge → before < length bounds → each_in_turn shown n (take before bounds) ≡ Ok (replicate before tt) → Stops n bounds before f
   by_fault : each_in_turn shown n bounds ≡ Err (refusal.Certificate (n + before) f) → Stops n bounds before f
 
-first-stops : (n : ℕ) (b : code.ClaimedBound) (bounds : List ClaimedBound) (f : CertificateFault) → IsLimit f.kind ⊎ (first_fault b.program.now b.least b.certificate.now ≡ Some (f.line, f.kind))
-    → Stops n (claimed b ∷ bounds) 0 f
-first-stops n b bounds f (inl (inl memory)) = by_memory memory
-first-stops n b bounds f (inl (inr large)) = by_width large (omega arith) refl
-first-stops n b bounds f (inr found) =
-    let told : shown n (claimed b) ≡ Err (refusal.Certificate n f) = ap (λ (o : Option (ℕ × FaultKind)). unless (option_map (certificate_refused n) o) tt) found in
+first-stops : (book : Closing) (n : ℕ) (b : code.ClaimedBound) (bounds : List ClaimedBound) (f : CertificateFault) → IsLimit f.kind ⊎ (first_fault (program_without book b.group.now) b.least b.certificate.now ≡ Some (f.line, f.kind))
+    → Stops n (claimed book b ∷ bounds) 0 f
+first-stops book n b bounds f (inl (inl memory)) = by_memory memory
+first-stops book n b bounds f (inl (inr large)) = by_width large (omega arith) refl
+first-stops book n b bounds f (inr found) =
+    let told : shown n (claimed book b) ≡ Err (refusal.Certificate n f) = ap (λ (o : Option (ℕ × FaultKind)). unless (option_map (certificate_refused n) o) (Ok tt)) found in
     let here : n + 0 ≡ n = omega arith in
     by_fault (rw (told, here) refl)
 
-later-stops : (n : ℕ) (b : code.ClaimedBound) (bounds : List ClaimedBound) (before : ℕ) (f : CertificateFault) → IsJudged b ok → Stops (n + 1) bounds before f → Stops n (claimed b ∷ bounds) (suc before) f
-later-stops n b bounds before f first (by_memory memory) = by_memory memory
-later-stops n b bounds before f first (by_width large few all) = by_width large (omega arith) (rw (shown-ok n b first, all) refl)
-later-stops n b bounds before f first (by_fault told) =
+later-stops : (book : Closing) (n : ℕ) (b : code.ClaimedBound) (bounds : List ClaimedBound) (before : ℕ) (f : CertificateFault) → IsJudged book b ok → Stops (n + 1) bounds before f → Stops n (claimed book b ∷ bounds) (suc before) f
+later-stops book n b bounds before f first (by_memory memory) = by_memory memory
+later-stops book n b bounds before f first (by_width large few all) = by_width large (omega arith) (rw (shown-ok book n b first, all) refl)
+later-stops book n b bounds before f first (by_fault told) =
     let count : n + 1 + before ≡ n + suc before = omega arith in
-    by_fault (rw (shown-ok n b first, told, count) refl)
+    by_fault (rw (shown-ok book n b first, told, count) refl)
 
-stops : (n : ℕ) (bounds : List code.ClaimedBound) (before : ℕ) (f : CertificateFault) (after : List Verdict) → AllZip IsJudged bounds (replicate before ok ++ Err f ∷ after) → Stops n (map claimed bounds) before f
-stops n [] zero f after each = absurd each
-stops n [] (suc before) f after each = absurd each
-stops n (b ∷ bounds) zero f after each = first-stops n b (map claimed bounds) f each.0.is
-stops n (b ∷ bounds) (suc before) f after each = later-stops n b (map claimed bounds) before f each.0 (stops (n + 1) bounds before f after each.1)
+stops : (book : Closing) (n : ℕ) (bounds : List code.ClaimedBound) (before : ℕ) (f : CertificateFault) (after : List Verdict) → AllZip (IsJudged book) bounds (replicate before ok ++ Err f ∷ after) → Stops n (map (claimed book) bounds) before f
+stops book n [] zero f after each = absurd each
+stops book n [] (suc before) f after each = absurd each
+stops book n (b ∷ bounds) zero f after each = first-stops book n b (map (claimed book) bounds) f each.0.is
+stops book n (b ∷ bounds) (suc before) f after each = later-stops book n b (map (claimed book) bounds) before f each.0 (stops book (n + 1) bounds before f after each.1)
 
 abbrev pub EndsChecks : List ClaimedBound → Refusal → Type 0
 EndsChecks bounds r = Refuses (each_in_turn shown 1 bounds) r ⊎ IsTooWide bounds r
@@ -85,44 +84,32 @@ refusal-at bounds before line k (by_fault told) =
     inl (inl (rw count at told))
 
 -- the first fault among verdicts ends the checks
-pub ends-checks : (bounds : List code.ClaimedBound) (verdicts : List Verdict) (r : Refusal) → AllZip IsJudged bounds verdicts → IsFirstFaulty verdicts r → EndsChecks (map claimed bounds) r
-ends-checks bounds verdicts (refusal.Certificate n f) each (before, after, are, number) =
-    let stopped = stops 1 bounds before f after (rw are at each) in
-    rw number (refusal-at (map claimed bounds) before f.line f.kind stopped)
-ends-checks bounds verdicts r each is = absurd is
+pub ends-checks : (book : Closing) (bounds : List code.ClaimedBound) (verdicts : List Verdict) (r : Refusal) → AllZip (IsJudged book) bounds verdicts → IsFirstFaulty verdicts r → EndsChecks (map (claimed book) bounds) r
+ends-checks book bounds verdicts (refusal.Certificate n f) each (before, after, are, number) =
+    let stopped = stops book 1 bounds before f after (rw are at each) in
+    rw number (refusal-at (map (claimed book) bounds) before f.line f.kind stopped)
+ends-checks book bounds verdicts r each is = absurd is
 
 -- where no verdict is a fault, all certificates show what they are to
-pub all-checked : (bounds : List code.ClaimedBound) (verdicts : List Verdict) (r : Result (Unit {0}) Refusal) → AllZip IsJudged bounds verdicts → OnOk r (verdicts ≡ replicate (length verdicts) ok) → OnOk r (AllShown (map claimed bounds))
-all-checked bounds verdicts (Ok u) each none = (replicate (length verdicts) tt, all-shown 1 bounds (length verdicts) (subst (λ (vs : List Verdict). AllZip IsJudged bounds vs) none each))
-all-checked bounds verdicts (Err r) each none = tt
+pub all-checked : (book : Closing) (bounds : List code.ClaimedBound) (verdicts : List Verdict) (r : Result (Unit {0}) Refusal) → AllZip (IsJudged book) bounds verdicts → OnOk r (verdicts ≡ replicate (length verdicts) ok) → OnOk r (AllShown (map (claimed book) bounds))
+all-checked book bounds verdicts (Ok u) each none = (replicate (length verdicts) tt, all-shown book 1 bounds (length verdicts) (subst (λ (vs : List Verdict). AllZip (IsJudged book) bounds vs) none each))
+all-checked book bounds verdicts (Err r) each none = tt
 
-pub checks-ended : (bounds : List code.ClaimedBound) (verdicts : List Verdict) (r : Result (Unit {0}) Refusal) → AllZip IsJudged bounds verdicts → IfErr r (IsFirstFaulty verdicts) → IfErr r (EndsChecks (map claimed bounds))
-checks-ended bounds verdicts (Ok u) each first = tt
-checks-ended bounds verdicts (Err r) each first = ends-checks bounds verdicts r each first
+pub checks-ended : (book : Closing) (bounds : List code.ClaimedBound) (verdicts : List Verdict) (r : Result (Unit {0}) Refusal) → AllZip (IsJudged book) bounds verdicts → IfErr r (IsFirstFaulty verdicts) → IfErr r (EndsChecks (map (claimed book) bounds))
+checks-ended book bounds verdicts (Ok u) each first = tt
+checks-ended book bounds verdicts (Err r) each first = ends-checks book bounds verdicts r each first
 
 -- ---- the certificates of an auction
 
 abbrev Text : Type 0
 Text = Bor (List ℕ)
 
--- bounds by the groups' programs are those of the auction
-bounds-compiled : (book : Closing) (groups : List (List ℕ)) (won : List (List Choice)) (texts : List (List ℕ))
-    → bounds_by book (map (compiled book) groups) won texts ≡ map (bound_of (sale_of book)) (zip (zip groups won) texts)
-bounds-compiled book [] won texts = refl
-bounds-compiled book (group ∷ groups) [] texts = refl
-bounds-compiled book (group ∷ groups) (a ∷ won) [] = refl
-bounds-compiled book (group ∷ groups) (a ∷ won) (text ∷ texts) = ap (λ (bounds : List ClaimedBound). bound_of (sale_of book) ((group, a), text) ∷ bounds) (bounds-compiled book groups won texts)
-
 module _ (auction : declared.Auction) (won : List (List Choice)) where
   abbrev texts : List (List ℕ)
   texts = bytes_of auction.certificates.items
 
-  pub bounds-are : (programs : List GroupProgram) (certificates : List Text) → programs ≡ map (compiled auction.book) auction.groups → certificates ≡ auction.certificates.items
-      → bounds_by auction.book programs won (bytes_of certificates) ≡ bounds_of (held auction) won
-  bounds-are programs certificates are same =
-      ap (λ (made : List GroupProgram). bounds_by auction.book made won (bytes_of certificates)) are
-      ∙ ap (λ (xs : List Text). bounds_by auction.book (map (compiled auction.book) auction.groups) won (bytes_of xs)) same
-      ∙ bounds-compiled auction.book auction.groups won texts
+  pub bounds-are : (certificates : List Text) → certificates ≡ auction.certificates.items → bounds_by auction.book auction.groups won (bytes_of certificates) ≡ bounds_of (held auction) won
+  bounds-are certificates same = ap (λ (xs : List Text). bounds_by auction.book auction.groups won (bytes_of xs)) same
 
   pub certificates-miscounted : length auction.certificates.items ≢ length auction.groups → Refuses (certified (held auction) won) (refusal.PartCount counted.Certificates)
   certificates-miscounted other =

@@ -25,9 +25,9 @@ use Rattle.auction_input.specs.Refused.{Refuses, Refusal, Refused}
 use Rattle.auction_input.specs.Settled.{RefusesAuction, held}
 use Rattle.answers.specs.Exact.{Ends, IsLeftOpen, Writes, by_put, by_refusal}
 use Rattle.answers.specs.GroupTexts.{EndsIn, in_turn, program_bytes, programs_bytes}
-use Rattle.auction_input.specs.Parts.{bytes_of}
+use Rattle.auction_terms.specs.Borrowed.{bytes_of}
 use Rattle.auction_input.specs.PartsTold.{only_text}
-use Rattle.auction_input.specs.Stages.{and_then, each_in_turn}
+use Rattle.auction_terms.specs.Stages.{and_then, each_in_turn}
 use Rattle.answers.specs.Winners.{winners, winners_by}
 use Rattle.auction_input.specs.declared.auction.Auction as declared
 use Rattle.auction_input.specs.declared.refusal.CountedPart.TheVariants as counted

@@ -1,7 +1,7 @@
--- A fault that a part of the program answers is the refusal that is told, or want of memory.
+-- A fault that a part of the program answers is the refusal that is told, or memory was short.
 use Rattle.std.proofs.Common.{◌≡◌, ◌∙◌, ℕ, Bool, List, Result, Err, ap, refl, sym, inl, inr}
 use Rattle.auction_input.specs.Refused.{Refuses, Refusal, Refused, is_memory, refused}
-use Rattle.auction_input.specs.Stages.{refused_as}
+use Rattle.auction_terms.specs.Stages.{Answers, refused_as}
 use Rattle.auction_input.specs.declared.refusal.Refusal.TheVariants as refusal
 use Rattle.mps_reader.specs.Answer.{IsRead}
 use Rattle.mps_reader.specs.declared.mps_fault.MpsFault.{MpsFault}
@@ -33,12 +33,12 @@ none_won e = Err e
 told-solution : (p : Table) (n : ℕ) (f : SolutionFault) (x : Result (List Bool) SolutionFault) (r : Refusal) → refused r ≡ solution_refused p n f → no_point f ≡ x → Refuses (refused_as (solution_refused p n) x) r
 told-solution p n f x r told is = inl (ap (λ q. refused_as (solution_refused p n) q) (sym is) ∙ ap (λ (e : Refused). none_won e) (sym told))
 
--- the value of a refusal is want of memory where the refusal is
+-- the value of a refusal tells that memory was short where the refusal does
 memory-of : (r : Refusal) → is_memory (refused r) ≡ is_memory r
 memory-of (refusal.Input f) = refl
 memory-of r = refl
 
-pub solution-refuses : (p : Table) (n : ℕ) (f : SolutionFault) (x : Result (List Bool) SolutionFault) (r : Refusal) → refused r ≡ solution_refused p n f → solution_text.Answers (no_point f) x
+pub solution-refuses : (p : Table) (n : ℕ) (f : SolutionFault) (x : Result (List Bool) SolutionFault) (r : Refusal) → refused r ≡ solution_refused p n f → Answers solution_text.is_memory (no_point f) x
     → Refuses (refused_as (solution_refused p n) x) r
 solution-refuses p n solution.OutOfMemory x r told is = inr (sym (memory-of r) ∙ ap (λ (e : Refused). is_memory e) told)
 solution-refuses p n f x r told is = told-solution p n f x r told is

@@ -1,10 +1,12 @@
 -- Items that go out one after the other.
-use Rattle.std.proofs.Common.{◌≡◌, ◌<◌, ◌≤◌, ◌+◌, ◌-◌, ◌∷◌, ◌++◌, ◌∙◌, ℕ, suc, List, [], Option, None, Some, length, take, drop, get_or, refl, sym, ap, arith, append_assoc, length-append}
+use Rattle.std.proofs.Common.{◌≡◌, ◌<◌, ◌≤◌, ◌+◌, ◌-◌, ◌∷◌, ◌++◌, ◌∙◌, ℕ, suc, List, [], Option, None, Some, length, take, drop, get_or, refl, sym, ap, subst, arith, append_assoc, length-append}
 use Rattle.std.specs.Io.KnownBytes.{Appends, append_known}
+use denote.Ref.{MutBor}
 use Rattle.std.proofs.lemmas.List.{append-nil, length-take, take-append-drop, take-append-le, take_more}
-use Rattle.mps_text.specs.Held.{held}
-use Rattle.mps_text.specs.Sinks.{Counts, IsFront, SentFront, counted}
-use Rattle.mps_text.specs.declared.block.Block.{Block}
+use Rattle.mps_text.specs.Sinks.{Counts, HasFailed, IsFront, SentFront, counted}
+use Rattle.mps_text.specs.declared.writer.Writer.{Writer}
+use Rattle.mps_text.specs.Adds.{Adds, IsBroken, IsNew, IsSent}
+use Rattle.mps_text.proofs.Adding.{Adds-then, counts-new, fails-new, front-behind, sent-whole}
 use Rattle.mps_text.proofs.Known.{Counts-then, IsFront-piece, SentFront-from}
 use Rattle.bid_desk.specs.Closing.{Closing}
 use Rattle.group_compiler.specs.Compiled.{GroupProgram}
@@ -33,14 +35,6 @@ pub in_turn-rest : {X : Type 0} (f : ℕ → X → List ℕ) (k : ℕ) (xs : Lis
     → in_turn f k xs ≡ in_turn f k (take i xs) ++ in_turn f (k + length (take i xs)) (drop i xs)
 in_turn-rest f k xs i = ap (in_turn f k) (sym (take-append-drop i xs)) ∙ in_turn-append f k (take i xs) (drop i xs)
 
--- what was added has gone out, where nothing waits
-pub appends-sent : (t t' : Option (List ℕ)) (b b' : Block) (bytes : List ℕ) → b.waiting.items ≡ [] → b'.waiting.items ≡ [] → Appends (held t b) (held t' b') bytes → Appends t t' bytes
-appends-sent None t' b b' bytes e e' p = tt
-appends-sent (Some xs) None b b' bytes e e' p = absurd p
-appends-sent (Some xs) (Some ys) b b' bytes e e' p =
-    let plain : ys ++ [] ≡ (xs ++ []) ++ bytes = rw (e, e') at p in
-    sym (append-nil ys) ∙ plain ∙ ap (λ w. w ++ bytes) (append-nil xs)
-
 -- where the output ended: behind what had gone out, and within the bytes that were being added
 abbrev pub EndsWithin : Option (List ℕ) → Option (List ℕ) → List ℕ → List ℕ → List ℕ → ℕ → Type 0
 EndsWithin None after whole done upto written = Unit {0}
@@ -57,7 +51,7 @@ ends-known o m u done b later written gone longer (n, few, is, count) =
     let front : take n ((done ++ b) ++ later) ≡ take n (done ++ b) = rw take-append-le refl in
     (n, is ∙ ap (λ w. o ++ w) (sym front), count, omega arith, few)
 
-pub ends-within : (t0 t t' : Option (List ℕ)) (done b later : List ℕ) (sent sent' : ℕ) → Appends t0 t done → Counts t0 t 0 sent → IsFront t' (append_known t b) → Counts t t' sent sent'
+ends-within : (t0 t t' : Option (List ℕ)) (done b later : List ℕ) (sent sent' : ℕ) → Appends t0 t done → Counts t0 t 0 sent → IsFront t' (append_known t b) → Counts t t' sent sent'
     → EndsWithin t0 t' ((done ++ b) ++ later) done (done ++ b) sent'
 ends-within None t t' done b later sent sent' gone count front more = tt
 ends-within (Some o) None t' done b later sent sent' gone count front more = absurd gone
@@ -67,6 +61,21 @@ ends-within (Some o) (Some m) (Some u) done b later sent sent' gone count front 
     let all = IsFront-piece (Some u) (Some o) (Some m) done b [] (done ++ b) same gone front in
     let counts = Counts-then (Some o) (Some m) (Some u) 0 sent sent' count more in
     ends-known o m u done b later sent' gone more.0 (SentFront-from (Some o) (Some u) (done ++ b) sent' all counts)
+
+-- the same, of a writer that had sent what is done, to a sink that ends as x
+pub ends-told : {X : Type 0} {taken : X → Option (List ℕ)} {failures : X → ℕ} {s : MutBor X} {a b c : Writer X} {written : ℕ} (x : X) (done bytes later : List ℕ)
+    → IsNew s a → Adds taken failures a b done → IsSent b → Adds taken failures b c bytes → IsBroken c written → x ≡ c.sink.now
+    → EndsWithin (taken s.now) (taken x) ((done ++ bytes) ++ later) done (done ++ bytes) written
+ends-told {X} {taken} {failures} {s} {a} {b} {c} {written} x done bytes later new before sent added broken end =
+    let ends = ends-within (taken s.now) (taken b.sink.now) (taken c.sink.now) done bytes later b.sent c.sent (sent-whole new before sent) (counts-new new before) (front-behind sent added broken) added.counted in
+    subst (λ (y : X). EndsWithin (taken s.now) (taken y) ((done ++ bytes) ++ later) done (done ++ bytes) written) (sym end)
+    (subst (λ (n : ℕ). EndsWithin (taken s.now) (taken c.sink.now) ((done ++ bytes) ++ later) done (done ++ bytes) n) (sym broken.1) ends)
+
+-- the sink counts the put that failed
+pub fails-told : {X : Type 0} {taken : X → Option (List ℕ)} {failures : X → ℕ} {s : MutBor X} {a b c : Writer X} {done bytes : List ℕ} {written : ℕ} (x : X)
+    → IsNew s a → Adds taken failures a b done → Adds taken failures b c bytes → IsBroken c written → x ≡ c.sink.now → HasFailed (failures s.now) (failures x)
+fails-told {X} {taken} {failures} {s} x new before added broken end =
+    subst (λ (y : X). HasFailed (failures s.now) (failures y)) (sym end) (fails-new new (Adds-then before added) broken)
 
 -- the same, of the programs of all groups
 pub ends-in : (book : Closing) (programs : List GroupProgram) (place written : ℕ) (t t' : Option (List ℕ)) (whole done upto : List ℕ)

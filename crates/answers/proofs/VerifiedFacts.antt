@@ -30,7 +30,7 @@ use Rattle.answers.specs.commands.Report.{report_of, winners_of_groups}
 use Rattle.answers.specs.commands.Verify.{verified_text}
 use Rattle.auction_input.specs.PartsTold.{parts_told}
 use Rattle.auction_input.specs.Refused.{Refused}
-use Rattle.auction_input.specs.Stages.{and_then, each_in_turn, refused_as}
+use Rattle.auction_terms.specs.Stages.{and_then, each_in_turn, refused_as}
 use Rattle.auction_input.specs.TextsTold.{forms_told, groups_told, terms_told}
 use Rattle.answers.specs.Exact.{IsWritten}
 use Rattle.answers.specs.Verified.{IsGreatestWithout, IsOwnCost, IsTrueReport, VerifiedIsTrue, WritesTrueReport}

@@ -8,7 +8,7 @@ use Rattle.answers.specs.commands.Report.{winners_of_groups}
 use Rattle.answers.specs.commands.Verify.{verified_text}
 use Rattle.auction_input.specs.Refused.{Refuses, Refusal, Refused}
 use Rattle.answers.specs.Exact.{Ends, IsBeyondSums, IsTooWide, IsUnwritten, by_refusal}
-use Rattle.auction_input.specs.Stages.{and_then}
+use Rattle.auction_terms.specs.Stages.{and_then}
 use Rattle.auction_input.specs.declared.request.Request.TheVariants as request
 use Rattle.auction_input.proofs.StageFacts.{behind, stop}
 

@@ -10,7 +10,7 @@ use Rattle.program_rows.specs.Program.{TableColumn, Table}
 use Rattle.outcome.specs.Solution.{solution}
 use Rattle.outcome.specs.Winning.{allocation_of}
 use Rattle.outcome.specs.declared.fault.SolutionFault.{SolutionFault}
-use Rattle.auction_input.specs.Stages.{refused_as}
+use Rattle.auction_terms.specs.Stages.{refused_as}
 use Rattle.answers.specs.Winners.{solution_refused, winners_by}
 use Rattle.auction_input.proofs.StageFacts.{next}
 

@@ -2,7 +2,9 @@
 use Rattle.std.specs.Prelude.{◌≡◌, refl, Ok, Err, codes}
 use Rattle.std.specs.Fmt.{digits}
 use Rattle.program_rows.specs.Lines.{fields, line_of}
-use Rattle.program_rows.specs.Meaning.{fault, meaning, program}
+use Rattle.program_rows.specs.Described.{program}
+use Rattle.program_rows.specs.Faults.{fault}
+use Rattle.program_rows.specs.Meaning.{meaning}
 use Rattle.program_rows.specs.Numbers.{number}
 use Rattle.program_rows.specs.declared.fault.FaultKind.TheVariants as kind
 use Rattle.answers.specs.Answer.{answer}

@@ -3,7 +3,7 @@ use Rattle.std.specs.Prelude.{ℕ, List, Result, Ok}
 use Rattle.auction_input.specs.Auction.{auction_told}
 use Rattle.auction_input.specs.InputTexts.{program_in}
 use Rattle.auction_input.specs.Refused.{Refused}
-use Rattle.auction_input.specs.Stages.{and_then, refused_as}
+use Rattle.auction_terms.specs.Stages.{and_then, refused_as}
 use Rattle.auction_input.specs.declared.refusal.Refusal.TheVariants as refusal
 use Rattle.auction_input.specs.declared.request.Request.TheVariants.{Check, Compile, Map, Report, Text, Verify}
 use Rattle.auction_input.specs.declared.request.Request.{Request}

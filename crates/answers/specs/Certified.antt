@@ -5,7 +5,7 @@ use Rattle.std.specs.Option.{option_map}
 use Rattle.auction_input.specs.Auction.{Auction}
 use Rattle.auction_input.specs.BookLeft.{program_for}
 use Rattle.auction_input.specs.Refused.{Refused}
-use Rattle.auction_input.specs.Stages.{and_then, each_in_turn, unless}
+use Rattle.auction_terms.specs.Stages.{and_then, each_in_turn, unless}
 use Rattle.auction_input.specs.declared.refusal.CountedPart.TheVariants as counted
 use Rattle.auction_input.specs.declared.refusal.Refusal.TheVariants as refusal
 use Rattle.auction_terms.specs.Allocations.{total}
@@ -34,7 +34,7 @@ certificate_refused number f = refusal.Certificate number (record { line = f.0; 
 
 -- the certificate of this number shows what it is to, or has a first fault
 abbrev pub shown : ℕ → ClaimedBound → Result (Unit {0}) Refused
-shown number bound = unless (option_map (certificate_refused number) (first_fault bound.program bound.least bound.certificate)) tt
+shown number bound = unless (option_map (certificate_refused number) (first_fault bound.program bound.least bound.certificate)) (Ok tt)
 
 -- what the groups win, where there is a certificate for each, and each shows what it is to
 abbrev pub certified : Auction → List (List Choice) → Result (List (List Choice)) Refused

@@ -4,7 +4,7 @@ use Rattle.std.specs.Io.KnownBytes.{Appends}
 use Rattle.auction_input.specs.Auction.{Auction, auction_told}
 use Rattle.auction_input.specs.Refused.{Refusal, Refused, Refuses}
 use Rattle.auction_input.specs.Settled.{IsUnsettled}
-use Rattle.auction_input.specs.Stages.{each_in_turn}
+use Rattle.auction_terms.specs.Stages.{each_in_turn}
 use Rattle.auction_input.specs.declared.refusal.Refusal.TheVariants as refusal
 use Rattle.auction_input.specs.declared.request.Request.TheVariants as request
 use Rattle.auction_input.specs.declared.request.Request.{Request}

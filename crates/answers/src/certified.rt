@@ -1,77 +1,77 @@
 //! Whether the certificates of groups show that nobody wins more.
 
-ghost use Rattle.std.specs.Prelude.{◌≡◌, ◌⊎◌, ◌++◌, ◌∷◌, [], IfErr, IfOk, Ok, OnOk, length, map, replicate};
+ghost use Rattle.std.specs.Prelude.{◌≡◌, ◌⊎◌, ◌+◌, ◌++◌, ◌∷◌, ◌-◌, ◌≤◌, [], IfErr, IfOk, Ok, OnOk, length, map, replicate, slice_index_or};
 ghost use Rattle.std.specs.List.{AllZip};
-ghost use Rattle.group_compiler.specs.Compiled.{compiled};
-ghost use Rattle.answers.specs.Certified.{bounds_of, certified, shown};
+ghost use Rattle.outcome.specs.Sale.{sale_of};
+ghost use Rattle.answers.specs.Certified.{bound_of, bounds_of, certified, shown};
 ghost use Rattle.auction_input.specs.Refused.{Refuses};
 ghost use Rattle.auction_input.specs.Settled.{held};
 ghost use Rattle.answers.specs.Exact.{IsTooWide};
-ghost use Rattle.answers.specs.inside.Judging.{AllShown, IsFirstFaulty, IsJudged, bound_by, bounds_by, claimed};
-ghost use Rattle.auction_input.specs.Parts.{bytes_of};
-ghost use Rattle.auction_input.specs.Stages.{each_in_turn};
+ghost use Rattle.answers.specs.inside.Judging.{AllShown, IsFirstFaulty, IsJudged, bounds_by, claimed};
+ghost use Rattle.auction_terms.specs.Borrowed.{bytes_of};
+ghost use Rattle.auction_terms.specs.Stages.{each_in_turn};
 
-use crate::report_run::Won;
 use auction_input::{Auction, CountedPart, Refusal};
+use auction_terms::{Group, Groups};
 use bid_desk::ClosedBook;
-use group_compiler::Compiled;
-use optimality::{CertificateFault, check_certificate};
+use group_compiler::Compiler;
+use optimality::{CertificateFault, FaultKind, check_certificate};
 use outcome::{Allocation, total};
-use program_rows::Program;
 use rayon::prelude::*;
 use std::alloc::{AllocError, Global};
 use std::thread::Threads;
 
-/// A certificate, and the objective below which it is to show no point of a program.
+/// A certificate, and the objective below which it is to show no point of the program without a group.
 #[derive(Clone, Copy)]
 pub struct ClaimedBound<'c> {
-    pub program: &'c Program,
+    pub group: &'c Group,
     pub least: i128,
     pub certificate: &'c [u8],
 }
 
-/// Checks that there is a certificate for each group, and that each shows that nobody wins more without its group.
+/// Checks that there is a certificate for each group, and that each shows that nobody wins more without its group than the
+/// allocation that is won.
 pub fn check_certificates(
     rt: &(impl Threads + Sync),
     alloc: Global,
     auction: &Auction<'_>,
-    won: &Won<'_>,
+    won: &[Allocation],
 ) -> Result<(), Refusal>
-    requires programs { won.now.programs.items ≡ map (compiled auction.now.book) auction.now.groups }
-    requires count { length won.now.allocations.items ≡ length auction.now.groups }
-    ensures shown { OnOk result (certified (held auction.now) won.now.allocations.items ≡ Ok won.now.allocations.items) }
-    ensures refuses { IfErr result (λ r. Refuses (certified (held auction.now) won.now.allocations.items) r ⊎ ((length (held auction.now).certificates ≡ length auction.now.groups) × IsTooWide (bounds_of (held auction.now) won.now.allocations.items) r)) }
+    requires { length won.now ≡ length auction.now.groups }
+    ensures shown { OnOk result (certified (held auction.now) won.now ≡ Ok won.now) }
+    ensures refuses { IfErr result (λ r. Refuses (certified (held auction.now) won.now) r ⊎ ((length (held auction.now).certificates ≡ length auction.now.groups) × IsTooWide (bounds_of (held auction.now) won.now) r)) }
 {
-    if auction.certificates.len() != auction.groups.count() {
+    let Auction {
+        book,
+        groups,
+        certificates,
+        ..
+    } = auction;
+    if certificates.len() != groups.count() {
         return Err(Refusal::PartCount(CountedPart::Certificates));
     }
-    let bounds = bounds_of(
-        alloc,
-        &auction.book,
-        won.programs.as_slice(),
-        won.allocations.as_slice(),
-        auction.certificates.as_slice(),
-    )?;
-    check_each(rt, alloc, bounds.as_slice())
+    let bounds = bounds_of(alloc, book, groups, won, certificates.as_slice())?;
+    let compiler = Compiler::new(rt, alloc, book, groups)?;
+    check_each(rt, alloc, &compiler, bounds.as_slice())
 }
 
 // What each certificate is to show, in order.
 fn bounds_of<'c>(
     alloc: Global,
     book: &ClosedBook,
-    programs: &'c [Compiled<'_>],
+    groups: &'c Groups,
     allocations: &[Allocation],
     certificates: &[&'c [u8]],
 ) -> Result<Vec<ClaimedBound<'c>>, AllocError>
-    requires allocations { length allocations.now ≡ length programs.now }
-    requires certificates { length certificates.now ≡ length programs.now }
-    ensures { IfOk result (λ bounds. map claimed bounds.items ≡ bounds_by book.now programs.now allocations.now (bytes_of certificates.now)) }
+    requires allocations { length allocations.now ≡ length groups.now }
+    requires certificates { length certificates.now ≡ length groups.now }
+    ensures { IfOk result (λ bounds. map (claimed book.now) bounds.items ≡ bounds_by book.now groups.now allocations.now (bytes_of certificates.now)) }
 {
     let mut bounds = Vec::new(alloc);
-    for place in 0..programs.len() {
-        let bound = bound_by(
+    for place in 0..groups.count() {
+        let bound = bound_of(
             book,
-            &programs[place],
+            groups.group(place + 1),
             &allocations[place],
             certificates[place],
         );
@@ -80,17 +80,17 @@ fn bounds_of<'c>(
     Ok(bounds)
 }
 
-// What a certificate is to show of an allocation that a group's program wins.
-fn bound_by<'c>(
+// What a certificate is to show of an allocation that is won without a group.
+fn bound_of<'c>(
     book: &ClosedBook,
-    made: &'c Compiled<'_>,
+    group: &'c Group,
     allocation: &Allocation,
     certificate: &'c [u8],
 ) -> ClaimedBound<'c>
-    ensures { claimed result ≡ bound_by book.now ((made.now, allocation.now), certificate.now) }
+    ensures { claimed book.now result ≡ bound_of (sale_of book.now) ((group.now, allocation.now), certificate.now) }
 {
     ClaimedBound {
-        program: made.program(),
+        group,
         least: -(total(book, allocation) as i128),
         certificate,
     }
@@ -107,32 +107,52 @@ fn add<'c>(bounds: &mut Vec<ClaimedBound<'c>>, bound: ClaimedBound<'c>) -> Resul
 fn check_each(
     rt: &(impl Threads + Sync),
     alloc: Global,
+    compiler: &Compiler<'_, '_>,
     bounds: &[ClaimedBound<'_>],
 ) -> Result<(), Refusal>
-    ensures shown { OnOk result (AllShown (map claimed bounds.now)) }
-    ensures refuses { IfErr result (λ r. Refuses (each_in_turn shown 1 (map claimed bounds.now)) r ⊎ IsTooWide (map claimed bounds.now) r) }
+    ensures shown { OnOk result (AllShown (map (claimed compiler.now.book) bounds.now)) }
+    ensures refuses { IfErr result (λ r. Refuses (each_in_turn shown 1 (map (claimed compiler.now.book) bounds.now)) r ⊎ IsTooWide (map (claimed compiler.now.book) bounds.now) r) }
 {
-    let verdicts = verdicts_of(rt, alloc, bounds)?;
+    let verdicts = verdicts_of(rt, alloc, compiler, bounds)?;
     first_refused(verdicts.as_slice())
 }
 
-// What each certificate comes to. Checking one is worth a thread, however few there are.
+// What each certificate comes to. Checking one is worth a thread, however few there are; its program is compiled there, and
+// dropped with it.
 fn verdicts_of(
     rt: &(impl Threads + Sync),
     alloc: Global,
+    compiler: &Compiler<'_, '_>,
     bounds: &[ClaimedBound<'_>],
 ) -> Result<Vec<Result<(), CertificateFault>>, AllocError>
-    ensures { IfOk result (λ verdicts. AllZip IsJudged bounds.now verdicts.items) }
+    ensures { IfOk result (λ verdicts. AllZip (IsJudged compiler.now.book) bounds.now verdicts.items) }
 {
     bounds
         .par_iter()
         .with_min_len(1)
         .map(
             |bound: &ClaimedBound<'_>| -> Result<(), CertificateFault>
-                ensures { IsJudged bound.now result }
-            { check_certificate(alloc, bound.certificate, bound.program, bound.least) },
+                ensures { IsJudged compiler.entry.now.book bound.now result }
+            { verdict_of(alloc, compiler, bound) },
         )
         .collect(rt, alloc)
+}
+
+// What a certificate comes to.
+fn verdict_of(
+    alloc: Global,
+    compiler: &Compiler<'_, '_>,
+    bound: &ClaimedBound<'_>,
+) -> Result<(), CertificateFault>
+    ensures { IsJudged compiler.now.book bound.now result }
+{
+    let Ok(program) = compiler.program_without(alloc, bound.group) else {
+        return Err(CertificateFault {
+            line: 0,
+            kind: FaultKind::OutOfMemory,
+        });
+    };
+    check_certificate(alloc, bound.certificate, &program, bound.least)
 }
 
 // The first fault among verdicts, with its number from 1.

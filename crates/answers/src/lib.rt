@@ -21,7 +21,7 @@ pub use commands::verify::verify;
 pub use compile_run::run_compile;
 pub use group_texts::write_programs;
 pub use pieces::write_pieces;
-pub use report_run::{Won, won_by_groups};
+pub use report_run::won_by_groups;
 pub use request::request_of;
 pub use run_fault::RunFault;
 pub use running::run;

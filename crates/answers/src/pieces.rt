@@ -1,20 +1,11 @@
 //! Writing pieces of text.
 
-ghost use Rattle.std.specs.Prelude.{◌≡◌, [], IfErr, OnErr, OnOk, flat_map};
+ghost use Rattle.std.specs.Prelude.{IfErr, OnErr, OnOk, flat_map};
 ghost use Rattle.std.specs.Io.KnownBytes.{Appends};
-ghost use Rattle.mps_text.specs.Adds.{Adds};
 ghost use Rattle.mps_text.specs.Sinks.{HasFailed, SentFront};
 ghost use Rattle.mps_text.specs.Written.{written_of};
 
-use mps_text::{Block, Sink, SinkFailed, WriteFault, add_pieces, send};
-
-fn send_pieces<S: Sink>(block: &mut Block, sink: &mut S, pieces: &[&[u8]]) -> Result<(), SinkFailed>
-    ensures adds { Adds result (S.taken sink.old) (S.taken sink.new) block.old block.new (S.failures sink.old) (S.failures sink.new) (flat_map (λ p. p.now) pieces.now) }
-    ensures empty { OnOk result (block.new.waiting.items ≡ []) }
-{
-    add_pieces(block, sink, pieces)?;
-    send(block, sink)
-}
+use mps_text::{Sink, WriteFault, Writer};
 
 /// Writes the pieces, one after the other. It takes no memory.
 pub fn write_pieces<S: Sink>(pieces: &[&[u8]], sink: &mut S) -> Result<(), WriteFault>
@@ -22,11 +13,7 @@ pub fn write_pieces<S: Sink>(pieces: &[&[u8]], sink: &mut S) -> Result<(), Write
     ensures err { IfErr result (λ e. SentFront (S.taken sink.old) (S.taken sink.new) (flat_map (λ p. p.now) pieces.now) (written_of e)) }
     ensures failed { OnErr result (HasFailed (S.failures sink.old) (S.failures sink.new)) }
 {
-    let mut block = Block::new();
-    match send_pieces(&mut block, sink, pieces) {
-        Ok(()) => Ok(()),
-        Err(_) => Err(WriteFault::Sink {
-            written: block.sent,
-        }),
-    }
+    let mut writer = Writer::new(sink);
+    writer.add_pieces(pieces);
+    writer.flush()
 }

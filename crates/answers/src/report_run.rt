@@ -1,6 +1,6 @@
 //! What the solutions of all groups win, and what each group's opportunity cost is.
 
-ghost use Rattle.std.specs.Prelude.{◌≡◌, ◌≤◌, ◌++◌, ◌∷◌, [], All, IfErr, IfOk, Ok, OnOk, length, map, true, vec_len};
+ghost use Rattle.std.specs.Prelude.{◌≡◌, ◌≤◌, ◌<◌, ◌++◌, ◌∷◌, [], IfErr, IfOk, Ok, OnOk, length, map, slice_index_or, true};
 ghost use Rattle.group_compiler.specs.declared.limits.TheConstants.{MOST_WORKERS};
 ghost use Rattle.std.specs.List.{zip};
 ghost use Rattle.auction_terms.specs.Groups.{starts_empty};
@@ -9,40 +9,75 @@ ghost use Rattle.outcome.specs.Sale.{sale_of};
 ghost use Rattle.answers.specs.commands.Report.{winners_of_groups};
 ghost use Rattle.auction_input.specs.Refused.{Refuses};
 ghost use Rattle.auction_input.specs.Settled.{held};
-ghost use Rattle.auction_input.specs.Parts.{bytes_of};
-ghost use Rattle.auction_input.specs.Stages.{each_in_turn};
+ghost use Rattle.auction_terms.specs.Borrowed.{bytes_of};
+ghost use Rattle.auction_terms.specs.Stages.{each_in_turn};
 ghost use Rattle.answers.specs.Winners.{winners, winners_by};
-ghost use Rattle.answers.specs.inside.Winners.{winners_by_each};
+ghost use Rattle.answers.specs.inside.Winners.{IsFirstRefusal};
 
 use crate::winning::allocation_won;
 use auction_input::{Auction, CountedPart, Refusal};
 use auction_terms::Groups;
 use bid_desk::ClosedBook;
-use group_compiler::{Compiled, OpenGate, compile_all};
+use group_compiler::{Compiled, Compiler, Maker, OpenGate, make_all};
 use outcome::Allocation;
 use std::alloc::{AllocError, Global};
 use std::sync::Wait;
 use std::thread::Threads;
 
-/// The program of each group, and the allocation that its solution wins, in order.
+/// Finds what the solution of each group's program wins. A program is compiled, its solution read, and the program dropped.
 #[derive(Drop)]
-pub struct Won<'g> {
-    pub programs: Vec<Compiled<'g>>,
-    pub allocations: Vec<Allocation>,
+pub struct Winning<'a, 't> {
+    compiler: Compiler<'a, 'a>,
+    solutions: &'a [&'t [u8]],
+    ghost each: { length solutions.now ≡ length compiler.groups },
 }
 
-/// What the solutions of an auction win, group by group, and the programs that they are solutions of.
-pub fn won_by_groups<'a, R: Threads + Wait + Sync + AllocGlobal>(
+impl<'a, 't> Maker for Winning<'a, 't> {
+    ghost use Rattle.std.specs.Prelude.{◌+◌, length};
+    ghost use Rattle.outcome.specs.Sale.{sale_of};
+    ghost use Rattle.answers.specs.inside.Winners.{IsTold, winners_at};
+
+    type Made = Result<Allocation, Refusal>;
+
+    ghost count_of = { λ w. length w.compiler.groups };
+
+    ghost makes = { λ w n told. IsTold (winners_at (sale_of w.compiler.book) w.compiler.groups (bytes_of w.solutions.now) n) told };
+
+    fn count(&self) -> usize {
+        self.compiler.count()
+    }
+
+    fn make(
+        &self,
+        alloc: Global,
+        number: usize,
+    ) -> Result<Result<Allocation, Refusal>, AllocError> {
+        let _few = self.compiler.count();
+        let made = self.compiler.compile(alloc, number + 1)?;
+        let text = text_at(self.solutions, number);
+        Ok(won_by(alloc, self.compiler.book(), &made, number + 1, text))
+    }
+}
+
+// The text at a place.
+fn text_at<'t>(texts: &[&'t [u8]], place: usize) -> &'t [u8]
+    requires { place < length texts.now }
+    ensures { result.now ≡ slice_index_or (bytes_of texts.now) place [] }
+{
+    texts[place]
+}
+
+/// What the solutions of an auction win, group by group.
+pub fn won_by_groups<R: Threads + Wait + Sync + AllocGlobal>(
     rt: &R,
-    auction: &'a Auction<'_>,
+    auction: &Auction<'_>,
     workers: usize,
-) -> Result<Won<'a>, Refusal>
+) -> Result<Vec<Allocation>, Refusal>
     requires some { 1 ≤ workers }
     requires few { workers ≤ MOST_WORKERS }
     ensures first { OnOk result (starts_empty auction.now.groups ≡ true) }
-    ensures count { IfOk result (λ won. length won.allocations.items ≡ length auction.now.groups) }
-    ensures programs { IfOk result (λ won. won.programs.items ≡ map (compiled auction.now.book) auction.now.groups) }
-    ensures won { IfOk result (λ won. winners_of_groups (held auction.now) ≡ Ok won.allocations.items) }
+    ensures count { IfOk result (λ won. length won.items ≡ length auction.now.groups) }
+    ensures won { IfOk result (λ won. winners_of_groups (held auction.now) ≡ Ok won.items) }
     ensures refuses { IfErr result (Refuses (winners_of_groups (held auction.now))) }
 {
     let Auction {
@@ -60,48 +95,42 @@ pub fn won_by_groups<'a, R: Threads + Wait + Sync + AllocGlobal>(
     won_by_each(rt, book, groups, workers, solutions.as_slice())
 }
 
-// The program of each group, and what its solution wins, in order.
-fn won_by_each<'g, R: Threads + Wait + Sync + AllocGlobal>(
+// What the solution of each group's program wins, in order. No more programs stand at once than there are workers.
+fn won_by_each<R: Threads + Wait + Sync + AllocGlobal>(
     rt: &R,
     book: &ClosedBook,
-    groups: &'g Groups,
+    groups: &Groups,
     workers: usize,
     solutions: &[&[u8]],
-) -> Result<Won<'g>, Refusal>
+) -> Result<Vec<Allocation>, Refusal>
     requires some { 1 ≤ workers }
     requires few { workers ≤ MOST_WORKERS }
     requires count { length solutions.now ≡ length groups.now }
-    ensures count { IfOk result (λ won. length won.allocations.items ≡ length groups.now) }
-    ensures programs { IfOk result (λ won. won.programs.items ≡ map (compiled book.now) groups.now) }
-    ensures won { IfOk result (λ won. each_in_turn (winners (sale_of book.now)) 1 (zip groups.now (bytes_of solutions.now)) ≡ Ok won.allocations.items) }
+    ensures count { IfOk result (λ won. length won.items ≡ length groups.now) }
+    ensures won { IfOk result (λ won. each_in_turn (winners (sale_of book.now)) 1 (zip groups.now (bytes_of solutions.now)) ≡ Ok won.items) }
     ensures refuses { IfErr result (Refuses (each_in_turn (winners (sale_of book.now)) 1 (zip groups.now (bytes_of solutions.now)))) }
 {
     let alloc: Global = rt.alloc();
-    let programs = compile_all(rt, alloc, book, groups, workers, &OpenGate)?;
-    let allocations = allocations_won(alloc, book, programs.as_slice(), solutions)?;
-    Ok(Won {
-        programs,
-        allocations,
-    })
+    let compiler = Compiler::new(rt, alloc, book, groups)?;
+    let winning = Winning {
+        compiler,
+        solutions,
+    };
+    let answers = make_all(rt, alloc, workers, &OpenGate, &winning)?;
+    all_won(alloc, answers)
 }
 
-// The allocation that each group's solution wins, in order. Each program is that of its group.
-fn allocations_won(
+// The allocations, where all answers are allocations, or the first refusal.
+fn all_won(
     alloc: Global,
-    book: &ClosedBook,
-    programs: &[Compiled<'_>],
-    solutions: &[&[u8]],
+    answers: Vec<Result<Allocation, Refusal>>,
 ) -> Result<Vec<Allocation>, Refusal>
-    requires programs { All (λ c. c ≡ compiled book.now c.group) programs.now }
-    requires count { length solutions.now ≡ length programs.now }
-    ensures count { IfOk result (λ all. vec_len all ≡ length programs.now) }
-    ensures won { IfOk result (λ all. winners_by_each programs.now (bytes_of solutions.now) ≡ Ok all.items) }
-    ensures refuses { IfErr result (Refuses (winners_by_each programs.now (bytes_of solutions.now))) }
+    ensures won { IfOk result (λ all. map (λ a. Ok a) all.items ≡ answers.items) }
+    ensures first { IfErr result (IsFirstRefusal answers.items) }
 {
     let mut all = Vec::new(alloc);
-    for place in 0..programs.len() {
-        let allocation = won_by(alloc, book, &programs[place], place + 1, solutions[place])?;
-        add(&mut all, allocation)?;
+    for answer in answers {
+        add(&mut all, answer?)?;
     }
     Ok(all)
 }

@@ -6,7 +6,7 @@ ghost use Rattle.clap.specs.Words.{kind_of};
 ghost use Rattle.clap.specs.declared.error.kind.ErrorKind.TheVariants as kind;
 ghost use Rattle.answers.specs.Asked.{IsShown};
 ghost use Rattle.auction_input.specs.Line.{IsToldWhy};
-ghost use Rattle.auction_input.specs.Parts.{bytes_of};
+ghost use Rattle.auction_terms.specs.Borrowed.{bytes_of};
 ghost use Rattle.answers.specs.Requests.{IsWithinLimits};
 ghost use Rattle.answers.specs.Runs.{IsAnswered, IsDone, IsRefused, IsUnasked, IsUndone, IsUnshown};
 ghost use Rattle.answers.specs.inside.Runs.{IsUntold};

@@ -1,6 +1,6 @@
 -- What stages have told, where the last one tells a value.
 use Rattle.std.proofs.Common.{◌≡◌, Option, None, Some, Result, Ok, Err, refl}
-use Rattle.auction_input.specs.Stages.{and_then, refused_as, unless}
+use Rattle.auction_terms.specs.Stages.{and_then, refused_as, unless}
 
 -- a stage tells one value
 pub ok-is : {A E : Type 0} (r : Result A E) (x y : A) → r ≡ Ok x → r ≡ Ok y → x ≡ y
@@ -14,6 +14,6 @@ pub ok-refused_as : {A F E : Type 0} (tell : F → E) (r : Result A F) (x : A) �
 ok-refused_as tell (Ok y) x told = (let same : y ≡ x = ok-is _ y x refl told in rw same refl)
 ok-refused_as tell (Err f) x told = cc
 
-pub unless-ok : {A F : Type 0} (found : Option F) (x y : A) → unless found x ≡ Ok y → (found ≡ None) × (x ≡ y)
+pub unless-ok : {A F : Type 0} (found : Option F) (x y : A) → unless found (Ok x) ≡ Ok y → (found ≡ None) × (x ≡ y)
 unless-ok None x y told = (refl, ok-is _ x y refl told)
 unless-ok (Some f) x y told = cc

@@ -1,5 +1,5 @@
 -- Counting the calls of each bidder.
-use Rattle.std.proofs.Common.{◌≡◌, ◌≤◌, ◌<◌, ◌+◌, ◌++◌, ◌==◌, ◌∷◌, ◌∙◌, [], ℕ, Bool, true, false, List, None, Some, Option, ap, arith, cond, length, length-append, refl, sym, inl, inr, slice_index_or}
+use Rattle.std.proofs.Common.{◌≡◌, ◌≤◌, ◌<◌, ◌+◌, ◌++◌, ◌==◌, ◌∷◌, ◌∙◌, [], ℕ, Bool, true, false, List, None, Some, Option, ap, arith, cond, length, length-append, refl, sym, inl, inr, slice_index_or, Ok}
 use Rattle.std.proofs.lemmas.Bool.{cases_Bool, eqb-false, eqb-true}
 use Rattle.std.proofs.lemmas.Bool.Decides.{leb_tells}
 use Rattle.std.proofs.lemmas.List.{get_or-set_other, get_or-set_same}
@@ -7,7 +7,7 @@ use Rattle.std.specs.Prelude.{slice_set}
 use Rattle.auction_terms.specs.FirstFault.{first_fault}
 use Rattle.bid_forms.specs.Offers.{Offers}
 use Rattle.auction_input.specs.Calls.{calls_told, one_too_many}
-use Rattle.auction_input.specs.Stages.{refused_as, unless}
+use Rattle.auction_terms.specs.Stages.{refused_as, unless}
 use Rattle.auction_input.specs.Submissions.{forms_of}
 use Rattle.auction_input.specs.declared.refusal.Refusal.TheVariants as refusal
 
@@ -50,5 +50,5 @@ pub no-call-left : (before : List Offers) (form : Offers) → 1000 ≤ length (f
 no-call-left before form many = elim (leb_tells 1000 (length (forms_of form.bidder before))) [ inl (is, _) ↦ rw is refl | inr (_, few) ↦ absurd (omega arith) ]
 
 -- what is told of the calls, by the first form that is one too many
-pub calls-by : (forms : List Offers) (found : Option ℕ) → first_fault one_too_many [] forms ≡ found → calls_told forms ≡ refused_as refusal.CallLimit (unless found forms)
-calls-by forms found is = ap (λ (f : Option ℕ). refused_as refusal.CallLimit (unless f forms)) is
+pub calls-by : (forms : List Offers) (found : Option ℕ) → first_fault one_too_many [] forms ≡ found → calls_told forms ≡ refused_as refusal.CallLimit (unless found (Ok forms))
+calls-by forms found is = ap (λ (f : Option ℕ). refused_as refusal.CallLimit (unless f (Ok forms))) is

@@ -7,9 +7,9 @@ use Rattle.std.proofs.lemmas.List.Elements.{All-append, All-nil}
 use Rattle.std.proofs.lemmas.List.Folds.{drop_split}
 use Rattle.auction_terms.specs.Terms.{Terms}
 use Rattle.bid_forms.specs.Offers.{Meets, Offers}
-use Rattle.auction_input.specs.Parts.{bytes_of}
+use Rattle.auction_terms.specs.Borrowed.{bytes_of}
 use Rattle.auction_input.specs.Refused.{Refusal, Refuses}
-use Rattle.auction_input.specs.Stages.{each_in_turn}
+use Rattle.auction_terms.specs.Stages.{each_in_turn}
 use Rattle.auction_input.specs.inside.TextsTold.{HaveMore, more_told}
 use Rattle.auction_input.specs.TextsTold.{form_told, forms_told}
 use Rattle.auction_input.proofs.InputTextFacts.{Text}

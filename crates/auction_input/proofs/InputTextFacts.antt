@@ -25,8 +25,8 @@ use Rattle.program_rows.specs.declared.fault.FaultKind.TheVariants as kind
 use Rattle.auction_input.specs.Refused.{Refuses, Refusal}
 use Rattle.auction_input.specs.inside.InputTexts.{AreAdded, IsAnswer, IsFirstErr}
 use Rattle.auction_input.specs.InputTexts.{form_in, groups_in, program_in, rules_in}
-use Rattle.auction_input.specs.Parts.{bytes_of}
-use Rattle.auction_input.specs.Stages.{each_in_turn, refused_as}
+use Rattle.auction_terms.specs.Borrowed.{bytes_of}
+use Rattle.auction_terms.specs.Stages.{Answers, each_in_turn, refused_as}
 use Rattle.auction_input.specs.inside.TextsTold.{HaveMore, more_told}
 use Rattle.auction_input.specs.TextsTold.{form_told}
 use Rattle.auction_input.specs.declared.refusal.Refusal.TheVariants as refusal
@@ -91,23 +91,23 @@ ok-or-fault x e is = cc
 
 -- the fault of rules that are refused is what their text tells
 pub rules-faulted : (text : List ℕ) (f : RulesFault) → (TEXT_LIMIT < length text → no_rules f ≡ no_rules rules_fault.TooLarge)
-    → (length text ≤ TEXT_LIMIT → rules_text.Answers (no_rules f) (rules_text.rules_of text)) → rules_text.Answers (no_rules f) (rules_in text)
+    → (length text ≤ TEXT_LIMIT → Answers rules_text.is_memory (no_rules f) (rules_text.rules_of text)) → Answers rules_text.is_memory (no_rules f) (rules_in text)
 rules-faulted text f large told = elim (leb_tells 4194305 (length text)) [
   | inl (is, more) ↦ (
       let e = large (omega arith) in
       let same : f ≡ rules_fault.TooLarge = cc in
-      subst (λ x. rules_text.Answers (no_rules x) (rules_in text)) (sym same) (rw is refl))
+      subst (λ x. Answers rules_text.is_memory (no_rules x) (rules_in text)) (sym same) (rw is refl))
   | inr (is, few) ↦ rw is (told (omega arith))
 ]
 
 -- the same of groups
 pub groups-faulted : (bidders : List Bidder) (text : List ℕ) (f : GroupFault) → (TEXT_LIMIT < length text → no_groups f ≡ no_groups group_fault.TooLarge)
-    → (length text ≤ TEXT_LIMIT → groups_text.Answers (no_groups f) (groups_text.groups_of bidders text)) → groups_text.Answers (no_groups f) (groups_in bidders text)
+    → (length text ≤ TEXT_LIMIT → Answers groups_text.is_memory (no_groups f) (groups_text.groups_of bidders text)) → Answers groups_text.is_memory (no_groups f) (groups_in bidders text)
 groups-faulted bidders text f large told = elim (leb_tells 4194305 (length text)) [
   | inl (is, more) ↦ (
       let e = large (omega arith) in
       let same : f ≡ group_fault.TooLarge = cc in
-      subst (λ x. groups_text.Answers (no_groups x) (groups_in bidders text)) (sym same) (rw is refl))
+      subst (λ x. Answers groups_text.is_memory (no_groups x) (groups_in bidders text)) (sym same) (rw is refl))
   | inr (is, few) ↦ rw is (told (omega arith))
 ]
 

@@ -29,7 +29,7 @@ use Rattle.bid_forms.specs.Offers.{Offers, are_quantities, eligibility_of, offer
 use Rattle.bid_forms.specs.declared.form_text.FormFault.{FormFault}
 use Rattle.bid_forms.specs.declared.form_text.FormFault.TheVariants as form_fault
 use Rattle.auction_input.specs.BookLeft.{book_left}
-use Rattle.auction_input.specs.Stages.{each_in_turn}
+use Rattle.auction_terms.specs.Stages.{each_in_turn, unless}
 use Rattle.auction_input.specs.Submissions.{last_of}
 use Rattle.auction_input.specs.TextsTold.{form_told, terms_told}
 use Rattle.auction_input.proofs.AnswerFacts.{ok-behind, ok-is, ok-refused_as}
@@ -86,7 +86,7 @@ few-bidders v before (r ∷ more) none few =
         let whole = length-append (of_kind v kind.Bidder before) (r ∷ []) in
         rw (grows, one) (omega arith)
 
-rules-or : (o : Option RulesFault) (answer : Result Terms RulesFault) (t : Terms) → rules_text.fault_or o answer ≡ Ok t → (o ≡ None) × (answer ≡ Ok t)
+rules-or : (o : Option RulesFault) (answer : Result Terms RulesFault) (t : Terms) → unless o answer ≡ Ok t → (o ≡ None) × (answer ≡ Ok t)
 rules-or None answer t told = (refl, told)
 rules-or (Some f) answer t told = cc
 
@@ -165,7 +165,7 @@ bids-within t eligibility before (r ∷ more) none few =
     let rest = bids-within t eligibility (before ++ r ∷ []) more parts.1 (omega arith) in
     (subst (λ (rs : List Record). length rs ≤ MOST_BIDS) (append_assoc before (r ∷ []) more) rest.0, (bid.0, rest.1))
 
-form-or : (o : Option FormFault) (answer : Result Offers FormFault) (form : Offers) → form_text.fault_or o answer ≡ Ok form → (o ≡ None) × (answer ≡ Ok form)
+form-or : (o : Option FormFault) (answer : Result Offers FormFault) (form : Offers) → unless o answer ≡ Ok form → (o ≡ None) × (answer ≡ Ok form)
 form-or None answer form told = (refl, told)
 form-or (Some f) answer form told = cc
 

@@ -2,7 +2,7 @@
 use Rattle.std.proofs.Common.{◌≡◌, ◌+◌, ◌++◌, ◌∷◌, ◌∙◌, [], ℕ, List, Result, Ok, Err, ap, append_assoc, arith, length, refl, sym, inl, inr}
 use Rattle.std.proofs.lemmas.List.{append-nil}
 use Rattle.auction_input.specs.Refused.{Refuses, Refusal, Refused}
-use Rattle.auction_input.specs.Stages.{and_then, each_in_turn}
+use Rattle.auction_terms.specs.Stages.{and_then, each_in_turn}
 
 -- a stage that tells a value, and the stages behind it
 pub next : {A B E : Type 0} (r : Result A E) (x : A) (k : A → Result B E) (y : Result B E) → r ≡ Ok x → k x ≡ y → and_then r k ≡ y

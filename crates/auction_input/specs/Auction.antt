@@ -5,7 +5,7 @@ use Rattle.auction_input.specs.Calls.{calls_told}
 use Rattle.auction_input.specs.Parts.{SplitInput}
 use Rattle.auction_input.specs.PartsTold.{parts_told}
 use Rattle.auction_input.specs.Refused.{Refused}
-use Rattle.auction_input.specs.Stages.{and_then}
+use Rattle.auction_terms.specs.Stages.{and_then}
 use Rattle.auction_input.specs.TextsTold.{forms_told, groups_told, terms_told}
 use Rattle.auction_input.specs.declared.request.Request.{Request}
 use Rattle.auction_terms.specs.Terms.{Terms}

@@ -10,7 +10,6 @@ pub mod ReadInput
 pub mod Refused
 pub mod Settled
 pub mod Sold
-pub mod Stages
 pub mod Submissions
 pub mod TextsTold
 pub mod inside

@@ -16,7 +16,7 @@ use Rattle.mps_text.specs.declared.write_fault.WriteFault.TheVariants as write
 use Rattle.optimality.specs.CertificateFaultText.{certificate_fault_text}
 use Rattle.outcome.specs.SolutionFaultText.{solution_fault_text}
 
--- what is told of a refusal that isn't want of memory
+-- what is told of a refusal that isn't of memory
 abbrev pub told : Refused → List ℕ
 told (refusal.Input input.ReadFailed) = codes "input: read failed"
 told (refusal.Input input.TooLarge) = codes "input: too large"
@@ -60,7 +60,7 @@ line r = line_of (refusal_text r) (name_told r)
 abbrev pub Puts : List ℕ → Option (List ℕ) → Option (List ℕ) → ℕ → ℕ → Type 0
 Puts bytes taken taken' failures failures' = Appends taken taken' bytes ⊎ ((n : ℕ) × SentFront taken taken' bytes n × HasFailed failures failures')
 
--- a refusal is told by its line, or by that of want of memory where its text finds no room
+-- a refusal is told by its line, or by 'out of memory' where its text finds no room
 abbrev pub IsTold : Refused → Option (List ℕ) → Option (List ℕ) → ℕ → ℕ → Type 0
 IsTold r taken taken' failures failures' = Puts (line r) taken taken' failures failures' ⊎ Puts (line refusal.OutOfMemory) taken taken' failures failures'
 

@@ -9,6 +9,7 @@ use Rattle.auction_input.specs.declared.parts.PartFault.{PartFault}
 use Rattle.auction_input.specs.declared.parts.Parts.{Parts}
 use Rattle.auction_input.specs.declared.request.Request.TheVariants as request
 use Rattle.auction_input.specs.declared.request.Request.{Request}
+use Rattle.auction_terms.specs.Borrowed.{bytes_of}
 use Rattle.auction_terms.specs.FirstFault.{first_failed, first_fault, option_or}
 use Rattle.auction_terms.specs.Lines.{is_line_feed, lines_of}
 use denote.Ref.{Bor}
@@ -109,14 +110,11 @@ split asked parts = record {
   certificates = bytes_of_kind asked kind.Certificate parts;
 }
 
-abbrev pub bytes_of : List (Bor (List ℕ)) → List (List ℕ)
-bytes_of texts = map (λ (text : Bor (List ℕ)). text.now) texts
-
 -- what the lists of borrowed bytes stand for
 abbrev pub values : Parts → SplitInput
 values p = record { rules = bytes_of p.rules.items; forms = bytes_of p.forms.items; groups = bytes_of p.groups.items; solutions = bytes_of p.solutions.items; certificates = bytes_of p.certificates.items }
 
--- the parts, where the input has no fault, and else the first fault; or want of memory stands in their place
+-- the parts, where the input has no fault, and else the first fault; or memory was short
 abbrev pub Tells : Request → Result Parts PartFault → List ℕ → Type 0
 Tells asked (Ok parts) text = (input_fault asked text ≡ None) × (values parts ≡ split asked (parts_in (cut_lines text)))
 Tells asked (Err fault.OutOfMemory) text = ⊤

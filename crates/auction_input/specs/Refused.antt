@@ -50,7 +50,7 @@ abbrev pub is_memory_of_certificate : certificate.FaultKind → Bool
 is_memory_of_certificate certificate_kind.OutOfMemory = true
 is_memory_of_certificate k = false
 
--- want of memory, wherever it was met
+-- memory was short, wherever it was
 abbrev pub is_memory : {Name : Type 0} → declared.Refusal Name → Bool
 is_memory (refusal.Input input.OutOfMemory) = true
 is_memory (refusal.Parts part.OutOfMemory) = true

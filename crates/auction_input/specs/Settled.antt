@@ -1,7 +1,8 @@
 -- What an input leaves: an auction that is settled, or the first refusal.
 use Rattle.std.specs.Prelude.{◌≡◌, ◌⊎◌, ℕ, true, List, Ok}
 use Rattle.auction_input.specs.Auction.{Auction, auction_told}
-use Rattle.auction_input.specs.Parts.{SplitInput, bytes_of}
+use Rattle.auction_terms.specs.Borrowed.{bytes_of}
+use Rattle.auction_input.specs.Parts.{SplitInput}
 use Rattle.auction_input.specs.PartsTold.{parts_told}
 use Rattle.auction_input.specs.Plan.{reads_auction}
 use Rattle.auction_input.specs.Refused.{Refusal, Refuses}

@@ -3,7 +3,7 @@ use Rattle.std.specs.Prelude.{◌≡◌, ◌+◌, ◌++◌, ℕ, List, Result, O
 use Rattle.auction_input.specs.InputTexts.{form_in, groups_in, rules_in}
 use Rattle.auction_input.specs.PartsTold.{only_text}
 use Rattle.auction_input.specs.Refused.{Refused}
-use Rattle.auction_input.specs.Stages.{each_in_turn, refused_as}
+use Rattle.auction_terms.specs.Stages.{each_in_turn, refused_as}
 use Rattle.auction_input.specs.declared.refusal.Refusal.TheVariants as refusal
 use Rattle.auction_terms.specs.Terms.{Terms}
 use Rattle.bid_forms.specs.Offers.{Offers}

@@ -5,7 +5,7 @@ ghost use Rattle.std.specs.List.{AllZip};
 ghost use Rattle.bid_forms.specs.Offers.{Meets};
 ghost use Rattle.auction_input.specs.Refused.{Refuses};
 ghost use Rattle.auction_input.specs.inside.InputTexts.{AreAdded, IsAnswer, IsFirstErr};
-ghost use Rattle.auction_input.specs.Parts.{bytes_of};
+ghost use Rattle.auction_terms.specs.Borrowed.{bytes_of};
 ghost use Rattle.auction_input.specs.PartsTold.{only_text};
 ghost use Rattle.auction_input.specs.Plan.{groups_taken, miscounted, solutions_taken};
 ghost use Rattle.auction_input.specs.inside.TextsTold.{HaveMore, more_told};
@@ -115,8 +115,20 @@ fn read_more(
     add_forms(forms, answers)
 }
 
+// With fewer bytes of forms than this they are read by one thread: others would cost more time than they save.
+const FEW_BYTES: usize = 131_072;
+
+// How many bytes the texts have together.
+fn byte_count(texts: &[&[u8]]) -> usize {
+    let mut count: usize = 0;
+    for text in texts {
+        count = count.saturating_add(text.len());
+    }
+    count
+}
+
 // What each text tells. Both halves of the texts are read side by side, each by as many threads as `rayon` takes: with
-// fewer, longer pieces more processors would be without work at the end.
+// fewer, longer pieces more processors would be without work at the end. Few bytes take one thread.
 fn read_each(
     rt: &(impl Threads + Sync),
     alloc: Global,
@@ -125,15 +137,18 @@ fn read_each(
 ) -> Result<Vec<Result<Form, FormFault>>, AllocError>
     ensures { IfOk result (λ answers. AllZip (IsAnswer rules.now) texts.now answers.items) }
 {
+    if byte_count(texts) < FEW_BYTES {
+        return read_half(rt, alloc, texts, rules, texts.len());
+    }
     let (first, second) = texts.split_at(texts.len() / 2);
     let (front, back) = join(
         rt,
         move || -> Result<Vec<Result<Form, FormFault>>, AllocError>
             ensures { IfOk result (λ answers. AllZip (IsAnswer rules.entry.now) first.entry.now answers.items) }
-        { read_half(rt, alloc, first, rules) },
+        { read_half(rt, alloc, first, rules, 1) },
         move || -> Result<Vec<Result<Form, FormFault>>, AllocError>
             ensures { IfOk result (λ answers. AllZip (IsAnswer rules.entry.now) second.entry.now answers.items) }
-        { read_half(rt, alloc, second, rules) },
+        { read_half(rt, alloc, second, rules, 1) },
     );
     let mut answers = front?;
     let mut others = back?;
@@ -141,18 +156,19 @@ fn read_each(
     Ok(answers)
 }
 
-// What each of these texts tells. Reading a form is worth a thread, however few there are.
+// What each of these texts tells, by threads that take at least so many texts each.
 fn read_half(
     rt: &(impl Threads + Sync),
     alloc: Global,
     texts: &[&[u8]],
     rules: &Rules,
+    least: usize,
 ) -> Result<Vec<Result<Form, FormFault>>, AllocError>
     ensures { IfOk result (λ answers. AllZip (IsAnswer rules.now) texts.now answers.items) }
 {
     texts
         .par_iter()
-        .with_min_len(1)
+        .with_min_len(least)
         .map(
             |text: &&[u8]| -> Result<Form, FormFault>
                 ensures { IsAnswer rules.entry.now text.now result }

@@ -153,7 +153,7 @@ fn sessions_of<L: Round>(
     Ok(sessions)
 }
 
-// Of two ends the one to tell: want of memory, else a wrong answer.
+// Of two ends the one to tell: out of memory, else a wrong answer.
 fn first_of(one: Result<(), RoundFault>, other: Result<(), RoundFault>) -> Result<(), RoundFault>
     ensures { OnOk result ((one ≡ Ok tt) × (other ≡ Ok tt)) }
 {

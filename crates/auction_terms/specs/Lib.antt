@@ -1,4 +1,6 @@
 pub mod FirstFault
+pub mod Stages
+pub mod Borrowed
 pub mod Records
 pub mod Names
 pub mod Numbers

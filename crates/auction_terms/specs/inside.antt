@@ -1,10 +1,8 @@
 pub mod Entries
 pub mod FirstFault
 pub mod GroupNames
-pub mod GroupsText
 pub mod Keeping
 pub mod PlainRecords
 pub mod Records
-pub mod RulesText
 pub mod Sources
 pub mod Terms

@@ -1,2 +1,1 @@
 pub mod Fingerprints
-pub mod FormText

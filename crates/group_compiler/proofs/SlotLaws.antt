@@ -1,16 +1,13 @@
 -- Laws of a row of slots that is filled by number.
 use Rattle.std.proofs.Common.{◌≡◌, ◌≢◌, ◌⊎◌, inl, inr, ⊎_elim, ℕ, zero, suc, ◌+◌, ◌<◌, List, [], ◌∷◌, ◌++◌, Option, Some, length, map, sym, refl, ap, ap₂, ◌∙◌, subst, arith, slice_get, slice_set, slice_index_or}
 use Rattle.std.specs.Prelude.{All, Contains}
-use Rattle.std.specs.List.{range_with_len}
+use Rattle.std.specs.List.{AllZip, range_with_len}
 use Rattle.std.proofs.lemmas.Bool.{cases_eq}
 use Rattle.std.proofs.lemmas.List.{length-map, map-append}
 use Rattle.std.proofs.lemmas.List.Elements.{All-pop, Contains-push_cases}
-use Rattle.std.proofs.lemmas.List.FromFn.{map-range_with_len_more}
+use Rattle.std.proofs.lemmas.Slice.Zip.{AllZip-map}
 use Rattle.bid_desk.specs.Closing.{Closing}
-use Rattle.program_rows.specs.Program.{Table}
-use Rattle.group_compiler.specs.Compiled.{GroupProgram, compiled}
-use Rattle.group_compiler.specs.inside.Compiled.{group_with}
-use Rattle.group_compiler.specs.inside.Works.{program_at}
+use Rattle.group_compiler.specs.Compiled.{Compiling, GroupProgram, compiled, compiling}
 use Rattle.group_compiler.specs.declared.work.Numbered.{Numbered}
 
 module _ {X : Type 0} where
@@ -31,61 +28,75 @@ module _ {X : Type 0} where
   at_get (x ∷ xs) zero v d e = cc
   at_get (x ∷ xs) (suc i) v d e = at_get xs i v d e
 
--- a full slot is not empty
-pub full_at : (slots : List (Option Table)) (i : ℕ) (v : Table) (o : Option Table) → slice_get slots i ≡ Some (Some v) → o ≡ slice_index_or slots i o → o ≡ Some v
-full_at slots i v o e h = h ∙ at_get slots i (Some v) o e
+module _ {T : Type 0} where
+  -- a full slot is not empty
+  pub full_at : (slots : List (Option T)) (i : ℕ) (v : T) (o : Option T) → slice_get slots i ≡ Some (Some v) → o ≡ slice_index_or slots i o → o ≡ Some v
+  full_at slots i v o e h = h ∙ at_get slots i (Some v) o e
 
-pub of_some : (a b : Table) → Some a ≡ Some b → a ≡ b
-of_some a b e = cc
+  pub of_some : (a b : T) → Some a ≡ Some b → a ≡ b
+  of_some a b e = cc
 
-pub popped : (P : Numbered → Type 0) (all rs : List Numbered) (r : Numbered) → all ≡ rs ++ r ∷ [] → All P all → All P rs × P r
-popped P all rs r e h = All-pop P all rs (Some r) e h
+  pub popped : (P : Numbered T → Type 0) (all rs : List (Numbered T)) (r : Numbered T) → all ≡ rs ++ r ∷ [] → All P all → All P rs × P r
+  popped P all rs r e h = All-pop P all rs (Some r) e h
 
--- the slot has the program of its number
-pub record HasProgram (results : List Numbered) (slots : List (Option Table)) (k : ℕ) : Type 0 where
-  pub found : Table
-  pub slot : slice_get slots k ≡ Some (Some found)
-  pub right : (program : ℕ → Table) → All (λ (r : Numbered). r.program ≡ program r.number) results → found ≡ program k
+  -- the slot has what its number makes
+  pub record HasMade (makes : ℕ → T → Type 0) (slots : List (Option T)) (k : ℕ) : Type 0 where
+    pub found : T
+    pub slot : slice_get slots k ≡ Some (Some found)
+    pub right : makes k found
 
--- one result goes into its slot
-pub fills : (results : List Numbered) (slots new : List (Option Table)) (all rs : List Numbered) (r : Numbered) (count : ℕ) → all ≡ rs ++ r ∷ [] → new ≡ slice_set slots r.number (Some r.program) → length slots ≡ count → r.number < count
-    → ((program : ℕ → Table) → All (λ (r : Numbered). r.program ≡ program r.number) results → r.program ≡ program r.number)
-    → ((k : ℕ) → k < count → Contains (map (λ (r : Numbered). r.number) all) k ⊎ HasProgram results slots k)
-    → (k : ℕ) → k < count → Contains (map (λ (r : Numbered). r.number) rs) k ⊎ HasProgram results new k
-fills results slots new all rs r count e n size below right each k l = ⊎_elim
-    (λ same. inr record {
-      found = r.program;
-      slot = ap (λ (os : List (Option Table)). slice_get os k) n ∙ ap (λ (m : ℕ). slice_get (slice_set slots r.number (Some r.program)) m) (sym same)
-          ∙ get_here slots r.number (Some r.program) (let h : r.number < length slots = omega arith in h);
-      right = λ program a. right program a ∙ ap program same;
-    })
-    (λ other. ⊎_elim
-    (λ h. ⊎_elim (λ x. inl x) (λ x. absurd (other x))
-    (Contains-push_cases (map (λ (r : Numbered). r.number) rs) r.number k (subst (λ (ns : List ℕ). Contains ns k) (map-append (λ (r : Numbered). r.number) rs (r ∷ [])) (subst (λ (xs : List Numbered). Contains (map (λ (r : Numbered). r.number) xs) k) e h))))
-    (λ h. inr record {
-      found = h.found;
-      slot = ap (λ (os : List (Option Table)). slice_get os k) n ∙ get_other slots r.number k (Some r.program) other ∙ h.slot;
-      right = h.right;
-    })
-    (each k l))
-    (cases_eq r.number k)
+  -- one result goes into its slot
+  pub fills : (makes : ℕ → T → Type 0) (slots new : List (Option T)) (all rs : List (Numbered T)) (r : Numbered T) (count : ℕ) → all ≡ rs ++ r ∷ [] → new ≡ slice_set slots r.number (Some r.made) → length slots ≡ count → r.number < count
+      → makes r.number r.made
+      → ((k : ℕ) → k < count → Contains (map (λ (r : Numbered T). r.number) all) k ⊎ HasMade makes slots k)
+      → (k : ℕ) → k < count → Contains (map (λ (r : Numbered T). r.number) rs) k ⊎ HasMade makes new k
+  fills makes slots new all rs r count e n size below right each k l = ⊎_elim
+      (λ same. inr record {
+        found = r.made;
+        slot = ap (λ (os : List (Option T)). slice_get os k) n ∙ ap (λ (m : ℕ). slice_get (slice_set slots r.number (Some r.made)) m) (sym same)
+            ∙ get_here slots r.number (Some r.made) (let h : r.number < length slots = omega arith in h);
+        right = subst (λ (m : ℕ). makes m r.made) same right;
+      })
+      (λ other. ⊎_elim
+      (λ h. ⊎_elim (λ x. inl x) (λ x. absurd (other x))
+      (Contains-push_cases (map (λ (r : Numbered T). r.number) rs) r.number k (subst (λ (ns : List ℕ). Contains ns k) (map-append (λ (r : Numbered T). r.number) rs (r ∷ [])) (subst (λ (xs : List (Numbered T)). Contains (map (λ (r : Numbered T). r.number) xs) k) e h))))
+      (λ h. inr record {
+        found = h.found;
+        slot = ap (λ (os : List (Option T)). slice_get os k) n ∙ get_other slots r.number k (Some r.made) other ∙ h.slot;
+        right = h.right;
+      })
+      (each k l))
+      (cases_eq r.number k)
 
--- another slot keeps its program
-pub keeps_program : (results : List Numbered) (slots : List (Option Table)) (i k : ℕ) (o : Option Table) → i ≢ k → HasProgram results slots k → HasProgram results (slice_set slots i o) k
-keeps_program results slots i k o other h = record { found = h.found; slot = get_other slots i k o other ∙ h.slot; right = h.right }
+  -- another slot keeps what it has
+  pub keeps_made : (makes : ℕ → T → Type 0) (slots : List (Option T)) (i k : ℕ) (o : Option T) → i ≢ k → HasMade makes slots k → HasMade makes (slice_set slots i o) k
+  keeps_made makes slots i k o other h = record { found = h.found; slot = get_other slots i k o other ∙ h.slot; right = h.right }
 
-pub none_left : (k : ℕ) (xs : List Numbered) → length xs ≡ 0 → Contains (map (λ (r : Numbered). r.number) xs) k → ⊥
-none_left k xs e h = let l = length-map xs (λ (r : Numbered). r.number) in let w = h.1 in omega arith
+  pub none_left : (k : ℕ) (xs : List (Numbered T)) → length xs ≡ 0 → Contains (map (λ (r : Numbered T). r.number) xs) k → ⊥
+  none_left k xs e h = let l = length-map xs (λ (r : Numbered T). r.number) in let w = h.1 in omega arith
 
-pub one_more : (groups : List (List ℕ)) (program : ℕ → Table) (i : ℕ) (c : GroupProgram) (xs : List GroupProgram) → xs ≡ map (group_with groups program) (range_with_len 0 i) → c ≡ group_with groups program i
-    → xs ++ c ∷ [] ≡ map (group_with groups program) (range_with_len 0 (i + 1))
-one_more groups program i c xs e f =
-    ap₂ (λ (ys : List GroupProgram) (d : GroupProgram). ys ++ d ∷ []) e f ∙ sym (map-range_with_len_more (group_with groups program) 0 i i (omega arith))
+  -- one more in order
+  zip_more : (makes : ℕ → T → Type 0) (a i : ℕ) (xs : List T) (x : T) → AllZip makes (range_with_len a i) xs → makes (a + i) x → AllZip makes (range_with_len a (suc i)) (xs ++ x ∷ [])
+  zip_more makes a zero [] x z m = (subst (λ (n : ℕ). makes n x) (let e : a + 0 ≡ a = omega arith in e) m, tt)
+  zip_more makes a zero (y ∷ xs) x z m = absurd z
+  zip_more makes a (suc i) [] x z m = absurd z
+  zip_more makes a (suc i) (y ∷ xs) x z m = (z.0, zip_more makes (a + 1) i xs x z.1 (subst (λ (n : ℕ). makes n x) (let e : a + suc i ≡ a + 1 + i = omega arith in e) m))
+
+  pub one_more : (makes : ℕ → T → Type 0) (i : ℕ) (xs new : List T) (x : T) → new ≡ xs ++ x ∷ [] → AllZip makes (range_with_len 0 i) xs → makes i x → AllZip makes (range_with_len 0 (i + 1)) new
+  one_more makes i xs new x e z m =
+      subst (λ (n : ℕ). AllZip makes (range_with_len 0 n) new) (let n : suc i ≡ i + 1 = omega arith in n)
+      (subst (λ (ys : List T). AllZip makes (range_with_len 0 (suc i)) ys) (sym e) (zip_more makes 0 i xs x z (subst (λ (n : ℕ). makes n x) (let n : i ≡ 0 + i = omega arith in n) m)))
 
 -- the groups with the numbers from a on
 each_group : (f : List ℕ → GroupProgram) (whole groups : List (List ℕ)) (a : ℕ) → ((i n : ℕ) → n ≡ a + i → slice_index_or groups i [] ≡ slice_index_or whole n []) → map (λ (n : ℕ). f (slice_index_or whole n [])) (range_with_len a (length groups)) ≡ map f groups
 each_group f whole [] a h = refl
 each_group f whole (g ∷ groups) a h = ap₂ (λ (c : GroupProgram) (cs : List GroupProgram). c ∷ cs) (ap f (sym (h 0 a (omega arith)))) (each_group f whole groups (a + 1) (λ i n e. h (suc i) n (omega arith)))
 
-pub all_compiled : (book : Closing) (groups : List (List ℕ)) → map (group_with groups (program_at book groups)) (range_with_len 0 (length groups)) ≡ map (compiled book) groups
-all_compiled book groups = each_group (compiled book) groups groups 0 (λ i n e. ap (λ (m : ℕ). slice_index_or groups m []) (let t : i ≡ n = omega arith in t))
+compiled_all : (book : Closing) (groups : List (List ℕ)) (all : List GroupProgram) → AllZip (λ n c. c ≡ compiled book (slice_index_or groups n [])) (range_with_len 0 (length groups)) all → all ≡ map (compiled book) groups
+compiled_all book groups all z =
+    AllZip-map (λ n. compiled book (slice_index_or groups n [])) (range_with_len 0 (length groups)) all z
+    ∙ each_group (compiled book) groups groups 0 (λ i n e. ap (λ (m : ℕ). slice_index_or groups m []) (let t : i ≡ n = omega arith in t))
+
+pub all_compiled : (book : Closing) (groups : List (List ℕ)) (c : Compiling) (all : List GroupProgram) → c ≡ compiling book groups → AllZip (λ n made. made ≡ compiled c.book (slice_index_or c.groups n [])) (range_with_len 0 (length c.groups)) all → all ≡ map (compiled book) groups
+all_compiled book groups c all e z =
+    compiled_all book groups all (subst (λ (k : Compiling). AllZip (λ n made. made ≡ compiled k.book (slice_index_or k.groups n [])) (range_with_len 0 (length k.groups)) all) e z)

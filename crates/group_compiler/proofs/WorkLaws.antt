@@ -47,9 +47,10 @@ pub map_append : {X Y : Type 0} (f : X → Y) (xs ys : List X) → map f (xs ++ 
 map_append f [] ys = refl
 map_append f (x ∷ xs) ys = ap (λ zs. f x ∷ zs) (map_append f xs ys)
 
-pub numbers_append : (count : ℕ) (rs ss : List Numbered) (xs ys : List ℕ) → map (λ (r : Numbered). r.number) rs ≡ filter (λ n. nat_lt n count) xs → map (λ (r : Numbered). r.number) ss ≡ filter (λ n. nat_lt n count) ys
-    → map (λ (r : Numbered). r.number) (rs ++ ss) ≡ filter (λ n. nat_lt n count) (xs ++ ys)
-numbers_append count rs ss xs ys a b = map_append (λ (r : Numbered). r.number) rs ss ∙ ap₂ (λ (us vs : List ℕ). us ++ vs) a b ∙ sym (filter-append (λ n. nat_lt n count) xs ys)
+module _ {T : Type 0} where
+  pub numbers_append : (count : ℕ) (rs ss : List (Numbered T)) (xs ys : List ℕ) → map (λ (r : Numbered T). r.number) rs ≡ filter (λ n. nat_lt n count) xs → map (λ (r : Numbered T). r.number) ss ≡ filter (λ n. nat_lt n count) ys
+      → map (λ (r : Numbered T). r.number) (rs ++ ss) ≡ filter (λ n. nat_lt n count) (xs ++ ys)
+  numbers_append count rs ss xs ys a b = map_append (λ r. r.number) rs ss ∙ ap₂ (λ (us vs : List ℕ). us ++ vs) a b ∙ sym (filter-append (λ n. nat_lt n count) xs ys)
 
 -- how often a number stands in a list, and that it stands there
 stands_once : (k : ℕ) (xs : List ℕ) → 0 < times k xs → Contains xs k
@@ -130,10 +131,11 @@ all_drawn count w xs ns each long f e k below =
     let some : 0 < times k xs = omega arith in
     subst (λ (ys : List ℕ). Contains ys k) (sym e) (in_filter count k xs below (stands_once k xs some))
 
-below_each : (count : ℕ) (rs : List Numbered) → AllByRecursion (λ n. nat_lt n count ≡ true) (map (λ (r : Numbered). r.number) rs) → AllByRecursion (λ (r : Numbered). r.number < count) rs
-below_each count [] a = tt
-below_each count (r ∷ rs) a = (ltb-true r.number count a.0, below_each count rs a.1)
+module _ {T : Type 0} where
+  below_each : (count : ℕ) (rs : List (Numbered T)) → AllByRecursion (λ n. nat_lt n count ≡ true) (map (λ (r : Numbered T). r.number) rs) → AllByRecursion (λ (r : Numbered T). r.number < count) rs
+  below_each count [] a = tt
+  below_each count (r ∷ rs) a = (ltb-true r.number count a.0, below_each count rs a.1)
 
-pub all_below : (count : ℕ) (xs : List ℕ) (rs : List Numbered) → map (λ (r : Numbered). r.number) rs ≡ filter (λ n. nat_lt n count) xs → All (λ (r : Numbered). r.number < count) rs
-all_below count xs rs e = All-from_recursion (λ (r : Numbered). r.number < count) rs (below_each count rs
-    (subst (λ (ns : List ℕ). AllByRecursion (λ n. nat_lt n count ≡ true) ns) (sym e) (recursion_from_All (λ n. nat_lt n count ≡ true) (filter (λ n. nat_lt n count) xs) (filter_passes (λ n. nat_lt n count) xs))))
+  pub all_below : (count : ℕ) (xs : List ℕ) (rs : List (Numbered T)) → map (λ (r : Numbered T). r.number) rs ≡ filter (λ n. nat_lt n count) xs → All (λ (r : Numbered T). r.number < count) rs
+  all_below count xs rs e = All-from_recursion (λ (r : Numbered T). r.number < count) rs (below_each count rs
+      (subst (λ (ns : List ℕ). AllByRecursion (λ n. nat_lt n count ≡ true) ns) (sym e) (recursion_from_All (λ n. nat_lt n count ≡ true) (filter (λ n. nat_lt n count) xs) (filter_passes (λ n. nat_lt n count) xs))))

@@ -1,5 +1,5 @@
 -- What is compiled for a group.
-use Rattle.std.specs.Prelude.{ℕ, List, [], slice_index_or}
+use Rattle.std.specs.Prelude.{ℕ, List}
 use Rattle.auction_terms.specs.Groups.{has}
 use Rattle.auction_terms.specs.Keeping.{kept_of}
 use Rattle.auction_terms.specs.Terms.{lots_in}
@@ -22,3 +22,11 @@ program_without book group = program_of (lots_in book.rules) (kept_of (lots_in b
 -- a group with its program
 abbrev pub compiled : Closing → List ℕ → GroupProgram
 compiled book group = group_program group (program_without book group)
+
+-- a book and the groups that are left out of its programs
+pub record Compiling : Type 0 where
+  pub book : Closing
+  pub groups : List (List ℕ)
+
+abbrev pub compiling : Closing → List (List ℕ) → Compiling
+compiling book groups = record { book = book; groups = groups }

@@ -1,4 +1,3 @@
 pub mod Claimed
 pub mod Claims
-pub mod Compiled
 pub mod Works

@@ -3,6 +3,7 @@
 ghost use Rattle.std.specs.Prelude.{◌≡◌, ◌≤◌, ◌-◌, [], IfOk, length, slice_index_or};
 ghost use Rattle.auction_terms.specs.Groups.{has};
 ghost use Rattle.auction_terms.specs.Terms.{lots_in};
+ghost use Rattle.auction_terms.specs.declared.limits.TheConstants.{MOST_GROUPS};
 ghost use Rattle.bid_desk.specs.Closing.{book_of};
 ghost use Rattle.mps_text.specs.FaithfulText.{IsFaithfulText};
 ghost use Rattle.mps_text.specs.Text.{text};
@@ -11,11 +12,13 @@ ghost use Rattle.program_rows.specs.Faithful.{IsFaithful};
 ghost use Rattle.group_compiler.specs.Compiled.{compiled, program_without};
 
 use crate::compiled::Compiled;
+use crate::maker::Maker;
 use auction_terms::{Group, Groups};
 use bid_desk::ClosedBook;
 use presolve::Flags;
 use program_rows::{Program, build};
 use std::alloc::{AllocError, Global};
+use std::marker::Model;
 use std::thread::Threads;
 
 /// Compiles group k, counted from 1. Each point of the program is a feasible allocation of the same total, and each
@@ -53,4 +56,91 @@ pub(crate) fn compile(
 {
     let kept = flags.kept(alloc, book, group)?;
     build(alloc, book.rules(), &kept)
+}
+
+/// Compiles the groups of an auction, by flags that are found once. Contracts see the book and the groups.
+#[derive(Drop)]
+pub struct Compiler<'b, 'g> {
+    book: &'b ClosedBook,
+    groups: &'g Groups,
+    flags: Flags,
+    ghost flags_are: { flags ≡ flags_of (lots_in book.now.rules) (book_of book.now) },
+}
+
+impl<'b, 'g> Model for Compiler<'b, 'g> {
+    ghost use Rattle.group_compiler.specs.Compiled.{Compiling, compiling};
+
+    ghost Value = { Compiling };
+
+    ghost view = { λ c. compiling c.book.now c.groups.now };
+}
+
+impl<'b, 'g> Compiler<'b, 'g> {
+    ghost use Rattle.group_compiler.specs.Compiled.{compiling};
+
+    /// A compiler of the groups of an auction.
+    pub fn new(
+        rt: &(impl Threads + Sync),
+        alloc: Global,
+        book: &'b ClosedBook,
+        groups: &'g Groups,
+    ) -> Result<Compiler<'b, 'g>, AllocError>
+        ensures { IfOk result (λ compiler. compiler ≡ compiling book.now groups.now) }
+    {
+        Ok(Compiler {
+            book,
+            groups,
+            flags: Flags::new(rt, alloc, book)?,
+        })
+    }
+
+    /// The book.
+    pub fn book(&self) -> &'b ClosedBook
+        ensures { result.now ≡ self.now.book }
+    {
+        self.book
+    }
+
+    /// How many groups there are.
+    pub fn count(&self) -> usize
+        ensures count { result ≡ length self.now.groups }
+        ensures few { result ≤ MOST_GROUPS }
+    {
+        self.groups.count()
+    }
+
+    /// The program without a group, whether it is one of these or another one.
+    pub fn program_without(&self, alloc: Global, group: &Group) -> Result<Program, AllocError>
+        ensures { IfOk result (λ program. program ≡ program_without self.now.book group.now) }
+    {
+        compile(alloc, self.book, &self.flags, group)
+    }
+
+    /// Compiles group k, counted from 1, as `compile_one` does.
+    pub fn compile(&self, alloc: Global, k: usize) -> Result<Compiled<'g>, AllocError>
+        requires some { 1 ≤ k }
+        requires within { k ≤ length self.now.groups }
+        ensures { IfOk result (λ c. c ≡ compiled self.now.book (slice_index_or self.now.groups (k - 1) [])) }
+    {
+        let group = self.groups.group(k);
+        let program = self.program_without(alloc, group)?;
+        Ok(Compiled::new(group, program))
+    }
+}
+
+impl<'b, 'g> Maker for Compiler<'b, 'g> {
+    type Made = Compiled<'g>;
+
+    ghost count_of = { λ c. length c.groups };
+
+    ghost makes = { λ c n made. made ≡ compiled c.book (slice_index_or c.groups n []) };
+
+    fn count(&self) -> usize {
+        Compiler::count(self)
+    }
+
+    fn make(&self, alloc: Global, number: usize) -> Result<Compiled<'g>, AllocError> {
+        let _few = Compiler::count(self);
+        self.compile(alloc, number + 1)
+    }
 }

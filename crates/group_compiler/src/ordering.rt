@@ -1,17 +1,13 @@
-//! Results in the order of their groups.
+//! Results in the order of their numbers.
 
-ghost use Rattle.std.specs.Prelude.{◌≡◌, ◌<◌, ◌≤◌, ℕ, All, Contains, IfOk, length, map};
-ghost use Rattle.std.specs.List.{range_with_len};
-ghost use Rattle.program_rows.specs.Program.{Table};
-ghost use Rattle.group_compiler.specs.inside.Compiled.{group_with};
+ghost use Rattle.std.specs.Prelude.{◌≡◌, ◌<◌, ℕ, All, Contains, IfOk, length, map};
+ghost use Rattle.std.specs.List.{AllZip, range_with_len};
 
-use crate::compiled::Compiled;
+use crate::maker::Maker;
 use crate::work::Numbered;
-use auction_terms::Groups;
-use program_rows::Program;
 use std::alloc::{AllocError, Global};
 
-fn empty_slots(alloc: Global, count: usize) -> Result<Vec<Option<Program>>, AllocError>
+fn empty_slots<T: Drop>(alloc: Global, count: usize) -> Result<Vec<Option<T>>, AllocError>
     ensures { IfOk result (λ slots. length slots.items ≡ count) }
 {
     let mut slots = Vec::with_capacity(alloc, count)?;
@@ -21,27 +17,28 @@ fn empty_slots(alloc: Global, count: usize) -> Result<Vec<Option<Program>>, Allo
     Ok(slots)
 }
 
-// Each group with its program, in order, where there is one of each number.
-pub(crate) fn in_order<'g>(
+// What is made of each number, in order, where something is made of each.
+pub(crate) fn in_order<M: Maker>(
     alloc: Global,
-    groups: &'g Groups,
-    mut results: Vec<Numbered>,
-) -> Result<Vec<Compiled<'g>>, AllocError>
-    requires below { All (λ r. r.number < length groups.now) results.items }
-    requires complete { (k : ℕ) → k < length groups.now → Contains (map (λ r. r.number) results.items) k }
-    ensures { IfOk result (λ ordered. (program : ℕ → Table) → All (λ r. r.program ≡ program r.number) results.items → ordered.items ≡ map (group_with groups.now program) (range_with_len 0 (length groups.now))) }
+    maker: &M,
+    mut results: Vec<Numbered<M::Made>>,
+) -> Result<Vec<M::Made>, AllocError>
+    requires below { All (λ r. r.number < M.count_of maker.now) results.items }
+    requires complete { (k : ℕ) → k < M.count_of maker.now → Contains (map (λ r. r.number) results.items) k }
+    requires made { All (λ r. M.makes maker.now r.number r.made) results.items }
+    ensures { IfOk result (λ ordered. AllZip (M.makes maker.now) (range_with_len 0 (M.count_of maker.now)) ordered.items) }
 {
-    let count = groups.count();
+    let count = maker.count();
     let mut slots = empty_slots(alloc, count)?;
     while let Some(numbered) = results.pop() {
-        slots[numbered.number as usize] = Some(numbered.program);
+        slots[numbered.number as usize] = Some(numbered.made);
     }
     let mut ordered = Vec::with_capacity(alloc, count)?;
     for place in 0..count {
-        let Some(program) = slots[place].take() else {
+        let Some(made) = slots[place].take() else {
             unreachable!()
         };
-        ordered.push(Compiled::new(groups.group(place + 1), program))?;
+        ordered.push(made)?;
     }
     Ok(ordered)
 }

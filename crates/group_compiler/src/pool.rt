@@ -1,28 +1,27 @@
-//! Workers that compile all groups, and draw the groups' numbers from one counter.
+//! Workers that make something of each number, and draw the numbers from one counter.
 //!
 //! The workers start by recursion on their number, so that each proof has two claims in hand and never a list of them:
 //! the one that goes on and the one whose thread is started. Once all are joined, the one claim that is left has drawn
-//! every number that was drawn; each worker stopped at a number that is no group's, so none is left out.
+//! every number that was drawn; each worker stopped at a number of which nothing is made, so none is left out.
 
 ghost use Rattle.std.specs.Thread.{IsSync};
-ghost use Rattle.std.specs.Prelude.{◌≡◌, ◌+◌, ◌-◌, ◌*◌, ◌<◌, ◌≤◌, [], length, map, IfOk};
-ghost use Rattle.auction_terms.specs.Terms.{lots_in};
-ghost use Rattle.bid_desk.specs.Closing.{book_of};
-ghost use Rattle.presolve.specs.Flags.{flags_of};
+ghost use Rattle.std.specs.Prelude.{◌≡◌, ◌+◌, ◌-◌, ◌*◌, ◌<◌, ◌≤◌, [], map, IfOk};
+ghost use Rattle.std.specs.List.{AllZip, range_with_len};
 ghost use Rattle.group_compiler.specs.Claimed.{IsOf};
 ghost use Rattle.group_compiler.specs.Compiled.{compiled};
-ghost use Rattle.group_compiler.specs.inside.Works.{IsJoined, IsWork, draws};
+ghost use Rattle.group_compiler.specs.inside.Works.{IsWork, draws};
 ghost use Rattle.group_compiler.specs.declared.limits.TheConstants.{MOST_WORKERS, WORKER_DRAWS};
 
 use crate::claim::Claim;
 use crate::claims::Claims;
 use crate::compiled::Compiled;
+use crate::compiling::Compiler;
 use crate::gate::Gate;
+use crate::maker::Maker;
 use crate::ordering::in_order;
-use crate::work::{Work, compile_drawn};
+use crate::work::{Work, make_drawn};
 use auction_terms::Groups;
 use bid_desk::ClosedBook;
-use presolve::Flags;
 use std::alloc::{AllocError, Global};
 use std::snapshot::Snapshot;
 use std::sync::Wait;
@@ -31,26 +30,31 @@ use std::thread::{Promise, Threads};
 
 /// What a worker's thread promises: its work from a claim with the draws of one worker.
 #[derive(Drop)]
-pub struct WorkOfOneClaim {
+pub struct WorkOfOneClaim<M> {
     pub claims: Snapshot<Claims>,
-    pub book: Snapshot<ClosedBook>,
-    pub groups: Snapshot<Groups>,
+    pub maker: Snapshot<M>,
 }
 
-impl Promise<Result<Work, AllocError>> for WorkOfOneClaim {
+impl<M: Maker> Promise<Result<Work<M::Made>, AllocError>> for WorkOfOneClaim<M> {
     ghost use Rattle.std.specs.Prelude.{IfOk};
-    ghost use Rattle.group_compiler.specs.inside.Works.{IsJoined, IsWork, draws};
+    ghost use Rattle.group_compiler.specs.inside.Works.{IsWork, draws};
     ghost use Rattle.group_compiler.specs.declared.limits.TheConstants.{WORKER_DRAWS};
 
-    ghost kept_by = { λ p r. IfOk r (λ work. IsWork p.claims.value p.book.value p.groups.value work × (draws work ≡ WORKER_DRAWS)) };
+    ghost kept_by = { λ p r. IfOk r (λ work. IsWork p.claims.value (M.count_of p.maker.value) (M.makes p.maker.value) work × (draws work ≡ WORKER_DRAWS)) };
 }
 
 // The work of two claims, as that of one.
-fn join_works(claims: &Claims, mut mine: Work, theirs: Work) -> Result<Work, AllocError>
-    requires mine { IsOf claims.now mine.claim }
-    requires theirs { IsOf claims.now theirs.claim }
-    ensures { IfOk result (IsJoined claims.now mine theirs) }
+fn join_works<M: Maker>(
+    claims: &Claims,
+    maker: &M,
+    mut mine: Work<M::Made>,
+    theirs: Work<M::Made>,
+) -> Result<Work<M::Made>, AllocError>
+    requires mine { IsWork claims.now (M.count_of maker.now) (M.makes maker.now) mine }
+    requires theirs { IsWork claims.now (M.count_of maker.now) (M.makes maker.now) theirs }
+    ensures { IfOk result (λ both. IsWork claims.now (M.count_of maker.now) (M.makes maker.now) both × (draws both ≡ draws mine + draws theirs)) }
 {
+    let _known = maker.count();
     let Work { claim, mut results } = theirs;
     claims.join(&mut mine.claim, claim);
     mine.results.append(&mut results)?;
@@ -58,59 +62,75 @@ fn join_works(claims: &Claims, mut mine: Work, theirs: Work) -> Result<Work, All
 }
 
 // Splits off a claim and starts a thread with it, until one worker is left, which works here.
-fn run_workers<R: Threads + Wait + Sync, G: Gate + Sync>(
+fn run_workers<R: Threads + Wait + Sync, G: Gate + Sync, M: Maker + Sync>(
     rt: &R,
     alloc: Global,
-    book: &ClosedBook,
-    flags: &Flags,
-    groups: &Groups,
     claims: &Claims,
     workers: usize,
     gate: &G,
+    maker: &M,
     mut claim: Claim,
-) -> Result<Work, AllocError>
-    requires flags { flags.now ≡ flags_of (lots_in book.now.rules) (book_of book.now) }
+) -> Result<Work<M::Made>, AllocError>
     requires same { IsOf claims.now claim }
     requires fresh { claim.drawn ≡ [] }
     requires room { WORKER_DRAWS * workers ≤ claim.room }
     requires workers { 0 < workers }
-    ensures { IfOk result (λ work. IsWork claims.now book.now groups.now work × (draws work ≡ claim.room)) }
+    ensures { IfOk result (λ work. IsWork claims.now (M.count_of maker.now) (M.makes maker.now) work × (draws work ≡ claim.room)) }
 {
     if workers == 1 {
-        return compile_drawn(rt, alloc, book, flags, groups, claims, gate, claim);
+        return make_drawn(rt, alloc, claims, gate, maker, claim);
     }
     let other = claims.split(&mut claim)?;
     let (mine, theirs) = thread::scope(
         thread::scope_env(),
         rt,
-        |scope| -> Result<(Result<Work, AllocError>, Result<Work, AllocError>), AllocError>
-            requires { IsSync R.row × IsSync G.row × (flags.now ≡ flags_of (lots_in book.now.rules) (book_of book.now)) × IsOf claims.now other × (other.drawn ≡ []) × (other.room ≡ WORKER_DRAWS) × IsOf claims.now claim × (claim.drawn ≡ []) × (WORKER_DRAWS * (workers - 1) ≤ claim.room) × (1 < workers) }
-            ensures { IfOk result (λ r. IfOk r.0 (λ work. IsWork claims.entry.now book.entry.now groups.entry.now work × (draws work ≡ claim.room)) × IfOk r.1 (λ work. IsWork claims.entry.now book.entry.now groups.entry.now work × (draws work ≡ WORKER_DRAWS))) }
+        |scope| -> Result<
+            (
+                Result<Work<M::Made>, AllocError>,
+                Result<Work<M::Made>, AllocError>,
+            ),
+            AllocError,
+        >
+            requires { IsSync R.row × IsSync G.row × IsSync M.row × IsOf claims.now other × (other.drawn ≡ []) × (other.room ≡ WORKER_DRAWS) × IsOf claims.now claim × (claim.drawn ≡ []) × (WORKER_DRAWS * (workers - 1) ≤ claim.room) × (1 < workers) }
+            ensures { IfOk result (λ r. IfOk r.0 (λ work. IsWork claims.entry.now (M.count_of maker.entry.now) (M.makes maker.entry.now) work × (draws work ≡ claim.room)) × IfOk r.1 (λ work. IsWork claims.entry.now (M.count_of maker.entry.now) (M.makes maker.entry.now) work × (draws work ≡ WORKER_DRAWS))) }
         {
             let promise = WorkOfOneClaim {
                 claims: Snapshot::of(claims),
-                book: Snapshot::of(book),
-                groups: Snapshot::of(groups),
+                maker: Snapshot::of(maker),
             };
             let child = scope.spawn_with(
                 promise,
-                move || compile_drawn(rt, alloc, book, flags, groups, claims, gate, other),
+                move || -> Result<Work<M::Made>, AllocError>
+                    requires { IsSync R.row × IsSync G.row × IsSync M.row × IsOf claims.now other × (other.drawn ≡ []) × (other.room ≡ WORKER_DRAWS) }
+                    ensures { IfOk result (λ work. IsWork claims.entry.now (M.count_of maker.entry.now) (M.makes maker.entry.now) work × (draws work ≡ WORKER_DRAWS)) }
+                { make_drawn(rt, alloc, claims, gate, maker, other) },
             )?;
-            let mine = run_workers(
-                rt,
-                alloc,
-                book,
-                flags,
-                groups,
-                claims,
-                workers - 1,
-                gate,
-                claim,
-            );
+            let mine = run_workers(rt, alloc, claims, workers - 1, gate, maker, claim);
             Ok((mine, child.join(rt)))
         },
     )?;
-    join_works(claims, mine?, theirs?)
+    join_works(claims, maker, mine?, theirs?)
+}
+
+/// What is made of each number, in order, with 1 to 64 workers, which draw the numbers from one counter. No more than one
+/// thing a worker is being made at once. A number is that of a group at the gate, counted from 1. Where memory or the start
+/// of a thread is refused, nothing is given.
+pub fn make_all<R: Threads + Wait + Sync, G: Gate + Sync, M: Maker + Sync>(
+    rt: &R,
+    alloc: Global,
+    workers: usize,
+    gate: &G,
+    maker: &M,
+) -> Result<Vec<M::Made>, AllocError>
+    requires some { 1 ≤ workers }
+    requires few { workers ≤ MOST_WORKERS }
+    ensures { IfOk result (λ all. AllZip (M.makes maker.now) (range_with_len 0 (M.count_of maker.now)) all.items) }
+{
+    let (claims, claim) = Claims::open(alloc)?;
+    let work = run_workers(rt, alloc, &claims, workers, gate, maker, claim)?;
+    let Work { claim, results } = work;
+    let _drawn = claims.close(claim);
+    in_order(alloc, maker, results)
 }
 
 /// Compiles all groups with 1 to 64 workers, which draw the groups' numbers from one counter, and gives in order what
@@ -127,12 +147,6 @@ pub fn compile_all<'g, R: Threads + Wait + Sync, G: Gate + Sync>(
     requires few { workers ≤ MOST_WORKERS }
     ensures { IfOk result (λ all. all.items ≡ map (compiled book.now) groups.now) }
 {
-    let flags = Flags::new(rt, alloc, book)?;
-    let (claims, claim) = Claims::open(alloc)?;
-    let work = run_workers(
-        rt, alloc, book, &flags, groups, &claims, workers, gate, claim,
-    )?;
-    let Work { claim, results } = work;
-    let _drawn = claims.close(claim);
-    in_order(alloc, groups, results)
+    let compiler = Compiler::new(rt, alloc, book, groups)?;
+    make_all(rt, alloc, workers, gate, &compiler)
 }

@@ -1,57 +1,47 @@
-//! One worker: it draws group numbers and compiles their groups.
+//! One worker: it draws numbers, and makes of each what is to be made of it.
 
-ghost use Rattle.std.specs.Prelude.{◌≡◌, ◌+◌, ◌<◌, ◌≤◌, [], length, IfOk};
-ghost use Rattle.auction_terms.specs.Terms.{lots_in};
+ghost use Rattle.std.specs.Prelude.{◌≡◌, ◌<◌, ◌≤◌, [], IfOk};
 ghost use Rattle.auction_terms.specs.declared.limits.TheConstants.{MOST_GROUPS};
-ghost use Rattle.bid_desk.specs.Closing.{book_of};
-ghost use Rattle.presolve.specs.Flags.{flags_of};
 ghost use Rattle.group_compiler.specs.Claimed.{IsOf};
-ghost use Rattle.group_compiler.specs.inside.Works.{IsProgramOf, IsWork, draws};
+ghost use Rattle.group_compiler.specs.inside.Works.{IsWork, draws};
 ghost use Rattle.group_compiler.specs.declared.limits.TheConstants.{WORKER_DRAWS};
 
 use crate::claim::Claim;
 use crate::claims::Claims;
-use crate::compiling::compile;
 use crate::gate::Gate;
-use auction_terms::Groups;
-use bid_desk::ClosedBook;
-use presolve::Flags;
-use program_rows::Program;
+use crate::maker::Maker;
 use std::alloc::{AllocError, Global};
 use std::sync::Wait;
 
-/// The program of the group with this number, from 0.
+/// What is made of this number, from 0.
 #[derive(Drop)]
-pub struct Numbered {
+pub struct Numbered<T> {
     pub number: u64,
-    pub program: Program,
+    pub made: T,
 }
 
-/// A claim, and the program of each group whose number it drew.
+/// A claim, and what is made of each number that it drew.
 #[derive(Drop)]
-pub struct Work {
+pub struct Work<T> {
     pub claim: Claim,
-    pub results: Vec<Numbered>,
+    pub results: Vec<Numbered<T>>,
 }
 
-// Draws and compiles until a number is drawn that is no group's.
-pub(crate) fn compile_drawn<R: Wait, G: Gate>(
+// Draws and makes until a number is drawn of which nothing is made.
+pub(crate) fn make_drawn<R: Wait, G: Gate, M: Maker>(
     rt: &R,
     alloc: Global,
-    book: &ClosedBook,
-    flags: &Flags,
-    groups: &Groups,
     claims: &Claims,
     gate: &G,
+    maker: &M,
     mut claim: Claim,
-) -> Result<Work, AllocError>
-    requires flags { flags.now ≡ flags_of (lots_in book.now.rules) (book_of book.now) }
+) -> Result<Work<M::Made>, AllocError>
     requires same { IsOf claims.now claim }
     requires fresh { claim.drawn ≡ [] }
     requires room { WORKER_DRAWS ≤ claim.room }
-    ensures { IfOk result (λ work. IsWork claims.now book.now groups.now work × (draws work ≡ claim.room)) }
+    ensures { IfOk result (λ work. IsWork claims.now (M.count_of maker.now) (M.makes maker.now) work × (draws work ≡ claim.room)) }
 {
-    let count = groups.count() as u64;
+    let count = maker.count() as u64;
     let mut results = Vec::new(alloc);
     for _turn in 0..count + 1 {
         let number = claims.draw(&mut claim);
@@ -59,26 +49,22 @@ pub(crate) fn compile_drawn<R: Wait, G: Gate>(
             return Ok(Work { claim, results });
         }
         gate.arrive(rt, number as usize + 1);
-        results.push(compile_numbered(alloc, book, flags, groups, number)?)?;
+        results.push(make_numbered(alloc, maker, number)?)?;
     }
     Ok(Work { claim, results })
 }
 
-// Compiles the group with this number, from 0.
-fn compile_numbered(
+// What is made of this number, from 0.
+fn make_numbered<M: Maker>(
     alloc: Global,
-    book: &ClosedBook,
-    flags: &Flags,
-    groups: &Groups,
+    maker: &M,
     number: u64,
-) -> Result<Numbered, AllocError>
-    requires flags { flags.now ≡ flags_of (lots_in book.now.rules) (book_of book.now) }
-    requires few { length groups.now ≤ MOST_GROUPS }
-    requires below { number < length groups.now }
+) -> Result<Numbered<M::Made>, AllocError>
+    requires few { number < MOST_GROUPS }
+    requires below { number < M.count_of maker.now }
     ensures number { IfOk result (λ numbered. numbered.number ≡ number) }
-    ensures program { IfOk result (λ numbered. IsProgramOf book.now groups.now numbered) }
+    ensures made { IfOk result (λ numbered. M.makes maker.now number numbered.made) }
 {
-    let group = groups.group(number as usize + 1);
-    let program = compile(alloc, book, flags, group)?;
-    Ok(Numbered { number, program })
+    let made = maker.make(alloc, number as usize)?;
+    Ok(Numbered { number, made })
 }

@@ -12,7 +12,8 @@ use Rattle.auction_terms.specs.Allocations.{Book, form_of}
 use Rattle.auction_terms.specs.Keeping.{Offer, offers_of_form, offers_from, is_kept_offer, kept_of}
 use Rattle.auction_terms.specs.Limits.{AreOffers, IsBook}
 use Rattle.auction_terms.proofs.LimitLaws.{kept_are_offers}
-use Rattle.presolve.specs.Flags.{flagged_from, flags_of_form, kept_in_form}
+use Rattle.auction_terms.specs.Domination.{is_kept}
+use Rattle.presolve.specs.Flags.{kept_in_form}
 use Rattle.presolve.proofs.KeepLaws.{kept_outside, none_inside, next_form, offers_parted}
 use Rattle.program_rows.specs.Program.{TableRow}
 use Rattle.program_rows.specs.declared.subject.Subject.{Subject}
@@ -80,11 +81,14 @@ dedup_parts b (x ∷ xs) ys h k =
     let e = h.0 in
     subst (λ (m : ℕ). dedup_from nat_eq m (xs ++ ys) ≡ dedup_from nat_eq m xs ++ dedup nat_eq ys) (sym e) (dedup_front b xs ys h.1 k)
 
-flagged_of : (b j : ℕ) (form : List Bid) (flags : List Bool) → AllByRecursion (λ x. x ≡ b) (bidders (flagged_from b j form flags))
-flagged_of b j [] flags = tt
-flagged_of b j (x ∷ form) [] = tt
-flagged_of b j (x ∷ form) (true ∷ flags) = (refl, flagged_of b (j + 1) form flags)
-flagged_of b j (x ∷ form) (false ∷ flags) = flagged_of b (j + 1) form flags
+-- what is kept of a form is its bidder's
+of_bidder : (lots : Lots) (form : List Bid) (b j : ℕ) (rest : List Bid) → AllByRecursion (λ x. x ≡ b) (bidders (filter (λ o. is_kept lots form o.bid) (offers_of_form b j rest)))
+of_bidder lots form b j [] = tt
+of_bidder lots form b j (x ∷ rest) = by (is_kept lots form x) (filter (λ o. is_kept lots form o.bid) (offers_of_form b (j + 1) rest)) (of_bidder lots form b (j + 1) rest)
+  where
+    by : (keep : Bool) (more : List Offer) → AllByRecursion (λ y. y ≡ b) (bidders more) → AllByRecursion (λ y. y ≡ b) (bidders (cond keep (record { bidder = b; number = j; bid = x } ∷ more) more))
+    by true more h = (refl, h)
+    by false more h = h
 
 all_append : (P : ℕ → Type 0) (xs ys : List ℕ) → AllByRecursion P xs → AllByRecursion P ys → AllByRecursion P (xs ++ ys)
 all_append P [] ys h k = k
@@ -99,7 +103,7 @@ module _ (lots : Lots) (book : Book) (group : ℕ → Bool) where
   above_pick c b form os true l h = h
   above_pick c b form os false l h =
       subst (AllByRecursion (λ y. c < y)) (sym (map-append (λ (o : Offer). o.bidder) (kept_in_form lots b form) os))
-      (all_append (λ y. c < y) (bidders (kept_in_form lots b form)) (bidders os) (all_map (λ x. x ≡ b) (λ y. c < y) (bidders (kept_in_form lots b form)) (λ x e. omega arith) (flagged_of b 1 form (flags_of_form lots form))) h)
+      (all_append (λ y. c < y) (bidders (kept_in_form lots b form)) (bidders os) (all_map (λ x. x ≡ b) (λ y. c < y) (bidders (kept_in_form lots b form)) (λ x e. omega arith) (of_bidder lots form b 1 form)) h)
 
   above : (c b : ℕ) (rest : Book) → c < b → AllByRecursion (λ y. c < y) (bidders (kept_forms lots book group b rest))
   above c b [] l = tt
@@ -138,7 +142,7 @@ module _ (lots : Lots) where
       → lines_of section (page_of_offers lots (cond g os (kept_in_form lots b form ++ os))) ≡ joined section (cond g pages (page_of_form lots b form ∷ pages))
   page_next section b form os pages true are k h = h are
   page_next section b form os pages false are k h =
-      page_parts section b (kept_in_form lots b form) os are (flagged_of b 1 form (flags_of_form lots form)) k
+      page_parts section b (kept_in_form lots b form) os are (of_bidder lots form b 1 form) k
       ∙ ap (λ (w : List ℕ). lines_of section (page_of_form lots b form) ++ w) (h (offers_parted lots (kept_in_form lots b form) os are).1)
 
 module _ (lots : Lots) (book : Book) (group : ℕ → Bool) where

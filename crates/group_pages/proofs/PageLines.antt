@@ -1,10 +1,7 @@
 -- Lines of pages in memory.
-use Rattle.std.proofs.Common.{◌≡◌, ◌+◌, ◌-◌, arith, ℕ, zero, suc, Bool, length, length-append, take, List, [], ◌∷◌, ◌++◌, Option, Some, map, refl, sym, ap, ap₂, ◌∙◌, append-nil}
+use Rattle.std.proofs.Common.{◌≡◌, ◌+◌, ◌-◌, arith, ℕ, zero, suc, Bool, length, length-append, take, List, [], ◌∷◌, ◌++◌, map, refl, sym, ap, ap₂, ◌∙◌, append-nil}
 use Rattle.std.specs.Prelude.{flat_map}
 use Rattle.std.specs.List.{range_with_len}
-use Rattle.std.specs.Io.KnownBytes.{Appends}
-use Rattle.mps_text.specs.Held.{held}
-use Rattle.mps_text.specs.declared.block.Block.{Block}
 use Rattle.std.proofs.lemmas.Grind.{flat_map-append}
 use Rattle.std.proofs.lemmas.List.{length-map, map-append}
 use Rattle.std.proofs.lemmas.List.FromFn.{length-map-range_with_len}
@@ -25,12 +22,6 @@ use Rattle.group_pages.specs.Joining.{joined, pages_for}
 pub each_line : {X Y : Type 0} (f : Y → List ℕ) (g : X → Y) (xs : List X) → flat_map (λ x. f (g x)) xs ≡ flat_map f (map g xs)
 each_line f g [] = refl
 each_line f g (x ∷ xs) = ap (λ w. f (g x) ++ w) (each_line f g xs)
-
--- what has gone into a sink that was empty, where nothing waits
-pub gone_out : (t t' : Option (List ℕ)) (b b' : Block) (bytes lines : List ℕ) → t ≡ Some [] → t' ≡ Some bytes → b.waiting.items ≡ [] → b'.waiting.items ≡ [] → Appends (held t b) (held t' b') lines → bytes ≡ lines
-gone_out t t' b b' bytes lines s s' e e' h =
-    let plain : bytes ++ [] ≡ ([] ++ []) ++ lines = rw (s, s', e, e') at h in
-    sym (append-nil bytes) ∙ plain
 
 -- the lines of bidders, and those of lots
 pub lines_for : (section : Section) (group : ℕ → Bool) (pages : AllPages) (forms : List PageText) (lines : List ℕ) → forms ≡ pages.forms → lines ≡ lines_of section pages.lots

@@ -4,8 +4,7 @@ use Rattle.std.specs.Prelude.{codes, flat_map}
 use Rattle.std.proofs.lemmas.List.{map-append}
 use Rattle.std.proofs.lemmas.Grind.{flat_map-append}
 use Rattle.program_rows.specs.Program.{Table, TableColumn}
-use Rattle.program_rows.specs.Lines.{Line, Header, Data}
-use Rattle.program_rows.specs.Meaning.{LineFields}
+use Rattle.program_rows.specs.Lines.{LineFields, Line, Header, Data}
 use Rattle.mps_text.specs.Text.{written, text, block, if_any, row_block, column_block, row_fields, right_side_fields, bound_fields, entry_fields, column_fields, marker_fields}
 use Rattle.mps_text.specs.Bytes.{row_bytes, right_side_bytes, bound_bytes, column_bytes, cost_bytes}
 use Rattle.mps_text.specs.inside.Bytes.{where_any}

@@ -12,7 +12,7 @@ use crate::page::Page;
 use crate::pages::Pages;
 use crate::section::Section;
 use auction_terms::Group;
-use mps_text::{Block, Sink, SinkFailed, add};
+use mps_text::{Sink, Writer};
 
 // Whether a page has lines in a section, unless its bidder is left out.
 fn page_has_lines(page: &Page, is_out: bool, section: Section) -> bool
@@ -73,123 +73,51 @@ fn closing(section: Section, any: bool) -> &'static [u8]
 }
 
 // Adds the lines of a page in a section, unless its bidder is left out.
-fn add_page<S: Sink>(
-    block: &mut Block,
-    sink: &mut S,
-    page: &Page,
-    is_out: bool,
-    section: Section,
-) -> Result<(), SinkFailed>
-    ensures { Adds result (S.taken sink.old) (S.taken sink.new) block.old block.new (S.failures sink.old) (S.failures sink.new) (cond is_out [] (lines_of section page.now)) }
+fn add_page<S: Sink>(writer: &mut Writer<'_, S>, page: &Page, is_out: bool, section: Section)
+    ensures { Adds S.taken S.failures writer.old writer.new (cond is_out [] (lines_of section page.now)) }
 {
-    // Reading the block shows that what waits fits it, also where nothing is added.
-    let _known = block.sent;
     if is_out {
-        return Ok(());
+        return;
     }
-    add(block, sink, page.lines(section))
+    writer.add(page.lines(section));
 }
 
 // Adds the lines of bidders outside the group in a section.
-fn add_joined<S: Sink>(
-    block: &mut Block,
-    sink: &mut S,
-    pages: &[Page],
-    group: &Group,
-    section: Section,
-) -> Result<(), SinkFailed>
+fn add_joined<S: Sink>(writer: &mut Writer<'_, S>, pages: &[Page], group: &Group, section: Section)
     requires { length pages.now ≤ MOST_BIDDERS }
-    ensures { Adds result (S.taken sink.old) (S.taken sink.new) block.old block.new (S.failures sink.old) (S.failures sink.new) (joined section (outside (has group.now) 1 pages.now)) }
+    ensures { Adds S.taken S.failures writer.old writer.new (joined section (outside (has group.now) 1 pages.now)) }
 {
-    // Reading the block shows that what waits fits it, also where nothing is added.
-    let _known = block.sent;
     for place in 0..pages.len() {
         let is_out = group.has(place as u16 + 1);
-        add_page(block, sink, &pages[place], is_out, section)?;
+        add_page(writer, &pages[place], is_out, section);
     }
-    Ok(())
 }
 
 // Adds the lines of a group's text in a section: those of bidders, then those of lots.
-fn add_lines<S: Sink>(
-    block: &mut Block,
-    sink: &mut S,
-    pages: &Pages,
-    group: &Group,
-    section: Section,
-) -> Result<(), SinkFailed>
-    ensures { Adds result (S.taken sink.old) (S.taken sink.new) block.old block.new (S.failures sink.old) (S.failures sink.new) (joined section (pages_for (has group.now) pages.now)) }
+fn add_lines<S: Sink>(writer: &mut Writer<'_, S>, pages: &Pages, group: &Group, section: Section)
+    ensures { Adds S.taken S.failures writer.old writer.new (joined section (pages_for (has group.now) pages.now)) }
 {
-    add_joined(block, sink, pages.forms(), group, section)?;
-    add(block, sink, pages.lots().lines(section))
-}
-
-// Adds them, and what stands behind them.
-fn add_closed<S: Sink>(
-    block: &mut Block,
-    sink: &mut S,
-    pages: &Pages,
-    group: &Group,
-    section: Section,
-    any: bool,
-) -> Result<(), SinkFailed>
-    ensures { Adds result (S.taken sink.old) (S.taken sink.new) block.old block.new (S.failures sink.old) (S.failures sink.new) (joined section (pages_for (has group.now) pages.now) ++ closing section any) }
-{
-    add_lines(block, sink, pages, group, section)?;
-    add(block, sink, closing(section, any))
+    add_joined(writer, pages.forms(), group, section);
+    writer.add(pages.lots().lines(section));
 }
 
 // Adds a section of a group's text.
-fn add_section<S: Sink>(
-    block: &mut Block,
-    sink: &mut S,
-    pages: &Pages,
-    group: &Group,
-    section: Section,
-) -> Result<(), SinkFailed>
-    ensures { Adds result (S.taken sink.old) (S.taken sink.new) block.old block.new (S.failures sink.old) (S.failures sink.new) (section_text section (joined section (pages_for (has group.now) pages.now))) }
+fn add_section<S: Sink>(writer: &mut Writer<'_, S>, pages: &Pages, group: &Group, section: Section)
+    ensures { Adds S.taken S.failures writer.old writer.new (section_text section (joined section (pages_for (has group.now) pages.now))) }
 {
     let any = text_has_lines(pages, group, section);
-    add(block, sink, opening(section, any))?;
-    add_closed(block, sink, pages, group, section, any)
+    writer.add(opening(section, any));
+    add_lines(writer, pages, group, section);
+    writer.add(closing(section, any));
 }
 
-// Adds the right sides and the bounds.
-fn add_from_right_sides<S: Sink>(
-    block: &mut Block,
-    sink: &mut S,
-    pages: &Pages,
-    group: &Group,
-) -> Result<(), SinkFailed>
-    ensures { Adds result (S.taken sink.old) (S.taken sink.new) block.old block.new (S.failures sink.old) (S.failures sink.new) (section_text RightSides (joined RightSides (pages_for (has group.now) pages.now)) ++ section_text Bounds (joined Bounds (pages_for (has group.now) pages.now))) }
+/// Adds the text of a group: the lines of the pages of bidders outside it, and of that of the lots,
+/// section by section. It takes no memory. Lines that a writer has no room for go out from where they stand.
+pub fn add_group_text<S: Sink>(writer: &mut Writer<'_, S>, pages: &Pages, group: &Group)
+    ensures { Adds S.taken S.failures writer.old writer.new (group_text (has group.now) pages.now) }
 {
-    add_section(block, sink, pages, group, Section::RightSides)?;
-    add_section(block, sink, pages, group, Section::Bounds)
-}
-
-// Adds the columns, and what stands behind them.
-fn add_from_columns<S: Sink>(
-    block: &mut Block,
-    sink: &mut S,
-    pages: &Pages,
-    group: &Group,
-) -> Result<(), SinkFailed>
-    ensures { Adds result (S.taken sink.old) (S.taken sink.new) block.old block.new (S.failures sink.old) (S.failures sink.new) (section_text Columns (joined Columns (pages_for (has group.now) pages.now)) ++ (section_text RightSides (joined RightSides (pages_for (has group.now) pages.now)) ++ section_text Bounds (joined Bounds (pages_for (has group.now) pages.now)))) }
-{
-    add_section(block, sink, pages, group, Section::Columns)?;
-    add_from_right_sides(block, sink, pages, group)
-}
-
-/// Adds the text of a group at the end of what waits: the lines of the pages of bidders outside it, and of that of the lots,
-/// section by section. It takes no memory. Lines that a block has no room for go out from where they stand.
-pub fn add_group_text<S: Sink>(
-    block: &mut Block,
-    sink: &mut S,
-    pages: &Pages,
-    group: &Group,
-) -> Result<(), SinkFailed>
-    ensures { Adds result (S.taken sink.old) (S.taken sink.new) block.old block.new (S.failures sink.old) (S.failures sink.new) (group_text (has group.now) pages.now) }
-{
-    add_section(block, sink, pages, group, Section::Rows)?;
-    add_from_columns(block, sink, pages, group)
+    add_section(writer, pages, group, Section::Rows);
+    add_section(writer, pages, group, Section::Columns);
+    add_section(writer, pages, group, Section::RightSides);
+    add_section(writer, pages, group, Section::Bounds);
 }

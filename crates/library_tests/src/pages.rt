@@ -5,7 +5,7 @@ use auction_terms::{Group, Groups, read_groups};
 use bid_desk::ClosedBook;
 use group_compiler::{OpenGate, compile_one};
 use group_pages::{Page, Pages, Section, add_group_text};
-use mps_text::{Block, MemorySink, send};
+use mps_text::{MemorySink, Writer};
 use std::alloc::Global;
 use std::test::Fail;
 use std::thread::Threads;
@@ -14,10 +14,10 @@ mod refused;
 
 /// The text of a group that is joined from pages. It is empty where memory is short.
 fn joined(alloc: Global, pages: &Pages, group: &Group) -> MemorySink {
-    let mut block = Block::new();
     let mut sink = MemorySink::new(alloc);
-    let added = add_group_text(&mut block, &mut sink, pages, group);
-    if added.is_err() || send(&mut block, &mut sink).is_err() {
+    let mut writer = Writer::new(&mut sink);
+    add_group_text(&mut writer, pages, group);
+    if writer.flush().is_err() {
         return MemorySink::new(alloc);
     }
     sink

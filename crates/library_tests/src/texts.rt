@@ -3,8 +3,7 @@ ghost use Rattle.std.specs.Prelude.{None};
 use crate::worked::RULES_OF_ONE;
 use auction_terms::{Kept, Rules, read_rules};
 use mps_text::{
-    BLOCK_LEN, Block, LimitSink, MemorySink, Sink, SinkFailed, StdSink, WriteFault, add,
-    add_pieces, send, write_program,
+    BLOCK_LEN, LimitSink, MemorySink, Sink, SinkFailed, StdSink, WriteFault, Writer, write_program,
 };
 use program_rows::build;
 use std::alloc::Global;
@@ -100,13 +99,20 @@ fn a_sink_fails_after_each_number_of_bytes(rt: HostRuntime) -> Result<(), Fail> 
 #[test]
 fn pieces_go_out_in_order(rt: HostRuntime) -> Result<(), Fail> {
     let mut sink = MemorySink::new(rt.alloc());
-    let mut block = Block::new();
+    let mut writer = Writer::new(&mut sink);
     let pieces: [&[u8]; 3] = [b"NAME", b" wdp", b"\n"];
-    assert!(rt; add_pieces(&mut block, &mut sink, &pieces).is_ok());
-    assert_eq!(rt; sink.bytes().len(), 0);
-    assert!(rt; send(&mut block, &mut sink).is_ok());
+    writer.add_pieces(&pieces);
+    assert!(rt; writer.flush().is_ok());
     assert_eq!(rt; sink.bytes(), b"NAME wdp\n".as_slice());
-    assert_eq!(rt; block.sent, 9);
+    Ok(())
+}
+
+#[test]
+fn what_waits_is_put_at_a_flush(rt: HostRuntime) -> Result<(), Fail> {
+    let mut sink = MemorySink::new(rt.alloc());
+    let mut writer = Writer::new(&mut sink);
+    writer.add(b"NAME");
+    assert_eq!(rt; sink.bytes().len(), 0);
     Ok(())
 }
 
@@ -114,11 +120,11 @@ fn pieces_go_out_in_order(rt: HostRuntime) -> Result<(), Fail> {
 fn long_names_go_out_in_pieces(rt: HostRuntime) -> Result<(), Fail> {
     let name = vec![in rt.alloc(); b'R'; 70_000]?;
     let mut sink = Lengths::new(rt.alloc());
-    let mut block = Block::new();
-    assert!(rt; add(&mut block, &mut sink, b" L ").is_ok());
-    assert!(rt; add(&mut block, &mut sink, name.as_slice()).is_ok());
-    assert!(rt; add(&mut block, &mut sink, b"\n").is_ok());
-    assert!(rt; send(&mut block, &mut sink).is_ok());
+    let mut writer = Writer::new(&mut sink);
+    writer.add(b" L ");
+    writer.add(name.as_slice());
+    writer.add(b"\n");
+    assert!(rt; writer.flush().is_ok());
     assert_eq!(rt; sink.text.bytes().len(), 70_004);
     assert!(rt; sink.shortest >= 1 && sink.longest <= BLOCK_LEN);
     Ok(())
@@ -128,9 +134,10 @@ fn long_names_go_out_in_pieces(rt: HostRuntime) -> Result<(), Fail> {
 fn a_failing_writer_is_a_failing_sink(rt: HostRuntime) -> Result<(), Fail> {
     let mut room = [0u8; 4];
     let mut sink = StdSink::new(room.as_mut_slice());
-    let mut block = Block::new();
-    assert!(rt; add(&mut block, &mut sink, b"NAME wdp").is_ok());
-    assert!(rt; send(&mut block, &mut sink).is_err());
-    assert_eq!(rt; block.sent, 4);
+    let mut writer = Writer::new(&mut sink);
+    writer.add(b"NAME wdp");
+    assert_eq!(rt; writer.flush(), Err(WriteFault::Sink { written: 4 }));
+    writer.add(b"\n");
+    assert_eq!(rt; writer.flush(), Err(WriteFault::Sink { written: 4 }));
     Ok(())
 }

@@ -2,10 +2,11 @@
 use Rattle.std.proofs.Common.{◌≡◌, ℕ, zero, suc, Bool, true, false, not, ◌||◌, ◌&&◌, List, [], ◌∷◌, length, map, refl, sym, ap, subst, ◌∙◌, Option, Some, None, pos}
 use Rattle.std.specs.Prelude.{slice_get, bytes_eq, codes, nat_le, if◌then◌else◌}
 use Rattle.std.specs.List.{list_any, slice_set, AllByRecursion, IsDistinct}
-use Rattle.program_rows.specs.Lines.{Line}
+use Rattle.program_rows.specs.Lines.{LineFields, field}
+use Rattle.program_rows.specs.Described.{is_one_of, value, is_binary_bound, bound_column, bound_number, column_names, column_lines}
+use Rattle.program_rows.specs.Faults.{bit_fault, bound_fault, earliest_fault, when, is_column, stands_in_integers}
 use Rattle.program_rows.specs.declared.fault.FaultKind.{FaultKind}
 use Rattle.program_rows.specs.declared.fault.FaultKind.TheVariants.{BoundType, Fields, UnknownColumn}
-use Rattle.program_rows.specs.Meaning.{LineFields, is_one_of, field, value, is_binary_bound, bound_column, bound_number, bit_fault, bound_fault, earliest_fault, when, is_column, column_names, column_lines, stands_in_integers}
 use Rattle.mps_reader.specs.inside.Rows.{names_of}
 use Rattle.mps_reader.specs.inside.Tracking.{ColumnsTell, state_values, told_values, bounded_values}
 use Rattle.mps_reader.specs.declared.column_state.ColumnState.{ColumnState}
@@ -37,26 +38,26 @@ rest false b more h = absurd cc
 rest true false more h = absurd cc
 rest true true more h = refl
 
-abbrev behind : List Line → LineFields → List (Option FaultKind)
-behind before f = when (not (is_column before (bound_column f))) UnknownColumn ∷ (if is_binary_bound f then None else bit_fault (bound_number f)) ∷ []
+abbrev behind : List LineFields → LineFields → List (Option FaultKind)
+behind lines f = when (not (is_column lines (bound_column f))) UnknownColumn ∷ (if is_binary_bound f then None else bit_fault (bound_number f)) ∷ []
 
-pub type-refused : (before : List Line) (f : LineFields) (kind : FaultKind) → type_fault f ≡ Some kind → bound_fault before f ≡ Some kind
-type-refused before f kind h = early (type_ok f) (count_ok f) (behind before f) kind h
+pub type-refused : (lines : List LineFields) (f : LineFields) (kind : FaultKind) → type_fault f ≡ Some kind → bound_fault lines f ≡ Some kind
+type-refused lines f kind h = early (type_ok f) (count_ok f) (behind lines f) kind h
 
-pub type-taken : (before : List Line) (f : LineFields) (known binary : Bool) (fault : Option FaultKind) → type_fault f ≡ None → is_column before (bound_column f) ≡ known → is_binary_bound f ≡ binary
-    → earliest_fault (when (not known) UnknownColumn ∷ (if binary then None else bit_fault (bound_number f)) ∷ []) ≡ fault → bound_fault before f ≡ fault
-type-taken before f known binary fault h k is e =
+pub type-taken : (lines : List LineFields) (f : LineFields) (known binary : Bool) (fault : Option FaultKind) → type_fault f ≡ None → is_column lines (bound_column f) ≡ known → is_binary_bound f ≡ binary
+    → earliest_fault (when (not known) UnknownColumn ∷ (if binary then None else bit_fault (bound_number f)) ∷ []) ≡ fault → bound_fault lines f ≡ fault
+type-taken lines f known binary fault h k is e =
     let kept = subst (λ b. earliest_fault (when (not known) UnknownColumn ∷ (if b then None else bit_fault (bound_number f)) ∷ []) ≡ fault) (sym is) e in
     let all = subst (λ b. earliest_fault (when (not b) UnknownColumn ∷ (if is_binary_bound f then None else bit_fault (bound_number f)) ∷ []) ≡ fault) (sym k) kept in
-    rest (type_ok f) (count_ok f) (behind before f) h ∙ all
+    rest (type_ok f) (count_ok f) (behind lines f) h ∙ all
 
 pub last-one : (o : Option FaultKind) → earliest_fault (o ∷ []) ≡ o
 last-one None = refl
 last-one (Some k) = refl
 
 -- a name of a column is a column of the lines
-pub column-any : (before : List Line) (names : List (List ℕ)) (name : List ℕ) → names ≡ column_names before → is_column before name ≡ list_any (bytes_eq name) names
-column-any before names name h = sym (ap (list_any (bytes_eq name)) h ∙ each-any name (column_lines before))
+pub column-any : (lines : List LineFields) (names : List (List ℕ)) (name : List ℕ) → names ≡ column_names lines → is_column lines name ≡ list_any (bytes_eq name) names
+column-any lines names name h = sym (ap (list_any (bytes_eq name)) h ∙ each-any name (column_lines lines))
 
 -- ---- values
 

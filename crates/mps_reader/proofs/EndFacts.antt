@@ -2,8 +2,8 @@
 use Rattle.std.proofs.Common.{◌≡◌, ◌≢◌, ℕ, List, [], ◌∷◌, ◌++◌, length, refl, sym, ap, ◌∙◌, arith}
 use Rattle.std.specs.Prelude.{bytes_eq, codes}
 use Rattle.std.specs.List.{AllByRecursion}
-use Rattle.program_rows.specs.Lines.{Skipped, Unprintable, Data, header_of}
-use Rattle.program_rows.specs.Meaning.{field, is_end}
+use Rattle.program_rows.specs.Lines.{Skipped, Unprintable, Data, header_of, field}
+use Rattle.program_rows.specs.Sections.{is_end}
 use Rattle.mps_reader.specs.inside.Reading.{AreFirst}
 use Rattle.mps_reader.specs.Ending.{IsPassed}
 

@@ -1,37 +1,44 @@
 -- The pairs of a line of COLUMNS, one after the other.
-use Rattle.std.proofs.Common.{◌≡◌, ℕ, Bool, true, false, not, ◌||◌, List, [], ◌∷◌, ◌++◌, length, map, refl, sym, ap, subst, ◌∙◌, arith, Option, Some, None, ℤ, pos}
+use Rattle.std.proofs.Common.{◌≡◌, ℕ, Bool, true, false, not, ◌||◌, List, [], ◌∷◌, ◌++◌, length, map, drop, refl, sym, ap, subst, ◌∙◌, arith, Option, Some, None, ℤ, pos}
 use Rattle.std.specs.Prelude.{◌==◌, ◌≢◌, bytes_eq, find, if◌then◌else◌}
 use Rattle.std.specs.List.{list_any}
 use Rattle.std.specs.Option.{option_map_or}
 use Rattle.std.proofs.lemmas.Bool.{both_ways, eqb-true}
-use Rattle.program_rows.specs.Lines.{Line}
+use Rattle.program_rows.specs.Lines.{LineFields, field}
+use Rattle.program_rows.specs.Described.{Entry, pairs, line_entries, names, value, coefficient}
+use Rattle.program_rows.specs.Faults.{number_fault, earliest_fault, when, pairs_fault, is_declared}
 use Rattle.program_rows.specs.declared.fault.FaultKind.{FaultKind}
 use Rattle.program_rows.specs.declared.fault.FaultKind.TheVariants.{UnknownRow, EntryRepeated}
-use Rattle.program_rows.specs.Meaning.{LineFields, Entry, field, line_entries, names, value, number_fault, earliest_fault, when, entries_fault, is_declared}
 use Rattle.mps_reader.specs.inside.Rows.{StampsAre}
-use Rattle.mps_reader.specs.inside.Told.{coefficient_in}
 use Rattle.mps_reader.specs.inside.Tracking.{OpenTells}
 use Rattle.mps_reader.specs.declared.open_column.OpenColumn.{OpenColumn}
 use Rattle.mps_reader.proofs.NameFacts.{own_name, same_name}
+use Rattle.mps_reader.proofs.PairFaults.{begins, second, without-own}
 
 abbrev pub entry : List ℕ → List ℕ → List ℕ → Entry
 entry column row number = record { column = column; row = row; number = number }
 
-pub one-entry : (f : LineFields) → length f ≡ 3 → line_entries f ≡ entry (field 0 f) (field 1 f) (field 2 f) ∷ []
-one-entry [] h = absurd (omega arith)
-one-entry (a ∷ []) h = absurd (omega arith)
-one-entry (a ∷ b ∷ []) h = absurd (omega arith)
-one-entry (a ∷ b ∷ c ∷ []) h = refl
-one-entry (a ∷ b ∷ c ∷ d ∷ f) h = absurd (omega arith)
+pub one-of : (f : LineFields) → length f ≡ 3 → pairs (drop 1 f) ≡ (field 1 f, field 2 f) ∷ []
+one-of [] h = absurd (omega arith)
+one-of (a ∷ []) h = absurd (omega arith)
+one-of (a ∷ b ∷ []) h = absurd (omega arith)
+one-of (a ∷ b ∷ c ∷ []) h = refl
+one-of (a ∷ b ∷ c ∷ d ∷ f) h = absurd (omega arith)
 
-pub two-entries : (f : LineFields) → length f ≡ 5 → line_entries f ≡ entry (field 0 f) (field 1 f) (field 2 f) ∷ entry (field 0 f) (field 3 f) (field 4 f) ∷ []
-two-entries [] h = absurd (omega arith)
-two-entries (a ∷ []) h = absurd (omega arith)
-two-entries (a ∷ b ∷ []) h = absurd (omega arith)
-two-entries (a ∷ b ∷ c ∷ []) h = absurd (omega arith)
-two-entries (a ∷ b ∷ c ∷ d ∷ []) h = absurd (omega arith)
-two-entries (a ∷ b ∷ c ∷ d ∷ e ∷ []) h = refl
-two-entries (a ∷ b ∷ c ∷ d ∷ e ∷ g ∷ f) h = absurd (omega arith)
+pub two-of : (f : LineFields) → length f ≡ 5 → pairs (drop 1 f) ≡ (field 1 f, field 2 f) ∷ (field 3 f, field 4 f) ∷ []
+two-of [] h = absurd (omega arith)
+two-of (a ∷ []) h = absurd (omega arith)
+two-of (a ∷ b ∷ []) h = absurd (omega arith)
+two-of (a ∷ b ∷ c ∷ []) h = absurd (omega arith)
+two-of (a ∷ b ∷ c ∷ d ∷ []) h = absurd (omega arith)
+two-of (a ∷ b ∷ c ∷ d ∷ e ∷ []) h = refl
+two-of (a ∷ b ∷ c ∷ d ∷ e ∷ g ∷ f) h = absurd (omega arith)
+
+one-entry : (f : LineFields) → length f ≡ 3 → line_entries f ≡ entry (field 0 f) (field 1 f) (field 2 f) ∷ []
+one-entry f h = ap (map (λ p. entry (field 0 f) p.0 p.1)) (one-of f h)
+
+two-entries : (f : LineFields) → length f ≡ 5 → line_entries f ≡ entry (field 0 f) (field 1 f) (field 2 f) ∷ entry (field 0 f) (field 3 f) (field 4 f) ∷ []
+two-entries f h = ap (map (λ p. entry (field 0 f) p.0 p.1)) (two-of f h)
 
 -- ---- the same tests, and the same numbers
 
@@ -48,10 +55,10 @@ open-same o rows number other column e h = record { cost = h.cost ∙ e _; entri
 pub has-one : (column row number : List ℕ) (earlier : List Entry) (n : List ℕ) → (bytes_eq n row || list_any (names column n) earlier) ≡ list_any (names column n) (entry column row number ∷ earlier)
 has-one column row number earlier n = rw (own_name column) refl
 
-pub number-one : (column row number : List ℕ) (earlier : List Entry) (n : List ℕ) → (if bytes_eq n row then value number else coefficient_in earlier column n) ≡ coefficient_in (entry column row number ∷ earlier) column n
+pub number-one : (column row number : List ℕ) (earlier : List Entry) (n : List ℕ) → (if bytes_eq n row then value number else coefficient earlier column n) ≡ coefficient (entry column row number ∷ earlier) column n
 number-one column row number earlier n = rw (own_name column) (by (bytes_eq n row))
   where
-    by : (b : Bool) → (if b then value number else coefficient_in earlier column n) ≡ option_map_or (λ e. value e.number) (if b then Some (entry column row number) else find (names column n) earlier) (pos 0)
+    by : (b : Bool) → (if b then value number else coefficient earlier column n) ≡ option_map_or (λ e. value e.number) (if b then Some (entry column row number) else find (names column n) earlier) (pos 0)
     by true = refl
     by false = refl
 
@@ -66,7 +73,7 @@ has-two column row number row2 number2 earlier n = rw (own_name column) (swap (b
 
 -- where the rows differ, the order doesn't matter
 pub number-two : (column row number row2 number2 : List ℕ) (earlier : List Entry) → bytes_eq row2 row ≡ false → (n : List ℕ)
-    → (if bytes_eq n row2 then value number2 else coefficient_in (entry column row number ∷ earlier) column n) ≡ coefficient_in (entry column row number ∷ entry column row2 number2 ∷ earlier) column n
+    → (if bytes_eq n row2 then value number2 else coefficient (entry column row number ∷ earlier) column n) ≡ coefficient (entry column row number ∷ entry column row2 number2 ∷ earlier) column n
 number-two column row number row2 number2 earlier differ n = rw (own_name column) (by (bytes_eq n row2) (bytes_eq n row) refl refl)
   where
     by : (a b : Bool) → bytes_eq n row2 ≡ a → bytes_eq n row ≡ b
@@ -77,42 +84,7 @@ number-two column row number row2 number2 earlier differ n = rw (own_name column
     by false true h k = refl
     by false false h k = refl
 
--- ---- the faults
-
-pub first-fault : (before : List Line) (earlier : List Entry) (e : Entry) (more : List Entry) (known : Bool) (kind : FaultKind) → is_declared before e.row ≡ known
-    → earliest_fault (when (not known) UnknownRow ∷ when (list_any (names e.column e.row) earlier) EntryRepeated ∷ number_fault e.number ∷ []) ≡ Some kind → entries_fault before earlier (e ∷ more) ≡ Some kind
-first-fault before earlier e more known kind d h = rw d (by known (list_any (names e.column e.row) earlier) (number_fault e.number) h)
-  where
-    by : (k r : Bool) (n : Option FaultKind) → earliest_fault (when (not k) UnknownRow ∷ when r EntryRepeated ∷ n ∷ []) ≡ Some kind
-        → earliest_fault (when (not k) UnknownRow ∷ when r EntryRepeated ∷ n ∷ entries_fault before (e ∷ earlier) more ∷ []) ≡ Some kind
-    by false r n h = h
-    by true true n h = h
-    by true false None h = absurd cc
-    by true false (Some f) h = h
-
-pub next-fault : (before : List Line) (earlier : List Entry) (e : Entry) (more : List Entry) (known : Bool) → is_declared before e.row ≡ known
-    → earliest_fault (when (not known) UnknownRow ∷ when (list_any (names e.column e.row) earlier) EntryRepeated ∷ number_fault e.number ∷ []) ≡ None → entries_fault before earlier (e ∷ more) ≡ entries_fault before (e ∷ earlier) more
-next-fault before earlier e more known d h = rw d (by known (list_any (names e.column e.row) earlier) (number_fault e.number) (entries_fault before (e ∷ earlier) more) h)
-  where
-    by : (k r : Bool) (n last : Option FaultKind) → earliest_fault (when (not k) UnknownRow ∷ when r EntryRepeated ∷ n ∷ []) ≡ None
-        → earliest_fault (when (not k) UnknownRow ∷ when r EntryRepeated ∷ n ∷ last ∷ []) ≡ last
-    by false r n last h = absurd cc
-    by true true n last h = absurd cc
-    by true false None None h = refl
-    by true false None (Some f) h = refl
-    by true false (Some f) last h = absurd cc
-
--- a pair that is taken repeats none
-pub not-repeated : (known r : Bool) (n : Option FaultKind) → earliest_fault (when (not known) UnknownRow ∷ when r EntryRepeated ∷ n ∷ []) ≡ None → r ≡ false
-not-repeated false r n h = absurd cc
-not-repeated true true n h = absurd cc
-not-repeated true false n h = refl
-
 -- ---- a whole line
-
--- the checks of a pair, whose row is known or not, and repeated or not
-abbrev pub pair_fault : Bool → Bool → List ℕ → Option FaultKind
-pair_fault known repeated number = earliest_fault (when (not known) UnknownRow ∷ when repeated EntryRepeated ∷ number_fault number ∷ [])
 
 pub one-stamps : (f : LineFields) (row : List ℕ) (stamps : List ℕ) (stamp : ℕ) (ns : List (List ℕ)) (earlier : List Entry) → length f ≡ 3 → field 1 f ≡ row
     → StampsAre stamps stamp ns (λ n. bytes_eq n row || list_any (names (field 0 f) n) earlier) → StampsAre stamps stamp ns (λ n. list_any (names (field 0 f) n) (line_entries f ++ earlier))
@@ -120,10 +92,10 @@ one-stamps f row stamps stamp ns earlier size same h = stamps-same stamps stamp 
     (λ n. has-one (field 0 f) row (field 2 f) earlier n ∙ ap (λ r. list_any (names (field 0 f) n) (entry (field 0 f) r (field 2 f) ∷ earlier)) (sym same) ∙ ap (λ es. list_any (names (field 0 f) n) (es ++ earlier)) (sym (one-entry f size))) h
 
 pub one-tells : (f : LineFields) (row number : List ℕ) (o : Option (List ℕ)) (rows : List (List ℕ)) (earlier : List Entry) (column : OpenColumn) → length f ≡ 3 → field 1 f ≡ row → field 2 f ≡ number
-    → OpenTells o rows (λ n. if bytes_eq n row then value number else coefficient_in earlier (field 0 f) n) column → OpenTells o rows (coefficient_in (line_entries f ++ earlier) (field 0 f)) column
-one-tells f row number o rows earlier column size same told h = open-same o rows (λ n. if bytes_eq n row then value number else coefficient_in earlier (field 0 f) n) (coefficient_in (line_entries f ++ earlier) (field 0 f)) column
-    (λ n. number-one (field 0 f) row number earlier n ∙ ap (λ r. coefficient_in (entry (field 0 f) r number ∷ earlier) (field 0 f) n) (sym same) ∙ ap (λ t. coefficient_in (entry (field 0 f) (field 1 f) t ∷ earlier) (field 0 f) n) (sym told)
-    ∙ ap (λ es. coefficient_in (es ++ earlier) (field 0 f) n) (sym (one-entry f size))) h
+    → OpenTells o rows (λ n. if bytes_eq n row then value number else coefficient earlier (field 0 f) n) column → OpenTells o rows (coefficient (line_entries f ++ earlier) (field 0 f)) column
+one-tells f row number o rows earlier column size same told h = open-same o rows (λ n. if bytes_eq n row then value number else coefficient earlier (field 0 f) n) (coefficient (line_entries f ++ earlier) (field 0 f)) column
+    (λ n. number-one (field 0 f) row number earlier n ∙ ap (λ r. coefficient (entry (field 0 f) r number ∷ earlier) (field 0 f) n) (sym same) ∙ ap (λ t. coefficient (entry (field 0 f) (field 1 f) t ∷ earlier) (field 0 f) n) (sym told)
+    ∙ ap (λ es. coefficient (es ++ earlier) (field 0 f) n) (sym (one-entry f size))) h
 
 -- the two pairs of a line, by their names
 pub record AreTwo (f : LineFields) (row number row2 number2 : List ℕ) : Type 0 where
@@ -143,38 +115,44 @@ two-stamps f row number row2 number2 stamps stamp ns earlier a h = stamps-same s
     ∙ ap (λ es. list_any (names (field 0 f) n) (es ++ earlier)) (sym (shown-two f row number row2 number2 a))) h
 
 pub two-tells : (f : LineFields) (row number row2 number2 : List ℕ) (o : Option (List ℕ)) (rows : List (List ℕ)) (earlier : List Entry) (column : OpenColumn) → AreTwo f row number row2 number2 → bytes_eq row2 row ≡ false
-    → OpenTells o rows (λ n. if bytes_eq n row2 then value number2 else (if bytes_eq n row then value number else coefficient_in earlier (field 0 f) n)) column → OpenTells o rows (coefficient_in (line_entries f ++ earlier) (field 0 f)) column
-two-tells f row number row2 number2 o rows earlier column a differ h = open-same o rows (λ n. if bytes_eq n row2 then value number2 else (if bytes_eq n row then value number else coefficient_in earlier (field 0 f) n)) (coefficient_in (line_entries f ++ earlier) (field 0 f)) column
+    → OpenTells o rows (λ n. if bytes_eq n row2 then value number2 else (if bytes_eq n row then value number else coefficient earlier (field 0 f) n)) column → OpenTells o rows (coefficient (line_entries f ++ earlier) (field 0 f)) column
+two-tells f row number row2 number2 o rows earlier column a differ h = open-same o rows (λ n. if bytes_eq n row2 then value number2 else (if bytes_eq n row then value number else coefficient earlier (field 0 f) n)) (coefficient (line_entries f ++ earlier) (field 0 f)) column
     (λ n. ap (λ z. if bytes_eq n row2 then value number2 else z) (number-one (field 0 f) row number earlier n) ∙ number-two (field 0 f) row number row2 number2 earlier differ n
-    ∙ ap (λ es. coefficient_in (es ++ earlier) (field 0 f) n) (sym (shown-two f row number row2 number2 a))) h
+    ∙ ap (λ es. coefficient (es ++ earlier) (field 0 f) n) (sym (shown-two f row number row2 number2 a))) h
 
-pub first-refused : (before : List Line) (earlier : List Entry) (f : LineFields) (row number : List ℕ) (known : Bool) (kind : FaultKind) → ((length f == 3) || (length f == 5)) ≡ true → field 1 f ≡ row → field 2 f ≡ number → is_declared before row ≡ known
-    → pair_fault known (list_any (names (field 0 f) row) earlier) number ≡ Some kind → entries_fault before earlier (line_entries f) ≡ Some kind
-first-refused before earlier f row number known kind count same told d h = by (length f == 3) refl
+-- ---- its faults
+
+-- the checks of a pair, whose row is known or not, and repeated or not
+abbrev pair_fault : Bool → Bool → List ℕ → Option FaultKind
+pair_fault known repeated number = earliest_fault (when (not known) UnknownRow ∷ when repeated EntryRepeated ∷ number_fault number ∷ [])
+
+abbrev entries_fault : List LineFields → (List ℕ → Bool) → LineFields → Option FaultKind
+entries_fault lines stood f = pairs_fault lines (λ pair. None) stood (pairs (drop 1 f))
+
+pub first-refused : (lines : List LineFields) (stood : List ℕ → Bool) (f : LineFields) (row number : List ℕ) (known : Bool) (kind : FaultKind) → ((length f == 3) || (length f == 5)) ≡ true → field 1 f ≡ row → field 2 f ≡ number → is_declared lines row ≡ known
+    → pair_fault known (stood row) number ≡ Some kind → entries_fault lines stood f ≡ Some kind
+first-refused lines stood f row number known kind count same told d h = by (length f == 3) refl
   where
-    by : (b : Bool) → (length f == 3) ≡ b → entries_fault before earlier (line_entries f) ≡ Some kind
-    by true e =
-        let shown : line_entries f ≡ entry (field 0 f) row number ∷ [] = one-entry f (eqb-true _ _ e) ∙ rw (same, told) refl in
-        ap (entries_fault before earlier) shown ∙ first-fault before earlier (entry (field 0 f) row number) [] known kind d h
-    by false e =
-        let shown : line_entries f ≡ entry (field 0 f) row number ∷ entry (field 0 f) (field 3 f) (field 4 f) ∷ [] = two-entries f (eqb-true _ _ (ap (λ b. b || (length f == 5)) (sym e) ∙ count)) ∙ rw (same, told) refl in
-        ap (entries_fault before earlier) shown ∙ first-fault before earlier (entry (field 0 f) row number) (entry (field 0 f) (field 3 f) (field 4 f) ∷ []) known kind d h
+    begun : (more : List (List ℕ × List ℕ)) → pairs (drop 1 f) ≡ (field 1 f, field 2 f) ∷ more → entries_fault lines stood f ≡ Some kind
+    begun more e =
+        let shown : pairs (drop 1 f) ≡ (row, number) ∷ more = e ∙ rw (same, told) refl in
+        ap (pairs_fault lines (λ pair. None) stood) shown ∙ begins lines (λ pair. None) stood row number more known (Some kind) d (without-own known (stood row) number (Some kind) h)
 
-last-fault : (before : List Line) (earlier : List Entry) (e : Entry) (known : Bool) → is_declared before e.row ≡ known → entries_fault before earlier (e ∷ []) ≡ pair_fault known (list_any (names e.column e.row) earlier) e.number
-last-fault before earlier e known d = rw d (by known (list_any (names e.column e.row) earlier) (number_fault e.number))
-  where
-    by : (k r : Bool) (n : Option FaultKind) → earliest_fault (when (not k) UnknownRow ∷ when r EntryRepeated ∷ n ∷ None ∷ []) ≡ earliest_fault (when (not k) UnknownRow ∷ when r EntryRepeated ∷ n ∷ [])
-    by false r n = refl
-    by true true n = refl
-    by true false None = refl
-    by true false (Some f) = refl
+    by : (b : Bool) → (length f == 3) ≡ b → entries_fault lines stood f ≡ Some kind
+    by true e = begun [] (one-of f (eqb-true _ _ e))
+    by false e = begun ((field 3 f, field 4 f) ∷ []) (two-of f (eqb-true _ _ (ap (λ b. b || (length f == 5)) (sym e) ∙ count)))
 
-pub second-told : (before : List Line) (earlier : List Entry) (f : LineFields) (row number row2 number2 : List ℕ) (known known2 : Bool) → AreTwo f row number row2 number2 → is_declared before row ≡ known → is_declared before row2 ≡ known2
-    → pair_fault known (list_any (names (field 0 f) row) earlier) number ≡ None
-    → entries_fault before earlier (line_entries f) ≡ pair_fault known2 (bytes_eq row2 row || list_any (names (field 0 f) row2) earlier) number2
-second-told before earlier f row number row2 number2 known known2 a d d2 h =
-    ap (entries_fault before earlier) (shown-two f row number row2 number2 a) ∙ next-fault before earlier (entry (field 0 f) row number) (entry (field 0 f) row2 number2 ∷ []) known d h
-    ∙ last-fault before (entry (field 0 f) row number ∷ earlier) (entry (field 0 f) row2 number2) known2 d2 ∙ ap (λ b. pair_fault known2 b number2) (sym (has-one (field 0 f) row number earlier row2))
+pub one-told : (lines : List LineFields) (stood : List ℕ → Bool) (f : LineFields) (row number : List ℕ) (known : Bool) → length f ≡ 3 → field 1 f ≡ row → field 2 f ≡ number → is_declared lines row ≡ known → pair_fault known (stood row) number ≡ None → entries_fault lines stood f ≡ None
+one-told lines stood f row number known size same told d h =
+    let shown : pairs (drop 1 f) ≡ (row, number) ∷ [] = one-of f size ∙ rw (same, told) refl in
+    ap (pairs_fault lines (λ pair. None) stood) shown ∙ begins lines (λ pair. None) stood row number [] known None d (without-own known (stood row) number None h)
+
+pub second-told : (lines : List LineFields) (stood : List ℕ → Bool) (f : LineFields) (row number row2 number2 : List ℕ) (known known2 : Bool) → AreTwo f row number row2 number2 → is_declared lines row ≡ known → is_declared lines row2 ≡ known2
+    → pair_fault known (stood row) number ≡ None → entries_fault lines stood f ≡ pair_fault known2 (bytes_eq row2 row || stood row2) number2
+second-told lines stood f row number row2 number2 known known2 a d d2 h =
+    let shown : pairs (drop 1 f) ≡ (row, number) ∷ (row2, number2) ∷ [] = two-of f a.size ∙ rw (a.row-is, a.number-is, a.row2-is, a.number2-is) refl in
+    ap (pairs_fault lines (λ pair. None) stood) shown
+    ∙ second lines (λ pair. None) stood row number row2 number2 known known2 d d2 (without-own known (stood row) number None h) ∙ without-own known2 (bytes_eq row2 row || stood row2) number2 _ refl
 
 pub three : (n : ℕ) → ((n == 3) || (n == 5)) ≡ true → n ≢ 5 → n ≡ 3
 three n h ne = by (n == 3) refl

@@ -1,10 +1,11 @@
 -- The first field of a line.
-use Rattle.std.proofs.Common.{◌≡◌, ℕ, zero, suc, ◌+◌, ◌<◌, ◌≤◌, Bool, true, false, cond, not, List, [], ◌∷◌, ◌++◌, length, take, drop, refl, ap, ◌∙◌, arith, length-take, Some, None}
+use Rattle.std.proofs.Common.{◌≡◌, ℕ, zero, suc, ◌+◌, ◌<◌, ◌≤◌, Bool, true, false, cond, not, List, [], ◌∷◌, ◌++◌, length, take, drop, get_or, refl, ap, ◌∙◌, arith, length-take, Some, None}
 use Rattle.std.specs.Prelude.{◌==◌, nat_lt, position}
 use Rattle.std.specs.List.{slice_split, position_or_len, onto_first, filter, list_all, AllByRecursion}
-use Rattle.std.proofs.lemmas.Bool.{ltb-true, ltb-false, ne_eqb, and_parts}
+use Rattle.std.proofs.lemmas.Bool.{ltb-true, ltb-false, lt-ltb, le-ltb, ne_eqb, and_parts}
 use Rattle.std.proofs.lemmas.Bool.Decides.{nat_tests}
 use Rattle.std.proofs.lemmas.Grind.{common_steps}
+use Rattle.std.proofs.lemmas.List.Sums.{position_or_len_is}
 use Rattle.std.proofs.lemmas.List.Splits.{slice_split_first}
 use Rattle.program_rows.specs.Lines.{fields, is_space, is_text_byte}
 use Rattle.program_rows.specs.Parts.{IsName}
@@ -14,11 +15,11 @@ use Rattle.mps_reader.specs.inside.Reading.{is_other}
 abbrev pieces : (ℕ → Bool) → List ℕ → List (List ℕ)
 pieces p bs = filter (λ part. not (length part == 0)) (slice_split p bs)
 
-some-is : (b : Bool) (x i : ℕ) → Some i ≡ cond b (Some x) None → (b ≡ true) × (x ≡ i)
+pub some-is : (b : Bool) (x i : ℕ) → Some i ≡ cond b (Some x) None → (b ≡ true) × (x ≡ i)
 some-is true x i h = (refl, cc)
 some-is false x i h = absurd cc
 
-none-is : (b : Bool) (x : ℕ) → None ≡ cond b (Some x) None → b ≡ false
+pub none-is : (b : Bool) (x : ℕ) → None ≡ cond b (Some x) None → b ≡ false
 none-is true x h = absurd cc
 none-is false x h = refl
 
@@ -59,7 +60,7 @@ alone p (b ∷ bs) h = by (p b) h (alone p bs)
 last-piece : (p : ℕ → Bool) (bs : List ℕ) → 0 < length bs → length bs ≤ position_or_len p bs → pieces p bs ≡ bs ∷ []
 last-piece p bs some h = let test : not (length bs == 0) ≡ true = rw (ne_eqb (length bs) 0 (λ e. omega arith)) refl in rw (alone p bs h, test) refl
 
-drop-all : (bs : List ℕ) (k : ℕ) → length bs ≤ k → drop k bs ≡ []
+pub drop-all : (bs : List ℕ) (k : ℕ) → length bs ≤ k → drop k bs ≡ []
 drop-all [] zero h = refl
 drop-all [] (suc k) h = refl
 drop-all (b ∷ bs) zero h = absurd (omega arith)
@@ -142,3 +143,15 @@ take-front zero [] ys h = refl
 take-front zero (x ∷ xs) ys h = absurd (omega arith)
 take-front (suc n) [] ys h = absurd (omega arith)
 take-front (suc n) (x ∷ xs) ys h = ap (λ zs. x ∷ zs) (take-front n xs ys (omega arith))
+
+-- ---- the first byte that passes a test, by a loop
+
+pub place_is : (p : ℕ → Bool) (bs : List ℕ) (i : ℕ) → i < length bs → ((k : ℕ) → k < i → p (get_or bs k 0) ≡ false) → p (get_or bs i 0) ≡ true → Some i ≡ position p bs
+place_is p bs i within before here =
+    let at : position_or_len p bs ≡ i = position_or_len_is p bs i 0 (omega arith) before (λ _. here) in
+    rw (at, lt-ltb i (length bs) within) refl
+
+pub no_place : (p : ℕ → Bool) (bs : List ℕ) (i : ℕ) → length bs ≤ i → ((k : ℕ) → k < i → p (get_or bs k 0) ≡ false) → None ≡ position p bs
+no_place p bs i end before =
+    let far : position_or_len p bs ≡ length bs = position_or_len_is p bs (length bs) 0 (omega arith) (λ k less. before k (omega arith)) (λ less. absurd (omega arith)) in
+    rw (far, le-ltb (length bs) (length bs) (omega arith)) refl

@@ -6,11 +6,13 @@ use Rattle.std.specs.Option.{option_map_or}
 use Rattle.std.proofs.lemmas.List.{length-drop, length-map}
 use Rattle.std.proofs.Math.Seq.{take-length}
 use denote.Ref.{Bor}
-use Rattle.program_rows.specs.Lines.{Line, Header}
+use Rattle.program_rows.specs.Lines.{Header, LineFields}
+use Rattle.program_rows.specs.Sections.{Sections, with_line}
+use Rattle.program_rows.specs.Described.{first_free, column_names}
+use Rattle.program_rows.specs.Faults.{place_of, header_fault, not_binary, is_binary}
 use Rattle.program_rows.specs.declared.fault.FaultKind.{FaultKind}
 use Rattle.program_rows.specs.declared.fault.FaultKind.TheVariants.{NotBinary}
-use Rattle.program_rows.specs.Meaning.{LineFields, place_of, data_under, objective, header_fault, not_binary, is_binary, column_names}
-use Rattle.mps_reader.specs.inside.Reading.{bytes_of}
+use Rattle.auction_terms.specs.Borrowed.{bytes_of}
 use Rattle.mps_reader.specs.inside.Rows.{option_now, row_names}
 use Rattle.mps_reader.specs.inside.Columns.{ColumnsFit}
 use Rattle.mps_reader.specs.inside.Fit.{ReadingFits}
@@ -31,8 +33,8 @@ header-more fields =
     let whole : take (length fields - 1) (drop 1 fields) ≡ drop 1 fields = ap (λ n. take n (drop 1 fields)) (sym (length-drop 1 fields)) ∙ take-length (drop 1 fields) in
     ap bytes_of whole ∙ bytes-drop 1 fields
 
-pub lacks-objective : (before : List Line) (r : Reading) → ReadingTells before r → is_none (objective before) ≡ not (is_some r.rows.objective)
-lacks-objective before r h = no-objective r.rows.objective (objective before) h.lines.of_rows.objective
+pub lacks-objective : (before : Sections) (r : Reading) → ReadingTells before r → is_none (first_free before.rows) ≡ not (is_some r.rows.objective)
+lacks-objective before r h = no-objective r.rows.objective (first_free before.rows) h.lines.of_rows.objective
 
 -- ---- columns that are not binary
 
@@ -49,14 +51,14 @@ state-binary s = ap (λ b. s.is_integer && b) (by s.upper s.lower)
     by (Some false) true = refl
     by (Some false) false = refl
 
-at-or-len : (before : List Line) (ss : List ColumnState) (ns : List (List ℕ)) → map state_values ss ≡ map (told_values (data_under (codes "COLUMNS") before) (data_under (codes "BOUNDS") before)) ns
+at-or-len : (before : Sections) (ss : List ColumnState) (ns : List (List ℕ)) → map state_values ss ≡ map (told_values before.columns before.bounds) ns
     → position_or_len (λ s. not (is_binary_state s)) ss ≡ position_or_len (λ n. not (is_binary before n)) ns
 at-or-len before [] [] h = refl
 at-or-len before [] (n ∷ ns) h = absurd cc
 at-or-len before (s ∷ ss) [] h = absurd cc
 at-or-len before (s ∷ ss) (n ∷ ns) h =
-    let head : state_values s ≡ told_values (data_under (codes "COLUMNS") before) (data_under (codes "BOUNDS") before) n = cc in
-    let rest : map state_values ss ≡ map (told_values (data_under (codes "COLUMNS") before) (data_under (codes "BOUNDS") before)) ns = cc in
+    let head : state_values s ≡ told_values before.columns before.bounds n = cc in
+    let rest : map state_values ss ≡ map (told_values before.columns before.bounds) ns = cc in
     let same : not (is_binary_state s) ≡ not (is_binary before n) = ap not (state-binary s ∙ ap binary-values head) in
     by (not (is_binary before n)) same (at-or-len before ss ns rest)
   where
@@ -65,29 +67,29 @@ at-or-len before (s ∷ ss) (n ∷ ns) h =
     by true e more = rw e refl
     by false e more = rw e (ap (λ (k : ℕ). 1 + k) more)
 
-pub first-open : (before : List Line) (states : List ColumnState) → map state_values states ≡ map (told_values (data_under (codes "COLUMNS") before) (data_under (codes "BOUNDS") before)) (column_names before)
+pub first-open : (before : Sections) (states : List ColumnState) → map state_values states ≡ map (told_values before.columns before.bounds) (column_names before.columns)
     → option_map NotBinary (position (λ s. not (is_binary_state s)) states) ≡ not_binary before
 first-open before states h =
-    let size : length states ≡ length (column_names before) = sym (length-map states state_values) ∙ ap length h ∙ length-map (column_names before) (told_values (data_under (codes "COLUMNS") before) (data_under (codes "BOUNDS") before)) in
-    rw (at-or-len before states (column_names before) h, size) refl
+    let size : length states ≡ length (column_names before.columns) = sym (length-map states state_values) ∙ ap length h ∙ length-map (column_names before.columns) (told_values before.columns before.bounds) in
+    rw (at-or-len before states (column_names before.columns) h, size) refl
 
 -- ---- a section opens
 
-pub header-tells : (before : List Line) (word : List ℕ) (more : LineFields) (r : Reading) (s : Section) (columns : ColumnTable) → place_of (word_of r.section) < place_of (word_of s) → word_of s ≡ word → columns.names ≡ r.columns.names → is_some columns.current ≡ false
+pub header-tells : (before : Sections) (word : List ℕ) (more : LineFields) (r : Reading) (s : Section) (columns : ColumnTable) → place_of (word_of r.section) < place_of (word_of s) → word_of s ≡ word → columns.names ≡ r.columns.names → is_some columns.current ≡ false
     → ((objective : Option (List ℕ)) (rows : List (List ℕ)) (lines bounds : List LineFields) → ColumnsFit (length rows) r.columns → ColumnsTell objective rows lines bounds r.columns → ColumnsTell objective rows lines bounds columns)
-    → ReadingFits r → ReadingTells before r → ReadingTells (Header word more ∷ before) (record r { section = s; columns = columns })
+    → ReadingFits r → ReadingTells before r → ReadingTells (with_line before (Header word more)) (record r { section = s; columns = columns })
 header-tells before word more r s columns up is names none closed fit h = record {
   section = sym is;
   lines = record {
     of_rows = h.lines.of_rows;
-    of_columns = closed (option_now r.rows.objective) (row_names r.rows.rows.items) (data_under (codes "COLUMNS") before) (data_under (codes "BOUNDS") before) (subst (λ n. ColumnsFit n r.columns) (sym (length-names r.rows.rows.items)) fit.both.columns) h.lines.of_columns;
-    of_section = section-opens r.section s (data_under (codes "ROWS") before) (data_under (codes "COLUMNS") before) (data_under (codes "RHS") before) (data_under (codes "BOUNDS") before) r.rows r.columns columns up names none (fit.rows.stamps ∙ sym (length-bytes r.rows.names.keys)) h.lines.of_section;
+    of_columns = closed (option_now r.rows.objective) (row_names r.rows.rows.items) before.columns before.bounds (subst (λ n. ColumnsFit n r.columns) (sym (length-names r.rows.rows.items)) fit.both.columns) h.lines.of_columns;
+    of_section = section-opens r.section s before.rows before.columns before.right_sides before.bounds r.rows r.columns columns up names none (fit.rows.stamps ∙ sym (length-bytes r.rows.names.keys)) h.lines.of_section;
   };
 }
 
 -- what is left of a header's checks at the end
-pub end-fault : (before : List Line) (word : List ℕ) (more : LineFields) (last : Option FaultKind) → header_fault before word more ≡ (if bytes_eq word (codes "ENDATA") then not_binary before else None) → bytes_eq word (codes "ENDATA") ≡ true → not_binary before ≡ last → header_fault before word more ≡ last
+pub end-fault : (before : Sections) (word : List ℕ) (more : LineFields) (last : Option FaultKind) → header_fault before word more ≡ (if bytes_eq word (codes "ENDATA") then not_binary before else None) → bytes_eq word (codes "ENDATA") ≡ true → not_binary before ≡ last → header_fault before word more ≡ last
 end-fault before word more last h is e = h ∙ ap (λ b. if b then not_binary before else None) is ∙ e
 
-pub other-fault : (before : List Line) (word : List ℕ) (more : LineFields) → header_fault before word more ≡ (if bytes_eq word (codes "ENDATA") then not_binary before else None) → bytes_eq word (codes "ENDATA") ≡ false → header_fault before word more ≡ None
+pub other-fault : (before : Sections) (word : List ℕ) (more : LineFields) → header_fault before word more ≡ (if bytes_eq word (codes "ENDATA") then not_binary before else None) → bytes_eq word (codes "ENDATA") ≡ false → header_fault before word more ≡ None
 other-fault before word more h is = h ∙ ap (λ b. if b then not_binary before else None) is

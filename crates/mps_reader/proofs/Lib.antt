@@ -1,4 +1,5 @@
 pub mod FieldFacts
+pub mod TextFacts
 pub mod SectionWords
 pub mod NameFacts
 pub mod LineCases
@@ -9,11 +10,13 @@ pub mod RowTells
 pub mod StampFacts
 pub mod PairSteps
 pub mod PairTells
+pub mod PairFaults
 pub mod AnswerFacts
 pub mod EntriesTell
 pub mod ColumnSteps
 pub mod ColumnTells
 pub mod LineTells
+pub mod MarkerFacts
 pub mod SideTells
 pub mod BoundTells
 pub mod SectionTells

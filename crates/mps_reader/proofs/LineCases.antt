@@ -7,6 +7,7 @@ use Rattle.program_rows.specs.Lines.{Skipped, Unprintable, Data, fields, line_of
 use Rattle.program_rows.specs.Parts.{IsName}
 use Rattle.mps_reader.specs.inside.Reading.{AreFirst}
 use Rattle.mps_reader.proofs.FieldFacts.{fields_names}
+use Rattle.mps_reader.proofs.TextFacts.{other-filled}
 
 pub line-empty : (bytes : List ℕ) → true ≡ (length bytes == 0) → line_of bytes ≡ Skipped
 unfolding line_of fields
@@ -29,9 +30,9 @@ pub line-blank : (bytes : List ℕ) (shown : List (List ℕ)) → shown ≡ take
 unfolding line_of
 line-blank bytes shown e a b = rw (a, empty-front shown (fields bytes) e b) refl
 
-pub line-unprintable : (bytes : List ℕ) (shown : List (List ℕ)) → shown ≡ take 6 (fields bytes) → (slice_index bytes 0 == 42) ≡ false → (length shown == 0) ≡ false → list_all is_text_byte bytes ≡ false → line_of bytes ≡ Unprintable
+pub line-other : (bytes : List ℕ) → (slice_index bytes 0 == 42) ≡ false → list_all is_text_byte bytes ≡ false → line_of bytes ≡ Unprintable
 unfolding line_of
-line-unprintable bytes shown e a b t = rw (a, filled-front shown (fields bytes) e b, t) refl
+line-other bytes a t = rw (a, other-filled bytes t, t) refl
 
 pub line-data : (bytes : List ℕ) (shown : List (List ℕ)) → shown ≡ take 6 (fields bytes) → (slice_index bytes 0 == 42) ≡ false → (length shown == 0) ≡ false → list_all is_text_byte bytes ≡ true → is_space (slice_index bytes 0) ≡ true → line_of bytes ≡ Data (fields bytes)
 unfolding line_of

@@ -1,34 +1,34 @@
 -- The program at the end is that of the lines.
 use Rattle.std.proofs.Common.{◌≡◌, ℕ, suc, ◌+◌, Bool, true, false, List, [], ◌∷◌, length, map, refl, sym, ap, subst, ◌∙◌, arith, Option, Some, None, ℤ, pos}
-use Rattle.std.specs.Prelude.{filter_map, is_some, codes, unwrap_or, option_map, if◌then◌else◌}
+use Rattle.std.specs.Prelude.{filter, not, is_some, unwrap_or, option_map, if◌then◌else◌}
 use Rattle.std.specs.List.{AllByRecursion, enumerate_from}
 use Rattle.std.specs.Ordering.{int_eq}
-use Rattle.program_rows.specs.Lines.{Line}
+use Rattle.program_rows.specs.Sections.{Sections}
+use Rattle.program_rows.specs.Described.{program, all_entries, all_right_sides, table_rows, table_bounds, table_column, column_names, coefficient, first_free}
 use Rattle.program_rows.specs.Bounded.{bounded}
 use Rattle.program_rows.specs.Program.{TableRow, TableColumn}
 use Rattle.program_rows.specs.Parts.{shown_row}
 use Rattle.program_rows.specs.declared.bounds.Bounds.{Bounds}
 use Rattle.program_rows.specs.declared.bounds.Bounds.TheVariants.{ZeroOrOne, Zero, One}
-use Rattle.program_rows.specs.Meaning.{data_under, program, rows, bounds, column, column_names, coefficient, objective, objective_name, not_zero}
+use Rattle.mps_reader.specs.inside.Columns.{entries_at}
 use Rattle.mps_reader.specs.inside.Rows.{option_now, row_names}
 use Rattle.mps_reader.specs.inside.Fit.{ReadingFits}
 use Rattle.mps_reader.specs.inside.States.{state_bounds, upper_bounds}
-use Rattle.mps_reader.specs.inside.Told.{entries_at}
 use Rattle.mps_reader.specs.inside.Tracking.{ReadingTells, state_values, told_values, told_column, bit}
 use Rattle.mps_reader.specs.declared.column_state.ColumnState.{ColumnState}
 use Rattle.mps_reader.specs.declared.reading_state.Reading.{Reading}
 use Rattle.mps_reader.proofs.RowSteps.{names-shown}
 use Rattle.mps_reader.proofs.FitFacts.{done-names}
 
-entries-enumerated : (k : ℕ) (f : List ℕ → ℤ) (rs : List TableRow) → filter_map (λ r. not_zero r.0 (f r.1.name)) (enumerate_from k rs) ≡ entries_at k f (map (λ (r : TableRow). r.name) rs)
+entries-enumerated : (k : ℕ) (f : List ℕ → ℤ) (rs : List TableRow) → filter (λ e. not (int_eq e.1 (pos 0))) (map (λ r. (r.0, f r.1.name)) (enumerate_from k rs)) ≡ entries_at k f (map (λ (r : TableRow). r.name) rs)
 entries-enumerated k f [] = refl
-entries-enumerated k f (r ∷ rs) = by (int_eq (f r.name) (pos 0)) refl (subst (λ m. filter_map (λ q. not_zero q.0 (f q.1.name)) (enumerate_from m rs) ≡ entries_at (suc k) f (map (λ (q : TableRow). q.name) rs)) next (entries-enumerated (suc k) f rs))
+entries-enumerated k f (r ∷ rs) = by (int_eq (f r.name) (pos 0)) refl (subst (λ m. filter (λ e. not (int_eq e.1 (pos 0))) (map (λ q. (q.0, f q.1.name)) (enumerate_from m rs)) ≡ entries_at (suc k) f (map (λ (q : TableRow). q.name) rs)) next (entries-enumerated (suc k) f rs))
   where
     next : suc k ≡ k + 1
     next = omega arith
 
-    by : (b : Bool) → int_eq (f r.name) (pos 0) ≡ b → filter_map (λ q. not_zero q.0 (f q.1.name)) (enumerate_from (k + 1) rs) ≡ entries_at (suc k) f (map (λ (q : TableRow). q.name) rs)
-        → filter_map (λ q. not_zero q.0 (f q.1.name)) (enumerate_from k (r ∷ rs)) ≡ entries_at k f (r.name ∷ map (λ (q : TableRow). q.name) rs)
+    by : (b : Bool) → int_eq (f r.name) (pos 0) ≡ b → filter (λ e. not (int_eq e.1 (pos 0))) (map (λ q. (q.0, f q.1.name)) (enumerate_from (k + 1) rs)) ≡ entries_at (suc k) f (map (λ (q : TableRow). q.name) rs)
+        → filter (λ e. not (int_eq e.1 (pos 0))) (map (λ q. (q.0, f q.1.name)) (enumerate_from k (r ∷ rs))) ≡ entries_at k f (r.name ∷ map (λ (q : TableRow). q.name) rs)
     by true e more = rw e more
     by false e more = rw e (ap (λ es. (k, f r.name) ∷ es) more)
 
@@ -43,21 +43,21 @@ values-bounds s = by s.lower s.upper
     by false (Some true) = refl
     by false (Some false) = refl
 
-bounds-told : (before : List Line) (s : ColumnState) (n : List ℕ) → state_values s ≡ told_values (data_under (codes "COLUMNS") before) (data_under (codes "BOUNDS") before) n → state_bounds s ≡ bounds before n
+bounds-told : (before : Sections) (s : ColumnState) (n : List ℕ) → state_values s ≡ told_values before.columns before.bounds n → state_bounds s ≡ table_bounds before.bounds n
 bounds-told before s n h = values-bounds s ∙ ap (λ (v : Bool × ℤ × Option ℤ). if int_eq v.1 (pos 1) then One else (if int_eq (unwrap_or v.2 (pos 1)) (pos 0) then Zero else ZeroOrOne)) h
 
-column-told : (before : List Line) (o : Option (List ℕ)) (names : List (List ℕ)) (k : TableColumn) (s : ColumnState) (n : List ℕ) → o ≡ objective before → names ≡ map (λ (r : TableRow). r.name) (rows before) → k ≡ told_column o names (data_under (codes "COLUMNS") before) k.name → k.name ≡ n
-    → state_values s ≡ told_values (data_under (codes "COLUMNS") before) (data_under (codes "BOUNDS") before) n → record k { bounds = state_bounds s } ≡ column before n
+column-told : (before : Sections) (o : Option (List ℕ)) (names : List (List ℕ)) (k : TableColumn) (s : ColumnState) (n : List ℕ) → o ≡ first_free before.rows → names ≡ map (λ (r : TableRow). r.name) (table_rows before.rows (all_right_sides before.right_sides)) → k ≡ told_column o names before.columns k.name → k.name ≡ n
+    → state_values s ≡ told_values before.columns before.bounds n → record k { bounds = state_bounds s } ≡ table_column before n
 column-told before o names k s n objective-is names-is told named h =
     ap (λ (c : TableColumn). record c { bounds = state_bounds s }) told
-    ∙ ap (λ m. record { name = m; bounds = state_bounds s; cost = coefficient before m (unwrap_or o []); entries = entries_at 0 (coefficient before m) names }) named
-    ∙ ap (λ b. record { name = n; bounds = b; cost = coefficient before n (unwrap_or o []); entries = entries_at 0 (coefficient before n) names }) (bounds-told before s n h)
-    ∙ ap (λ q. record { name = n; bounds = bounds before n; cost = coefficient before n (unwrap_or q []); entries = entries_at 0 (coefficient before n) names }) objective-is
-    ∙ ap (λ es. record { name = n; bounds = bounds before n; cost = coefficient before n (objective_name before); entries = es }) (ap (entries_at 0 (coefficient before n)) names-is ∙ sym (entries-enumerated 0 (coefficient before n) (rows before)))
+    ∙ ap (λ m. record { name = m; bounds = state_bounds s; cost = coefficient (all_entries before.columns) m (unwrap_or o []); entries = entries_at 0 (coefficient (all_entries before.columns) m) names }) named
+    ∙ ap (λ b. record { name = n; bounds = b; cost = coefficient (all_entries before.columns) n (unwrap_or o []); entries = entries_at 0 (coefficient (all_entries before.columns) n) names }) (bounds-told before s n h)
+    ∙ ap (λ q. record { name = n; bounds = table_bounds before.bounds n; cost = coefficient (all_entries before.columns) n (unwrap_or q []); entries = entries_at 0 (coefficient (all_entries before.columns) n) names }) objective-is
+    ∙ ap (λ es. record { name = n; bounds = table_bounds before.bounds n; cost = coefficient (all_entries before.columns) n (unwrap_or (first_free before.rows) []); entries = es }) (ap (entries_at 0 (coefficient (all_entries before.columns) n)) names-is ∙ sym (entries-enumerated 0 (coefficient (all_entries before.columns) n) (table_rows before.rows (all_right_sides before.right_sides))))
 
-columns-told : (before : List Line) (o : Option (List ℕ)) (names : List (List ℕ)) (ks : List TableColumn) (ss : List ColumnState) (ns : List (List ℕ)) → o ≡ objective before → names ≡ map (λ (r : TableRow). r.name) (rows before)
-    → AllByRecursion (λ k. k ≡ told_column o names (data_under (codes "COLUMNS") before) k.name) ks → map (λ (k : TableColumn). k.name) ks ≡ ns
-    → map state_values ss ≡ map (told_values (data_under (codes "COLUMNS") before) (data_under (codes "BOUNDS") before)) ns → bounded ks (map state_bounds ss) ≡ map (column before) ns
+columns-told : (before : Sections) (o : Option (List ℕ)) (names : List (List ℕ)) (ks : List TableColumn) (ss : List ColumnState) (ns : List (List ℕ)) → o ≡ first_free before.rows → names ≡ map (λ (r : TableRow). r.name) (table_rows before.rows (all_right_sides before.right_sides))
+    → AllByRecursion (λ k. k ≡ told_column o names before.columns k.name) ks → map (λ (k : TableColumn). k.name) ks ≡ ns
+    → map state_values ss ≡ map (told_values before.columns before.bounds) ns → bounded ks (map state_bounds ss) ≡ map (table_column before) ns
 columns-told before o names [] ss [] oi ni told named h = refl
 columns-told before o names [] ss (n ∷ ns) oi ni told named h = absurd cc
 columns-told before o names (k ∷ ks) ss [] oi ni told named h = absurd cc
@@ -65,19 +65,19 @@ columns-told before o names (k ∷ ks) [] (n ∷ ns) oi ni told named h = absurd
 columns-told before o names (k ∷ ks) (s ∷ ss) (n ∷ ns) oi ni told named h =
     let one : k.name ≡ n = cc in
     let rest : map (λ (q : TableColumn). q.name) ks ≡ ns = cc in
-    let head : state_values s ≡ told_values (data_under (codes "COLUMNS") before) (data_under (codes "BOUNDS") before) n = cc in
-    let tail : map state_values ss ≡ map (told_values (data_under (codes "COLUMNS") before) (data_under (codes "BOUNDS") before)) ns = cc in
-    ap (λ c. c ∷ bounded ks (map state_bounds ss)) (column-told before o names k s n oi ni told.0 one head) ∙ ap (λ cs. column before n ∷ cs) (columns-told before o names ks ss ns oi ni told.1 rest tail)
+    let head : state_values s ≡ told_values before.columns before.bounds n = cc in
+    let tail : map state_values ss ≡ map (told_values before.columns before.bounds) ns = cc in
+    ap (λ c. c ∷ bounded ks (map state_bounds ss)) (column-told before o names k s n oi ni told.0 one head) ∙ ap (λ cs. table_column before n ∷ cs) (columns-told before o names ks ss ns oi ni told.1 rest tail)
 
-pub program-told : (before : List Line) (r : Reading) (name : List ℕ) (made : List Bounds) → ReadingFits r → is_some r.columns.current ≡ false → option_now r.rows.objective ≡ Some name → made ≡ map state_bounds r.columns.states.items → ReadingTells before r
+pub program-told : (before : Sections) (r : Reading) (name : List ℕ) (made : List Bounds) → ReadingFits r → is_some r.columns.current ≡ false → option_now r.rows.objective ≡ Some name → made ≡ map state_bounds r.columns.states.items → ReadingTells before r
     → program before ≡ record { objective = name; rows = map shown_row r.rows.rows.items; columns = bounded r.columns.done made }
 unfolding program
 program-told before r name made fit none named bounds-are h =
-    let objective-is : option_now r.rows.objective ≡ objective before = h.lines.of_rows.objective in
-    let names-are : row_names r.rows.rows.items ≡ map (λ (q : TableRow). q.name) (rows before) = names-shown r.rows.rows.items ∙ ap (map (λ (q : TableRow). q.name)) h.lines.of_rows.shown in
-    let all : map (λ (k : TableColumn). k.name) r.columns.done ≡ column_names before = sym (done-names (length r.rows.rows.items) r.columns fit.both.columns none) ∙ h.lines.of_columns.names in
-    let columns-are = columns-told before (option_now r.rows.objective) (row_names r.rows.rows.items) r.columns.done r.columns.states.items (column_names before) objective-is names-are h.lines.of_columns.done all h.lines.of_columns.states in
-    let name-is : objective_name before ≡ name = ap (λ o. unwrap_or o []) (sym objective-is ∙ named) in
-    ap (λ n. record { objective = n; rows = rows before; columns = map (column before) (column_names before) }) name-is
-    ∙ ap (λ rs. record { objective = name; rows = rs; columns = map (column before) (column_names before) }) (sym h.lines.of_rows.shown)
+    let objective-is : option_now r.rows.objective ≡ first_free before.rows = h.lines.of_rows.objective in
+    let names-are : row_names r.rows.rows.items ≡ map (λ (q : TableRow). q.name) (table_rows before.rows (all_right_sides before.right_sides)) = names-shown r.rows.rows.items ∙ ap (map (λ (q : TableRow). q.name)) h.lines.of_rows.shown in
+    let all : map (λ (k : TableColumn). k.name) r.columns.done ≡ column_names before.columns = sym (done-names (length r.rows.rows.items) r.columns fit.both.columns none) ∙ h.lines.of_columns.names in
+    let columns-are = columns-told before (option_now r.rows.objective) (row_names r.rows.rows.items) r.columns.done r.columns.states.items (column_names before.columns) objective-is names-are h.lines.of_columns.done all h.lines.of_columns.states in
+    let name-is : unwrap_or (first_free before.rows) [] ≡ name = ap (λ o. unwrap_or o []) (sym objective-is ∙ named) in
+    ap (λ n. record { objective = n; rows = table_rows before.rows (all_right_sides before.right_sides); columns = map (table_column before) (column_names before.columns) }) name-is
+    ∙ ap (λ rs. record { objective = name; rows = rs; columns = map (table_column before) (column_names before.columns) }) (sym h.lines.of_rows.shown)
     ∙ ap (λ cs. record { objective = name; rows = map shown_row r.rows.rows.items; columns = cs }) (sym columns-are ∙ ap (bounded r.columns.done) (sym bounds-are))

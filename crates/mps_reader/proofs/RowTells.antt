@@ -8,9 +8,9 @@ use Rattle.std.proofs.lemmas.List.Elements.{filter-append}
 use Rattle.std.proofs.lemmas.List.Folds.{find-append, list_any-append}
 use Rattle.program_rows.specs.Program.{TableRow}
 use Rattle.program_rows.specs.Parts.{shown_row}
-use Rattle.program_rows.specs.Meaning.{LineFields, field, is_free, kind_of}
-use Rattle.mps_reader.specs.inside.Rows.{names_of, option_now, AddsFree, AddsBound}
-use Rattle.mps_reader.specs.inside.Told.{declared_names, told_objective, told_right_sides, side_in, told_rows}
+use Rattle.program_rows.specs.Lines.{LineFields, field}
+use Rattle.program_rows.specs.Described.{is_free, kind_of, first_free, all_right_sides, right_side, table_rows}
+use Rattle.mps_reader.specs.inside.Rows.{names_of, option_now, AddsFree, AddsBound, declared_names}
 use Rattle.mps_reader.specs.inside.Tracking.{RowsTell, AreStampsUpTo}
 use Rattle.mps_reader.specs.declared.row_table.Rows.{Rows}
 use Rattle.mps_reader.proofs.NameFacts.{all-push}
@@ -25,19 +25,19 @@ bound-more : (f : LineFields) (rows : List LineFields) → filter (λ r. not (is
 bound-more f rows = ap (filter (λ r. not (is_free r))) (reverse-more f rows) ∙ filter-append (λ r. not (is_free r)) (reverse rows) (f ∷ [])
 
 abbrev row_of : List LineFields → LineFields → TableRow
-row_of rights fields = record { name = field 1 fields; kind = kind_of (field 0 fields); right_side = side_in (told_right_sides rights) (field 1 fields) }
+row_of rights fields = record { name = field 1 fields; kind = kind_of (field 0 fields); right_side = right_side (all_right_sides rights) (field 1 fields) }
 
-rows-more : (f : LineFields) (rows : List LineFields) → told_rows (f ∷ rows) [] ≡ told_rows rows [] ++ map (row_of []) (filter (λ r. not (is_free r)) (f ∷ []))
+rows-more : (f : LineFields) (rows : List LineFields) → table_rows (f ∷ rows) [] ≡ table_rows rows [] ++ map (row_of []) (filter (λ r. not (is_free r)) (f ∷ []))
 rows-more f rows = ap (map (row_of [])) (bound-more f rows) ∙ map-append (row_of []) (filter (λ r. not (is_free r)) (reverse rows)) (filter (λ r. not (is_free r)) (f ∷ []))
 
-objective-more : (f : LineFields) (rows : List LineFields) → told_objective (f ∷ rows) ≡ option_map (field 1) (option_or (find is_free (reverse rows)) (find is_free (f ∷ [])))
+objective-more : (f : LineFields) (rows : List LineFields) → first_free (f ∷ rows) ≡ option_map (field 1) (option_or (find is_free (reverse rows)) (find is_free (f ∷ [])))
 objective-more f rows = ap (λ rs. option_map (field 1) (find is_free rs)) (reverse-more f rows) ∙ ap (option_map (field 1)) (find-append is_free (reverse rows) (f ∷ []))
 
 pub tells-free : (f : LineFields) (rows : List LineFields) (old mid new : Rows) (name : List ℕ) → is_free f ≡ true → field 1 f ≡ name → names_of mid.names ≡ names_of old.names ++ name ∷ [] → mid.rows ≡ old.rows → mid.objective ≡ old.objective
     → AddsFree name mid new → RowsTell rows [] old → RowsTell (f ∷ rows) [] new
 tells-free f rows old mid new name free same names kept objective adds h = record {
   names = ap names_of adds.names ∙ names ∙ ap (λ ns. ns ++ name ∷ []) h.names ∙ ap (λ n. declared_names rows ++ n ∷ []) (sym same) ∙ sym (names-more f rows);
-  shown = ap (λ r. map shown_row r.items) (adds.rows ∙ kept) ∙ h.shown ∙ sym (rows-more f rows ∙ rw free (append-nil (told_rows rows [])));
+  shown = ap (λ r. map shown_row r.items) (adds.rows ∙ kept) ∙ h.shown ∙ sym (rows-more f rows ∙ rw free (append-nil (table_rows rows [])));
   objective = adds.objective ∙ ap (λ o. if is_none o then Some name else option_now o) objective ∙ by old.objective (find is_free (reverse rows)) h.objective ∙ sym (objective-more f rows);
 }
   where

@@ -4,10 +4,12 @@ use Rattle.std.specs.Prelude.{◌==◌, ◌⊎◌, nat_le, is_none, is_some, cod
 use Rattle.std.proofs.lemmas.List.{take_all, length-take-le}
 use Rattle.std.proofs.lemmas.Bool.{ne_eqb, lt-ltb, ltb-true, ltb-false, le-leb, leb-true, false_from_ne_true}
 use denote.Ref.{Bor}
-use Rattle.program_rows.specs.Lines.{Line, Skipped, Data}
+use Rattle.program_rows.specs.Lines.{Skipped, Data, LineFields, field}
+use Rattle.program_rows.specs.Sections.{Sections, with_line}
+use Rattle.program_rows.specs.Described.{is_one_of, is_binary_bound, bound_column, bound_number}
+use Rattle.program_rows.specs.Faults.{place_of, earliest_fault, when, header_fault, data_fault, objsense_fault, row_fault, column_fault, right_side_fault, bound_fault, bit_fault, is_column}
 use Rattle.program_rows.specs.declared.fault.FaultKind.{FaultKind}
 use Rattle.program_rows.specs.declared.fault.FaultKind.TheVariants as kinds
-use Rattle.program_rows.specs.Meaning.{LineFields, place_of, section, data_under, field, is_one_of, is_binary_bound, earliest_fault, when, header_fault, data_fault, objsense_fault, row_fault, column_fault, right_side_fault, bound_fault, bound_column, bound_number, bit_fault, is_column}
 use Rattle.mps_reader.specs.inside.Reading.{AreFirst}
 use Rattle.mps_reader.specs.inside.Rows.{names_of, option_now}
 use Rattle.mps_reader.specs.inside.Sections.{word_of}
@@ -106,7 +108,7 @@ section-opens sections.End new rows lines rights bounds r b c up same none size 
 
 -- ---- lines without data
 
-pub skipped-tells : (before : List Line) (r : Reading) → ReadingTells before r → ReadingTells (Skipped ∷ before) r
+pub skipped-tells : (before : Sections) (r : Reading) → ReadingTells before r → ReadingTells (with_line before Skipped) r
 skipped-tells before r h = record { section = h.section; lines = h.lines }
 
 pub no-objective : (o : Option (Bor (List ℕ))) (told : Option (List ℕ)) → option_now o ≡ told → is_none told ≡ not (is_some o)
@@ -119,7 +121,7 @@ long-more : (more : LineFields) → 6 ≤ length more → length (take 5 more) �
 long-more more h = length-take-le 5 more (omega arith)
 
 -- a header with its first further fields has the fault of the whole
-pub header-first : (before : List Line) (word : List ℕ) (more : LineFields) → header_fault before word (take 5 more) ≡ header_fault before word more
+pub header-first : (before : Sections) (word : List ℕ) (more : LineFields) → header_fault before word (take 5 more) ≡ header_fault before word more
 header-first before word more = by (nat_lt 5 (length more)) refl
   where
     by : (b : Bool) → nat_lt 5 (length more) ≡ b → header_fault before word (take 5 more) ≡ header_fault before word more
@@ -149,23 +151,23 @@ le-false a b h = false_from_ne_true _ (λ e. let low = leb-true a b e in absurd 
 objsense-many : (fields : LineFields) → 6 ≤ length fields → objsense_fault fields ≡ Some kinds.Fields
 objsense-many fields h = let n1 : (length fields == 1) ≡ false = ne_eqb (length fields) 1 (λ e. omega arith) in rw n1 refl
 
-row-many : (before : List Line) (fields : LineFields) → 6 ≤ length fields → row_fault before fields ≡ Some kinds.Fields
+row-many : (before : Sections) (fields : LineFields) → 6 ≤ length fields → row_fault before.rows fields ≡ Some kinds.Fields
 row-many before fields h = let n2 : (length fields == 2) ≡ false = ne_eqb (length fields) 2 (λ e. omega arith) in rw n2 refl
 
-column-many : (before : List Line) (fields : LineFields) → 6 ≤ length fields → column_fault before fields ≡ Some kinds.Fields
+column-many : (before : Sections) (fields : LineFields) → 6 ≤ length fields → column_fault before fields ≡ Some kinds.Fields
 column-many before fields h =
     let n3 : (length fields == 3) ≡ false = ne_eqb (length fields) 3 (λ e. omega arith) in
     let n5 : (length fields == 5) ≡ false = ne_eqb (length fields) 5 (λ e. omega arith) in
     rw (n3, n5) refl
 
-right-many : (before : List Line) (fields : LineFields) → 6 ≤ length fields → right_side_fault before fields ≡ Some kinds.Fields
+right-many : (before : Sections) (fields : LineFields) → 6 ≤ length fields → right_side_fault before fields ≡ Some kinds.Fields
 right-many before fields h =
     let low : nat_le 2 (length fields) ≡ true = le-leb 2 (length fields) (omega arith) in
     let high : nat_le (length fields) 5 ≡ false = le-false (length fields) 5 (omega arith) in
     rw (low, high) refl
 
-bound-many : (before : List Line) (fields : LineFields) → 6 ≤ length fields
-    → bound_fault before fields ≡ earliest_fault (when (not (is_one_of (field 0 fields) (codes "UP" ∷ codes "LO" ∷ codes "FX" ∷ codes "BV" ∷ []))) kinds.BoundType ∷ Some kinds.Fields ∷ [])
+bound-many : (before : Sections) (fields : LineFields) → 6 ≤ length fields
+    → bound_fault before.columns fields ≡ earliest_fault (when (not (is_one_of (field 0 fields) (codes "UP" ∷ codes "LO" ∷ codes "FX" ∷ codes "BV" ∷ []))) kinds.BoundType ∷ Some kinds.Fields ∷ [])
 bound-many before fields h =
     let high : nat_le (length fields) 4 ≡ false = le-false (length fields) 4 (omega arith) in
     let none : (if is_binary_bound fields then nat_le 2 (length fields) && nat_le (length fields) 4 else nat_le 3 (length fields) && nat_le (length fields) 4) ≡ false = rw high (neither (is_binary_bound fields) (nat_le 2 (length fields)) (nat_le 3 (length fields))) in
@@ -173,7 +175,7 @@ bound-many before fields h =
     ∙ by (is_one_of (field 0 fields) (codes "UP" ∷ codes "LO" ∷ codes "FX" ∷ codes "BV" ∷ []))
   where
     behind : List (Option FaultKind)
-    behind = when (not (is_column before (bound_column fields))) kinds.UnknownColumn ∷ (if is_binary_bound fields then None else bit_fault (bound_number fields)) ∷ []
+    behind = when (not (is_column before.columns (bound_column fields))) kinds.UnknownColumn ∷ (if is_binary_bound fields then None else bit_fault (bound_number fields)) ∷ []
 
     and-false : (a : Bool) → (a && false) ≡ false
     and-false true = refl
@@ -196,10 +198,10 @@ ifs false false false true e p q r s t p' q' r' s' t' hp hq hr hs ht = hs
 ifs false false false false true p q r s t p' q' r' s' t' hp hq hr hs ht = ht
 ifs false false false false false p q r s t p' q' r' s' t' hp hq hr hs ht = refl
 
-many-fields : (before : List Line) (fields : LineFields) → 6 ≤ length fields → data_fault before fields ≡ many_fault (section before) (field 0 fields)
+many-fields : (before : Sections) (fields : LineFields) → 6 ≤ length fields → data_fault before fields ≡ many_fault before.section (field 0 fields)
 many-fields before fields h =
-    ifs (bytes_eq (section before) (codes "OBJSENSE")) (bytes_eq (section before) (codes "ROWS")) (bytes_eq (section before) (codes "COLUMNS")) (bytes_eq (section before) (codes "RHS")) (bytes_eq (section before) (codes "BOUNDS"))
-    (objsense_fault fields) (row_fault before fields) (column_fault before fields) (right_side_fault before fields) (bound_fault before fields) _ _ _ _ _
+    ifs (bytes_eq before.section (codes "OBJSENSE")) (bytes_eq before.section (codes "ROWS")) (bytes_eq before.section (codes "COLUMNS")) (bytes_eq before.section (codes "RHS")) (bytes_eq before.section (codes "BOUNDS"))
+    (objsense_fault fields) (row_fault before.rows fields) (column_fault before fields) (right_side_fault before fields) (bound_fault before.columns fields) _ _ _ _ _
     (objsense-many fields h) (row-many before fields h) (column-many before fields h) (right-many before fields h) (bound-many before fields h)
 
 is-fault : (word first : List ℕ) → many_fault word first ≢ None
@@ -227,36 +229,36 @@ first-of [] = refl
 first-of (f ∷ fields) = refl
 
 -- the first fields of a data line have the fault of all
-pub data-first : (before : List Line) (shown all : LineFields) → AreFirst shown all → data_fault before shown ≡ data_fault before all
+pub data-first : (before : Sections) (shown all : LineFields) → AreFirst shown all → data_fault before shown ≡ data_fault before all
 data-first before shown all a = by (few-or-many (length all))
   where
     by : (length all ≤ 5) ⊎ (6 ≤ length all) → data_fault before shown ≡ data_fault before all
     by (inl few) = ap (data_fault before) (a.front ∙ take_all 6 all (omega arith))
     by (inr many) =
         let six : length (take 6 all) ≡ 6 = length-take-le 6 all many in
-        ap (data_fault before) (a.front) ∙ many-fields before (take 6 all) (omega arith) ∙ ap (many_fault (section before)) (first-of all) ∙ sym (many-fields before all many)
+        ap (data_fault before) (a.front) ∙ many-fields before (take 6 all) (omega arith) ∙ ap (many_fault before.section) (first-of all) ∙ sym (many-fields before all many)
 
 -- where they are no fault, they are all
-pub data-whole : (before : List Line) (shown all : LineFields) → AreFirst shown all → data_fault before shown ≡ None → shown ≡ all
+pub data-whole : (before : Sections) (shown all : LineFields) → AreFirst shown all → data_fault before shown ≡ None → shown ≡ all
 data-whole before shown all a none = by (few-or-many (length all))
   where
     by : (length all ≤ 5) ⊎ (6 ≤ length all) → shown ≡ all
     by (inl few) = a.front ∙ take_all 6 all (omega arith)
-    by (inr many) = absurd (is-fault (section before) (field 0 all) (sym (many-fields before all many) ∙ sym (data-first before shown all a) ∙ none))
+    by (inr many) = absurd (is-fault before.section (field 0 all) (sym (many-fields before all many) ∙ sym (data-first before shown all a) ∙ none))
 
 -- ---- a data line of each section
 
-pub tells-rows : (before : List Line) (f : LineFields) (r : Reading) → section before ≡ codes "ROWS" → section before ≡ word_of r.section → LinesTell (f ∷ data_under (codes "ROWS") before) (data_under (codes "COLUMNS") before) (data_under (codes "RHS") before) (data_under (codes "BOUNDS") before) r → ReadingTells (Data f ∷ before) r
+pub tells-rows : (before : Sections) (f : LineFields) (r : Reading) → before.section ≡ codes "ROWS" → before.section ≡ word_of r.section → LinesTell (f ∷ before.rows) before.columns before.right_sides before.bounds r → ReadingTells (with_line before (Data f)) r
 tells-rows before f r s w h = record { section = w; lines = rw s h }
 
-pub tells-columns : (before : List Line) (f : LineFields) (r : Reading) → section before ≡ codes "COLUMNS" → section before ≡ word_of r.section → LinesTell (data_under (codes "ROWS") before) (f ∷ data_under (codes "COLUMNS") before) (data_under (codes "RHS") before) (data_under (codes "BOUNDS") before) r → ReadingTells (Data f ∷ before) r
+pub tells-columns : (before : Sections) (f : LineFields) (r : Reading) → before.section ≡ codes "COLUMNS" → before.section ≡ word_of r.section → LinesTell before.rows (f ∷ before.columns) before.right_sides before.bounds r → ReadingTells (with_line before (Data f)) r
 tells-columns before f r s w h = record { section = w; lines = rw s h }
 
-pub tells-right-sides : (before : List Line) (f : LineFields) (r : Reading) → section before ≡ codes "RHS" → section before ≡ word_of r.section → LinesTell (data_under (codes "ROWS") before) (data_under (codes "COLUMNS") before) (f ∷ data_under (codes "RHS") before) (data_under (codes "BOUNDS") before) r → ReadingTells (Data f ∷ before) r
+pub tells-right-sides : (before : Sections) (f : LineFields) (r : Reading) → before.section ≡ codes "RHS" → before.section ≡ word_of r.section → LinesTell before.rows before.columns (f ∷ before.right_sides) before.bounds r → ReadingTells (with_line before (Data f)) r
 tells-right-sides before f r s w h = record { section = w; lines = rw s h }
 
-pub tells-bounds : (before : List Line) (f : LineFields) (r : Reading) → section before ≡ codes "BOUNDS" → section before ≡ word_of r.section → LinesTell (data_under (codes "ROWS") before) (data_under (codes "COLUMNS") before) (data_under (codes "RHS") before) (f ∷ data_under (codes "BOUNDS") before) r → ReadingTells (Data f ∷ before) r
+pub tells-bounds : (before : Sections) (f : LineFields) (r : Reading) → before.section ≡ codes "BOUNDS" → before.section ≡ word_of r.section → LinesTell before.rows before.columns before.right_sides (f ∷ before.bounds) r → ReadingTells (with_line before (Data f)) r
 tells-bounds before f r s w h = record { section = w; lines = rw s h }
 
-pub tells-sense : (before : List Line) (f : LineFields) (r : Reading) → section before ≡ codes "OBJSENSE" → section before ≡ word_of r.section → LinesTell (data_under (codes "ROWS") before) (data_under (codes "COLUMNS") before) (data_under (codes "RHS") before) (data_under (codes "BOUNDS") before) r → ReadingTells (Data f ∷ before) r
+pub tells-sense : (before : Sections) (f : LineFields) (r : Reading) → before.section ≡ codes "OBJSENSE" → before.section ≡ word_of r.section → LinesTell before.rows before.columns before.right_sides before.bounds r → ReadingTells (with_line before (Data f)) r
 tells-sense before f r s w h = record { section = w; lines = rw s h }

@@ -1,23 +1,24 @@
 -- Right sides are those of the lines so far.
 use Rattle.std.proofs.Common.{◌≡◌, ◌≢◌, ℕ, zero, suc, Bool, true, false, not, ◌||◌, ◌&&◌, List, [], ◌∷◌, ◌++◌, length, map, take, drop, refl, sym, ap, subst, ◌∙◌, arith, Option, Some, None, ℤ, pos}
-use Rattle.std.specs.Prelude.{◌==◌, ◌-◌, ◌%◌, nat_le, slice_get, bytes_eq, find, is_none, if◌then◌else◌}
-use Rattle.std.specs.Ordering.{int_eq}
+use Rattle.std.specs.Prelude.{◌==◌, ◌-◌, ◌%◌, nat_le, slice_get, bytes_eq, find, if◌then◌else◌}
 use Rattle.std.specs.List.{list_any, AllByRecursion, IsDistinct}
 use Rattle.std.specs.Option.{option_map_or}
 use Rattle.std.proofs.lemmas.Bool.{eqb-true, both_ways}
 use Rattle.std.proofs.lemmas.List.{length-drop}
 use Rattle.std.proofs.Math.Seq.{take-length}
 use denote.Ref.{Bor}
-use Rattle.program_rows.specs.Lines.{Line}
+use Rattle.program_rows.specs.Lines.{LineFields, field}
+use Rattle.program_rows.specs.Sections.{Sections}
+use Rattle.program_rows.specs.Described.{pairs, kind_of, value, all_right_sides, line_right_sides, right_side}
+use Rattle.program_rows.specs.Faults.{earliest_fault, when, is_declared, is_objective, constant_fault, pairs_fault, right_side_fault}
 use Rattle.program_rows.specs.declared.fault.FaultKind.{FaultKind}
-use Rattle.program_rows.specs.declared.fault.FaultKind.TheVariants.{UnknownRow, EntryRepeated, ObjectiveConstant}
+use Rattle.program_rows.specs.declared.fault.FaultKind.TheVariants.{UnknownRow, EntryRepeated}
 use Rattle.program_rows.specs.declared.row.Row.{Row}
 use Rattle.program_rows.specs.Program.{TableRow}
 use Rattle.program_rows.specs.Parts.{shown_row}
-use Rattle.program_rows.specs.Meaning.{LineFields, field, pairs, kind_of, value, number_fault, earliest_fault, when, is_declared, is_objective, right_sides, line_right_sides, right_sides_fault, right_side_fault}
-use Rattle.mps_reader.specs.inside.Reading.{bytes_of}
-use Rattle.mps_reader.specs.inside.Rows.{StampsAre, row_names, with_side}
-use Rattle.mps_reader.specs.inside.Told.{rows_by, side_in, side_fault}
+use Rattle.auction_terms.specs.Borrowed.{bytes_of}
+use Rattle.mps_reader.specs.inside.Rows.{StampsAre, row_names, with_side, rows_by, side_fault}
+use Rattle.mps_reader.proofs.PairFaults.{pair_checks, begins, second}
 use Rattle.mps_reader.proofs.NameFacts.{own_name, same_name, length-bytes}
 use Rattle.mps_reader.proofs.RowSteps.{names-shown}
 use Rattle.mps_reader.proofs.PairTells.{flip-name, all-at}
@@ -102,15 +103,15 @@ pub two-stamps : (f : LineFields) (row number row2 number2 : List ℕ) (stamps :
 two-stamps f row number row2 number2 stamps stamp ns earlier a h = stamps-same stamps stamp ns (λ n. bytes_eq n row2 || (bytes_eq n row || has_side earlier n)) (has_side (pairs f ++ earlier))
     (λ n. swap-or (bytes_eq n row2) (bytes_eq n row) (has_side earlier n) ∙ ap (λ ps. has_side (ps ++ earlier) n) (sym (shown-two f row number row2 number2 a))) h
 
-side-one : (row number : List ℕ) (earlier : List (List ℕ × List ℕ)) (n : List ℕ) → (if bytes_eq n row then value number else side_in earlier n) ≡ side_in ((row, number) ∷ earlier) n
+side-one : (row number : List ℕ) (earlier : List (List ℕ × List ℕ)) (n : List ℕ) → (if bytes_eq n row then value number else right_side earlier n) ≡ right_side ((row, number) ∷ earlier) n
 side-one row number earlier n = by (bytes_eq n row)
   where
-    by : (b : Bool) → (if b then value number else side_in earlier n) ≡ option_map_or (λ (p : List ℕ × List ℕ). value p.1) (if b then Some (row, number) else find (λ (p : List ℕ × List ℕ). bytes_eq n p.0) earlier) (pos 0)
+    by : (b : Bool) → (if b then value number else right_side earlier n) ≡ option_map_or (λ (p : List ℕ × List ℕ). value p.1) (if b then Some (row, number) else find (λ (p : List ℕ × List ℕ). bytes_eq n p.0) earlier) (pos 0)
     by true = refl
     by false = refl
 
 side-two : (row number row2 number2 : List ℕ) (earlier : List (List ℕ × List ℕ)) → bytes_eq row2 row ≡ false → (n : List ℕ)
-    → (if bytes_eq n row2 then value number2 else side_in ((row, number) ∷ earlier) n) ≡ side_in ((row, number) ∷ (row2, number2) ∷ earlier) n
+    → (if bytes_eq n row2 then value number2 else right_side ((row, number) ∷ earlier) n) ≡ right_side ((row, number) ∷ (row2, number2) ∷ earlier) n
 side-two row number row2 number2 earlier differ n = by (bytes_eq n row2) (bytes_eq n row) refl refl
   where
     by : (a b : Bool) → bytes_eq n row2 ≡ a → bytes_eq n row ≡ b
@@ -122,69 +123,47 @@ side-two row number row2 number2 earlier differ n = by (bytes_eq n row2) (bytes_
     by false false h k = refl
 
 pub one-rows : (f : LineFields) (row number : List ℕ) (shown : List TableRow) (earlier : List (List ℕ × List ℕ)) (lines : List LineFields) → AreOne f row number
-    → shown ≡ rows_by (λ n. if bytes_eq n row then value number else side_in earlier n) lines → shown ≡ rows_by (side_in (pairs f ++ earlier)) lines
-one-rows f row number shown earlier lines a h = h ∙ rows-same (λ n. if bytes_eq n row then value number else side_in earlier n) (side_in (pairs f ++ earlier)) lines
-    (λ n. side-one row number earlier n ∙ ap (λ ps. side_in (ps ++ earlier) n) (sym (shown-one f row number a)))
+    → shown ≡ rows_by (λ n. if bytes_eq n row then value number else right_side earlier n) lines → shown ≡ rows_by (right_side (pairs f ++ earlier)) lines
+one-rows f row number shown earlier lines a h = h ∙ rows-same (λ n. if bytes_eq n row then value number else right_side earlier n) (right_side (pairs f ++ earlier)) lines
+    (λ n. side-one row number earlier n ∙ ap (λ ps. right_side (ps ++ earlier) n) (sym (shown-one f row number a)))
 
 pub two-rows : (f : LineFields) (row number row2 number2 : List ℕ) (shown : List TableRow) (earlier : List (List ℕ × List ℕ)) (lines : List LineFields) → AreTwo f row number row2 number2 → bytes_eq row2 row ≡ false
-    → shown ≡ rows_by (λ n. if bytes_eq n row2 then value number2 else (if bytes_eq n row then value number else side_in earlier n)) lines → shown ≡ rows_by (side_in (pairs f ++ earlier)) lines
-two-rows f row number row2 number2 shown earlier lines a differ h = h ∙ rows-same (λ n. if bytes_eq n row2 then value number2 else (if bytes_eq n row then value number else side_in earlier n)) (side_in (pairs f ++ earlier)) lines
-    (λ n. ap (λ z. if bytes_eq n row2 then value number2 else z) (side-one row number earlier n) ∙ side-two row number row2 number2 earlier differ n ∙ ap (λ ps. side_in (ps ++ earlier) n) (sym (shown-two f row number row2 number2 a)))
+    → shown ≡ rows_by (λ n. if bytes_eq n row2 then value number2 else (if bytes_eq n row then value number else right_side earlier n)) lines → shown ≡ rows_by (right_side (pairs f ++ earlier)) lines
+two-rows f row number row2 number2 shown earlier lines a differ h = h ∙ rows-same (λ n. if bytes_eq n row2 then value number2 else (if bytes_eq n row then value number else right_side earlier n)) (right_side (pairs f ++ earlier)) lines
+    (λ n. ap (λ z. if bytes_eq n row2 then value number2 else z) (side-one row number earlier n) ∙ side-two row number row2 number2 earlier differ n ∙ ap (λ ps. right_side (ps ++ earlier) n) (sym (shown-two f row number row2 number2 a)))
 
 -- ---- faults
 
--- what the checks of a pair find, if they find nothing goes to those of the next
-first-is : (known repeated cost : Bool) (number : List ℕ) (last : Option FaultKind) → (side : Option FaultKind) → side_fault known repeated cost number ≡ side
-    → earliest_fault (when (not known) UnknownRow ∷ when repeated EntryRepeated ∷ number_fault number ∷ when (cost && not (int_eq (value number) (pos 0))) ObjectiveConstant ∷ last ∷ []) ≡ (if is_none side then last else side)
-first-is false r c number last side h = rw (sym h) refl
-first-is true true c number last side h = rw (sym h) refl
-first-is true false c number last side h = by (number_fault number) (c && not (int_eq (value number) (pos 0))) h
+abbrev sides_fault : List LineFields → (List ℕ → Bool) → LineFields → Option FaultKind
+sides_fault lines stood f = pairs_fault lines (constant_fault lines) stood (pairs f)
+
+checks-are : (lines : List LineFields) (row number : List ℕ) (known repeated cost : Bool) (fault : Option FaultKind) → is_objective lines row ≡ cost → side_fault known repeated cost number ≡ fault → pair_checks known repeated number (constant_fault lines (row, number)) ≡ fault
+checks-are lines row number known repeated cost fault o h = ap (λ c. side_fault known repeated c number) o ∙ h
+
+pub first-refused : (lines : List LineFields) (stood : List ℕ → Bool) (f : LineFields) (row number : List ℕ) (known cost : Bool) (kind : FaultKind) → ((length f == 2) || (length f == 4)) ≡ true → field 0 f ≡ row → field 1 f ≡ number
+    → is_declared lines row ≡ known → is_objective lines row ≡ cost → side_fault known (stood row) cost number ≡ Some kind → sides_fault lines stood f ≡ Some kind
+first-refused lines stood f row number known cost kind count same told d o h = by (length f == 2) refl
   where
-    last-of : (o : Option FaultKind) → earliest_fault (o ∷ []) ≡ o
-    last-of None = refl
-    last-of (Some k) = refl
+    begun : (more : List (List ℕ × List ℕ)) → pairs f ≡ (field 0 f, field 1 f) ∷ more → sides_fault lines stood f ≡ Some kind
+    begun more e =
+        let shown : pairs f ≡ (row, number) ∷ more = e ∙ rw (same, told) refl in
+        ap (pairs_fault lines (constant_fault lines) stood) shown ∙ begins lines (constant_fault lines) stood row number more known (Some kind) d (checks-are lines row number known (stood row) cost (Some kind) o h)
 
-    by : (n : Option FaultKind) (b : Bool) → earliest_fault (n ∷ when b ObjectiveConstant ∷ []) ≡ side → earliest_fault (n ∷ when b ObjectiveConstant ∷ last ∷ []) ≡ (if is_none side then last else side)
-    by (Some k) b h = rw (sym h) refl
-    by None true h = rw (sym h) refl
-    by None false h = rw (sym h) (last-of last)
+    by : (b : Bool) → (length f == 2) ≡ b → sides_fault lines stood f ≡ Some kind
+    by true e = begun [] (one-pair f (eqb-true _ _ e))
+    by false e = begun ((field 2 f, field 3 f) ∷ []) (two-pairs f (eqb-true _ _ (ap (λ b. b || (length f == 4)) (sym e) ∙ count)))
 
--- the first of the pairs of a line
-pub begins : (before : List Line) (earlier : List (List ℕ × List ℕ)) (row number : List ℕ) (more : List (List ℕ × List ℕ)) (known cost : Bool) (side : Option FaultKind) → is_declared before row ≡ known → is_objective before row ≡ cost
-    → side_fault known (has_side earlier row) cost number ≡ side → right_sides_fault before earlier ((row, number) ∷ more) ≡ (if is_none side then right_sides_fault before ((row, number) ∷ earlier) more else side)
-begins before earlier row number more known cost side d o h = rw (d, o) (first-is known (has_side earlier row) cost number (right_sides_fault before ((row, number) ∷ earlier) more) side h)
+pub one-told : (lines : List LineFields) (stood : List ℕ → Bool) (f : LineFields) (row number : List ℕ) (known cost : Bool) → AreOne f row number → is_declared lines row ≡ known → is_objective lines row ≡ cost
+    → side_fault known (stood row) cost number ≡ None → sides_fault lines stood f ≡ None
+one-told lines stood f row number known cost a d o h =
+    ap (pairs_fault lines (constant_fault lines) stood) (shown-one f row number a) ∙ begins lines (constant_fault lines) stood row number [] known None d (checks-are lines row number known (stood row) cost None o h)
 
-pub not-repeated : (known r cost : Bool) (number : List ℕ) → side_fault known r cost number ≡ None → r ≡ false
-not-repeated false r cost number h = absurd cc
-not-repeated true true cost number h = absurd cc
-not-repeated true false cost number h = refl
-
-pub first-refused : (before : List Line) (earlier : List (List ℕ × List ℕ)) (f : LineFields) (row number : List ℕ) (known cost : Bool) (kind : FaultKind) → ((length f == 2) || (length f == 4)) ≡ true → field 0 f ≡ row → field 1 f ≡ number
-    → is_declared before row ≡ known → is_objective before row ≡ cost → side_fault known (has_side earlier row) cost number ≡ Some kind → right_sides_fault before earlier (pairs f) ≡ Some kind
-first-refused before earlier f row number known cost kind count same told d o h = by (length f == 2) refl
-  where
-    by : (b : Bool) → (length f == 2) ≡ b → right_sides_fault before earlier (pairs f) ≡ Some kind
-    by true e =
-        let shown : pairs f ≡ (row, number) ∷ [] = one-pair f (eqb-true _ _ e) ∙ rw (same, told) refl in
-        ap (right_sides_fault before earlier) shown ∙ begins before earlier row number [] known cost (Some kind) d o h
-    by false e =
-        let shown : pairs f ≡ (row, number) ∷ (field 2 f, field 3 f) ∷ [] = two-pairs f (eqb-true _ _ (ap (λ b. b || (length f == 4)) (sym e) ∙ count)) ∙ rw (same, told) refl in
-        ap (right_sides_fault before earlier) shown ∙ begins before earlier row number ((field 2 f, field 3 f) ∷ []) known cost (Some kind) d o h
-
-pub one-told : (before : List Line) (earlier : List (List ℕ × List ℕ)) (f : LineFields) (row number : List ℕ) (known cost : Bool) → AreOne f row number → is_declared before row ≡ known → is_objective before row ≡ cost
-    → side_fault known (has_side earlier row) cost number ≡ None → right_sides_fault before earlier (pairs f) ≡ None
-one-told before earlier f row number known cost a d o h = ap (right_sides_fault before earlier) (shown-one f row number a) ∙ begins before earlier row number [] known cost None d o h
-
-if-none : (side : Option FaultKind) → (if is_none side then None else side) ≡ side
-if-none None = refl
-if-none (Some k) = refl
-
-pub second-told : (before : List Line) (earlier : List (List ℕ × List ℕ)) (f : LineFields) (row number row2 number2 : List ℕ) (known known2 cost cost2 : Bool) → AreTwo f row number row2 number2 → is_declared before row ≡ known → is_declared before row2 ≡ known2
-    → is_objective before row ≡ cost → is_objective before row2 ≡ cost2 → side_fault known (has_side earlier row) cost number ≡ None
-    → right_sides_fault before earlier (pairs f) ≡ side_fault known2 (bytes_eq row2 row || has_side earlier row2) cost2 number2
-second-told before earlier f row number row2 number2 known known2 cost cost2 a d d2 o o2 h =
-    ap (right_sides_fault before earlier) (shown-two f row number row2 number2 a) ∙ begins before earlier row number ((row2, number2) ∷ []) known cost None d o h
-    ∙ begins before ((row, number) ∷ earlier) row2 number2 [] known2 cost2 (side_fault known2 (bytes_eq row2 row || has_side earlier row2) cost2 number2) d2 o2 refl ∙ if-none _
+pub second-told : (lines : List LineFields) (stood : List ℕ → Bool) (f : LineFields) (row number row2 number2 : List ℕ) (known known2 cost cost2 : Bool) → AreTwo f row number row2 number2 → is_declared lines row ≡ known → is_declared lines row2 ≡ known2
+    → is_objective lines row ≡ cost → is_objective lines row2 ≡ cost2 → side_fault known (stood row) cost number ≡ None → sides_fault lines stood f ≡ side_fault known2 (bytes_eq row2 row || stood row2) cost2 number2
+second-told lines stood f row number row2 number2 known known2 cost cost2 a d d2 o o2 h =
+    ap (pairs_fault lines (constant_fault lines) stood) (shown-two f row number row2 number2 a)
+    ∙ second lines (constant_fault lines) stood row number row2 number2 known known2 d d2 (checks-are lines row number known (stood row) cost None o h)
+    ∙ checks-are lines row2 number2 known2 (bytes_eq row2 row || stood row2) cost2 _ o2 refl
 
 pub two : (n : ℕ) → ((n == 2) || (n == 4)) ≡ true → n ≢ 4 → n ≡ 2
 two n h ne = by (n == 2) refl
@@ -210,8 +189,9 @@ line-pairs fields =
     let whole : take (length fields - length fields % 2) (drop (length fields % 2) fields) ≡ drop (length fields % 2) fields = ap (λ n. take n (drop (length fields % 2) fields)) (sym (length-drop (length fields % 2) fields)) ∙ take-length (drop (length fields % 2) fields) in
     ap (λ n. pairs (drop (n % 2) (bytes_of fields))) (length-bytes fields) ∙ ap pairs (sym (bytes-drop (length fields % 2) fields)) ∙ ap (λ fs. pairs (bytes_of fs)) (sym whole)
 
-pub line-fault : (before : List Line) (f : LineFields) (fault : Option FaultKind) → (nat_le 2 (length f) && nat_le (length f) 5) ≡ true → right_sides_fault before (right_sides before) (line_right_sides f) ≡ fault → right_side_fault before f ≡ fault
-line-fault before f fault count h = rw count (last-of (right_sides_fault before (right_sides before) (line_right_sides f)) h)
+pub line-fault : (before : Sections) (f : LineFields) (fault : Option FaultKind) → (nat_le 2 (length f) && nat_le (length f) 5) ≡ true
+    → pairs_fault before.rows (constant_fault before.rows) (has_side (all_right_sides before.right_sides)) (line_right_sides f) ≡ fault → right_side_fault before f ≡ fault
+line-fault before f fault count h = rw count (last-of (pairs_fault before.rows (constant_fault before.rows) (has_side (all_right_sides before.right_sides)) (line_right_sides f)) h)
   where
     last-of : (o : Option FaultKind) → o ≡ fault → earliest_fault (o ∷ []) ≡ fault
     last-of None e = e

@@ -5,8 +5,8 @@ use Rattle.std.specs.List.{list_any, position_or_len}
 use Rattle.std.proofs.lemmas.Bool.{ltb-true}
 use denote.Ref.{Bor}
 use Rattle.program_rows.specs.declared.fault.FaultKind.TheVariants.{UnknownRow, EntryRepeated}
-use Rattle.program_rows.specs.Meaning.{earliest_fault, when}
-use Rattle.mps_reader.specs.inside.Reading.{bytes_of}
+use Rattle.program_rows.specs.Faults.{earliest_fault, when}
+use Rattle.auction_terms.specs.Borrowed.{bytes_of}
 use Rattle.mps_reader.specs.inside.Rows.{StampsAre}
 use Rattle.mps_reader.proofs.NameFacts.{same_name}
 

@@ -5,7 +5,7 @@ use Rattle.program_rows.specs.declared.fault.FaultKind.{FaultKind}
 use Rattle.program_rows.specs.declared.fault.FaultKind.TheVariants.{OutOfMemory}
 use Rattle.mps_reader.specs.declared.mps_fault.MpsFault.{MpsFault}
 
--- the program that the text means, or its first faulty line and the fault; want of memory has no line
+-- the program that the text means, or its first faulty line and the fault; memory that was short has no line
 abbrev pub IsRead : Result Table MpsFault → Result Table (ℕ × FaultKind) → Type 0
 IsRead (Ok program) meant = meant ≡ Ok program
 IsRead (Err fault) meant = (fault ≡ record { line = 0; kind = OutOfMemory }) ⊎ (meant ≡ Err (fault.line, fault.kind))

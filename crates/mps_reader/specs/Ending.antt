@@ -3,7 +3,7 @@ use Rattle.std.specs.Prelude.{◌≡◌, ◌≢◌, ℕ, true, false, List, ◌�
 use Rattle.std.specs.List.{AllByRecursion}
 use Rattle.auction_terms.specs.Lines.{lines_of}
 use Rattle.program_rows.specs.Lines.{Unprintable, line_of}
-use Rattle.program_rows.specs.Meaning.{is_end}
+use Rattle.program_rows.specs.Sections.{is_end}
 
 -- a line that isn't the end, and has no byte that no text has
 pub record IsPassed (line : List ℕ) : Type 0 where

@@ -5,5 +5,4 @@ pub mod Reading
 pub mod Rows
 pub mod Sections
 pub mod States
-pub mod Told
 pub mod Tracking

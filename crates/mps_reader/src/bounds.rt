@@ -3,9 +3,11 @@
 ghost use Rattle.std.specs.Prelude.{◌≡◌, ◌≤◌, ◌<◌, ◌+◌, ◌∷◌, [], ◌&&◌, ◌==◌, ℕ, List, not, true, false, codes, bytes_eq, length, nat_le, if◌then◌else◌, Option, IfOk, OnOk};
 ghost use Rattle.program_rows.specs.declared.fault.FaultKind.TheVariants.{BoundType, Fields};
 ghost use Rattle.std.specs.List.{IsDistinct};
-ghost use Rattle.program_rows.specs.Lines.{Line};
-ghost use Rattle.program_rows.specs.Meaning.{LineFields, is_one_of, is_binary_bound, field, value, column_names, earliest_fault, when, bit_fault, bound_fault};
-ghost use Rattle.mps_reader.specs.inside.Reading.{bytes_of, Answers};
+ghost use Rattle.program_rows.specs.Lines.{LineFields, field};
+ghost use Rattle.program_rows.specs.Described.{is_one_of, is_binary_bound, value, column_names};
+ghost use Rattle.program_rows.specs.Faults.{earliest_fault, when, bit_fault, bound_fault};
+ghost use Rattle.auction_terms.specs.Borrowed.{bytes_of};
+ghost use Rattle.mps_reader.specs.inside.Reading.{Answers};
 ghost use Rattle.mps_reader.specs.inside.Columns.{BothFit};
 ghost use Rattle.mps_reader.specs.inside.Rows.{names_of};
 ghost use Rattle.mps_reader.specs.inside.Tracking.{ColumnsTell, bit, state_values, bounded_values};
@@ -102,7 +104,7 @@ pub fn take_bound<'t>(columns: &mut ColumnTable<'t>, fields: &[&[u8]]) -> Result
     requires states { length columns.old.states.items ≡ length columns.old.names.keys }
     ensures fit { OnOk result ((r : row_table.Rows) → BothFit r columns.old → BothFit r columns.new) }
     ensures current { columns.new.current ≡ columns.old.current }
-    ensures fault { (before : List Line) → names_of columns.old.names ≡ column_names before → Answers result (bound_fault before (bytes_of fields.now)) }
+    ensures fault { (lines : List LineFields) → names_of columns.old.names ≡ column_names lines → Answers result (bound_fault lines (bytes_of fields.now)) }
     ensures tells { OnOk result ((objective : Option (List ℕ)) (rows : List (List ℕ)) (lines bounds : List LineFields) → IsDistinct bytes_eq (names_of columns.old.names)
         → ColumnsTell objective rows lines bounds columns.old → ColumnsTell objective rows lines (bytes_of fields.now ∷ bounds) columns.new) }
 {

@@ -4,7 +4,8 @@ ghost use Rattle.std.specs.Prelude.{◌≡◌, ◌++◌, ◌∷◌, [], ℕ, Lis
 ghost use Rattle.std.specs.List.{list_any};
 ghost use Rattle.std.specs.List.Sorted.{IsPermutation, IsNonDecreasingBy};
 ghost use Rattle.program_rows.specs.declared.fault.FaultKind.TheVariants.{ColumnSplit};
-ghost use Rattle.program_rows.specs.Meaning.{when, LineFields};
+ghost use Rattle.program_rows.specs.Lines.{LineFields};
+ghost use Rattle.program_rows.specs.Faults.{when};
 ghost use Rattle.program_rows.specs.Parts.{IsName};
 ghost use Rattle.mps_reader.specs.inside.Reading.{Answers};
 ghost use Rattle.mps_reader.specs.inside.Rows.{names_of, option_now};

@@ -1,14 +1,16 @@
 //! Lines of COLUMNS.
 
-ghost use Rattle.std.specs.Prelude.{◌≡◌, ◌≤◌, ◌==◌, ◌||◌, ◌∷◌, [], ◌++◌, ℕ, ℤ, Bool, List, not, true, false, is_some, length, bytes_eq, codes, Option, OnOk, if◌then◌else◌};
+ghost use Rattle.std.specs.Prelude.{◌≡◌, ◌≤◌, ◌==◌, ◌||◌, ◌∷◌, [], ◌++◌, ℕ, ℤ, Bool, List, not, true, false, is_some, length, bytes_eq, drop, Option, None, OnOk, if◌then◌else◌};
 ghost use Rattle.std.specs.List.{AllByRecursion, list_any};
 ghost use Rattle.program_rows.specs.declared.fault.FaultKind.TheVariants.{UnknownRow, EntryRepeated};
-ghost use Rattle.program_rows.specs.Lines.{Line};
-ghost use Rattle.program_rows.specs.Meaning.{earliest_fault, when, number_fault, value, field, Entry, names, is_declared, entries_fault, line_entries, LineFields, data_under, is_integer_open, is_marker, marker_fault, column_fault};
+ghost use Rattle.program_rows.specs.Lines.{field, LineFields};
+ghost use Rattle.program_rows.specs.Sections.{Sections};
+ghost use Rattle.program_rows.specs.Described.{value, pairs, Entry, names, line_entries, is_marker, coefficient};
+ghost use Rattle.program_rows.specs.Faults.{earliest_fault, when, number_fault, is_declared, pairs_fault, is_integer_open, marker_fault, column_fault};
 ghost use Rattle.program_rows.specs.Parts.{IsName};
-ghost use Rattle.mps_reader.specs.inside.Reading.{bytes_of, Answers};
+ghost use Rattle.auction_terms.specs.Borrowed.{bytes_of};
+ghost use Rattle.mps_reader.specs.inside.Reading.{Answers};
 ghost use Rattle.mps_reader.specs.inside.Rows.{RowsFit, StampsAre, names_of, row_names, option_now};
-ghost use Rattle.mps_reader.specs.inside.Told.{coefficient_in};
 ghost use Rattle.mps_reader.specs.inside.Tracking.{AreStampsUpTo, OpenTells, ColumnsTell, InColumns};
 ghost use Rattle.mps_reader.specs.declared.row_table.Rows as row_table;
 ghost use Rattle.mps_reader.specs.inside.Columns.{ColumnsFit, put_entries, PairsFit, BothFit};
@@ -87,7 +89,7 @@ fn is_three_or_five(count: usize) -> bool
 fn take_marker_line<'t>(columns: &mut ColumnTable<'t>, fields: &[&[u8]]) -> Result<(), Refusal>
     ensures fit { OnOk result ((r : row_table.Rows) → BothFit r columns.old → BothFit r columns.new) }
     ensures closed { OnOk result (is_some columns.new.current ≡ false) }
-    ensures fault { (before : List Line) → is_integer_open (data_under (codes "COLUMNS") before) ≡ columns.old.is_begun → Answers result (marker_fault before (bytes_of fields.now)) }
+    ensures fault { (lines : List LineFields) → is_integer_open lines ≡ columns.old.is_begun → Answers result (marker_fault lines (bytes_of fields.now)) }
     ensures names { OnOk result (columns.new.names ≡ columns.old.names) }
     ensures tells { OnOk result (is_marker (bytes_of fields.now) ≡ true → (objective : Option (List ℕ)) (rows : List (List ℕ)) (lines : List LineFields) → ColumnsFit (length rows) columns.old
         → ColumnsTell objective rows lines [] columns.old → ColumnsTell objective rows (bytes_of fields.now ∷ lines) [] columns.new) }
@@ -110,15 +112,15 @@ fn take_entries<'t>(
     ensures fit { OnOk result (RowsFit rows.new) }
     ensures frame { rows.new ≡ record rows.old { stamps = rows.new.stamps } }
     ensures entries { OnOk result (PairsFit stamp rows.old column.old → PairsFit stamp rows.new column.new) }
-    ensures fault { (before : List Line) (earlier : List Entry) → ((name : List ℕ) → is_declared before name ≡ list_any (bytes_eq name) (names_of rows.old.names))
-        → StampsAre rows.old.stamps.items stamp (names_of rows.old.names) (λ row. list_any (names (field 0 (bytes_of fields.now)) row) earlier)
-        → Answers result (entries_fault before earlier (line_entries (bytes_of fields.now))) }
+    ensures fault { (lines : List LineFields) (has : List ℕ → Bool) → ((name : List ℕ) → is_declared lines name ≡ list_any (bytes_eq name) (names_of rows.old.names))
+        → StampsAre rows.old.stamps.items stamp (names_of rows.old.names) has
+        → Answers result (pairs_fault lines (λ pair. None) has (pairs (drop 1 (bytes_of fields.now)))) }
     ensures stamps { OnOk result ((earlier : List Entry) → StampsAre rows.old.stamps.items stamp (names_of rows.old.names) (λ row. list_any (names (field 0 (bytes_of fields.now)) row) earlier)
         → StampsAre rows.new.stamps.items stamp (names_of rows.old.names) (λ row. list_any (names (field 0 (bytes_of fields.now)) row) (line_entries (bytes_of fields.now) ++ earlier))) }
     ensures low { OnOk result (AreStampsUpTo stamp rows.old → AreStampsUpTo stamp rows.new) }
     ensures tells { OnOk result (PairsFit stamp rows.old column.old → (earlier : List Entry) → StampsAre rows.old.stamps.items stamp (names_of rows.old.names) (λ row. list_any (names (field 0 (bytes_of fields.now)) row) earlier)
-        → OpenTells (option_now rows.old.objective) (row_names rows.old.rows.items) (coefficient_in earlier (field 0 (bytes_of fields.now))) column.old
-        → OpenTells (option_now rows.old.objective) (row_names rows.old.rows.items) (coefficient_in (line_entries (bytes_of fields.now) ++ earlier) (field 0 (bytes_of fields.now))) column.new) }
+        → OpenTells (option_now rows.old.objective) (row_names rows.old.rows.items) (coefficient earlier (field 0 (bytes_of fields.now))) column.old
+        → OpenTells (option_now rows.old.objective) (row_names rows.old.rows.items) (coefficient (line_entries (bytes_of fields.now) ++ earlier) (field 0 (bytes_of fields.now))) column.new) }
 {
     take_entry(rows, column, stamp, fields[1], fields[2])?;
     if fields.len() == 5 {
@@ -139,8 +141,8 @@ pub fn take_column_line<'t>(
     ensures fit { OnOk result (RowsFit rows.new) }
     ensures frame { rows.new ≡ record rows.old { stamps = rows.new.stamps } }
     ensures columns { OnOk result (BothFit rows.old columns.old → BothFit rows.new columns.new) }
-    ensures fault { (before : List Line) → ((name : List ℕ) → is_declared before name ≡ list_any (bytes_eq name) (names_of rows.old.names)) → BothFit rows.old columns.old
-        → ColumnsTell (option_now rows.old.objective) (row_names rows.old.rows.items) (data_under (codes "COLUMNS") before) [] columns.old → InColumns (data_under (codes "COLUMNS") before) [] [] rows.old columns.old
+    ensures fault { (before : Sections) → ((name : List ℕ) → is_declared before.rows name ≡ list_any (bytes_eq name) (names_of rows.old.names)) → BothFit rows.old columns.old
+        → ColumnsTell (option_now rows.old.objective) (row_names rows.old.rows.items) before.columns [] columns.old → InColumns before.columns [] [] rows.old columns.old
         → Answers result (column_fault before (bytes_of fields.now)) }
     ensures tells { OnOk result ((lines : List LineFields) → BothFit rows.old columns.old → ColumnsTell (option_now rows.old.objective) (row_names rows.old.rows.items) lines [] columns.old → InColumns lines [] [] rows.old columns.old
         → ColumnsTell (option_now rows.old.objective) (row_names rows.old.rows.items) (bytes_of fields.now ∷ lines) [] columns.new × InColumns (bytes_of fields.now ∷ lines) [] [] rows.new columns.new) }

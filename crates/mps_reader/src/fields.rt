@@ -1,8 +1,10 @@
 //! The fields of a line.
 
-ghost use Rattle.std.specs.Prelude.{◌≡◌, ◌≤◌, ◌∷◌, [], take, drop, length, position, MatchOption};
-ghost use Rattle.program_rows.specs.Lines.{fields, is_space};
-ghost use Rattle.mps_reader.specs.inside.Reading.{bytes_of, is_other};
+ghost use Rattle.std.specs.Prelude.{◌≡◌, ◌≤◌, ◌∷◌, [], true, false, take, drop, length, position, MatchOption, IfOk, OnErr};
+ghost use Rattle.std.specs.List.{list_all};
+ghost use Rattle.program_rows.specs.Lines.{fields, is_space, is_text_byte};
+ghost use Rattle.auction_terms.specs.Borrowed.{bytes_of};
+ghost use Rattle.mps_reader.specs.inside.Reading.{is_other, is_behind};
 
 use arrayvec::ArrayVec;
 
@@ -18,13 +20,41 @@ fn is_space_byte(b: u8) -> bool
 fn field_start(rest: &[u8]) -> Option<usize>
     ensures { result ≡ position is_other rest.now }
 {
-    rest.iter().position(|b| !is_space_byte(*b))
+    let mut i = 0;
+    while i < rest.len() {
+        if !is_space_byte(rest[i]) {
+            return Some(i);
+        }
+        i += 1;
+    }
+    None
 }
 
-fn field_end(text: &[u8]) -> Option<usize>
-    ensures { result ≡ position is_space text.now }
+fn is_behind_byte(b: u8) -> bool
+    ensures { result ≡ is_behind b }
 {
-    text.iter().position(|b| is_space_byte(*b))
+    !(b'!' <= b && b <= b'~')
+}
+
+/// Where the first byte stands that isn't of a field: white space, or one that no text has.
+fn field_end(text: &[u8]) -> Option<usize>
+    ensures { result ≡ position is_behind text.now }
+{
+    let mut i = 0;
+    while i < text.len() {
+        if is_behind_byte(text[i]) {
+            return Some(i);
+        }
+        i += 1;
+    }
+    None
+}
+
+fn is_text(line: &[u8]) -> bool
+    ensures { result ≡ list_all is_text_byte line.now }
+{
+    line.iter()
+        .all(|b| *b == b'\t' || (b' ' <= *b && *b <= b'~'))
 }
 
 fn from(text: &[u8], start: usize) -> &[u8]
@@ -34,31 +64,46 @@ fn from(text: &[u8], start: usize) -> &[u8]
     &text[start..]
 }
 
+/// A byte stands among the fields that no text has.
+#[derive(Clone, Copy)]
+pub struct NotText;
+
 /// The first field of a text, and what stands behind it.
-fn next_field(rest: &[u8]) -> Option<(&[u8], &[u8])>
-    ensures { MatchOption result (fields rest.now ≡ []) (λ found. fields rest.now ≡ found.0.now ∷ fields found.1.now) }
+fn next_field(rest: &[u8]) -> Result<Option<(&[u8], &[u8])>, NotText>
+    ensures fields { IfOk result (λ found. MatchOption found (fields rest.now ≡ []) (λ found. fields rest.now ≡ found.0.now ∷ fields found.1.now)) }
+    ensures text { IfOk result (λ found. MatchOption found (list_all is_text_byte rest.now ≡ true) (λ found. list_all is_text_byte rest.now ≡ list_all is_text_byte found.1.now)) }
+    ensures other { OnErr result (list_all is_text_byte rest.now ≡ false) }
 {
     let Some(start) = field_start(rest) else {
-        return None;
+        return Ok(None);
     };
     let text = from(rest, start);
-    match field_end(text) {
-        Some(end) => Some((&text[..end], from(text, end + 1))),
-        None => Some((text, from(text, text.len()))),
+    let Some(end) = field_end(text) else {
+        return Ok(Some((text, from(text, text.len()))));
+    };
+    if !is_space_byte(text[end]) {
+        return Err(NotText);
     }
+    Ok(Some((&text[..end], from(text, end + 1))))
 }
 
-pub fn first_fields(line: &[u8]) -> Fields<'_>
-    ensures { bytes_of result.items ≡ take 6 (fields line.now) }
+/// The first fields of a line of text.
+pub fn first_fields(line: &[u8]) -> Result<Fields<'_>, NotText>
+    ensures fields { IfOk result (λ found. bytes_of found.items ≡ take 6 (fields line.now)) }
+    ensures text { IfOk result (λ _. list_all is_text_byte line.now ≡ true) }
+    ensures other { OnErr result (list_all is_text_byte line.now ≡ false) }
 {
     let mut fields = ArrayVec::new();
     let mut rest = line;
     while !fields.is_full() {
-        let Some((field, behind)) = next_field(rest) else {
-            return fields;
+        let Some((field, behind)) = next_field(rest)? else {
+            return Ok(fields);
         };
         fields.push(field);
         rest = behind;
     }
-    fields
+    if !is_text(rest) {
+        return Err(NotText);
+    }
+    Ok(fields)
 }

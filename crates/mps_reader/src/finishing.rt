@@ -1,8 +1,8 @@
 //! The program at the end of a text.
 
-ghost use Rattle.std.specs.Prelude.{◌≡◌, List, not, map, true, false, position, option_map, is_some, Some, IfOk};
-ghost use Rattle.program_rows.specs.Lines.{Line};
-ghost use Rattle.program_rows.specs.Meaning.{program};
+ghost use Rattle.std.specs.Prelude.{◌≡◌, not, map, true, false, position, option_map, is_some, Some, IfOk};
+ghost use Rattle.program_rows.specs.Sections.{Sections};
+ghost use Rattle.program_rows.specs.Described.{program};
 ghost use Rattle.program_rows.specs.declared.fault.FaultKind.TheVariants.{NotBinary};
 ghost use Rattle.mps_reader.specs.inside.Reading.{Answers};
 ghost use Rattle.mps_reader.specs.inside.Tracking.{ReadingTells};
@@ -74,7 +74,7 @@ pub fn finished<'t>(alloc: Global, reading: Reading<'t>) -> Result<Program, Allo
     requires fit { ReadingFits reading }
     requires closed { is_some reading.columns.current ≡ false }
     requires objective { is_some reading.rows.objective ≡ true }
-    ensures { IfOk result (λ made. (before : List Line) → ReadingTells before reading.entry → program before ≡ made) }
+    ensures { IfOk result (λ made. (before : Sections) → ReadingTells before reading.entry → program before ≡ made) }
 {
     let Reading { rows, columns, .. } = reading;
     let bounds = all_bounds(alloc, columns.states.as_slice())?;

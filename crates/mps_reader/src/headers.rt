@@ -1,10 +1,13 @@
 //! Headers: the sections and their order.
 
-ghost use Rattle.std.specs.Prelude.{◌≡◌, ◌∷◌, [], ◌==◌, ◌<◌, ◌&&◌, ℕ, List, not, codes, nat_lt, length, is_none, bytes_eq, true, IfOk, OnOk, Option, None, if◌then◌else◌};
-ghost use Rattle.program_rows.specs.Lines as spec;
+ghost use Rattle.std.specs.Prelude.{◌≡◌, ◌∷◌, [], ◌==◌, ◌<◌, ◌&&◌, not, codes, nat_lt, length, is_none, bytes_eq, true, IfOk, OnOk, None, if◌then◌else◌};
 ghost use Rattle.program_rows.specs.declared.fault.FaultKind.TheVariants.{SectionLeftOut, Section, Fields, NoObjective};
-ghost use Rattle.program_rows.specs.Meaning.{is_one_of, sections_left_out, place_of, section, objective, earliest_fault, when, sense_fault, field, header_fault, not_binary};
-ghost use Rattle.mps_reader.specs.inside.Reading.{bytes_of, Answers, AnswersUpTo};
+ghost use Rattle.program_rows.specs.Lines.{field};
+ghost use Rattle.program_rows.specs.Sections.{Sections};
+ghost use Rattle.program_rows.specs.Described.{is_one_of, first_free};
+ghost use Rattle.program_rows.specs.Faults.{sections_left_out, place_of, earliest_fault, when, sense_fault, header_fault, not_binary};
+ghost use Rattle.auction_terms.specs.Borrowed.{bytes_of};
+ghost use Rattle.mps_reader.specs.inside.Reading.{Answers, AnswersUpTo};
 ghost use Rattle.mps_reader.specs.inside.Sections.{word_of};
 
 use crate::refusal::Refusal;
@@ -78,7 +81,7 @@ pub fn take_header(
     word: &[u8],
     more: &[&[u8]],
 ) -> Result<Section, Refusal>
-    ensures fault { (before : List spec.Line) → section before ≡ word_of opened → is_none (objective before) ≡ not has_objective
+    ensures fault { (before : Sections) → before.section ≡ word_of opened → is_none (first_free before.rows) ≡ not has_objective
         → AnswersUpTo result (header_fault before word.now (bytes_of more.now)) (if bytes_eq word.now (codes "ENDATA") then not_binary before else None) }
     ensures objective { OnOk result (bytes_eq word.now (codes "ENDATA") ≡ true → has_objective ≡ true) }
     ensures opened { IfOk result (λ section. word_of section ≡ word.now) }

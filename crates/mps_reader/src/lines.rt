@@ -1,8 +1,7 @@
 //! What the lines of an MPS text are.
 
 ghost use Rattle.std.specs.Prelude.{◌≡◌, ◌≤◌, ◌==◌, length, slice_index};
-ghost use Rattle.std.specs.List.{list_all};
-ghost use Rattle.program_rows.specs.Lines.{line_of, is_space, is_text_byte};
+ghost use Rattle.program_rows.specs.Lines.{line_of, is_space};
 ghost use Rattle.mps_reader.specs.inside.Reading.{IsLine};
 
 use crate::fields::{Fields, first_fields};
@@ -14,13 +13,6 @@ pub enum Line<'t> {
     Unprintable,
     Header(Fields<'t>),
     Data(Fields<'t>),
-}
-
-fn is_text(line: &[u8]) -> bool
-    ensures { result ≡ list_all is_text_byte line.now }
-{
-    line.iter()
-        .all(|b| *b == b'\t' || (b' ' <= *b && *b <= b'~'))
 }
 
 fn is_comment(line: &[u8]) -> bool
@@ -47,12 +39,11 @@ pub fn read_line(bytes: &[u8]) -> Line<'_>
     if is_comment(bytes) {
         return Line::Skipped;
     }
-    let fields = first_fields(bytes);
+    let Ok(fields) = first_fields(bytes) else {
+        return Line::Unprintable;
+    };
     if fields.is_empty() {
         return Line::Skipped;
-    }
-    if !is_text(bytes) {
-        return Line::Unprintable;
     }
     if is_data(bytes) {
         return Line::Data(fields);

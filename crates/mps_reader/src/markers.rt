@@ -1,9 +1,11 @@
 //! Marker lines of COLUMNS.
 
 ghost use Rattle.std.specs.Prelude.{◌≡◌, ◌∷◌, [], ◌&&◌, List, not, true, codes, bytes_eq, IfOk};
-ghost use Rattle.program_rows.specs.Lines as spec;
-ghost use Rattle.program_rows.specs.Meaning.{is_one_of, data_under, is_marker, is_integer_open, marker_fault, field};
-ghost use Rattle.mps_reader.specs.inside.Reading.{bytes_of, Answers};
+ghost use Rattle.program_rows.specs.Lines.{LineFields, field};
+ghost use Rattle.program_rows.specs.Described.{is_one_of, is_marker};
+ghost use Rattle.program_rows.specs.Faults.{is_integer_open, marker_fault};
+ghost use Rattle.auction_terms.specs.Borrowed.{bytes_of};
+ghost use Rattle.mps_reader.specs.inside.Reading.{Answers};
 
 use crate::refusal::Refusal;
 use crate::words::is;
@@ -39,7 +41,7 @@ pub fn names_marker(fields: &[&[u8]]) -> bool
 
 /// A marker line: whether integers are begun behind it.
 pub fn take_marker(is_begun: bool, fields: &[&[u8]]) -> Result<bool, Refusal>
-    ensures fault { (before : List spec.Line) → is_integer_open (data_under (codes "COLUMNS") before) ≡ is_begun → Answers result (marker_fault before (bytes_of fields.now)) }
+    ensures fault { (lines : List LineFields) → is_integer_open lines ≡ is_begun → Answers result (marker_fault lines (bytes_of fields.now)) }
     ensures value { IfOk result (λ now. now ≡ bytes_eq (field 2 (bytes_of fields.now)) (codes "'INTORG'")) }
 {
     if fields.len() != 3 {

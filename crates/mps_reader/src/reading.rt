@@ -1,12 +1,14 @@
 //! What the lines so far say.
 
-ghost use Rattle.std.specs.Prelude.{◌≡◌, ◌≢◌, ◌≤◌, ◌∷◌, [], List, length, drop, codes, bytes_eq, true, false, is_some, OnOk, IfOk};
+ghost use Rattle.std.specs.Prelude.{◌≡◌, ◌≢◌, ◌≤◌, length, drop, codes, bytes_eq, true, false, is_some, OnOk, IfOk};
 ghost use Rattle.std.specs.List.{AllByRecursion};
 ghost use Rattle.program_rows.specs.Lines as spec;
-ghost use Rattle.program_rows.specs.Lines.{Unprintable, line_of};
-ghost use Rattle.program_rows.specs.Meaning.{LineFields, field, is_end, fault, header_fault, data_fault};
+ghost use Rattle.program_rows.specs.Lines.{Unprintable, line_of, LineFields, field};
+ghost use Rattle.program_rows.specs.Sections.{Sections, no_lines, with_line, is_end};
+ghost use Rattle.program_rows.specs.Faults.{fault, header_fault, data_fault};
 ghost use Rattle.program_rows.specs.Parts.{IsName};
-ghost use Rattle.mps_reader.specs.inside.Reading.{bytes_of, Answers};
+ghost use Rattle.auction_terms.specs.Borrowed.{bytes_of};
+ghost use Rattle.mps_reader.specs.inside.Reading.{Answers};
 ghost use Rattle.mps_reader.specs.inside.Fit.{ReadingFits};
 ghost use Rattle.mps_reader.specs.inside.Tracking.{ReadingTells};
 
@@ -31,7 +33,7 @@ use std::alloc::Global;
 /// Nothing, before the first line. The seed is that of the sets of names.
 pub fn start<'t>(alloc: Global, seed: Seeded) -> Reading<'t>
     ensures fit { ReadingFits result }
-    ensures tells { ReadingTells [] result }
+    ensures tells { ReadingTells no_lines result }
 {
     Reading {
         section: Section::Start,
@@ -47,8 +49,8 @@ fn take_header_line<'t>(reading: &mut Reading<'t>, fields: &[&'t [u8]]) -> Resul
     ensures fit { OnOk result (ReadingFits reading.new) }
     ensures closed { IfOk result (λ is_end. is_end ≡ true → is_some reading.new.columns.current ≡ false) }
     ensures objective { IfOk result (λ is_end. is_end ≡ true → is_some reading.new.rows.objective ≡ true) }
-    ensures fault { (before : List spec.Line) → ReadingTells before reading.old → Answers result (header_fault before (field 0 (bytes_of fields.now)) (drop 1 (bytes_of fields.now))) }
-    ensures tells { OnOk result ((before : List spec.Line) (more : LineFields) → ReadingTells before reading.old → ReadingTells (spec.Header (field 0 (bytes_of fields.now)) more ∷ before) reading.new) }
+    ensures fault { (before : Sections) → ReadingTells before reading.old → Answers result (header_fault before (field 0 (bytes_of fields.now)) (drop 1 (bytes_of fields.now))) }
+    ensures tells { OnOk result ((before : Sections) (more : LineFields) → ReadingTells before reading.old → ReadingTells (with_line before (spec.Header (field 0 (bytes_of fields.now)) more)) reading.new) }
 {
     close_column(&mut reading.columns)?;
     let has_objective = reading.rows.objective.is_some();
@@ -65,8 +67,8 @@ fn take_data<'t>(reading: &mut Reading<'t>, fields: &[&'t [u8]]) -> Result<(), R
     requires some { 1 ≤ length fields.now }
     requires names { AllByRecursion IsName (bytes_of fields.now) }
     ensures fit { OnOk result (ReadingFits reading.new) }
-    ensures fault { (before : List spec.Line) → ReadingTells before reading.old → Answers result (data_fault before (bytes_of fields.now)) }
-    ensures tells { OnOk result ((before : List spec.Line) → ReadingTells before reading.old → ReadingTells (spec.Data (bytes_of fields.now) ∷ before) reading.new) }
+    ensures fault { (before : Sections) → ReadingTells before reading.old → Answers result (data_fault before (bytes_of fields.now)) }
+    ensures tells { OnOk result ((before : Sections) → ReadingTells before reading.old → ReadingTells (with_line before (spec.Data (bytes_of fields.now))) reading.new) }
 {
     match reading.section {
         Section::Sense => take_sense_line(fields),
@@ -98,8 +100,8 @@ pub fn take_line<'t>(reading: &mut Reading<'t>, line: &'t [u8]) -> Result<bool, 
     ensures fit { OnOk result (ReadingFits reading.new) }
     ensures closed { IfOk result (λ is_end. is_end ≡ true → is_some reading.new.columns.current ≡ false) }
     ensures objective { IfOk result (λ is_end. is_end ≡ true → is_some reading.new.rows.objective ≡ true) }
-    ensures fault { (before : List spec.Line) → ReadingTells before reading.old → Answers result (fault before (line_of line.now)) }
-    ensures tells { OnOk result ((before : List spec.Line) → ReadingTells before reading.old → ReadingTells (line_of line.now ∷ before) reading.new) }
+    ensures fault { (before : Sections) → ReadingTells before reading.old → Answers result (fault before (line_of line.now)) }
+    ensures tells { OnOk result ((before : Sections) → ReadingTells before reading.old → ReadingTells (with_line before (line_of line.now)) reading.new) }
 {
     match read_line(line) {
         Line::Skipped => Ok(false),

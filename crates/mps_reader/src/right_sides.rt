@@ -3,13 +3,15 @@
 ghost use Rattle.std.specs.Prelude.{◌≡◌, ◌≤◌, ◌<◌, ◌==◌, ◌&&◌, ◌||◌, ◌∷◌, ◌++◌, ℕ, ℤ, Bool, List, not, true, false, length, map, bytes_eq, nat_le, pos, if◌then◌else◌, OnOk};
 ghost use Rattle.std.specs.List.{list_any};
 ghost use Rattle.std.specs.Option.{option_map_or};
-ghost use Rattle.program_rows.specs.Lines.{Line};
-ghost use Rattle.program_rows.specs.Meaning.{LineFields, pairs, value, is_declared, is_objective, right_sides, right_sides_fault, right_side_fault};
-ghost use Rattle.mps_reader.specs.inside.Reading.{bytes_of, Answers};
+ghost use Rattle.program_rows.specs.Lines.{LineFields};
+ghost use Rattle.program_rows.specs.Sections.{Sections};
+ghost use Rattle.program_rows.specs.Described.{pairs, value, all_right_sides, right_side};
+ghost use Rattle.program_rows.specs.Faults.{is_declared, is_objective, constant_fault, pairs_fault, right_side_fault};
+ghost use Rattle.auction_terms.specs.Borrowed.{bytes_of};
+ghost use Rattle.mps_reader.specs.inside.Reading.{Answers};
 ghost use Rattle.std.specs.Ordering.{int_eq};
 ghost use Rattle.program_rows.specs.Parts.{shown_row};
-ghost use Rattle.mps_reader.specs.inside.Rows.{RowsFit, StampsAre, names_of, with_side};
-ghost use Rattle.mps_reader.specs.inside.Told.{rows_by, side_in, side_fault, told_right_sides};
+ghost use Rattle.mps_reader.specs.inside.Rows.{RowsFit, StampsAre, names_of, with_side, rows_by, side_fault};
 ghost use Rattle.mps_reader.specs.inside.Tracking.{RowsTell};
 
 use crate::refusal::Refusal;
@@ -76,14 +78,14 @@ fn take_right_sides<'t>(rows: &mut Rows<'t>, stamp: usize, fields: &[&[u8]]) -> 
     ensures count { OnOk result (length rows.new.rows.items ≡ length rows.old.rows.items) }
     ensures objective { rows.new.objective ≡ rows.old.objective }
     ensures names { rows.new.names ≡ rows.old.names }
-    ensures fault { (before : List Line) (earlier : List (List ℕ × List ℕ)) → ((name : List ℕ) → is_declared before name ≡ list_any (bytes_eq name) (names_of rows.old.names))
-        → ((name : List ℕ) → is_objective before name ≡ option_map_or (λ other. bytes_eq name other.now) rows.old.objective false)
-        → StampsAre rows.old.stamps.items stamp (names_of rows.old.names) (λ row. list_any (λ other. bytes_eq row other.0) earlier)
-        → Answers result (right_sides_fault before earlier (pairs (bytes_of fields.now))) }
+    ensures fault { (lines : List LineFields) (has : List ℕ → Bool) → ((name : List ℕ) → is_declared lines name ≡ list_any (bytes_eq name) (names_of rows.old.names))
+        → ((name : List ℕ) → is_objective lines name ≡ option_map_or (λ other. bytes_eq name other.now) rows.old.objective false)
+        → StampsAre rows.old.stamps.items stamp (names_of rows.old.names) has
+        → Answers result (pairs_fault lines (constant_fault lines) has (pairs (bytes_of fields.now))) }
     ensures stamps { OnOk result ((earlier : List (List ℕ × List ℕ)) → StampsAre rows.old.stamps.items stamp (names_of rows.old.names) (λ row. list_any (λ other. bytes_eq row other.0) earlier)
         → StampsAre rows.new.stamps.items stamp (names_of rows.old.names) (λ row. list_any (λ other. bytes_eq row other.0) (pairs (bytes_of fields.now) ++ earlier))) }
     ensures rows { OnOk result ((earlier : List (List ℕ × List ℕ)) (lines : List LineFields) → StampsAre rows.old.stamps.items stamp (names_of rows.old.names) (λ row. list_any (λ other. bytes_eq row other.0) earlier)
-        → map shown_row rows.old.rows.items ≡ rows_by (side_in earlier) lines → map shown_row rows.new.rows.items ≡ rows_by (side_in (pairs (bytes_of fields.now) ++ earlier)) lines) }
+        → map shown_row rows.old.rows.items ≡ rows_by (right_side earlier) lines → map shown_row rows.new.rows.items ≡ rows_by (right_side (pairs (bytes_of fields.now) ++ earlier)) lines) }
 {
     take_right_side(rows, stamp, fields[0], fields[1])?;
     if fields.len() == 4 {
@@ -104,13 +106,13 @@ pub fn take_right_side_line<'t>(
     ensures count { OnOk result (length rows.new.rows.items ≡ length rows.old.rows.items) }
     ensures objective { rows.new.objective ≡ rows.old.objective }
     ensures names { rows.new.names ≡ rows.old.names }
-    ensures fault { (before : List Line) → ((name : List ℕ) → is_declared before name ≡ list_any (bytes_eq name) (names_of rows.old.names))
-        → ((name : List ℕ) → is_objective before name ≡ option_map_or (λ other. bytes_eq name other.now) rows.old.objective false)
-        → StampsAre rows.old.stamps.items stamp (names_of rows.old.names) (λ row. list_any (λ other. bytes_eq row other.0) (right_sides before))
+    ensures fault { (before : Sections) → ((name : List ℕ) → is_declared before.rows name ≡ list_any (bytes_eq name) (names_of rows.old.names))
+        → ((name : List ℕ) → is_objective before.rows name ≡ option_map_or (λ other. bytes_eq name other.now) rows.old.objective false)
+        → StampsAre rows.old.stamps.items stamp (names_of rows.old.names) (λ row. list_any (λ other. bytes_eq row other.0) (all_right_sides before.right_sides))
         → Answers result (right_side_fault before (bytes_of fields.now)) }
-    ensures stamps { OnOk result ((rights : List LineFields) → StampsAre rows.old.stamps.items stamp (names_of rows.old.names) (λ row. list_any (λ other. bytes_eq row other.0) (told_right_sides rights))
-        → StampsAre rows.new.stamps.items stamp (names_of rows.old.names) (λ row. list_any (λ other. bytes_eq row other.0) (told_right_sides (bytes_of fields.now ∷ rights)))) }
-    ensures tells { OnOk result ((lines rights : List LineFields) → StampsAre rows.old.stamps.items stamp (names_of rows.old.names) (λ row. list_any (λ other. bytes_eq row other.0) (told_right_sides rights))
+    ensures stamps { OnOk result ((rights : List LineFields) → StampsAre rows.old.stamps.items stamp (names_of rows.old.names) (λ row. list_any (λ other. bytes_eq row other.0) (all_right_sides rights))
+        → StampsAre rows.new.stamps.items stamp (names_of rows.old.names) (λ row. list_any (λ other. bytes_eq row other.0) (all_right_sides (bytes_of fields.now ∷ rights)))) }
+    ensures tells { OnOk result ((lines rights : List LineFields) → StampsAre rows.old.stamps.items stamp (names_of rows.old.names) (λ row. list_any (λ other. bytes_eq row other.0) (all_right_sides rights))
         → RowsTell lines rights rows.old → RowsTell lines (bytes_of fields.now ∷ rights) rows.new) }
 {
     refuse!(!is_two_to_five(fields.len()), Fields);

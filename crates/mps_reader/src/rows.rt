@@ -4,9 +4,12 @@ ghost use Rattle.std.specs.Prelude.{◌≡◌, ◌≤◌, ◌∷◌, [], ◌++�
 ghost use Rattle.std.specs.List.{list_any, slice_set, AllByRecursion};
 ghost use Rattle.std.specs.Option.{option_map, option_map_or};
 ghost use Rattle.program_rows.specs.declared.fault.FaultKind.TheVariants.{Fields, RowType, RowRepeated, UnknownRow, EntryRepeated};
-ghost use Rattle.program_rows.specs.Meaning.{is_one_of, row_types, kind_of, field, earliest_fault, when, LineFields};
+ghost use Rattle.program_rows.specs.Lines.{field, LineFields};
+ghost use Rattle.program_rows.specs.Described.{is_one_of, kind_of};
+ghost use Rattle.program_rows.specs.Faults.{row_types, earliest_fault, when};
 ghost use Rattle.program_rows.specs.Parts.{shown_row, IsName};
-ghost use Rattle.mps_reader.specs.inside.Reading.{bytes_of, Answers};
+ghost use Rattle.auction_terms.specs.Borrowed.{bytes_of};
+ghost use Rattle.mps_reader.specs.inside.Reading.{Answers};
 ghost use Rattle.mps_reader.specs.inside.Rows.{names_of, RowsFit, AddsFree, AddsBound, StampsAre};
 ghost use Rattle.mps_reader.specs.inside.Tracking.{RowsTell, AreStampsUpTo};
 

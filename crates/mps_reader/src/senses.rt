@@ -1,8 +1,10 @@
 //! Senses: an objective is minimised.
 
 ghost use Rattle.std.specs.Prelude.{◌≡◌, ◌∷◌, [], codes};
-ghost use Rattle.program_rows.specs.Meaning.{is_one_of, sense_fault, objsense_fault};
-ghost use Rattle.mps_reader.specs.inside.Reading.{bytes_of, Answers};
+ghost use Rattle.program_rows.specs.Described.{is_one_of};
+ghost use Rattle.program_rows.specs.Faults.{sense_fault, objsense_fault};
+ghost use Rattle.auction_terms.specs.Borrowed.{bytes_of};
+ghost use Rattle.mps_reader.specs.inside.Reading.{Answers};
 
 use crate::refusal::Refusal;
 use crate::words::is;

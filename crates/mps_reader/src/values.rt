@@ -1,7 +1,8 @@
 //! Numbers of a line.
 
 ghost use Rattle.std.specs.Prelude.{◌≡◌, IfOk};
-ghost use Rattle.program_rows.specs.Meaning.{number_fault, bit_fault, value};
+ghost use Rattle.program_rows.specs.Described.{value};
+ghost use Rattle.program_rows.specs.Faults.{number_fault, bit_fault};
 ghost use Rattle.mps_reader.specs.inside.Reading.{Answers};
 ghost use Rattle.mps_reader.specs.inside.Tracking.{bit};
 

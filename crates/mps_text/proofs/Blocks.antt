@@ -1,42 +1,41 @@
 -- Reading line after line, and what the lines of a block leave.
-use Rattle.std.proofs.Common.{◌≡◌, ℕ, true, false, List, [], ◌∷◌, ◌++◌, map, reverse, refl, sym, ◌∙◌, append_assoc, None}
-use Rattle.std.specs.Prelude.{bytes_eq}
-use Rattle.std.proofs.lemmas.List.{reverse-append}
-use Rattle.program_rows.specs.Lines.{Line, Data}
-use Rattle.program_rows.specs.Meaning.{LineFields, section, data_under, fault, is_end, meaning_from}
+use Rattle.std.proofs.Common.{◌≡◌, ℕ, ◌+◌, false, List, [], ◌∷◌, ◌++◌, map, refl, None}
+use Rattle.std.specs.Prelude.{codes}
+use Rattle.program_rows.specs.Lines.{LineFields, Line, Header, Data}
+use Rattle.program_rows.specs.Sections.{Sections, with_line, is_end, gathered}
+use Rattle.program_rows.specs.Faults.{fault, first_faulty}
 
--- the lines ls, read behind the lines before
-abbrev pub onto : List Line → List Line → List Line
+-- the lines ls, read behind others
+abbrev pub onto : List Line → Sections → Sections
 onto [] before = before
-onto (line ∷ ls) before = onto ls (line ∷ before)
+onto (line ∷ ls) before = onto ls (with_line before line)
 
 -- no line of these is faulty behind those before it, and none is the end
-abbrev pub AreRead : List Line → List Line → Type 0
+abbrev pub AreRead : Sections → List Line → Type 0
 AreRead before [] = Unit {0}
-AreRead before (line ∷ ls) = (fault before line ≡ None) × (is_end line ≡ false) × AreRead (line ∷ before) ls
+AreRead before (line ∷ ls) = (fault before line ≡ None) × (is_end line ≡ false) × AreRead (with_line before line) ls
 
-pub meaning-read : (before ls after : List Line) → AreRead before ls → meaning_from before (ls ++ after) ≡ meaning_from (onto ls before) after
-meaning-read before [] after h = refl
-meaning-read before (line ∷ ls) after h = rw (h.0, h.1) (meaning-read (line ∷ before) ls after h.2)
+abbrev pub end_line : Line
+end_line = Header (codes "ENDATA") []
 
-pub AreRead-append : (before xs ys : List Line) → AreRead before xs → AreRead (onto xs before) ys → AreRead before (xs ++ ys)
+-- lines that are read, and then the end
+pub none-faulty : (n : ℕ) (before : Sections) (ls : List Line) → AreRead before ls → fault (onto ls before) end_line ≡ None → first_faulty n before (ls ++ end_line ∷ []) ≡ None
+none-faulty n before [] h e = rw e refl
+none-faulty n before (line ∷ ls) h e = rw (h.0, h.1) (none-faulty (n + 1) (with_line before line) ls h.2 e)
+
+pub all-gathered : (before : Sections) (ls : List Line) → AreRead before ls → gathered before (ls ++ end_line ∷ []) ≡ onto ls before
+all-gathered before [] h = refl
+all-gathered before (line ∷ ls) h = rw h.1 (all-gathered (with_line before line) ls h.2)
+
+pub AreRead-append : (before : Sections) (xs ys : List Line) → AreRead before xs → AreRead (onto xs before) ys → AreRead before (xs ++ ys)
 AreRead-append before [] ys h k = k
-AreRead-append before (x ∷ xs) ys h k = (h.0, h.1, AreRead-append (x ∷ before) xs ys h.2 k)
+AreRead-append before (x ∷ xs) ys h k = (h.0, h.1, AreRead-append (with_line before x) xs ys h.2 k)
 
-pub onto-append : (xs ys before : List Line) → onto (xs ++ ys) before ≡ onto ys (onto xs before)
+pub onto-append : (xs ys : List Line) (before : Sections) → onto (xs ++ ys) before ≡ onto ys (onto xs before)
 onto-append [] ys before = refl
-onto-append (x ∷ xs) ys before = onto-append xs ys (x ∷ before)
+onto-append (x ∷ xs) ys before = onto-append xs ys (with_line before x)
 
 -- data lines leave the section
-pub section-onto : (lines : List LineFields) (before : List Line) → section (onto (map Data lines) before) ≡ section before
+pub section-onto : (lines : List LineFields) (before : Sections) → (onto (map Data lines) before).section ≡ before.section
 section-onto [] before = refl
-section-onto (line ∷ lines) before = section-onto lines (Data line ∷ before)
-
-pub under-onto : (word : List ℕ) (lines : List LineFields) (before : List Line) → bytes_eq (section before) word ≡ true → data_under word (onto (map Data lines) before) ≡ reverse lines ++ data_under word before
-under-onto word [] before h = refl
-under-onto word (line ∷ lines) before h =
-    under-onto word lines (Data line ∷ before) h ∙ rw (h, reverse-append (line ∷ []) lines) (sym (append_assoc (reverse lines) (line ∷ []) (data_under word before)))
-
-pub under-onto_other : (word : List ℕ) (lines : List LineFields) (before : List Line) → bytes_eq (section before) word ≡ false → data_under word (onto (map Data lines) before) ≡ data_under word before
-under-onto_other word [] before h = refl
-under-onto_other word (line ∷ lines) before h = under-onto_other word lines (Data line ∷ before) h ∙ rw h refl
+section-onto (line ∷ lines) before = section-onto lines (with_line before (Data line))

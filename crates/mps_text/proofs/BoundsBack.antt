@@ -5,9 +5,11 @@ use Rattle.std.specs.List.{AllByRecursion, IsDistinct}
 use Rattle.program_rows.specs.declared.bounds.Bounds.{Bounds}
 use Rattle.program_rows.specs.declared.bounds.Bounds.TheVariants.{ZeroOrOne, Zero, One}
 use Rattle.program_rows.specs.Program.{TableColumn}
-use Rattle.program_rows.specs.Lines.{Line}
+use Rattle.program_rows.specs.Lines.{LineFields, field}
+use Rattle.program_rows.specs.Sections.{Sections}
+use Rattle.program_rows.specs.Described.{is_one_of, bound_column, table_bounds}
+use Rattle.program_rows.specs.Faults.{is_binary, stands_in_integers}
 use Rattle.program_rows.specs.Numbers.{number}
-use Rattle.program_rows.specs.Meaning.{LineFields, field, is_one_of, bound_column, bound_lines, bounds, is_binary, stands_in_integers, data_under}
 use Rattle.mps_text.specs.Text.{bound_fields, bound_type, bound_value}
 use Rattle.mps_text.proofs.RowPhase.{flip}
 use Rattle.mps_text.proofs.ColumnPhase.{same-name}
@@ -63,15 +65,15 @@ abbrev pub line_for : List ℕ → Bounds → LineFields
 line_for name b = bound_type b ∷ codes "BND" ∷ name ∷ bound_value b ∷ []
 
 -- the bounds of a column come back
-pub bounds-back : (before : List Line) (name : List ℕ) (b : Bounds) → find (sets lower_types name) (bound_lines before) ≡ find (sets lower_types name) (line_for name b ∷ [])
-    → find (sets upper_types name) (bound_lines before) ≡ find (sets upper_types name) (line_for name b ∷ []) → bounds before name ≡ b
+pub bounds-back : (before : Sections) (name : List ℕ) (b : Bounds) → find (sets lower_types name) before.bounds ≡ find (sets lower_types name) (line_for name b ∷ [])
+    → find (sets upper_types name) before.bounds ≡ find (sets upper_types name) (line_for name b ∷ []) → table_bounds before.bounds name ≡ b
 unfolding number
 bounds-back before name ZeroOrOne low high = rw (low, high, same-name name) refl
 bounds-back before name Zero low high = rw (low, high, same-name name) refl
 bounds-back before name One low high = rw (low, high, same-name name) refl
 
-pub binary-back : (before : List Line) (name : List ℕ) (b : Bounds) → stands_in_integers name (data_under (codes "COLUMNS") before) ≡ true → find (sets lower_types name) (bound_lines before) ≡ find (sets lower_types name) (line_for name b ∷ [])
-    → find (sets upper_types name) (bound_lines before) ≡ find (sets upper_types name) (line_for name b ∷ []) → is_binary before name ≡ true
+pub binary-back : (before : Sections) (name : List ℕ) (b : Bounds) → stands_in_integers name before.columns ≡ true → find (sets lower_types name) before.bounds ≡ find (sets lower_types name) (line_for name b ∷ [])
+    → find (sets upper_types name) before.bounds ≡ find (sets upper_types name) (line_for name b ∷ []) → is_binary before name ≡ true
 unfolding number
 binary-back before name ZeroOrOne stands low high = rw (stands, low, high, same-name name) refl
 binary-back before name Zero stands low high = rw (stands, low, high, same-name name) refl

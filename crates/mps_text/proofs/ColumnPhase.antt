@@ -3,8 +3,10 @@ use Rattle.std.proofs.Common.{◌≡◌, ℕ, true, false, List, [], ◌∷◌, 
 use Rattle.std.specs.Prelude.{bytes_eq, codes, flat_map}
 use Rattle.std.specs.List.{list_any, AllByRecursion, IsDistinct}
 use Rattle.std.proofs.lemmas.Slice.Eq.{bytes_eq-Decides}
-use Rattle.program_rows.specs.Lines.{Line, Data}
-use Rattle.program_rows.specs.Meaning.{LineFields, section, fault, is_declared, is_split, is_column, entries, names, number_fault}
+use Rattle.program_rows.specs.Lines.{Line, Data, LineFields}
+use Rattle.program_rows.specs.Sections.{Sections, with_line}
+use Rattle.program_rows.specs.Described.{all_entries, names}
+use Rattle.program_rows.specs.Faults.{fault, is_declared, is_split, is_column, number_fault}
 use Rattle.mps_text.proofs.Blocks.{onto, AreRead, AreRead-append, section-onto}
 use Rattle.mps_text.proofs.RowPhase.{flip}
 
@@ -16,24 +18,24 @@ abbrev pub pair_fields : List ℕ → Pair → LineFields
 pair_fields column pair = column ∷ pair.0 ∷ pair.1 ∷ []
 
 -- this pair of the column can be read
-pub record IsReady (before : List Line) (column : List ℕ) (pair : Pair) : Type 0 where
-  pub declared : is_declared before pair.0 ≡ true
+pub record IsReady (before : Sections) (column : List ℕ) (pair : Pair) : Type 0 where
+  pub declared : is_declared before.rows pair.0 ≡ true
   pub plain : bytes_eq pair.0 (codes "'MARKER'") ≡ false
-  pub new : list_any (names column pair.0) (entries before) ≡ false
+  pub new : list_any (names column pair.0) (all_entries before.columns) ≡ false
   pub read : number_fault pair.1 ≡ None
 
 pub same-name : (name : List ℕ) → bytes_eq name name ≡ true
 same-name name = (bytes_eq-Decides name name).1 refl
 
-pair-read : (before : List Line) (column : List ℕ) (pair : Pair) → section before ≡ codes "COLUMNS" → is_split before column ≡ false → IsReady before column pair → fault before (Data (pair_fields column pair)) ≡ None
+pair-read : (before : Sections) (column : List ℕ) (pair : Pair) → before.section ≡ codes "COLUMNS" → is_split before.columns column ≡ false → IsReady before column pair → fault before (Data (pair_fields column pair)) ≡ None
 unfolding fault
 pair-read before column pair s whole h = rw (s, h.plain, whole, h.declared, h.new, h.read) refl
 
 -- the next line of the column goes on with it
-goes_on : (before : List Line) (column : List ℕ) (pair : Pair) → section before ≡ codes "COLUMNS" → bytes_eq pair.0 (codes "'MARKER'") ≡ false → is_split (Data (pair_fields column pair) ∷ before) column ≡ false
+goes_on : (before : Sections) (column : List ℕ) (pair : Pair) → before.section ≡ codes "COLUMNS" → bytes_eq pair.0 (codes "'MARKER'") ≡ false → is_split (with_line before (Data (pair_fields column pair))).columns column ≡ false
 goes_on before column pair s plain = rw (s, plain, same-name column) refl
 
-still_ready : (before : List Line) (column : List ℕ) (pair other : Pair) → section before ≡ codes "COLUMNS" → bytes_eq pair.0 (codes "'MARKER'") ≡ false → bytes_eq other.0 pair.0 ≡ false → IsReady before column other → IsReady (Data (pair_fields column pair) ∷ before) column other
+still_ready : (before : Sections) (column : List ℕ) (pair other : Pair) → before.section ≡ codes "COLUMNS" → bytes_eq pair.0 (codes "'MARKER'") ≡ false → bytes_eq other.0 pair.0 ≡ false → IsReady before column other → IsReady (with_line before (Data (pair_fields column pair))) column other
 still_ready before column pair other s plain differ h = record {
   declared = rw s h.declared;
   plain = h.plain;
@@ -41,36 +43,36 @@ still_ready before column pair other s plain differ h = record {
   read = h.read;
 }
 
-abbrev AreReady : List Line → List ℕ → List Pair → Type 0
+abbrev AreReady : Sections → List ℕ → List Pair → Type 0
 AreReady before column pairs = AllByRecursion (IsReady before column) pairs
 
-all_ready : (before : List Line) (column : List ℕ) (pair : Pair) (pairs : List Pair) → section before ≡ codes "COLUMNS" → bytes_eq pair.0 (codes "'MARKER'") ≡ false → AllByRecursion (λ row. bytes_eq pair.0 row ≡ false) (map (λ other. other.0) pairs)
-    → AreReady before column pairs → AreReady (Data (pair_fields column pair) ∷ before) column pairs
+all_ready : (before : Sections) (column : List ℕ) (pair : Pair) (pairs : List Pair) → before.section ≡ codes "COLUMNS" → bytes_eq pair.0 (codes "'MARKER'") ≡ false → AllByRecursion (λ row. bytes_eq pair.0 row ≡ false) (map (λ other. other.0) pairs)
+    → AreReady before column pairs → AreReady (with_line before (Data (pair_fields column pair))) column pairs
 all_ready before column pair [] s plain differ h = tt
 all_ready before column pair (other ∷ pairs) s plain differ h =
     (still_ready before column pair other s plain (flip pair.0 other.0 differ.0) h.0, all_ready before column pair pairs s plain differ.1 h.1)
 
 -- the lines of one column
-pub pairs-read : (before : List Line) (column : List ℕ) (pairs : List Pair) → section before ≡ codes "COLUMNS" → is_split before column ≡ false → IsDistinct bytes_eq (map (λ pair. pair.0) pairs) → AreReady before column pairs → AreRead before (map Data (map (pair_fields column) pairs))
+pub pairs-read : (before : Sections) (column : List ℕ) (pairs : List Pair) → before.section ≡ codes "COLUMNS" → is_split before.columns column ≡ false → IsDistinct bytes_eq (map (λ pair. pair.0) pairs) → AreReady before column pairs → AreRead before (map Data (map (pair_fields column) pairs))
 unfolding IsDistinct
 pairs-read before column [] s whole differ h = tt
 pairs-read before column (pair ∷ pairs) s whole differ h = (
   pair-read before column pair s whole h.0,
   refl,
-  pairs-read (Data (pair_fields column pair) ∷ before) column pairs s (goes_on before column pair s h.0.plain) differ.1 (all_ready before column pair pairs s h.0.plain differ.0 h.1),
+  pairs-read (with_line before (Data (pair_fields column pair))) column pairs s (goes_on before column pair s h.0.plain) differ.1 (all_ready before column pair pairs s h.0.plain differ.0 h.1),
 )
 
 -- a column with its pairs, the cost first
-pub record IsNew (before : List Line) (column : List ℕ × List Pair) : Type 0 where
-  pub name : is_column before column.0 ≡ false
+pub record IsNew (before : Sections) (column : List ℕ × List Pair) : Type 0 where
+  pub name : is_column before.columns column.0 ≡ false
   pub ready : AllByRecursion (IsReady before column.0) column.1
   pub differ : IsDistinct bytes_eq (map (λ pair. pair.0) column.1)
 
-not-split : (before : List Line) (column : List ℕ) → is_column before column ≡ false → is_split before column ≡ false
+not-split : (before : Sections) (column : List ℕ) → is_column before.columns column ≡ false → is_split before.columns column ≡ false
 not-split before column h = rw h refl
 
-other_ready : (before : List Line) (name column : List ℕ) (pair : Pair) (pairs : List Pair) → section before ≡ codes "COLUMNS" → bytes_eq pair.0 (codes "'MARKER'") ≡ false → bytes_eq column name ≡ false
-    → AreReady before column pairs → AreReady (Data (pair_fields name pair) ∷ before) column pairs
+other_ready : (before : Sections) (name column : List ℕ) (pair : Pair) (pairs : List Pair) → before.section ≡ codes "COLUMNS" → bytes_eq pair.0 (codes "'MARKER'") ≡ false → bytes_eq column name ≡ false
+    → AreReady before column pairs → AreReady (with_line before (Data (pair_fields name pair))) column pairs
 other_ready before name column pair [] s plain differ h = tt
 other_ready before name column pair (other ∷ pairs) s plain differ h = (
   record {
@@ -82,7 +84,7 @@ other_ready before name column pair (other ∷ pairs) s plain differ h = (
   other_ready before name column pair pairs s plain differ h.1,
 )
 
-still_new : (before : List Line) (name : List ℕ) (pair : Pair) (column : List ℕ × List Pair) → section before ≡ codes "COLUMNS" → bytes_eq pair.0 (codes "'MARKER'") ≡ false → bytes_eq column.0 name ≡ false → IsNew before column → IsNew (Data (pair_fields name pair) ∷ before) column
+still_new : (before : Sections) (name : List ℕ) (pair : Pair) (column : List ℕ × List Pair) → before.section ≡ codes "COLUMNS" → bytes_eq pair.0 (codes "'MARKER'") ≡ false → bytes_eq column.0 name ≡ false → IsNew before column → IsNew (with_line before (Data (pair_fields name pair))) column
 still_new before name pair column s plain differ h = record {
   name = rw (s, plain, differ) h.name;
   ready = other_ready before name column.0 pair column.1 s plain differ h.ready;
@@ -92,16 +94,16 @@ still_new before name pair column s plain differ h = record {
 abbrev ArePlain : List Pair → Type 0
 ArePlain pairs = AllByRecursion (λ pair. bytes_eq pair.0 (codes "'MARKER'") ≡ false) pairs
 
-plain_from : (before : List Line) (name : List ℕ) (pairs : List Pair) → AreReady before name pairs → ArePlain pairs
+plain_from : (before : Sections) (name : List ℕ) (pairs : List Pair) → AreReady before name pairs → ArePlain pairs
 plain_from before name [] h = tt
 plain_from before name (pair ∷ pairs) h = (h.0.plain, plain_from before name pairs h.1)
 
 -- the lines of a column leave another column new
-new_behind : (before : List Line) (name : List ℕ) (pairs : List Pair) (column : List ℕ × List Pair) → section before ≡ codes "COLUMNS" → ArePlain pairs → bytes_eq column.0 name ≡ false → IsNew before column → IsNew (onto (map Data (map (pair_fields name) pairs)) before) column
+new_behind : (before : Sections) (name : List ℕ) (pairs : List Pair) (column : List ℕ × List Pair) → before.section ≡ codes "COLUMNS" → ArePlain pairs → bytes_eq column.0 name ≡ false → IsNew before column → IsNew (onto (map Data (map (pair_fields name) pairs)) before) column
 new_behind before name [] column s h differ n = n
-new_behind before name (pair ∷ pairs) column s h differ n = new_behind (Data (pair_fields name pair) ∷ before) name pairs column s h.1 differ (still_new before name pair column s h.0 differ n)
+new_behind before name (pair ∷ pairs) column s h differ n = new_behind (with_line before (Data (pair_fields name pair))) name pairs column s h.1 differ (still_new before name pair column s h.0 differ n)
 
-all_new : (before : List Line) (name : List ℕ) (pairs : List Pair) (columns : List (List ℕ × List Pair)) → section before ≡ codes "COLUMNS" → ArePlain pairs → AllByRecursion (λ other. bytes_eq name other ≡ false) (map (λ c. c.0) columns)
+all_new : (before : Sections) (name : List ℕ) (pairs : List Pair) (columns : List (List ℕ × List Pair)) → before.section ≡ codes "COLUMNS" → ArePlain pairs → AllByRecursion (λ other. bytes_eq name other ≡ false) (map (λ c. c.0) columns)
     → AllByRecursion (IsNew before) columns → AllByRecursion (IsNew (onto (map Data (map (pair_fields name) pairs)) before)) columns
 all_new before name pairs [] s h differ n = tt
 all_new before name pairs (column ∷ columns) s h differ n =
@@ -111,7 +113,7 @@ abbrev pub columns_lines : List (List ℕ × List Pair) → List Line
 columns_lines columns = flat_map (λ c. map Data (map (pair_fields c.0) c.1)) columns
 
 -- the lines of all columns
-pub columns-read : (before : List Line) (columns : List (List ℕ × List Pair)) → section before ≡ codes "COLUMNS" → IsDistinct bytes_eq (map (λ c. c.0) columns) → AllByRecursion (IsNew before) columns → AreRead before (columns_lines columns)
+pub columns-read : (before : Sections) (columns : List (List ℕ × List Pair)) → before.section ≡ codes "COLUMNS" → IsDistinct bytes_eq (map (λ c. c.0) columns) → AllByRecursion (IsNew before) columns → AreRead before (columns_lines columns)
 unfolding IsDistinct
 columns-read before [] s differ n = tt
 columns-read before (c ∷ columns) s differ n =

@@ -1,14 +1,10 @@
 -- Steps of known bytes.
-use Rattle.std.proofs.Common.{◌≡◌, ℕ, zero, suc, ◌+◌, ◌-◌, ◌<◌, ◌≤◌, List, [], ◌∷◌, ◌++◌, length, take, drop, refl, sym, ap, subst, ◌∙◌, append_assoc, length-append, arith, Option, Some, None, Result, Ok, Err, rules}
-use Rattle.std.specs.Prelude.{OnErr, IsErr}
+use Rattle.std.proofs.Common.{◌≡◌, ℕ, zero, suc, ◌+◌, ◌-◌, ◌<◌, ◌≤◌, List, [], ◌∷◌, ◌++◌, length, take, drop, refl, sym, ap, ◌∙◌, append_assoc, length-append, arith, Option, Some, None, Result, Ok, Err}
+use Rattle.std.specs.Prelude.{OnErr}
 use Rattle.std.specs.Io.KnownBytes.{Appends, Keeps, append_known}
 use Rattle.std.proofs.lemmas.List.{append-nil, take-append-drop, take_all, length-drop, length-take, take-take, drop-take, take_at}
 use Rattle.std.specs.Prelude.{flat_map, get_or, min, slice_get}
-use Rattle.mps_text.specs.declared.sink.SinkFailed.{SinkFailed}
-use Rattle.mps_text.specs.declared.block.Block.{Block}
-use Rattle.mps_text.specs.Sinks.{IsFront, Counts, counted, HasFailed, SentFront}
-use Rattle.mps_text.specs.Held.{held}
-use Rattle.mps_text.specs.Adds.{Adds}
+use Rattle.mps_text.specs.Sinks.{IsFront, Counts, counted, SentFront}
 
 pub Appends-nothing : (a : Option (List ℕ)) → Appends a a []
 Appends-nothing None = tt
@@ -25,11 +21,6 @@ Appends-keeps None b c xs p q = tt
 Appends-keeps (Some us) None c xs p q = absurd p
 Appends-keeps (Some us) (Some vs) None xs p q = absurd q
 Appends-keeps (Some us) (Some vs) (Some ws) xs p q = q ∙ p
-
-pub Counts-from : (a b : Option (List ℕ)) (xs : List ℕ) (old new n : ℕ) → length xs ≡ n → new ≡ counted (old + n) → Appends a b xs → Counts a b old new
-Counts-from None b xs old new n len e p = tt
-Counts-from (Some us) None xs old new n len e p = absurd p
-Counts-from (Some us) (Some vs) xs old new n len e p = let both = ap length p ∙ length-append us xs in (omega arith, omega arith)
 
 -- a front of what waits went out
 pub IsFront-from : (a b : Option (List ℕ)) (front rest xs : List ℕ) → 0 < length rest → xs ≡ front ++ rest → Appends a b front → IsFront b (append_known a xs)
@@ -73,16 +64,7 @@ module _ (i n m : ℕ) (xs piece : List ℕ) (e : piece ≡ take (min (length (t
 longer : (xs ys : List ℕ) → 0 < length xs → 0 < length (xs ++ ys)
 longer xs ys h = omega (arith, length-append xs ys)
 
--- a front of what is held is a front of what will be held
-pub IsFront-then : (t h k : Option (List ℕ)) (front rest xs : List ℕ) → xs ≡ front ++ rest → Appends h k front → IsFront t k → IsFront t (append_known h xs)
-IsFront-then None None k front rest xs e p q = tt
-IsFront-then (Some ts) None k front rest xs e p q = tt
-IsFront-then t (Some hs) None front rest xs e p q = absurd p
-IsFront-then None (Some hs) (Some ks) front rest xs e p q = absurd q
-IsFront-then (Some ts) (Some hs) (Some ks) front rest xs e p q =
-    (q.0 ++ rest, longer q.0 rest q.1, rw (e, ← append_assoc hs front rest, ← p, q.2) (append_assoc ts q.0 rest))
-
--- the same, where a piece was being added behind what is held
+-- a front of what is held and of a piece behind it is a front of what will be held
 pub IsFront-piece : (t h k : Option (List ℕ)) (front piece rest xs : List ℕ) → xs ≡ front ++ (piece ++ rest) → Appends h k front → IsFront t (append_known k piece) → IsFront t (append_known h xs)
 IsFront-piece None None k front piece rest xs e p q = tt
 IsFront-piece (Some ts) None k front piece rest xs e p q = tt
@@ -92,56 +74,24 @@ IsFront-piece (Some ts) (Some hs) (Some ks) front piece rest xs e p q =
     let known : (hs ++ front) ++ piece ≡ ts ++ q.0 = rw p at q.2 in
     (q.0 ++ rest, longer q.0 rest q.1, rw (e, ← append_assoc front piece rest, ← append_assoc hs (front ++ piece) rest, ← append_assoc hs front piece, known) (append_assoc ts q.0 rest))
 
-pub flat_map-split : {X : Type 0} (f : X → List ℕ) (xs : List X) (i : ℕ) (d : X) → i < length xs → flat_map f xs ≡ flat_map f (take i xs) ++ (f (get_or xs i d) ++ flat_map f (drop (suc i) xs))
-flat_map-split f [] i d h = absurd (omega arith)
-flat_map-split f (x ∷ xs) zero d h = refl
-flat_map-split f (x ∷ xs) (suc i) d h = ap (λ (w : List ℕ). f x ++ w) (flat_map-split f xs i d (omega arith)) ∙ sym (append_assoc (f x) (flat_map f (take i xs)) (f (get_or xs i d) ++ flat_map f (drop (suc i) xs)))
-
 pub Counts-then : (a b c : Option (List ℕ)) (x y z : ℕ) → Counts a b x y → Counts b c y z → Counts a c x z
 Counts-then None b c x y z p q = tt
 Counts-then (Some us) None c x y z p q = absurd p
 Counts-then (Some us) (Some vs) None x y z p q = absurd q
-Counts-then (Some us) (Some vs) (Some ws) x y z p q = (omega arith, omega arith)
-
--- what a failed call promises
-pub Adds-err : (r : Result (Unit {0}) SinkFailed) (t t' : Option (List ℕ)) (b b' : Block) (n n' : ℕ) (bytes : List ℕ) → IsErr r → IsFront t' (append_known (held t b) bytes) → Counts t t' b.sent b'.sent → HasFailed n n' → Adds r t t' b b' n n' bytes
-Adds-err (Ok x) t t' b b' n n' bytes e front count fails = absurd (search rules)
-Adds-err (Err x) t t' b b' n n' bytes e front count fails = record { ok = tt; err = front; counted = count; failed = fails; succeeded = tt }
-
--- one call behind another
-pub Adds-then : (x : Unit {0}) (r : Result (Unit {0}) SinkFailed) (t u v : Option (List ℕ)) (a b c : Block) (k m n : ℕ) (xs ys zs : List ℕ) → xs ++ ys ≡ zs
-    → Adds (Ok x) t u a b k m xs → Adds r u v b c m n ys → Adds r t v a c k n zs
-Adds-then x (Ok y) t u v a b c k m n xs ys zs e p q = record {
-  ok = Appends-then (held t a) (held u b) (held v c) xs ys zs e p.ok q.ok;
-  err = tt;
-  counted = Counts-then t u v a.sent b.sent c.sent p.counted q.counted;
-  failed = tt;
-  succeeded = q.succeeded ∙ p.succeeded;
-}
-Adds-then x (Err y) t u v a b c k m n xs ys zs e p q = record {
-  ok = tt;
-  err = IsFront-piece v (held t a) (held u b) xs ys [] zs (sym e ∙ ap (λ (w : List ℕ). xs ++ w) (sym (append-nil ys))) p.ok q.err;
-  counted = Counts-then t u v a.sent b.sent c.sent p.counted q.counted;
-  failed = subst (λ (f : ℕ). HasFailed f n) p.succeeded q.failed;
-  succeeded = tt;
-}
-
--- what a call behind others leaves undone, where one of them failed
-pub Adds-front : (x : SinkFailed) (t u : Option (List ℕ)) (a b : Block) (k m : ℕ) (xs ys zs : List ℕ) → xs ++ ys ≡ zs → Adds (Err x) t u a b k m xs → Adds (Err x) t u a b k m zs
-Adds-front x t u a b k m xs ys zs e p = record { ok = tt; err = onto u (held t a) p.err; counted = p.counted; failed = p.failed; succeeded = tt }
-  where
-    onto : (f h : Option (List ℕ)) → IsFront f (append_known h xs) → IsFront f (append_known h zs)
-    onto None None q = tt
-    onto (Some fs) None q = tt
-    onto None (Some hs) q = absurd q
-    onto (Some fs) (Some hs) q = (q.0 ++ ys, longer q.0 ys q.1, rw (← e, ← append_assoc hs xs ys, q.2) (append_assoc fs q.0 ys))
+Counts-then (Some us) (Some vs) (Some ws) x y z p q = (
+  omega (arith, p.0, q.0),
+  λ small.
+      let first = p.1 small in
+      let second = q.1 (omega (arith, first)) in
+      omega (arith, p.0, q.0, first, second),
+)
 
 front-past : (ts xs : List ℕ) (k : ℕ) → length ts ≤ k → take k (ts ++ xs) ≡ ts ++ take (k - length ts) xs
 front-past [] xs k h = ap (λ (n : ℕ). take n xs) (omega arith)
 front-past (t ∷ ts) xs zero h = absurd (omega arith)
 front-past (t ∷ ts) xs (suc k) h = ap (λ (w : List ℕ). t ∷ w) (front-past ts xs k (omega arith) ∙ ap (λ (n : ℕ). ts ++ take n xs) (omega arith))
 
--- the count of what went out, for a block that was empty
+-- the count of what went out
 pub SentFront-from : (t u : Option (List ℕ)) (xs : List ℕ) (sent : ℕ) → IsFront u (append_known t xs) → Counts t u 0 sent → SentFront t u xs sent
 SentFront-from None u xs sent p q = tt
 SentFront-from (Some ts) None xs sent p q = absurd q
@@ -151,45 +101,35 @@ SentFront-from (Some ts) (Some us) xs sent p q =
     let some = p.1 in
     let sizes : length ts + length xs ≡ length us + length p.0 = sym (length-append ts xs) ∙ whole ∙ length-append us p.0 in
     let front : us ≡ take (length us) (ts ++ xs) = rw p.2 (sym (take_at us p.0 (length us) refl)) in
-    (n, omega arith, front ∙ front-past ts xs (length us) q.0, q.1 ∙ ap counted (omega arith))
+    (n, omega arith, front ∙ front-past ts xs (length us) q.0, q.1 (omega arith) ∙ ap counted (omega arith))
 
--- an empty block holds nothing
+-- nothing behind what was taken
 pub IsFront-empty : (u t : Option (List ℕ)) (xs : List ℕ) → IsFront u (append_known (append_known t []) xs) → IsFront u (append_known t xs)
 IsFront-empty u None xs p = p
 IsFront-empty None (Some ts) xs p = p
 IsFront-empty (Some us) (Some ts) xs p = rw append-nil at p
 
--- the same for a block that was made empty
-pub front-of_new : (u t : Option (List ℕ)) (b : Block) (xs : List ℕ) → b.waiting.items ≡ [] → IsFront u (append_known (held t b) xs) → IsFront u (append_known t xs)
-front-of_new u t b xs e p = IsFront-empty u t xs (rw e at p)
-
-pub counts-of_new : (t u : Option (List ℕ)) (none sent : ℕ) → none ≡ 0 → Counts t u none sent → Counts t u 0 sent
-counts-of_new t u none sent e p = subst (λ (n : ℕ). Counts t u n sent) e p
-
--- where the item of a loop stands
-pub flat_map-item : {X : Type 0} (f : X → List ℕ) (xs : List X) (i : ℕ) (x : X) → x ≡ get_or xs i x → i < length xs → flat_map f xs ≡ flat_map f (take i xs) ++ (f x ++ flat_map f (drop (suc i) xs))
-flat_map-item f xs i x e lt = flat_map-split f xs i x lt ∙ ap (λ w. flat_map f (take i xs) ++ (f w ++ flat_map f (drop (suc i) xs))) (sym e)
-
-IsFront-longer : (f h : Option (List ℕ)) (xs ys : List ℕ) → IsFront f (append_known h xs) → IsFront f (append_known h (xs ++ ys))
+pub IsFront-longer : (f h : Option (List ℕ)) (xs ys : List ℕ) → IsFront f (append_known h xs) → IsFront f (append_known h (xs ++ ys))
 IsFront-longer None None xs ys q = tt
 IsFront-longer (Some fs) None xs ys q = tt
 IsFront-longer None (Some hs) xs ys q = absurd q
 IsFront-longer (Some fs) (Some hs) xs ys q = (q.0 ++ ys, longer q.0 ys q.1, rw (← append_assoc hs xs ys, q.2) (append_assoc fs q.0 ys))
 
--- the first of two calls failed
-pub Adds-first_failed : (r : Result (Unit {0}) SinkFailed) (t u : Option (List ℕ)) (a b : Block) (k m : ℕ) (xs ys : List ℕ) → IsErr r → IsFront u (append_known (held t a) xs) → Counts t u a.sent b.sent → HasFailed k m → Adds r t u a b k m (xs ++ ys)
-Adds-first_failed r t u a b k m xs ys e front count fails = Adds-err r t u a b k m (xs ++ ys) e (IsFront-longer u (held t a) xs ys front) count fails
+flat_map-suc : {X : Type 0} (f : X → List ℕ) (xs : List X) (i : ℕ) (d : X) → i < length xs → flat_map f (take i xs) ++ f (get_or xs i d) ≡ flat_map f (take (suc i) xs)
+flat_map-suc f [] i d lt = absurd (omega arith)
+flat_map-suc f (y ∷ xs) zero d lt = sym (append-nil (f y))
+flat_map-suc f (y ∷ xs) (suc i) d lt = append_assoc (f y) (flat_map f (take i xs)) (f (get_or xs i d)) ∙ ap (λ (w : List ℕ). f y ++ w) (flat_map-suc f xs i d (omega arith))
 
--- the second of two calls
-pub Adds-second : (r : Result (Unit {0}) SinkFailed) (t u v : Option (List ℕ)) (a b c : Block) (k m n : ℕ) (xs ys : List ℕ) → Appends (held t a) (held u b) xs → Counts t u a.sent b.sent → m ≡ k → Adds r u v b c m n ys → Adds r t v a c k n (xs ++ ys)
-Adds-second r t u v a b c k m n xs ys added count kept second = Adds-then tt r t u v a b c k m n xs ys (xs ++ ys) refl (record { ok = added; err = tt; counted = count; failed = tt; succeeded = kept }) second
+-- the item of a loop behind those before it
+pub flat_map-next_or : {X : Type 0} (f : X → List ℕ) (xs : List X) (i : ℕ) (d : X) → i < length xs → flat_map f (take i xs) ++ f (get_or xs i d) ≡ flat_map f (take (i + 1) xs)
+flat_map-next_or f xs i d lt =
+    let after : suc i ≡ i + 1 = omega arith in
+    flat_map-suc f xs i d lt ∙ ap (λ (n : ℕ). flat_map f (take n xs)) after
 
--- an item behind those before it
-pub flat_map-there : {X : Type 0} (f : X → List ℕ) (xs : List X) (i : ℕ) (x : X) → slice_get xs i ≡ Some x → flat_map f xs ≡ flat_map f (take i xs) ++ (f x ++ flat_map f (drop (suc i) xs))
-flat_map-there f [] i x e = cc
-flat_map-there f (y ∷ xs) zero x e = let same : y ≡ x = cc in ap (λ w. f w ++ flat_map f xs) same
-flat_map-there f (y ∷ xs) (suc i) x e = ap (λ (w : List ℕ). f y ++ w) (flat_map-there f xs i x e) ∙ sym (append_assoc (f y) (flat_map f (take i xs)) (f x ++ flat_map f (drop (suc i) xs)))
+pub flat_map-next_item : {X : Type 0} (f : X → List ℕ) (xs : List X) (i : ℕ) (x : X) → x ≡ get_or xs i x → i < length xs → flat_map f (take i xs) ++ f x ≡ flat_map f (take (i + 1) xs)
+flat_map-next_item f xs i x e lt = ap (λ y. flat_map f (take i xs) ++ f y) e ∙ flat_map-next_or f xs i x lt
 
+-- the item at a place behind those before it
 pub flat_map-next : {X : Type 0} (f : X → List ℕ) (xs : List X) (i : ℕ) (x : X) → slice_get xs i ≡ Some x → flat_map f (take i xs) ++ f x ≡ flat_map f (take (suc i) xs)
 flat_map-next f [] i x e = cc
 flat_map-next f (y ∷ xs) zero x e = let same : y ≡ x = cc in sym (ap (λ w. f w ++ []) same ∙ append-nil (f x))

@@ -8,6 +8,7 @@ pub mod ColumnPhase
 pub mod BoundPhase
 pub mod RowsBack
 pub mod Known
+pub mod Adding
 mod LineBytes
 mod ShortLines
 pub mod Pushed

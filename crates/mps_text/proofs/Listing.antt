@@ -7,8 +7,7 @@ use Rattle.std.proofs.lemmas.List.{map-append}
 use Rattle.std.proofs.lemmas.Bool.{or_right}
 use Rattle.program_rows.specs.Program.{Table, TableRow, TableColumn}
 use Rattle.program_rows.specs.Parts.{AreEntries}
-use Rattle.program_rows.specs.Lines.{Data}
-use Rattle.program_rows.specs.Meaning.{LineFields, field}
+use Rattle.program_rows.specs.Lines.{Data, LineFields, field}
 use Rattle.mps_text.specs.Text.{row_name, row_fields, column_fields, entry_fields}
 use Rattle.mps_text.proofs.ColumnPhase.{Pair, pair_fields, same-name, columns_lines}
 use Rattle.mps_text.proofs.Pushed.{push, push-append}

@@ -10,8 +10,10 @@ use Rattle.std.proofs.lemmas.Bool.{false_from_ne_true, ltb-true}
 use Rattle.program_rows.specs.declared.bounds.Bounds.{Bounds}
 use Rattle.program_rows.specs.Program.{Table, TableRow, TableColumn}
 use Rattle.program_rows.specs.Parts.{IsProgram, AreEntries}
-use Rattle.program_rows.specs.Lines.{Line}
-use Rattle.program_rows.specs.Meaning.{LineFields, row_lines, data_under, column_lines, bound_lines, entries, names, Entry, line_entries, value, objective, objective_name, coefficient, column_entries, column_names, column, rows, program, bounds, is_binary, not_binary, stands_in_integers}
+use Rattle.program_rows.specs.Lines.{LineFields}
+use Rattle.program_rows.specs.Sections.{Sections}
+use Rattle.program_rows.specs.Described.{column_lines, all_right_sides, all_entries, names, Entry, line_entries, value, first_free, coefficient, column_entries, column_names, table_column, table_rows, program, table_bounds}
+use Rattle.program_rows.specs.Faults.{is_binary, not_binary, stands_in_integers}
 use Rattle.mps_text.specs.Text.{row_name, row_block, right_side_fields, bound_fields}
 use Rattle.program_rows.specs.Legal.{IsWritable, IsSmall}
 use Rattle.mps_text.proofs.Small.{small_costs, small_entries}
@@ -25,20 +27,26 @@ use Rattle.mps_text.proofs.BoundsBack.{bounds-found, none-set, bounds-back, bina
 use Rattle.mps_text.proofs.EntriesBack.{worth, pair_of, entries-back}
 use Rattle.mps_text.proofs.Listing.{row_names, pairs_of, all_listed, places-differ, names-at, names-listed, all-filled, all-pairs-differ}
 
+abbrev rows_in : Sections → List TableRow
+rows_in before = table_rows before.rows (all_right_sides before.right_sides)
+
+abbrev objective_in : Sections → List ℕ
+objective_in before = unwrap_or (first_free before.rows) []
+
 -- the lines before ENDATA list this program
-pub record Lists (before : List Line) (p : Table) : Type 0 where
-  pub rows : row_lines before ≡ push (row_block p) []
-  pub columns : column_lines before ≡ push (plain_lines (all_listed p p.columns)) []
-  pub stand : AllByRecursion (λ c. stands_in_integers c.name (data_under (codes "COLUMNS") before) ≡ true) p.columns
-  pub sides : data_under (codes "RHS") before ≡ push (map right_side_fields p.rows) []
-  pub bounds : bound_lines before ≡ push (map bound_fields p.columns) []
+pub record Lists (before : Sections) (p : Table) : Type 0 where
+  pub rows : before.rows ≡ push (row_block p) []
+  pub columns : column_lines before.columns ≡ push (plain_lines (all_listed p p.columns)) []
+  pub stand : AllByRecursion (λ c. stands_in_integers c.name before.columns ≡ true) p.columns
+  pub sides : before.right_sides ≡ push (map right_side_fields p.rows) []
+  pub bounds : before.bounds ≡ push (map bound_fields p.columns) []
 
 -- ---- rows and objective
 
-pub objective-back : (before : List Line) (p : Table) → row_lines before ≡ push (row_block p) [] → objective before ≡ Some p.objective
+pub objective-back : (before : Sections) (p : Table) → before.rows ≡ push (row_block p) [] → first_free before.rows ≡ Some p.objective
 objective-back before p h = rw (h, push-onto_none (row_block p), reverse-reverse (row_block p)) refl
 
-pub rows-listed : (before : List Line) (p : Table) → IsProgram p → IsWritable p → Lists before p → rows before ≡ p.rows
+pub rows-listed : (before : Sections) (p : Table) → IsProgram p → IsWritable p → Lists before p → rows_in before ≡ p.rows
 unfolding IsDistinct
 rows-listed before p legal told h =
     rows_back before (codes "N" ∷ p.objective ∷ []) p.rows refl (h.rows ∙ push-onto_none (row_block p)) (h.sides ∙ push-onto_none (map right_side_fields p.rows)) legal.rows_differ.1 told.right_sides
@@ -53,19 +61,19 @@ unlisted : (p : Table) (cs : List TableColumn) → AreUnlisted [] (all_listed p 
 unlisted p [] = tt
 unlisted p (c ∷ cs) = (λ row. refl, unlisted p cs)
 
-pub names-back : (before : List Line) (p : Table) → IsProgram p → Lists before p → column_names before ≡ map (λ c. c.name) p.columns
+pub names-back : (before : Sections) (p : Table) → IsProgram p → Lists before p → column_names before.columns ≡ map (λ c. c.name) p.columns
 names-back before p legal h =
     rw h.columns (names-once (all_listed p p.columns) [] (subst (IsDistinct bytes_eq) (sym (names-listed p p.columns)) legal.columns_differ) (all-filled p p.columns) (unnamed p p.columns) ∙ names-listed p p.columns)
 
 -- where a pair of a column is found
-abbrev IsFound : List Line → Table → TableColumn → Type 0
-IsFound before p c = (row : List ℕ) → find (names c.name row) (entries before) ≡ option_map (of_column c.name) (look row (pairs_of p c))
+abbrev IsFound : Sections → Table → TableColumn → Type 0
+IsFound before p c = (row : List ℕ) → find (names c.name row) (all_entries before.columns) ≡ option_map (of_column c.name) (look row (pairs_of p c))
 
-from-listed : (before : List Line) (p : Table) (es : List Entry) (cs : List TableColumn) → entries before ≡ es → AllByRecursion (λ c. (row : List ℕ) → find (names c.0 row) es ≡ option_map (of_column c.0) (look row c.1)) (all_listed p cs) → AllByRecursion (IsFound before p) cs
+from-listed : (before : Sections) (p : Table) (es : List Entry) (cs : List TableColumn) → all_entries before.columns ≡ es → AllByRecursion (λ c. (row : List ℕ) → find (names c.0 row) es ≡ option_map (of_column c.0) (look row c.1)) (all_listed p cs) → AllByRecursion (IsFound before p) cs
 from-listed before p es [] e h = tt
 from-listed before p es (c ∷ cs) e h = (λ row. ap (find (names c.name row)) e ∙ h.0 row, from-listed before p es cs e h.1)
 
-all-found : (before : List Line) (p : Table) → IsProgram p → Lists before p → AllByRecursion (IsFound before p) p.columns
+all-found : (before : Sections) (p : Table) → IsProgram p → Lists before p → AllByRecursion (IsFound before p) p.columns
 all-found before p legal h =
     from-listed before p (push (entries_of (all_listed p p.columns)) []) p.columns (ap (flat_map line_entries) h.columns ∙ lines-entries (all_listed p p.columns) [])
     (pairs-found (all_listed p p.columns) [] (subst (IsDistinct bytes_eq) (sym (names-listed p p.columns)) legal.columns_differ) (all-pairs-differ p p.columns legal.rows_differ legal.entries) (unlisted p p.columns))
@@ -74,16 +82,16 @@ worth-found : (name : List ℕ) (found : Option Pair) → option_map_or (λ (e :
 worth-found name None = refl
 worth-found name (Some pair) = refl
 
-coefficient-found : (before : List Line) (p : Table) (c : TableColumn) (row : List ℕ) → IsFound before p c → coefficient before c.name row ≡ worth (look row (pairs_of p c))
+coefficient-found : (before : Sections) (p : Table) (c : TableColumn) (row : List ℕ) → IsFound before p c → coefficient (all_entries before.columns) c.name row ≡ worth (look row (pairs_of p c))
 coefficient-found before p c row h = rw (h row) (worth-found c.name (look row (pairs_of p c)))
 
-cost-back : (before : List Line) (p : Table) (c : TableColumn) → IsFound before p c → IsSmall c.cost → coefficient before c.name p.objective ≡ c.cost
+cost-back : (before : Sections) (p : Table) (c : TableColumn) → IsFound before p c → IsSmall c.cost → coefficient (all_entries before.columns) c.name p.objective ≡ c.cost
 cost-back before p c h small = coefficient-found before p c p.objective h ∙ rw (same-name p.objective, number-signed_decimal c.cost small) refl
 
 -- the coefficients of a column, row by row
-row-by-row : (before : List Line) (p : Table) (c : TableColumn) (k : ℕ) (rows : List TableRow) → IsFound before p c → AllByRecursion (λ r. row_name p.rows r.0 ≡ r.1.name) (enumerate_from k rows)
+row-by-row : (before : Sections) (p : Table) (c : TableColumn) (k : ℕ) (rows : List TableRow) → IsFound before p c → AllByRecursion (λ r. row_name p.rows r.0 ≡ r.1.name) (enumerate_from k rows)
     → AllByRecursion (λ other. bytes_eq p.objective other ≡ false) (row_names rows)
-    → AllByRecursion (λ r. coefficient before c.name r.1.name ≡ worth (look (row_name p.rows r.0) (map (pair_of (row_name p.rows)) c.entries))) (enumerate_from k rows)
+    → AllByRecursion (λ r. coefficient (all_entries before.columns) c.name r.1.name ≡ worth (look (row_name p.rows r.0) (map (pair_of (row_name p.rows)) c.entries))) (enumerate_from k rows)
 row-by-row before p c k [] h at differ = tt
 row-by-row before p c k (r ∷ rows) h at differ =
     (coefficient-found before p c r.name h ∙ rw (flip p.objective r.name differ.0, at.0) refl, row-by-row before p c (k + 1) rows h at.1 differ.1)
@@ -92,48 +100,48 @@ from-nought : (es : List (ℕ × ℤ)) → AllByRecursion (λ e. 0 ≤ e.0) es
 from-nought [] = tt
 from-nought (e ∷ es) = (omega arith, from-nought es)
 
-pub entries-listed : (before : List Line) (p : Table) (c : TableColumn) → IsFound before p c → rows before ≡ p.rows → IsDistinct bytes_eq (p.objective ∷ row_names p.rows) → AreEntries (length p.rows) c.entries → AllByRecursion (λ e. IsSmall e.1) c.entries
-    → column_entries before c.name ≡ c.entries
+pub entries-listed : (before : Sections) (p : Table) (c : TableColumn) → IsFound before p c → rows_in before ≡ p.rows → IsDistinct bytes_eq (p.objective ∷ row_names p.rows) → AreEntries (length p.rows) c.entries → AllByRecursion (λ e. IsSmall e.1) c.entries
+    → column_entries (all_entries before.columns) (rows_in before) c.name ≡ c.entries
 unfolding IsDistinct
 entries-listed before p c h same differ legal small =
-    rw same (entries-back (row_name p.rows) (length p.rows) (λ r. coefficient before c.name r.1.name) 0 p.rows c.entries (places-differ p.rows differ.1) (omega arith) legal (from-nought c.entries) small
+    rw same (entries-back (row_name p.rows) (length p.rows) (λ r. coefficient (all_entries before.columns) c.name r.1.name) 0 p.rows c.entries (places-differ p.rows differ.1) (omega arith) legal (from-nought c.entries) small
     (row-by-row before p c 0 p.rows h (names-at p.rows 0 p.rows (λ i. ap (λ (n : ℕ). slice_get p.rows n) (omega arith))) differ.0))
 
-column-from : (before : List Line) (c : TableColumn) → bounds before c.name ≡ c.bounds → coefficient before c.name (objective_name before) ≡ c.cost → column_entries before c.name ≡ c.entries → column before c.name ≡ c
+column-from : (before : Sections) (c : TableColumn) → table_bounds before.bounds c.name ≡ c.bounds → coefficient (all_entries before.columns) c.name (objective_in before) ≡ c.cost → column_entries (all_entries before.columns) (rows_in before) c.name ≡ c.entries → table_column before c.name ≡ c
 column-from before c b cost es =
-    ap (λ (w : Bounds). record { name = c.name; bounds = w; cost = coefficient before c.name (objective_name before); entries = column_entries before c.name }) b
-    ∙ ap (λ (w : ℤ). record { name = c.name; bounds = c.bounds; cost = w; entries = column_entries before c.name }) cost
+    ap (λ (w : Bounds). record { name = c.name; bounds = w; cost = coefficient (all_entries before.columns) c.name (objective_in before); entries = column_entries (all_entries before.columns) (rows_in before) c.name }) b
+    ∙ ap (λ (w : ℤ). record { name = c.name; bounds = c.bounds; cost = w; entries = column_entries (all_entries before.columns) (rows_in before) c.name }) cost
     ∙ ap (λ (w : List (ℕ × ℤ)). record { name = c.name; bounds = c.bounds; cost = c.cost; entries = w }) es
 
 -- the one line of BOUNDS of a column decides
-abbrev IsSet : List Line → List (List ℕ) → TableColumn → Type 0
-IsSet before types c = find (sets types c.name) (bound_lines before) ≡ find (sets types c.name) (bound_fields c ∷ [])
+abbrev IsSet : Sections → List (List ℕ) → TableColumn → Type 0
+IsSet before types c = find (sets types c.name) before.bounds ≡ find (sets types c.name) (bound_fields c ∷ [])
 
-all-set : (before : List Line) (p : Table) (types : List (List ℕ)) → IsProgram p → Lists before p → AllByRecursion (IsSet before types) p.columns
+all-set : (before : Sections) (p : Table) (types : List (List ℕ)) → IsProgram p → Lists before p → AllByRecursion (IsSet before types) p.columns
 all-set before p types legal h =
     subst (λ (w : List LineFields). AllByRecursion (λ c. find (sets types c.name) w ≡ find (sets types c.name) (bound_fields c ∷ [])) p.columns) (sym h.bounds) (bounds-found types p.columns [] legal.columns_differ (none-set types p.columns))
 
-columns-from : (before : List Line) (p : Table) (cs : List TableColumn) → objective_name before ≡ p.objective → rows before ≡ p.rows → IsDistinct bytes_eq (p.objective ∷ row_names p.rows)
+columns-from : (before : Sections) (p : Table) (cs : List TableColumn) → objective_in before ≡ p.objective → rows_in before ≡ p.rows → IsDistinct bytes_eq (p.objective ∷ row_names p.rows)
     → AllByRecursion (IsFound before p) cs → AllByRecursion (IsSet before lower_types) cs → AllByRecursion (IsSet before upper_types) cs → AllByRecursion (λ c. AreEntries (length p.rows) c.entries) cs
-    → AllByRecursion (λ c. IsSmall c.cost) cs → AllByRecursion (λ c. AllByRecursion (λ e. IsSmall e.1) c.entries) cs → map (column before) (map (λ c. c.name) cs) ≡ cs
+    → AllByRecursion (λ c. IsSmall c.cost) cs → AllByRecursion (λ c. AllByRecursion (λ e. IsSmall e.1) c.entries) cs → map (table_column before) (map (λ c. c.name) cs) ≡ cs
 columns-from before p [] o same differ found low high legal cost small = refl
 columns-from before p (c ∷ cs) o same differ found low high legal cost small =
-    let here = column-from before c (bounds-back before c.name c.bounds low.0 high.0) (ap (coefficient before c.name) o ∙ cost-back before p c found.0 cost.0) (entries-listed before p c found.0 same differ legal.0 small.0) in
-    ap (λ (w : TableColumn). w ∷ map (column before) (map (λ q. q.name) cs)) here ∙ ap (λ (w : List TableColumn). c ∷ w) (columns-from before p cs o same differ found.1 low.1 high.1 legal.1 cost.1 small.1)
+    let here = column-from before c (bounds-back before c.name c.bounds low.0 high.0) (ap (coefficient (all_entries before.columns) c.name) o ∙ cost-back before p c found.0 cost.0) (entries-listed before p c found.0 same differ legal.0 small.0) in
+    ap (λ (w : TableColumn). w ∷ map (table_column before) (map (λ q. q.name) cs)) here ∙ ap (λ (w : List TableColumn). c ∷ w) (columns-from before p cs o same differ found.1 low.1 high.1 legal.1 cost.1 small.1)
 
-pub program-back : (before : List Line) (p : Table) → IsProgram p → IsWritable p → Lists before p → program before ≡ p
+pub program-back : (before : Sections) (p : Table) → IsProgram p → IsWritable p → Lists before p → program before ≡ p
 unfolding program
 program-back before p legal told h =
-    let o : objective_name before ≡ p.objective = ap (λ (w : Option (List ℕ)). unwrap_or w []) (objective-back before p h.rows) in
+    let o : objective_in before ≡ p.objective = ap (λ (w : Option (List ℕ)). unwrap_or w []) (objective-back before p h.rows) in
     let rs = rows-listed before p legal told h in
-    let cs = ap (map (column before)) (names-back before p legal h) ∙ columns-from before p p.columns o rs legal.rows_differ (all-found before p legal h) (all-set before p lower_types legal h) (all-set before p upper_types legal h) legal.entries (small_costs p.columns told.numbers) (small_entries p.columns told.numbers) in
-    ap (λ (w : List ℕ). record { objective = w; rows = rows before; columns = map (column before) (column_names before) }) o
-    ∙ ap (λ (w : List TableRow). record { objective = p.objective; rows = w; columns = map (column before) (column_names before) }) rs
+    let cs = ap (map (table_column before)) (names-back before p legal h) ∙ columns-from before p p.columns o rs legal.rows_differ (all-found before p legal h) (all-set before p lower_types legal h) (all-set before p upper_types legal h) legal.entries (small_costs p.columns told.numbers) (small_entries p.columns told.numbers) in
+    ap (λ (w : List ℕ). record { objective = w; rows = rows_in before; columns = map (table_column before) (column_names before.columns) }) o
+    ∙ ap (λ (w : List TableRow). record { objective = p.objective; rows = w; columns = map (table_column before) (column_names before.columns) }) rs
     ∙ ap (λ (w : List TableColumn). record { objective = p.objective; rows = p.rows; columns = w }) cs
 
 -- ---- all columns are binary
 
-none-first : (before : List Line) (cs : List TableColumn) → AllByRecursion (λ c. stands_in_integers c.name (data_under (codes "COLUMNS") before) ≡ true) cs → AllByRecursion (IsSet before lower_types) cs → AllByRecursion (IsSet before upper_types) cs
+none-first : (before : Sections) (cs : List TableColumn) → AllByRecursion (λ c. stands_in_integers c.name before.columns ≡ true) cs → AllByRecursion (IsSet before lower_types) cs → AllByRecursion (IsSet before upper_types) cs
     → position_or_len (λ name. not (is_binary before name)) (map (λ c. c.name) cs) ≡ length (map (λ c. c.name) cs)
 none-first before [] s low high = refl
 none-first before (c ∷ cs) s low high = rw (binary-back before c.name c.bounds s.0 low.0 high.0, none-first before cs s.1 low.1 high.1) (omega arith)
@@ -144,6 +152,6 @@ not-below n = false_from_ne_true _ (λ e. let lt = ltb-true n n e in absurd (ome
 none-passes : (p : List ℕ → Bool) (xs : List (List ℕ)) → position_or_len p xs ≡ length xs → position p xs ≡ None
 none-passes p xs h = rw (h, not-below (length xs)) refl
 
-pub all-binary : (before : List Line) (p : Table) → IsProgram p → Lists before p → not_binary before ≡ None
+pub all-binary : (before : Sections) (p : Table) → IsProgram p → Lists before p → not_binary before ≡ None
 all-binary before p legal h =
     rw (names-back before p legal h, none-passes (λ name. not (is_binary before name)) (map (λ c. c.name) p.columns) (none-first before p.columns h.stand (all-set before p lower_types legal h) (all-set before p upper_types legal h))) refl

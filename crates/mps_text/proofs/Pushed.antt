@@ -1,10 +1,10 @@
 -- Lines put onto a list one after the other, and what they leave under each section.
-use Rattle.std.proofs.Common.{◌≡◌, ℕ, true, List, [], ◌∷◌, ◌++◌, map, reverse, refl, sym, ap, ◌∙◌, append_assoc}
-use Rattle.std.specs.Prelude.{bytes_eq, codes}
+use Rattle.std.proofs.Common.{◌≡◌, ℕ, List, [], ◌∷◌, ◌++◌, map, reverse, refl, sym, ◌∙◌, append_assoc}
+use Rattle.std.specs.Prelude.{codes}
 use Rattle.std.proofs.lemmas.List.{reverse-append, append-nil}
-use Rattle.program_rows.specs.Lines.{Line, Header, Data}
-use Rattle.program_rows.specs.Meaning.{LineFields, section, data_under, row_lines, bound_lines}
-use Rattle.mps_text.proofs.Blocks.{onto, section-onto, under-onto_other}
+use Rattle.program_rows.specs.Lines.{LineFields, Data}
+use Rattle.program_rows.specs.Sections.{Sections}
+use Rattle.mps_text.proofs.Blocks.{onto}
 
 -- the elements xs, put in front of others one after the other
 abbrev pub push : {X : Type 0} → List X → List X → List X
@@ -22,53 +22,22 @@ push-reverse (x ∷ xs) before = push-reverse xs (x ∷ before) ∙ rw (reverse-
 pub push-onto_none : {X : Type 0} (xs : List X) → push xs [] ≡ reverse xs
 push-onto_none xs = push-reverse xs [] ∙ append-nil (reverse xs)
 
-pub under-push : (word : List ℕ) (lines : List LineFields) (before : List Line) → bytes_eq (section before) word ≡ true → data_under word (onto (map Data lines) before) ≡ push lines (data_under word before)
-under-push word [] before h = refl
-under-push word (line ∷ lines) before h = under-push word lines (Data line ∷ before) h ∙ rw h refl
+-- the open section, and the data lines of each
+abbrev pub held : List ℕ → List LineFields → List LineFields → List LineFields → List LineFields → Sections
+held word rs cs ss bs = record { section = word; rows = rs; columns = cs; right_sides = ss; bounds = bs }
 
--- what the lines before a line hold: the section, and the data lines of each section
-pub record Holds (before : List Line) (word : List ℕ) (rs cs ss bs : List LineFields) : Type 0 where
-  pub under : section before ≡ word
-  pub rows : row_lines before ≡ rs
-  pub columns : data_under (codes "COLUMNS") before ≡ cs
-  pub sides : data_under (codes "RHS") before ≡ ss
-  pub bounds : bound_lines before ≡ bs
+pub holds-rows : (lines rs cs ss bs : List LineFields) → onto (map Data lines) (held (codes "ROWS") rs cs ss bs) ≡ held (codes "ROWS") (push lines rs) cs ss bs
+holds-rows [] rs cs ss bs = refl
+holds-rows (line ∷ lines) rs cs ss bs = holds-rows lines (line ∷ rs) cs ss bs
 
-pub holds-header : (before : List Line) (word old : List ℕ) (rows columns sides bounds : List LineFields) (fields : LineFields) → Holds before old rows columns sides bounds → Holds (Header word fields ∷ before) word rows columns sides bounds
-holds-header before word old rows columns sides bounds fields h = record { under = refl; rows = h.rows; columns = h.columns; sides = h.sides; bounds = h.bounds }
+pub holds-columns : (lines rs cs ss bs : List LineFields) → onto (map Data lines) (held (codes "COLUMNS") rs cs ss bs) ≡ held (codes "COLUMNS") rs (push lines cs) ss bs
+holds-columns [] rs cs ss bs = refl
+holds-columns (line ∷ lines) rs cs ss bs = holds-columns lines rs (line ∷ cs) ss bs
 
-pub holds-rows : (before : List Line) (lines rows columns sides bounds : List LineFields) → Holds before (codes "ROWS") rows columns sides bounds → Holds (onto (map Data lines) before) (codes "ROWS") (push lines rows) columns sides bounds
-holds-rows before lines rows columns sides bounds h = record {
-  under = section-onto lines before ∙ h.under;
-  rows = under-push (codes "ROWS") lines before (rw (h.under) refl) ∙ ap (push lines) h.rows;
-  columns = under-onto_other (codes "COLUMNS") lines before (rw (h.under) refl) ∙ h.columns;
-  sides = under-onto_other (codes "RHS") lines before (rw (h.under) refl) ∙ h.sides;
-  bounds = under-onto_other (codes "BOUNDS") lines before (rw (h.under) refl) ∙ h.bounds;
-}
+pub holds-sides : (lines rs cs ss bs : List LineFields) → onto (map Data lines) (held (codes "RHS") rs cs ss bs) ≡ held (codes "RHS") rs cs (push lines ss) bs
+holds-sides [] rs cs ss bs = refl
+holds-sides (line ∷ lines) rs cs ss bs = holds-sides lines rs cs (line ∷ ss) bs
 
-pub holds-columns : (before : List Line) (lines rows columns sides bounds : List LineFields) → Holds before (codes "COLUMNS") rows columns sides bounds → Holds (onto (map Data lines) before) (codes "COLUMNS") rows (push lines columns) sides bounds
-holds-columns before lines rows columns sides bounds h = record {
-  under = section-onto lines before ∙ h.under;
-  rows = under-onto_other (codes "ROWS") lines before (rw (h.under) refl) ∙ h.rows;
-  columns = under-push (codes "COLUMNS") lines before (rw (h.under) refl) ∙ ap (push lines) h.columns;
-  sides = under-onto_other (codes "RHS") lines before (rw (h.under) refl) ∙ h.sides;
-  bounds = under-onto_other (codes "BOUNDS") lines before (rw (h.under) refl) ∙ h.bounds;
-}
-
-pub holds-sides : (before : List Line) (lines rows columns sides bounds : List LineFields) → Holds before (codes "RHS") rows columns sides bounds → Holds (onto (map Data lines) before) (codes "RHS") rows columns (push lines sides) bounds
-holds-sides before lines rows columns sides bounds h = record {
-  under = section-onto lines before ∙ h.under;
-  rows = under-onto_other (codes "ROWS") lines before (rw (h.under) refl) ∙ h.rows;
-  columns = under-onto_other (codes "COLUMNS") lines before (rw (h.under) refl) ∙ h.columns;
-  sides = under-push (codes "RHS") lines before (rw (h.under) refl) ∙ ap (push lines) h.sides;
-  bounds = under-onto_other (codes "BOUNDS") lines before (rw (h.under) refl) ∙ h.bounds;
-}
-
-pub holds-bounds : (before : List Line) (lines rows columns sides bounds : List LineFields) → Holds before (codes "BOUNDS") rows columns sides bounds → Holds (onto (map Data lines) before) (codes "BOUNDS") rows columns sides (push lines bounds)
-holds-bounds before lines rows columns sides bounds h = record {
-  under = section-onto lines before ∙ h.under;
-  rows = under-onto_other (codes "ROWS") lines before (rw (h.under) refl) ∙ h.rows;
-  columns = under-onto_other (codes "COLUMNS") lines before (rw (h.under) refl) ∙ h.columns;
-  sides = under-onto_other (codes "RHS") lines before (rw (h.under) refl) ∙ h.sides;
-  bounds = under-push (codes "BOUNDS") lines before (rw (h.under) refl) ∙ ap (push lines) h.bounds;
-}
+pub holds-bounds : (lines rs cs ss bs : List LineFields) → onto (map Data lines) (held (codes "BOUNDS") rs cs ss bs) ≡ held (codes "BOUNDS") rs cs ss (push lines bs)
+holds-bounds [] rs cs ss bs = refl
+holds-bounds (line ∷ lines) rs cs ss bs = holds-bounds lines rs cs ss (line ∷ bs)

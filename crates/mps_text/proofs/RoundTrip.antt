@@ -1,25 +1,29 @@
 -- The meaning of the text of a program is the program.
-use Rattle.std.proofs.Common.{◌≡◌, ℕ, true, false, List, [], ◌∷◌, ◌++◌, length, map, refl, sym, ap, subst, ◌∙◌, Option, Some, None, Ok}
+use Rattle.std.proofs.Common.{◌≡◌, ℕ, true, false, List, [], ◌∷◌, ◌++◌, length, map, refl, sym, ap, subst, ◌∙◌, Option, Some, None, Ok, Err, Result}
 use Rattle.std.specs.Prelude.{bytes_eq, codes, flat_map, ℤ}
 use Rattle.std.specs.List.{list_any, AllByRecursion, IsDistinct}
 use Rattle.program_rows.specs.Program.{Table, TableRow, TableColumn}
 use Rattle.program_rows.specs.Parts.{IsProgram, AreEntries}
-use Rattle.program_rows.specs.Lines.{Line, Header, Data}
-use Rattle.program_rows.specs.Meaning.{LineFields, field, section, fault, meaning, meaning_from, program, row_lines, data_under, column_lines, is_declared, is_column, is_integer_open, objective, entries, not_binary, stands_in_integers}
+use Rattle.program_rows.specs.Lines.{Line, Header, Data, LineFields, field}
+use Rattle.program_rows.specs.Sections.{Sections, no_lines, gathered}
+use Rattle.program_rows.specs.Described.{program, column_lines, first_free, all_entries}
+use Rattle.program_rows.specs.Faults.{fault, first_faulty, is_declared, is_column, is_integer_open, not_binary, stands_in_integers}
+use Rattle.program_rows.specs.Meaning.{meaning}
+use Rattle.program_rows.specs.declared.fault.FaultKind.{FaultKind}
 use Rattle.mps_text.specs.Text.{text, text_lines, row_block, column_block, block, if_any, row_fields, right_side_fields, bound_fields, column_fields, marker_fields, row_name}
 use Rattle.program_rows.specs.Legal.{IsWritable, IsSmall}
 use Rattle.mps_text.specs.RoundTrip.{TextIsRead}
 use Rattle.mps_text.proofs.Small.{small_costs, small_entries}
 use Rattle.mps_text.proofs.Lines.{read_again}
 use Rattle.mps_text.proofs.Numbers.{number-signed_decimal}
-use Rattle.mps_text.proofs.Blocks.{onto, AreRead, meaning-read, AreRead-append, onto-append}
+use Rattle.mps_text.proofs.Blocks.{onto, AreRead, end_line, none-faulty, all-gathered, AreRead-append, onto-append}
 use Rattle.mps_text.proofs.RowPhase.{rows-read, flip}
 use Rattle.mps_text.proofs.RightSidePhase.{right_sides-read, Ready}
 use Rattle.mps_text.proofs.BoundPhase.{bounds-read}
 use Rattle.std.specs.Option.{option_map_or}
 use Rattle.std.proofs.lemmas.List.{map-append, append-nil}
 use Rattle.mps_text.proofs.ColumnPhase.{same-name, IsNew, IsReady, columns-read}
-use Rattle.mps_text.proofs.Pushed.{push, push-append, Holds, holds-header, holds-rows, holds-columns, holds-sides, holds-bounds}
+use Rattle.mps_text.proofs.Pushed.{push, push-append, held, holds-rows, holds-columns, holds-sides, holds-bounds}
 use Rattle.mps_text.proofs.ColumnsBack.{plain_lines, keeps-lines, open-lines, all-stand, ArePlain}
 use Rattle.mps_text.proofs.EntriesBack.{pair_of}
 use Rattle.mps_text.proofs.Listing.{row_names, all_listed, at-name, column-lines, data-lines, names-listed, all-filled, all-plain, IsPlainName, pairs-differ, any-keeps, rows-declared, columns-named}
@@ -43,13 +47,13 @@ all-known p = rows-declared p.rows ((codes "N" ∷ p.objective ∷ []) ∷ [])
 
 -- ---- the lines of ROWS
 
-new-rows : (p : Table) (before : List Line) (names : List (List ℕ)) → row_lines before ≡ (codes "N" ∷ p.objective ∷ []) ∷ [] → AllByRecursion (λ other. bytes_eq p.objective other ≡ false) names → AllByRecursion (λ name. is_declared before name ≡ false) names
+new-rows : (p : Table) (before : Sections) (names : List (List ℕ)) → before.rows ≡ (codes "N" ∷ p.objective ∷ []) ∷ [] → AllByRecursion (λ other. bytes_eq p.objective other ≡ false) names → AllByRecursion (λ name. is_declared before.rows name ≡ false) names
 new-rows p before [] e d = tt
 new-rows p before (name ∷ names) e d = (rw (e, flip p.objective name d.0) refl, new-rows p before names e d.1)
 
 -- ---- the lines of COLUMNS
 
-ready-entries : (p : Table) (before : List Line) (name : List ℕ) (es : List (ℕ × ℤ)) → row_lines before ≡ rows_of p → entries before ≡ [] → AllByRecursion IsPlainName (row_names p.rows) → AreEntries (length p.rows) es → AllByRecursion (λ e. IsSmall e.1) es
+ready-entries : (p : Table) (before : Sections) (name : List ℕ) (es : List (ℕ × ℤ)) → before.rows ≡ rows_of p → all_entries before.columns ≡ [] → AllByRecursion IsPlainName (row_names p.rows) → AreEntries (length p.rows) es → AllByRecursion (λ e. IsSmall e.1) es
     → AllByRecursion (IsReady before name) (map (pair_of (row_name p.rows)) es)
 ready-entries p before name [] rs none plain legal small = tt
 ready-entries p before name (e ∷ es) rs none plain legal small = (
@@ -62,7 +66,7 @@ ready-entries p before name (e ∷ es) rs none plain legal small = (
   ready-entries p before name es rs none plain legal.3 small.1,
 )
 
-new-columns : (p : Table) (before : List Line) (cs : List TableColumn) → row_lines before ≡ rows_of p → column_lines before ≡ [] → AllByRecursion IsPlainName (p.objective ∷ row_names p.rows) → IsDistinct bytes_eq (p.objective ∷ row_names p.rows)
+new-columns : (p : Table) (before : Sections) (cs : List TableColumn) → before.rows ≡ rows_of p → column_lines before.columns ≡ [] → AllByRecursion IsPlainName (p.objective ∷ row_names p.rows) → IsDistinct bytes_eq (p.objective ∷ row_names p.rows)
     → AllByRecursion (λ c. AreEntries (length p.rows) c.entries) cs → AllByRecursion (λ c. IsSmall c.cost) cs → AllByRecursion (λ c. AllByRecursion (λ e. IsSmall e.1) c.entries) cs → AllByRecursion (IsNew before) (all_listed p cs)
 new-columns p before [] rs none plain differ legal cost small = tt
 new-columns p before (c ∷ cs) rs none plain differ legal cost small = (
@@ -84,7 +88,7 @@ new-columns p before (c ∷ cs) rs none plain differ legal cost small = (
 
 -- ---- the lines of RHS
 
-ready-sides : (p : Table) (before : List Line) (rows : List TableRow) → row_lines before ≡ rows_of p → data_under (codes "RHS") before ≡ [] → AllByRecursion (IsKnown p) (row_names rows) → AllByRecursion (λ other. bytes_eq p.objective other ≡ false) (row_names rows)
+ready-sides : (p : Table) (before : Sections) (rows : List TableRow) → before.rows ≡ rows_of p → before.right_sides ≡ [] → AllByRecursion (IsKnown p) (row_names rows) → AllByRecursion (λ other. bytes_eq p.objective other ≡ false) (row_names rows)
     → AllByRecursion (λ r. IsSmall r.right_side) rows → AllByRecursion (Ready before) rows
 ready-sides p before [] rs none known differ small = tt
 ready-sides p before (r ∷ rows) rs none known differ small = (
@@ -99,29 +103,29 @@ ready-sides p before (r ∷ rows) rs none known differ small = (
 
 -- ---- the lines of BOUNDS
 
-known-columns : (p : Table) (before : List Line) (cs : List TableColumn) (ls : List LineFields) → column_lines before ≡ ls → AllByRecursion (λ c. list_any (λ f. bytes_eq c.name (field 0 f)) ls ≡ true) cs → AllByRecursion (λ c. is_column before c.name ≡ true) cs
+known-columns : (p : Table) (before : Sections) (cs : List TableColumn) (ls : List LineFields) → column_lines before.columns ≡ ls → AllByRecursion (λ c. list_any (λ f. bytes_eq c.name (field 0 f)) ls ≡ true) cs → AllByRecursion (λ c. is_column before.columns c.name ≡ true) cs
 known-columns p before [] ls e h = tt
 known-columns p before (c ∷ cs) ls e h = (rw e h.0, known-columns p before cs ls e h.1)
 
 -- ---- headers
 
-columns-header : (before : List Line) (name : List ℕ) → section before ≡ codes "ROWS" → objective before ≡ Some name → fault before (Header (codes "COLUMNS") []) ≡ None
+columns-header : (before : Sections) (name : List ℕ) → before.section ≡ codes "ROWS" → first_free before.rows ≡ Some name → fault before (Header (codes "COLUMNS") []) ≡ None
 unfolding fault
 columns-header before name s o = rw (s, o) refl
 
-sides-header : (before : List Line) (name : List ℕ) → section before ≡ codes "COLUMNS" → objective before ≡ Some name → fault before (Header (codes "RHS") []) ≡ None
+sides-header : (before : Sections) (name : List ℕ) → before.section ≡ codes "COLUMNS" → first_free before.rows ≡ Some name → fault before (Header (codes "RHS") []) ≡ None
 unfolding fault
 sides-header before name s o = rw (s, o) refl
 
-bounds-header : (before : List Line) (name : List ℕ) → section before ≡ codes "RHS" → objective before ≡ Some name → fault before (Header (codes "BOUNDS") []) ≡ None
+bounds-header : (before : Sections) (name : List ℕ) → before.section ≡ codes "RHS" → first_free before.rows ≡ Some name → fault before (Header (codes "BOUNDS") []) ≡ None
 unfolding fault
 bounds-header before name s o = rw (s, o) refl
 
-end-behind_sides : (before : List Line) (name : List ℕ) → section before ≡ codes "RHS" → objective before ≡ Some name → not_binary before ≡ None → fault before (Header (codes "ENDATA") []) ≡ None
+end-behind_sides : (before : Sections) (name : List ℕ) → before.section ≡ codes "RHS" → first_free before.rows ≡ Some name → not_binary before ≡ None → fault before (Header (codes "ENDATA") []) ≡ None
 unfolding fault
 end-behind_sides before name s o b = rw (s, o, b) refl
 
-end-behind_bounds : (before : List Line) (name : List ℕ) → section before ≡ codes "BOUNDS" → objective before ≡ Some name → not_binary before ≡ None → fault before (Header (codes "ENDATA") []) ≡ None
+end-behind_bounds : (before : Sections) (name : List ℕ) → before.section ≡ codes "BOUNDS" → first_free before.rows ≡ Some name → not_binary before ≡ None → fault before (Header (codes "ENDATA") []) ≡ None
 unfolding fault
 end-behind_bounds before name s o b = rw (s, o, b) refl
 
@@ -144,32 +148,32 @@ bounds_part p = block (codes "BOUNDS") (map bound_fields p.columns)
 
 -- what stands before a line, and that all of it was read
 pub record IsBehind (ls : List Line) (word : List ℕ) (rs cs ss bs : List LineFields) : Type 0 where
-  pub read : AreRead [] ls
-  pub holds : Holds (onto ls []) word rs cs ss bs
+  pub read : AreRead no_lines ls
+  pub holds : onto ls no_lines ≡ held word rs cs ss bs
 
 -- a block behind others
-behind-then : (ls more : List Line) (old word : List ℕ) (rs cs ss bs rs' cs' ss' bs' : List LineFields) → IsBehind ls old rs cs ss bs → AreRead (onto ls []) more → Holds (onto more (onto ls [])) word rs' cs' ss' bs' → IsBehind (ls ++ more) word rs' cs' ss' bs'
+behind-then : (ls more : List Line) (old word : List ℕ) (rs cs ss bs rs' cs' ss' bs' : List LineFields) → IsBehind ls old rs cs ss bs → AreRead (held old rs cs ss bs) more → onto more (held old rs cs ss bs) ≡ held word rs' cs' ss' bs' → IsBehind (ls ++ more) word rs' cs' ss' bs'
 behind-then ls more old word rs cs ss bs rs' cs' ss' bs' h read holds = record {
-  read = AreRead-append [] ls more h.read read;
-  holds = subst (λ (w : List Line). Holds w word rs' cs' ss' bs') (sym (onto-append ls more [])) holds;
+  read = AreRead-append no_lines ls more h.read (subst (λ s. AreRead s more) (sym h.holds) read);
+  holds = onto-append ls more no_lines ∙ ap (onto more) h.holds ∙ holds;
 }
 
 behind-rows : (p : Table) → IsProgram p → IsBehind (name_line ∷ rows_part p) (codes "ROWS") (rows_of p) [] [] []
 unfolding fault IsDistinct
 behind-rows p legal =
     let named = (codes "N" ∷ p.objective ∷ []) in
-    let before = Data named ∷ Header (codes "ROWS") [] ∷ name_line ∷ [] in
+    let before = held (codes "ROWS") (named ∷ []) [] [] [] in
     record {
       read = (refl, refl, (refl, refl, (refl, refl, rows-read before p.rows refl (new-rows p before (row_names p.rows) refl legal.rows_differ.0) legal.rows_differ.1)));
-      holds = holds-rows (Header (codes "ROWS") [] ∷ name_line ∷ []) (row_block p) [] [] [] [] (record { under = refl; rows = refl; columns = refl; sides = refl; bounds = refl });
+      holds = holds-rows (row_block p) [] [] [] [];
     }
 
 -- COLUMNS without columns
 behind-no_columns : (p : Table) (ls : List Line) → IsBehind ls (codes "ROWS") (rows_of p) [] [] [] → IsBehind (ls ++ Header (codes "COLUMNS") [] ∷ []) (codes "COLUMNS") (rows_of p) [] [] []
 behind-no_columns p ls h =
+    let start = held (codes "ROWS") (rows_of p) [] [] [] in
     behind-then ls (Header (codes "COLUMNS") [] ∷ []) (codes "ROWS") (codes "COLUMNS") (rows_of p) [] [] [] (rows_of p) [] [] [] h
-    (columns-header (onto ls []) p.objective h.holds.under (objective-back (onto ls []) p h.holds.rows), refl, tt)
-    (holds-header (onto ls []) (codes "COLUMNS") (codes "ROWS") (rows_of p) [] [] [] [] h.holds)
+    (columns-header start p.objective refl (objective-back start p refl), refl, tt) refl
 
 abbrev first_marker : LineFields
 first_marker = marker_fields (codes "M1") (codes "'INTORG'")
@@ -183,78 +187,66 @@ marked p = first_marker ∷ plain_lines (all_listed p p.columns) ++ last_marker 
 abbrev all_columns : Table → List LineFields
 all_columns p = last_marker ∷ push (plain_lines (all_listed p p.columns)) (first_marker ∷ [])
 
-first_marker-read : (before : List Line) → section before ≡ codes "COLUMNS" → data_under (codes "COLUMNS") before ≡ [] → fault before (Data first_marker) ≡ None
+first_marker-read : (before : Sections) → before.section ≡ codes "COLUMNS" → before.columns ≡ [] → fault before (Data first_marker) ≡ None
 unfolding fault
 first_marker-read before s none = rw (s, none) refl
 
-last_marker-read : (before : List Line) → section before ≡ codes "COLUMNS" → is_integer_open (data_under (codes "COLUMNS") before) ≡ true → fault before (Data last_marker) ≡ None
+last_marker-read : (before : Sections) → before.section ≡ codes "COLUMNS" → is_integer_open before.columns ≡ true → fault before (Data last_marker) ≡ None
 unfolding fault
 last_marker-read before s o = rw (s, o) refl
 
 behind-columns : (p : Table) (ls : List Line) → IsProgram p → IsWritable p → IsBehind ls (codes "ROWS") (rows_of p) [] [] [] → IsBehind (ls ++ Header (codes "COLUMNS") [] ∷ map Data (marked p)) (codes "COLUMNS") (rows_of p) (all_columns p) [] []
 behind-columns p ls legal told h =
     behind-then ls (Header (codes "COLUMNS") [] ∷ map Data (marked p)) (codes "ROWS") (codes "COLUMNS") (rows_of p) [] [] [] (rows_of p) (all_columns p) [] [] h (
-      columns-header start p.objective h.holds.under (objective-back start p h.holds.rows),
+      columns-header start p.objective refl (objective-back start p refl),
       refl,
       (
-        first_marker-read opened refl h.holds.columns,
+        first_marker-read (held (codes "COLUMNS") (rows_of p) [] [] []) refl refl,
         refl,
         subst (AreRead marked_start) (sym (map-append Data listed_lines (last_marker ∷ [])))
             (AreRead-append marked_start (map Data listed_lines) (Data last_marker ∷ []) lines_read
-            (last_marker-read (onto (map Data listed_lines) marked_start) lines_hold.under (ap is_integer_open lines_hold.columns ∙ open-lines (all_listed p p.columns) (first_marker ∷ []) plain_pairs), refl, tt)),
+            (subst (λ s. AreRead s (Data last_marker ∷ [])) (sym (holds-columns listed_lines (rows_of p) (first_marker ∷ []) [] []))
+            (last_marker-read (held (codes "COLUMNS") (rows_of p) (push listed_lines (first_marker ∷ [])) [] []) refl (open-lines (all_listed p p.columns) (first_marker ∷ []) plain_pairs), refl, tt))),
       ),
     )
-    (subst (λ (w : List LineFields). Holds (onto (map Data (marked p)) opened) (codes "COLUMNS") (rows_of p) w [] []) (push-append listed_lines (last_marker ∷ []) (first_marker ∷ []))
-    (holds-columns opened (marked p) (rows_of p) [] [] [] opened_holds))
+    (holds-columns (marked p) (rows_of p) [] [] [] ∙ ap (λ (w : List LineFields). held (codes "COLUMNS") (rows_of p) w [] []) (push-append listed_lines (last_marker ∷ []) (first_marker ∷ [])))
   where
-    start : List Line
-    start = onto ls []
+    start : Sections
+    start = held (codes "ROWS") (rows_of p) [] [] []
 
-    opened : List Line
-    opened = Header (codes "COLUMNS") [] ∷ onto ls []
-
-    marked_start : List Line
-    marked_start = Data first_marker ∷ Header (codes "COLUMNS") [] ∷ onto ls []
+    marked_start : Sections
+    marked_start = held (codes "COLUMNS") (rows_of p) (first_marker ∷ []) [] []
 
     listed_lines : List LineFields
     listed_lines = plain_lines (all_listed p p.columns)
 
-    plain : AllByRecursion IsPlainName (p.objective ∷ row_names p.rows)
-    plain = told.no_marker
-
     plain_pairs : AllByRecursion (λ c. ArePlain c.1) (all_listed p p.columns)
-    plain_pairs = all-plain p p.columns plain legal.entries
-
-    opened_holds : Holds opened (codes "COLUMNS") (rows_of p) [] [] []
-    opened_holds = holds-header (onto ls []) (codes "COLUMNS") (codes "ROWS") (rows_of p) [] [] [] [] h.holds
-
-    marked_holds : Holds marked_start (codes "COLUMNS") (rows_of p) (first_marker ∷ []) [] []
-    marked_holds = holds-columns opened (first_marker ∷ []) (rows_of p) [] [] [] opened_holds
-
-    lines_hold : Holds (onto (map Data listed_lines) marked_start) (codes "COLUMNS") (rows_of p) (push listed_lines (first_marker ∷ [])) [] []
-    lines_hold = holds-columns marked_start listed_lines (rows_of p) (first_marker ∷ []) [] [] marked_holds
+    plain_pairs = all-plain p p.columns told.no_marker legal.entries
 
     lines_read : AreRead marked_start (map Data listed_lines)
     lines_read = subst (AreRead marked_start) (data-lines (all_listed p p.columns))
         (columns-read marked_start (all_listed p p.columns) refl (subst (IsDistinct bytes_eq) (sym (names-listed p p.columns)) legal.columns_differ)
-        (new-columns p marked_start p.columns marked_holds.rows (rw (h.holds.columns) refl) plain legal.rows_differ legal.entries (small_costs p.columns told.numbers) (small_entries p.columns told.numbers)))
+        (new-columns p marked_start p.columns refl refl told.no_marker legal.rows_differ legal.entries (small_costs p.columns told.numbers) (small_entries p.columns told.numbers)))
 
 behind-sides : (p : Table) (ls : List Line) (cs : List LineFields) → IsProgram p → IsWritable p → IsBehind ls (codes "COLUMNS") (rows_of p) cs [] [] → IsBehind (ls ++ sides_part p) (codes "RHS") (rows_of p) cs (push (map right_side_fields p.rows) []) []
 unfolding IsDistinct
 behind-sides p ls cs legal told h =
     behind-then ls (sides_part p) (codes "COLUMNS") (codes "RHS") (rows_of p) cs [] [] (rows_of p) cs (push (map right_side_fields p.rows) []) [] h (
-      sides-header (onto ls []) p.objective h.holds.under (objective-back (onto ls []) p h.holds.rows),
+      sides-header start p.objective refl (objective-back start p refl),
       refl,
-      right_sides-read opened p.rows refl legal.rows_differ.1 (ready-sides p opened p.rows h.holds.rows h.holds.sides (all-known p) legal.rows_differ.0 told.right_sides),
+      right_sides-read opened p.rows refl legal.rows_differ.1 (ready-sides p opened p.rows refl refl (all-known p) legal.rows_differ.0 told.right_sides),
     )
-    (holds-sides opened (map right_side_fields p.rows) (rows_of p) cs [] [] (holds-header (onto ls []) (codes "RHS") (codes "COLUMNS") (rows_of p) cs [] [] [] h.holds))
+    (holds-sides (map right_side_fields p.rows) (rows_of p) cs [] [])
   where
-    opened : List Line
-    opened = Header (codes "RHS") [] ∷ onto ls []
+    start : Sections
+    start = held (codes "COLUMNS") (rows_of p) cs [] []
+
+    opened : Sections
+    opened = held (codes "RHS") (rows_of p) cs [] []
 
 -- the columns of lines between markers
-between-markers : (p : Table) (before : List Line) → AllByRecursion (λ c. ArePlain c.1) (all_listed p p.columns) → data_under (codes "COLUMNS") before ≡ all_columns p → column_lines before ≡ push (plain_lines (all_listed p p.columns)) []
-between-markers p before plain h = rw h (keeps-lines (all_listed p p.columns) (first_marker ∷ []) plain)
+between-markers : (p : Table) → AllByRecursion (λ c. ArePlain c.1) (all_listed p p.columns) → column_lines (all_columns p) ≡ push (plain_lines (all_listed p p.columns)) []
+between-markers p plain = keeps-lines (all_listed p p.columns) (first_marker ∷ []) plain
 
 all_plain_pairs : (p : Table) → IsProgram p → IsWritable p → AllByRecursion (λ c. ArePlain c.1) (all_listed p p.columns)
 all_plain_pairs p legal told = all-plain p p.columns told.no_marker legal.entries
@@ -262,40 +254,44 @@ all_plain_pairs p legal told = all-plain p p.columns told.no_marker legal.entrie
 behind-bounds : (p : Table) (ls : List Line) (ss : List LineFields) → IsProgram p → IsWritable p → IsBehind ls (codes "RHS") (rows_of p) (all_columns p) ss [] → IsBehind (ls ++ bounds_part p) (codes "BOUNDS") (rows_of p) (all_columns p) ss (push (map bound_fields p.columns) [])
 behind-bounds p ls ss legal told h =
     behind-then ls (bounds_part p) (codes "RHS") (codes "BOUNDS") (rows_of p) (all_columns p) ss [] (rows_of p) (all_columns p) ss (push (map bound_fields p.columns) []) h (
-      bounds-header (onto ls []) p.objective h.holds.under (objective-back (onto ls []) p h.holds.rows),
+      bounds-header start p.objective refl (objective-back start p refl),
       refl,
-      bounds-read opened p.columns refl (known-columns p opened p.columns (push (plain_lines (all_listed p p.columns)) []) (between-markers p opened (all_plain_pairs p legal told) h.holds.columns) (columns-named p p.columns [])),
+      bounds-read opened p.columns refl (known-columns p opened p.columns (push (plain_lines (all_listed p p.columns)) []) (between-markers p (all_plain_pairs p legal told)) (columns-named p p.columns [])),
     )
-    (holds-bounds opened (map bound_fields p.columns) (rows_of p) (all_columns p) ss [] (holds-header (onto ls []) (codes "BOUNDS") (codes "RHS") (rows_of p) (all_columns p) ss [] [] h.holds))
+    (holds-bounds (map bound_fields p.columns) (rows_of p) (all_columns p) ss [])
   where
-    opened : List Line
-    opened = Header (codes "BOUNDS") [] ∷ onto ls []
+    start : Sections
+    start = held (codes "RHS") (rows_of p) (all_columns p) ss []
 
--- the header ENDATA answers the program
-ended : (before : List Line) (p : Table) → fault before (Header (codes "ENDATA") []) ≡ None → program before ≡ p → meaning_from before (Header (codes "ENDATA") [] ∷ []) ≡ Ok p
-ended before p f e = rw (f, e) refl
+    opened : Sections
+    opened = held (codes "BOUNDS") (rows_of p) (all_columns p) ss []
 
-from-listed : (p : Table) (q : List Line) (cs : List TableColumn) (w : List LineFields) → data_under (codes "COLUMNS") q ≡ w → AllByRecursion (λ c. stands_in_integers c.0 w ≡ true) (all_listed p cs) → AllByRecursion (λ c. stands_in_integers c.name (data_under (codes "COLUMNS") q) ≡ true) cs
-from-listed p q [] w e h = tt
-from-listed p q (c ∷ cs) w e h = (ap (stands_in_integers c.name) e ∙ h.0, from-listed p q cs w e h.1)
-
-skip-marker : (p : Table) (cs : List TableColumn) (w : List LineFields) → AllByRecursion (λ c. stands_in_integers c.0 w ≡ true) (all_listed p cs) → AllByRecursion (λ c. stands_in_integers c.0 (last_marker ∷ w) ≡ true) (all_listed p cs)
+skip-marker : (p : Table) (cs : List TableColumn) (w : List LineFields) → AllByRecursion (λ c. stands_in_integers c.0 w ≡ true) (all_listed p cs) → AllByRecursion (λ c. stands_in_integers c.name (last_marker ∷ w) ≡ true) cs
 skip-marker p [] w h = tt
 skip-marker p (c ∷ cs) w h = (h.0, skip-marker p cs w h.1)
 
-lists-columns : (p : Table) (before : List Line) (word : List ℕ) → IsProgram p → IsWritable p → Holds before word (rows_of p) (all_columns p) (push (map right_side_fields p.rows) []) (push (map bound_fields p.columns) []) → Lists before p
-lists-columns p before word legal told h = record {
-  rows = h.rows;
-  columns = between-markers p before (all_plain_pairs p legal told) h.columns;
-  stand = from-listed p before p.columns (all_columns p) h.columns (skip-marker p p.columns (push (plain_lines (all_listed p p.columns)) (first_marker ∷ []))
-      (all-stand (all_listed p p.columns) (first_marker ∷ []) (subst (IsDistinct bytes_eq) (sym (names-listed p p.columns)) legal.columns_differ) (all-filled p p.columns) (all_plain_pairs p legal told) refl));
-  sides = h.sides;
-  bounds = h.bounds;
+-- what the sections hold at the end
+abbrev all_lines : Table → Sections
+all_lines p = held (codes "BOUNDS") (rows_of p) (all_columns p) (push (map right_side_fields p.rows) []) (push (map bound_fields p.columns) [])
+
+lists-columns : (p : Table) → IsProgram p → IsWritable p → Lists (all_lines p) p
+lists-columns p legal told = record {
+  rows = refl;
+  columns = between-markers p (all_plain_pairs p legal told);
+  stand = skip-marker p p.columns (push (plain_lines (all_listed p p.columns)) (first_marker ∷ []))
+      (all-stand (all_listed p p.columns) (first_marker ∷ []) (subst (IsDistinct bytes_eq) (sym (names-listed p p.columns)) legal.columns_differ) (all-filled p p.columns) (all_plain_pairs p legal told) refl);
+  sides = refl;
+  bounds = refl;
 }
 
+abbrev meaning_of_lines : List Line → Result Table (ℕ × FaultKind)
+meaning_of_lines ls = option_map_or Err (first_faulty 0 no_lines ls) (Ok (program (gathered no_lines ls)))
+
 -- the meaning of lines that are read, and then the end
-meaning-end : (ls : List Line) (p : Table) → AreRead [] ls → fault (onto ls []) (Header (codes "ENDATA") []) ≡ None → program (onto ls []) ≡ p → meaning_from [] (ls ++ Header (codes "ENDATA") [] ∷ []) ≡ Ok p
-meaning-end ls p read f e = meaning-read [] ls (Header (codes "ENDATA") [] ∷ []) read ∙ ended (onto ls []) p f e
+meaning-end : (p : Table) (ls : List Line) (word : List ℕ) (rs cs ss bs : List LineFields) → IsBehind ls word rs cs ss bs → fault (held word rs cs ss bs) end_line ≡ None → program (held word rs cs ss bs) ≡ p → meaning_of_lines (ls ++ end_line ∷ []) ≡ Ok p
+meaning-end p ls word rs cs ss bs h f e =
+    ap (λ o. option_map_or Err o (Ok (program (gathered no_lines (ls ++ end_line ∷ []))))) (none-faulty 0 no_lines ls h.read (ap (λ s. fault s end_line) h.holds ∙ f))
+    ∙ ap (λ s. Ok (program s)) (all-gathered no_lines ls h.read ∙ h.holds) ∙ ap (λ q. Ok q) e
 
 behind-columns_part : (p : Table) (c : TableColumn) (cs : List TableColumn) (ls : List Line) → IsProgram p → IsWritable p → p.columns ≡ c ∷ cs → IsBehind ls (codes "ROWS") (rows_of p) [] [] [] → IsBehind (ls ++ columns_part p) (codes "COLUMNS") (rows_of p) (all_columns p) [] []
 behind-columns_part p c cs ls legal told e h =
@@ -311,24 +307,26 @@ behind-columns_part p c cs ls legal told e h =
 abbrev table : List ℕ → List TableRow → List TableColumn → Table
 table o rs cs = record { objective = o; rows = rs; columns = cs }
 
-meaning-lines : (o : List ℕ) (rs : List TableRow) (cs : List TableColumn) → IsProgram (table o rs cs) → IsWritable (table o rs cs) → meaning_from [] (text_lines (table o rs cs)) ≡ Ok (table o rs cs)
+meaning-lines : (o : List ℕ) (rs : List TableRow) (cs : List TableColumn) → IsProgram (table o rs cs) → IsWritable (table o rs cs) → meaning_of_lines (text_lines (table o rs cs)) ≡ Ok (table o rs cs)
 meaning-lines o rs [] legal told =
     let p = table o rs [] in
     let two = behind-no_columns p (name_line ∷ rows_part p) (behind-rows p legal) in
     let three = behind-sides p ((name_line ∷ rows_part p) ++ columns_part p) [] legal told two in
     let ls = (name_line ∷ rows_part p) ++ columns_part p ++ sides_part p in
-    let lists : Lists (onto ls []) p = record { rows = three.holds.rows; columns = rw (three.holds.columns) refl; stand = tt; sides = three.holds.sides; bounds = three.holds.bounds } in
-    ap (meaning_from []) (ap (λ (w : List Line). w ++ Header (codes "ENDATA") [] ∷ []) (append-nil ls))
-    ∙ meaning-end ls p three.read (end-behind_sides (onto ls []) o three.holds.under (objective-back (onto ls []) p three.holds.rows) (all-binary (onto ls []) p legal lists)) (program-back (onto ls []) p legal told lists)
+    let all = held (codes "RHS") (rows_of p) [] (push (map right_side_fields rs) []) [] in
+    let lists : Lists all p = record { rows = refl; columns = refl; stand = tt; sides = refl; bounds = refl } in
+    ap meaning_of_lines (ap (λ (w : List Line). w ++ end_line ∷ []) (append-nil ls))
+    ∙ meaning-end p ls (codes "RHS") (rows_of p) [] (push (map right_side_fields rs) []) [] three (end-behind_sides all o refl (objective-back all p refl) (all-binary all p legal lists)) (program-back all p legal told lists)
 meaning-lines o rs (c ∷ cs) legal told =
     let p = table o rs (c ∷ cs) in
     let two = behind-columns_part p c cs (name_line ∷ rows_part p) legal told refl (behind-rows p legal) in
     let three = behind-sides p ((name_line ∷ rows_part p) ++ columns_part p) (all_columns p) legal told two in
     let four = behind-bounds p ((name_line ∷ rows_part p) ++ columns_part p ++ sides_part p) (push (map right_side_fields p.rows) []) legal told three in
     let ls = (name_line ∷ rows_part p) ++ columns_part p ++ sides_part p ++ bounds_part p in
-    let lists = lists-columns p (onto ls []) (codes "BOUNDS") legal told four.holds in
-    meaning-end ls p four.read (end-behind_bounds (onto ls []) o four.holds.under (objective-back (onto ls []) p four.holds.rows) (all-binary (onto ls []) p legal lists)) (program-back (onto ls []) p legal told lists)
+    let lists = lists-columns p legal told in
+    meaning-end p ls (codes "BOUNDS") (rows_of p) (all_columns p) (push (map right_side_fields p.rows) []) (push (map bound_fields p.columns) []) four
+    (end-behind_bounds (all_lines p) o refl (objective-back (all_lines p) p refl) (all-binary (all_lines p) p legal lists)) (program-back (all_lines p) p legal told lists)
 
 pub text-is_read : TextIsRead
 unfolding meaning text
-text-is_read p legal told = ap (meaning_from []) (read_again (text_lines p) (all-written p legal told)) ∙ meaning-lines p.objective p.rows p.columns legal told
+text-is_read p legal told = ap meaning_of_lines (read_again (text_lines p) (all-written p legal told)) ∙ meaning-lines p.objective p.rows p.columns legal told

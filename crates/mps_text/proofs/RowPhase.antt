@@ -7,8 +7,10 @@ use Rattle.std.proofs.lemmas.Slice.Eq.{bytes_eq-Decides}
 use Rattle.program_rows.specs.declared.row.RowKind.{RowKind}
 use Rattle.program_rows.specs.declared.row.RowKind.TheVariants.{AtMost, AtLeast, Equal}
 use Rattle.program_rows.specs.Program.{TableRow}
-use Rattle.program_rows.specs.Lines.{Line, Data}
-use Rattle.program_rows.specs.Meaning.{section, fault, is_declared, is_one_of, row_types, is_free, kind_of}
+use Rattle.program_rows.specs.Lines.{Data}
+use Rattle.program_rows.specs.Sections.{Sections, with_line}
+use Rattle.program_rows.specs.Described.{is_one_of, is_free, kind_of}
+use Rattle.program_rows.specs.Faults.{fault, is_declared, row_types}
 use Rattle.mps_text.specs.Text.{row_fields, kind_letter}
 use Rattle.mps_text.proofs.Blocks.{AreRead}
 
@@ -18,26 +20,26 @@ is_type AtLeast = refl
 is_type Equal = refl
 
 -- a row whose name is new
-pub row-read : (before : List Line) (r : TableRow) → section before ≡ codes "ROWS" → is_declared before r.name ≡ false → fault before (Data (row_fields r)) ≡ None
+pub row-read : (before : Sections) (r : TableRow) → before.section ≡ codes "ROWS" → is_declared before.rows r.name ≡ false → fault before (Data (row_fields r)) ≡ None
 unfolding fault
 row-read before r s new = rw (s, is_type r.kind, new) refl
 
-abbrev pub AreNew : List Line → List (List ℕ) → Type 0
-AreNew before names = AllByRecursion (λ name. is_declared before name ≡ false) names
+abbrev pub AreNew : Sections → List (List ℕ) → Type 0
+AreNew before names = AllByRecursion (λ name. is_declared before.rows name ≡ false) names
 
 pub flip : (x y : List ℕ) → bytes_eq x y ≡ false → bytes_eq y x ≡ false
 flip x y h = false_from_ne_true _ (λ e. both_ways _ h ((bytes_eq-Decides x y).1 (sym ((bytes_eq-Decides y x).0 e))))
 
 -- names that are new, and differ from the one that is declared now, stay new
-still_new : (before : List Line) (r : TableRow) (names : List (List ℕ)) → section before ≡ codes "ROWS" → AreNew before names → AllByRecursion (λ name. bytes_eq r.name name ≡ false) names → AreNew (Data (row_fields r) ∷ before) names
+still_new : (before : Sections) (r : TableRow) (names : List (List ℕ)) → before.section ≡ codes "ROWS" → AreNew before names → AllByRecursion (λ name. bytes_eq r.name name ≡ false) names → AreNew (with_line before (Data (row_fields r))) names
 still_new before r [] s new differ = tt
 still_new before r (name ∷ names) s new differ = (rw (s, flip r.name name differ.0, new.0) refl, still_new before r names s new.1 differ.1)
 
-pub rows-read : (before : List Line) (rows : List TableRow) → section before ≡ codes "ROWS" → AreNew before (map (λ r. r.name) rows) → IsDistinct bytes_eq (map (λ r. r.name) rows) → AreRead before (map Data (map row_fields rows))
+pub rows-read : (before : Sections) (rows : List TableRow) → before.section ≡ codes "ROWS" → AreNew before (map (λ r. r.name) rows) → IsDistinct bytes_eq (map (λ r. r.name) rows) → AreRead before (map Data (map row_fields rows))
 unfolding IsDistinct
 rows-read before [] s new differ = tt
 rows-read before (r ∷ rows) s new differ =
-    (row-read before r s new.0, refl, rows-read (Data (row_fields r) ∷ before) rows s (still_new before r (map (λ q. q.name) rows) s new.1 differ.0) differ.1)
+    (row-read before r s new.0, refl, rows-read (with_line before (Data (row_fields r))) rows s (still_new before r (map (λ q. q.name) rows) s new.1 differ.0) differ.1)
 
 -- ---- what the lines of ROWS and RHS say of the program
 

@@ -7,8 +7,7 @@ use Rattle.program_rows.specs.declared.row.Row.{Row}
 use Rattle.program_rows.specs.declared.parts.ProgramParts.{ProgramParts}
 use Rattle.program_rows.specs.Program.{Table, TableRow, TableColumn}
 use Rattle.program_rows.specs.Parts.{shown_row, table_of}
-use Rattle.program_rows.specs.Lines.{Line, Header, Data}
-use Rattle.program_rows.specs.Meaning.{LineFields}
+use Rattle.program_rows.specs.Lines.{Line, Header, Data, LineFields}
 use Rattle.mps_text.specs.Text.{written, text, block, if_any, row_block, column_block, row_fields, right_side_fields, bound_fields, entry_fields, column_fields, marker_fields}
 use Rattle.mps_text.specs.Bytes.{bound_bytes, column_bytes, cost_bytes}
 use Rattle.mps_text.specs.inside.Bytes.{columns_bytes, bounds_bytes, right_sides_bytes, rows_bytes, parts_bytes}

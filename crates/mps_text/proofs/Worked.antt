@@ -11,8 +11,10 @@ use Rattle.program_rows.specs.Rows.{program_of}
 use Rattle.program_rows.specs.Spelling.{column_bid}
 use Rattle.program_rows.specs.Faithful.{back}
 use Rattle.program_rows.specs.Lines.{fields, line_of}
+use Rattle.program_rows.specs.Described.{program}
+use Rattle.program_rows.specs.Faults.{fault}
+use Rattle.program_rows.specs.Meaning.{meaning}
 use Rattle.program_rows.specs.Numbers.{number}
-use Rattle.program_rows.specs.Meaning.{meaning, fault, program}
 use Rattle.mps_text.specs.Text.{text}
 use Rattle.mps_text.specs.FaithfulText.{presolved_text}
 

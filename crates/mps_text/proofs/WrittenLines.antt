@@ -9,8 +9,7 @@ use Rattle.program_rows.specs.declared.bounds.Bounds.{Bounds}
 use Rattle.program_rows.specs.declared.bounds.Bounds.TheVariants.{ZeroOrOne, Zero, One}
 use Rattle.program_rows.specs.Program.{Table, TableRow, TableColumn}
 use Rattle.program_rows.specs.Parts.{IsProgram, AreEntries, IsName}
-use Rattle.program_rows.specs.Lines.{Line, Header, Data}
-use Rattle.program_rows.specs.Meaning.{LineFields}
+use Rattle.program_rows.specs.Lines.{Line, Header, Data, LineFields}
 use Rattle.mps_text.specs.Text.{text_lines, row_block, column_block, block, if_any, row_fields, right_side_fields, bound_fields, kind_letter, bound_type, bound_value, column_fields, entry_fields, marker_fields}
 use Rattle.program_rows.specs.Legal.{IsWritable, IsSmall}
 use Rattle.mps_text.proofs.Small.{small_costs, small_entries}

@@ -7,8 +7,7 @@ use Rattle.program_rows.specs.declared.row.RowKind.TheVariants.{AtMost, AtLeast,
 use Rattle.program_rows.specs.declared.bounds.Bounds.{Bounds}
 use Rattle.program_rows.specs.declared.bounds.Bounds.TheVariants.{ZeroOrOne, Zero, One}
 use Rattle.program_rows.specs.Program.{Table, TableRow, TableColumn}
-use Rattle.program_rows.specs.Lines.{Line, Skipped, Unprintable, Header, Data}
-use Rattle.program_rows.specs.Meaning.{LineFields}
+use Rattle.program_rows.specs.Lines.{Line, Skipped, Unprintable, Header, Data, LineFields}
 
 -- A line as it is written: a space before data, a space between fields, a line feed at the end.
 abbrev pub written : Line → List ℕ

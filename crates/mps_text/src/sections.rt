@@ -8,11 +8,10 @@ ghost use Rattle.mps_text.specs.Text.{written, row_fields, right_side_fields, bo
 ghost use Rattle.mps_text.specs.Adds.{Adds};
 ghost use Rattle.mps_text.specs.Bytes.{row_bytes, right_side_bytes, bound_bytes, entry_bytes, cost_bytes, column_bytes};
 
-use crate::adding::add;
-use crate::block::Block;
 use crate::data_lines::{add_three, add_two};
 use crate::line::{FRONT_LEN, FRONT_NAME_LEN, LINE_ROOM, LINES_LEN, write_front, write_line};
-use crate::sink::{Sink, SinkFailed};
+use crate::sink::Sink;
+use crate::writer::Writer;
 use itoa::Buffer;
 use program_rows::{Bounds, Column, Columns, Row, RowKind};
 
@@ -55,55 +54,44 @@ fn name_at(rows: &[Row], place: usize) -> &[u8]
     }
 }
 
-fn add_number<S: Sink>(
-    block: &mut Block,
-    sink: &mut S,
-    a: &[u8],
-    b: &[u8],
-    n: i64,
-) -> Result<(), SinkFailed>
-    ensures { Adds result (S.taken sink.old) (S.taken sink.new) block.old block.new (S.failures sink.old) (S.failures sink.new) (written (Data (a.now ∷ b.now ∷ signed_decimal n ∷ []))) }
+fn add_number<S: Sink>(writer: &mut Writer<'_, S>, a: &[u8], b: &[u8], n: i64)
+    ensures { Adds S.taken S.failures writer.old writer.new (written (Data (a.now ∷ b.now ∷ signed_decimal n ∷ []))) }
 {
     let mut buffer = Buffer::new();
     let digits = buffer.format(n);
-    add_three(block, sink, a, b, digits.as_bytes())
+    add_three(writer, a, b, digits.as_bytes());
 }
 
-fn add_row<S: Sink>(block: &mut Block, sink: &mut S, row: &Row) -> Result<(), SinkFailed>
-    ensures { Adds result (S.taken sink.old) (S.taken sink.new) block.old block.new (S.failures sink.old) (S.failures sink.new) (row_bytes (shown_row row.now)) }
+fn add_row<S: Sink>(writer: &mut Writer<'_, S>, row: &Row)
+    ensures { Adds S.taken S.failures writer.old writer.new (row_bytes (shown_row row.now)) }
 {
-    add_two(block, sink, letter(row.kind), row.name.as_slice())
+    add_two(writer, letter(row.kind), row.name.as_slice());
 }
 
-fn add_right_side<S: Sink>(block: &mut Block, sink: &mut S, row: &Row) -> Result<(), SinkFailed>
-    ensures { Adds result (S.taken sink.old) (S.taken sink.new) block.old block.new (S.failures sink.old) (S.failures sink.new) (right_side_bytes (shown_row row.now)) }
+fn add_right_side<S: Sink>(writer: &mut Writer<'_, S>, row: &Row)
+    ensures { Adds S.taken S.failures writer.old writer.new (right_side_bytes (shown_row row.now)) }
 {
-    add_number(block, sink, b"RHS", row.name.as_slice(), row.right_side)
+    add_number(writer, b"RHS", row.name.as_slice(), row.right_side);
 }
 
-fn add_bound<S: Sink>(
-    block: &mut Block,
-    sink: &mut S,
-    column: &Column<'_>,
-) -> Result<(), SinkFailed>
-    ensures { Adds result (S.taken sink.old) (S.taken sink.new) block.old block.new (S.failures sink.old) (S.failures sink.new) (bound_bytes (shown_column column.now)) }
+fn add_bound<S: Sink>(writer: &mut Writer<'_, S>, column: &Column<'_>)
+    ensures { Adds S.taken S.failures writer.old writer.new (bound_bytes (shown_column column.now)) }
 {
-    add(block, sink, before_bound(column.bounds))?;
-    add(block, sink, column.name)?;
-    add(block, sink, behind_bound(column.bounds))
+    writer.add(before_bound(column.bounds));
+    writer.add(column.name);
+    writer.add(behind_bound(column.bounds));
 }
 
 /// Adds the line of an entry field by field.
 fn add_long_entry<S: Sink>(
-    block: &mut Block,
-    sink: &mut S,
+    writer: &mut Writer<'_, S>,
     rows: &[Row],
     name: &[u8],
     entry: &(usize, i64),
-) -> Result<(), SinkFailed>
-    ensures { Adds result (S.taken sink.old) (S.taken sink.new) block.old block.new (S.failures sink.old) (S.failures sink.new) (entry_bytes (map shown_row rows.now) name.now entry.now) }
+)
+    ensures { Adds S.taken S.failures writer.old writer.new (entry_bytes (map shown_row rows.now) name.now entry.now) }
 {
-    add_number(block, sink, name, name_at(rows, entry.0), entry.1)
+    add_number(writer, name, name_at(rows, entry.0), entry.1);
 }
 
 /// Whether an entry is short: a row's name of two to four bytes, and a number below 100.
@@ -158,141 +146,96 @@ fn write_entries(
 }
 
 /// Adds the lines of the rows.
-pub fn add_rows<S: Sink>(block: &mut Block, sink: &mut S, rows: &[Row]) -> Result<(), SinkFailed>
-    ensures { Adds result (S.taken sink.old) (S.taken sink.new) block.old block.new (S.failures sink.old) (S.failures sink.new) (flat_map (λ r. row_bytes (shown_row r)) rows.now) }
+pub fn add_rows<S: Sink>(writer: &mut Writer<'_, S>, rows: &[Row])
+    ensures { Adds S.taken S.failures writer.old writer.new (flat_map (λ r. row_bytes (shown_row r)) rows.now) }
 {
-    let _known = block.sent;
     for row in rows {
-        add_row(block, sink, row)?;
+        add_row(writer, row);
     }
-    Ok(())
 }
 
 /// Adds the lines of the right sides.
-pub fn add_right_sides<S: Sink>(
-    block: &mut Block,
-    sink: &mut S,
-    rows: &[Row],
-) -> Result<(), SinkFailed>
-    ensures { Adds result (S.taken sink.old) (S.taken sink.new) block.old block.new (S.failures sink.old) (S.failures sink.new) (flat_map (λ r. right_side_bytes (shown_row r)) rows.now) }
+pub fn add_right_sides<S: Sink>(writer: &mut Writer<'_, S>, rows: &[Row])
+    ensures { Adds S.taken S.failures writer.old writer.new (flat_map (λ r. right_side_bytes (shown_row r)) rows.now) }
 {
-    let _known = block.sent;
     for row in rows {
-        add_right_side(block, sink, row)?;
+        add_right_side(writer, row);
     }
-    Ok(())
 }
 
 /// Adds the lines of the bounds.
-pub fn add_bounds<S: Sink>(
-    block: &mut Block,
-    sink: &mut S,
-    columns: &Columns,
-) -> Result<(), SinkFailed>
-    ensures { Adds result (S.taken sink.old) (S.taken sink.new) block.old block.new (S.failures sink.old) (S.failures sink.new) (flat_map bound_bytes columns.now) }
+pub fn add_bounds<S: Sink>(writer: &mut Writer<'_, S>, columns: &Columns)
+    ensures { Adds S.taken S.failures writer.old writer.new (flat_map bound_bytes columns.now) }
 {
-    let _known = block.sent;
     for place in 0..columns.len() {
-        add_bound(block, sink, &columns.column(place))?;
+        add_bound(writer, &columns.column(place));
     }
-    Ok(())
 }
 
 /// Adds the lines of entries of a column one by one.
 fn add_long_entries<S: Sink>(
-    block: &mut Block,
-    sink: &mut S,
+    writer: &mut Writer<'_, S>,
     rows: &[Row],
     name: &[u8],
     entries: &[(usize, i64)],
-) -> Result<(), SinkFailed>
-    ensures { Adds result (S.taken sink.old) (S.taken sink.new) block.old block.new (S.failures sink.old) (S.failures sink.new) (flat_map (entry_bytes (map shown_row rows.now) name.now) entries.now) }
+)
+    ensures { Adds S.taken S.failures writer.old writer.new (flat_map (entry_bytes (map shown_row rows.now) name.now) entries.now) }
 {
-    let _known = block.sent;
     for entry in entries {
-        add_long_entry(block, sink, rows, name, entry)?;
+        add_long_entry(writer, rows, name, entry);
     }
-    Ok(())
 }
 
 /// Adds the lines of the entries of a column, in one piece where they are short.
 pub fn add_entries<S: Sink>(
-    block: &mut Block,
-    sink: &mut S,
+    writer: &mut Writer<'_, S>,
     lines: &mut [u8; LINES_LEN],
     rows: &[Row],
     name: &[u8],
     entries: &[(usize, i64)],
-) -> Result<(), SinkFailed>
-    ensures { Adds result (S.taken sink.old) (S.taken sink.new) block.old block.new (S.failures sink.old) (S.failures sink.new) (flat_map (entry_bytes (map shown_row rows.now) name.now) entries.now) }
+)
+    ensures { Adds S.taken S.failures writer.old writer.new (flat_map (entry_bytes (map shown_row rows.now) name.now) entries.now) }
 {
     if name.len() <= 14 {
         if let Some(end) = write_entries(lines, rows, name, entries) {
-            return add(block, sink, &lines[..end]);
+            writer.add(&lines[..end]);
+            return;
         }
     }
-    add_long_entries(block, sink, rows, name, entries)
+    add_long_entries(writer, rows, name, entries);
 }
 
-fn add_cost<S: Sink>(
-    block: &mut Block,
-    sink: &mut S,
-    objective: &[u8],
-    column: &Column<'_>,
-) -> Result<(), SinkFailed>
-    ensures { Adds result (S.taken sink.old) (S.taken sink.new) block.old block.new (S.failures sink.old) (S.failures sink.new) (cost_bytes objective.now (shown_column column.now)) }
+fn add_cost<S: Sink>(writer: &mut Writer<'_, S>, objective: &[u8], column: &Column<'_>)
+    ensures { Adds S.taken S.failures writer.old writer.new (cost_bytes objective.now (shown_column column.now)) }
 {
-    add_number(block, sink, column.name, objective, column.cost)
-}
-
-fn add_column_entries<S: Sink>(
-    block: &mut Block,
-    sink: &mut S,
-    lines: &mut [u8; LINES_LEN],
-    rows: &[Row],
-    column: &Column<'_>,
-) -> Result<(), SinkFailed>
-    ensures { Adds result (S.taken sink.old) (S.taken sink.new) block.old block.new (S.failures sink.old) (S.failures sink.new) (flat_map (entry_bytes (map shown_row rows.now) column.now.name.now) column.now.entries.now) }
-{
-    add_entries(block, sink, lines, rows, column.name, column.entries)
+    add_number(writer, column.name, objective, column.cost);
 }
 
 /// Adds the lines of a column.
 pub fn add_column<S: Sink>(
-    block: &mut Block,
-    sink: &mut S,
+    writer: &mut Writer<'_, S>,
     lines: &mut [u8; LINES_LEN],
     objective: &[u8],
     rows: &[Row],
     column: &Column<'_>,
-) -> Result<(), SinkFailed>
-    ensures { Adds result (S.taken sink.old) (S.taken sink.new) block.old block.new (S.failures sink.old) (S.failures sink.new) (column_bytes objective.now (map shown_row rows.now) (shown_column column.now)) }
+)
+    ensures { Adds S.taken S.failures writer.old writer.new (column_bytes objective.now (map shown_row rows.now) (shown_column column.now)) }
 {
-    add_cost(block, sink, objective, column)?;
-    add_column_entries(block, sink, lines, rows, column)
+    add_cost(writer, objective, column);
+    add_entries(writer, lines, rows, column.name, column.entries);
 }
 
 /// Adds the lines of the columns.
 pub fn add_columns<S: Sink>(
-    block: &mut Block,
-    sink: &mut S,
+    writer: &mut Writer<'_, S>,
     objective: &[u8],
     rows: &[Row],
     columns: &Columns,
-) -> Result<(), SinkFailed>
-    ensures { Adds result (S.taken sink.old) (S.taken sink.new) block.old block.new (S.failures sink.old) (S.failures sink.new) (flat_map (column_bytes objective.now (map shown_row rows.now)) columns.now) }
+)
+    ensures { Adds S.taken S.failures writer.old writer.new (flat_map (column_bytes objective.now (map shown_row rows.now)) columns.now) }
 {
-    let _known = block.sent;
     let mut lines = [0; LINES_LEN];
     for place in 0..columns.len() {
-        add_column(
-            block,
-            sink,
-            &mut lines,
-            objective,
-            rows,
-            &columns.column(place),
-        )?;
+        add_column(writer, &mut lines, objective, rows, &columns.column(place));
     }
-    Ok(())
 }

@@ -5,7 +5,6 @@ pub mod Steps
 pub mod RowLaws
 pub mod LeafLaws
 pub mod FieldLaws
-pub mod NameLaws
 pub mod TermLaws
 pub mod BranchLaws
 pub mod VerdictLaws

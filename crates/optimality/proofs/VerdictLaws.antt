@@ -15,10 +15,12 @@ use Rattle.optimality.specs.Answers.{IsLimit, IsVerdict}
 use Rattle.optimality.specs.Certificates.{Form, Certificate, Bound, Split, side}
 use Rattle.optimality.specs.Shows.{may_have, leaf_value, LeafShows, ShowsWithin}
 use Rattle.optimality.specs.Lines.{is_telling}
-use Rattle.optimality.specs.Told.{Told, BoundLine, SplitLine, and_then, natural_told, naturals_told, number_told, terms_told, rows_told, signed_rows, row_names, column_names, bound_told, split_told, line_told}
+use Rattle.auction_terms.specs.Stages.{and_then}
+use Rattle.program_rows.specs.ProgramNames.{row_names, column_names}
+use Rattle.optimality.specs.Told.{Told, BoundLine, SplitLine, natural_told, naturals_told, number_told, terms_told, rows_told, signed_rows, bound_told, split_told, line_told}
 use Rattle.optimality.specs.Telling.{Tells, IsShownBy}
 use Rattle.optimality.specs.Branches.{Branch, Low, High, cuts_above, closed}
-use Rattle.optimality.specs.Verdict.{is_above, taken, after_telling, fault_or, fault_from, first_fault}
+use Rattle.optimality.specs.Verdict.{is_above, taken, after_telling, fault_at, fault_from, first_fault}
 
 -- ---------- what lines still have to tell ----------
 
@@ -151,7 +153,7 @@ not-above a b h k = omega (arith, ints)
 
 bound-stands : (p : Table) (least : ℤ) (lines : List (List ℕ)) → Stands p least lines → (branches : List Branch) (place : ℕ) (line : List ℕ) (scale : ℕ) (ys : List ℕ) (rows : Form) → line_told p (length branches) (fields line) ≡ Ok (BoundLine scale ys rows)
     → (b : Bool) → is_above p least (cuts_above branches) scale ys rows ≡ b
-    → (fault_or (if b then Ok (closed branches) else Err NotShown) (suc place) (λ next. fault_from p least next (suc place) lines) ≡ None) ↔ Awaits p least branches (line ∷ filter is_telling lines)
+    → (fault_at (if b then Ok (closed branches) else Err NotShown) (suc place) (λ next. fault_from p least next (suc place) lines) ≡ None) ↔ Awaits p least branches (line ∷ filter is_telling lines)
 bound-stands p least lines later branches place line scale ys rows e true a =
     let rest = filter is_telling lines in
     let shows : LeafShows p least (cuts_above branches) scale ys rows = record { signs = all_true (may_have p.rows) rows (line-signed p (length branches) (fields line) scale ys rows e); above = above (pos scale *ℤ (least -ℤ pos 1)) (leaf_value p (cuts_above branches) scale ys rows) a } in (
@@ -164,7 +166,7 @@ bound-stands p least lines later branches place line scale ys rows e false a = (
 )
 
 line-stands : (p : Table) (least : ℤ) (lines : List (List ℕ)) → Stands p least lines → (branches : List Branch) (place : ℕ) (line : List ℕ) (r : Result Told FaultKind) → line_told p (length branches) (fields line) ≡ r
-    → (fault_or (and_then r (taken p least branches)) (suc place) (λ next. fault_from p least next (suc place) lines) ≡ None) ↔ Awaits p least branches (line ∷ filter is_telling lines)
+    → (fault_at (and_then r (taken p least branches)) (suc place) (λ next. fault_from p least next (suc place) lines) ≡ None) ↔ Awaits p least branches (line ∷ filter is_telling lines)
 line-stands p least lines later branches place line (Err kind) e = ((λ h. absurd cc), (λ h. absurd (refused p least branches line (filter is_telling lines) kind e h.0 h.1 h.2)))
 line-stands p least lines later branches place line (Ok (SplitLine form most)) e =
     let next = later (Some (Low form most ∷ branches)) (suc place) in
@@ -173,7 +175,7 @@ line-stands p least lines later branches place line (Ok (SplitLine form most)) e
 line-stands p least lines later branches place line (Ok (BoundLine scale ys rows)) e = bound-stands p least lines later branches place line scale ys rows e (is_above p least (cuts_above branches) scale ys rows) refl
 
 any-stands : (p : Table) (least : ℤ) (line : List ℕ) (lines : List (List ℕ)) → Stands p least lines → (branches : Option (List Branch)) (place : ℕ) (b : Bool)
-    → (fault_or (if b then after_telling p least branches line else Ok branches) (suc place) (λ next. fault_from p least next (suc place) lines) ≡ None) ↔ Holds p least branches (cond b (line ∷ filter is_telling lines) (filter is_telling lines))
+    → (fault_at (if b then after_telling p least branches line else Ok branches) (suc place) (λ next. fault_from p least next (suc place) lines) ≡ None) ↔ Holds p least branches (cond b (line ∷ filter is_telling lines) (filter is_telling lines))
 any-stands p least line lines later branches place false = later branches (suc place)
 any-stands p least line lines later None place true = ((λ h. absurd cc), (λ h. absurd cc))
 any-stands p least line lines later (Some branches) place true = line-stands p least lines later branches place line (line_told p (length branches) (fields line)) refl

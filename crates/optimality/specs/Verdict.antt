@@ -8,7 +8,8 @@ use Rattle.optimality.specs.declared.fault.FaultKind.TheVariants.{NotShown, NoEn
 use Rattle.optimality.specs.Certificates.{Form, Cut}
 use Rattle.optimality.specs.Shows.{leaf_value}
 use Rattle.optimality.specs.Lines.{is_telling}
-use Rattle.optimality.specs.Told.{Told, BoundLine, SplitLine, and_then, line_told}
+use Rattle.auction_terms.specs.Stages.{and_then}
+use Rattle.optimality.specs.Told.{Told, BoundLine, SplitLine, line_told}
 use Rattle.optimality.specs.Branches.{Branch, Low, cuts_above, closed}
 
 -- the value of a leaf is above `scale` times `least` - 1
@@ -33,9 +34,10 @@ after_telling p least (Some branches) line = after_open p least branches line
 abbrev pub after_line : Table → ℤ → Option (List Branch) → List ℕ → Result (Option (List Branch)) FaultKind
 after_line p least branches line = if is_telling line then after_telling p least branches line else Ok branches
 
-abbrev pub fault_or : {X : Type 0} → Result X FaultKind → ℕ → (X → Option (ℕ × FaultKind)) → Option (ℕ × FaultKind)
-fault_or (Ok x) place next = next x
-fault_or (Err kind) place next = Some (place, kind)
+-- a line's fault with its place, or what comes next
+abbrev pub fault_at : {X : Type 0} → Result X FaultKind → ℕ → (X → Option (ℕ × FaultKind)) → Option (ℕ × FaultKind)
+fault_at (Ok x) place next = next x
+fault_at (Err kind) place next = Some (place, kind)
 
 -- the text ends early where a subtree is still to come
 abbrev pub ends : Option (List Branch) → ℕ → Option (ℕ × FaultKind)
@@ -45,7 +47,7 @@ ends (Some branches) place = Some (place, NoEnd)
 -- the first fault from a line on, which `place` lines stand before
 abbrev pub fault_from : Table → ℤ → Option (List Branch) → ℕ → List (List ℕ) → Option (ℕ × FaultKind)
 fault_from p least branches place [] = ends branches place
-fault_from p least branches place (line ∷ lines) = fault_or (after_line p least branches line) (suc place) (λ next. fault_from p least next (suc place) lines)
+fault_from p least branches place (line ∷ lines) = fault_at (after_line p least branches line) (suc place) (λ next. fault_from p least next (suc place) lines)
 
 -- the first fault of a text that is to show `least`
 abbrev pub first_fault : Table → ℤ → List ℕ → Option (ℕ × FaultKind)

@@ -5,8 +5,9 @@ ghost use Rattle.program_rows.specs.Lines.{fields};
 ghost use Rattle.optimality.specs.inside.Answers.{Answers};
 ghost use Rattle.optimality.specs.inside.Checking.{IsPrepared};
 ghost use Rattle.optimality.specs.declared.fault.FaultKind.TheVariants.{UnknownColumn, UnknownRow};
-ghost use Rattle.optimality.specs.inside.Holding.{bytes_of};
-ghost use Rattle.optimality.specs.Told.{column_names, place_told, row_names, term_told, terms_told};
+ghost use Rattle.auction_terms.specs.Borrowed.{bytes_of};
+ghost use Rattle.program_rows.specs.ProgramNames.{column_names, row_names};
+ghost use Rattle.optimality.specs.Told.{place_told, term_told, terms_told};
 
 use crate::checker::Checker;
 use crate::fault::FaultKind;

@@ -1,6 +1,6 @@
 -- The allocation of a point as a list of rising bidders.
 use Rattle.std.proofs.Common.{◌≡◌, ℕ, zero, suc, ◌+◌, ◌<◌, ◌≤◌, Bool, true, false, ◌&&◌, ◌==◌, cond, List, [], ◌∷◌, ◌++◌, Option, Some, None, Ok, refl, sym, ap, ap₂, subst, ◌∙◌, append_assoc, arith, length, map, eqb-true, pos, drop, slice_get}
-use Rattle.std.specs.Prelude.{sum_by, filter, nat_le, nat_lt, bytes_eq}
+use Rattle.std.specs.Prelude.{sum_by, filter, nat_le, nat_lt}
 use Rattle.std.specs.List.{AllByRecursion, range_with_len}
 use Rattle.std.specs.Option.{option_map, option_to_list}
 use Rattle.std.proofs.lemmas.Bool.{and_parts}

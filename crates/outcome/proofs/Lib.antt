@@ -1,6 +1,5 @@
 pub mod NearLaws
 pub mod FieldLaws
-pub mod ColumnLaws
 pub mod SaidLaws
 pub mod ToldLaws
 pub mod PointLaws

@@ -12,7 +12,9 @@ use Rattle.auction_terms.specs.Lines.{lines_of}
 use Rattle.outcome.specs.declared.limits.TheConstants.{SOLUTION_LIMIT}
 use Rattle.outcome.specs.declared.fault.SolutionFault.{SolutionFault}
 use Rattle.outcome.specs.declared.fault.SolutionFault.TheVariants as fault
-use Rattle.outcome.specs.Solution.{solution, told, text_fault, point_fault, column_names, values_of, is_one, broken_bound_from, line_fault}
+use Rattle.auction_terms.specs.Stages.{unless}
+use Rattle.program_rows.specs.ProgramNames.{column_names}
+use Rattle.outcome.specs.Solution.{solution, text_fault, point_fault, values_of, is_one, broken_bound_from, line_fault}
 use Rattle.outcome.specs.Coming.{SolutionsArePoints}
 
 both_none : {F : Type 0} (a b : Option F) → option_or a b ≡ None → (a ≡ None) × (b ≡ None)
@@ -44,7 +46,7 @@ module _ (value : TableColumn → Bool) where
       by true t more = (t, more (rw t at e))
       by false t more = absurd (let f = rw t at e in cc f)
 
-told_ok : (f : Option SolutionFault) (mine values : List Bool) → told f mine ≡ Ok values → (f ≡ None) × (mine ≡ values)
+told_ok : (f : Option SolutionFault) (mine values : List Bool) → unless f (Ok mine) ≡ Ok values → (f ≡ None) × (mine ≡ values)
 told_ok None mine values e = (refl, cc e)
 told_ok (Some x) mine values e = cc e
 

@@ -1,5 +1,5 @@
 -- The report so far, and what is left of it.
-use Rattle.std.proofs.Common.{◌≡◌, ℕ, zero, suc, ◌+◌, ◌<◌, ◌≤◌, List, [], ◌∷◌, ◌++◌, take, drop, length, refl, sym, ap, ◌∙◌, arith, append_assoc}
+use Rattle.std.proofs.Common.{◌≡◌, ℕ, zero, suc, ◌+◌, ◌<◌, List, [], ◌∷◌, ◌++◌, take, length, refl, sym, ap, ◌∙◌, arith, append_assoc}
 use Rattle.std.specs.Prelude.{get_or}
 use Rattle.std.proofs.lemmas.List.{append-nil}
 use Rattle.auction_terms.specs.declared.choices.Choice.{Choice}
@@ -7,18 +7,7 @@ use Rattle.outcome.specs.Sale.{Sale}
 use Rattle.outcome.specs.Report.{group_text, groups_text}
 
 module _ (sale : Sale) (first : List Choice) where
-  pub groups_text-split : (k i n : ℕ) (groups : List (List ℕ)) (allocations : List (List Choice)) → length groups ≡ length allocations → i < length groups → n ≡ k + i
-      → groups_text sale first k groups allocations
-      ≡ groups_text sale first k (take i groups) (take i allocations) ++ (group_text sale first n (get_or groups i []) (get_or allocations i []) ++ groups_text sale first (n + 1) (drop (suc i) groups) (drop (suc i) allocations))
-  groups_text-split k i n [] allocations e l f = absurd (omega arith)
-  groups_text-split k i n (x ∷ groups) [] e l f = absurd (omega arith)
-  groups_text-split k zero n (x ∷ groups) (a ∷ allocations) e l f =
-      let same : n ≡ k = omega arith in rw same refl
-  groups_text-split k (suc i) n (x ∷ groups) (a ∷ allocations) e l f =
-      ap (λ (w : List ℕ). group_text sale first k x a ++ w) (groups_text-split (k + 1) i n groups allocations (omega arith) (omega arith) (omega arith))
-      ∙ sym (append_assoc (group_text sale first k x a) (groups_text sale first (k + 1) (take i groups) (take i allocations)) _)
-
-  pub groups_text-more : (k i n : ℕ) (groups : List (List ℕ)) (allocations : List (List Choice)) → length groups ≡ length allocations → i < length groups → n ≡ k + i
+  groups_text-more : (k i n : ℕ) (groups : List (List ℕ)) (allocations : List (List Choice)) → length groups ≡ length allocations → i < length groups → n ≡ k + i
       → groups_text sale first k (take i groups) (take i allocations) ++ group_text sale first n (get_or groups i []) (get_or allocations i []) ≡ groups_text sale first k (take (i + 1) groups) (take (i + 1) allocations)
   groups_text-more k i n [] allocations e l f = absurd (omega arith)
   groups_text-more k i n (x ∷ groups) [] e l f = absurd (omega arith)
@@ -29,12 +18,7 @@ module _ (sale : Sale) (first : List Choice) where
       rw next (append_assoc (group_text sale first k x a) (groups_text sale first (k + 1) (take i groups) (take i allocations)) (group_text sale first n (get_or groups i []) (get_or allocations i []))
       ∙ ap (λ (w : List ℕ). group_text sale first k x a ++ w) (groups_text-more (k + 1) i n groups allocations (omega arith) (omega arith) (omega arith)))
 
-  -- the same, of a group and an allocation that stand there
-  pub split_at : (k i n : ℕ) (groups : List (List ℕ)) (allocations : List (List Choice)) (group : List ℕ) (a : List Choice) → length groups ≡ length allocations → i < length groups → n ≡ k + i → group ≡ get_or groups i [] → a ≡ get_or allocations i []
-      → groups_text sale first k groups allocations
-      ≡ groups_text sale first k (take i groups) (take i allocations) ++ (group_text sale first n group a ++ groups_text sale first (n + 1) (drop (suc i) groups) (drop (suc i) allocations))
-  split_at k i n groups allocations group a e l f p q = rw (p, q) (groups_text-split k i n groups allocations e l f)
-
+  -- one group more, with the allocation that stands there
   pub more_at : (k i n : ℕ) (groups : List (List ℕ)) (allocations : List (List Choice)) (group : List ℕ) (a : List Choice) → length groups ≡ length allocations → i < length groups → n ≡ k + i → group ≡ get_or groups i [] → a ≡ get_or allocations i []
       → groups_text sale first k (take i groups) (take i allocations) ++ group_text sale first n group a ≡ groups_text sale first k (take (i + 1) groups) (take (i + 1) allocations)
   more_at k i n groups allocations group a e l f p q = rw (p, q) (groups_text-more k i n groups allocations e l f)

@@ -1,5 +1,5 @@
 -- What the lines say of each column, line by line.
-use Rattle.std.proofs.Common.{◌≡◌, ℕ, zero, suc, ◌+◌, ◌<◌, ◌≤◌, Bool, true, false, not, cond, ◌&&◌, ◌||◌, List, [], ◌∷◌, ◌++◌, Option, Some, None, Ok, Err, Result, length, map, slice_get, is_some, get_or, refl, sym, ap, ap₂, subst, ◌∙◌, arith}
+use Rattle.std.proofs.Common.{◌≡◌, ℕ, zero, suc, ◌+◌, ◌≤◌, Bool, true, false, not, cond, ◌&&◌, ◌||◌, List, [], ◌∷◌, ◌++◌, Option, Some, None, Ok, Err, Result, length, map, slice_get, is_some, get_or, refl, sym, ap, ap₂, ◌∙◌, arith}
 use Rattle.std.specs.Prelude.{bytes_eq, position, nat_lt, unwrap_or, replicate}
 use Rattle.std.specs.List.{AllByRecursion, IsDistinct, list_any, position_or_len}
 use Rattle.std.specs.Result.{result_unwrap_or}
@@ -16,8 +16,10 @@ use Rattle.outcome.specs.Values.{token_value}
 use Rattle.outcome.specs.declared.fault.ValueFault.{ValueFault}
 use Rattle.outcome.specs.declared.fault.SolutionFault.{SolutionFault}
 use Rattle.outcome.specs.declared.fault.SolutionFault.TheVariants as fault
-use Rattle.outcome.specs.Solution.{is_skipped, value_in, names, is_one, values_of, value_fault, pair_fault, told}
-use Rattle.outcome.specs.inside.Reading.{bytes_of, said_of, said_by}
+use Rattle.auction_terms.specs.Stages.{unless}
+use Rattle.outcome.specs.Solution.{is_skipped, value_in, names, is_one, values_of, value_fault, pair_fault}
+use Rattle.auction_terms.specs.Borrowed.{bytes_of}
+use Rattle.outcome.specs.inside.Reading.{said_of, said_by}
 
 -- ---- one more line
 
@@ -156,7 +158,7 @@ module _ (keys : List (Bor (List ℕ))) (before : List (List ℕ)) (place : ℕ)
   fault_is = pair_fault (bytes_of keys) before place name token
 
   abbrev answer_is : Result (Unit {0}) SolutionFault
-  answer_is = told fault_is tt
+  answer_is = unless fault_is (Ok tt)
 
   pub unknown : None ≡ position (λ k. bytes_eq name k.now) keys → Err (fault.UnknownColumn place) ≡ answer_is
   unknown h = rw (is_unknown keys name (sym h)) refl
@@ -177,11 +179,11 @@ module _ (keys : List (Bor (List ℕ))) (before : List (List ℕ)) (place : ℕ)
   by_value said i is h none = rw (is_known keys name i (sym h), is_new said i is h none) refl
 
   pub valued : (said : List (Option Bool)) (i : ℕ) (v : Bool) → said ≡ said_by (bytes_of keys) before → Some i ≡ position (λ k. bytes_eq name k.now) keys → is_some (get_or said i None) ≡ false → Ok v ≡ token_value token → Ok tt ≡ answer_is
-  valued said i v is h none value = ap (λ (f : Option SolutionFault). told {T = Unit {0}} f tt) (sym (by_value said i is h none ∙ ap (value_fault place) (sym value)))
+  valued said i v is h none value = ap (λ (f : Option SolutionFault). unless {A = Unit {0}} f (Ok tt)) (sym (by_value said i is h none ∙ ap (value_fault place) (sym value)))
 
   pub not_valued : (said : List (Option Bool)) (i : ℕ) (wrong : ValueFault) (told_it : SolutionFault) → said ≡ said_by (bytes_of keys) before → Some i ≡ position (λ k. bytes_eq name k.now) keys → is_some (get_or said i None) ≡ false
       → Err wrong ≡ token_value token → Some told_it ≡ value_fault place (Err wrong) → Err told_it ≡ answer_is
-  not_valued said i wrong told_it is h none value is_told = ap (λ (f : Option SolutionFault). told {T = Unit {0}} f tt) (is_told ∙ sym (by_value said i is h none ∙ ap (value_fault place) (sym value)))
+  not_valued said i wrong told_it is h none value is_told = ap (λ (f : Option SolutionFault). unless {A = Unit {0}} f (Ok tt)) (is_told ∙ sym (by_value said i is h none ∙ ap (value_fault place) (sym value)))
 
   -- the value of a column that wasn't named before is noted
   pub noted : (i : ℕ) (v : Bool) (said : List (Option Bool)) (line : List ℕ) → IsDistinct bytes_eq (bytes_of keys) → said ≡ said_by (bytes_of keys) before → is_skipped line ≡ false → fields line ≡ name ∷ token ∷ []

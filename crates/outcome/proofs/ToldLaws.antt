@@ -1,5 +1,5 @@
 -- Refusals of a solution, and the answer that they make.
-use Rattle.std.proofs.Common.{◌≡◌, ℕ, suc, ◌+◌, ◌<◌, ◌≤◌, Bool, true, false, List, [], ◌∷◌, Option, Some, None, Result, Ok, Err, length, map, refl, sym, ap, ◌∙◌, arith}
+use Rattle.std.proofs.Common.{◌≡◌, ℕ, ◌+◌, ◌<◌, ◌≤◌, Bool, true, false, List, [], ◌∷◌, Option, Some, None, Result, Ok, Err, length, refl, sym, ap, ◌∙◌, arith}
 use Rattle.std.specs.Prelude.{nat_lt}
 use Rattle.std.specs.List.{slice_split}
 use Rattle.std.proofs.lemmas.Bool.{lt-ltb}
@@ -9,46 +9,36 @@ use Rattle.std.proofs.lemmas.List.{length-map}
 use Rattle.std.proofs.lemmas.List.Sums.{count_by-le-length}
 use Rattle.std.proofs.lemmas.List.Splits.{length-slice_split}
 use Rattle.auction_terms.specs.FirstFault.{option_or, first_fault}
+use Rattle.auction_terms.specs.Stages.{Answers, unless}
+use Rattle.auction_terms.proofs.FirstFaultFacts.{answers-more, answers-told}
 use Rattle.auction_terms.specs.Lines.{is_line_feed, lines_of, without_empty_last}
 use Rattle.outcome.specs.declared.limits.TheConstants.{SOLUTION_LIMIT}
 use Rattle.outcome.specs.declared.fault.SolutionFault.{SolutionFault}
 use Rattle.outcome.specs.declared.fault.SolutionFault.TheVariants as fault
 use Rattle.program_rows.specs.Program.{Table}
-use Rattle.outcome.specs.Solution.{told, Answers, column_names, line_fault, values_of, point_fault, text_fault, solution}
+use Rattle.program_rows.specs.ProgramNames.{column_names}
+use Rattle.outcome.specs.Solution.{is_memory, line_fault, values_of, point_fault, text_fault, solution}
 
 module _ {T : Type 0} where
-  pub told_none : (f : Option SolutionFault) (x y : T) → Ok x ≡ told f y → f ≡ None
+  pub told_none : (f : Option SolutionFault) (x y : T) → Ok x ≡ unless f (Ok y) → f ≡ None
   told_none None x y h = refl
   told_none (Some g) x y h = cc h
 
-  pub told_some : (f : Option SolutionFault) (g : SolutionFault) (y : T) → Err g ≡ told f y → f ≡ Some g
+  pub told_some : (f : Option SolutionFault) (g : SolutionFault) (y : T) → Err g ≡ unless f (Ok y) → f ≡ Some g
   told_some None g y h = cc h
   told_some (Some k) g y h = let same : g ≡ k = cc in rw same refl
 
-  pub told_same : (f : Option SolutionFault) (x y : T) → Ok x ≡ told f y → x ≡ y
+  pub told_same : (f : Option SolutionFault) (x y : T) → Ok x ≡ unless f (Ok y) → x ≡ y
   told_same None x y h = cc h
   told_same (Some g) x y h = cc h
 
-  pub told_fine : (f : Option SolutionFault) (y : T) → f ≡ None → Ok y ≡ told f y
+  pub told_fine : (f : Option SolutionFault) (y : T) → f ≡ None → Ok y ≡ unless f (Ok y)
   told_fine None y h = refl
   told_fine (Some g) y h = cc h
 
-  pub told_of : (f : Option SolutionFault) (g : SolutionFault) (y : T) → f ≡ Some g → Err g ≡ told f y
+  pub told_of : (f : Option SolutionFault) (g : SolutionFault) (y : T) → f ≡ Some g → Err g ≡ unless f (Ok y)
   told_of None g y h = cc h
   told_of (Some k) g y h = let same : k ≡ g = cc in rw same refl
-
-  -- a result that is the answer meets it
-  pub answered : (result answer : Result T SolutionFault) → result ≡ answer → Answers result answer
-  answered (Ok x) answer e = e
-  answered (Err fault.TooLarge) answer e = e
-  answered (Err (fault.Fields place)) answer e = e
-  answered (Err (fault.UnknownColumn place)) answer e = e
-  answered (Err (fault.RepeatedColumn place)) answer e = e
-  answered (Err (fault.ValueText place)) answer e = e
-  answered (Err (fault.NotZeroOne place)) answer e = e
-  answered (Err (fault.BoundBroken column)) answer e = e
-  answered (Err (fault.RowBroken row)) answer e = e
-  answered (Err fault.OutOfMemory) answer e = tt
 
 fewer : (parts : List (List ℕ)) → length (without_empty_last parts) ≤ length parts
 fewer [] = omega arith
@@ -71,18 +61,6 @@ option_first : (f g : Option SolutionFault) (x : SolutionFault) → f ≡ Some x
 option_first None g x h = cc h
 option_first (Some y) g x h = h
 
--- a fault of a part is that of the whole, or want of memory stands in its place
-answers_more : {T U : Type 0} (f : SolutionFault) (part : Result T SolutionFault) (whole : Result U SolutionFault) → Answers {T = T} (Err f) part → (Err f ≡ part → Err f ≡ whole) → Answers {T = U} (Err f) whole
-answers_more fault.TooLarge part whole h more = more h
-answers_more (fault.Fields place) part whole h more = more h
-answers_more (fault.UnknownColumn place) part whole h more = more h
-answers_more (fault.RepeatedColumn place) part whole h more = more h
-answers_more (fault.ValueText place) part whole h more = more h
-answers_more (fault.NotZeroOne place) part whole h more = more h
-answers_more (fault.BoundBroken column) part whole h more = more h
-answers_more (fault.RowBroken row) part whole h more = more h
-answers_more fault.OutOfMemory part whole h more = tt
-
 module _ (p : Table) (text : List ℕ) where
   abbrev line_faults : Option SolutionFault
   line_faults = first_fault (line_fault (column_names p)) [] (lines_of text)
@@ -94,23 +72,23 @@ module _ (p : Table) (text : List ℕ) where
   unfolding solution
   too_long h = let t : nat_lt SOLUTION_LIMIT (length text) ≡ true = lt-ltb _ _ h in rw t refl
 
-  short : length text ≤ SOLUTION_LIMIT → solution p text ≡ told (text_fault p (lines_of text)) values
+  short : length text ≤ SOLUTION_LIMIT → solution p text ≡ unless (text_fault p (lines_of text)) (Ok values)
   unfolding solution
   short h = let t : nat_lt SOLUTION_LIMIT (length text) ≡ false = grind (arith, nat_tests) in rw t refl
 
-  pub faulty_line : (f : SolutionFault) → length text ≤ SOLUTION_LIMIT → Answers (Err f) (told line_faults values) → Answers (Err f) (solution p text)
-  faulty_line f small h = answers_more f (told line_faults values) (solution p text) h (λ e.
+  pub faulty_line : (f : SolutionFault) → length text ≤ SOLUTION_LIMIT → Answers is_memory (Err f) (unless line_faults (Ok values)) → Answers is_memory (Err f) (solution p text)
+  faulty_line f small h = answers-more is_memory f (unless line_faults (Ok values)) (solution p text) h (λ e.
       let some = told_some line_faults f values e in
       told_of (text_fault p (lines_of text)) f values (option_first line_faults (point_fault p values) f some) ∙ sym (short small))
 
-  pub no_point : (f : SolutionFault) (read : List Bool) → length text ≤ SOLUTION_LIMIT → Ok read ≡ told line_faults values → Err f ≡ told {T = Unit {0}} (point_fault p read) tt → Answers (Err f) (solution p text)
+  pub no_point : (f : SolutionFault) (read : List Bool) → length text ≤ SOLUTION_LIMIT → Ok read ≡ unless line_faults (Ok values) → Err f ≡ unless {A = Unit {0}} (point_fault p read) (Ok tt) → Answers is_memory (Err f) (solution p text)
   no_point f read small e h =
       let none = told_none line_faults read values e in
       let same : read ≡ values = told_same line_faults read values e in
       let some : point_fault p values ≡ Some f = rw same at (told_some (point_fault p read) f tt h) in
-      answered (Err f) (solution p text) (told_of (text_fault p (lines_of text)) f values (option_second line_faults (point_fault p values) none ∙ some) ∙ sym (short small))
+      answers-told is_memory (Err f) (solution p text) (told_of (text_fault p (lines_of text)) f values (option_second line_faults (point_fault p values) none ∙ some) ∙ sym (short small))
 
-  pub point_told : (read : List Bool) → length text ≤ SOLUTION_LIMIT → Ok read ≡ told line_faults values → Ok tt ≡ told {T = Unit {0}} (point_fault p read) tt → Ok read ≡ solution p text
+  pub point_told : (read : List Bool) → length text ≤ SOLUTION_LIMIT → Ok read ≡ unless line_faults (Ok values) → Ok tt ≡ unless {A = Unit {0}} (point_fault p read) (Ok tt) → Ok read ≡ solution p text
   point_told read small e h =
       let none = told_none line_faults read values e in
       let same : read ≡ values = told_same line_faults read values e in

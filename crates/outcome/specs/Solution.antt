@@ -5,10 +5,11 @@ use Rattle.std.specs.Option.{option_map}
 use Rattle.std.specs.Result.{result_unwrap_or}
 use Rattle.auction_terms.specs.FirstFault.{option_or, first_failed, first_fault}
 use Rattle.auction_terms.specs.Lines.{lines_of}
+use Rattle.auction_terms.specs.Stages.{unless}
 use Rattle.program_rows.specs.Program.{Table, TableColumn}
+use Rattle.program_rows.specs.ProgramNames.{column_names}
 use Rattle.program_rows.specs.Points.{allows, broken_row}
-use Rattle.program_rows.specs.Lines.{fields}
-use Rattle.program_rows.specs.Meaning.{field}
+use Rattle.program_rows.specs.Lines.{fields, field}
 use Rattle.outcome.specs.declared.limits.TheConstants.{SOLUTION_LIMIT}
 use Rattle.outcome.specs.declared.fault.ValueFault.{ValueFault}
 use Rattle.outcome.specs.declared.fault.ValueFault.TheVariants as value
@@ -79,14 +80,6 @@ point_fault p values = option_or (option_map fault.BoundBroken (broken_bound_fro
 
 -- ---- what a text tells
 
--- the first refusal, or else the value
-abbrev pub told : {T : Type 0} → Option SolutionFault → T → Result T SolutionFault
-told None value = Ok value
-told (Some f) value = Err f
-
-abbrev pub column_names : Table → List (List ℕ)
-column_names p = map (λ c. c.name) p.columns
-
 abbrev pub text_fault : Table → List (List ℕ) → Option SolutionFault
 text_fault p text = option_or (first_fault (line_fault (column_names p)) [] text) (point_fault p (values_of (column_names p) text))
 
@@ -94,9 +87,9 @@ text_fault p text = option_or (first_fault (line_fault (column_names p)) [] text
 unfoldable pub solution : Table → List ℕ → Result (List Bool) SolutionFault
 solution p text =
     if nat_lt SOLUTION_LIMIT (length text) then Err fault.TooLarge
-    else told (text_fault p (lines_of text)) (values_of (column_names p) (lines_of text))
+    else unless (text_fault p (lines_of text)) (Ok (values_of (column_names p) (lines_of text)))
 
--- the result is this answer, or want of memory stands in its place
-abbrev pub Answers : {T : Type 0} → Result T SolutionFault → Result T SolutionFault → Type 0
-Answers (Err fault.OutOfMemory) answer = Unit {0}
-Answers result answer = result ≡ answer
+-- out of memory is no fault of the text
+abbrev pub is_memory : SolutionFault → Bool
+is_memory fault.OutOfMemory = true
+is_memory f = false

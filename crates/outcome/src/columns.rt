@@ -2,8 +2,8 @@
 
 ghost use Rattle.std.specs.Prelude.{◌≡◌, ◌<◌, IfOk, IfSome, bytes_eq, length, position};
 ghost use Rattle.std.specs.List.{IsDistinct};
-ghost use Rattle.outcome.specs.Solution.{column_names};
-ghost use Rattle.outcome.specs.inside.Reading.{bytes_of};
+ghost use Rattle.program_rows.specs.ProgramNames.{column_names};
+ghost use Rattle.auction_terms.specs.Borrowed.{bytes_of};
 
 use indexmap::IndexSet;
 use program_rows::{NameSet, Program, Seeded, place_of};

@@ -2,7 +2,8 @@
 
 ghost use Rattle.std.specs.Prelude.{◌≡◌, length};
 ghost use Rattle.program_rows.specs.Points.{allows};
-ghost use Rattle.outcome.specs.Solution.{broken_bound_from, point_fault, told};
+ghost use Rattle.auction_terms.specs.Stages.{unless};
+ghost use Rattle.outcome.specs.Solution.{broken_bound_from, point_fault};
 
 use crate::fault::SolutionFault;
 use program_rows::{Bounds, Point, Program};
@@ -34,7 +35,7 @@ fn broken_bound(program: &Program, values: &[bool]) -> Option<usize>
 /// Refuses values that break a bound, and then those that break a row.
 pub fn check_point(program: &Program, point: &Point) -> Result<(), SolutionFault>
     requires { length point.now ≡ length program.now.columns }
-    ensures { result ≡ told (point_fault program.now point.now) tt }
+    ensures { result ≡ unless (point_fault program.now point.now) (Ok tt) }
 {
     if let Some(column) = broken_bound(program, point.values()) {
         return Err(SolutionFault::BoundBroken { column });

@@ -1,13 +1,15 @@
 //! Reading a solution.
 
-ghost use Rattle.std.specs.Prelude.{◌≡◌, ◌<◌, ◌≤◌, [], length, map, replicate, unwrap_or, false, IfOk, Err, None, bytes_eq};
+ghost use Rattle.std.specs.Prelude.{◌≡◌, ◌<◌, ◌≤◌, [], length, map, replicate, unwrap_or, false, IfOk, Ok, Err, None, bytes_eq};
 ghost use Rattle.std.specs.List.{IsDistinct};
 ghost use Rattle.auction_terms.specs.FirstFault.{first_fault};
 ghost use Rattle.auction_terms.specs.Lines.{lines_of};
+ghost use Rattle.auction_terms.specs.Stages.{Answers, unless};
 ghost use Rattle.program_rows.specs.Points.{IsPoint};
 ghost use Rattle.outcome.specs.declared.fault.SolutionFault.TheVariants as fault;
 ghost use Rattle.outcome.specs.declared.limits.TheConstants.{SOLUTION_LIMIT};
-ghost use Rattle.outcome.specs.Solution.{Answers, column_names, line_fault, solution, told, values_of};
+ghost use Rattle.program_rows.specs.ProgramNames.{column_names};
+ghost use Rattle.outcome.specs.Solution.{is_memory, line_fault, solution, values_of};
 
 use crate::columns::finder_of;
 use crate::fault::SolutionFault;
@@ -35,7 +37,7 @@ fn values_from(alloc: Global, said: &[Option<bool>]) -> Result<Vec<bool>, AllocE
 fn read_values(alloc: Global, bytes: &[u8], program: &Program) -> Result<Point, SolutionFault>
     requires distinct { IsDistinct bytes_eq (column_names program.now) }
     requires small { length bytes.now ≤ SOLUTION_LIMIT }
-    ensures { Answers result (told (first_fault (line_fault (column_names program.now)) [] (lines_of bytes.now)) (values_of (column_names program.now) (lines_of bytes.now))) }
+    ensures { Answers is_memory result (unless (first_fault (line_fault (column_names program.now)) [] (lines_of bytes.now)) (Ok (values_of (column_names program.now) (lines_of bytes.now)))) }
 {
     let columns = finder_of(alloc, program)?;
     let mut said = nothing_said(alloc, program.column_count())?;
@@ -46,7 +48,7 @@ fn read_values(alloc: Global, bytes: &[u8], program: &Program) -> Result<Point, 
 /// Reads a solution of a program: a line for a column that is named, its name and its value, where others are 0.
 pub fn read_solution(alloc: Global, bytes: &[u8], program: &Program) -> Result<Point, SolutionFault>
     ensures too_large { SOLUTION_LIMIT < length bytes.now → result ≡ Err fault.TooLarge }
-    ensures answer { Answers result (solution program.now bytes.now) }
+    ensures answer { Answers is_memory result (solution program.now bytes.now) }
     ensures point { IfOk result (λ values. IsPoint program.now values) }
 {
     if bytes.len() > SOLUTION_LIMIT {

@@ -1,6 +1,6 @@
 //! Writing allocations and reports.
 
-ghost use Rattle.std.specs.Prelude.{◌≡◌, ◌<◌, [], length, false, true, OnOk, OnErr, IfErr};
+ghost use Rattle.std.specs.Prelude.{◌≡◌, ◌<◌, length, false, true, OnOk, OnErr, IfErr};
 ghost use Rattle.std.specs.Io.KnownBytes.{Appends};
 ghost use Rattle.auction_terms.specs.Allocations.{IsFeasible};
 ghost use Rattle.auction_terms.specs.Groups.{starts_empty};
@@ -15,22 +15,9 @@ ghost use Rattle.outcome.specs.Report.{allocation_text, report_text};
 use crate::allocation::Allocation;
 use crate::reporting::add_groups;
 use crate::winners::add_allocation;
-use auction_terms::{Choice, Groups};
+use auction_terms::Groups;
 use bid_desk::ClosedBook;
-use mps_text::{Block, Sink, SinkFailed, WriteFault, send};
-
-fn send_allocation<S: Sink>(
-    block: &mut Block,
-    sink: &mut S,
-    book: &ClosedBook,
-    choices: &[Choice],
-) -> Result<(), SinkFailed>
-    ensures adds { Adds result (S.taken sink.old) (S.taken sink.new) block.old block.new (S.failures sink.old) (S.failures sink.new) (allocation_text (sale_of book.now) choices.now) }
-    ensures empty { OnOk result (block.new.waiting.items ≡ []) }
-{
-    add_allocation(block, sink, book, choices)?;
-    send(block, sink)
-}
+use mps_text::{Sink, WriteFault, Writer};
 
 /// Writes the winners and the total of an allocation that is feasible with nobody left out. It takes no memory.
 pub fn write_allocation<S: Sink>(
@@ -43,36 +30,23 @@ pub fn write_allocation<S: Sink>(
     ensures err { IfErr result (λ e. SentFront (S.taken sink.old) (S.taken sink.new) (allocation_text (sale_of book.now) allocation.now) (written_of e)) }
     ensures failed { OnErr result (HasFailed (S.failures sink.old) (S.failures sink.new)) }
 {
-    let mut block = Block::new();
-    match send_allocation(&mut block, sink, book, allocation.choices()) {
-        Ok(()) => Ok(()),
-        Err(_) => Err(WriteFault::Sink {
-            written: block.sent,
-        }),
-    }
+    let mut writer = Writer::new(sink);
+    add_allocation(&mut writer, book, allocation.choices());
+    writer.flush()
 }
 
-fn send_report<S: Sink>(
-    block: &mut Block,
-    sink: &mut S,
+/// Adds a report.
+fn add_report<S: Sink>(
+    writer: &mut Writer<'_, S>,
     book: &ClosedBook,
     groups: &Groups,
     allocations: &[Allocation],
-) -> Result<(), SinkFailed>
+)
     requires count { length groups.now ≡ length allocations.now }
     requires some { 0 < length allocations.now }
-    ensures adds { Adds result (S.taken sink.old) (S.taken sink.new) block.old block.new (S.failures sink.old) (S.failures sink.new) (report_text (sale_of book.now) groups.now allocations.now) }
-    ensures empty { OnOk result (block.new.waiting.items ≡ []) }
+    ensures { Adds S.taken S.failures writer.old writer.new (report_text (sale_of book.now) groups.now allocations.now) }
 {
-    add_groups(
-        block,
-        sink,
-        book,
-        allocations[0].choices(),
-        groups,
-        allocations,
-    )?;
-    send(block, sink)
+    add_groups(writer, book, allocations[0].choices(), groups, allocations);
 }
 
 /// Writes an allocation for each group, the first of them for the empty group: each with its total and the group's opportunity cost. It takes no memory.
@@ -88,11 +62,7 @@ pub fn report<S: Sink>(
     ensures err { IfErr result (λ e. SentFront (S.taken sink.old) (S.taken sink.new) (report_text (sale_of book.now) groups.now allocations.now) (written_of e)) }
     ensures failed { OnErr result (HasFailed (S.failures sink.old) (S.failures sink.new)) }
 {
-    let mut block = Block::new();
-    match send_report(&mut block, sink, book, groups, allocations) {
-        Ok(()) => Ok(()),
-        Err(_) => Err(WriteFault::Sink {
-            written: block.sent,
-        }),
-    }
+    let mut writer = Writer::new(sink);
+    add_report(&mut writer, book, groups, allocations);
+    writer.flush()
 }

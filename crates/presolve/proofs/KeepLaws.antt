@@ -23,8 +23,8 @@ use Rattle.auction_terms.specs.Limits.{AreOffers, IsBefore, IsBook}
 use Rattle.auction_terms.specs.Offers.{offers, offer_of}
 use Rattle.auction_terms.proofs.LimitLaws.{kept_are_offers}
 use Rattle.bid_desk.specs.Closing.{Closing, book_of, bids_in, form_standing}
-use Rattle.presolve.specs.Flags.{flags_of, flags_of_form, flagged_from, kept_in_form}
-use Rattle.presolve.specs.inside.Flags.{flags_of_bidders}
+use Rattle.presolve.specs.Flags.{flags_of, flags_of_form, kept_in_form}
+use Rattle.presolve.specs.inside.Flags.{flagged_from, flags_of_bidders}
 
 -- a book has a form for each bidder of its rules
 pub length_book : (c : Closing) (t : Terms) (bidders : List Bidder) → bidders ≡ t.bidders → t ≡ c.rules → length bidders ≡ length (book_of c)
@@ -45,8 +45,13 @@ pub offers_parted : (lots : Lots) (xs ys : List Offer) → AreOffers lots (xs ++
 offers_parted lots [] ys a = (tt, a)
 offers_parted lots (x ∷ xs) ys a = let rest = offers_parted lots xs ys a.2 in ((a.0, before_first (IsBefore x) xs ys a.1, rest.0), rest.1)
 
+-- the flags of a form pick what the rule keeps
+pub by_flags : (lots : Lots) (form : List Bid) (b j : ℕ) (rest : List Bid) → flagged_from b j rest (map (is_kept lots form) rest) ≡ filter (λ o. is_kept lots form o.bid) (offers_of_form b j rest)
+by_flags lots form b j [] = refl
+by_flags lots form b j (x ∷ rest) = ap (λ (os : List Offer). cond (is_kept lots form x) (record { bidder = b; number = j; bid = x } ∷ os) os) (by_flags lots form b (j + 1) rest)
+
 module _ (lots : Lots) (book : Book) (group : ℕ → Bool) where
-  pub kept_outside : (b j : ℕ) (form : List Bid) (rest : List Bid) → group b ≡ false → form_of book b ≡ form → flagged_from b j rest (map (is_kept lots form) rest) ≡ filter (is_kept_offer lots book group) (offers_of_form b j rest)
+  pub kept_outside : (b j : ℕ) (form : List Bid) (rest : List Bid) → group b ≡ false → form_of book b ≡ form → filter (λ o. is_kept lots form o.bid) (offers_of_form b j rest) ≡ filter (is_kept_offer lots book group) (offers_of_form b j rest)
   kept_outside b j form [] g f = refl
   kept_outside b j form (x ∷ rest) g f =
       let test : is_kept lots form x ≡ is_kept_offer lots book group record { bidder = b; number = j; bid = x } = sym (ap₂ (λ (y : Bool) (w : List Bid). not y && is_kept lots w x) g f) in
@@ -175,6 +180,13 @@ module _ (lots : Lots) (book : Book) where
   ranges_joined first (suc front) back =
       ap (range_with_len first) (let e : suc front + back ≡ suc (front + back) = omega arith in e)
       ∙ ap (λ (ns : List ℕ). first ∷ ns) (ranges_joined (first + 1) front back ∙ ap (λ (n : ℕ). range_with_len (first + 1) front ++ range_with_len n back) (let e : first + 1 + front ≡ first + suc front = omega arith in e))
+
+  -- the flags of all bidders are those of the book
+  pub flags_whole : (count : ℕ) (forms : List (Vec Bool Global)) → count ≡ length book → map (λ (form : Vec Bool Global). form.items) forms ≡ flags_of_bidders lots book (range_with_len 1 count) → map (λ (form : Vec Bool Global). form.items) forms ≡ flags_of lots book
+  flags_whole count forms all are =
+      are ∙ ap (λ (n : ℕ). flags_of_bidders lots book (range_with_len 1 n)) all
+      ∙ flags_each lots book (range_with_len 1 (length book))
+      ∙ ap (map (flags_of_form lots)) (forms_from book 0 (length book) (omega arith))
 
   -- the flags of two ranges of bidders, one behind the other, are those of the book
   pub flags_joined : (front back : ℕ) (forms others : List (Vec Bool Global)) → front + back ≡ length book

@@ -92,8 +92,23 @@ ghost use Rattle.bid_desk.specs.Closing.{book_of};
 ghost use Rattle.presolve.specs.Flags.{flags_of, flags_of_form};
 ghost use Rattle.presolve.specs.inside.Flags.{flags_of_bidders};
 
+/// With fewer bids than this all forms are flagged by one thread: others would cost more time than they save.
+pub const FEW_BIDS: usize = 4_096;
+
+// How many bids the forms have together.
+fn bid_count(book: &ClosedBook) -> usize {
+    let bidders = book.rules().bidders().len() as u16;
+    let mut count: usize = 0;
+    for bidder in 1..bidders + 1 {
+        if let Some(form) = book.form(bidder) {
+            count = count.saturating_add(form.bids().len());
+        }
+    }
+    count
+}
+
 // The flags of every form, by rising bidder. Both halves of the bidders are flagged side by side, each by as many threads
-// as `rayon` takes: with fewer, longer pieces more processors would be without work at the end.
+// as `rayon` takes: with fewer, longer pieces more processors would be without work at the end. Few bids take one thread.
 fn flags_by_bidder(
     rt: &(impl Threads + Sync),
     alloc: Global,
@@ -104,14 +119,17 @@ fn flags_by_bidder(
     let bidders = book.rules().bidders().len() as u16;
     let middle = bidders / 2 + 1;
     let end = bidders + 1;
+    if bid_count(book) < FEW_BIDS {
+        return flags_between(rt, alloc, book, 1, end, usize::from(end));
+    }
     let (front, back) = join(
         rt,
         move || -> Result<Vec<Vec<bool>>, AllocError>
             ensures { IfOk result (λ forms. map (λ form. form.items) forms.items ≡ flags_of_bidders (lots_in book.entry.now.rules) (book_of book.entry.now) (range_with_len 1 (middle - 1))) }
-        { flags_between(rt, alloc, book, 1, middle) },
+        { flags_between(rt, alloc, book, 1, middle, 1) },
         move || -> Result<Vec<Vec<bool>>, AllocError>
             ensures { IfOk result (λ forms. map (λ form. form.items) forms.items ≡ flags_of_bidders (lots_in book.entry.now.rules) (book_of book.entry.now) (range_with_len middle (end - middle))) }
-        { flags_between(rt, alloc, book, middle, end) },
+        { flags_between(rt, alloc, book, middle, end, 1) },
     );
     let mut forms = front?;
     let mut others = back?;
@@ -119,19 +137,20 @@ fn flags_by_bidder(
     Ok(forms)
 }
 
-// The flags of the forms of bidders from the first up to the end. A form is worth a thread, however few there are.
+// The flags of the forms of bidders from the first up to the end, by threads that take at least so many forms each.
 fn flags_between(
     rt: &(impl Threads + Sync),
     alloc: Global,
     book: &ClosedBook,
     first: u16,
     end: u16,
+    least: usize,
 ) -> Result<Vec<Vec<bool>>, AllocError>
     ensures { IfOk result (λ forms. map (λ form. form.items) forms.items ≡ flags_of_bidders (lots_in book.now.rules) (book_of book.now) (range_with_len first (end - first))) }
 {
     let made: Result<Vec<Vec<bool>>, AllocError> = (first..end)
         .into_par_iter()
-        .with_min_len(1)
+        .with_min_len(least)
         .map(
             |bidder: u16| -> Result<Vec<bool>, AllocError>
                 ensures { IfOk result (λ flags. flags.items ≡ flags_of_form (lots_in book.entry.now.rules) (form_of (book_of book.entry.now) bidder)) }

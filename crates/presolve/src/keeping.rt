@@ -11,7 +11,8 @@ ghost use Rattle.auction_terms.specs.Terms.{lots_in};
 ghost use Rattle.auction_terms.specs.declared.limits.TheConstants.{MOST_BIDDERS, MOST_BIDS};
 ghost use Rattle.bid_desk.specs.Closing.{book_of};
 ghost use Rattle.bid_forms.specs.Offers.{IsWithinLimits};
-ghost use Rattle.presolve.specs.Flags.{flagged_from, kept_in_form};
+ghost use Rattle.presolve.specs.Flags.{kept_in_form};
+ghost use Rattle.presolve.specs.inside.Flags.{flagged_from};
 
 use crate::flags::Flags;
 use auction_terms::{Bid, Group, Kept, KeptBid};

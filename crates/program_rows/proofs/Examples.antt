@@ -7,7 +7,9 @@ use Rattle.program_rows.specs.Lines.{fields, line_of}
 use Rattle.program_rows.specs.declared.number.NumberFault.TheVariants as numbers
 use Rattle.program_rows.specs.Numbers.{number}
 use Rattle.program_rows.specs.declared.fault.FaultKind.TheVariants.{NotText, Section, SectionLeftOut, Fields, RowType, UnknownRow, ColumnSplit, EntryRepeated, NotWhole, UnknownColumn, BoundType, BoundValue, ObjectiveConstant, SenseMax, NoEnd, NotBinary}
-use Rattle.program_rows.specs.Meaning.{meaning, fault, program}
+use Rattle.program_rows.specs.Meaning.{meaning}
+use Rattle.program_rows.specs.Faults.{fault}
+use Rattle.program_rows.specs.Described.{program}
 
 abbrev v1_program : Table
 v1_program = record {

@@ -9,9 +9,11 @@ pub mod ColumnLemmas
 pub mod BuildLaws
 pub mod BuiltLaws
 pub mod SumLaws
+pub mod OneLaws
 pub mod BrokenLaws
 pub mod Folding
 pub mod TokenForm
+pub mod ShortNumbers
 pub mod LineParts
 pub mod NumeralLaws
 pub mod KeptLaws
@@ -19,3 +21,4 @@ pub mod LookupLaws
 pub mod NamedItems
 pub mod SameLaws
 pub mod NameSetLaws
+pub mod AddedNames

@@ -1,5 +1,5 @@
 -- The fields of a line, and what a line of an MPS text is.
-use Rattle.std.specs.Prelude.{ℕ, Bool, not, ◌||◌, ◌&&◌, nat_le, List, [], ◌∷◌, length, ◌==◌, if◌then◌else◌, slice_index}
+use Rattle.std.specs.Prelude.{ℕ, Bool, not, ◌||◌, ◌&&◌, nat_le, List, [], ◌∷◌, length, ◌==◌, if◌then◌else◌, slice_index, slice_get, unwrap_or}
 use Rattle.std.specs.List.{slice_split, filter, list_all}
 
 abbrev pub is_space : ℕ → Bool
@@ -8,6 +8,14 @@ is_space b = (b == 32) || (b == 9)
 -- the longest runs of bytes that are no white space
 unfoldable pub fields : List ℕ → List (List ℕ)
 fields line = filter (λ part. not (length part == 0)) (slice_split is_space line)
+
+-- the fields of a line that has some
+abbrev pub LineFields : Type 0
+LineFields = List (List ℕ)
+
+-- the field at a place, counted from 0; no bytes where there is none
+abbrev pub field : ℕ → LineFields → List ℕ
+field n fields = unwrap_or (slice_get fields n) []
 
 -- tab and 0x20 to 0x7E
 abbrev pub is_text_byte : ℕ → Bool

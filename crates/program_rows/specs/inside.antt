@@ -3,3 +3,4 @@ pub mod Comparing
 pub mod Cut
 pub mod Joined
 pub mod Pieces
+pub mod Ones

@@ -17,6 +17,7 @@ mod lookups;
 mod name_set;
 mod names;
 mod number;
+mod ones;
 mod parts;
 mod point;
 mod program;

@@ -88,25 +88,34 @@ fn is_at(names: &[&[u8]], place: usize, name: &[u8]) -> bool
     }
 }
 
-fn place_from(names: &NameSet, guess: usize, name: &[u8]) -> Option<usize>
+fn place_beside(names: &NameSet, next: usize, name: &[u8]) -> Option<usize>
     ensures index { result ≡ position (λ other. bytes_eq name.now other.now) names.now.keys }
     ensures found { is_some result ≡ list_any (λ other. bytes_eq name.now other.now) names.now.keys }
     ensures within { IfSome result (λ place. place < length names.now.keys) }
 {
-    if is_at(names.as_slice(), guess, name) {
-        return Some(guess);
+    if is_at(names.as_slice(), next, name) {
+        return Some(next);
+    }
+    let further = next.wrapping_add(1);
+    if is_at(names.as_slice(), further, name) {
+        return Some(further);
+    }
+    let earlier = next.wrapping_sub(2);
+    if is_at(names.as_slice(), earlier, name) {
+        return Some(earlier);
     }
     names.get_index_of(name)
 }
 
-/// The place of a name among the names, if it is one of them. `next` holds where it is looked for first, without a hash: behind
-/// the name that was found last.
+/// The place of a name among the names, if it is one of them. It is looked for without a hash first: behind the name that was
+/// found last, where `next` stands; one place further, since a column names its rows in order and mostly leaves out one at a
+/// time; and before it, so that names in falling order are found at once, too.
 pub fn place_of(names: &NameSet, next: &Cell<usize>, name: &[u8]) -> Option<usize>
     ensures index { result ≡ position (λ other. bytes_eq name.now other.now) names.now.keys }
     ensures found { is_some result ≡ list_any (λ other. bytes_eq name.now other.now) names.now.keys }
     ensures within { IfSome result (λ place. place < length names.now.keys) }
 {
-    let place = place_from(names, next.get(), name)?;
+    let place = place_beside(names, next.get(), name)?;
     next.set(place.wrapping_add(1));
     Some(place)
 }

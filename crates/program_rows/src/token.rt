@@ -10,7 +10,7 @@ use crate::digits::digits_behind;
 use crate::token_fault::TokenFault;
 use crate::token_parts::TokenParts;
 
-fn is_minus_at(token: &[u8]) -> bool
+pub fn is_minus_at(token: &[u8]) -> bool
     ensures { result ≡ is_minus token.now }
 {
     if token.is_empty() {
@@ -28,7 +28,7 @@ fn is_signed_at(token: &[u8]) -> bool
     token[0] == b'-' || token[0] == b'+'
 }
 
-fn after_sign(token: &[u8]) -> &[u8]
+pub fn after_sign(token: &[u8]) -> &[u8]
     ensures { result.now ≡ without_sign token.now }
 {
     if is_signed_at(token) {

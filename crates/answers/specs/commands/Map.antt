@@ -3,7 +3,7 @@ use Rattle.std.specs.Prelude.{◌-◌, ℕ, List, [], Result, Ok, Err, if◌then
 use Rattle.auction_input.specs.Auction.{Auction}
 use Rattle.auction_input.specs.PartsTold.{only_text}
 use Rattle.auction_input.specs.Refused.{Refused}
-use Rattle.auction_input.specs.Stages.{and_then}
+use Rattle.auction_terms.specs.Stages.{and_then}
 use Rattle.auction_input.specs.declared.refusal.Refusal.TheVariants as refusal
 use Rattle.outcome.specs.Report.{allocation_text}
 use Rattle.answers.specs.Winners.{winners}

@@ -3,7 +3,7 @@ use Rattle.std.specs.Prelude.{◌==◌, ℕ, List, Result, Ok, Err, if◌then◌
 use Rattle.std.specs.List.{zip}
 use Rattle.auction_input.specs.Auction.{Auction}
 use Rattle.auction_input.specs.Refused.{Refused}
-use Rattle.auction_input.specs.Stages.{and_then, each_in_turn}
+use Rattle.auction_terms.specs.Stages.{and_then, each_in_turn}
 use Rattle.auction_input.specs.declared.refusal.CountedPart.TheVariants as counted
 use Rattle.auction_input.specs.declared.refusal.Refusal.TheVariants as refusal
 use Rattle.auction_terms.specs.Groups.{starts_empty}

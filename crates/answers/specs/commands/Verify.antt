@@ -2,7 +2,7 @@
 use Rattle.std.specs.Prelude.{ℕ, List, Result}
 use Rattle.auction_input.specs.Auction.{Auction}
 use Rattle.auction_input.specs.Refused.{Refused}
-use Rattle.auction_input.specs.Stages.{and_then}
+use Rattle.auction_terms.specs.Stages.{and_then}
 use Rattle.answers.specs.Certified.{certified}
 use Rattle.answers.specs.commands.Report.{report_of, winners_of_groups}
 

@@ -1,18 +1,19 @@
 -- What a solution of the program without a group wins, or why it is refused.
-use Rattle.std.specs.Prelude.{ℕ, List, [], Result, Ok, slice_get}
-use Rattle.std.specs.List.{zip}
-use Rattle.std.specs.Option.{option_map_or}
-use Rattle.auction_input.specs.Refused.{Refused}
-use Rattle.auction_input.specs.Stages.{each_in_turn}
+use Rattle.std.specs.Prelude.{◌≡◌, ◌⊎◌, ◌+◌, ◌++◌, ◌∷◌, ℕ, List, [], Result, Ok, Err, IfOk, IfErr, map, slice_index_or}
+use Rattle.auction_input.specs.Refused.{Refusal, Refused, Refuses}
 use Rattle.auction_input.specs.declared.refusal.Refusal.TheVariants as refusal
 use Rattle.auction_terms.specs.declared.choices.Choice.{Choice}
-use Rattle.group_compiler.specs.Compiled.{GroupProgram}
-use Rattle.outcome.specs.declared.fault.SolutionFault.TheVariants as fault
-use Rattle.answers.specs.Winners.{winners_by}
+use Rattle.outcome.specs.Sale.{Sale}
+use Rattle.answers.specs.Winners.{winners}
 
--- the winners by a group's program and its solution, and by each
-abbrev pub winners_with : ℕ → GroupProgram × List ℕ → Result (List Choice) Refused
-winners_with number made_and_text = winners_by made_and_text.0.program number made_and_text.1
+-- the winners without the group at this place, from 0, by its solution
+abbrev pub winners_at : Sale → List (List ℕ) → List (List ℕ) → ℕ → Result (List Choice) Refused
+winners_at sale groups texts n = winners sale (n + 1) (slice_index_or groups n [], slice_index_or texts n [])
 
-abbrev pub winners_by_each : List GroupProgram → List (List ℕ) → Result (List (List Choice)) Refused
-winners_by_each programs solutions = each_in_turn winners_with 1 (zip programs solutions)
+-- the answer is what is told, or want of memory stands in its place
+abbrev pub IsTold : Result (List Choice) Refused → Result (List Choice) Refusal → Type 0
+IsTold told answer = IfOk answer (λ a. told ≡ Ok a) × IfErr answer (Refuses told)
+
+-- an answer that is a refusal comes after allocations alone; or memory was short
+abbrev pub IsFirstRefusal : List (Result (List Choice) Refusal) → Refusal → Type 0
+IsFirstRefusal answers r = ((before : List (List Choice)) × (after : List (Result (List Choice) Refusal)) × (answers ≡ map (λ a. Ok a) before ++ Err r ∷ after)) ⊎ (r ≡ refusal.OutOfMemory)

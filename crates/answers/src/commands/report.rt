@@ -44,11 +44,6 @@ fn write_costs<R: Threads + Wait + Sync + AllocGlobal, S: Sink>(
     ensures refused { IfErr result (Ends (costs_text (held auction.now)) (S.taken out.old) (S.taken out.new) (S.failures out.old) (S.failures out.new)) }
 {
     let won = won_by_groups(rt, auction, workers)?;
-    report(
-        &auction.book,
-        &auction.groups,
-        won.allocations.as_slice(),
-        out,
-    )?;
+    report(&auction.book, &auction.groups, won.as_slice(), out)?;
     Ok(())
 }

@@ -48,12 +48,8 @@ fn write_verified<R: Threads + Wait + Sync + AllocGlobal, S: Sink>(
     ensures refused { IfErr result (λ r. Ends (verified_text (held auction.now)) (S.taken out.old) (S.taken out.new) (S.failures out.old) (S.failures out.new) r ⊎ (IsBeyondSums (held auction.now) r × (S.taken out.new ≡ S.taken out.old))) }
 {
     let won = won_by_groups(rt, auction, workers)?;
-    check_certificates(rt, rt.alloc(), auction, &won)?;
-    report(
-        &auction.book,
-        &auction.groups,
-        won.allocations.as_slice(),
-        out,
-    )?;
+    let allocations = won.as_slice();
+    check_certificates(rt, rt.alloc(), auction, allocations)?;
+    report(&auction.book, &auction.groups, allocations, out)?;
     Ok(())
 }

@@ -2,7 +2,12 @@
 use Rattle.std.specs.Prelude.{◌≡◌, Bool, List, [], ◌∷◌, ◌++◌, Option, Some, None, Result, Ok, Err, ⊤, if◌then◌else◌}
 use Rattle.std.specs.Bool.{MatchBool}
 
--- the result is the value where no check found a fault, and else that fault, or want of memory stands in its place
-abbrev pub TellsUnless : {T F : Type 0} → (F → Bool) → Result T F → Option F → T → Type 0
-TellsUnless is_memory (Ok x) found value = (found ≡ None) × (x ≡ value)
-TellsUnless is_memory (Err f) found value = MatchBool (is_memory f) ⊤ (found ≡ Some f)
+-- the result is the value where no check found a fault, and else that fault, or memory was short
+abbrev pub Tells : {T F : Type 0} → (F → Bool) → Result T F → Option F → T → Type 0
+Tells is_memory (Ok x) found value = (found ≡ None) × (x ≡ value)
+Tells is_memory (Err f) found value = MatchBool (is_memory f) ⊤ (found ≡ Some f)
+
+-- the same, of the fault alone
+abbrev pub TellsFault : {T F : Type 0} → (F → Bool) → Result T F → Option F → Type 0
+TellsFault is_memory (Ok x) found = found ≡ None
+TellsFault is_memory (Err f) found = MatchBool (is_memory f) ⊤ (found ≡ Some f)

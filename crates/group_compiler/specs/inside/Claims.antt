@@ -1,5 +1,5 @@
 -- The counter from which workers draw group numbers: what each claim has drawn, and the rule of all claims together.
-use Rattle.std.specs.Prelude.{◌≡◌, ℕ, ◌+◌, ◌-◌, ◌<◌, cond, ◌==◌, nat_lt, List, [], ◌∷◌, ◌++◌, length, slice_index, sum_by, count_by}
+use Rattle.std.specs.Prelude.{◌≡◌, ℕ, ◌+◌, ◌-◌, ◌<◌, List, [], ◌∷◌, ◌++◌, length, slice_index, sum_by}
 use Rattle.atomic_table.specs.Table.{State, Me}
 use Rattle.group_compiler.specs.declared.steps.View.{View}
 use Rattle.group_compiler.specs.declared.limits.TheConstants.{ALL_DRAWS, WORKER_DRAWS}

@@ -1,4 +1,4 @@
-//! What is checked where any one growth is refused (see tools/refuse_calls): nothing, for want of memory, or the verdict
+//! What is checked where any one growth is refused (see tools/refuse_calls): nothing, since memory was short, or the verdict
 //! with ample memory.
 
 use super::{SHOWN, odd_cycle};

@@ -1,5 +1,5 @@
 //! What is kept and ordered, by the calls themselves. Where any one growth is refused (see tools/refuse_calls), they tell
-//! want of memory, or the same.
+//! that memory was short, or the same.
 
 use super::KEPT;
 use crate::worked::books::{book_of, worked_book};

@@ -1,4 +1,4 @@
-//! What is built where any one growth is refused (see tools/refuse_calls): nothing, for want of memory, or what is built
+//! What is built where any one growth is refused (see tools/refuse_calls): nothing, since memory was short, or what is built
 //! with ample memory. Programs with bids are built so by group_compiler's tests.
 
 use super::{WITH_POOLS, WITH_VALUES};

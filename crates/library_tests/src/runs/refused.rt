@@ -1,5 +1,5 @@
 //! What the program's calls answer. Where any one growth or start of a thread is refused (see tools/refuse_calls), they
-//! tell want of memory and have put nothing, or the same.
+//! tell that memory was short and have put nothing, or the same.
 
 ghost use Rattle.std.specs.Prelude.{ℕ, List, Option, None};
 
@@ -70,7 +70,7 @@ fn failure(refusal: &Refusal) -> Fail {
     }
 }
 
-/// Runs the program: the output is to be this one; or else nothing is put, and one line tells want of memory.
+/// Runs the program: the output is to be this one; or else nothing is put, and one line tells that memory was short.
 fn answers<'w, R: Threads + Wait + Sync + AllocGlobal>(
     rt: &R,
     words: &'w [&'w str],

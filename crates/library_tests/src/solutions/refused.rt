@@ -1,4 +1,4 @@
-//! What is read and won where any one growth is refused (see tools/refuse_calls): nothing, for want of memory, or what it
+//! What is read and won where any one growth is refused (see tools/refuse_calls): nothing, since memory was short, or what it
 //! is with ample memory.
 
 use super::program_of_three;

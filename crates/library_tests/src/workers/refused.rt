@@ -1,5 +1,5 @@
 //! What is compiled, by the calls themselves. Where any one growth or start of a thread is refused (see
-//! tools/refuse_calls), they tell want of memory, or the same.
+//! tools/refuse_calls), they tell that memory was short, or the same.
 
 use super::{ALL, WITHOUT_ALL, WITHOUT_BETA};
 use crate::worked::books::worked_book;

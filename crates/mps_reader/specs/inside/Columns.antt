@@ -1,9 +1,11 @@
 -- The columns that the code holds.
-use Rattle.std.specs.Prelude.{◌≡◌, ℕ, ◌<◌, Bool, true, false, ◌==◌, List, [], ◌∷◌, ◌++◌, length, map, slice_get, Option, Some, None, is_some, ℤ, pos, bytes_eq, ◌≢◌, if◌then◌else◌}
+use Rattle.std.specs.Prelude.{◌≡◌, ℕ, suc, ◌<◌, Bool, true, false, ◌==◌, List, [], ◌∷◌, ◌++◌, length, map, slice_get, Option, Some, None, is_some, ℤ, pos, bytes_eq, ◌≢◌, if◌then◌else◌}
 use Rattle.std.specs.Ordering.{int_eq}
 use Rattle.std.specs.List.{AllByRecursion, IsDistinct, list_any}
 use Rattle.std.specs.Option.{option_to_list}
 use Rattle.program_rows.specs.Parts.{IsName, AreEntries}
+use Rattle.program_rows.specs.Lines.{LineFields, field}
+use Rattle.program_rows.specs.Described.{is_marker}
 use Rattle.mps_reader.specs.inside.Rows.{names_of, option_now}
 use Rattle.mps_reader.specs.declared.open_column.OpenColumn.{OpenColumn}
 use Rattle.mps_reader.specs.declared.column_table.ColumnTable.{ColumnTable}
@@ -65,3 +67,15 @@ pub record IsEmptyColumns (c : ColumnTable) : Type 0 where
   pub cost : c.current_column.cost ≡ pos 0
   pub entries : c.current_column.entries.items ≡ []
   pub begun : c.is_begun ≡ false
+
+-- ---- what the lines of COLUMNS say
+
+-- the numbers of rows that are not 0, from a place on
+abbrev pub entries_at : ℕ → (List ℕ → ℤ) → List (List ℕ) → List (ℕ × ℤ)
+entries_at place number [] = []
+entries_at place number (row ∷ rows) = if int_eq (number row) (pos 0) then entries_at (suc place) number rows else (place, number row) ∷ entries_at (suc place) number rows
+
+-- the column of the nearest line, unless that is a marker
+abbrev pub nearest_column : List LineFields → Option (List ℕ)
+nearest_column [] = None
+nearest_column (fields ∷ before) = if is_marker fields then None else Some (field 0 fields)

@@ -1,5 +1,5 @@
 -- What the code holds and answers, as lines and faults of the definitions.
-use Rattle.std.specs.Prelude.{◌≡◌, ℕ, ◌≤◌, Bool, not, List, length, map, take, Option, Some, None, Result, Ok, Err}
+use Rattle.std.specs.Prelude.{◌≡◌, ℕ, ◌≤◌, Bool, not, ◌&&◌, nat_le, List, length, map, take, Option, Some, None, Result, Ok, Err}
 use Rattle.std.specs.List.{AllByRecursion}
 use denote.Ref.{Bor}
 use Rattle.program_rows.specs.Lines as spec
@@ -10,13 +10,15 @@ use Rattle.mps_reader.specs.declared.lines.Line.{Line}
 use Rattle.mps_reader.specs.declared.lines.Line.TheVariants.{Skipped, Unprintable, Header, Data}
 use Rattle.mps_reader.specs.declared.refusal.Refusal.{Refusal}
 use Rattle.mps_reader.specs.declared.refusal.Refusal.TheVariants.{Memory, Fault}
-
-abbrev pub bytes_of : List (Bor (List ℕ)) → List (List ℕ)
-bytes_of fields = map (λ f. f.now) fields
+use Rattle.auction_terms.specs.Borrowed.{bytes_of}
 
 -- a byte that is no white space
 abbrev pub is_other : ℕ → Bool
 is_other b = not (is_space b)
+
+-- a byte that ends a field: white space, or one that no text has
+abbrev pub is_behind : ℕ → Bool
+is_behind b = not (nat_le 33 b && nat_le b 126)
 
 -- the first fields of a line: more than five are as good as six
 pub record AreFirst (first : List (List ℕ)) (all : List (List ℕ)) : Type 0 where

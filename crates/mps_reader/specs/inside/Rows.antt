@@ -1,15 +1,20 @@
 -- The rows that the code holds.
-use Rattle.std.specs.Prelude.{◌≡◌, ℕ, zero, suc, Bool, true, false, ◌==◌, List, [], ◌∷◌, ◌++◌, length, map, bytes_eq, Option, Some, None, IfSome, ℤ, pos, is_none, if◌then◌else◌}
+use Rattle.std.specs.Prelude.{◌≡◌, ℕ, zero, suc, Bool, true, false, not, ◌&&◌, ◌==◌, filter, reverse, List, [], ◌∷◌, ◌++◌, length, map, bytes_eq, Option, Some, None, IfSome, ℤ, pos, is_none, if◌then◌else◌}
 use Rattle.std.specs.List.{AllByRecursion, IsDistinct, list_any}
 use Rattle.std.specs.Option.{option_map}
+use Rattle.std.specs.Ordering.{int_eq}
 use denote.Ref.{Bor}
 use Rattle.indexmap.specs.IndexSet.{IndexSet}
 use Rattle.program_rows.specs.declared.name_set.Seeded.{Seeded}
 use Rattle.program_rows.specs.declared.row.Row.{Row}
 use Rattle.program_rows.specs.Program.{TableRow}
 use Rattle.program_rows.specs.Parts.{IsName, shown_row}
-use Rattle.program_rows.specs.Meaning.{kind_of}
-use Rattle.mps_reader.specs.inside.Reading.{bytes_of}
+use Rattle.program_rows.specs.Lines.{LineFields, field}
+use Rattle.program_rows.specs.Described.{is_free, kind_of, value}
+use Rattle.program_rows.specs.Faults.{earliest_fault, when, number_fault}
+use Rattle.program_rows.specs.declared.fault.FaultKind.{FaultKind}
+use Rattle.program_rows.specs.declared.fault.FaultKind.TheVariants.{UnknownRow, EntryRepeated, ObjectiveConstant}
+use Rattle.auction_terms.specs.Borrowed.{bytes_of}
 use Rattle.mps_reader.specs.declared.row_table.Rows.{Rows}
 
 abbrev pub NameSet : Type 0
@@ -77,3 +82,20 @@ abbrev pub with_side : ℕ → ℤ → List TableRow → List TableRow
 with_side place side [] = []
 with_side zero side (r ∷ rows) = record r { right_side = side } ∷ rows
 with_side (suc place) side (r ∷ rows) = r ∷ with_side place side rows
+
+-- ---- what the lines of ROWS and RHS say
+
+abbrev pub declared_names : List LineFields → List (List ℕ)
+declared_names rows = map (field 1) (reverse rows)
+
+-- the lines of the rows that are not free
+abbrev pub bound_lines_of : List LineFields → List LineFields
+bound_lines_of rows = filter (λ fields. not (is_free fields)) (reverse rows)
+
+-- rows with these right sides
+abbrev pub rows_by : (List ℕ → ℤ) → List LineFields → List TableRow
+rows_by side lines = map (λ fields. record { name = field 1 fields; kind = kind_of (field 0 fields); right_side = side (field 1 fields) }) lines
+
+-- the checks of a pair, whose row is known or not, repeated or not, and the objective or not
+abbrev pub side_fault : Bool → Bool → Bool → List ℕ → Option FaultKind
+side_fault known repeated cost number = earliest_fault (when (not known) UnknownRow ∷ when repeated EntryRepeated ∷ number_fault number ∷ when (cost && not (int_eq (value number) (pos 0))) ObjectiveConstant ∷ [])

@@ -3,14 +3,16 @@ use Rattle.std.specs.Prelude.{◌≡◌, ℕ, ◌+◌, ◌++◌, ◌≤◌, ◌=
 use Rattle.std.specs.List.{list_any, AllByRecursion}
 use Rattle.std.specs.Option.{option_map_or}
 use denote.Ref.{Bor}
-use Rattle.program_rows.specs.Lines.{Line}
+use Rattle.program_rows.specs.Lines.{LineFields}
+use Rattle.program_rows.specs.Sections.{Sections}
+use Rattle.program_rows.specs.Described.{names, first_free, all_right_sides, table_rows, column_names, all_entries, coefficient, lower, upper}
+use Rattle.program_rows.specs.Faults.{is_integer_open, is_integer}
 use Rattle.program_rows.specs.declared.bounds.Bounds.TheVariants.{ZeroOrOne}
 use Rattle.program_rows.specs.Program.{TableColumn}
 use Rattle.program_rows.specs.Parts.{shown_row}
-use Rattle.program_rows.specs.Meaning.{LineFields, section, data_under, is_integer_open, names}
-use Rattle.mps_reader.specs.inside.Rows.{names_of, option_now, row_names, StampsAre}
+use Rattle.mps_reader.specs.inside.Columns.{entries_at, nearest_column}
+use Rattle.mps_reader.specs.inside.Rows.{names_of, option_now, row_names, StampsAre, declared_names}
 use Rattle.mps_reader.specs.inside.Sections.{word_of}
-use Rattle.mps_reader.specs.inside.Told.{declared_names, told_objective, told_right_sides, told_rows, told_names, told_entries, coefficient_in, entries_at, nearest_column, told_lower, told_upper, told_integer}
 use Rattle.mps_reader.specs.declared.sections.Section.{Section}
 use Rattle.mps_reader.specs.declared.sections.Section.TheVariants as sections
 use Rattle.mps_reader.specs.declared.row_table.Rows.{Rows}
@@ -21,8 +23,8 @@ use Rattle.mps_reader.specs.declared.reading_state.Reading.{Reading}
 
 pub record RowsTell (rows rights : List LineFields) (r : Rows) : Type 0 where
   pub names : names_of r.names ≡ declared_names rows
-  pub shown : map shown_row r.rows.items ≡ told_rows rows rights
-  pub objective : option_now r.objective ≡ told_objective rows
+  pub shown : map shown_row r.rows.items ≡ table_rows rows (all_right_sides rights)
+  pub objective : option_now r.objective ≡ first_free rows
 
 -- no stamp is above this one
 abbrev pub AreStampsUpTo : ℕ → Rows → Type 0
@@ -51,18 +53,18 @@ abbrev pub bounded_values : List ℕ → ℤ → Bool × ℤ × Option ℤ → B
 bounded_values word number v = (v.0, if bytes_eq word (codes "UP") then v.1 else number, if bytes_eq word (codes "LO") then v.2 else Some number)
 
 abbrev pub told_values : List LineFields → List LineFields → List ℕ → Bool × ℤ × Option ℤ
-told_values lines bounds column = (told_integer lines bounds column, told_lower bounds column, told_upper bounds column)
+told_values lines bounds column = (is_integer lines bounds column, lower bounds column, upper bounds column)
 
 -- a column whose lines are all read, but for its bounds
 abbrev pub told_column : Option (List ℕ) → List (List ℕ) → List LineFields → List ℕ → TableColumn
-told_column objective rows lines name = record { name = name; bounds = ZeroOrOne; cost = coefficient_in (told_entries lines) name (unwrap_or objective []); entries = entries_at 0 (coefficient_in (told_entries lines) name) rows }
+told_column objective rows lines name = record { name = name; bounds = ZeroOrOne; cost = coefficient (all_entries lines) name (unwrap_or objective []); entries = entries_at 0 (coefficient (all_entries lines) name) rows }
 
 pub record ColumnsTell (objective : Option (List ℕ)) (rows : List (List ℕ)) (lines bounds : List LineFields) (c : ColumnTable) : Type 0 where
-  pub names : names_of c.names ≡ told_names lines
+  pub names : names_of c.names ≡ column_names lines
   pub begun : c.is_begun ≡ is_integer_open lines
-  pub states : map state_values c.states.items ≡ map (told_values lines bounds) (told_names lines)
+  pub states : map state_values c.states.items ≡ map (told_values lines bounds) (column_names lines)
   pub done : AllByRecursion (λ k. k ≡ told_column objective rows lines k.name) c.done
-  pub opened : IfSome c.current (λ name. OpenTells objective rows (coefficient_in (told_entries lines) name.now) c.current_column)
+  pub opened : IfSome c.current (λ name. OpenTells objective rows (coefficient (all_entries lines) name.now) c.current_column)
   pub closed : is_some c.current ≡ false → c.current_column.cost ≡ pos 0
 
 -- whether the name is that of the current column
@@ -71,10 +73,10 @@ is_current current name = option_map_or (λ other. bytes_eq name other.now) curr
 
 -- the columns of the lines so far, and one more that no line has named yet
 pub record ColumnAdded (objective : Option (List ℕ)) (rows : List (List ℕ)) (lines : List LineFields) (name : List ℕ) (c : ColumnTable) : Type 0 where
-  pub fresh : list_any (bytes_eq name) (told_names lines) ≡ false
-  pub all : names_of c.names ≡ told_names lines ++ name ∷ []
+  pub fresh : list_any (bytes_eq name) (column_names lines) ≡ false
+  pub all : names_of c.names ≡ column_names lines ++ name ∷ []
   pub begun : c.is_begun ≡ is_integer_open lines
-  pub states : map state_values c.states.items ≡ map (told_values lines []) (told_names lines) ++ (is_integer_open lines, pos 0, None) ∷ []
+  pub states : map state_values c.states.items ≡ map (told_values lines []) (column_names lines) ++ (is_integer_open lines, pos 0, None) ∷ []
   pub done : AllByRecursion (λ k. k ≡ told_column objective rows lines k.name) c.done
   pub cost : c.current_column.cost ≡ pos 0
   pub entries : c.current_column.entries.items ≡ []
@@ -85,7 +87,7 @@ pub record InColumns (lines rights bounds : List LineFields) (r : Rows) (c : Col
   pub no_bounds : bounds ≡ []
   pub low : AreStampsUpTo (length (names_of c.names)) r
   pub current : option_now c.current ≡ nearest_column lines
-  pub stamps : IfSome c.current (λ name. StampsAre r.stamps.items (length (names_of c.names)) (names_of r.names) (λ row. list_any (names name.now row) (told_entries lines)))
+  pub stamps : IfSome c.current (λ name. StampsAre r.stamps.items (length (names_of c.names)) (names_of r.names) (λ row. list_any (names name.now row) (all_entries lines)))
 
 pub record InRows (lines rights bounds : List LineFields) (r : Rows) (c : ColumnTable) : Type 0 where
   pub no_lines : lines ≡ []
@@ -100,7 +102,7 @@ pub record BeforeRows (rows lines rights bounds : List LineFields) (r : Rows) (c
 -- those of a line of RHS are those of the rows that a right side has named
 pub record InRightSides (rights bounds : List LineFields) (r : Rows) (c : ColumnTable) : Type 0 where
   pub no_bounds : bounds ≡ []
-  pub stamps : StampsAre r.stamps.items (length (names_of c.names) + 1) (names_of r.names) (λ row. list_any (λ other. bytes_eq row other.0) (told_right_sides rights))
+  pub stamps : StampsAre r.stamps.items (length (names_of c.names) + 1) (names_of r.names) (λ row. list_any (λ other. bytes_eq row other.0) (all_right_sides rights))
 
 abbrev pub SectionTells : Section → List LineFields → List LineFields → List LineFields → List LineFields → Rows → ColumnTable → Type 0
 SectionTells sections.Start rows lines rights bounds r c = BeforeRows rows lines rights bounds r c
@@ -118,6 +120,6 @@ pub record LinesTell (rows lines rights bounds : List LineFields) (r : Reading) 
   pub of_columns : ColumnsTell (option_now r.rows.objective) (row_names r.rows.rows.items) lines bounds r.columns
   pub of_section : SectionTells r.section rows lines rights bounds r.rows r.columns
 
-pub record ReadingTells (before : List Line) (r : Reading) : Type 0 where
-  pub section : section before ≡ word_of r.section
-  pub lines : LinesTell (data_under (codes "ROWS") before) (data_under (codes "COLUMNS") before) (data_under (codes "RHS") before) (data_under (codes "BOUNDS") before) r
+pub record ReadingTells (before : Sections) (r : Reading) : Type 0 where
+  pub section : before.section ≡ word_of r.section
+  pub lines : LinesTell before.rows before.columns before.right_sides before.bounds r

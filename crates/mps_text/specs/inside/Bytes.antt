@@ -1,6 +1,5 @@
 -- The bytes of the lines of each row and column, and of each section.
-use Rattle.std.specs.Prelude.{ℕ, List, [], ◌∷◌, ◌++◌, map, flat_map, codes, ℤ}
-use Rattle.std.specs.Fmt.{signed_decimal}
+use Rattle.std.specs.Prelude.{ℕ, List, [], ◌∷◌, ◌++◌, map, flat_map, codes}
 use Rattle.program_rows.specs.declared.parts.ProgramParts.{ProgramParts}
 use Rattle.program_rows.specs.Parts.{shown_row}
 use Rattle.program_rows.specs.Lines.{Data}
@@ -12,12 +11,9 @@ abbrev pub where_any : {X : Type 0} → List X → List ℕ → List ℕ
 where_any [] bytes = []
 where_any (x ∷ xs) bytes = bytes
 
--- NAME, ROWS and the objective
-abbrev pub head_bytes : ProgramParts → List ℕ
-head_bytes p = codes "NAME wdp\nROWS\n" ++ written (Data (codes "N" ∷ p.objective_name.items ∷ []))
-
+-- NAME, and ROWS with the objective and its lines
 abbrev pub rows_bytes : ProgramParts → List ℕ
-rows_bytes p = head_bytes p ++ flat_map (λ r. row_bytes (shown_row r)) p.rows.items
+rows_bytes p = codes "NAME wdp\nROWS\n" ++ written (Data (codes "N" ∷ p.objective_name.items ∷ [])) ++ flat_map (λ r. row_bytes (shown_row r)) p.rows.items
 
 abbrev pub opened_bytes : ProgramParts → List ℕ
 opened_bytes p = codes " M1 'MARKER' 'INTORG'\n" ++ flat_map (column_bytes p.objective_name.items (map shown_row p.rows.items)) p.columns
@@ -33,11 +29,5 @@ right_sides_bytes p = codes "RHS\n" ++ flat_map (λ r. right_side_bytes (shown_r
 abbrev pub bounds_bytes : ProgramParts → List ℕ
 bounds_bytes p = where_any p.columns (codes "BOUNDS\n" ++ flat_map bound_bytes p.columns)
 
-abbrev pub to_columns_bytes : ProgramParts → List ℕ
-to_columns_bytes p = rows_bytes p ++ codes "COLUMNS\n" ++ columns_bytes p
-
-abbrev pub to_bounds_bytes : ProgramParts → List ℕ
-to_bounds_bytes p = to_columns_bytes p ++ right_sides_bytes p ++ bounds_bytes p
-
 abbrev pub parts_bytes : ProgramParts → List ℕ
-parts_bytes p = to_bounds_bytes p ++ codes "ENDATA\n"
+parts_bytes p = rows_bytes p ++ codes "COLUMNS\n" ++ columns_bytes p ++ right_sides_bytes p ++ bounds_bytes p ++ codes "ENDATA\n"

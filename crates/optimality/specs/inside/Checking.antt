@@ -1,9 +1,9 @@
 -- What a certificate is checked against.
 use Rattle.std.specs.Prelude.{◌≡◌}
 use Rattle.optimality.specs.declared.checker.Checker.{Checker}
-use Rattle.optimality.specs.inside.Holding.{bytes_of}
+use Rattle.auction_terms.specs.Borrowed.{bytes_of}
 use Rattle.optimality.specs.inside.RowForms.{forms_of, row_forms}
-use Rattle.optimality.specs.Told.{column_names, row_names}
+use Rattle.program_rows.specs.ProgramNames.{column_names, row_names}
 
 -- the names and the forms of rows are those of the program
 pub record IsPrepared (c : Checker) : Type 0 where

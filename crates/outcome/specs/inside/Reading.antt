@@ -4,9 +4,6 @@ use Rattle.std.specs.List.{list_any}
 use denote.Ref.{Bor}
 use Rattle.outcome.specs.Solution.{names, is_one}
 
-abbrev pub bytes_of : List (Bor (List ℕ)) → List (List ℕ)
-bytes_of texts = map (λ t. t.now) texts
-
 -- what the lines say of a column: nothing, or whether it is 1
 abbrev pub said_of : List (List ℕ) → List ℕ → Option Bool
 said_of text column = if list_any (names column) text then Some (is_one text column) else None

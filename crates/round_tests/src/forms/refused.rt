@@ -1,4 +1,4 @@
-//! What is read where any one growth is refused (see tools/refuse_calls): nothing, for want of memory, or what is read with
+//! What is read where any one growth is refused (see tools/refuse_calls): nothing, since memory was short, or what is read with
 //! ample memory.
 
 use crate::worked::RULES;

@@ -13,15 +13,15 @@ Verdicts = List (Result (Unit {0}) CertificateFault)
 pub returns-clause-shown : goal.returns-clause-shown
 returns-clause-shown g c =
     let bounds = c.args.bounds.now in
-    let each = subst (λ (xs : Verdicts). AllZip IsJudged bounds xs) (sym c.as_slice.ensures.value) c.in_ok-verdicts.ensures in
-    all-checked bounds c.as_slice.result.now c.first_refused.result each c.first_refused.ensures.shown
+    let each = subst (λ (xs : Verdicts). AllZip (IsJudged c.args.compiler.now.book) bounds xs) (sym c.as_slice.ensures.value) c.in_ok-verdicts.ensures in
+    all-checked c.args.compiler.now.book bounds c.as_slice.result.now c.first_refused.result each c.first_refused.ensures.shown
 
 pub returns-clause-refuses : goal.returns-clause-refuses
 returns-clause-refuses g c =
     let bounds = c.args.bounds.now in
-    let each = subst (λ (xs : Verdicts). AllZip IsJudged bounds xs) (sym c.as_slice.ensures.value) c.in_ok-verdicts.ensures in
-    checks-ended bounds c.as_slice.result.now c.first_refused.result each c.first_refused.ensures.first
+    let each = subst (λ (xs : Verdicts). AllZip (IsJudged c.args.compiler.now.book) bounds xs) (sym c.as_slice.ensures.value) c.in_ok-verdicts.ensures in
+    checks-ended c.args.compiler.now.book bounds c.as_slice.result.now c.first_refused.result each c.first_refused.ensures.first
 
 pub returns-in_err-verdicts-clause-refuses : goal.returns-in_err-verdicts-clause-refuses
 returns-in_err-verdicts-clause-refuses g c =
-    if-err-of (EndsChecks (map claimed c.args.bounds.now)) c.from_residual.result refusal.OutOfMemory c.from_residual.ensures.1 (inl (inr refl))
+    if-err-of (EndsChecks (map (claimed c.args.compiler.now.book) c.args.bounds.now)) c.from_residual.result refusal.OutOfMemory c.from_residual.ensures.1 (inl (inr refl))

@@ -22,7 +22,7 @@ returns-clause-won g c =
     let empty : starts_empty auction.groups ≡ true = search rules in
     let each : length auction.solutions.items ≡ length auction.groups = search rules in
     let over = goes-over auction empty c.as_slice.result.now each c.as_slice.ensures.value in
-    subst (λ told. IfOk c.won_by_each.result (λ won. told ≡ Ok won.allocations.items)) (sym over) c.won_by_each.ensures.won
+    subst (λ told. IfOk c.won_by_each.result (λ won. told ≡ Ok won.items)) (sym over) c.won_by_each.ensures.won
 
 pub returns-clause-refuses : goal.returns-clause-refuses
 returns-clause-refuses g c =

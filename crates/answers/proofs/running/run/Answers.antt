@@ -1,5 +1,5 @@
 use Rattle.std.proofs.Common.{arith, inl, inr, refl}
-use Rattle.auction_input.specs.Parts.{bytes_of}
+use Rattle.auction_terms.specs.Borrowed.{bytes_of}
 use Rattle.answers.specs.Runs.{by_request}
 use Rattle.answers.proofs.AskedFacts.{help-asked, nothing-asked}
 use Rattle.answers.proofs.RunFacts.{untold}

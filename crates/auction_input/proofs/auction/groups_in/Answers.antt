@@ -1,8 +1,8 @@
 use Rattle.std.proofs.Common.{◌∙◌, ℕ, List, ap, sym, subst}
 use Rattle.auction_input.specs.Refused.{Refuses}
 use Rattle.auction_input.specs.InputTexts.{groups_in}
-use Rattle.auction_input.specs.Parts.{bytes_of}
-use Rattle.auction_input.specs.Stages.{refused_as}
+use Rattle.auction_terms.specs.Borrowed.{bytes_of}
+use Rattle.auction_terms.specs.Stages.{refused_as}
 use Rattle.auction_input.specs.TextsTold.{groups_told}
 use Rattle.auction_input.specs.declared.refusal.Refusal.TheVariants as refusal
 use Rattle.auction_input.proofs.FaultFacts.{groups-refuse}

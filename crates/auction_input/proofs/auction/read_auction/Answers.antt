@@ -9,7 +9,8 @@ use Rattle.auction_input.specs.Auction.{Auction}
 use Rattle.auction_input.specs.Calls.{calls_told}
 use Rattle.auction_input.specs.Refused.{Refuses}
 use Rattle.auction_input.specs.Settled.{RefusesAuction}
-use Rattle.auction_input.specs.Parts.{bytes_of, values}
+use Rattle.auction_terms.specs.Borrowed.{bytes_of}
+use Rattle.auction_input.specs.Parts.{values}
 use Rattle.auction_input.specs.TextsTold.{forms_told, groups_told, terms_told}
 use Rattle.auction_input.specs.declared.refusal.Refusal.TheVariants as refusal
 use Rattle.auction_input.proofs.AuctionFacts.{auction-held, auction-is, calls-refused, forms-refused, groups-refused, round-refused, terms-refused}

@@ -1,6 +1,6 @@
 use Rattle.std.proofs.Common.{◌≤◌, ◌+◌, arith, length}
 use Rattle.auction_input.specs.Refused.{Refuses}
-use Rattle.auction_input.specs.Parts.{bytes_of}
+use Rattle.auction_terms.specs.Borrowed.{bytes_of}
 use Rattle.auction_input.specs.TextsTold.{forms_told}
 use Rattle.auction_input.proofs.RefusalFacts.{if-err-of}
 use Rattle.auction_input.proofs.FormStageFacts.{all-read, none-read, stage-read, stage-refused}

@@ -4,7 +4,7 @@ use Rattle.auction_terms.proofs.FirstFaultFacts.{tells-err}
 use Rattle.bid_forms.proofs.FormFacts.{bids-all, bids-fault, bids-more}
 use Rattle.bid_forms.specs.Offers.{eligibility_of, offers}
 use Rattle.bid_forms.specs.FormText.{bid_of}
-use Rattle.bid_forms.specs.inside.FormText.{is_memory}
+use Rattle.bid_forms.specs.FormText.{is_memory}
 use Rattle.bid_forms.proofs.form_text.read_bids.Goals as goal
 
 pub returns-in_err-bid-clause-answer : goal.returns-in_err-bid-clause-answer

@@ -2,8 +2,10 @@ use Rattle.std.proofs.Common.{rules, ◌≡◌, ◌+◌, ◌∙◌, ap, sym, ref
 use Rattle.std.specs.Prelude.{bytes_eq, codes, Err, slice_get}
 use Rattle.std.specs.List.{list_any}
 use Rattle.program_rows.specs.declared.fault.FaultKind.TheVariants.{UnknownColumn}
-use Rattle.program_rows.specs.Meaning.{field, value, is_binary_bound, bound_place, bound_column, bound_number, is_column, bit_fault}
-use Rattle.mps_reader.specs.inside.Reading.{bytes_of}
+use Rattle.program_rows.specs.Lines.{field}
+use Rattle.program_rows.specs.Described.{value, is_binary_bound, bound_place, bound_column, bound_number}
+use Rattle.program_rows.specs.Faults.{is_column, bit_fault}
+use Rattle.auction_terms.specs.Borrowed.{bytes_of}
 use Rattle.mps_reader.specs.inside.Rows.{names_of}
 use Rattle.mps_reader.specs.inside.Tracking.{state_values, told_values, bounded_values}
 use Rattle.mps_reader.proofs.NameFacts.{any-names, length-bytes, own_name, same_name}

@@ -1,26 +1,33 @@
 use Rattle.std.proofs.Common.{rules, ◌≡◌, ◌||◌, ◌==◌, ◌∙◌, ap, sym, subst, ◌++◌, arith, ℕ, length, get_or}
 use Rattle.std.specs.Prelude.{bytes_eq, Err, if◌then◌else◌}
 use Rattle.std.specs.List.{list_any}
-use Rattle.program_rows.specs.Meaning.{names, field, value, line_entries}
-use Rattle.mps_reader.specs.inside.Reading.{bytes_of}
+use Rattle.program_rows.specs.Lines.{field}
+use Rattle.program_rows.specs.Described.{names, value, line_entries, coefficient}
+use Rattle.auction_terms.specs.Borrowed.{bytes_of}
 use Rattle.mps_reader.specs.inside.Rows.{names_of, option_now, row_names, StampsAre}
 use Rattle.mps_reader.specs.declared.row_table.Rows.{Rows}
-use Rattle.mps_reader.specs.inside.Told.{coefficient_in}
 use Rattle.mps_reader.specs.inside.Tracking.{OpenTells}
 use Rattle.mps_reader.proofs.NameFacts.{length-bytes, or-false}
 use Rattle.mps_reader.proofs.RowSteps.{no_name, field-at}
 use Rattle.mps_reader.proofs.AnswerFacts.{handed-on}
-use Rattle.mps_reader.proofs.EntriesTell.{one-stamps, one-tells, two-stamps, two-tells, first-refused, second-told, not-repeated, AreTwo, three}
+use Rattle.mps_reader.proofs.EntriesTell.{one-stamps, one-tells, two-stamps, two-tells, first-refused, one-told, second-told, AreTwo, three}
+use Rattle.mps_reader.proofs.PairFaults.{not-repeated}
 use Rattle.mps_reader.proofs.entries.take_entries.Goals as goal
 
 pub returns-in_err-take_entry-clause-fault : goal.returns-in_err-take_entry-clause-fault
-returns-in_err-take_entry-clause-fault c = λ before earlier d s.
+returns-in_err-take_entry-clause-fault c = λ lines has d s.
     let fields = bytes_of c.args.fields.now in
     let count = ap (λ (n : ℕ). (n == 3) || (n == 5)) (length-bytes c.args.fields.now) ∙ c.requires.count in
     let r : c.from_residual.result ≡ Err c.in_err-take_entry.field-0.0 = search rules in
     handed-on (Unit {0}) c.from_residual.result c.in_err-take_entry.field-0.0 _ _ r
-    (λ kind. first-refused before earlier fields (get_or c.args.fields.now 1 no_name).now (get_or c.args.fields.now 2 no_name).now (list_any (bytes_eq (get_or c.args.fields.now 1 no_name).now) (names_of c.args.rows.now.names)) kind count (field-at c.args.fields.now 1 (omega arith)) (field-at c.args.fields.now 2 (omega arith)) (d _))
-    (c.in_err-take_entry.ensures.fault (λ r. list_any (names (field 0 fields) r) earlier) s)
+    (λ kind. first-refused lines has fields (get_or c.args.fields.now 1 no_name).now (get_or c.args.fields.now 2 no_name).now (list_any (bytes_eq (get_or c.args.fields.now 1 no_name).now) (names_of c.args.rows.now.names)) kind count (field-at c.args.fields.now 1 (omega arith)) (field-at c.args.fields.now 2 (omega arith)) (d _))
+    (c.in_err-take_entry.ensures.fault has s)
+
+pub returns-clause-fault : goal.returns-clause-fault
+returns-clause-fault c = λ lines has d s.
+    let fields = bytes_of c.args.fields.now in
+    let size : length fields ≡ 3 = length-bytes c.args.fields.now ∙ three (length c.args.fields.now) c.requires.count c.if-fields-eq5.false in
+    one-told lines has fields (get_or c.args.fields.now 1 no_name).now (get_or c.args.fields.now 2 no_name).now (list_any (bytes_eq (get_or c.args.fields.now 1 no_name).now) (names_of c.args.rows.now.names)) size (field-at c.args.fields.now 1 (omega arith)) (field-at c.args.fields.now 2 (omega arith)) (d _) (c.in_ok-take_entry.ensures.fault has s)
 
 pub returns-clause-stamps : goal.returns-clause-stamps
 returns-clause-stamps c = λ earlier h.
@@ -33,10 +40,10 @@ returns-clause-tells c = λ fits earlier s h.
     let fields = bytes_of c.args.fields.now in
     let size : length fields ≡ 3 = length-bytes c.args.fields.now ∙ three (length c.args.fields.now) c.requires.count c.if-fields-eq5.false in
     one-tells fields (get_or c.args.fields.now 1 no_name).now (get_or c.args.fields.now 2 no_name).now (option_now c.args.rows.now.objective) (row_names c.args.rows.now.rows.items) earlier c.take_entry.new.column size
-    (field-at c.args.fields.now 1 (omega arith)) (field-at c.args.fields.now 2 (omega arith)) (c.in_ok-take_entry.ensures.tells fits (coefficient_in earlier (field 0 fields)) h)
+    (field-at c.args.fields.now 1 (omega arith)) (field-at c.args.fields.now 2 (omega arith)) (c.in_ok-take_entry.ensures.tells fits (coefficient earlier (field 0 fields)) h)
 
 pub returns-in_err-take_entry-2-clause-fault : goal.returns-in_err-take_entry-2-clause-fault
-returns-in_err-take_entry-2-clause-fault c = λ before earlier d s.
+returns-in_err-take_entry-2-clause-fault c = λ lines has d s.
     let fields = bytes_of c.args.fields.now in
     let kept : names_of c.take_entry.new.rows.names ≡ names_of c.args.rows.now.names = ap (λ q. names_of q.names) c.in_ok-take_entry.ensures.frame in
     let two : AreTwo fields (get_or c.args.fields.now 1 no_name).now (get_or c.args.fields.now 2 no_name).now (get_or c.args.fields.now 3 no_name).now (get_or c.args.fields.now 4 no_name).now = record {
@@ -48,13 +55,13 @@ returns-in_err-take_entry-2-clause-fault c = λ before earlier d s.
     } in
     let r : c.from_residual-in_err-take_entry-2.result ≡ Err c.in_err-take_entry-2.field-0.0 = search rules in
     handed-on (Unit {0}) c.from_residual-in_err-take_entry-2.result c.in_err-take_entry-2.field-0.0 _ _ r
-    (λ kind h. second-told before earlier fields (get_or c.args.fields.now 1 no_name).now (get_or c.args.fields.now 2 no_name).now (get_or c.args.fields.now 3 no_name).now (get_or c.args.fields.now 4 no_name).now
+    (λ kind h. second-told lines has fields (get_or c.args.fields.now 1 no_name).now (get_or c.args.fields.now 2 no_name).now (get_or c.args.fields.now 3 no_name).now (get_or c.args.fields.now 4 no_name).now
     (list_any (bytes_eq (get_or c.args.fields.now 1 no_name).now) (names_of c.args.rows.now.names)) (list_any (bytes_eq (get_or c.args.fields.now 3 no_name).now) (names_of c.take_entry.new.rows.names)) two (d _) (d _ ∙ ap (list_any (bytes_eq (get_or c.args.fields.now 3 no_name).now)) (sym kept))
-    (c.in_ok-take_entry.ensures.fault (λ r. list_any (names (field 0 fields) r) earlier) s) ∙ h)
-    (c.in_err-take_entry-2.ensures.fault (λ r. bytes_eq r (get_or c.args.fields.now 1 no_name).now || list_any (names (field 0 fields) r) earlier) (subst (λ ns. StampsAre c.take_entry.new.rows.stamps.items c.args.stamp ns (λ r. bytes_eq r (get_or c.args.fields.now 1 no_name).now || list_any (names (field 0 fields) r) earlier)) (sym kept) (c.in_ok-take_entry.ensures.stamps (λ r. list_any (names (field 0 fields) r) earlier) s)))
+    (c.in_ok-take_entry.ensures.fault has s) ∙ h)
+    (c.in_err-take_entry-2.ensures.fault (λ r. bytes_eq r (get_or c.args.fields.now 1 no_name).now || has r) (subst (λ ns. StampsAre c.take_entry.new.rows.stamps.items c.args.stamp ns (λ r. bytes_eq r (get_or c.args.fields.now 1 no_name).now || has r)) (sym kept) (c.in_ok-take_entry.ensures.stamps has s)))
 
 pub returns-then-fields-eq5-clause-fault : goal.returns-then-fields-eq5-clause-fault
-returns-then-fields-eq5-clause-fault c = λ before earlier d s.
+returns-then-fields-eq5-clause-fault c = λ lines has d s.
     let fields = bytes_of c.args.fields.now in
     let kept : names_of c.take_entry.new.rows.names ≡ names_of c.args.rows.now.names = ap (λ q. names_of q.names) c.in_ok-take_entry.ensures.frame in
     let two : AreTwo fields (get_or c.args.fields.now 1 no_name).now (get_or c.args.fields.now 2 no_name).now (get_or c.args.fields.now 3 no_name).now (get_or c.args.fields.now 4 no_name).now = record {
@@ -64,10 +71,10 @@ returns-then-fields-eq5-clause-fault c = λ before earlier d s.
       row2-is = field-at c.args.fields.now 3 (omega (arith, c.if-fields-eq5.true));
       number2-is = field-at c.args.fields.now 4 (omega (arith, c.if-fields-eq5.true));
     } in
-    second-told before earlier fields (get_or c.args.fields.now 1 no_name).now (get_or c.args.fields.now 2 no_name).now (get_or c.args.fields.now 3 no_name).now (get_or c.args.fields.now 4 no_name).now
+    second-told lines has fields (get_or c.args.fields.now 1 no_name).now (get_or c.args.fields.now 2 no_name).now (get_or c.args.fields.now 3 no_name).now (get_or c.args.fields.now 4 no_name).now
     (list_any (bytes_eq (get_or c.args.fields.now 1 no_name).now) (names_of c.args.rows.now.names)) (list_any (bytes_eq (get_or c.args.fields.now 3 no_name).now) (names_of c.take_entry.new.rows.names)) two (d _) (d _ ∙ ap (list_any (bytes_eq (get_or c.args.fields.now 3 no_name).now)) (sym kept))
-    (c.in_ok-take_entry.ensures.fault (λ r. list_any (names (field 0 fields) r) earlier) s)
-    ∙ c.in_ok-take_entry-2.ensures.fault (λ r. bytes_eq r (get_or c.args.fields.now 1 no_name).now || list_any (names (field 0 fields) r) earlier) (subst (λ ns. StampsAre c.take_entry.new.rows.stamps.items c.args.stamp ns (λ r. bytes_eq r (get_or c.args.fields.now 1 no_name).now || list_any (names (field 0 fields) r) earlier)) (sym kept) (c.in_ok-take_entry.ensures.stamps (λ r. list_any (names (field 0 fields) r) earlier) s))
+    (c.in_ok-take_entry.ensures.fault has s)
+    ∙ c.in_ok-take_entry-2.ensures.fault (λ r. bytes_eq r (get_or c.args.fields.now 1 no_name).now || has r) (subst (λ ns. StampsAre c.take_entry.new.rows.stamps.items c.args.stamp ns (λ r. bytes_eq r (get_or c.args.fields.now 1 no_name).now || has r)) (sym kept) (c.in_ok-take_entry.ensures.stamps has s))
 
 pub returns-then-fields-eq5-clause-stamps : goal.returns-then-fields-eq5-clause-stamps
 returns-then-fields-eq5-clause-stamps c = λ earlier h.
@@ -98,7 +105,7 @@ returns-then-fields-eq5-clause-tells c = λ fits earlier s h.
     let differ = or-false _ _ (not-repeated _ _ _ none) in
     two-tells fields (get_or c.args.fields.now 1 no_name).now (get_or c.args.fields.now 2 no_name).now (get_or c.args.fields.now 3 no_name).now (get_or c.args.fields.now 4 no_name).now (option_now c.args.rows.now.objective) (row_names c.args.rows.now.rows.items) earlier
     c.take_entry-then-fields-eq5.new.column two differ.0
-    (subst (λ (q : Rows). OpenTells (option_now q.objective) (row_names q.rows.items) (λ n. if bytes_eq n (get_or c.args.fields.now 3 no_name).now then value (get_or c.args.fields.now 4 no_name).now else (if bytes_eq n (get_or c.args.fields.now 1 no_name).now then value (get_or c.args.fields.now 2 no_name).now else coefficient_in earlier (field 0 fields) n)) c.take_entry-then-fields-eq5.new.column) c.in_ok-take_entry.ensures.frame
-    (c.in_ok-take_entry-2.ensures.tells (c.in_ok-take_entry.ensures.entries fits) (λ n. if bytes_eq n (get_or c.args.fields.now 1 no_name).now then value (get_or c.args.fields.now 2 no_name).now else coefficient_in earlier (field 0 fields) n)
-    (subst (λ (q : Rows). OpenTells (option_now q.objective) (row_names q.rows.items) (λ n. if bytes_eq n (get_or c.args.fields.now 1 no_name).now then value (get_or c.args.fields.now 2 no_name).now else coefficient_in earlier (field 0 fields) n) c.take_entry.new.column) (sym c.in_ok-take_entry.ensures.frame)
-    (c.in_ok-take_entry.ensures.tells fits (coefficient_in earlier (field 0 fields)) h))))
+    (subst (λ (q : Rows). OpenTells (option_now q.objective) (row_names q.rows.items) (λ n. if bytes_eq n (get_or c.args.fields.now 3 no_name).now then value (get_or c.args.fields.now 4 no_name).now else (if bytes_eq n (get_or c.args.fields.now 1 no_name).now then value (get_or c.args.fields.now 2 no_name).now else coefficient earlier (field 0 fields) n)) c.take_entry-then-fields-eq5.new.column) c.in_ok-take_entry.ensures.frame
+    (c.in_ok-take_entry-2.ensures.tells (c.in_ok-take_entry.ensures.entries fits) (λ n. if bytes_eq n (get_or c.args.fields.now 1 no_name).now then value (get_or c.args.fields.now 2 no_name).now else coefficient earlier (field 0 fields) n)
+    (subst (λ (q : Rows). OpenTells (option_now q.objective) (row_names q.rows.items) (λ n. if bytes_eq n (get_or c.args.fields.now 1 no_name).now then value (get_or c.args.fields.now 2 no_name).now else coefficient earlier (field 0 fields) n) c.take_entry.new.column) (sym c.in_ok-take_entry.ensures.frame)
+    (c.in_ok-take_entry.ensures.tells fits (coefficient earlier (field 0 fields)) h))))

@@ -1,5 +1,5 @@
 use Rattle.std.proofs.Common.{refl, length, []}
-use Rattle.mps_reader.specs.inside.Reading.{bytes_of}
+use Rattle.auction_terms.specs.Borrowed.{bytes_of}
 use Rattle.mps_reader.proofs.LineTells.{marker-tells}
 use Rattle.mps_reader.specs.inside.Rows.{names_of}
 use Rattle.mps_reader.proofs.ColumnSteps.{begun-fit, apart-none}

@@ -1,11 +1,29 @@
+use Rattle.std.proofs.Common.{sym, ◌∙◌}
 use Rattle.mps_reader.proofs.FieldFacts.{no-field, field-found, field-at-end}
+use Rattle.mps_reader.proofs.TextFacts.{blank-text, ended-text, ended-field, last-text, last-field, other-text}
 use Rattle.mps_reader.proofs.fields.next_field.Goals as goal
 
-pub returns-in_default : goal.returns-in_default
-returns-in_default c = no-field c.args.rest.now c.in_default.ensures
+pub returns-in_default-clause-fields : goal.returns-in_default-clause-fields
+returns-in_default-clause-fields c = no-field c.args.rest.now c.in_default.ensures
 
-pub returns-in-Some-field_end : goal.returns-in-Some-field_end
-returns-in-Some-field_end c = field-found c.args.rest.now c.from-text.result.now c.from.result.now c.in-Some.start c.in-Some-field_end.end c.in-Some.ensures c.from-text.ensures c.in-Some-field_end.ensures c.from.ensures
+pub returns-in_default-clause-text : goal.returns-in_default-clause-text
+returns-in_default-clause-text c = blank-text c.args.rest.now c.in_default.ensures
 
-pub returns-in-None : goal.returns-in-None
-returns-in-None c = field-at-end c.args.rest.now c.from-text.result.now c.from-in-None.result.now c.in-Some.start c.in-Some.ensures c.from-text.ensures c.in-None.ensures c.from-in-None.ensures
+pub returns-in_default-field_end-clause-fields : goal.returns-in_default-field_end-clause-fields
+returns-in_default-field_end-clause-fields c = field-at-end c.args.rest.now c.from-text.result.now c.from.result.now c.in-Some.start c.in-Some.ensures c.from-text.ensures (last-field c.from-text.result.now c.in_default-field_end.ensures) c.from.ensures
+
+pub returns-in_default-field_end-clause-text : goal.returns-in_default-field_end-clause-text
+returns-in_default-field_end-clause-text c = last-text c.args.rest.now c.from-text.result.now c.from.result.now c.in-Some.start c.in-Some.ensures c.from-text.ensures c.in_default-field_end.ensures c.from.ensures
+
+pub returns-then-not-is_space_byte-clause-other : goal.returns-then-not-is_space_byte-clause-other
+returns-then-not-is_space_byte-clause-other c =
+    other-text c.args.rest.now c.from-text.result.now c.in-Some.start c.in-Some-field_end.end c.in-Some.ensures c.from-text.ensures c.in-Some-field_end.ensures (sym c.is_space_byte.ensures ∙ c.if-not-is_space_byte.true)
+
+pub returns-clause-fields : goal.returns-clause-fields
+returns-clause-fields c =
+    let ended = ended-field c.from-text.result.now c.in-Some-field_end.end c.in-Some-field_end.ensures (sym c.is_space_byte.ensures ∙ c.if-not-is_space_byte.false) in
+    field-found c.args.rest.now c.from-text.result.now c.from-2.result.now c.in-Some.start c.in-Some-field_end.end c.in-Some.ensures c.from-text.ensures ended c.from-2.ensures
+
+pub returns-clause-text : goal.returns-clause-text
+returns-clause-text c =
+    ended-text c.args.rest.now c.from-text.result.now c.from-2.result.now c.in-Some.start c.in-Some-field_end.end c.in-Some.ensures c.from-text.ensures c.in-Some-field_end.ensures (sym c.is_space_byte.ensures ∙ c.if-not-is_space_byte.false) c.from-2.ensures

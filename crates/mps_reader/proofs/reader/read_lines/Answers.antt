@@ -3,9 +3,9 @@ use Rattle.auction_terms.specs.Lines.{lines_of}
 use Rattle.mps_reader.proofs.LineCount.{lines-within}
 use Rattle.mps_reader.proofs.EndFacts.{passed-push, moved}
 use Rattle.std.specs.Prelude.{Ok}
-use Rattle.program_rows.specs.Meaning.{meaning_from}
 use Rattle.program_rows.specs.Lines.{line_of}
-use Rattle.mps_reader.proofs.LineAnswers.{meaning-starts, meaning-goes-on, meaning-ends, program-ended}
+use Rattle.program_rows.specs.Sections.{no_lines, with_line}
+use Rattle.mps_reader.proofs.LineAnswers.{meaning_behind, meaning-starts, meaning-goes-on, meaning-ends, program-ended}
 use Rattle.mps_reader.proofs.reader.read_lines.Goals as goal
 
 pub overflow_add-place : goal.overflow_add-place
@@ -20,7 +20,6 @@ pub loop-line-preserved : goal.loop-line-preserved
 loop-line-preserved c =
     let h = c.loop-line.invariant.1 in
     let m = c.loop-line.invariant.2 in
-    let longer : length (line_of c.in-Some.line.now ∷ m.0) ≡ c.loop-line.place + 1 = let at = m.2 in omega arith in
     let size = length-append h.0 (c.in-Some.line.now ∷ []) in
     let count : c.loop-line.place + 1 ≡ length (h.0 ++ c.in-Some.line.now ∷ []) = ap (λ (n : ℕ). n + 1) h.3 ∙ sym size in (
       c.in-Ok.ensures.fit,
@@ -31,10 +30,9 @@ loop-line-preserved c =
         count,
       ),
       (
-        line_of c.in-Some.line.now ∷ m.0,
-        meaning-goes-on c.args.text.now m.0 c.loop-line.lines c.next.new.self c.in-Some.line.now m.1 c.in-Some.ensures (c.in-Ok.ensures.fault m.0 m.3) (sym c.in-Ok.ensures.end ∙ c.if-is_end.false),
-        longer,
-        c.in-Ok.ensures.tells m.0 m.3,
+        with_line m.0 (line_of c.in-Some.line.now),
+        meaning-goes-on c.args.text.now c.loop-line.place m.0 c.loop-line.lines c.next.new.self c.in-Some.line.now m.1 c.in-Some.ensures (c.in-Ok.ensures.fault m.0 m.2) (sym c.in-Ok.ensures.end ∙ c.if-is_end.false),
+        c.in-Ok.ensures.tells m.0 m.2,
       ),
     )
 
@@ -42,12 +40,12 @@ pub loop-line-init : goal.loop-line-init
 loop-line-init c = (
   c.start-reading.ensures.fit,
   ([], sym c.new-lines.ensures, tt, refl),
-  ([], meaning-starts c.args.text.now ∙ ap (λ ls. meaning_from [] (map line_of ls)) (sym c.new-lines.ensures), refl, c.start-reading.ensures.tells),
+  (no_lines, meaning-starts c.args.text.now ∙ ap (λ ls. meaning_behind 0 no_lines (map line_of ls)) (sym c.new-lines.ensures), c.start-reading.ensures.tells),
 )
 
 pub returns-in-Ok-finished-clause-meaning : goal.returns-in-Ok-finished-clause-meaning
 returns-in-Ok-finished-clause-meaning c =
     let m = c.loop-line.invariant.2 in
     let end = sym c.in-Ok.ensures.end ∙ c.if-is_end.true in
-    meaning-ends c.args.text.now m.0 c.loop-line.lines c.next.new.self c.in-Some.line.now m.1 c.in-Some.ensures (c.in-Ok.ensures.fault m.0 m.3) end
-    ∙ ap (λ p. Ok p) (sym (program-ended m.0 (line_of c.in-Some.line.now) end) ∙ c.in-Ok-finished.ensures (line_of c.in-Some.line.now ∷ m.0) (c.in-Ok.ensures.tells m.0 m.3))
+    meaning-ends c.args.text.now c.loop-line.place m.0 c.loop-line.lines c.next.new.self c.in-Some.line.now m.1 c.in-Some.ensures (c.in-Ok.ensures.fault m.0 m.2) end
+    ∙ ap (λ p. Ok p) (sym (program-ended m.0 (line_of c.in-Some.line.now) end) ∙ c.in-Ok-finished.ensures (with_line m.0 (line_of c.in-Some.line.now)) (c.in-Ok.ensures.tells m.0 m.2))

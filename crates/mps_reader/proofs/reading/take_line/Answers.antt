@@ -1,7 +1,8 @@
 use Rattle.std.proofs.Common.{rules, ◌≡◌, ◌∙◌, ap, sym, subst, Bool}
 use Rattle.std.specs.Prelude.{Err}
 use Rattle.program_rows.specs.Lines.{fields}
-use Rattle.mps_reader.specs.inside.Reading.{bytes_of, AreFirst}
+use Rattle.auction_terms.specs.Borrowed.{bytes_of}
+use Rattle.mps_reader.specs.inside.Reading.{AreFirst}
 use Rattle.mps_reader.proofs.AnswerFacts.{handed-on}
 use Rattle.mps_reader.proofs.LineAnswers.{skipped-fault, skipped-next, unprintable-fault, header-answer, header-next, data-answer, data-next}
 use Rattle.mps_reader.proofs.reading.take_line.Goals as goal

@@ -1,5 +1,5 @@
 use Rattle.std.proofs.Common.{refl, ap, ◌∙◌, length, arith, Some}
-use Rattle.mps_reader.specs.inside.Rows.{names_of, row_names}
+use Rattle.mps_reader.specs.inside.Rows.{names_of, row_names, rows_by}
 use Rattle.mps_reader.proofs.NameFacts.{length-places, placed}
 use Rattle.mps_reader.proofs.PairSteps.{get-below, get-from, length-names, length-stamped}
 use Rattle.mps_reader.proofs.FitFacts.{sided-fit, same-names, side-count}
@@ -9,9 +9,9 @@ use Rattle.std.specs.List.{list_any, IsDistinct, AllByRecursion}
 use Rattle.std.specs.Option.{option_map_or}
 use Rattle.std.proofs.lemmas.Int.{to_z-of_z}
 use mir.Val.{SFits, to_z, of_z}
-use Rattle.program_rows.specs.Meaning.{field, value}
+use Rattle.program_rows.specs.Lines.{field}
+use Rattle.program_rows.specs.Described.{value}
 use Rattle.mps_reader.specs.inside.Rows.{StampsAre, with_side}
-use Rattle.mps_reader.specs.inside.Told.{rows_by}
 use Rattle.mps_reader.proofs.NameFacts.{distinct-rows}
 use Rattle.mps_reader.proofs.AnswerFacts.{handed-on}
 use Rattle.mps_reader.proofs.PairTells.{stamped-are, row-at, free-apart}

@@ -1,13 +1,6 @@
-use Rattle.std.proofs.Common.{[], ◌∷◌}
-use Rattle.mps_text.proofs.LineBytes.{field-failed, field-then}
+use Rattle.mps_text.proofs.Adding.{Adds-then, Adds-to}
+use Rattle.mps_text.proofs.LineBytes.{three_parts}
 use Rattle.mps_text.proofs.data_lines.add_three.Goals as goal
 
-pub returns-in_err-add_field : goal.returns-in_err-add_field
-returns-in_err-add_field g c =
-    let e = c.in_err-add_field.ensures in
-    field-failed _ _ _ _ _ _ _ c.args.a.now c.args.b.now (c.args.c.now ∷ []) c.from_residual.ensures.0 e.err e.counted e.failed
-
 pub returns : goal.returns
-returns g c =
-    let e = c.in_ok-add_field.ensures in
-    field-then _ _ _ _ _ _ _ _ _ _ c.args.a.now c.args.b.now (c.args.c.now ∷ []) e.ok e.counted e.succeeded c.add_two.ensures
+returns g c = Adds-to (Adds-then c.add_field.ensures (Adds-then c.add_field-2.ensures (Adds-then c.add_field-3.ensures c.add.ensures))) (three_parts c.args.a.now c.args.b.now c.args.c.now)

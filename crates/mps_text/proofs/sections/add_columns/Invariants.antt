@@ -1,16 +1,10 @@
-use Rattle.std.proofs.Common.{◌≡◌, take, map}
+use Rattle.std.proofs.Common.{take, map}
 use Rattle.std.specs.Prelude.{flat_map}
-use Rattle.std.specs.Io.KnownBytes.{Appends}
 use Rattle.program_rows.specs.Parts.{shown_row}
 use Rattle.mps_text.specs.Bytes.{column_bytes}
-use Rattle.mps_text.specs.Sinks.{Counts}
-use Rattle.mps_text.specs.Held.{held}
+use Rattle.mps_text.specs.Adds.{Adds}
 use Rattle.mps_text.proofs.sections.add_columns.Given as goal
 
 -- the lines so far are added
 abbrev pub invariant-loop-place : goal.invariant-loop-place
-invariant-loop-place g l = record {
-  held_is : Appends (held (g.S.Sink.taken l.initial.sink) l.initial.block) (held (g.S.Sink.taken l.sink) l.block) (flat_map (column_bytes l.objective (map shown_row l.rows)) (take l.place l.columns));
-  count : Counts (g.S.Sink.taken l.initial.sink) (g.S.Sink.taken l.sink) l.initial.block.sent l.block.sent;
-  failures : g.S.Sink.failures l.sink ≡ g.S.Sink.failures l.initial.sink;
-}
+invariant-loop-place g l = Adds g.S.Sink.taken g.S.Sink.failures l.initial.writer l.writer (flat_map (column_bytes l.objective (map shown_row l.rows)) (take l.place l.columns))

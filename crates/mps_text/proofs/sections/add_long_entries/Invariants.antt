@@ -1,16 +1,10 @@
-use Rattle.std.proofs.Common.{◌≡◌, take, map}
+use Rattle.std.proofs.Common.{take, map}
 use Rattle.std.specs.Prelude.{flat_map}
-use Rattle.std.specs.Io.KnownBytes.{Appends}
 use Rattle.program_rows.specs.Parts.{shown_row}
 use Rattle.mps_text.specs.Bytes.{entry_bytes}
-use Rattle.mps_text.specs.Sinks.{Counts}
-use Rattle.mps_text.specs.Held.{held}
+use Rattle.mps_text.specs.Adds.{Adds}
 use Rattle.mps_text.proofs.sections.add_long_entries.Given as goal
 
 -- the lines so far are added
 abbrev pub invariant-loop-entry : goal.invariant-loop-entry
-invariant-loop-entry g l = record {
-  held_is : Appends (held (g.S.Sink.taken l.initial.sink) l.initial.block) (held (g.S.Sink.taken l.sink) l.block) (flat_map (entry_bytes (map shown_row l.rows) l.name) (take l.entry-index l.entries));
-  count : Counts (g.S.Sink.taken l.initial.sink) (g.S.Sink.taken l.sink) l.initial.block.sent l.block.sent;
-  failures : g.S.Sink.failures l.sink ≡ g.S.Sink.failures l.initial.sink;
-}
+invariant-loop-entry g l = Adds g.S.Sink.taken g.S.Sink.failures l.initial.writer l.writer (flat_map (entry_bytes (map shown_row l.rows) l.name) (take l.entry-index l.entries))

@@ -1,6 +1,6 @@
 use Rattle.std.proofs.Common.{◌≡◌, take}
-use Rattle.outcome.specs.Solution.{column_names}
-use Rattle.outcome.specs.inside.Reading.{bytes_of}
+use Rattle.program_rows.specs.ProgramNames.{column_names}
+use Rattle.auction_terms.specs.Borrowed.{bytes_of}
 use Rattle.outcome.proofs.columns.finder_of.Given as goal
 
 -- the names so far

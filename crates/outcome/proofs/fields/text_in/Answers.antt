@@ -1,4 +1,4 @@
-use Rattle.std.proofs.Common.{◌≡◌, ℕ, ◌<◌, not, true, false, get_or, sym, ap, ◌∙◌, arith}
+use Rattle.std.proofs.Common.{not, sym, ap, ◌∙◌, arith}
 use Rattle.std.proofs.lemmas.List.Sums.{position_or_len_is}
 use Rattle.program_rows.specs.Lines.{is_space}
 use Rattle.outcome.proofs.fields.text_in.Goals as goal

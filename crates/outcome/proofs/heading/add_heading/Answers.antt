@@ -1,10 +1,5 @@
-use Rattle.std.proofs.Common.{◌++◌, ◌∷◌, []}
-use Rattle.mps_text.proofs.Known.{Adds-first_failed}
-use Rattle.outcome.specs.Sale.{sale_of}
-use Rattle.outcome.specs.Report.{number_text, group_names}
+use Rattle.mps_text.proofs.Adding.{Adds-then}
 use Rattle.outcome.proofs.heading.add_heading.Goals as goal
 
-pub returns-in_err-add_number : goal.returns-in_err-add_number
-returns-in_err-add_number g c =
-    let e = c.in_err-add_number.ensures in
-    Adds-first_failed _ _ _ _ _ _ _ (number_text c.args.k) (group_names (sale_of c.args.book.now).names c.args.group.now ++ 10 ∷ []) c.from_residual.ensures.0 e.err e.counted e.failed
+pub returns : goal.returns
+returns g c = Adds-then c.add_number.ensures c.add_names_line.ensures

@@ -1,8 +1,8 @@
 use Rattle.std.proofs.Common.{◌≡◌, ◌∷◌, ◌++◌, ◌∙◌, [], Err, length, ap, rules, arith, length-append}
 use Rattle.auction_terms.proofs.FirstFaultFacts.{checked-all, checked-fault, checked-more}
 use Rattle.auction_terms.specs.Lines.{lines_of}
-use Rattle.outcome.specs.Solution.{line_fault, told}
-use Rattle.outcome.specs.inside.Reading.{bytes_of}
+use Rattle.outcome.specs.Solution.{line_fault}
+use Rattle.auction_terms.specs.Borrowed.{bytes_of}
 use Rattle.outcome.proofs.ToldLaws.{line_count, told_none, told_some, told_of, told_fine}
 use Rattle.outcome.proofs.lines.take_lines.Goals as goal
 

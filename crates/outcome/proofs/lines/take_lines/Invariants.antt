@@ -2,7 +2,8 @@ use Rattle.std.proofs.Common.{◌≡◌, ◌+◌, ◌≤◌, ℕ, List, length}
 use Rattle.auction_terms.specs.Lines.{lines_of}
 use Rattle.auction_terms.proofs.FirstFaultFacts.{CheckedSoFar}
 use Rattle.outcome.specs.Solution.{line_fault}
-use Rattle.outcome.specs.inside.Reading.{bytes_of, said_by}
+use Rattle.auction_terms.specs.Borrowed.{bytes_of}
+use Rattle.outcome.specs.inside.Reading.{said_by}
 use Rattle.outcome.proofs.lines.take_lines.Given as goal
 
 -- the lines so far have no fault, and what they say is noted

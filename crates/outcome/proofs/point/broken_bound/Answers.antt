@@ -1,4 +1,4 @@
-use Rattle.std.proofs.Common.{◌≡◌, ◌∙◌, ◌<◌, get_or, length, true, false, sym, add-one, arith}
+use Rattle.std.proofs.Common.{◌∙◌, get_or, true, false, sym, add-one}
 use Rattle.std.proofs.lemmas.Option.{slice_get-get_or}
 use Rattle.outcome.proofs.BoundLaws.{bound_at}
 use Rattle.outcome.proofs.point.broken_bound.Goals as goal

@@ -1,5 +1,4 @@
-use Rattle.std.proofs.Common.{◌≡◌, ◌∙◌, Err, sym, rules}
-use Rattle.outcome.specs.Solution.{Answers}
+use Rattle.std.proofs.Common.{◌≡◌, Err, sym, rules}
 use Rattle.outcome.proofs.PointLaws.{solutions_are_points}
 use Rattle.outcome.proofs.ToldLaws.{faulty_line, no_point, point_told, too_long}
 use Rattle.outcome.proofs.reading.read_solution.Goals as goal

@@ -3,8 +3,10 @@ use Rattle.std.proofs.lemmas.List.{length-map, take_at}
 use Rattle.auction_terms.specs.FirstFault.{first_fault}
 use Rattle.auction_terms.specs.Lines.{lines_of}
 use Rattle.program_rows.specs.Program.{TableColumn}
-use Rattle.outcome.specs.Solution.{column_names, line_fault, values_of}
-use Rattle.outcome.specs.inside.Reading.{bytes_of, said_by}
+use Rattle.program_rows.specs.ProgramNames.{column_names}
+use Rattle.outcome.specs.Solution.{line_fault, values_of}
+use Rattle.auction_terms.specs.Borrowed.{bytes_of}
+use Rattle.outcome.specs.inside.Reading.{said_by}
 use Rattle.outcome.proofs.SaidLaws.{nothing_said, read_off}
 use Rattle.outcome.proofs.ToldLaws.{told_fine, told_none}
 use Rattle.outcome.proofs.reading.read_values.Goals as goal

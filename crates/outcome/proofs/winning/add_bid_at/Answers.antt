@@ -1,5 +1,4 @@
-use Rattle.std.proofs.Common.{◌≡◌, ◌∙◌, ◌++◌, ◌∷◌, [], List, Option, Some, None, true, false, append_assoc, add-one, refl, sym, ap, rules}
-use Rattle.auction_terms.specs.declared.choices.Choice.{Choice}
+use Rattle.std.proofs.Common.{◌≡◌, ◌∙◌, ◌++◌, ◌∷◌, [], Some, None, true, append_assoc, add-one, refl, ap, rules}
 use Rattle.outcome.proofs.BackLaws.{back_at, back_skips}
 use Rattle.outcome.proofs.winning.add_bid_at.Goals as goal
 

@@ -1,4 +1,3 @@
-use Rattle.std.proofs.Common.{◌∙◌}
 use Rattle.outcome.proofs.winning.map_back.Goals as goal
 
 pub by_rising_bidder-requires : goal.by_rising_bidder-requires

@@ -1,9 +1,10 @@
 use Rattle.std.proofs.Common.{◌≡◌, ◌-◌, ◌+◌, ◌/◌, ℕ, Vec, Global, Bool, ap, arith, length, map, ◌∙◌}
+use Rattle.std.proofs.lemmas.Result.{IfOk-weaker}
 use Rattle.std.specs.List.{range_with_len}
 use Rattle.auction_terms.specs.Terms.{lots_in}
 use Rattle.bid_desk.specs.Closing.{book_of}
 use Rattle.presolve.specs.inside.Flags.{flags_of_bidders}
-use Rattle.presolve.proofs.KeepLaws.{flags_joined, length_book}
+use Rattle.presolve.proofs.KeepLaws.{flags_joined, flags_whole, length_book}
 use Rattle.presolve.proofs.flags.flags_by_bidder.Goals as goal
 
 pub returns : goal.returns
@@ -23,3 +24,12 @@ returns g c =
     ∙ flags_joined lots (book_of book) half rest c.in_ok-forms.forms.items c.in_ok-others.others.items whole
     (front ∙ ap (λ (n : ℕ). flags_of_bidders lots (book_of book) (range_with_len 1 n)) front_len)
     (back ∙ ap (λ (n : ℕ). flags_of_bidders lots (book_of book) (range_with_len n rest)) back_start)
+
+pub returns-then-bid_count-lt-FEW_BIDS : goal.returns-then-bid_count-lt-FEW_BIDS
+returns-then-bid_count-lt-FEW_BIDS g c =
+    let book = c.args.book.now in
+    let lots = lots_in book.rules in
+    let count = length c.bidders.result.now in
+    let bidders : count ≡ length (book_of book) = length_book book c.rules.result.now c.bidders.result.now c.bidders.ensures.value c.rules.ensures.rules in
+    let whole : count + 1 - 1 ≡ length (book_of book) = (let e : count + 1 - 1 ≡ count = omega arith in e ∙ bidders) in
+    IfOk-weaker c.flags_between.result _ _ (λ forms are. flags_whole lots (book_of book) (count + 1 - 1) forms.items whole are) c.flags_between.ensures

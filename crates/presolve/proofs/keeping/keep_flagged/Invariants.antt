@@ -1,7 +1,7 @@
 use Rattle.std.proofs.Common.{◌≡◌, ◌+◌, ◌++◌, All, drop}
 use Rattle.auction_terms.specs.Bids.{IsKeptBid}
 use Rattle.auction_terms.specs.Offers.{offers}
-use Rattle.presolve.specs.Flags.{flagged_from}
+use Rattle.presolve.specs.inside.Flags.{flagged_from}
 use Rattle.presolve.proofs.keeping.keep_flagged.Given as goal
 
 -- those so far, followed by the flagged ones that are left, are all

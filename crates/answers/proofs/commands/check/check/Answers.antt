@@ -5,7 +5,7 @@ use Rattle.answers.specs.Answer.{answer, program_refused}
 use Rattle.answers.specs.Exact.{IsUnwritten, by_refusal}
 use Rattle.auction_input.specs.InputTexts.{program_in}
 use Rattle.answers.specs.Sizes.{sizes_text}
-use Rattle.auction_input.specs.Stages.{and_then, refused_as}
+use Rattle.auction_terms.specs.Stages.{and_then, refused_as}
 use Rattle.auction_input.specs.declared.refusal.Refusal.TheVariants as refusal
 use Rattle.auction_input.specs.declared.request.Request.TheVariants as request
 use Rattle.answers.proofs.CommandFacts.{cut-short}

@@ -4,7 +4,7 @@ use Rattle.outcome.specs.Sale.{sale_of}
 use Rattle.answers.specs.commands.Map.{winners_text}
 use Rattle.auction_input.specs.Settled.{held}
 use Rattle.answers.specs.Exact.{Ends, by_refusal}
-use Rattle.auction_input.specs.Parts.{bytes_of}
+use Rattle.auction_terms.specs.Borrowed.{bytes_of}
 use Rattle.auction_input.specs.PartsTold.{only_text}
 use Rattle.auction_input.specs.declared.refusal.Refusal.TheVariants as refusal
 use Rattle.answers.proofs.CommandFacts.{cut-short, no-group, winners-refused, winners-written}

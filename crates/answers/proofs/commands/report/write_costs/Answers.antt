@@ -17,7 +17,7 @@ use Rattle.answers.proofs.commands.report.write_costs.Goals as goal
 pub returns-clause-written : goal.returns-clause-written
 returns-clause-written g c =
     let auction = c.args.auction.now in
-    let all = c.in_ok-won.won.allocations.items in
+    let all = c.in_ok-won.won.items in
     let sent = subst (λ (won : List (List Choice)). Appends (g.S.Sink.taken c.args.out.now) (g.S.Sink.taken c.report.new.sink) (report_text (sale_of auction.book) auction.groups won)) c.as_slice.ensures.value c.in_ok-report.ensures.ok in
     (report_text (sale_of auction.book) auction.groups all, next _ all _ _ c.in_ok-won.ensures.won refl, sent)
 
@@ -36,7 +36,7 @@ returns-in_err-report-clause-refused g c =
     let taken' = g.S.Sink.taken c.report.new.sink in
     let failures = g.S.Sink.failures c.args.out.now in
     let failures' = g.S.Sink.failures c.report.new.sink in
-    let all = c.in_ok-won.won.allocations.items in
+    let all = c.in_ok-won.won.items in
     let f = c.in_err-report.field-0.0 in
     let sent = subst (λ (won : List (List Choice)). SentFront taken taken' (report_text (sale_of auction.book) auction.groups won) (written_of f)) c.as_slice.ensures.value c.in_err-report.ensures.err in
     if-err-of (Ends (costs_text (held auction)) taken taken' failures failures') c.from_residual-in_err-report.result (refusal.Write f) c.from_residual-in_err-report.ensures.1

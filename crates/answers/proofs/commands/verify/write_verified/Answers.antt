@@ -1,9 +1,6 @@
-use Rattle.std.proofs.Common.{◌≡◌, List, inl, refl, subst}
+use Rattle.std.proofs.Common.{◌≡◌, ◌∙◌, List, Ok, ap, inl, refl, sym}
 use Rattle.std.specs.Prelude.{◌⊎◌}
-use Rattle.std.specs.Io.KnownBytes.{Appends}
 use Rattle.auction_terms.specs.declared.choices.Choice.{Choice}
-use Rattle.mps_text.specs.Sinks.{SentFront}
-use Rattle.mps_text.specs.Written.{written_of}
 use Rattle.outcome.specs.Report.{report_text}
 use Rattle.outcome.specs.Sale.{sale_of}
 use Rattle.answers.specs.commands.Verify.{verified_text}
@@ -19,9 +16,10 @@ use Rattle.answers.proofs.commands.verify.write_verified.Goals as goal
 pub returns-clause-written : goal.returns-clause-written
 returns-clause-written g c =
     let auction = c.args.auction.now in
-    let all = c.in_ok-won.won.allocations.items in
-    let sent = subst (λ (won : List (List Choice)). Appends (g.S.Sink.taken c.args.out.now) (g.S.Sink.taken c.report.new.sink) (report_text (sale_of auction.book) auction.groups won)) c.as_slice.ensures.value c.in_ok-report.ensures.ok in
-    (report_text (sale_of auction.book) auction.groups all, next _ all _ _ (next _ all _ _ c.in_ok-won.ensures.won c.in_ok-check_certificates.ensures.shown) refl, sent)
+    let all = c.as_slice-allocations.result.now in
+    let won = c.in_ok-won.ensures.won ∙ ap (λ (xs : List (List Choice)). Ok xs) (sym c.as_slice-allocations.ensures.value) in
+    let sent = c.in_ok-report.ensures.ok in
+    (report_text (sale_of auction.book) auction.groups all, next _ all _ _ (next _ all _ _ won c.in_ok-check_certificates.ensures.shown) refl, sent)
 
 pub returns-in_err-won-clause-refused : goal.returns-in_err-won-clause-refused
 returns-in_err-won-clause-refused g c =
@@ -38,8 +36,9 @@ returns-in_err-check_certificates-clause-refused g c =
     let taken = g.S.Sink.taken c.args.out.now in
     let failures = g.S.Sink.failures c.args.out.now in
     let r = c.in_err-check_certificates.field-0.0 in
+    let won = c.in_ok-won.ensures.won ∙ ap (λ (xs : List (List Choice)). Ok xs) (sym c.as_slice-allocations.ensures.value) in
     if-err-of (λ e. Ends (verified_text auction) taken taken failures failures e ⊎ (IsBeyondSums auction e × (taken ≡ taken))) c.from_residual-in_err-check_certificates.result r c.from_residual-in_err-check_certificates.ensures.1
-    (unshown auction c.in_ok-won.won.allocations.items taken failures r c.in_ok-won.ensures.won c.in_err-check_certificates.ensures.refuses)
+    (unshown auction c.as_slice-allocations.result.now taken failures r won c.in_err-check_certificates.ensures.refuses)
 
 pub returns-in_err-report-clause-refused : goal.returns-in_err-report-clause-refused
 returns-in_err-report-clause-refused g c =
@@ -48,9 +47,10 @@ returns-in_err-report-clause-refused g c =
     let taken' = g.S.Sink.taken c.report.new.sink in
     let failures = g.S.Sink.failures c.args.out.now in
     let failures' = g.S.Sink.failures c.report.new.sink in
-    let all = c.in_ok-won.won.allocations.items in
+    let all = c.as_slice-allocations.result.now in
     let f = c.in_err-report.field-0.0 in
-    let sent = subst (λ (won : List (List Choice)). SentFront taken taken' (report_text (sale_of auction.book) auction.groups won) (written_of f)) c.as_slice.ensures.value c.in_err-report.ensures.err in
+    let won = c.in_ok-won.ensures.won ∙ ap (λ (xs : List (List Choice)). Ok xs) (sym c.as_slice-allocations.ensures.value) in
+    let sent = c.in_err-report.ensures.err in
     if-err-of (λ e. Ends (verified_text (held auction)) taken taken' failures failures' e ⊎ (IsBeyondSums (held auction) e × (taken' ≡ taken))) c.from_residual-in_err-report.result (refusal.Write f) c.from_residual-in_err-report.ensures.1
     (inl (cut-short _ (report_text (sale_of auction.book) auction.groups all) taken taken' failures failures' f
-    (next _ all _ _ (next _ all _ _ c.in_ok-won.ensures.won c.in_ok-check_certificates.ensures.shown) refl) sent c.in_err-report.ensures.failed))
+    (next _ all _ _ (next _ all _ _ won c.in_ok-check_certificates.ensures.shown) refl) sent c.in_err-report.ensures.failed))

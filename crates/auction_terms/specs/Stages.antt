@@ -1,0 +1,28 @@
+-- A run in stages: each takes what the one before it tells, and the first refusal ends the run.
+use Rattle.std.specs.Prelude.{◌≡◌, ◌+◌, ⊤, ℕ, Bool, List, [], ◌∷◌, Option, None, Some, Result, Ok, Err}
+use Rattle.std.specs.Bool.{MatchBool}
+
+-- the next stage
+abbrev pub and_then : {A B E : Type 0} → Result A E → (A → Result B E) → Result B E
+and_then (Ok x) next = next x
+and_then (Err refusal) next = Err refusal
+
+-- a stage whose own faults are told as refusals
+abbrev pub refused_as : {A F E : Type 0} → (F → E) → Result A F → Result A E
+refused_as refusal (Ok x) = Ok x
+refused_as refusal (Err fault) = Err (refusal fault)
+
+-- a fault, if there is one, and else what comes next
+abbrev pub unless : {A F : Type 0} → Option F → Result A F → Result A F
+unless None next = next
+unless (Some fault) next = Err fault
+
+-- the result is what is told, or memory was short
+abbrev pub Answers : {A F : Type 0} → (F → Bool) → Result A F → Result A F → Type 0
+Answers is_memory (Ok x) told = Ok x ≡ told
+Answers is_memory (Err fault) told = MatchBool (is_memory fault) ⊤ (Err fault ≡ told)
+
+-- what each item tells, where they are numbered from n on; or the first refusal
+abbrev pub each_in_turn : {X A E : Type 0} → (ℕ → X → Result A E) → ℕ → List X → Result (List A) E
+each_in_turn tell n [] = Ok []
+each_in_turn tell n (x ∷ xs) = and_then (tell n x) (λ told. and_then (each_in_turn tell (n + 1) xs) (λ more. Ok (told ∷ more)))

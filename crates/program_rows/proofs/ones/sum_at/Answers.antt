@@ -1,0 +1,26 @@
+use Rattle.std.proofs.Common.{◌≡◌, ◌+ℤ◌, ◌<◌, length, pos, slice_index_or, rules, arith}
+use Rattle.std.proofs.lemmas.Int.{to_z-of_z}
+use mir.Syntax.{w128}
+use mir.Val.{SFits, to_z, of_z}
+use Rattle.program_rows.specs.Points.{coefficient_at}
+use Rattle.program_rows.proofs.OneLaws.{at-step, place-within}
+use Rattle.program_rows.proofs.SumLaws.{number_there, near_low, near_high}
+use Rattle.program_rows.proofs.ones.sum_at.Goals as goal
+
+pub add_coefficient-sum-requires-clause-within : goal.add_coefficient-sum-requires-clause-within
+add_coefficient-sum-requires-clause-within c = place-within (λ i. i < length c.args.columns.now) c.args.places.now c.loop-k.k c.loop-k-test.true c.requires.within
+
+pub loop-k-preserved : goal.loop-k-preserved
+loop-k-preserved c =
+    let fits : SFits w128 c.add_coefficient-sum.result = search rules in
+    let same : to_z w128 (of_z w128 c.add_coefficient-sum.result) ≡ c.add_coefficient-sum.result = to_z-of_z w128 c.add_coefficient-sum.result fits in
+    let sum = to_z w128 c.loop-k.sum-bits in
+    let inside = place-within (λ i. i < length c.args.columns.now) c.args.places.now c.loop-k.k c.loop-k-test.true c.requires.within in
+    let there = number_there (coefficient_at c.args.row) c.args.columns.now (slice_index_or c.args.places.now c.loop-k.k 0) inside in
+    let told = c.add_coefficient-sum.ensures in
+    let next : c.add_coefficient-sum.result ≡ sum +ℤ there.0 = told.added there.0 there.1 in
+    rw same (
+      near_low sum c.add_coefficient-sum.result c.loop-k.k c.loop-k.invariant.0 told.low,
+      near_high sum c.add_coefficient-sum.result c.loop-k.k c.loop-k.invariant.1 told.high,
+      at-step (coefficient_at c.args.row) c.args.columns.now c.args.places.now c.loop-k.k there.0 sum c.add_coefficient-sum.result _ c.loop-k-test.true there.1 next c.loop-k.invariant.2,
+    )
