@@ -10,7 +10,7 @@ use Rattle.auction_terms.specs.declared.choices.Choice.{Choice}
 use Rattle.bid_desk.specs.Closing.{Closing}
 use Rattle.group_compiler.specs.Compiled.{program_without}
 use Rattle.optimality.specs.Answers.{IsLimit}
-use Rattle.optimality.specs.Verdict.{first_fault}
+use Rattle.optimality.specs.Verdict.{certificate_fault}
 use Rattle.optimality.specs.declared.fault.CertificateFault.{CertificateFault}
 use Rattle.optimality.specs.declared.fault.FaultKind.{FaultKind}
 use Rattle.optimality.specs.declared.fault.FaultKind.TheVariants as kind
@@ -18,7 +18,7 @@ use Rattle.answers.specs.Certified.{ClaimedBound, bounds_of, certificate_refused
 use Rattle.auction_input.specs.Refused.{Refuses, Refusal, Refused}
 use Rattle.auction_input.specs.Settled.{held}
 use Rattle.answers.specs.Exact.{IsTooWide}
-use Rattle.answers.specs.inside.Judging.{AllShown, IsFirstFaulty, IsJudged, bounds_by, claimed}
+use Rattle.answers.specs.inside.Judging.{AllShown, IsFirstFaulty, IsJudged, bounds_by, bound_held}
 use Rattle.auction_terms.specs.Borrowed.{bytes_of}
 use Rattle.auction_terms.specs.Stages.{and_then, each_in_turn, unless}
 use Rattle.auction_input.specs.declared.auction.Auction as declared
@@ -34,12 +34,12 @@ abbrev ok : Verdict
 ok = Ok tt
 
 -- a certificate whose verdict is Ok shows what it is to
-shown-ok : (book : Closing) (n : ℕ) (b : code.ClaimedBound) → IsJudged book b ok → shown n (claimed book b) ≡ Ok tt
+shown-ok : (book : Closing) (n : ℕ) (b : code.ClaimedBound) → IsJudged book b ok → shown n (bound_held book b) ≡ Ok tt
 shown-ok book n b judged = ap (λ (f : Option (ℕ × FaultKind)). unless (option_map (certificate_refused n) f) (Ok tt)) judged.is
 
 -- as many as there are
 pub all-shown : (book : Closing) (n : ℕ) (bounds : List code.ClaimedBound) (count : ℕ) → AllZip (IsJudged book) bounds (replicate count ok)
-    → each_in_turn shown n (map (claimed book) bounds) ≡ Ok (replicate count tt)
+    → each_in_turn shown n (map (bound_held book) bounds) ≡ Ok (replicate count tt)
 all-shown book n [] zero each = refl
 all-shown book n [] (suc count) each = absurd each
 all-shown book n (b ∷ bounds) zero each = absurd each
@@ -51,27 +51,27 @@ data Stops (n : ℕ) (bounds : List ClaimedBound) (before : ℕ) (f : Certificat
   by_width : f.kind ≡ kind.TooLarge → before < length bounds → each_in_turn shown n (take before bounds) ≡ Ok (replicate before tt) → Stops n bounds before f
   by_fault : each_in_turn shown n bounds ≡ Err (refusal.Certificate (n + before) f) → Stops n bounds before f
 
-first-stops : (book : Closing) (n : ℕ) (b : code.ClaimedBound) (bounds : List ClaimedBound) (f : CertificateFault) → IsLimit f.kind ⊎ (first_fault (program_without book b.group.now) b.least b.certificate.now ≡ Some (f.line, f.kind))
-    → Stops n (claimed book b ∷ bounds) 0 f
+first-stops : (book : Closing) (n : ℕ) (b : code.ClaimedBound) (bounds : List ClaimedBound) (f : CertificateFault) → IsLimit f.kind ⊎ (certificate_fault (program_without book b.group.now) b.least b.certificate.now ≡ Some (f.line, f.kind))
+    → Stops n (bound_held book b ∷ bounds) 0 f
 first-stops book n b bounds f (inl (inl memory)) = by_memory memory
 first-stops book n b bounds f (inl (inr large)) = by_width large (omega arith) refl
 first-stops book n b bounds f (inr found) =
-    let told : shown n (claimed book b) ≡ Err (refusal.Certificate n f) = ap (λ (o : Option (ℕ × FaultKind)). unless (option_map (certificate_refused n) o) (Ok tt)) found in
+    let told : shown n (bound_held book b) ≡ Err (refusal.Certificate n f) = ap (λ (o : Option (ℕ × FaultKind)). unless (option_map (certificate_refused n) o) (Ok tt)) found in
     let here : n + 0 ≡ n = omega arith in
     by_fault (rw (told, here) refl)
 
-later-stops : (book : Closing) (n : ℕ) (b : code.ClaimedBound) (bounds : List ClaimedBound) (before : ℕ) (f : CertificateFault) → IsJudged book b ok → Stops (n + 1) bounds before f → Stops n (claimed book b ∷ bounds) (suc before) f
+later-stops : (book : Closing) (n : ℕ) (b : code.ClaimedBound) (bounds : List ClaimedBound) (before : ℕ) (f : CertificateFault) → IsJudged book b ok → Stops (n + 1) bounds before f → Stops n (bound_held book b ∷ bounds) (suc before) f
 later-stops book n b bounds before f first (by_memory memory) = by_memory memory
 later-stops book n b bounds before f first (by_width large few all) = by_width large (omega arith) (rw (shown-ok book n b first, all) refl)
 later-stops book n b bounds before f first (by_fault told) =
     let count : n + 1 + before ≡ n + suc before = omega arith in
     by_fault (rw (shown-ok book n b first, told, count) refl)
 
-stops : (book : Closing) (n : ℕ) (bounds : List code.ClaimedBound) (before : ℕ) (f : CertificateFault) (after : List Verdict) → AllZip (IsJudged book) bounds (replicate before ok ++ Err f ∷ after) → Stops n (map (claimed book) bounds) before f
+stops : (book : Closing) (n : ℕ) (bounds : List code.ClaimedBound) (before : ℕ) (f : CertificateFault) (after : List Verdict) → AllZip (IsJudged book) bounds (replicate before ok ++ Err f ∷ after) → Stops n (map (bound_held book) bounds) before f
 stops book n [] zero f after each = absurd each
 stops book n [] (suc before) f after each = absurd each
-stops book n (b ∷ bounds) zero f after each = first-stops book n b (map (claimed book) bounds) f each.0.is
-stops book n (b ∷ bounds) (suc before) f after each = later-stops book n b (map (claimed book) bounds) before f each.0 (stops book (n + 1) bounds before f after each.1)
+stops book n (b ∷ bounds) zero f after each = first-stops book n b (map (bound_held book) bounds) f each.0.is
+stops book n (b ∷ bounds) (suc before) f after each = later-stops book n b (map (bound_held book) bounds) before f each.0 (stops book (n + 1) bounds before f after each.1)
 
 abbrev pub EndsChecks : List ClaimedBound → Refusal → Type 0
 EndsChecks bounds r = Refuses (each_in_turn shown 1 bounds) r ⊎ IsTooWide bounds r
@@ -84,18 +84,18 @@ refusal-at bounds before line k (by_fault told) =
     inl (inl (rw count at told))
 
 -- the first fault among verdicts ends the checks
-pub ends-checks : (book : Closing) (bounds : List code.ClaimedBound) (verdicts : List Verdict) (r : Refusal) → AllZip (IsJudged book) bounds verdicts → IsFirstFaulty verdicts r → EndsChecks (map (claimed book) bounds) r
+pub ends-checks : (book : Closing) (bounds : List code.ClaimedBound) (verdicts : List Verdict) (r : Refusal) → AllZip (IsJudged book) bounds verdicts → IsFirstFaulty verdicts r → EndsChecks (map (bound_held book) bounds) r
 ends-checks book bounds verdicts (refusal.Certificate n f) each (before, after, are, number) =
     let stopped = stops book 1 bounds before f after (rw are at each) in
-    rw number (refusal-at (map (claimed book) bounds) before f.line f.kind stopped)
+    rw number (refusal-at (map (bound_held book) bounds) before f.line f.kind stopped)
 ends-checks book bounds verdicts r each is = absurd is
 
 -- where no verdict is a fault, all certificates show what they are to
-pub all-checked : (book : Closing) (bounds : List code.ClaimedBound) (verdicts : List Verdict) (r : Result (Unit {0}) Refusal) → AllZip (IsJudged book) bounds verdicts → OnOk r (verdicts ≡ replicate (length verdicts) ok) → OnOk r (AllShown (map (claimed book) bounds))
+pub all-checked : (book : Closing) (bounds : List code.ClaimedBound) (verdicts : List Verdict) (r : Result (Unit {0}) Refusal) → AllZip (IsJudged book) bounds verdicts → OnOk r (verdicts ≡ replicate (length verdicts) ok) → OnOk r (AllShown (map (bound_held book) bounds))
 all-checked book bounds verdicts (Ok u) each none = (replicate (length verdicts) tt, all-shown book 1 bounds (length verdicts) (subst (λ (vs : List Verdict). AllZip (IsJudged book) bounds vs) none each))
 all-checked book bounds verdicts (Err r) each none = tt
 
-pub checks-ended : (book : Closing) (bounds : List code.ClaimedBound) (verdicts : List Verdict) (r : Result (Unit {0}) Refusal) → AllZip (IsJudged book) bounds verdicts → IfErr r (IsFirstFaulty verdicts) → IfErr r (EndsChecks (map (claimed book) bounds))
+pub checks-ended : (book : Closing) (bounds : List code.ClaimedBound) (verdicts : List Verdict) (r : Result (Unit {0}) Refusal) → AllZip (IsJudged book) bounds verdicts → IfErr r (IsFirstFaulty verdicts) → IfErr r (EndsChecks (map (bound_held book) bounds))
 checks-ended book bounds verdicts (Ok u) each first = tt
 checks-ended book bounds verdicts (Err r) each first = ends-checks book bounds verdicts r each first
 

@@ -38,7 +38,7 @@ memory-of : (r : Refusal) → is_memory (refused r) ≡ is_memory r
 memory-of (refusal.Input f) = refl
 memory-of r = refl
 
-pub solution-refuses : (p : Table) (n : ℕ) (f : SolutionFault) (x : Result (List Bool) SolutionFault) (r : Refusal) → refused r ≡ solution_refused p n f → Answers solution_text.is_memory (no_point f) x
+pub solution-refuses : (p : Table) (n : ℕ) (f : SolutionFault) (x : Result (List Bool) SolutionFault) (r : Refusal) → refused r ≡ solution_refused p n f → Answers solution_text.is_solution_memory (no_point f) x
     → Refuses (refused_as (solution_refused p n) x) r
 solution-refuses p n solution.OutOfMemory x r told is = inr (sym (memory-of r) ∙ ap (λ (e : Refused). is_memory e) told)
 solution-refuses p n f x r told is = told-solution p n f x r told is

@@ -16,7 +16,7 @@ use Rattle.auction_input.specs.Refused.{Refusal, Refused, Refuses}
 use Rattle.auction_terms.specs.Stages.{each_in_turn}
 use Rattle.auction_input.proofs.StageFacts.{behind, next, stop}
 use Rattle.answers.specs.Winners.{winners, winners_by}
-use Rattle.answers.specs.inside.Winners.{IsFirstRefusal, IsTold, winners_at}
+use Rattle.answers.specs.inside.Winners.{IsFirstRefusal, IsToldAnswer, winners_at}
 
 abbrev Answer : Type 0
 Answer = Result (List Choice) Refusal
@@ -28,18 +28,18 @@ module _ (sale : Sale) where
   AreTold n [] texts (answer ∷ answers) = ⊥
   AreTold n (group ∷ groups) [] answers = ⊥
   AreTold n (group ∷ groups) (text ∷ texts) [] = ⊥
-  AreTold n (group ∷ groups) (text ∷ texts) (answer ∷ answers) = IsTold (winners sale n (group, text)) answer × AreTold (n + 1) groups texts answers
+  AreTold n (group ∷ groups) (text ∷ texts) (answer ∷ answers) = IsToldAnswer (winners sale n (group, text)) answer × AreTold (n + 1) groups texts answers
 
   told-from : (all_groups all_texts : List (List ℕ)) (a : ℕ) (groups texts : List (List ℕ)) (answers : List Answer) → length texts ≡ length groups
       → ((i n : ℕ) → n ≡ a + i → slice_index_or groups i [] ≡ slice_index_or all_groups n []) → ((i n : ℕ) → n ≡ a + i → slice_index_or texts i [] ≡ slice_index_or all_texts n [])
-      → AllZip (λ n answer. IsTold (winners_at sale all_groups all_texts n) answer) (range_with_len a (length groups)) answers → AreTold (a + 1) groups texts answers
+      → AllZip (λ n answer. IsToldAnswer (winners_at sale all_groups all_texts n) answer) (range_with_len a (length groups)) answers → AreTold (a + 1) groups texts answers
   told-from gs ts a [] texts [] count g t z = tt
   told-from gs ts a [] texts (answer ∷ answers) count g t z = absurd z
   told-from gs ts a (group ∷ groups) [] answers count g t z = absurd (omega arith)
   told-from gs ts a (group ∷ groups) (text ∷ texts) [] count g t z = absurd z
   told-from gs ts a (group ∷ groups) (text ∷ texts) (answer ∷ answers) count g t z =
       let same : (group, text) ≡ (slice_index_or gs a [], slice_index_or ts a []) = ap₂ (λ (x y : List ℕ). (x, y)) (g 0 a (omega arith)) (t 0 a (omega arith)) in (
-        subst (λ (item : List ℕ × List ℕ). IsTold (winners sale (a + 1) item) answer) (sym same) z.0,
+        subst (λ (item : List ℕ × List ℕ). IsToldAnswer (winners sale (a + 1) item) answer) (sym same) z.0,
         told-from gs ts (a + 1) groups texts answers (omega arith) (λ i n e. g (suc i) n (omega arith)) (λ i n e. t (suc i) n (omega arith)) z.1,
       )
 
@@ -54,7 +54,7 @@ module _ (sale : Sale) where
   won-of n (group ∷ groups) (text ∷ texts) (answer ∷ answers) (y ∷ all) told are =
       let first : answer ≡ Ok y = cc in
       let rest : map (λ a. Ok a) all ≡ answers = cc in
-      let here = subst (λ (r : Answer). IsTold (winners sale n (group, text)) r) first told.0 in
+      let here = subst (λ (r : Answer). IsToldAnswer (winners sale n (group, text)) r) first told.0 in
       next (winners sale n (group, text)) y _ _ here.0 (next _ all _ _ (won-of (n + 1) groups texts answers all told.1 rest) refl)
 
   refused-by : (n : ℕ) (groups texts : List (List ℕ)) (before : List (List Choice)) (r : Refusal) (after : List Answer) → AreTold n groups texts (map (λ a. Ok a) before ++ Err r ∷ after)
@@ -71,7 +71,7 @@ module _ (sale : Sale) where
 
 -- the answers of the compiler of an auction are those of its groups and solutions
 abbrev pub AreAnswers : Compiling → List (List ℕ) → List Answer → Type 0
-AreAnswers c texts answers = AllZip (λ n answer. IsTold (winners_at (sale_of c.book) c.groups texts n) answer) (range_with_len 0 (length c.groups)) answers
+AreAnswers c texts answers = AllZip (λ n answer. IsToldAnswer (winners_at (sale_of c.book) c.groups texts n) answer) (range_with_len 0 (length c.groups)) answers
 
 module _ (book : Closing) (groups texts : List (List ℕ)) (count : length texts ≡ length groups) (c : Compiling) (is : c ≡ compiling book groups) where
   told : (answers : List Answer) → AreAnswers c texts answers → AreTold (sale_of book) 1 groups texts answers
@@ -99,7 +99,7 @@ text-at (s ∷ solutions) (suc n) text below is = text-at solutions n text (omeg
 
 -- what a group's program and solution tell
 pub told-by : (c : Compiling) (texts : List (List ℕ)) (n : ℕ) (made : GroupProgram) (text : List ℕ) (answer : Answer) → made ≡ compiled c.book (slice_index_or c.groups (n + 1 - 1) []) → text ≡ slice_index_or texts n []
-    → IfOk answer (λ a. winners_by made.program (n + 1) text ≡ Ok a) → IfErr answer (Refuses (winners_by made.program (n + 1) text)) → IsTold (winners_at (sale_of c.book) c.groups texts n) answer
+    → IfOk answer (λ a. winners_by made.program (n + 1) text ≡ Ok a) → IfErr answer (Refuses (winners_by made.program (n + 1) text)) → IsToldAnswer (winners_at (sale_of c.book) c.groups texts n) answer
 told-by c texts n made text answer is at won refused =
     let place : n + 1 - 1 ≡ n = omega arith in
     let program : made.program ≡ program_without c.book (slice_index_or c.groups n []) = ap (λ (m : GroupProgram). m.program) is ∙ ap (λ (k : ℕ). program_without c.book (slice_index_or c.groups k [])) place in

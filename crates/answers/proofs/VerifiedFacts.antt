@@ -11,7 +11,7 @@ use Rattle.auction_terms.specs.declared.choices.Choice.{Choice}
 use Rattle.optimality.proofs.BoundLaws.{shown-is-bound}
 use Rattle.optimality.proofs.VerdictLaws.{verdict}
 use Rattle.optimality.specs.Laws.{IsBound}
-use Rattle.optimality.specs.Verdict.{first_fault}
+use Rattle.optimality.specs.Verdict.{certificate_fault}
 use Rattle.optimality.specs.declared.fault.FaultKind.{FaultKind}
 use Rattle.outcome.proofs.BackLaws.{solutions_come_back}
 use Rattle.outcome.proofs.CostLaws.{costs_are_bounded, costs_are_own}
@@ -47,8 +47,8 @@ use Rattle.auction_input.proofs.LimitFacts.{book-within, forms-within, terms-few
 -- a bound that is shown is one
 shown-bound : (number : ℕ) (bound : ClaimedBound) (u : Unit {0}) → shown number bound ≡ Ok u → IsBound bound.program bound.least
 shown-bound number bound u told =
-    let none = (unless-ok (option_map (certificate_refused number) (first_fault bound.program bound.least bound.certificate)) tt u told).0 in
-    let faultless : first_fault bound.program bound.least bound.certificate ≡ None = no-fault (first_fault bound.program bound.least bound.certificate) none in
+    let none = (unless-ok (option_map (certificate_refused number) (certificate_fault bound.program bound.least bound.certificate)) tt u told).0 in
+    let faultless : certificate_fault bound.program bound.least bound.certificate ≡ None = no-fault (certificate_fault bound.program bound.least bound.certificate) none in
     let (certificate, tells, shows) = (verdict bound.program bound.least bound.certificate).0 faultless in
     shown-is-bound bound.program bound.least certificate shows
   where

@@ -61,18 +61,18 @@ abbrev pub number_up_to : ℕ → List ℕ → ℕ
 number_up_to most text = if is_unsigned_in 1 most text then digits_value 10 (without_leading_plus text) else 1
 
 -- the number that an option has
-abbrev pub number_of : Text → ℕ → List Row → ℕ
-number_of id most rows = option_map_or (number_up_to most) (first_of id rows) 1
+abbrev pub option_number : Text → ℕ → List Row → ℕ
+option_number id most rows = option_map_or (number_up_to most) (first_of id rows) 1
 
 -- the request of the command that is named, with its options
 abbrev pub named : Option (Text × List Row) → Request
 named None = request.Text
 named (Some (name, rows)) =
-    if bytes_eq name (codes "compile") then request.Compile (number_of (codes "workers") MOST_WORKERS rows)
+    if bytes_eq name (codes "compile") then request.Compile (option_number (codes "workers") MOST_WORKERS rows)
     else if bytes_eq name (codes "check") then request.Check
-    else if bytes_eq name (codes "map") then request.Map (number_of (codes "group") MOST_GROUPS rows)
-    else if bytes_eq name (codes "report") then request.Report (number_of (codes "workers") MOST_WORKERS rows)
-    else if bytes_eq name (codes "verify") then request.Verify (number_of (codes "workers") MOST_WORKERS rows)
+    else if bytes_eq name (codes "map") then request.Map (option_number (codes "group") MOST_GROUPS rows)
+    else if bytes_eq name (codes "report") then request.Report (option_number (codes "workers") MOST_WORKERS rows)
+    else if bytes_eq name (codes "verify") then request.Verify (option_number (codes "workers") MOST_WORKERS rows)
     else request.Text
 
 -- the request, unless the words have faults

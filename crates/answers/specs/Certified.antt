@@ -10,7 +10,7 @@ use Rattle.auction_input.specs.declared.refusal.CountedPart.TheVariants as count
 use Rattle.auction_input.specs.declared.refusal.Refusal.TheVariants as refusal
 use Rattle.auction_terms.specs.Allocations.{total}
 use Rattle.auction_terms.specs.declared.choices.Choice.{Choice}
-use Rattle.optimality.specs.Verdict.{first_fault}
+use Rattle.optimality.specs.Verdict.{certificate_fault}
 use Rattle.optimality.specs.declared.fault.FaultKind.{FaultKind}
 use Rattle.outcome.specs.Sale.{Sale}
 use Rattle.program_rows.specs.Program.{Table}
@@ -34,7 +34,7 @@ certificate_refused number f = refusal.Certificate number (record { line = f.0; 
 
 -- the certificate of this number shows what it is to, or has a first fault
 abbrev pub shown : ℕ → ClaimedBound → Result (Unit {0}) Refused
-shown number bound = unless (option_map (certificate_refused number) (first_fault bound.program bound.least bound.certificate)) (Ok tt)
+shown number bound = unless (option_map (certificate_refused number) (certificate_fault bound.program bound.least bound.certificate)) (Ok tt)
 
 -- what the groups win, where there is a certificate for each, and each shows what it is to
 abbrev pub certified : Auction → List (List Choice) → Result (List (List Choice)) Refused

@@ -6,9 +6,9 @@ use Rattle.auction_terms.specs.declared.limits.TheConstants.{MOST_GROUPS}
 use Rattle.group_compiler.specs.declared.limits.TheConstants.{MOST_WORKERS}
 
 -- how many workers, and which group, from 1 on
-abbrev pub IsWithinLimits : Request → Type 0
-IsWithinLimits (Compile workers) = (1 ≤ workers) × (workers ≤ MOST_WORKERS)
-IsWithinLimits (Map group) = (1 ≤ group) × (group ≤ MOST_GROUPS)
-IsWithinLimits (Report workers) = (1 ≤ workers) × (workers ≤ MOST_WORKERS)
-IsWithinLimits (Verify workers) = (1 ≤ workers) × (workers ≤ MOST_WORKERS)
-IsWithinLimits _ = ⊤
+abbrev pub IsRequestWithinLimits : Request → Type 0
+IsRequestWithinLimits (Compile workers) = (1 ≤ workers) × (workers ≤ MOST_WORKERS)
+IsRequestWithinLimits (Map group) = (1 ≤ group) × (group ≤ MOST_GROUPS)
+IsRequestWithinLimits (Report workers) = (1 ≤ workers) × (workers ≤ MOST_WORKERS)
+IsRequestWithinLimits (Verify workers) = (1 ≤ workers) × (workers ≤ MOST_WORKERS)
+IsRequestWithinLimits _ = ⊤

@@ -7,7 +7,7 @@ ghost use Rattle.answers.specs.Certified.{bound_of, bounds_of, certified, shown}
 ghost use Rattle.auction_input.specs.Refused.{Refuses};
 ghost use Rattle.auction_input.specs.Settled.{held};
 ghost use Rattle.answers.specs.Exact.{IsTooWide};
-ghost use Rattle.answers.specs.inside.Judging.{AllShown, IsFirstFaulty, IsJudged, bounds_by, claimed};
+ghost use Rattle.answers.specs.inside.Judging.{AllShown, IsFirstFaulty, IsJudged, bounds_by, bound_held};
 ghost use Rattle.auction_terms.specs.Borrowed.{bytes_of};
 ghost use Rattle.auction_terms.specs.Stages.{each_in_turn};
 
@@ -65,7 +65,7 @@ fn bounds_of<'c>(
 ) -> Result<Vec<ClaimedBound<'c>>, AllocError>
     requires allocations { length allocations.now ≡ length groups.now }
     requires certificates { length certificates.now ≡ length groups.now }
-    ensures { IfOk result (λ bounds. map (claimed book.now) bounds.items ≡ bounds_by book.now groups.now allocations.now (bytes_of certificates.now)) }
+    ensures { IfOk result (λ bounds. map (bound_held book.now) bounds.items ≡ bounds_by book.now groups.now allocations.now (bytes_of certificates.now)) }
 {
     let mut bounds = Vec::new(alloc);
     for place in 0..groups.count() {
@@ -87,7 +87,7 @@ fn bound_of<'c>(
     allocation: &Allocation,
     certificate: &'c [u8],
 ) -> ClaimedBound<'c>
-    ensures { claimed book.now result ≡ bound_of (sale_of book.now) ((group.now, allocation.now), certificate.now) }
+    ensures { bound_held book.now result ≡ bound_of (sale_of book.now) ((group.now, allocation.now), certificate.now) }
 {
     ClaimedBound {
         group,
@@ -110,8 +110,8 @@ fn check_each(
     compiler: &Compiler<'_, '_>,
     bounds: &[ClaimedBound<'_>],
 ) -> Result<(), Refusal>
-    ensures shown { OnOk result (AllShown (map (claimed compiler.now.book) bounds.now)) }
-    ensures refuses { IfErr result (λ r. Refuses (each_in_turn shown 1 (map (claimed compiler.now.book) bounds.now)) r ⊎ IsTooWide (map (claimed compiler.now.book) bounds.now) r) }
+    ensures shown { OnOk result (AllShown (map (bound_held compiler.now.book) bounds.now)) }
+    ensures refuses { IfErr result (λ r. Refuses (each_in_turn shown 1 (map (bound_held compiler.now.book) bounds.now)) r ⊎ IsTooWide (map (bound_held compiler.now.book) bounds.now) r) }
 {
     let verdicts = verdicts_of(rt, alloc, compiler, bounds)?;
     first_refused(verdicts.as_slice())

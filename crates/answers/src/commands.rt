@@ -2,7 +2,7 @@
 
 ghost use Rattle.std.specs.Prelude.{IfErr, OnOk};
 ghost use Rattle.answers.specs.Exact.{IsUnwritten, IsWritten};
-ghost use Rattle.answers.specs.Requests.{IsWithinLimits};
+ghost use Rattle.answers.specs.Requests.{IsRequestWithinLimits};
 ghost use Rattle.answers.specs.Runs.{IsAnswered, IsRefused};
 ghost use Rattle.auction_input.specs.Sold.{HasReadSold, HasSold};
 
@@ -32,7 +32,7 @@ pub fn answer<R: Threads + Wait + Sync + AllocGlobal, I: Read, S: Sink>(
     input: &mut Source<I>,
     out: &mut S,
 ) -> Result<(), Refusal>
-    requires { IsWithinLimits request }
+    requires { IsRequestWithinLimits request }
     ensures answered { OnOk result (IsAnswered request (I.remaining input.old.reader) (I.remaining input.new.reader) (S.taken out.old) (S.taken out.new)) }
     ensures sold { OnOk result (HasReadSold request (I.remaining input.old.reader) (I.remaining input.new.reader)) }
     ensures refused { IfErr result (IsRefused request (I.remaining input.old.reader) (I.remaining input.new.reader) input.old.failures input.new.failures (S.taken out.old) (S.taken out.new) (S.failures out.old) (S.failures out.new)) }
@@ -48,7 +48,7 @@ fn answer_text<R: Threads + Wait + Sync + AllocGlobal, S: Sink>(
     text: &[u8],
     out: &mut S,
 ) -> Result<(), Refusal>
-    requires { IsWithinLimits request }
+    requires { IsRequestWithinLimits request }
     ensures written { OnOk result (IsWritten request text.now (S.taken out.old) (S.taken out.new)) }
     ensures sold { OnOk result (HasSold request text.now) }
     ensures refused { IfErr result (IsUnwritten request text.now (S.taken out.old) (S.taken out.new) (S.failures out.old) (S.failures out.new)) }

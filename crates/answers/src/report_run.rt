@@ -35,13 +35,13 @@ pub struct Winning<'a, 't> {
 impl<'a, 't> Maker for Winning<'a, 't> {
     ghost use Rattle.std.specs.Prelude.{◌+◌, length};
     ghost use Rattle.outcome.specs.Sale.{sale_of};
-    ghost use Rattle.answers.specs.inside.Winners.{IsTold, winners_at};
+    ghost use Rattle.answers.specs.inside.Winners.{IsToldAnswer, winners_at};
 
     type Made = Result<Allocation, Refusal>;
 
     ghost count_of = { λ w. length w.compiler.groups };
 
-    ghost makes = { λ w n told. IsTold (winners_at (sale_of w.compiler.book) w.compiler.groups (bytes_of w.solutions.now) n) told };
+    ghost makes = { λ w n told. IsToldAnswer (winners_at (sale_of w.compiler.book) w.compiler.groups (bytes_of w.solutions.now) n) told };
 
     fn count(&self) -> usize {
         self.compiler.count()

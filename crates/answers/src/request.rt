@@ -2,8 +2,8 @@
 
 ghost use Rattle.std.specs.Prelude.{◌≡◌, ◌≤◌, IfOk, Ok, false, map};
 ghost use Rattle.clap.specs.Words.{FailsBy, IsPlainArg, app_of, fault_of, found_of, rows_of, rule_of, subcommand_of, subcommand_rows_of};
-ghost use Rattle.answers.specs.Asked.{asked, check_app, compile_app, group, map_app, named, number_of, number_up_to, plain, report_app, text_app, verify_app, wdp, with_programs, with_solutions, workers};
-ghost use Rattle.answers.specs.Requests.{IsWithinLimits};
+ghost use Rattle.answers.specs.Asked.{asked, check_app, compile_app, group, map_app, named, option_number, number_up_to, plain, report_app, text_app, verify_app, wdp, with_programs, with_solutions, workers};
+ghost use Rattle.answers.specs.Requests.{IsRequestWithinLimits};
 
 use auction_input::Request;
 use auction_terms::MOST_GROUPS;
@@ -134,7 +134,7 @@ fn number_up_to(most: usize, text: &str) -> usize
 
 // The number that an option has.
 fn number_of(matches: &ArgMatches<'_>, id: &str, most: usize) -> usize
-    ensures number { result ≡ number_of id.now most (rows_of (found_of matches.now)) }
+    ensures number { result ≡ option_number id.now most (rows_of (found_of matches.now)) }
     ensures least { 1 ≤ result }
     ensures most { 1 ≤ most → result ≤ most }
 {
@@ -147,7 +147,7 @@ fn number_of(matches: &ArgMatches<'_>, id: &str, most: usize) -> usize
 // The request of the command that was found.
 fn read(matches: &ArgMatches<'_>) -> Request
     ensures request { result ≡ named (subcommand_rows_of matches.now) }
-    ensures limits { IsWithinLimits result }
+    ensures limits { IsRequestWithinLimits result }
 {
     match matches.subcommand() {
         Some(("compile", found)) => Request::Compile {
@@ -179,7 +179,7 @@ fn matches_of<'a>(alloc: Global, words: &'a [&'a str]) -> Result<ArgMatches<'a>,
 pub fn request_of<'a>(alloc: Global, words: &'a [&'a str]) -> Result<Request, Error>
     ensures request { IfOk result (λ request. asked (map (λ word. word.now) words.entry.now) ≡ Ok request) }
     ensures faults { FailsBy (fault_of wdp (map (λ word. word.now) words.entry.now)) result }
-    ensures limits { IfOk result IsWithinLimits }
+    ensures limits { IfOk result IsRequestWithinLimits }
 {
     let matches = matches_of(alloc, words)?;
     Ok(read(&matches))

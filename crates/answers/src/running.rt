@@ -7,7 +7,7 @@ ghost use Rattle.clap.specs.declared.error.kind.ErrorKind.TheVariants as kind;
 ghost use Rattle.answers.specs.Asked.{IsShown};
 ghost use Rattle.auction_input.specs.Line.{IsToldWhy};
 ghost use Rattle.auction_terms.specs.Borrowed.{bytes_of};
-ghost use Rattle.answers.specs.Requests.{IsWithinLimits};
+ghost use Rattle.answers.specs.Requests.{IsRequestWithinLimits};
 ghost use Rattle.answers.specs.Runs.{IsAnswered, IsDone, IsRefused, IsUnasked, IsUndone, IsUnshown};
 ghost use Rattle.answers.specs.inside.Runs.{IsUntold};
 
@@ -54,7 +54,7 @@ fn answer_request<R: Threads + Wait + Sync + AllocGlobal, I: Read, S: Sink, F: S
     out: &mut S,
     faults: &mut F,
 ) -> u8
-    requires { IsWithinLimits request }
+    requires { IsRequestWithinLimits request }
     ensures status { result ≤ 1 }
     ensures answered { result ≡ 0 → IsAnswered request (I.remaining input.old.reader) (I.remaining input.new.reader) (S.taken out.old) (S.taken out.new) }
     ensures quiet { result ≡ 0 → F.taken faults.new ≡ F.taken faults.old }

@@ -1,7 +1,7 @@
 //! The line that tells why a run ended.
 
 ghost use Rattle.std.specs.Prelude.{◌≡◌, IfSome};
-ghost use Rattle.auction_input.specs.Line.{IsTold, Puts, line_of, refusal_text};
+ghost use Rattle.auction_input.specs.Line.{IsTold, Puts, refusal_line, refusal_text};
 ghost use Rattle.auction_input.specs.Refused.{refused};
 
 use crate::pieces::write_pieces;
@@ -37,7 +37,7 @@ fn text_of(refusal: &Refusal) -> Option<ArrayString<TEXT_ROOM>>
 // Puts a line: a text, and a name behind it.
 #[tactic(auto, using(crate::proofs::LineFacts::puts))]
 fn put_line<F: Sink>(text: &str, name: &[u8], faults: &mut F)
-    ensures { Puts (line_of text.now name.now) (F.taken faults.old) (F.taken faults.new) (F.failures faults.old) (F.failures faults.new) }
+    ensures { Puts (refusal_line text.now name.now) (F.taken faults.old) (F.taken faults.new) (F.failures faults.old) (F.failures faults.new) }
 {
     let pieces: [&[u8]; 4] = [b"wdp: ", text.as_bytes(), name, b"\n"];
     let _ = write_pieces(&pieces, faults);

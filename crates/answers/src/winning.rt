@@ -7,7 +7,7 @@ ghost use Rattle.auction_terms.specs.Terms.{lots_in};
 ghost use Rattle.bid_desk.specs.Closing.{book_of};
 ghost use Rattle.program_rows.specs.Faithful.{IsFaithful};
 ghost use Rattle.auction_input.specs.Refused.{Refuses, refused};
-ghost use Rattle.answers.specs.Winners.{column_name, row_name, solution_refused, winners_by};
+ghost use Rattle.answers.specs.Winners.{column_name, name_of_row, solution_refused, winners_by};
 
 use auction_input::Refusal;
 use auction_terms::Group;
@@ -71,7 +71,7 @@ fn column_name(program: &Program, column: usize) -> &[u8]
 
 // The name of a row; where there is none, no name.
 fn row_name(program: &Program, row: usize) -> &[u8]
-    ensures { result.now ≡ row_name program.now row }
+    ensures { result.now ≡ name_of_row program.now row }
 {
     if row < program.row_count() {
         program.row_name(row)

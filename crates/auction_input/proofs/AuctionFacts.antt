@@ -14,7 +14,7 @@ use Rattle.auction_input.specs.Calls.{calls_told}
 use Rattle.auction_input.specs.Refused.{Refuses, Refusal}
 use Rattle.auction_input.specs.Settled.{RefusesAuction}
 use Rattle.auction_terms.specs.Borrowed.{bytes_of}
-use Rattle.auction_input.specs.Parts.{SplitInput, Tells, cut_lines, parts_in, split, values}
+use Rattle.auction_input.specs.Parts.{SplitInput, TellsParts, cut_lines, parts_in, split, values}
 use Rattle.auction_input.specs.PartsTold.{count_fault, counted_parts, parts_told, split_input}
 use Rattle.auction_input.specs.Plan.{miscounted, reads_auction}
 use Rattle.auction_terms.specs.Stages.{and_then, refused_as, unless}
@@ -43,17 +43,17 @@ module _ (asked : Request) (input : List ℕ) (parts : Parts) where
       ap₂ (λ (rules groups : ℕ). miscounted asked rules groups (length (bytes_of parts.solutions.items))) (length-map parts.rules.items now) (length-map parts.groups.items now)
       ∙ ap (λ (solutions : ℕ). miscounted asked (length parts.rules.items) (length parts.groups.items) solutions) (length-map parts.solutions.items now)
 
-  counted : (found : Option CountedPart) → Tells asked (Ok parts) input → miscounted asked (length parts.rules.items) (length parts.groups.items) (length parts.solutions.items) ≡ found
+  counted : (found : Option CountedPart) → TellsParts asked (Ok parts) input → miscounted asked (length parts.rules.items) (length parts.groups.items) (length parts.solutions.items) ≡ found
       → parts_told asked input ≡ refused_as refusal.PartCount (unless found (Ok (values parts)))
   counted found told is =
       let cut : split_input asked input ≡ Ok (values parts) = ap (λ (f : Option PartFault). unless f (Ok (split asked (parts_in (cut_lines input))))) told.0 ∙ ap (λ (s : SplitInput). Ok s) (sym told.1) in
       ap (λ (r : Result SplitInput PartFault). and_then (refused_as refusal.Parts r) (counted_parts asked)) cut
       ∙ ap (λ (f : Option CountedPart). refused_as refusal.PartCount (unless f (Ok (values parts)))) (counts ∙ is)
 
-  pub parts-are : Tells asked (Ok parts) input → miscounted asked (length parts.rules.items) (length parts.groups.items) (length parts.solutions.items) ≡ None → parts_told asked input ≡ Ok (values parts)
+  pub parts-are : TellsParts asked (Ok parts) input → miscounted asked (length parts.rules.items) (length parts.groups.items) (length parts.solutions.items) ≡ None → parts_told asked input ≡ Ok (values parts)
   parts-are told is = counted None told is
 
-  pub parts-miscounted : (part : CountedPart) → Tells asked (Ok parts) input → miscounted asked (length parts.rules.items) (length parts.groups.items) (length parts.solutions.items) ≡ Some part
+  pub parts-miscounted : (part : CountedPart) → TellsParts asked (Ok parts) input → miscounted asked (length parts.rules.items) (length parts.groups.items) (length parts.solutions.items) ≡ Some part
       → Refuses (parts_told asked input) (refusal.PartCount part)
   parts-miscounted part told is = inl (counted (Some part) told is)
 
@@ -63,7 +63,7 @@ no_parts f = Err f
 told-parts : (asked : Request) (input : List ℕ) (f : PartFault) → split_input asked input ≡ Err f → Refuses (parts_told asked input) (refusal.Parts f)
 told-parts asked input f is = inl (ap (λ (r : Result SplitInput PartFault). and_then (refused_as refusal.Parts r) (counted_parts asked)) is)
 
-pub parts-refused : (asked : Request) (input : List ℕ) (f : PartFault) → Tells asked (no_parts f) input → Refuses (parts_told asked input) (refusal.Parts f)
+pub parts-refused : (asked : Request) (input : List ℕ) (f : PartFault) → TellsParts asked (no_parts f) input → Refuses (parts_told asked input) (refusal.Parts f)
 parts-refused asked input fault.OutOfMemory told = inr refl
 parts-refused asked input f told = told-parts asked input f (ap (λ (found : Option PartFault). unless found (Ok (split asked (parts_in (cut_lines input))))) told)
 

@@ -24,14 +24,14 @@ no_groups f = Err f
 told-rules : (f : RulesFault) (x : Result Terms RulesFault) → no_rules f ≡ x → Refuses (refused_as refusal.Rules x) (refusal.Rules f)
 told-rules f x is = inl (ap (λ r. refused_as refusal.Rules r) (sym is))
 
-pub rules-refuse : (f : RulesFault) (x : Result Terms RulesFault) → Answers rules_text.is_memory (no_rules f) x → Refuses (refused_as refusal.Rules x) (refusal.Rules f)
+pub rules-refuse : (f : RulesFault) (x : Result Terms RulesFault) → Answers rules_text.is_rules_memory (no_rules f) x → Refuses (refused_as refusal.Rules x) (refusal.Rules f)
 rules-refuse rules.OutOfMemory x is = inr refl
 rules-refuse f x is = told-rules f x is
 
 told-groups : (f : GroupFault) (x : Result (List (List ℕ)) GroupFault) → no_groups f ≡ x → Refuses (refused_as refusal.Groups x) (refusal.Groups f)
 told-groups f x is = inl (ap (λ r. refused_as refusal.Groups r) (sym is))
 
-pub groups-refuse : (f : GroupFault) (x : Result (List (List ℕ)) GroupFault) → Answers groups_text.is_memory (no_groups f) x → Refuses (refused_as refusal.Groups x) (refusal.Groups f)
+pub groups-refuse : (f : GroupFault) (x : Result (List (List ℕ)) GroupFault) → Answers groups_text.is_groups_memory (no_groups f) x → Refuses (refused_as refusal.Groups x) (refusal.Groups f)
 groups-refuse groups.OutOfMemory x is = inr refl
 groups-refuse f x is = told-groups f x is
 
@@ -41,6 +41,6 @@ no_form f = Err f
 told-form : (n : ℕ) (f : FormFault) (x : Result Offers FormFault) → no_form f ≡ x → Refuses (refused_as (refusal.Form n) x) (refusal.Form n f)
 told-form n f x is = inl (ap (λ r. refused_as (refusal.Form n) r) (sym is))
 
-pub form-refuses : (n : ℕ) (f : FormFault) (x : Result Offers FormFault) → Answers form_text.is_memory (no_form f) x → Refuses (refused_as (refusal.Form n) x) (refusal.Form n f)
+pub form-refuses : (n : ℕ) (f : FormFault) (x : Result Offers FormFault) → Answers form_text.is_form_memory (no_form f) x → Refuses (refused_as (refusal.Form n) x) (refusal.Form n f)
 form-refuses n form.OutOfMemory x is = inr refl
 form-refuses n f x is = told-form n f x is

@@ -91,23 +91,23 @@ ok-or-fault x e is = cc
 
 -- the fault of rules that are refused is what their text tells
 pub rules-faulted : (text : List ℕ) (f : RulesFault) → (TEXT_LIMIT < length text → no_rules f ≡ no_rules rules_fault.TooLarge)
-    → (length text ≤ TEXT_LIMIT → Answers rules_text.is_memory (no_rules f) (rules_text.rules_of text)) → Answers rules_text.is_memory (no_rules f) (rules_in text)
+    → (length text ≤ TEXT_LIMIT → Answers rules_text.is_rules_memory (no_rules f) (rules_text.rules_of text)) → Answers rules_text.is_rules_memory (no_rules f) (rules_in text)
 rules-faulted text f large told = elim (leb_tells 4194305 (length text)) [
   | inl (is, more) ↦ (
       let e = large (omega arith) in
       let same : f ≡ rules_fault.TooLarge = cc in
-      subst (λ x. Answers rules_text.is_memory (no_rules x) (rules_in text)) (sym same) (rw is refl))
+      subst (λ x. Answers rules_text.is_rules_memory (no_rules x) (rules_in text)) (sym same) (rw is refl))
   | inr (is, few) ↦ rw is (told (omega arith))
 ]
 
 -- the same of groups
 pub groups-faulted : (bidders : List Bidder) (text : List ℕ) (f : GroupFault) → (TEXT_LIMIT < length text → no_groups f ≡ no_groups group_fault.TooLarge)
-    → (length text ≤ TEXT_LIMIT → Answers groups_text.is_memory (no_groups f) (groups_text.groups_of bidders text)) → Answers groups_text.is_memory (no_groups f) (groups_in bidders text)
+    → (length text ≤ TEXT_LIMIT → Answers groups_text.is_groups_memory (no_groups f) (groups_text.groups_of bidders text)) → Answers groups_text.is_groups_memory (no_groups f) (groups_in bidders text)
 groups-faulted bidders text f large told = elim (leb_tells 4194305 (length text)) [
   | inl (is, more) ↦ (
       let e = large (omega arith) in
       let same : f ≡ group_fault.TooLarge = cc in
-      subst (λ x. Answers groups_text.is_memory (no_groups x) (groups_in bidders text)) (sym same) (rw is refl))
+      subst (λ x. Answers groups_text.is_groups_memory (no_groups x) (groups_in bidders text)) (sym same) (rw is refl))
   | inr (is, few) ↦ rw is (told (omega arith))
 ]
 

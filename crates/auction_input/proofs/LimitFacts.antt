@@ -13,7 +13,7 @@ use Rattle.auction_terms.specs.Limits.{IsBid, IsBook}
 use Rattle.auction_terms.specs.Packages.{Lots}
 use Rattle.auction_terms.specs.Records.{Record}
 use Rattle.auction_terms.specs.RulesText as rules_text
-use Rattle.auction_terms.specs.RulesText.{bidder_of, entries_of, entry_fault, field, is_kind, kind_of, number_in, of_kind, rules_of, rules_of_records, version_of}
+use Rattle.auction_terms.specs.RulesText.{bidder_of, entries_of, entry_fault, record_field, is_kind, record_kind, field_number, of_kind, rules_of, rules_of_records, version_of}
 use Rattle.auction_terms.specs.Terms.{Terms, lots_in}
 use Rattle.auction_terms.specs.declared.bids.Bid.{Bid}
 use Rattle.auction_terms.specs.declared.limits.TheConstants.{GREATEST_QUANTITY, MOST_BIDDERS, MOST_BIDS}
@@ -24,8 +24,8 @@ use Rattle.auction_terms.specs.declared.rules_text.RulesFault.{RulesFault}
 use Rattle.auction_terms.specs.declared.rules_text.RulesFault.TheVariants as rules_fault
 use Rattle.bid_desk.specs.Closing.{bids_in}
 use Rattle.bid_forms.specs.FormText as form_text
-use Rattle.bid_forms.specs.FormText.{amount_checks, bid_fault, bid_of, bidder_in, count_checks, fault_of_bid, form_of, form_of_records, header_checks, package_checks, place_checks, quantities_in, quantity_checks}
-use Rattle.bid_forms.specs.Offers.{Offers, are_quantities, eligibility_of, offers}
+use Rattle.bid_forms.specs.FormText.{amount_checks, bid_fault, bid_told, bidder_in, count_checks, fault_of_bid, form_in_text, form_of_records, form_header_checks, package_checks, place_checks, quantities_in, quantity_checks}
+use Rattle.bid_forms.specs.Offers.{Offers, are_quantities, eligibility_of, offers_of_bidder}
 use Rattle.bid_forms.specs.declared.form_text.FormFault.{FormFault}
 use Rattle.bid_forms.specs.declared.form_text.FormFault.TheVariants as form_fault
 use Rattle.auction_input.specs.BookLeft.{book_left}
@@ -58,18 +58,18 @@ unfolding first_fault
 few-bidders v before [] none few = rw (append-nil before) few
 few-bidders v before (r ∷ more) none few =
     let parts = neither (entry_fault v before r) (first_fault (entry_fault v) (before ++ r ∷ []) more) none in
-    let grown : length (of_kind v kind.Bidder (before ++ r ∷ [])) ≤ MOST_BIDDERS = one-more (kind_of v r) refl parts.0 in
+    let grown : length (of_kind v kind.Bidder (before ++ r ∷ [])) ≤ MOST_BIDDERS = one-more (record_kind v r) refl parts.0 in
     subst (λ (rs : List Record). length (of_kind v kind.Bidder rs) ≤ MOST_BIDDERS) (append_assoc before (r ∷ []) more) (few-bidders v (before ++ r ∷ []) more parts.1 grown)
   where
     grows : of_kind v kind.Bidder (before ++ r ∷ []) ≡ of_kind v kind.Bidder before ++ of_kind v kind.Bidder (r ∷ [])
-    grows = filter-append (λ q. is_kind kind.Bidder (kind_of v q)) before (r ∷ [])
+    grows = filter-append (λ q. is_kind kind.Bidder (record_kind v q)) before (r ∷ [])
 
-    same : is_kind kind.Bidder (kind_of v r) ≡ false → length (of_kind v kind.Bidder (before ++ r ∷ [])) ≤ MOST_BIDDERS
+    same : is_kind kind.Bidder (record_kind v r) ≡ false → length (of_kind v kind.Bidder (before ++ r ∷ [])) ≤ MOST_BIDDERS
     same other =
         let none_more : of_kind v kind.Bidder (r ∷ []) ≡ [] = rw other refl in
         rw (grows, none_more, append-nil (of_kind v kind.Bidder before)) few
 
-    one-more : (k : Option RecordKind) → kind_of v r ≡ k → entry_fault v before r ≡ None → length (of_kind v kind.Bidder (before ++ r ∷ [])) ≤ MOST_BIDDERS
+    one-more : (k : Option RecordKind) → record_kind v r ≡ k → entry_fault v before r ≡ None → length (of_kind v kind.Bidder (before ++ r ∷ [])) ≤ MOST_BIDDERS
     one-more None is free = same (rw is refl)
     one-more (Some kind.Category) is free = same (rw is refl)
     one-more (Some kind.Pool) is free = same (rw is refl)
@@ -134,12 +134,12 @@ length-drop-one [] n is = absurd (omega arith)
 length-drop-one (x ∷ xs) n is = omega arith
 
 -- a record without a fault tells a bid within the limits, and there is room for it
-bid-within : (t : Terms) (eligibility place : ℕ) (before : List Bid) (r : Record) → fault_of_bid t eligibility place before r ≡ None → IsBid (lots_in t) (bid_of r) × (length before < MOST_BIDS)
+bid-within : (t : Terms) (eligibility place : ℕ) (before : List Bid) (r : Record) → fault_of_bid t eligibility place before r ≡ None → IsBid (lots_in t) (bid_told r) × (length before < MOST_BIDS)
 bid-within t eligibility place before r free =
     let counts = neither (first_failed (count_checks t.categories place r)) _ free in
     let amounts = neither (first_failed (amount_checks t.step place r)) _ counts.1 in
     let quantities = neither (first_failed (quantity_checks place r)) _ amounts.1 in
-    let packages = neither (first_failed (package_checks t.categories eligibility place (quantities_in r) (number_in 1 r))) _ quantities.1 in
+    let packages = neither (first_failed (package_checks t.categories eligibility place (quantities_in r) (field_number 1 r))) _ quantities.1 in
     let count = none-failed (count_checks t.categories place r) counts.0 in
     let amount = none-failed (amount_checks t.step place r) amounts.0 in
     let quantity = none-failed (quantity_checks place r) quantities.0 in
@@ -153,14 +153,14 @@ bid-within t eligibility place before r free =
     )
 
 bids-within : (t : Terms) (eligibility : ℕ) (before more : List Record) → first_fault (bid_fault t eligibility) before more ≡ None → length before ≤ MOST_BIDS
-    → (length (before ++ more) ≤ MOST_BIDS) × AllByRecursion (IsBid (lots_in t)) (map bid_of more)
+    → (length (before ++ more) ≤ MOST_BIDS) × AllByRecursion (IsBid (lots_in t)) (map bid_told more)
 unfolding first_fault
 bids-within t eligibility before [] none few = (rw (append-nil before) few, tt)
 bids-within t eligibility before (r ∷ more) none few =
     let parts = neither (bid_fault t eligibility before r) (first_fault (bid_fault t eligibility) (before ++ r ∷ []) more) none in
-    let bid = bid-within t eligibility (length before + 2) (map bid_of before) r parts.0 in
+    let bid = bid-within t eligibility (length before + 2) (map bid_told before) r parts.0 in
     let room = bid.1 in
-    let count = length-map before bid_of in
+    let count = length-map before bid_told in
     let grown = length-append before (r ∷ []) in
     let rest = bids-within t eligibility (before ++ r ∷ []) more parts.1 (omega arith) in
     (subst (λ (rs : List Record). length rs ≤ MOST_BIDS) (append_assoc before (r ∷ []) more) rest.0, (bid.0, rest.1))
@@ -172,11 +172,11 @@ form-or (Some f) answer form told = cc
 form-within : (t : Terms) (records : List Record) (form : Offers) → form_of_records t records ≡ Ok form → IsWithin (lots_in t) form
 form-within t [] form told = cc
 form-within t (header ∷ more) form told =
-    let first = form-or (first_failed (header_checks t header)) _ form told in
+    let first = form-or (first_failed (form_header_checks t header)) _ form told in
     let second = form-or (first_fault (bid_fault t (eligibility_of t (bidder_in t header))) [] more) _ form first.1 in
     let within = bids-within t (eligibility_of t (bidder_in t header)) [] more second.0 (omega arith) in
-    let count = length-map more bid_of in
-    subst (λ (o : Offers). IsWithin (lots_in t) o) (ok-is _ (offers (bidder_in t header) (map bid_of more)) form refl second.1) (omega arith, within.1)
+    let count = length-map more bid_told in
+    subst (λ (o : Offers). IsWithin (lots_in t) o) (ok-is _ (offers_of_bidder (bidder_in t header) (map bid_told more)) form refl second.1) (omega arith, within.1)
 
 -- ---- what an input tells
 

@@ -11,7 +11,7 @@ use Rattle.auction_input.specs.declared.part_kind.PartKind.{PartKind}
 use Rattle.auction_input.specs.declared.part_kind.PartKind.TheVariants as kind
 use Rattle.auction_input.specs.declared.request.Request.{Request}
 use Rattle.memchr.specs.Find.{FindsNeedle, OccursAt}
-use Rattle.auction_input.specs.Parts.{Part, bytes_before, bytes_of_kind, first_line, onto_first_line, is_of_kind, is_same_kind, cut_lines, heads_part, input_fault, kind_named, name_of, part, part_fault, parts_in, split}
+use Rattle.auction_input.specs.Parts.{Part, bytes_before, bytes_of_kind, first_line, onto_first_line, is_of_kind, is_same_kind, cut_lines, heads_part, input_fault, kind_named, part_name, part, part_fault, parts_in, split}
 use Rattle.auction_input.specs.inside.Parts.{added}
 
 -- a text with a line feed, none before it
@@ -61,7 +61,7 @@ parts-headed text n end some is cut bytes parts =
     rw (cut, head, bytes, parts) refl
 
 -- a part of a kind that is told
-pub known-part : (asked : Request) (before : List Part) (p : Part) (k : PartKind) → kind_named asked (name_of p.head) ≡ Some k → part_fault asked before p ≡ None
+pub known-part : (asked : Request) (before : List Part) (p : Part) (k : PartKind) → kind_named asked (part_name p.head) ≡ Some k → part_fault asked before p ≡ None
 known-part asked before p k is = rw is refl
 
 one-part : (t : Bool) (p : Part) → map (λ (q : Part). q.bytes) (cond t (p ∷ []) []) ≡ cond t (p.bytes ∷ []) []
@@ -69,7 +69,7 @@ one-part true p = refl
 one-part false p = refl
 
 -- the parts of one kind, with one more part
-bytes-more : (asked : Request) (before : List Part) (p : Part) (k l : PartKind) → kind_named asked (name_of p.head) ≡ Some l
+bytes-more : (asked : Request) (before : List Part) (p : Part) (k l : PartKind) → kind_named asked (part_name p.head) ≡ Some l
     → bytes_of_kind asked k (before ++ p ∷ []) ≡ bytes_of_kind asked k before ++ cond (is_same_kind k l) (p.bytes ∷ []) []
 bytes-more asked before p k l is =
     let one : map (λ (q : Part). q.bytes) (filter (is_of_kind asked k) (p ∷ [])) ≡ cond (is_same_kind k l) (p.bytes ∷ []) [] = rw is (one-part (is_same_kind k l) p) in
@@ -78,7 +78,7 @@ bytes-more asked before p k l is =
     ∙ ap (λ xs. bytes_of_kind asked k before ++ xs) one
 
 -- the same of each kind
-pub split-more : (asked : Request) (before : List Part) (p : Part) (k : PartKind) → kind_named asked (name_of p.head) ≡ Some k → split asked (before ++ p ∷ []) ≡ added k p.bytes (split asked before)
+pub split-more : (asked : Request) (before : List Part) (p : Part) (k : PartKind) → kind_named asked (part_name p.head) ≡ Some k → split asked (before ++ p ∷ []) ≡ added k p.bytes (split asked before)
 split-more asked before p k is = by k (bytes-more asked before p kind.Rules k is) (bytes-more asked before p kind.Form k is) (bytes-more asked before p kind.Groups k is) (bytes-more asked before p kind.Solution k is) (bytes-more asked before p kind.Certificate k is)
   where
     by : (l : PartKind)
@@ -109,7 +109,7 @@ none-left [] is = refl
 none-left (x ∷ xs) is = (let e : length (x ∷ xs) ≡ 0 = (Decides-eqb (length (x ∷ xs)) 0).0 is in absurd (omega arith))
 
 -- a part of no known kind
-pub unknown-part : (asked : Request) (before : List Part) (p : Part) → kind_named asked (name_of p.head) ≡ None → part_fault asked before p ≡ Some (fault.PartName (length before + 1))
+pub unknown-part : (asked : Request) (before : List Part) (p : Part) → kind_named asked (part_name p.head) ≡ None → part_fault asked before p ≡ Some (fault.PartName (length before + 1))
 unknown-part asked before p is = rw is refl
 
 -- the lines after the first one

@@ -50,11 +50,11 @@ name_told (refusal.BoundBroken n name) = name
 name_told (refusal.RowBroken n name) = name
 name_told r = []
 
-abbrev pub line_of : List ℕ → List ℕ → List ℕ
-line_of text name = codes "wdp: " ++ (text ++ (name ++ 10 ∷ []))
+abbrev pub refusal_line : List ℕ → List ℕ → List ℕ
+refusal_line text name = codes "wdp: " ++ (text ++ (name ++ 10 ∷ []))
 
 abbrev pub line : Refused → List ℕ
-line r = line_of (refusal_text r) (name_told r)
+line r = refusal_line (refusal_text r) (name_told r)
 
 -- bytes went out, or the first of them and a put failed
 abbrev pub Puts : List ℕ → Option (List ℕ) → Option (List ℕ) → ℕ → ℕ → Type 0

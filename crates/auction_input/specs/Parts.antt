@@ -51,8 +51,8 @@ first_line [] = []
 first_line (line ∷ more) = line
 
 -- the name in the line that heads a part
-abbrev pub name_of : List ℕ → List ℕ
-name_of head = first_line (lines_of head)
+abbrev pub part_name : List ℕ → List ℕ
+part_name head = first_line (lines_of head)
 
 -- certificates are a kind for `verify` alone
 abbrev pub certificates_for : Request → Option PartKind
@@ -71,7 +71,7 @@ kind_named asked name =
 
 -- a part of no known kind, given the parts before it
 abbrev pub part_fault : Request → List Part → Part → Option PartFault
-part_fault asked before p = if is_some (kind_named asked (name_of p.head)) then None else Some (fault.PartName (length before + 1))
+part_fault asked before p = if is_some (kind_named asked (part_name p.head)) then None else Some (fault.PartName (length before + 1))
 
 -- the first fault of the input
 abbrev pub input_fault : Request → List ℕ → Option PartFault
@@ -96,7 +96,7 @@ is_same_kind kind.Certificate kind.Certificate = true
 is_same_kind k l = false
 
 abbrev pub is_of_kind : Request → PartKind → Part → Bool
-is_of_kind asked k p = option_map_or (is_same_kind k) (kind_named asked (name_of p.head)) false
+is_of_kind asked k p = option_map_or (is_same_kind k) (kind_named asked (part_name p.head)) false
 
 abbrev pub bytes_of_kind : Request → PartKind → List Part → List (List ℕ)
 bytes_of_kind asked k parts = map (λ p. p.bytes) (filter (is_of_kind asked k) parts)
@@ -115,7 +115,7 @@ abbrev pub values : Parts → SplitInput
 values p = record { rules = bytes_of p.rules.items; forms = bytes_of p.forms.items; groups = bytes_of p.groups.items; solutions = bytes_of p.solutions.items; certificates = bytes_of p.certificates.items }
 
 -- the parts, where the input has no fault, and else the first fault; or memory was short
-abbrev pub Tells : Request → Result Parts PartFault → List ℕ → Type 0
-Tells asked (Ok parts) text = (input_fault asked text ≡ None) × (values parts ≡ split asked (parts_in (cut_lines text)))
-Tells asked (Err fault.OutOfMemory) text = ⊤
-Tells asked (Err f) text = input_fault asked text ≡ Some f
+abbrev pub TellsParts : Request → Result Parts PartFault → List ℕ → Type 0
+TellsParts asked (Ok parts) text = (input_fault asked text ≡ None) × (values parts ≡ split asked (parts_in (cut_lines text)))
+TellsParts asked (Err fault.OutOfMemory) text = ⊤
+TellsParts asked (Err f) text = input_fault asked text ≡ Some f

@@ -1,7 +1,7 @@
 //! The parts of the input.
 
 ghost use Rattle.std.specs.Prelude.{◌≡◌, ◌≤◌, ◌<◌, ◌∷◌, ◌⊎◌, [], OnOk, drop, length, take, true};
-ghost use Rattle.auction_input.specs.Parts.{Tells, heads_part, bytes_before, cut_lines, name_of, part, parts_in, values};
+ghost use Rattle.auction_input.specs.Parts.{TellsParts, heads_part, bytes_before, cut_lines, part_name, part, parts_in, values};
 ghost use Rattle.auction_input.specs.inside.Parts.{added};
 
 use crate::part_kind::{PartKind, kind_named};
@@ -78,7 +78,7 @@ fn body_end(text: &[u8]) -> usize
 
 // The name in the line that heads a part.
 fn head_name(head: &[u8]) -> &[u8]
-    ensures { result.now ≡ name_of head.now }
+    ensures { result.now ≡ part_name head.now }
 {
     match LineReader::new(head).next() {
         Some(name) => name,
@@ -126,7 +126,7 @@ pub fn split_parts<'t>(
     request: &Request,
     text: &'t [u8],
 ) -> Result<Parts<'t>, PartFault>
-    ensures { Tells request.now result text.now }
+    ensures { TellsParts request.now result text.now }
 {
     if body_end(text) > 0 {
         return Err(PartFault::BeforeFirst);

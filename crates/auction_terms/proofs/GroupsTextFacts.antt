@@ -8,7 +8,7 @@ use Rattle.std.proofs.Math.Seq.{drop-cons}
 use Rattle.std.specs.List.{list_any}
 use Rattle.std.specs.Str.{bytes_eq}
 use Rattle.auction_terms.specs.FirstFault.{first_failed}
-use Rattle.auction_terms.specs.GroupsText.{is_memory, name_fault, numbers_from}
+use Rattle.auction_terms.specs.GroupsText.{is_groups_memory, name_fault, numbers_from}
 use Rattle.auction_terms.specs.Stages.{Answers, unless}
 use Rattle.auction_terms.specs.inside.FirstFault.{Tells, TellsFault}
 use Rattle.auction_terms.specs.declared.rules.Bidder.{Bidder}
@@ -28,12 +28,12 @@ pub name_fault-is : (bidders : List Bidder) (place : ℕ) (names : List (Bor (Li
 name_fault-is bidders place names name = rw (list_any-map (λ (other : Bor (List ℕ)). other.now) (λ other. bytes_eq other name) names) refl
 
 pub answers-fault : {T : Type 0} (U : Type 0) (f : GroupFault) (found outer : Option GroupFault) (x : T) (value : U) → ((g : GroupFault) → found ≡ Some g → outer ≡ Some g)
-    → Tells {T = T} is_memory (Err f) found x → Answers {A = U} is_memory (Err f) (unless outer (Ok value))
+    → Tells {T = T} is_groups_memory (Err f) found x → Answers {A = U} is_groups_memory (Err f) (unless outer (Ok value))
 answers-fault U fault.OutOfMemory found outer x value same h = tt
 answers-fault U f found outer x value same h = rw (same f h) refl
 
 pub tells-fault : {T : Type 0} (U : Type 0) (f : GroupFault) (found outer : Option GroupFault) (x : T) → ((g : GroupFault) → found ≡ Some g → outer ≡ Some g)
-    → Tells {T = T} is_memory (Err f) found x → TellsFault {T = U} is_memory (Err f) outer
+    → Tells {T = T} is_groups_memory (Err f) found x → TellsFault {T = U} is_groups_memory (Err f) outer
 tells-fault U fault.OutOfMemory found outer x same h = tt
 tells-fault U f found outer x same h = same f h
 

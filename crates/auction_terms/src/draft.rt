@@ -38,14 +38,14 @@ pub(crate) struct Draft {
 }
 
 impl Model for Draft {
-    ghost use Rattle.auction_terms.specs.inside.Entries.{AreEntries};
+    ghost use Rattle.auction_terms.specs.inside.Entries.{AreEntriesWithinLimits};
     ghost use Rattle.auction_terms.specs.Entries.{Entries, entries};
 
     ghost Value = { Entries };
 
     ghost view = { λ d. entries d.categories.items d.bidders.items d.pools.items d.members.items };
 
-    ghost invariant = { λ d. AreEntries (entries d.categories.items d.bidders.items d.pools.items d.members.items) };
+    ghost invariant = { λ d. AreEntriesWithinLimits (entries d.categories.items d.bidders.items d.pools.items d.members.items) };
 }
 
 impl Draft {

@@ -4,7 +4,7 @@ ghost use Rattle.std.specs.Prelude.{◌≡◌, ◌≤◌, ◌<◌, Err, [], ◌�
 ghost use Rattle.std.specs.List.{list_any};
 ghost use Rattle.std.specs.Str.{bytes_eq};
 ghost use Rattle.auction_terms.specs.FirstFault.{first_failed, first_fault};
-ghost use Rattle.auction_terms.specs.GroupsText.{fault_of_line, group_of, groups_of, is_memory, line_fault, name_fault, numbers_from};
+ghost use Rattle.auction_terms.specs.GroupsText.{fault_of_line, group_of, groups_of, is_groups_memory, group_line_fault, name_fault, numbers_from};
 ghost use Rattle.auction_terms.specs.Stages.{Answers};
 ghost use Rattle.auction_terms.specs.inside.FirstFault.{Tells, TellsFault};
 ghost use Rattle.auction_terms.specs.GroupNames.{names_in};
@@ -83,7 +83,7 @@ fn check_name(
     before: &[&[u8]],
     name: &[u8],
 ) -> Result<(), GroupFault>
-    ensures { Tells is_memory result (first_failed ((list_any (λ bidder. bytes_eq bidder.name name.now) bidders.now, fault.UnknownBidder place) ∷ (not (list_any (λ other. bytes_eq other.now name.now) before.now), fault.RepeatedBidder place) ∷ [])) tt }
+    ensures { Tells is_groups_memory result (first_failed ((list_any (λ bidder. bytes_eq bidder.name name.now) bidders.now, fault.UnknownBidder place) ∷ (not (list_any (λ other. bytes_eq other.now name.now) before.now), fault.RepeatedBidder place) ∷ [])) tt }
 {
     if !is_known(bidders, name) {
         return Err(GroupFault::UnknownBidder { place });
@@ -101,7 +101,7 @@ fn read_names<'a>(
     bidders: &[Bidder],
     line: &'a [u8],
 ) -> Result<Vec<&'a [u8]>, GroupFault>
-    ensures answer { TellsFault is_memory result (first_fault (name_fault bidders.now place) [] (names_in line.now)) }
+    ensures answer { TellsFault is_groups_memory result (first_fault (name_fault bidders.now place) [] (names_in line.now)) }
     ensures names { IfOk result (λ names. map (λ name. name.now) names.items ≡ names_in line.now) }
 {
     let mut names = Vec::new(alloc);
@@ -138,7 +138,7 @@ fn read_group(
     line: &[u8],
 ) -> Result<Group, GroupFault>
     requires { length bidders.now ≤ MOST_BIDDERS }
-    ensures answer { Tells is_memory result (fault_of_line bidders.now place line.now) (group_of bidders.now line.now) }
+    ensures answer { Tells is_groups_memory result (fault_of_line bidders.now place line.now) (group_of bidders.now line.now) }
     ensures room { OnOk result (place ≤ MOST_GROUPS) }
     ensures group { IfOk result IsGroup }
 {
@@ -156,7 +156,7 @@ fn read_group(
 /// Reads bidder groups, under rules.
 pub fn read_groups(alloc: Global, bytes: &[u8], rules: &Rules) -> Result<Groups, GroupFault>
     ensures too_large { TEXT_LIMIT < length bytes.now → result ≡ Err fault.TooLarge }
-    ensures answer { length bytes.now ≤ TEXT_LIMIT → Answers is_memory result (groups_of rules.now.bidders bytes.now) }
+    ensures answer { length bytes.now ≤ TEXT_LIMIT → Answers is_groups_memory result (groups_of rules.now.bidders bytes.now) }
 {
     if bytes.len() > TEXT_LIMIT {
         return Err(GroupFault::TooLarge);

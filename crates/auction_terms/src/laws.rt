@@ -2,7 +2,7 @@
 
 ghost use Rattle.std.specs.Prelude.{ℕ, List};
 ghost use Rattle.auction_terms.specs.FirstFault.{TellsTheFirst};
-ghost use Rattle.auction_terms.specs.GroupsText.{line_fault, name_fault};
+ghost use Rattle.auction_terms.specs.GroupsText.{group_line_fault, name_fault};
 ghost use Rattle.auction_terms.specs.Packages.{SmallerFits, SmallerLoadsNoMore};
 ghost use Rattle.auction_terms.specs.Allocations.{LoadsAddUp, TotalsAreNets};
 ghost use Rattle.auction_terms.specs.Domination.{SmallerSizesSuffice};
@@ -19,7 +19,7 @@ pub fn records_of_rules_tell_their_first_fault()
 
 /// And so have the lines of a text of groups.
 pub fn lines_of_groups_tell_their_first_fault()
-    ensures { (bidders : List Bidder) → TellsTheFirst (line_fault bidders) }
+    ensures { (bidders : List Bidder) → TellsTheFirst (group_line_fault bidders) }
 {}
 
 /// And so have the names in a line of groups.

@@ -2,7 +2,7 @@
 
 ghost use Rattle.std.specs.Prelude.{◌≡◌};
 ghost use Rattle.csv.specs.Records.{fields_of};
-ghost use Rattle.auction_terms.specs.RulesText.{field_count, has_pools, kind_of, value_text, version_of};
+ghost use Rattle.auction_terms.specs.RulesText.{field_count, has_pools, record_kind, value_text, version_of};
 
 use crate::rules_text::field;
 use csv::ByteRecord;
@@ -69,7 +69,7 @@ pub(crate) fn version_of(row: &ByteRecord) -> Option<Version>
 
 // The kind of a record after the header.
 pub(crate) fn kind_of(version: Version, row: &ByteRecord) -> Option<RecordKind>
-    ensures { result ≡ kind_of version (fields_of row.now) }
+    ensures { result ≡ record_kind version (fields_of row.now) }
 {
     let kind = field(row, 1);
     if kind == b"category".as_slice() {

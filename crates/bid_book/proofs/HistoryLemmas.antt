@@ -18,7 +18,7 @@ use Rattle.bid_book.specs.declared.standing.Standing.{Standing}
 use Rattle.bid_book.specs.declared.reply.Reply.{Reply}
 use Rattle.bid_book.specs.declared.reply.Reply.TheVariants.{Accepted, Withdrawn, Shown, Stale, Closed, RoundOver, CallLimit}
 use Rattle.bid_book.specs.declared.records.Counts.{Counts}
-use Rattle.bid_book.specs.History.{reply_value, call_limit, answer, after, answer_to, MayMake, is_beside, entries_beside, is_change_reply, changes, left_standing, standing_after, has_close, standing_number, answer_to_change, standing_of, is_closed, IsRightAfter, IsLegal}
+use Rattle.bid_book.specs.History.{reply_value, call_limit, answer, after, answer_to, MayMake, is_beside, entries_beside, is_change_reply, changes, left_standing, standing_after, has_close, standing_number, answer_to_change, standing_of, is_closed, IsRightAfter, IsLegalHistory}
 use Rattle.bid_book.specs.inside.Records.{Summarizes, counts_after, change_answer}
 
 -- at a place of a list with one more item: the place is one of the list, or the new one
@@ -30,7 +30,7 @@ get_push (w ∷ xs) x zero y h = inl (h, refl)
 get_push (w ∷ xs) x (suc k) y h =
     elim (get_push xs x k y h) [ inl p ↦ inl (p.0, ap (λ ys. w ∷ ys) p.1) | inr p ↦ inr (p.0, ap (λ ys. w ∷ ys) p.1) ]
 
-pub IsLegal-push : (h : List (Entry Offers)) (e : Entry Offers) → IsLegal h → IsRightAfter h e → IsLegal (h ++ e ∷ [])
+pub IsLegal-push : (h : List (Entry Offers)) (e : Entry Offers) → IsLegalHistory h → IsRightAfter h e → IsLegalHistory (h ++ e ∷ [])
 IsLegal-push h e legal right = record {
   each = λ k x at.
       elim (get_push h e k x at) [
@@ -39,7 +39,7 @@ IsLegal-push h e legal right = record {
       ];
 }
 
-pub IsLegal-nil : IsLegal []
+pub IsLegal-nil : IsLegalHistory []
 IsLegal-nil = record { each = λ k e at. absurd (cc) }
 
 last_or-push : {X : Type 0} (o : Option X) (xs : List X) (x : X) → last_or o (xs ++ x ∷ []) ≡ Some x

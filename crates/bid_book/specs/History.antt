@@ -123,7 +123,7 @@ pub record IsRightAfter (before : List (Entry Offers)) (e : Entry Offers) : Type
   pub allowed : MayMake e.caller e.call
 
 -- each entry is right after those before it
-pub record IsLegal (history : List (Entry Offers)) : Type 0 where
+pub record IsLegalHistory (history : List (Entry Offers)) : Type 0 where
   pub each : (k : ℕ) (e : Entry Offers) → slice_get history k ≡ Some e → IsRightAfter (take k history) e
 
 -- The same with the form out of its share.

@@ -1,7 +1,7 @@
 //! The book.
 ghost use Rattle.std.specs.Prelude.{◌≡◌, ◌≢◌, ◌∷◌, ◌++◌, map, [], not, IfOk, OnOk, IfErr, OnErr, IsOk};
 ghost use Rattle.std.specs.Option.{option_map, option_copied};
-ghost use Rattle.bid_book.specs.History.{answer, after, MayMake, call_value, reply_value, entry_value, standing_value, is_closed, standing_of, IsLegal};
+ghost use Rattle.bid_book.specs.History.{answer, after, MayMake, call_value, reply_value, entry_value, standing_value, is_closed, standing_of, IsLegalHistory};
 
 use crate::call::Call;
 use crate::caller::Caller;
@@ -27,11 +27,11 @@ impl Model for Book {
 
     ghost Value = { List (Entry Offers) };
 
-    ghost use Rattle.bid_book.specs.inside.Records.{history_of, IsBook};
+    ghost use Rattle.bid_book.specs.inside.Records.{history_of, AreOfBook};
 
     ghost view = { λ b. history_of b.records };
 
-    ghost invariant = { λ b. IsBook b.records };
+    ghost invariant = { λ b. AreOfBook b.records };
 }
 
 impl Book {
@@ -53,7 +53,7 @@ impl Book {
     /// The entries in order. They are a legal history.
     pub fn history(&self) -> &[Entry]
         ensures entries { map entry_value result.now ≡ self.now }
-        ensures legal { IsLegal self.now }
+        ensures legal { IsLegalHistory self.now }
     {
         self.records.history.as_slice()
     }

@@ -3,7 +3,7 @@ ghost use Rattle.std.specs.Prelude.{ℕ, ◌≡◌, ◌≢◌, ◌+◌, ◌<◌,
 ghost use Rattle.std.specs.Option.{option_map, option_copied};
 ghost use Rattle.indexmap.specs.IndexMap.{get, spare};
 ghost use Rattle.bid_book.specs.History.{call_value, reply_value, entry_value, standing_value, is_change_reply, left_standing, entries_beside, answer_to, call_limit, changes, standing_after};
-ghost use Rattle.bid_book.specs.inside.Records.{counts_at, standing_at, counts_after, history_of, IsBook, change_answer};
+ghost use Rattle.bid_book.specs.inside.Records.{counts_at, standing_at, counts_after, history_of, AreOfBook, change_answer};
 
 use crate::call::Call;
 use crate::caller::Caller;
@@ -106,7 +106,7 @@ pub(crate) fn reply_to(
     counts: Counts,
     call: &Call,
 ) -> Result<Reply, AllocError>
-    requires kept { IsBook records.now }
+    requires kept { AreOfBook records.now }
     requires counts { counts ≡ counts_at records.now.counts bidder }
     requires below { counts.entries < call_limit }
     ensures { IfOk result (λ r. reply_value r ≡ answer_to (entries_beside (Caller.Session bidder 0) (history_of records.now)) (entries_beside Caller.Chair (history_of records.now)) (call_value call.now)) }

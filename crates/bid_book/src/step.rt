@@ -3,7 +3,7 @@ ghost use Rattle.std.specs.Prelude.{ℕ, ◌≡◌, ◌+◌, ◌<◌, ◌≤◌,
 ghost use Rattle.std.specs.Option.{option_map};
 ghost use Rattle.indexmap.specs.IndexMap.{get, spare};
 ghost use Rattle.bid_book.specs.History.{call_value, reply_value, standing_value, entry_value, left_standing, entries_beside, answer_to, answer, after, call_limit, IsRightAfter, MayMake, is_closed};
-ghost use Rattle.bid_book.specs.inside.Records.{counts_at, counts_after, standing_at, history_of, IsBook};
+ghost use Rattle.bid_book.specs.inside.Records.{counts_at, counts_after, standing_at, history_of, AreOfBook};
 
 use crate::call::Call;
 use crate::caller::Caller;
@@ -37,10 +37,10 @@ fn prepare(
     counts: Counts,
     call: &Call,
 ) -> Result<Prepared, AllocError>
-    requires kept { IsBook records.old }
+    requires kept { AreOfBook records.old }
     requires counts { counts ≡ counts_at records.old.counts bidder }
     requires below { counts.entries < call_limit }
-    ensures kept { IsBook records.new }
+    ensures kept { AreOfBook records.new }
     ensures history { history_of records.new ≡ history_of records.old }
     ensures counts { counts ≡ counts_at records.new.counts bidder }
     ensures told { IfOk result (λ p. reply_value p.told ≡ answer_to (entries_beside (Caller.Session bidder 0) (history_of records.old)) (entries_beside Caller.Chair (history_of records.old)) (call_value call.now)) }
@@ -82,7 +82,7 @@ fn record_session(
     call: Call,
     reply: Reply,
 )
-    requires kept { IsBook records.old }
+    requires kept { AreOfBook records.old }
     requires counts { counts ≡ counts_at records.old.counts bidder }
     requires below { counts.entries < call_limit }
     requires right { IsRightAfter (history_of records.old) (record { caller = Caller.Session bidder session; call = call_value call; reply = reply_value reply }) }
@@ -90,7 +90,7 @@ fn record_session(
     requires history_room { vec_len records.old.history < vec_capacity records.old.history }
     requires counts_room { IsSome (get nat_eq records.old.counts bidder) }
     requires standing_room { 0 < spare records.old.standing }
-    ensures kept { IsBook records.new }
+    ensures kept { AreOfBook records.new }
     ensures history { history_of records.new ≡ history_of records.old ++ record { caller = Caller.Session bidder session; call = call_value call; reply = reply_value reply } ∷ [] }
 {
     let is_change = reply.is_change();
@@ -114,9 +114,9 @@ pub(crate) fn step_session(
     session: u8,
     call: Call,
 ) -> Result<Reply, StepError>
-    requires kept { IsBook records.old }
+    requires kept { AreOfBook records.old }
     requires allowed { MayMake (Caller.Session bidder session) (call_value call) }
-    ensures kept { IsBook records.new }
+    ensures kept { AreOfBook records.new }
     ensures answered { IfOk result (λ r. reply_value r ≡ answer (history_of records.old) (Caller.Session bidder session) (call_value call)) }
     ensures recorded { OnOk result (history_of records.new ≡ after (history_of records.old) (Caller.Session bidder session) (call_value call)) }
     ensures limit { answer (history_of records.old) (Caller.Session bidder session) (call_value call) ≡ Reply.CallLimit → IsOk result }
@@ -139,9 +139,9 @@ pub(crate) fn step_session(
 
 /// A close by the chair.
 pub(crate) fn step_chair(records: &mut Records, call: Call) -> Result<Reply, StepError>
-    requires kept { IsBook records.old }
+    requires kept { AreOfBook records.old }
     requires allowed { MayMake Caller.Chair (call_value call) }
-    ensures kept { IsBook records.new }
+    ensures kept { AreOfBook records.new }
     ensures answered { IfOk result (λ r. reply_value r ≡ answer (history_of records.old) Caller.Chair (call_value call)) }
     ensures recorded { OnOk result (history_of records.new ≡ after (history_of records.old) Caller.Chair (call_value call)) }
     ensures limit { answer (history_of records.old) Caller.Chair (call_value call) ≡ Reply.CallLimit → IsOk result }

@@ -19,7 +19,7 @@ use Rattle.bid_desk.specs.declared.comparing.Comparisons.{Comparisons}
 use Rattle.bid_desk.specs.declared.slots.Slot.{Slot}
 use Rattle.bid_desk.specs.Holding.{ChairOwn, IsCallerOf, IsEntryOf, SessionOwn, caller_of}
 use Rattle.bid_desk.specs.Sessions.{IsSessionOf}
-use Rattle.bid_desk.specs.Settlement.{AgreesAt, DiffersAt, IsFirstDifference, OwnIs, StandOnce, is_named, times}
+use Rattle.bid_desk.specs.Settlement.{AgreesAt, DiffersAt, IsFirstDifference, OwnIs, StandOnce, is_named, times_session}
 use Rattle.bid_desk.specs.inside.Slots.{AreSlots, slot_at, slot_of}
 use Rattle.bid_desk.specs.inside.Comparing.{AreCompared, IsCompared, IsWithin}
 use Rattle.bid_desk.proofs.SettleLemmas.{first_here, own_pairs_more, own_pairs_other, take_next}
@@ -64,7 +64,7 @@ module _ (t : Terms) (sessions : List SessionOwn) (chair : ChairOwn) (slots : Li
       → new.sessions.items ≡ set old.sessions.items place o → new.chair ≡ old.chair
       → AreCompared (take (i + 1) h) sessions chair new
   compared-session b s place x o are once caller known place_is here compared written kept =
-      let one : (slot_at slots b s).times ≡ 1 = are.times_are b s known ∙ ap (times b s) (take_all (length sessions) sessions (omega arith)) ∙ once.each b s known in
+      let one : (slot_at slots b s).times ≡ 1 = are.times_are b s known ∙ ap (times_session b s) (take_all (length sessions) sessions (omega arith)) ∙ once.each b s known in
       let some : 1 ≤ (slot_at slots b s).times = omega arith in
       let inside : place < length sessions = (let within = are.within b s known some in omega arith) in
       let written_inside : place < length old.sessions.items = (let size = was.size in omega arith) in
@@ -118,7 +118,7 @@ entry-known t h entries i e at b s caller =
 -- where each session stands once, its slot leads to it
 module _ (t : Terms) (sessions : List SessionOwn) (slots : List Slot) (are : AreSlots t sessions (length sessions) slots) (once : StandOnce t sessions) (b s : ℕ) (known : IsSessionOf t b s) where
   pub slot-once : (slot_at slots b s).times ≡ 1
-  slot-once = are.times_are b s known ∙ ap (times b s) (take_all (length sessions) sessions (omega arith)) ∙ once.each b s known
+  slot-once = are.times_are b s known ∙ ap (times_session b s) (take_all (length sessions) sessions (omega arith)) ∙ once.each b s known
 
   pub slot-small : slot_of b s < length slots
   slot-small = (let small = slot-within b s (length t.bidders) known.bidder_least known.bidder_most known.session_least (are.most b s known) in let size = are.size in omega arith)

@@ -11,7 +11,7 @@ use Rattle.auction_terms.specs.declared.limits.TheConstants.{MOST_SESSIONS}
 use Rattle.bid_desk.specs.declared.slots.Slot.{Slot}
 use Rattle.bid_desk.specs.Holding.{SessionOwn}
 use Rattle.bid_desk.specs.Sessions.{IsSessionOf, session_limit}
-use Rattle.bid_desk.specs.Settlement.{IsBefore, IsFirstMissing, StandOnce, is_named, times}
+use Rattle.bid_desk.specs.Settlement.{ComesBefore, IsFirstMissing, StandOnce, is_named, times_session}
 use Rattle.bid_desk.specs.inside.Slots.{AllOnce, AreSlots, IsFirstWrong, empty_slot, slot_at, slot_of}
 
 -- a session has one slot, and no other session has it
@@ -39,7 +39,7 @@ few-sessions t terms b s known =
     by (x ∷ bidders) each small = rw (get_or-map (λ (bidder : Bidder). bidder.sessions) (x ∷ bidders) (b - 1) x 0 small) (each (b - 1) x small).sessions
 
 -- an earlier session has an earlier slot
-pub slot-before : (b s c u : ℕ) → 1 ≤ b → 1 ≤ s → s ≤ MOST_SESSIONS → 1 ≤ u → IsBefore b s c u → slot_of b s < slot_of c u
+pub slot-before : (b s c u : ℕ) → 1 ≤ b → 1 ≤ s → s ≤ MOST_SESSIONS → 1 ≤ u → ComesBefore b s c u → slot_of b s < slot_of c u
 slot-before b s c u b_least s_least s_most u_least before =
     elim before [
       | inl less ↦ omega arith
@@ -113,7 +113,7 @@ module _ (t : Terms) (sessions : List SessionOwn) (n : ℕ) (slots : List Slot) 
       | inl same ↦
           let is = same-session b s of_rules same in
           let more = count_by_more_yes (is_named b s) sessions n x small (named-here b s is x) in
-          ap (λ (o : Slot). o.times) (at-same b s same) ∙ ap (λ m. m + 1) (was.times_are x.bidder x.session known ∙ (λ i. times (sym is.0 i) (sym is.1 i) (take n sessions))) ∙ sym more
+          ap (λ (o : Slot). o.times) (at-same b s same) ∙ ap (λ m. m + 1) (was.times_are x.bidder x.session known ∙ (λ i. times_session (sym is.0 i) (sym is.1 i) (take n sessions))) ∙ sym more
       | inr other ↦
           ap (λ (o : Slot). o.times) (at-other b s other) ∙ was.times_are b s of_rules ∙ sym (count_by_more_no (is_named b s) sessions n x small (ap (is_named b s) (here x) ∙ other-named b s x other))
     ];
@@ -170,8 +170,8 @@ module _ (t : Terms) (sessions : List SessionOwn) (n : ℕ) (slots : List Slot) 
 
 -- where all were counted, each session stands as often as its slot says
 module _ (t : Terms) (sessions : List SessionOwn) (slots : List Slot) (are : AreSlots t sessions (length sessions) slots) where
-  times-all : (b s : ℕ) → IsSessionOf t b s → times b s sessions ≡ (slot_at slots b s).times
-  times-all b s known = sym (are.times_are b s known ∙ ap (times b s) (take_all (length sessions) sessions (omega arith)))
+  times-all : (b s : ℕ) → IsSessionOf t b s → times_session b s sessions ≡ (slot_at slots b s).times
+  times-all b s known = sym (are.times_are b s known ∙ ap (times_session b s) (take_all (length sessions) sessions (omega arith)))
 
   pub first-missing : (b s : ℕ) → IsFirstWrong t slots b s → IsFirstMissing t sessions b s
   first-missing b s wrong = record {

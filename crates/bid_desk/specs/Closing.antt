@@ -7,7 +7,7 @@ use Rattle.auction_terms.specs.declared.bids.Bid.{Bid}
 use Rattle.bid_forms.specs.Offers.{Offers}
 use Rattle.bid_book.specs.declared.entry.Entry.{Entry}
 use Rattle.bid_book.specs.declared.standing.Standing.{Standing}
-use Rattle.bid_book.specs.History.{IsLegal, is_closed, standing_of}
+use Rattle.bid_book.specs.History.{IsLegalHistory, is_closed, standing_of}
 use Rattle.bid_desk.specs.Holding.{IsEntryOf}
 
 -- a closed book: the rules and the settled history
@@ -33,6 +33,6 @@ book_of c = map (λ bidder. bids_in (form_standing c.history bidder)) (range_wit
 -- a history of these rules that has come to its end
 pub record IsClosing (c : Closing) : Type 0 where
   pub terms : AreTerms c.rules
-  pub legal : IsLegal c.history
+  pub legal : IsLegalHistory c.history
   pub closed : is_closed c.history ≡ true
   pub entries : All (IsEntryOf c.rules) c.history

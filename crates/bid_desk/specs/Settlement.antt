@@ -15,8 +15,8 @@ abbrev pub is_named : ℕ → ℕ → SessionOwn → Bool
 is_named b s x = (x.bidder == b) && (x.session == s)
 
 -- how often a session stands in a list
-abbrev pub times : ℕ → ℕ → List SessionOwn → ℕ
-times b s sessions = count_by (is_named b s) sessions
+abbrev pub times_session : ℕ → ℕ → List SessionOwn → ℕ
+times_session b s sessions = count_by (is_named b s) sessions
 
 -- the first place, from 1, at which two lists differ or one of them has ended
 pub record IsFirstDifference {X : Type 0} (xs ys : List X) (place : ℕ) : Type 0 where
@@ -29,13 +29,13 @@ abbrev pub OwnIs : List (Entry Offers) → SessionOwn → Type 0
 OwnIs history x = own_pairs history (Session x.bidder x.session) ≡ x.pairs
 
 -- the bidder and session come before these, by bidder, then session
-abbrev pub IsBefore : ℕ → ℕ → ℕ → ℕ → Type 0
-IsBefore b s c t = (b < c) ⊎ ((b ≡ c) × (s < t))
+abbrev pub ComesBefore : ℕ → ℕ → ℕ → ℕ → Type 0
+ComesBefore b s c t = (b < c) ⊎ ((b ≡ c) × (s < t))
 
 -- the history is closed, each session of the rules stands once, and each caller made just its own calls
 pub record IsSettled (t : Terms) (history : List (Entry Offers)) (chair : ChairOwn) (sessions : List SessionOwn) : Type 0 where
   pub closed : is_closed history ≡ true
-  pub once : (b s : ℕ) → IsSessionOf t b s → times b s sessions ≡ 1
+  pub once : (b s : ℕ) → IsSessionOf t b s → times_session b s sessions ≡ 1
   pub own_is : All (OwnIs history) sessions
   pub chair_is : own_pairs history Chair ≡ chair.pairs
   pub callers : All (λ (e : Entry Offers). IsCallerOf t e.caller) history
@@ -43,8 +43,8 @@ pub record IsSettled (t : Terms) (history : List (Entry Offers)) (chair : ChairO
 -- the first session of the rules that does not stand just once
 pub record IsFirstMissing (t : Terms) (sessions : List SessionOwn) (bidder session : ℕ) : Type 0 where
   pub known : IsSessionOf t bidder session
-  pub missing : times bidder session sessions ≢ 1
-  pub first : (b s : ℕ) → IsSessionOf t b s → IsBefore b s bidder session → times b s sessions ≡ 1
+  pub missing : times_session bidder session sessions ≢ 1
+  pub first : (b s : ℕ) → IsSessionOf t b s → ComesBefore b s bidder session → times_session b s sessions ≡ 1
 
 -- where this session stands in the list, its own pairs are those of the history
 abbrev pub AgreesAt : List (Entry Offers) → List SessionOwn → ℕ → ℕ → Type 0
@@ -59,11 +59,11 @@ DiffersAt history sessions b s place =
 pub record IsFirstDiffering (t : Terms) (history : List (Entry Offers)) (sessions : List SessionOwn) (bidder session place : ℕ) : Type 0 where
   pub known : IsSessionOf t bidder session
   pub differs : DiffersAt history sessions bidder session place
-  pub first : (b s : ℕ) → IsSessionOf t b s → IsBefore b s bidder session → AgreesAt history sessions b s
+  pub first : (b s : ℕ) → IsSessionOf t b s → ComesBefore b s bidder session → AgreesAt history sessions b s
 
 -- each session of the rules stands just once
 pub record StandOnce (t : Terms) (sessions : List SessionOwn) : Type 0 where
-  pub each : (b s : ℕ) → IsSessionOf t b s → times b s sessions ≡ 1
+  pub each : (b s : ℕ) → IsSessionOf t b s → times_session b s sessions ≡ 1
 
 -- the own pairs of each session of the rules are those of the history
 pub record AgreeAll (t : Terms) (history : List (Entry Offers)) (sessions : List SessionOwn) : Type 0 where

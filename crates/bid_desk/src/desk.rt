@@ -1,6 +1,6 @@
 //! The desk, open and stopped.
 ghost use Rattle.std.specs.Prelude.{◌≡◌, map, length, All};
-ghost use Rattle.bid_book.specs.History.{entry_value, IsLegal};
+ghost use Rattle.bid_book.specs.History.{entry_value, IsLegalHistory};
 ghost use Rattle.bid_desk.specs.Holding.{IsEntryOf};
 
 use crate::held::Held;
@@ -82,7 +82,7 @@ impl<L: Round> Stopped<L> {
     /// The entries in order: a legal history under the rules, and as many as the count says.
     pub fn history(&self) -> &[Entry]
         ensures entries { map entry_value result.now ≡ self.now.history }
-        ensures legal { IsLegal self.now.history }
+        ensures legal { IsLegalHistory self.now.history }
         ensures rules { All (IsEntryOf L.rules) self.now.history }
         ensures count { self.now.count ≡ length self.now.history }
     {

@@ -5,7 +5,7 @@ ghost use Rattle.std.specs.Arc.{arc_value};
 ghost use Rattle.auction_terms.specs.Terms.{AreTerms};
 ghost use Rattle.bid_forms.specs.Offers.{Offers, Meets};
 ghost use Rattle.bid_book.specs.declared.reply.Reply.TheVariants.{Shown};
-ghost use Rattle.bid_book.specs.History.{entry_value, call_value, reply_value, standing_value, answer, standing_of, MayMake, IsLegal, is_closed};
+ghost use Rattle.bid_book.specs.History.{entry_value, call_value, reply_value, standing_value, answer, standing_of, MayMake, IsLegalHistory, is_closed};
 ghost use Rattle.bid_desk.specs.Closing.{closing};
 ghost use Rattle.bid_desk.specs.Holding.{caller_of, CallMeets, IsEntryOf, IsRecordedBy, IsRecordedByChair};
 
@@ -48,7 +48,7 @@ impl<L: Round> Held<L> {
     /// The entries in order: a legal history under the rules, and as many as the count says.
     pub fn history(&self) -> &[Entry]
         ensures entries { map entry_value result.now ≡ self.now.history }
-        ensures legal { IsLegal self.now.history }
+        ensures legal { IsLegalHistory self.now.history }
         ensures rules { All (IsEntryOf L.rules) self.now.history }
         ensures count { self.now.count ≡ length self.now.history }
     {

@@ -10,8 +10,8 @@ use Rattle.auction_terms.specs.Records.{Record}
 use Rattle.auction_terms.specs.Terms.{Terms}
 use Rattle.auction_terms.specs.declared.bids.Bid.{Bid}
 use Rattle.auction_terms.specs.declared.limits.TheConstants.{MOST_BIDS}
-use Rattle.bid_forms.specs.Offers.{IsWithinLimits, PackagesDiffer, is_bid_under, number_of_package}
-use Rattle.bid_forms.specs.FormText.{bid_fault, bid_of, fault_of_bid}
+use Rattle.bid_forms.specs.Offers.{IsBidWithinLimits, PackagesDiffer, is_bid_under, number_of_package}
+use Rattle.bid_forms.specs.FormText.{bid_fault, bid_told, fault_of_bid}
 use Rattle.bid_forms.specs.declared.form_text.FormFault.{FormFault}
 use Rattle.bid_forms.proofs.PackageFacts.{number-differ}
 
@@ -20,9 +20,9 @@ pub record BidsSoFar (t : Terms) (eligibility : ℕ) (all rest : List Record) (p
   pub before : List Record
   pub checked : CheckedSoFar (bid_fault t eligibility) all before rest
   pub place_is : place ≡ length before + 2
-  pub bids_are : bids ≡ map bid_of before
+  pub bids_are : bids ≡ map bid_told before
   pub few : length bids ≤ MOST_BIDS
-  pub limits : All IsWithinLimits bids
+  pub limits : All IsBidWithinLimits bids
   pub each : All (λ bid. IsTrue (is_bid_under t eligibility bid)) bids
   pub differ : PackagesDiffer bids
 
@@ -34,8 +34,8 @@ bid_fault-is t eligibility all ahead place bids r so_far = rw (so_far.place_is, 
 -- one more record without a fault
 pub bids-more : (t : Terms) (eligibility : ℕ) (all ahead rest : List Record) (place : ℕ) (old new : List Bid) (r : Record) (bid : Bid)
     → BidsSoFar t eligibility all ahead place old → ahead ≡ r ∷ rest
-    → fault_of_bid t eligibility place old r ≡ None → bid ≡ bid_of r → new ≡ old ++ bid ∷ []
-    → IsWithinLimits bid → IsTrue (is_bid_under t eligibility bid) → number_of_package bid.package old ≡ None → length old < MOST_BIDS
+    → fault_of_bid t eligibility place old r ≡ None → bid ≡ bid_told r → new ≡ old ++ bid ∷ []
+    → IsBidWithinLimits bid → IsTrue (is_bid_under t eligibility bid) → number_of_package bid.package old ≡ None → length old < MOST_BIDS
     → BidsSoFar t eligibility all rest (place + 1) new
 bids-more t eligibility all ahead rest place old new r bid so_far next none is added limits allowed fresh room =
     let before = so_far.before in
@@ -43,9 +43,9 @@ bids-more t eligibility all ahead rest place old new r bid so_far next none is a
       before = before ++ r ∷ [];
       checked = checked-more (bid_fault t eligibility) all before ahead rest r so_far.checked next (bid_fault-is t eligibility all ahead place old r so_far ∙ none);
       place_is = (let n = length-append before (r ∷ []) in let m = so_far.place_is in omega arith);
-      bids_are = rw (added, so_far.bids_are, is) (sym (map-append bid_of before (r ∷ [])));
+      bids_are = rw (added, so_far.bids_are, is) (sym (map-append bid_told before (r ∷ [])));
       few = rw added (let n = length-append old (bid ∷ []) in omega arith);
-      limits = rw added (All-push IsWithinLimits old bid so_far.limits limits);
+      limits = rw added (All-push IsBidWithinLimits old bid so_far.limits limits);
       each = rw added (All-push (λ b. IsTrue (is_bid_under t eligibility b)) old bid so_far.each allowed);
       differ = rw added (all_pairs_push (λ x y. x.package ≢ y.package) old bid so_far.differ (λ k d small. number-differ 1 bid old fresh k d small));
     }
@@ -59,7 +59,7 @@ bids-fault t eligibility all ahead rest place bids r f so_far next found =
 
 -- no record is left
 pub bids-all : (t : Terms) (eligibility : ℕ) (all : List Record) (place : ℕ) (bids : List Bid) (so_far : BidsSoFar t eligibility all [] place bids)
-    → (first_fault (bid_fault t eligibility) [] all ≡ None) × (bids ≡ map bid_of all)
+    → (first_fault (bid_fault t eligibility) [] all ≡ None) × (bids ≡ map bid_told all)
 bids-all t eligibility all place bids so_far =
     let end = checked-all (bid_fault t eligibility) all so_far.before so_far.checked in
     (end.0, so_far.bids_are ∙ rw end.1 refl)

@@ -12,7 +12,7 @@ use Rattle.std.specs.Str.{bytes_eq}
 use Rattle.std.specs.Cmp.Lexicographic.{pointwise}
 use Rattle.std.proofs.Math.Seq.{drop-cons}
 use Rattle.csv.specs.Records.{field_at}
-use Rattle.auction_terms.specs.RulesText.{field}
+use Rattle.auction_terms.specs.RulesText.{record_field}
 use Rattle.auction_terms.specs.Records.{Record}
 use Rattle.auction_terms.specs.declared.rules.Category.{Category}
 use Rattle.auction_terms.specs.declared.limits.TheConstants.{GREATEST_QUANTITY}
@@ -35,7 +35,7 @@ fields-from (f ∷ r) zero small = refl
 fields-from (f ∷ r) (suc i) small = fields-from r i (omega arith)
 
 -- the fields from a place on
-pub fields-more : (r : Record) (i : ℕ) → i < length r → drop i r ≡ field (i + 1) r ∷ drop (i + 1) r
+pub fields-more : (r : Record) (i : ℕ) → i < length r → drop i r ≡ record_field (i + 1) r ∷ drop (i + 1) r
 fields-more r i small =
     let place : i + 1 - 1 ≡ i = omega arith in
     rw (place, add-one i) (fields-from r i small)
@@ -44,10 +44,10 @@ fields-more r i small =
 pub names-more : (categories : List Category) (r : Record) (place : ℕ) (category : Category)
     → place < length categories → place + 1 < length r → category ≡ slice_index_or categories place category
     → pointwise bytes_eq (drop (place + 1) r) (map (λ c. c.name) (drop place categories))
-    ≡ (bytes_eq (field (place + 2) r) category.name && pointwise bytes_eq (drop (place + 1 + 1) r) (map (λ c. c.name) (drop (place + 1) categories)))
+    ≡ (bytes_eq (record_field (place + 2) r) category.name && pointwise bytes_eq (drop (place + 1 + 1) r) (map (λ c. c.name) (drop (place + 1) categories)))
 names-more categories r place category small wide at =
     let next : drop place categories ≡ category ∷ drop (place + 1) categories = rw (add-one place) (drop-cons categories place category small ∙ ap (λ c. c ∷ drop (suc place) categories) (sym at)) in
-    let field_next : drop (place + 1) r ≡ field (place + 1 + 1) r ∷ drop (place + 1 + 1) r = fields-more r (place + 1) wide in
+    let field_next : drop (place + 1) r ≡ record_field (place + 1 + 1) r ∷ drop (place + 1 + 1) r = fields-more r (place + 1) wide in
     let two : place + 1 + 1 ≡ place + 2 = omega arith in
     rw (next, field_next, two) refl
 
@@ -86,11 +86,11 @@ QuantitiesSoFar r n within items =
     × All (λ quantity. quantity ≤ GREATEST_QUANTITY) items
     × (length items < n)
 
--- the next field is no number
-pub quantities-none : (r : Record) (n : ℕ) (within : Bool) (items : List ℕ) → QuantitiesSoFar r n within items → n < length r → None ≡ number_of (field (n + 1) r)
+-- the next record_field is no number
+pub quantities-none : (r : Record) (n : ℕ) (within : Bool) (items : List ℕ) → QuantitiesSoFar r n within items → n < length r → None ≡ number_of (record_field (n + 1) r)
     → list_all is_number_text (drop 1 r) ≡ false
 quantities-none r n within items (texts, limits, are, each, few) small none =
-    let told = rw (fields-more r n small, no-number (field (n + 1) r) none) at texts in
+    let told = rw (fields-more r n small, no-number (record_field (n + 1) r) none) at texts in
     sym told
 
 -- a list with one more element
@@ -99,12 +99,12 @@ one-more [] value n fewer = omega arith
 one-more (item ∷ items) value zero fewer = absurd (omega arith)
 one-more (item ∷ items) value (suc n) fewer = (let more = one-more items value n (omega arith) in omega arith)
 
--- the next field is a quantity
+-- the next record_field is a quantity
 pub quantities-small : (r : Record) (n : ℕ) (within : Bool) (items : List ℕ) (value : ℕ) → QuantitiesSoFar r n within items → n < length r
-    → Some value ≡ number_of (field (n + 1) r) → value ≤ GREATEST_QUANTITY → QuantitiesSoFar r (n + 1) within (items ++ value ∷ [])
+    → Some value ≡ number_of (record_field (n + 1) r) → value ≤ GREATEST_QUANTITY → QuantitiesSoFar r (n + 1) within (items ++ value ∷ [])
 quantities-small r n within items value (texts, limits, are, each, fewer) small some few =
     let next = fields-more r n small in
-    let is_text = is-number (field (n + 1) r) value some in
+    let is_text = is-number (record_field (n + 1) r) value some in
     let test : nat_le value GREATEST_QUANTITY ≡ true = le-leb value GREATEST_QUANTITY few in (
       rw (next, is_text) at texts,
       rw (next, ← some, test) at limits,
@@ -113,12 +113,12 @@ quantities-small r n within items value (texts, limits, are, each, fewer) small 
       one-more items value n fewer,
     )
 
--- the next field is a number above the limit
+-- the next record_field is a number above the limit
 pub quantities-great : (r : Record) (n : ℕ) (within : Bool) (items : List ℕ) (value : ℕ) → QuantitiesSoFar r n within items → n < length r
-    → Some value ≡ number_of (field (n + 1) r) → nat_le value GREATEST_QUANTITY ≡ false → QuantitiesSoFar r (n + 1) false items
+    → Some value ≡ number_of (record_field (n + 1) r) → nat_le value GREATEST_QUANTITY ≡ false → QuantitiesSoFar r (n + 1) false items
 quantities-great r n within items value (texts, limits, are, each, fewer) small some great =
     let next = fields-more r n small in
-    let is_text = is-number (field (n + 1) r) value some in
+    let is_text = is-number (record_field (n + 1) r) value some in
     let told = rw (next, ← some, great) at limits in (
       rw (next, is_text) at texts,
       never within _ told,

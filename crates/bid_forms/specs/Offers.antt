@@ -14,17 +14,17 @@ pub record Offers : Type 0 where
   pub bidder : ℕ
   pub bids : List Bid
 
-abbrev pub offers : ℕ → List Bid → Offers
-offers bidder bids = record { bidder = bidder; bids = bids }
+abbrev pub offers_of_bidder : ℕ → List Bid → Offers
+offers_of_bidder bidder bids = record { bidder = bidder; bids = bids }
 
 -- two packages are the same
-abbrev pub is_same : List ℕ → List ℕ → Bool
-is_same = pointwise nat_eq
+abbrev pub is_same_package : List ℕ → List ℕ → Bool
+is_same_package = pointwise nat_eq
 
 -- the number of the first of these bids that has the package, where they are numbered from n on
 abbrev pub number_from : ℕ → List ℕ → List Bid → Option ℕ
 number_from n lots [] = None
-number_from n lots (bid ∷ more) = if is_same lots bid.package then Some n else number_from (n + 1) lots more
+number_from n lots (bid ∷ more) = if is_same_package lots bid.package then Some n else number_from (n + 1) lots more
 
 -- the number, from 1, of the first of these bids that has the package
 abbrev pub number_of_package : List ℕ → List Bid → Option ℕ
@@ -79,7 +79,7 @@ pub record Meets (t : Terms) (o : Offers) : Type 0 where
   pub differ : PackagesDiffer o.bids
 
 -- a bid with its package and its amount within the limits
-pub record IsWithinLimits (bid : Bid) : Type 0 where
+pub record IsBidWithinLimits (bid : Bid) : Type 0 where
   pub quantities : IsPackage bid.package
   pub some_amount : 1 ≤ bid.amount
   pub amount : bid.amount ≤ GREATEST_AMOUNT
@@ -89,5 +89,5 @@ pub record IsForm (o : Offers) : Type 0 where
   pub some_bidder : 1 ≤ o.bidder
   pub bidders : o.bidder ≤ MOST_BIDDERS
   pub few : length o.bids ≤ MOST_BIDS
-  pub each : All IsWithinLimits o.bids
+  pub each : All IsBidWithinLimits o.bids
   pub differ : PackagesDiffer o.bids

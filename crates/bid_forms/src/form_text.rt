@@ -5,12 +5,12 @@ ghost use Rattle.std.specs.Str.{bytes_eq};
 ghost use Rattle.std.specs.Cmp.Lexicographic.{pointwise};
 ghost use Rattle.csv.specs.Records.{fields_of};
 ghost use Rattle.auction_terms.specs.FirstFault.{first_failed, first_fault};
-ghost use Rattle.auction_terms.specs.RulesText.{number_in};
+ghost use Rattle.auction_terms.specs.RulesText.{field_number};
 ghost use Rattle.auction_terms.specs.Terms.{AreTerms};
 ghost use Rattle.auction_terms.specs.declared.limits.TheConstants.{MOST_CATEGORIES};
 ghost use Rattle.bid_forms.specs.inside.Fingerprints.{AreSeen};
-ghost use Rattle.bid_forms.specs.Offers.{IsWithinLimits, Meets, eligibility_of, is_bid_under, number_of_package, offers};
-ghost use Rattle.bid_forms.specs.FormText.{amount_checks, bid_fault, bid_of, bidder_in, fault_of_bid, form_of, header_checks, is_header, is_memory, package_checks, quantities_in, quantity_checks};
+ghost use Rattle.bid_forms.specs.Offers.{IsBidWithinLimits, Meets, eligibility_of, is_bid_under, number_of_package, offers_of_bidder};
+ghost use Rattle.bid_forms.specs.FormText.{amount_checks, bid_fault, bid_told, bidder_in, fault_of_bid, form_in_text, form_header_checks, is_header, is_form_memory, package_checks, quantities_in, quantity_checks};
 ghost use Rattle.auction_terms.specs.Stages.{Answers};
 ghost use Rattle.auction_terms.specs.inside.FirstFault.{Tells, TellsFault};
 ghost use Rattle.bid_forms.specs.FormFaultText.{form_fault_text};
@@ -145,7 +145,7 @@ fn is_header(categories: &[Category], row: &ByteRecord) -> bool
 
 // The bidder that the header names.
 fn read_header(rules: &Rules, row: &ByteRecord) -> Result<u16, FormFault>
-    ensures answer { Tells is_memory result (first_failed (header_checks rules.now (fields_of row.now))) (bidder_in rules.now (fields_of row.now)) }
+    ensures answer { Tells is_form_memory result (first_failed (form_header_checks rules.now (fields_of row.now))) (bidder_in rules.now (fields_of row.now)) }
     ensures some { IfOk result (λ bidder. 1 ≤ bidder) }
     ensures known { IfOk result (λ bidder. bidder ≤ length rules.now.bidders) }
 {
@@ -162,7 +162,7 @@ fn read_header(rules: &Rules, row: &ByteRecord) -> Result<u16, FormFault>
 // The amount of a record.
 fn read_amount(step: u64, place: u32, row: &ByteRecord) -> Result<u64, FormFault>
     requires { 1 ≤ step }
-    ensures answer { Tells is_memory result (first_failed (amount_checks step place (fields_of row.now))) (number_in 1 (fields_of row.now)) }
+    ensures answer { Tells is_form_memory result (first_failed (amount_checks step place (fields_of row.now))) (field_number 1 (fields_of row.now)) }
     ensures limits { IfOk result (λ amount. (1 ≤ amount) × (amount ≤ GREATEST_AMOUNT)) }
 {
     let amount = number!(row, 1, FormFault::AmountText { place });
@@ -177,7 +177,7 @@ fn read_amount(step: u64, place: u32, row: &ByteRecord) -> Result<u64, FormFault
 // The quantities of a record.
 fn read_quantities(place: u32, row: &ByteRecord) -> Result<Quantities, FormFault>
     requires { length (fields_of row.now) ≤ MOST_CATEGORIES + 1 }
-    ensures answer { TellsFault is_memory result (first_failed (quantity_checks place (fields_of row.now))) }
+    ensures answer { TellsFault is_form_memory result (first_failed (quantity_checks place (fields_of row.now))) }
     ensures quantities { IfOk result (λ quantities. quantities.items ≡ quantities_in (fields_of row.now)) }
     ensures each { IfOk result (λ quantities. All (λ quantity. quantity ≤ GREATEST_QUANTITY) quantities.items) }
 {
@@ -205,7 +205,7 @@ fn check_package(
 ) -> Result<(), FormFault>
     requires sized { length quantities.now ≡ length rules.now.categories }
     requires quantities { All (λ quantity. quantity ≤ GREATEST_QUANTITY) quantities.now }
-    ensures { Tells is_memory result (first_failed (package_checks rules.now.categories eligibility place quantities.now amount)) tt }
+    ensures { Tells is_form_memory result (first_failed (package_checks rules.now.categories eligibility place quantities.now amount)) tt }
 {
     let categories = rules.categories();
     refuse!(
@@ -234,8 +234,8 @@ fn read_bid(
 ) -> Result<Bid, FormFault>
     requires seen { AreSeen seen.old.multiplier seen.old.prints.keys before.now }
     requires few { length before.now ≤ MOST_BIDS }
-    ensures answer { Tells is_memory result (fault_of_bid rules.now eligibility place before.now (fields_of row.now)) (bid_of (fields_of row.now)) }
-    ensures limits { IfOk result IsWithinLimits }
+    ensures answer { Tells is_form_memory result (fault_of_bid rules.now eligibility place before.now (fields_of row.now)) (bid_told (fields_of row.now)) }
+    ensures limits { IfOk result IsBidWithinLimits }
     ensures allowed { IfOk result (λ bid. IsTrue (is_bid_under rules.now eligibility bid)) }
     ensures new { IfOk result (λ bid. number_of_package bid.package before.now ≡ None) }
     ensures room { OnOk result (length before.now < MOST_BIDS) }
@@ -268,7 +268,7 @@ fn read_bids(
     requires known { bidder ≤ length rules.now.bidders }
     requires few { length reader.old ≤ TEXT_LIMIT + 1 }
     requires none_seen { none_seen.prints.keys ≡ [] }
-    ensures answer { Tells is_memory result (first_fault (bid_fault rules.now (eligibility_of rules.now bidder)) [] reader.old) (offers bidder (map bid_of reader.old)) }
+    ensures answer { Tells is_form_memory result (first_fault (bid_fault rules.now (eligibility_of rules.now bidder)) [] reader.old) (offers_of_bidder bidder (map bid_told reader.old)) }
     ensures meets { IfOk result (Meets rules.now) }
 {
     let eligibility = eligibility_of(rules, bidder);
@@ -289,7 +289,7 @@ fn read_bids(
 /// Reads a form, under rules.
 pub fn read_form(alloc: Global, bytes: &[u8], rules: &Rules) -> Result<Form, FormFault>
     ensures too_large { TEXT_LIMIT < length bytes.now → result ≡ Err fault.TooLarge }
-    ensures answer { length bytes.now ≤ TEXT_LIMIT → Answers is_memory result (form_of rules.now bytes.now) }
+    ensures answer { length bytes.now ≤ TEXT_LIMIT → Answers is_form_memory result (form_in_text rules.now bytes.now) }
     ensures meets { IfOk result (Meets rules.now) }
 {
     refuse!(bytes.len() > TEXT_LIMIT, FormFault::TooLarge);

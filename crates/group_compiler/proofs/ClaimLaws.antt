@@ -8,8 +8,8 @@ use Rattle.std.proofs.lemmas.Bool.Decides.{nat_tests}
 use Rattle.atomic_table.specs.Table.{Me, Allows, Splits, Joins, keeps, Final, Seen}
 use Rattle.group_compiler.specs.declared.steps.View.{View}
 use Rattle.group_compiler.specs.declared.limits.TheConstants.{ALL_DRAWS, WORKER_DRAWS}
-use Rattle.group_compiler.specs.inside.Claims.{view, IsCounted, IsDrawn, left_of, right_of, joined}
-use Rattle.group_compiler.specs.Claims.{times, once_below, IsEachBelow}
+use Rattle.group_compiler.specs.inside.Claims.{view, IsCounted, IsDrawn, left_of, right_of, views_joined}
+use Rattle.group_compiler.specs.Claims.{times_drawn, once_below, IsEachBelow}
 
 -- a sum after a change of one view
 sum_set : (f : View → ℕ) (views : List View) (id : ℕ) (v w : View) → get_elem? views id ≡ some v → sum_by f (slice_set views id w) + f v ≡ sum_by f views + f w
@@ -43,8 +43,8 @@ draws slots id me some_room s h size at fits =
       record {
         one_word = word.0;
         each_once = λ x.
-            let t = sum_set (λ (u : View). times x u.drawn) s.views id v w at in
-            let p : times x (v.drawn ++ n ∷ []) ≡ times x v.drawn + cond (n == x) 1 0 = sum_by_push (λ (y : ℕ). cond (y == x) 1 0) v.drawn n in
+            let t = sum_set (λ (u : View). times_drawn x u.drawn) s.views id v w at in
+            let p : times_drawn x (v.drawn ++ n ∷ []) ≡ times_drawn x v.drawn + cond (n == x) 1 0 = sum_by_push (λ (y : ℕ). cond (y == x) 1 0) v.drawn n in
             let o = h.each_once x in
             let m = one_more x n in
             let k : once_below x (slice_index (slice_set s.words 0 ((n + 1) % 2 ^ 64)) 0) ≡ once_below x (n + 1) = ap (once_below x) word' in
@@ -63,9 +63,9 @@ pub splits : (id : ℕ) (v : View) → WORKER_DRAWS ≤ v.room → Splits IsCoun
 splits id v room s h at = record {
   one_word = h.one_word;
   each_once = λ x.
-      let t = sum_set (λ (u : View). times x u.drawn) s.views id v (left_of v) at in
-      let p = sum_by_push (λ (u : View). times x u.drawn) (slice_set s.views id (left_of v)) (right_of v) in
-      let z : times x (right_of v).drawn ≡ 0 = refl in
+      let t = sum_set (λ (u : View). times_drawn x u.drawn) s.views id v (left_of v) at in
+      let p = sum_by_push (λ (u : View). times_drawn x u.drawn) (slice_set s.views id (left_of v)) (right_of v) in
+      let z : times_drawn x (right_of v).drawn ≡ 0 = refl in
       let o = h.each_once x in
       omega arith;
   lengths =
@@ -80,27 +80,27 @@ splits id v room s h at = record {
       omega arith;
 }
 
-pub joins : (id : ℕ) (v : View) (other : ℕ) (w : View) → Joins IsCounted id v other w (joined v w) (view [] 0)
+pub joins : (id : ℕ) (v : View) (other : ℕ) (w : View) → Joins IsCounted id v other w (views_joined v w) (view [] 0)
 joins id v other w s h at differ there =
     let spent = view [] 0 in
-    let views = slice_set s.views id (joined v w) in
+    let views = slice_set s.views id (views_joined v w) in
     record {
       one_word = h.one_word;
       each_once = λ x.
-          let t = sum_set (λ (u : View). times x u.drawn) s.views id v (joined v w) at in
-          let p = sum_set (λ (u : View). times x u.drawn) views other w spent there in
-          let q : times x (v.drawn ++ w.drawn) ≡ times x v.drawn + times x w.drawn = sum_by-append (λ (y : ℕ). cond (y == x) 1 0) v.drawn w.drawn in
-          let z : times x spent.drawn ≡ 0 = refl in
+          let t = sum_set (λ (u : View). times_drawn x u.drawn) s.views id v (views_joined v w) at in
+          let p = sum_set (λ (u : View). times_drawn x u.drawn) views other w spent there in
+          let q : times_drawn x (v.drawn ++ w.drawn) ≡ times_drawn x v.drawn + times_drawn x w.drawn = sum_by-append (λ (y : ℕ). cond (y == x) 1 0) v.drawn w.drawn in
+          let z : times_drawn x spent.drawn ≡ 0 = refl in
           let o = h.each_once x in
           omega arith;
       lengths =
-          let t = sum_set (λ (u : View). length u.drawn) s.views id v (joined v w) at in
+          let t = sum_set (λ (u : View). length u.drawn) s.views id v (views_joined v w) at in
           let p = sum_set (λ (u : View). length u.drawn) views other w spent there in
           let q = length-append v.drawn w.drawn in
           let o = h.lengths in
           omega arith;
       rooms =
-          let t = sum_set (λ (u : View). u.room) s.views id v (joined v w) at in
+          let t = sum_set (λ (u : View). u.room) s.views id v (views_joined v w) at in
           let p = sum_set (λ (u : View). u.room) views other w spent there in
           let o = h.rooms in
           omega arith;
@@ -129,10 +129,10 @@ closes id v words xs word whole f at =
     let lengths = h.lengths in
     let found : slice_index s.words 0 ≡ word = first_is s.words word (ap (λ (ws : List ℕ). get_elem? ws 0) f.2 ∙ at) in (
       (λ x.
-          let t = sum_set (λ (u : View). times x u.drawn) s.views id v spent here in
-          let z : times x spent.drawn ≡ 0 = refl in
+          let t = sum_set (λ (u : View). times_drawn x u.drawn) s.views id v spent here in
+          let z : times_drawn x spent.drawn ≡ 0 = refl in
           let o = h.each_once x in
-          let few = sum_below (λ (u : View). times x u.drawn) (λ (u : View). length u.drawn) others (λ u. count_by-le-length (λ (y : ℕ). y == x) u.drawn) in
+          let few = sum_below (λ (u : View). times_drawn x u.drawn) (λ (u : View). length u.drawn) others (λ u. count_by-le-length (λ (y : ℕ). y == x) u.drawn) in
           let k : once_below x (slice_index s.words 0) ≡ once_below x word = ap (once_below x) found in
           omega arith),
       omega arith,

@@ -4,7 +4,7 @@ use Rattle.std.specs.Prelude.{All, Any, Contains, filter}
 use Rattle.std.specs.List.{AllByRecursion}
 use Rattle.std.proofs.lemmas.Bool.{cond-true, cond-false, cond_both, cases_eq, cases_lt}
 use Rattle.std.proofs.lemmas.List.Sums.{sum_by-cons}
-use Rattle.group_compiler.specs.Claims.{times, once_below, IsEachBelow}
+use Rattle.group_compiler.specs.Claims.{times_drawn, once_below, IsEachBelow}
 use Rattle.std.proofs.lemmas.List.Elements.{recursion_from_All, All-from_recursion, filter-append, filter_passes}
 use Rattle.group_compiler.specs.declared.work.Numbered.{Numbered}
 use Rattle.group_compiler.specs.inside.Works.{IsFinished}
@@ -53,46 +53,46 @@ module _ {T : Type 0} where
   numbers_append count rs ss xs ys a b = map_append (λ r. r.number) rs ss ∙ ap₂ (λ (us vs : List ℕ). us ++ vs) a b ∙ sym (filter-append (λ n. nat_lt n count) xs ys)
 
 -- how often a number stands in a list, and that it stands there
-stands_once : (k : ℕ) (xs : List ℕ) → 0 < times k xs → Contains xs k
+stands_once : (k : ℕ) (xs : List ℕ) → 0 < times_drawn k xs → Contains xs k
 stands_once k [] h = absurd (omega arith)
 stands_once k (x ∷ xs) h = ⊎_elim
     (λ same. (0, (let l : 0 < length (x ∷ xs) = omega arith in l), same))
     (λ other.
-    let s : times k (x ∷ xs) ≡ cond (x == k) 1 0 + times k xs = sum_by-cons (λ (y : ℕ). cond (y == k) 1 0) x xs in
+    let s : times_drawn k (x ∷ xs) ≡ cond (x == k) 1 0 + times_drawn k xs = sum_by-cons (λ (y : ℕ). cond (y == k) 1 0) x xs in
     let o : ℕ = cond (x == k) 1 0 in let z : o ≡ 0 = cond-false (x == k) 1 0 (ne_eqb x k other) in
-    let more : 0 < times k xs = omega arith in
+    let more : 0 < times_drawn k xs = omega arith in
     let w = stands_once k xs more in
     (suc w.0, (let l : suc w.0 < length (x ∷ xs) = omega arith in l), w.2))
     (cases_eq x k)
 
-counted : (n : ℕ) (xs : List ℕ) (k : ℕ) → k < length xs → slice_index_or xs k n ≡ n → 0 < times n xs
+counted : (n : ℕ) (xs : List ℕ) (k : ℕ) → k < length xs → slice_index_or xs k n ≡ n → 0 < times_drawn n xs
 counted n [] k l e = absurd (omega arith)
 counted n (x ∷ xs) zero l e =
-    let s : times n (x ∷ xs) ≡ cond (x == n) 1 0 + times n xs = sum_by-cons (λ (y : ℕ). cond (y == n) 1 0) x xs in
+    let s : times_drawn n (x ∷ xs) ≡ cond (x == n) 1 0 + times_drawn n xs = sum_by-cons (λ (y : ℕ). cond (y == n) 1 0) x xs in
     let o : ℕ = cond (x == n) 1 0 in let z : o ≡ 1 = cond-true (x == n) 1 0 (eq-eqb x n e) in
     omega arith
 counted n (x ∷ xs) (suc k) l e =
-    let s : times n (x ∷ xs) ≡ cond (x == n) 1 0 + times n xs = sum_by-cons (λ (y : ℕ). cond (y == n) 1 0) x xs in
+    let s : times_drawn n (x ∷ xs) ≡ cond (x == n) 1 0 + times_drawn n xs = sum_by-cons (λ (y : ℕ). cond (y == n) 1 0) x xs in
     let r = counted n xs k (omega arith) e in
     omega arith
 
-filter_times : (p : ℕ → Bool) (k : ℕ) (xs : List ℕ) → p k ≡ true → 0 < times k xs → 0 < times k (filter p xs)
+filter_times : (p : ℕ → Bool) (k : ℕ) (xs : List ℕ) → p k ≡ true → 0 < times_drawn k xs → 0 < times_drawn k (filter p xs)
 filter_times p k [] pass h = h
 filter_times p k (x ∷ xs) pass h =
-    let s : times k (x ∷ xs) ≡ cond (x == k) 1 0 + times k xs = sum_by-cons (λ (y : ℕ). cond (y == k) 1 0) x xs in
+    let s : times_drawn k (x ∷ xs) ≡ cond (x == k) 1 0 + times_drawn k xs = sum_by-cons (λ (y : ℕ). cond (y == k) 1 0) x xs in
     ⊎_elim
     (λ same.
     let kept : filter p (x ∷ xs) ≡ x ∷ filter p xs = cond-true (p x) (x ∷ filter p xs) (filter p xs) (ap p same ∙ pass) in
-    let t : times k (x ∷ filter p xs) ≡ cond (x == k) 1 0 + times k (filter p xs) = sum_by-cons (λ (y : ℕ). cond (y == k) 1 0) x (filter p xs) in
+    let t : times_drawn k (x ∷ filter p xs) ≡ cond (x == k) 1 0 + times_drawn k (filter p xs) = sum_by-cons (λ (y : ℕ). cond (y == k) 1 0) x (filter p xs) in
     let o : ℕ = cond (x == k) 1 0 in let z : o ≡ 1 = cond-true (x == k) 1 0 (eq-eqb x k same) in
-    let e : times k (filter p (x ∷ xs)) ≡ times k (x ∷ filter p xs) = ap (times k) kept in
-    let r : 0 < times k (filter p (x ∷ xs)) = omega arith in
+    let e : times_drawn k (filter p (x ∷ xs)) ≡ times_drawn k (x ∷ filter p xs) = ap (times_drawn k) kept in
+    let r : 0 < times_drawn k (filter p (x ∷ xs)) = omega arith in
     r)
     (λ other.
     let o : ℕ = cond (x == k) 1 0 in let z : o ≡ 0 = cond-false (x == k) 1 0 (ne_eqb x k other) in
-    let rest = filter_times p k xs pass (let m : 0 < times k xs = omega arith in m) in
-    cond_both (p x) (x ∷ filter p xs) (filter p xs) (λ ys. 0 < times k ys)
-    (λ yes. let t : times k (x ∷ filter p xs) ≡ cond (x == k) 1 0 + times k (filter p xs) = sum_by-cons (λ (y : ℕ). cond (y == k) 1 0) x (filter p xs) in let r : 0 < times k (x ∷ filter p xs) = omega arith in r)
+    let rest = filter_times p k xs pass (let m : 0 < times_drawn k xs = omega arith in m) in
+    cond_both (p x) (x ∷ filter p xs) (filter p xs) (λ ys. 0 < times_drawn k ys)
+    (λ yes. let t : times_drawn k (x ∷ filter p xs) ≡ cond (x == k) 1 0 + times_drawn k (filter p xs) = sum_by-cons (λ (y : ℕ). cond (y == k) 1 0) x (filter p xs) in let r : 0 < times_drawn k (x ∷ filter p xs) = omega arith in r)
     (λ no. rest))
     (cases_eq x k)
 
@@ -115,7 +115,7 @@ above_count count w xs each long f = elim f [
   | inr one ↦
       let there = counted one.1 xs one.0 one.2 one.3 in
       let n : ℕ = once_below one.1 w in
-      let e : times one.1 xs ≡ n = each one.1 in
+      let e : times_drawn one.1 xs ≡ n = each one.1 in
       let some : 0 < n = omega arith in
       let low : one.1 < w = below_some one.1 w some in
       let high = one.4 in
@@ -127,8 +127,8 @@ all_drawn count w xs ns each long f e k below =
     let all = above_count count w xs each long f in
     let n : ℕ = once_below k w in
     let one : n ≡ 1 = cond-true (nat_lt k w) 1 0 (lt-ltb k w (omega arith)) in
-    let t : times k xs ≡ n = each k in
-    let some : 0 < times k xs = omega arith in
+    let t : times_drawn k xs ≡ n = each k in
+    let some : 0 < times_drawn k xs = omega arith in
     subst (λ (ys : List ℕ). Contains ys k) (sym e) (in_filter count k xs below (stands_once k xs some))
 
 module _ {T : Type 0} where

@@ -44,9 +44,9 @@ impl Split<View> for Cut {
 }
 
 impl Join<View> for Cut {
-    ghost use Rattle.group_compiler.specs.inside.Claims.{joined, view};
+    ghost use Rattle.group_compiler.specs.inside.Claims.{views_joined, view};
 
-    ghost both = { joined };
+    ghost both = { views_joined };
 
     ghost spent = { view [] 0 };
 }

@@ -23,7 +23,7 @@ use Rattle.mps_text.specs.Bytes.{row_bytes, right_side_bytes, column_bytes, boun
 use Rattle.mps_text.specs.FaithfulText.{presolved_text}
 use Rattle.group_pages.specs.declared.section.Section.{Section}
 use Rattle.group_pages.specs.declared.section.Section.TheVariants.{Rows, Columns, RightSides, Bounds}
-use Rattle.group_pages.specs.Pages.{PageText, AllPages, lines_of, page_of_offers, page_of_lots, page_of_form, pages_from, pages_of, outside}
+use Rattle.group_pages.specs.Pages.{PageText, AllPages, section_lines, page_of_offers, page_of_lots, page_of_form, pages_from, pages_of, outside}
 use Rattle.group_pages.specs.Joining.{TextIsJoined, joined, section_text, group_text, pages_for}
 use Rattle.group_pages.proofs.Sections.{text-sections}
 use Rattle.group_pages.proofs.BidLines.{columns_are, bounds_are, own_lines, own_bound, worth_is}
@@ -122,7 +122,7 @@ module _ (lots : Lots) where
 
   -- the lines of the offers of a bidder, and of those of bidders above it
   page_parts : (section : Section) (b : ℕ) (xs ys : List Offer) → AreOffers lots (xs ++ ys) → AllByRecursion (λ x. x ≡ b) (bidders xs) → AllByRecursion (λ y. b < y) (bidders ys)
-      → lines_of section (page_of_offers lots (xs ++ ys)) ≡ lines_of section (page_of_offers lots xs) ++ lines_of section (page_of_offers lots ys)
+      → section_lines section (page_of_offers lots (xs ++ ys)) ≡ section_lines section (page_of_offers lots xs) ++ section_lines section (page_of_offers lots ys)
   page_parts Rows b xs ys are h k = rows_parts row_bytes b xs ys h k
   page_parts Columns b xs ys are h k =
       let both = offers_parted lots xs ys are in
@@ -131,36 +131,36 @@ module _ (lots : Lots) where
   page_parts Bounds b xs ys are h k =
       bounds_are lots (subjects lots (xs ++ ys)) (xs ++ ys) ∙ flat_map-append (own_bound lots) xs ys ∙ ap₂ (λ (v w : List ℕ). v ++ w) (sym (bounds_are lots (subjects lots xs) xs)) (sym (bounds_are lots (subjects lots ys) ys))
 
-  no_offer : (section : Section) → lines_of section (page_of_offers lots []) ≡ []
+  no_offer : (section : Section) → section_lines section (page_of_offers lots []) ≡ []
   no_offer Rows = refl
   no_offer Columns = refl
   no_offer RightSides = refl
   no_offer Bounds = refl
 
   page_next : (section : Section) (b : ℕ) (form : List Bid) (os : List Offer) (pages : List PageText) (g : Bool) → AreOffers lots (cond g os (kept_in_form lots b form ++ os)) → AllByRecursion (λ y. b < y) (bidders os)
-      → (AreOffers lots os → lines_of section (page_of_offers lots os) ≡ joined section pages)
-      → lines_of section (page_of_offers lots (cond g os (kept_in_form lots b form ++ os))) ≡ joined section (cond g pages (page_of_form lots b form ∷ pages))
+      → (AreOffers lots os → section_lines section (page_of_offers lots os) ≡ joined section pages)
+      → section_lines section (page_of_offers lots (cond g os (kept_in_form lots b form ++ os))) ≡ joined section (cond g pages (page_of_form lots b form ∷ pages))
   page_next section b form os pages true are k h = h are
   page_next section b form os pages false are k h =
       page_parts section b (kept_in_form lots b form) os are (of_bidder lots form b 1 form) k
-      ∙ ap (λ (w : List ℕ). lines_of section (page_of_form lots b form) ++ w) (h (offers_parted lots (kept_in_form lots b form) os are).1)
+      ∙ ap (λ (w : List ℕ). section_lines section (page_of_form lots b form) ++ w) (h (offers_parted lots (kept_in_form lots b form) os are).1)
 
 module _ (lots : Lots) (book : Book) (group : ℕ → Bool) where
   page_by_form : (section : Section) (b : ℕ) (rest : Book) → AreOffers lots (kept_forms lots book group b rest)
-      → lines_of section (page_of_offers lots (kept_forms lots book group b rest)) ≡ joined section (outside group b (pages_from lots b rest))
+      → section_lines section (page_of_offers lots (kept_forms lots book group b rest)) ≡ joined section (outside group b (pages_from lots b rest))
   page_by_form section b [] are = no_offer lots section
   page_by_form section b (form ∷ rest) are =
       page_next lots section b form (kept_forms lots book group (b + 1) rest) (outside group (b + 1) (pages_from lots (b + 1) rest)) (group b) are
       (above lots book group b (b + 1) rest (omega arith)) (λ more. page_by_form section (b + 1) rest more)
 
   -- the lines of the kept bids, and those of the lots
-  whole : IsBook lots book → (section : Section) → lines_of section (page_of_offers lots (kept_of lots book group)) ++ lines_of section (page_of_lots lots) ≡ joined section (pages_for group (pages_of lots book))
+  whole : IsBook lots book → (section : Section) → section_lines section (page_of_offers lots (kept_of lots book group)) ++ section_lines section (page_of_lots lots) ≡ joined section (pages_for group (pages_of lots book))
   whole limits section =
       let by_form = kept_by_form lots book group in
       let are = subst (AreOffers lots) by_form (kept_are_offers lots book group limits) in
-      ap (λ (w : List ℕ). w ++ lines_of section (page_of_lots lots)) (ap (λ (os : List Offer). lines_of section (page_of_offers lots os)) by_form ∙ page_by_form section 1 book are)
-      ∙ ap (λ (w : List ℕ). joined section (outside group 1 (pages_from lots 1 book)) ++ w) (sym (append-nil (lines_of section (page_of_lots lots))))
-      ∙ sym (flat_map-append (lines_of section) (outside group 1 (pages_from lots 1 book)) (page_of_lots lots ∷ []))
+      ap (λ (w : List ℕ). w ++ section_lines section (page_of_lots lots)) (ap (λ (os : List Offer). section_lines section (page_of_offers lots os)) by_form ∙ page_by_form section 1 book are)
+      ∙ ap (λ (w : List ℕ). joined section (outside group 1 (pages_from lots 1 book)) ++ w) (sym (append-nil (section_lines section (page_of_lots lots))))
+      ∙ sym (flat_map-append (section_lines section) (outside group 1 (pages_from lots 1 book)) (page_of_lots lots ∷ []))
 
 -- ---------- the whole ----------
 

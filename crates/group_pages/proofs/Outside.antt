@@ -1,7 +1,7 @@
 -- The pages outside a group, one by one.
 use Rattle.std.proofs.Common.{◌≡◌, ℕ, zero, suc, ◌+◌, ◌<◌, Bool, true, false, cond, List, [], ◌∷◌, ◌++◌, take, length, get_or, refl, sym, ap, ap₂, ◌∙◌, arith, append_assoc, append-nil}
 use Rattle.group_pages.specs.declared.section.Section.{Section}
-use Rattle.group_pages.specs.Pages.{PageText, lines_of, outside}
+use Rattle.group_pages.specs.Pages.{PageText, section_lines, outside}
 use Rattle.group_pages.specs.Joining.{joined, has_any}
 
 -- what a list holds, in two parts
@@ -21,9 +21,9 @@ has_length (x ∷ xs) h = refl
 module _ (section : Section) (group : ℕ → Bool) where
   -- what a page gives
   abbrev pub given : ℕ → PageText → List ℕ
-  given b page = cond (group b) [] (lines_of section page)
+  given b page = cond (group b) [] (section_lines section page)
 
-  one_page : (page : PageText) (rest : List PageText) (g : Bool) → joined section (cond g rest (page ∷ rest)) ≡ cond g [] (lines_of section page) ++ joined section rest
+  one_page : (page : PageText) (rest : List PageText) (g : Bool) → joined section (cond g rest (page ∷ rest)) ≡ cond g [] (section_lines section page) ++ joined section rest
   one_page page rest true = refl
   one_page page rest false = refl
 

@@ -16,7 +16,7 @@ use Rattle.auction_terms.specs.declared.rules.Category.{Category}
 use Rattle.auction_terms.specs.declared.rules.Pool.{Pool}
 use Rattle.program_rows.specs.Rows.{bidder_subjects, lot_subjects, subjects, row_of, column_of}
 use Rattle.group_pages.specs.declared.section.Section.{Section}
-use Rattle.group_pages.specs.Pages.{PageText, AllPages, lines_of, outside, page_of_offers, page_with}
+use Rattle.group_pages.specs.Pages.{PageText, AllPages, section_lines, outside, page_of_offers, page_with}
 use Rattle.group_pages.specs.Joining.{joined, pages_for}
 
 pub each_line : {X Y : Type 0} (f : Y → List ℕ) (g : X → Y) (xs : List X) → flat_map (λ x. f (g x)) xs ≡ flat_map f (map g xs)
@@ -24,11 +24,11 @@ each_line f g [] = refl
 each_line f g (x ∷ xs) = ap (λ w. f (g x) ++ w) (each_line f g xs)
 
 -- the lines of bidders, and those of lots
-pub lines_for : (section : Section) (group : ℕ → Bool) (pages : AllPages) (forms : List PageText) (lines : List ℕ) → forms ≡ pages.forms → lines ≡ lines_of section pages.lots
+pub lines_for : (section : Section) (group : ℕ → Bool) (pages : AllPages) (forms : List PageText) (lines : List ℕ) → forms ≡ pages.forms → lines ≡ section_lines section pages.lots
     → joined section (outside group 1 forms) ++ lines ≡ joined section (pages_for group pages)
 lines_for section group pages forms lines e l =
-    ap₂ (λ (xs : List PageText) (w : List ℕ). joined section (outside group 1 xs) ++ w) e (l ∙ sym (append-nil (lines_of section pages.lots)))
-    ∙ sym (flat_map-append (lines_of section) (outside group 1 pages.forms) (pages.lots ∷ []))
+    ap₂ (λ (xs : List PageText) (w : List ℕ). joined section (outside group 1 xs) ++ w) e (l ∙ sym (append-nil (section_lines section pages.lots)))
+    ∙ sym (flat_map-append (section_lines section) (outside group 1 pages.forms) (pages.lots ∷ []))
 
 -- how many rows are about bidders
 pub length_rows : (lots : Lots) (offers : List Offer) (rows : List Row) → map shown_row rows ≡ map (row_of lots) (subjects lots offers)

@@ -6,7 +6,7 @@ use Rattle.auction_terms.specs.Limits.{IsBook}
 use Rattle.mps_text.specs.FaithfulText.{presolved_text}
 use Rattle.group_pages.specs.declared.section.Section.{Section}
 use Rattle.group_pages.specs.declared.section.Section.TheVariants.{Rows, Columns, RightSides, Bounds}
-use Rattle.group_pages.specs.Pages.{PageText, AllPages, lines_of, outside, pages_of}
+use Rattle.group_pages.specs.Pages.{PageText, AllPages, section_lines, outside, pages_of}
 
 abbrev pub has_any : List ℕ → Bool
 has_any [] = false
@@ -20,18 +20,18 @@ opening RightSides any = codes "RHS\n"
 opening Bounds any = cond any (codes "BOUNDS\n") []
 
 -- what stands behind them
-abbrev pub closing : Section → Bool → List ℕ
-closing Rows any = []
-closing Columns any = cond any (codes " M2 'MARKER' 'INTEND'\n") []
-closing RightSides any = []
-closing Bounds any = codes "ENDATA\n"
+abbrev pub section_end : Section → Bool → List ℕ
+section_end Rows any = []
+section_end Columns any = cond any (codes " M2 'MARKER' 'INTEND'\n") []
+section_end RightSides any = []
+section_end Bounds any = codes "ENDATA\n"
 
 abbrev pub section_text : Section → List ℕ → List ℕ
-section_text section lines = opening section (has_any lines) ++ (lines ++ closing section (has_any lines))
+section_text section lines = opening section (has_any lines) ++ (lines ++ section_end section (has_any lines))
 
 -- the lines of a section, page after page
 abbrev pub joined : Section → List PageText → List ℕ
-joined section pages = flat_map (lines_of section) pages
+joined section pages = flat_map (section_lines section) pages
 
 -- the text of pages, section by section
 abbrev pub text_of_pages : List PageText → List ℕ

@@ -21,11 +21,11 @@ pub record PageText : Type 0 where
 abbrev pub page_text : List ℕ → List ℕ → List ℕ → List ℕ → PageText
 page_text rows columns right_sides bounds = record { rows = rows; columns = columns; right_sides = right_sides; bounds = bounds }
 
-abbrev pub lines_of : Section → PageText → List ℕ
-lines_of Rows page = page.rows
-lines_of Columns page = page.columns
-lines_of RightSides page = page.right_sides
-lines_of Bounds page = page.bounds
+abbrev pub section_lines : Section → PageText → List ℕ
+section_lines Rows page = page.rows
+section_lines Columns page = page.columns
+section_lines RightSides page = page.right_sides
+section_lines Bounds page = page.bounds
 
 -- the lines of some rows, and of columns with entries in all rows
 abbrev pub page_with : List TableRow → List TableRow → List TableColumn → PageText

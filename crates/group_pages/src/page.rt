@@ -33,7 +33,7 @@ impl Page {
     ghost use Rattle.bid_desk.specs.Closing.{book_of};
     ghost use Rattle.presolve.specs.Flags.{flags_of};
     ghost use Rattle.program_rows.specs.Parts.{shown_row};
-    ghost use Rattle.group_pages.specs.Pages.{lines_of, page_of_form, page_of_lots, page_with};
+    ghost use Rattle.group_pages.specs.Pages.{section_lines, page_of_form, page_of_lots, page_with};
 
     // The lines of some rows, and of columns with entries in all rows.
     fn new(alloc: Global, all: &[Row], rows: &[Row], columns: &Columns) -> Result<Page, AllocError>
@@ -82,7 +82,7 @@ impl Page {
 
     /// Its lines in a section.
     pub fn lines(&self, section: Section) -> &[u8]
-        ensures { result.now ≡ lines_of section self.now }
+        ensures { result.now ≡ section_lines section self.now }
     {
         match section {
             Section::Rows => &self.rows,

@@ -3,7 +3,7 @@
 ghost use Rattle.std.specs.Prelude.{◌≡◌, IfOk, map};
 ghost use Rattle.mps_text.specs.Adds.{Adds};
 ghost use Rattle.program_rows.specs.Parts.{shown_row};
-ghost use Rattle.group_pages.specs.Pages.{lines_of, page_with};
+ghost use Rattle.group_pages.specs.Pages.{section_lines, page_with};
 
 use crate::section::Section;
 use mps_text::{
@@ -20,7 +20,7 @@ fn add_lines<S: Sink>(
     columns: &Columns,
     section: Section,
 )
-    ensures { Adds S.taken S.failures writer.old writer.new (lines_of section (page_with (map shown_row all.now) (map shown_row rows.now) columns.now)) }
+    ensures { Adds S.taken S.failures writer.old writer.new (section_lines section (page_with (map shown_row all.now) (map shown_row rows.now) columns.now)) }
 {
     match section {
         Section::Rows => add_rows(writer, rows),
@@ -38,7 +38,7 @@ pub(crate) fn rendered(
     columns: &Columns,
     section: Section,
 ) -> Result<Vec<u8>, AllocError>
-    ensures { IfOk result (λ lines. lines.items ≡ lines_of section (page_with (map shown_row all.now) (map shown_row rows.now) columns.now)) }
+    ensures { IfOk result (λ lines. lines.items ≡ section_lines section (page_with (map shown_row all.now) (map shown_row rows.now) columns.now)) }
 {
     let mut sink = MemorySink::new(alloc);
     let mut writer = Writer::new(&mut sink);

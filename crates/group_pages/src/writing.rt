@@ -5,8 +5,8 @@ ghost use Rattle.auction_terms.specs.Groups.{has};
 ghost use Rattle.auction_terms.specs.declared.limits.TheConstants.{MOST_BIDDERS};
 ghost use Rattle.mps_text.specs.Adds.{Adds};
 ghost use Rattle.group_pages.specs.declared.section.Section.TheVariants.{Rows, Columns, RightSides, Bounds};
-ghost use Rattle.group_pages.specs.Joining.{closing, group_text, has_any, joined, opening, pages_for, section_text};
-ghost use Rattle.group_pages.specs.Pages.{lines_of, outside};
+ghost use Rattle.group_pages.specs.Joining.{section_end, group_text, has_any, joined, opening, pages_for, section_text};
+ghost use Rattle.group_pages.specs.Pages.{section_lines, outside};
 
 use crate::page::Page;
 use crate::pages::Pages;
@@ -16,7 +16,7 @@ use mps_text::{Sink, Writer};
 
 // Whether a page has lines in a section, unless its bidder is left out.
 fn page_has_lines(page: &Page, is_out: bool, section: Section) -> bool
-    ensures { result ≡ has_any (cond is_out [] (lines_of section page.now)) }
+    ensures { result ≡ has_any (cond is_out [] (section_lines section page.now)) }
 {
     if is_out {
         return false;
@@ -63,7 +63,7 @@ fn opening(section: Section, any: bool) -> &'static [u8]
 
 // What stands behind them.
 fn closing(section: Section, any: bool) -> &'static [u8]
-    ensures { result.now ≡ closing section any }
+    ensures { result.now ≡ section_end section any }
 {
     match section {
         Section::Columns if any => b" M2 'MARKER' 'INTEND'\n",
@@ -74,7 +74,7 @@ fn closing(section: Section, any: bool) -> &'static [u8]
 
 // Adds the lines of a page in a section, unless its bidder is left out.
 fn add_page<S: Sink>(writer: &mut Writer<'_, S>, page: &Page, is_out: bool, section: Section)
-    ensures { Adds S.taken S.failures writer.old writer.new (cond is_out [] (lines_of section page.now)) }
+    ensures { Adds S.taken S.failures writer.old writer.new (cond is_out [] (section_lines section page.now)) }
 {
     if is_out {
         return;

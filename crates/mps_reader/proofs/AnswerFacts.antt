@@ -2,26 +2,26 @@
 use Rattle.std.proofs.Common.{◌≡◌, sym, subst, Option, Some, None}
 use Rattle.std.specs.Prelude.{Result, Ok, Err}
 use Rattle.program_rows.specs.declared.fault.FaultKind.{FaultKind}
-use Rattle.mps_reader.specs.inside.Reading.{Answers, AnswersUpTo}
+use Rattle.mps_reader.specs.inside.Reading.{AnswersFault, AnswersUpTo}
 use Rattle.mps_reader.specs.declared.refusal.Refusal.{Refusal}
 use Rattle.mps_reader.specs.declared.refusal.Refusal.TheVariants.{Memory, Fault}
 
 -- the same refusal answers a list of checks that begins with those that refused
-pub handed-on : (X : Type 0) {Y : Type 0} (to : Result Y Refusal) (e : Refusal) (f g : Option FaultKind) → to ≡ Err e → ((kind : FaultKind) → f ≡ Some kind → g ≡ Some kind) → Answers {X = X} (Err e) f → Answers to g
-handed-on X {Y} to e f g b step h = subst (λ t. Answers t g) (sym b) (by e h)
+pub handed-on : (X : Type 0) {Y : Type 0} (to : Result Y Refusal) (e : Refusal) (f g : Option FaultKind) → to ≡ Err e → ((kind : FaultKind) → f ≡ Some kind → g ≡ Some kind) → AnswersFault {X = X} (Err e) f → AnswersFault to g
+handed-on X {Y} to e f g b step h = subst (λ t. AnswersFault t g) (sym b) (by e h)
   where
-    by : (e : Refusal) → Answers {X = X} (Err e) f → Answers {X = Y} (Err e) g
+    by : (e : Refusal) → AnswersFault {X = X} (Err e) f → AnswersFault {X = Y} (Err e) g
     by Memory h = tt
     by (Fault kind) h = step kind h
 
 -- what is taken has no fault
-pub taken : {X : Type 0} (r : Result X Refusal) (x : X) (f : Option FaultKind) → r ≡ Ok x → Answers r f → f ≡ None
-taken r x f e h = subst (λ t. Answers t f) e h
+pub taken : {X : Type 0} (r : Result X Refusal) (x : X) (f : Option FaultKind) → r ≡ Ok x → AnswersFault r f → f ≡ None
+taken r x f e h = subst (λ t. AnswersFault t f) e h
 
 -- the same where the checks of the callee are those up to the last
-pub handed-up : (X : Type 0) {Y : Type 0} (to : Result Y Refusal) (e : Refusal) (f last g : Option FaultKind) → to ≡ Err e → ((kind : FaultKind) → f ≡ Some kind → g ≡ Some kind) → AnswersUpTo {X = X} (Err e) f last → Answers to g
-handed-up X {Y} to e f last g b step h = subst (λ t. Answers t g) (sym b) (by e h)
+pub handed-up : (X : Type 0) {Y : Type 0} (to : Result Y Refusal) (e : Refusal) (f last g : Option FaultKind) → to ≡ Err e → ((kind : FaultKind) → f ≡ Some kind → g ≡ Some kind) → AnswersUpTo {X = X} (Err e) f last → AnswersFault to g
+handed-up X {Y} to e f last g b step h = subst (λ t. AnswersFault t g) (sym b) (by e h)
   where
-    by : (e : Refusal) → AnswersUpTo {X = X} (Err e) f last → Answers {X = Y} (Err e) g
+    by : (e : Refusal) → AnswersUpTo {X = X} (Err e) f last → AnswersFault {X = Y} (Err e) g
     by Memory h = tt
     by (Fault kind) h = step kind h

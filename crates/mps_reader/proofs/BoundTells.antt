@@ -3,7 +3,7 @@ use Rattle.std.proofs.Common.{◌≡◌, ℕ, zero, suc, Bool, true, false, not,
 use Rattle.std.specs.Prelude.{slice_get, bytes_eq, codes, nat_le, if◌then◌else◌}
 use Rattle.std.specs.List.{list_any, slice_set, AllByRecursion, IsDistinct}
 use Rattle.program_rows.specs.Lines.{LineFields, field}
-use Rattle.program_rows.specs.Described.{is_one_of, value, is_binary_bound, bound_column, bound_number, column_names, column_lines}
+use Rattle.program_rows.specs.Described.{is_one_of, value, is_binary_bound, bound_column, bound_number, columns_named, column_lines}
 use Rattle.program_rows.specs.Faults.{bit_fault, bound_fault, earliest_fault, when, is_column, stands_in_integers}
 use Rattle.program_rows.specs.declared.fault.FaultKind.{FaultKind}
 use Rattle.program_rows.specs.declared.fault.FaultKind.TheVariants.{BoundType, Fields, UnknownColumn}
@@ -56,7 +56,7 @@ last-one None = refl
 last-one (Some k) = refl
 
 -- a name of a column is a column of the lines
-pub column-any : (lines : List LineFields) (names : List (List ℕ)) (name : List ℕ) → names ≡ column_names lines → is_column lines name ≡ list_any (bytes_eq name) names
+pub column-any : (lines : List LineFields) (names : List (List ℕ)) (name : List ℕ) → names ≡ columns_named lines → is_column lines name ≡ list_any (bytes_eq name) names
 column-any lines names name h = sym (ap (list_any (bytes_eq name)) h ∙ each-any name (column_lines lines))
 
 -- ---- values

@@ -15,10 +15,10 @@ use Rattle.program_rows.specs.declared.bounds.Bounds.TheVariants.{ZeroOrOne}
 use Rattle.program_rows.specs.Program.{TableColumn}
 use Rattle.program_rows.specs.Parts.{AreEntries}
 use Rattle.program_rows.specs.Lines.{LineFields}
-use Rattle.program_rows.specs.Described.{column_names, all_entries, coefficient}
+use Rattle.program_rows.specs.Described.{columns_named, all_entries, coefficient}
 use Rattle.mps_reader.specs.inside.Columns.{same_place, ColumnsFit, AddsColumn, entries_at}
 use Rattle.mps_reader.specs.inside.Rows.{names_of}
-use Rattle.mps_reader.specs.inside.Tracking.{worth, OpenTells, ColumnsTell, ColumnAdded, told_column, told_values, state_values}
+use Rattle.mps_reader.specs.inside.Tracking.{number_at_place, OpenTells, ColumnsTell, ColumnAdded, told_column, told_values, state_values}
 use Rattle.mps_reader.specs.declared.column_table.ColumnTable.{ColumnTable}
 use Rattle.mps_reader.proofs.NameFacts.{all-push}
 use Rattle.mps_reader.proofs.EntryFacts.{sorted-entries}
@@ -26,11 +26,11 @@ use Rattle.mps_reader.proofs.PairTells.{self-eq, worth-none}
 
 -- ---- the number at a place, in any order
 
-others-at : (x : ℕ × ℤ) (xs ys : List (ℕ × ℤ)) → AllByRecursion (λ y. same_place x y ≡ false) ys → AllByRecursion (λ e. worth e.0 xs ≡ e.1) ys → AllByRecursion (λ e. worth e.0 (x ∷ xs) ≡ e.1) ys
+others-at : (x : ℕ × ℤ) (xs ys : List (ℕ × ℤ)) → AllByRecursion (λ y. same_place x y ≡ false) ys → AllByRecursion (λ e. number_at_place e.0 xs ≡ e.1) ys → AllByRecursion (λ e. number_at_place e.0 (x ∷ xs) ≡ e.1) ys
 others-at x xs [] a h = tt
 others-at x xs (y ∷ ys) a h = (rw (a.0) h.0, others-at x xs ys a.1 h.1)
 
-worth-own : (xs : List (ℕ × ℤ)) → IsDistinct same_place xs → AllByRecursion (λ e. worth e.0 xs ≡ e.1) xs
+worth-own : (xs : List (ℕ × ℤ)) → IsDistinct same_place xs → AllByRecursion (λ e. number_at_place e.0 xs ≡ e.1) xs
 unfolding IsDistinct
 worth-own [] d = tt
 worth-own (x ∷ xs) d = (rw (self-eq x.0) refl, others-at x xs xs d.0 (worth-own xs d.1))
@@ -43,7 +43,7 @@ any-none p (x ∷ xs) h = by (x.0 == p) refl (any-none p xs)
     by true e more = let first : list_any (λ q. q.0 == p) (x ∷ xs) ≡ true = rw e refl in absurd (let clash : true ≡ false = sym first ∙ h in cc)
     by false e more = (e, more (let rest : list_any (λ q. q.0 == p) xs ≡ list_any (λ q. q.0 == p) (x ∷ xs) = rw e refl in rest ∙ h))
 
-any-pick : (p : ℕ) (v : ℤ) (f : ℕ → ℤ) (xs : List (ℕ × ℤ)) → list_any (λ e. e.0 == p) xs ≡ true → AllByRecursion (λ e. f e.0 ≡ e.1) xs → AllByRecursion (λ e. worth e.0 xs ≡ e.1) xs → (g : ℕ → ℤ) → AllByRecursion (λ e. g e.0 ≡ e.1) xs → f p ≡ g p
+any-pick : (p : ℕ) (v : ℤ) (f : ℕ → ℤ) (xs : List (ℕ × ℤ)) → list_any (λ e. e.0 == p) xs ≡ true → AllByRecursion (λ e. f e.0 ≡ e.1) xs → AllByRecursion (λ e. number_at_place e.0 xs ≡ e.1) xs → (g : ℕ → ℤ) → AllByRecursion (λ e. g e.0 ≡ e.1) xs → f p ≡ g p
 any-pick p v f [] h a w g b = absurd cc
 any-pick p v f (x ∷ xs) h a w g b = by (x.0 == p) refl
   where
@@ -59,17 +59,17 @@ any-pick p v f (x ∷ xs) h a w g b = by (x.0 == p) refl
     by t e = go (x ∷ xs) h a b
 
 -- a permutation of entries, each place once, has the same number at each place
-pub worth-moved : (xs ys : List (ℕ × ℤ)) (p : ℕ) → IsPermutation xs ys → IsDistinct same_place xs → IsDistinct same_place ys → worth p ys ≡ worth p xs
+pub worth-moved : (xs ys : List (ℕ × ℤ)) (p : ℕ) → IsPermutation xs ys → IsDistinct same_place xs → IsDistinct same_place ys → number_at_place p ys ≡ number_at_place p xs
 worth-moved xs ys p moved dx dy = by (list_any (λ e. e.0 == p) ys) refl
   where
-    own : AllByRecursion (λ e. worth e.0 ys ≡ e.1) ys
+    own : AllByRecursion (λ e. number_at_place e.0 ys ≡ e.1) ys
     own = worth-own ys dy
 
-    other : AllByRecursion (λ e. worth e.0 xs ≡ e.1) ys
-    other = recursion_from_All (λ e. worth e.0 xs ≡ e.1) ys (All-permutation (λ e. worth e.0 xs ≡ e.1) xs ys moved (All-from_recursion (λ e. worth e.0 xs ≡ e.1) xs (worth-own xs dx)))
+    other : AllByRecursion (λ e. number_at_place e.0 xs ≡ e.1) ys
+    other = recursion_from_All (λ e. number_at_place e.0 xs ≡ e.1) ys (All-permutation (λ e. number_at_place e.0 xs ≡ e.1) xs ys moved (All-from_recursion (λ e. number_at_place e.0 xs ≡ e.1) xs (worth-own xs dx)))
 
-    by : (b : Bool) → list_any (λ e. e.0 == p) ys ≡ b → worth p ys ≡ worth p xs
-    by true h = any-pick p (pos 0) (λ q. worth q ys) ys h own own (λ q. worth q xs) other
+    by : (b : Bool) → list_any (λ e. e.0 == p) ys ≡ b → number_at_place p ys ≡ number_at_place p xs
+    by true h = any-pick p (pos 0) (λ q. number_at_place q ys) ys h own own (λ q. number_at_place q xs) other
     by false h = worth-none p ys (any-none p ys h) ∙ sym (worth-none p xs (any-none p xs (list_any-IsPermutation (λ e. e.0 == p) xs ys moved ∙ h)))
 
 -- ---- entries in row order are those of the numbers
@@ -96,7 +96,7 @@ more-rows : (a b : ℕ) (es : List (ℕ × ℤ)) → a ≡ b → AreEntries a es
 more-rows a b es e h = subst (λ n. AreEntries n es) e h
 
 pub entries-told : (k : ℕ) (f : List ℕ → ℤ) (rows : List (List ℕ)) (es : List (ℕ × ℤ)) → AllByRecursion (λ e. k ≤ e.0) es → AreEntries (k + length rows) es
-    → ((j : ℕ) (n : List ℕ) → slice_get rows j ≡ Some n → worth (k + j) es ≡ f n) → entries_at k f rows ≡ es
+    → ((j : ℕ) (n : List ℕ) → slice_get rows j ≡ Some n → number_at_place (k + j) es ≡ f n) → entries_at k f rows ≡ es
 entries-told k f [] [] from legal h = refl
 entries-told k f [] (e ∷ es) from legal h = let a = legal.0 in let b = from.0 in absurd (omega arith)
 entries-told k f (n ∷ rows) [] from legal h =
@@ -106,20 +106,20 @@ entries-told k f (n ∷ rows) (e ∷ es) from legal h =
     by (eq-or-lt_of_le from.0)
     (λ same. entries-told (suc k) f rows es (from-next k es (subst (λ q. AllByRecursion (λ e. q < e.0) es) (sym same) legal.2)) (more-rows _ _ es (omega arith) legal.3)
     (λ j m at. let other : (e.0 == k + suc j) ≡ false = ne_eqb e.0 (k + suc j) (λ q. omega arith) in
-    let there : worth (k + suc j) es ≡ f m = let whole : worth (k + suc j) (e ∷ es) ≡ worth (k + suc j) es = rw other refl in sym whole ∙ h (suc j) m at in
-    subst (λ q. worth q es ≡ f m) (omega arith) there))
+    let there : number_at_place (k + suc j) es ≡ f m = let whole : number_at_place (k + suc j) (e ∷ es) ≡ number_at_place (k + suc j) es = rw other refl in sym whole ∙ h (suc j) m at in
+    subst (λ q. number_at_place q es ≡ f m) (omega arith) there))
     (λ lt. entries-told (suc k) f rows (e ∷ es) (omega arith, from-next k es (above k e.0 es (omega arith) legal.2)) (more-rows _ _ (e ∷ es) (omega arith) legal)
-    (λ j m at. subst (λ q. worth q (e ∷ es) ≡ f m) (omega arith) (h (suc j) m at)))
+    (λ j m at. subst (λ q. number_at_place q (e ∷ es) ≡ f m) (omega arith) (h (suc j) m at)))
   where
     by : (k ≡ e.0) ⊎ (k < e.0) → (k ≡ e.0 → entries_at (suc k) f rows ≡ es) → (k < e.0 → entries_at (suc k) f rows ≡ e ∷ es) → entries_at k f (n ∷ rows) ≡ e ∷ es
     by (inl same) here next =
         let there : (e.0 == k + 0) ≡ true = eq-eqb e.0 (k + 0) (omega arith) in
-        let whole : worth (k + 0) (e ∷ es) ≡ e.1 = rw there refl in
+        let whole : number_at_place (k + 0) (e ∷ es) ≡ e.1 = rw there refl in
         let number : f n ≡ e.1 = sym (h 0 n refl) ∙ whole in
         rw (number, not-zero e.1 legal.1, here same, same) refl
     by (inr lt) here next =
         let other : (e.0 == k + 0) ≡ false = ne_eqb e.0 (k + 0) (λ q. omega arith) in
-        let whole : worth (k + 0) (e ∷ es) ≡ worth (k + 0) es = rw other refl in
+        let whole : number_at_place (k + 0) (e ∷ es) ≡ number_at_place (k + 0) es = rw other refl in
         let none : f n ≡ pos 0 = sym (h 0 n refl) ∙ whole ∙ worth-none (k + 0) es (behind (k + 0) es (above (k + 0) e.0 es (omega arith) legal.2)) in
         rw (zero-eq (f n) none) (next lt)
 
@@ -162,7 +162,7 @@ closed-tells o rows lines bounds old new sorted name cost fit current spent move
 
     entries : sorted ≡ entries_at 0 (coefficient (all_entries lines) name.now) rows
     entries = sym (entries-told 0 (coefficient (all_entries lines) name.now) rows sorted (from sorted) (more-rows _ _ sorted (omega arith) legal)
-        (λ j n at. subst (λ q. worth q sorted ≡ coefficient (all_entries lines) name.now n) (omega arith) (worth-moved old.current_column.entries.items sorted j moved fit.opened.distinct (entries-distinct (length rows) sorted legal) ∙ current-tells.entries j n at)))
+        (λ j n at. subst (λ q. number_at_place q sorted ≡ coefficient (all_entries lines) name.now n) (omega arith) (worth-moved old.current_column.entries.items sorted j moved fit.opened.distinct (entries-distinct (length rows) sorted legal) ∙ current-tells.entries j n at)))
 
     told : last ≡ told_column o rows lines name.now
     told = ap (λ z. record { name = name.now; bounds = ZeroOrOne; cost = z; entries = sorted }) (spent ∙ current-tells.cost) ∙ ap (λ es. record { name = name.now; bounds = ZeroOrOne; cost = coefficient (all_entries lines) name.now (unwrap_or o []); entries = es }) entries
@@ -172,7 +172,7 @@ added-tells o rows lines old new name fit none adds h = record {
   fresh = ap (list_any (bytes_eq name)) (sym h.names) ∙ adds.fresh;
   all = adds.names ∙ ap (λ ns. ns ++ name ∷ []) h.names;
   begun = adds.begun ∙ h.begun;
-  states = ap (map state_values) adds.states ∙ map_push state_values old.states.items _ ∙ ap (λ ss. ss ++ (old.is_begun, pos 0, None) ∷ []) h.states ∙ ap (λ b. map (told_values lines []) (column_names lines) ++ (b, pos 0, None) ∷ []) h.begun;
+  states = ap (map state_values) adds.states ∙ map_push state_values old.states.items _ ∙ ap (λ ss. ss ++ (old.is_begun, pos 0, None) ∷ []) h.states ∙ ap (λ b. map (told_values lines []) (columns_named lines) ++ (b, pos 0, None) ∷ []) h.begun;
   done = subst (λ ks. AllByRecursion (λ (k : TableColumn). k ≡ told_column o rows lines k.name) ks) (sym adds.done) h.done;
   cost = ap (λ c. c.cost) adds.opened ∙ h.closed none;
   entries = ap (λ c. c.entries.items) adds.opened ∙ fit.closed none;

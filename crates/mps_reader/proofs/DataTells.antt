@@ -10,7 +10,7 @@ use Rattle.program_rows.specs.Sections.{Sections, with_line}
 use Rattle.program_rows.specs.Described.{is_one_of, all_right_sides, right_side, coefficient, all_entries}
 use Rattle.program_rows.specs.Faults.{row_types, earliest_fault, when, is_declared, is_objective, objsense_fault, row_fault, column_fault, right_side_fault, bound_fault, data_fault}
 use Rattle.program_rows.specs.Program.{TableColumn}
-use Rattle.mps_reader.specs.inside.Rows.{names_of, option_now, row_names, StampsAre, bound_lines_of}
+use Rattle.mps_reader.specs.inside.Rows.{names_of, option_now, declared_row_names, StampsAre, bound_lines_of}
 use Rattle.mps_reader.specs.inside.Columns.{ColumnsFit}
 use Rattle.mps_reader.specs.inside.Fit.{ReadingFits, IsClosed}
 use Rattle.mps_reader.specs.inside.Sections.{word_of}
@@ -90,22 +90,22 @@ row-step before f r new is fit told low h =
 -- ---- a line of COLUMNS
 
 pub at-columns : (before : Sections) (r : Reading) → r.section ≡ sections.Columns → ReadingTells before r
-    → InColumns before.columns [] [] r.rows r.columns × ColumnsTell (option_now r.rows.objective) (row_names r.rows.rows.items) before.columns [] r.columns
+    → InColumns before.columns [] [] r.rows r.columns × ColumnsTell (option_now r.rows.objective) (declared_row_names r.rows.rows.items) before.columns [] r.columns
 at-columns before r is h =
     let at : InColumns before.columns before.right_sides before.bounds r.rows r.columns = subst (λ s. SectionTells s before.rows before.columns before.right_sides before.bounds r.rows r.columns) is h.lines.of_section in (
       record { no_rights = refl; no_bounds = refl; low = at.low; current = at.current; stamps = at.stamps },
-      subst (λ bs. ColumnsTell (option_now r.rows.objective) (row_names r.rows.rows.items) before.columns bs r.columns) at.no_bounds h.lines.of_columns,
+      subst (λ bs. ColumnsTell (option_now r.rows.objective) (declared_row_names r.rows.rows.items) before.columns bs r.columns) at.no_bounds h.lines.of_columns,
     )
 
 pub column-step : (before : Sections) (f : LineFields) (r : Reading) (new : Rows) (columns : ColumnTable) → r.section ≡ sections.Columns → new ≡ record r.rows { stamps = new.stamps }
-    → ColumnsTell (option_now r.rows.objective) (row_names r.rows.rows.items) (f ∷ before.columns) [] columns → InColumns (f ∷ before.columns) [] [] new columns
+    → ColumnsTell (option_now r.rows.objective) (declared_row_names r.rows.rows.items) (f ∷ before.columns) [] columns → InColumns (f ∷ before.columns) [] [] new columns
     → ReadingTells before r → ReadingTells (with_line before (Data f)) (record r { rows = new; columns = columns })
 column-step before f r new columns is same told now h =
     let at : InColumns before.columns before.right_sides before.bounds r.rows r.columns = subst (λ s. SectionTells s before.rows before.columns before.right_sides before.bounds r.rows r.columns) is h.lines.of_section in
     tells-columns before f (record r { rows = new; columns = columns }) (h.section ∙ ap word_of is) h.section (record {
       of_rows = subst (λ q. RowsTell before.rows before.right_sides q) (sym same) (record { names = h.lines.of_rows.names; shown = h.lines.of_rows.shown; objective = h.lines.of_rows.objective });
-      of_columns = subst (λ (q : Rows). ColumnsTell (option_now q.objective) (row_names q.rows.items) (f ∷ before.columns) before.bounds columns) (sym same)
-          (subst (λ bs. ColumnsTell (option_now r.rows.objective) (row_names r.rows.rows.items) (f ∷ before.columns) bs columns) (sym at.no_bounds) told);
+      of_columns = subst (λ (q : Rows). ColumnsTell (option_now q.objective) (declared_row_names q.rows.items) (f ∷ before.columns) before.bounds columns) (sym same)
+          (subst (λ bs. ColumnsTell (option_now r.rows.objective) (declared_row_names r.rows.rows.items) (f ∷ before.columns) bs columns) (sym at.no_bounds) told);
       of_section = subst (λ s. SectionTells s before.rows (f ∷ before.columns) before.right_sides before.bounds new columns) (sym is)
           (record { no_rights = at.no_rights; no_bounds = at.no_bounds; low = now.low; current = now.current; stamps = now.stamps });
     })
@@ -119,12 +119,12 @@ pub right-step : (before : Sections) (f : LineFields) (r : Reading) (new : Rows)
     → StampsAre new.stamps.items (length (names_of r.columns.names) + 1) (names_of r.rows.names) (λ row. list_any (λ other. bytes_eq row other.0) (all_right_sides (f ∷ before.right_sides))) → ReadingTells before r → ReadingTells (with_line before (Data f)) (record r { rows = new })
 right-step before f r new is names objective told stamps h =
     let at = at-right-sides before r is h in
-    let same : row_names new.rows.items ≡ row_names r.rows.rows.items =
+    let same : declared_row_names new.rows.items ≡ declared_row_names r.rows.rows.items =
     row-names-by new.rows.items (right_side (all_right_sides (f ∷ before.right_sides))) (bound_lines_of before.rows) told.shown
     ∙ sym (row-names-by r.rows.rows.items (right_side (all_right_sides before.right_sides)) (bound_lines_of before.rows) h.lines.of_rows.shown) in
     tells-right-sides before f (record r { rows = new }) (h.section ∙ ap word_of is) h.section (record {
       of_rows = told;
-      of_columns = subst (λ o. ColumnsTell (option_now o) (row_names new.rows.items) before.columns before.bounds r.columns) (sym objective)
+      of_columns = subst (λ o. ColumnsTell (option_now o) (declared_row_names new.rows.items) before.columns before.bounds r.columns) (sym objective)
           (subst (λ ns. ColumnsTell (option_now r.rows.objective) ns before.columns before.bounds r.columns) (sym same) h.lines.of_columns);
       of_section = subst (λ s. SectionTells s before.rows before.columns (f ∷ before.right_sides) before.bounds new r.columns) (sym is)
           (record { no_bounds = at.no_bounds; stamps = subst (λ ns. StampsAre new.stamps.items (length (names_of r.columns.names) + 1) (names_of ns) (λ row. list_any (λ other. bytes_eq row other.0) (all_right_sides (f ∷ before.right_sides)))) (sym names) stamps });
@@ -133,7 +133,7 @@ right-step before f r new is names objective told stamps h =
 -- ---- a line of BOUNDS, and of OBJSENSE
 
 pub bound-step : (before : Sections) (f : LineFields) (r : Reading) (columns : ColumnTable) → r.section ≡ sections.Bounds
-    → ColumnsTell (option_now r.rows.objective) (row_names r.rows.rows.items) before.columns (f ∷ before.bounds) columns → ReadingTells before r → ReadingTells (with_line before (Data f)) (record r { columns = columns })
+    → ColumnsTell (option_now r.rows.objective) (declared_row_names r.rows.rows.items) before.columns (f ∷ before.bounds) columns → ReadingTells before r → ReadingTells (with_line before (Data f)) (record r { columns = columns })
 bound-step before f r columns is told h = tells-bounds before f (record r { columns = columns }) (h.section ∙ ap word_of is) h.section (record {
   of_rows = h.lines.of_rows;
   of_columns = told;

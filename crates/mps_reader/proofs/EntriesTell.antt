@@ -5,7 +5,7 @@ use Rattle.std.specs.List.{list_any}
 use Rattle.std.specs.Option.{option_map_or}
 use Rattle.std.proofs.lemmas.Bool.{both_ways, eqb-true}
 use Rattle.program_rows.specs.Lines.{LineFields, field}
-use Rattle.program_rows.specs.Described.{Entry, pairs, line_entries, names, value, coefficient}
+use Rattle.program_rows.specs.Described.{Entry, pairs, line_entries, names_both, value, coefficient}
 use Rattle.program_rows.specs.Faults.{number_fault, earliest_fault, when, pairs_fault, is_declared}
 use Rattle.program_rows.specs.declared.fault.FaultKind.{FaultKind}
 use Rattle.program_rows.specs.declared.fault.FaultKind.TheVariants.{UnknownRow, EntryRepeated}
@@ -52,20 +52,20 @@ stamps-same stamps stamp ns has other e h = h ∙ go ns
 pub open-same : (o : Option (List ℕ)) (rows : List (List ℕ)) (number other : List ℕ → ℤ) (column : OpenColumn) → ((n : List ℕ) → number n ≡ other n) → OpenTells o rows number column → OpenTells o rows other column
 open-same o rows number other column e h = record { cost = h.cost ∙ e _; entries = λ p n at. h.entries p n at ∙ e n }
 
-pub has-one : (column row number : List ℕ) (earlier : List Entry) (n : List ℕ) → (bytes_eq n row || list_any (names column n) earlier) ≡ list_any (names column n) (entry column row number ∷ earlier)
+pub has-one : (column row number : List ℕ) (earlier : List Entry) (n : List ℕ) → (bytes_eq n row || list_any (names_both column n) earlier) ≡ list_any (names_both column n) (entry column row number ∷ earlier)
 has-one column row number earlier n = rw (own_name column) refl
 
 pub number-one : (column row number : List ℕ) (earlier : List Entry) (n : List ℕ) → (if bytes_eq n row then value number else coefficient earlier column n) ≡ coefficient (entry column row number ∷ earlier) column n
 number-one column row number earlier n = rw (own_name column) (by (bytes_eq n row))
   where
-    by : (b : Bool) → (if b then value number else coefficient earlier column n) ≡ option_map_or (λ e. value e.number) (if b then Some (entry column row number) else find (names column n) earlier) (pos 0)
+    by : (b : Bool) → (if b then value number else coefficient earlier column n) ≡ option_map_or (λ e. value e.number) (if b then Some (entry column row number) else find (names_both column n) earlier) (pos 0)
     by true = refl
     by false = refl
 
-pub has-two : (column row number row2 number2 : List ℕ) (earlier : List Entry) (n : List ℕ) → list_any (names column n) (entry column row2 number2 ∷ entry column row number ∷ earlier) ≡ list_any (names column n) (entry column row number ∷ entry column row2 number2 ∷ earlier)
+pub has-two : (column row number row2 number2 : List ℕ) (earlier : List Entry) (n : List ℕ) → list_any (names_both column n) (entry column row2 number2 ∷ entry column row number ∷ earlier) ≡ list_any (names_both column n) (entry column row number ∷ entry column row2 number2 ∷ earlier)
 has-two column row number row2 number2 earlier n = rw (own_name column) (swap (bytes_eq n row2) (bytes_eq n row))
   where
-    swap : (a b : Bool) → (a || (b || list_any (names column n) earlier)) ≡ (b || (a || list_any (names column n) earlier))
+    swap : (a b : Bool) → (a || (b || list_any (names_both column n) earlier)) ≡ (b || (a || list_any (names_both column n) earlier))
     swap true true = refl
     swap true false = refl
     swap false true = refl
@@ -77,8 +77,8 @@ pub number-two : (column row number row2 number2 : List ℕ) (earlier : List Ent
 number-two column row number row2 number2 earlier differ n = rw (own_name column) (by (bytes_eq n row2) (bytes_eq n row) refl refl)
   where
     by : (a b : Bool) → bytes_eq n row2 ≡ a → bytes_eq n row ≡ b
-        → (if a then value number2 else option_map_or (λ e. value e.number) (if b then Some (entry column row number) else find (names column n) earlier) (pos 0))
-        ≡ option_map_or (λ e. value e.number) (if b then Some (entry column row number) else (if a then Some (entry column row2 number2) else find (names column n) earlier)) (pos 0)
+        → (if a then value number2 else option_map_or (λ e. value e.number) (if b then Some (entry column row number) else find (names_both column n) earlier) (pos 0))
+        ≡ option_map_or (λ e. value e.number) (if b then Some (entry column row number) else (if a then Some (entry column row2 number2) else find (names_both column n) earlier)) (pos 0)
     by true true h k = absurd (both_ways _ differ (subst (λ x. bytes_eq x row ≡ true) (same_name n row2 h) k))
     by true false h k = refl
     by false true h k = refl
@@ -87,9 +87,9 @@ number-two column row number row2 number2 earlier differ n = rw (own_name column
 -- ---- a whole line
 
 pub one-stamps : (f : LineFields) (row : List ℕ) (stamps : List ℕ) (stamp : ℕ) (ns : List (List ℕ)) (earlier : List Entry) → length f ≡ 3 → field 1 f ≡ row
-    → StampsAre stamps stamp ns (λ n. bytes_eq n row || list_any (names (field 0 f) n) earlier) → StampsAre stamps stamp ns (λ n. list_any (names (field 0 f) n) (line_entries f ++ earlier))
-one-stamps f row stamps stamp ns earlier size same h = stamps-same stamps stamp ns (λ n. bytes_eq n row || list_any (names (field 0 f) n) earlier) (λ n. list_any (names (field 0 f) n) (line_entries f ++ earlier))
-    (λ n. has-one (field 0 f) row (field 2 f) earlier n ∙ ap (λ r. list_any (names (field 0 f) n) (entry (field 0 f) r (field 2 f) ∷ earlier)) (sym same) ∙ ap (λ es. list_any (names (field 0 f) n) (es ++ earlier)) (sym (one-entry f size))) h
+    → StampsAre stamps stamp ns (λ n. bytes_eq n row || list_any (names_both (field 0 f) n) earlier) → StampsAre stamps stamp ns (λ n. list_any (names_both (field 0 f) n) (line_entries f ++ earlier))
+one-stamps f row stamps stamp ns earlier size same h = stamps-same stamps stamp ns (λ n. bytes_eq n row || list_any (names_both (field 0 f) n) earlier) (λ n. list_any (names_both (field 0 f) n) (line_entries f ++ earlier))
+    (λ n. has-one (field 0 f) row (field 2 f) earlier n ∙ ap (λ r. list_any (names_both (field 0 f) n) (entry (field 0 f) r (field 2 f) ∷ earlier)) (sym same) ∙ ap (λ es. list_any (names_both (field 0 f) n) (es ++ earlier)) (sym (one-entry f size))) h
 
 pub one-tells : (f : LineFields) (row number : List ℕ) (o : Option (List ℕ)) (rows : List (List ℕ)) (earlier : List Entry) (column : OpenColumn) → length f ≡ 3 → field 1 f ≡ row → field 2 f ≡ number
     → OpenTells o rows (λ n. if bytes_eq n row then value number else coefficient earlier (field 0 f) n) column → OpenTells o rows (coefficient (line_entries f ++ earlier) (field 0 f)) column
@@ -97,7 +97,7 @@ one-tells f row number o rows earlier column size same told h = open-same o rows
     (λ n. number-one (field 0 f) row number earlier n ∙ ap (λ r. coefficient (entry (field 0 f) r number ∷ earlier) (field 0 f) n) (sym same) ∙ ap (λ t. coefficient (entry (field 0 f) (field 1 f) t ∷ earlier) (field 0 f) n) (sym told)
     ∙ ap (λ es. coefficient (es ++ earlier) (field 0 f) n) (sym (one-entry f size))) h
 
--- the two pairs of a line, by their names
+-- the two pairs of a line, by their names_both
 pub record AreTwo (f : LineFields) (row number row2 number2 : List ℕ) : Type 0 where
   pub size : length f ≡ 5
   pub row-is : field 1 f ≡ row
@@ -109,10 +109,10 @@ pub shown-two : (f : LineFields) (row number row2 number2 : List ℕ) → AreTwo
 shown-two f row number row2 number2 a = two-entries f a.size ∙ rw (a.row-is, a.number-is, a.row2-is, a.number2-is) refl
 
 pub two-stamps : (f : LineFields) (row number row2 number2 : List ℕ) (stamps : List ℕ) (stamp : ℕ) (ns : List (List ℕ)) (earlier : List Entry) → AreTwo f row number row2 number2
-    → StampsAre stamps stamp ns (λ n. bytes_eq n row2 || (bytes_eq n row || list_any (names (field 0 f) n) earlier)) → StampsAre stamps stamp ns (λ n. list_any (names (field 0 f) n) (line_entries f ++ earlier))
-two-stamps f row number row2 number2 stamps stamp ns earlier a h = stamps-same stamps stamp ns (λ n. bytes_eq n row2 || (bytes_eq n row || list_any (names (field 0 f) n) earlier)) (λ n. list_any (names (field 0 f) n) (line_entries f ++ earlier))
+    → StampsAre stamps stamp ns (λ n. bytes_eq n row2 || (bytes_eq n row || list_any (names_both (field 0 f) n) earlier)) → StampsAre stamps stamp ns (λ n. list_any (names_both (field 0 f) n) (line_entries f ++ earlier))
+two-stamps f row number row2 number2 stamps stamp ns earlier a h = stamps-same stamps stamp ns (λ n. bytes_eq n row2 || (bytes_eq n row || list_any (names_both (field 0 f) n) earlier)) (λ n. list_any (names_both (field 0 f) n) (line_entries f ++ earlier))
     (λ n. ap (λ b. bytes_eq n row2 || b) (has-one (field 0 f) row number earlier n) ∙ has-one (field 0 f) row2 number2 (entry (field 0 f) row number ∷ earlier) n ∙ has-two (field 0 f) row number row2 number2 earlier n
-    ∙ ap (λ es. list_any (names (field 0 f) n) (es ++ earlier)) (sym (shown-two f row number row2 number2 a))) h
+    ∙ ap (λ es. list_any (names_both (field 0 f) n) (es ++ earlier)) (sym (shown-two f row number row2 number2 a))) h
 
 pub two-tells : (f : LineFields) (row number row2 number2 : List ℕ) (o : Option (List ℕ)) (rows : List (List ℕ)) (earlier : List Entry) (column : OpenColumn) → AreTwo f row number row2 number2 → bytes_eq row2 row ≡ false
     → OpenTells o rows (λ n. if bytes_eq n row2 then value number2 else (if bytes_eq n row then value number else coefficient earlier (field 0 f) n)) column → OpenTells o rows (coefficient (line_entries f ++ earlier) (field 0 f)) column

@@ -8,7 +8,7 @@ use Rattle.program_rows.specs.declared.bounds.Bounds.{Bounds}
 use Rattle.program_rows.specs.Program.{TableRow, TableColumn}
 use Rattle.program_rows.specs.Bounded.{bounded}
 use Rattle.program_rows.specs.Parts.{IsName, AreEntries, IsProgram, shown_row}
-use Rattle.mps_reader.specs.inside.Rows.{names_of, option_now, row_names, with_side, IsObjective, RowsFit, IsEmptyTable}
+use Rattle.mps_reader.specs.inside.Rows.{names_of, option_now, declared_row_names, with_side, IsObjective, RowsFit, IsEmptyTable}
 use Rattle.mps_reader.specs.inside.Columns.{ColumnsFit, BothFit, IsApart, AreDistinctEntries, IsEmptyColumns}
 use Rattle.mps_reader.specs.inside.Fit.{IsClosed, ReadingFits}
 use Rattle.mps_reader.specs.declared.sections.Section.{Section}
@@ -28,7 +28,7 @@ empty-fits r e = record {
   plain = subst (λ ks. AllByRecursion IsName (map (λ k. k.now) ks)) (sym e.names) tt;
   stamps = ap length e.stamps ∙ ap length (sym e.names);
   places = rw (e.names, e.places, e.rows) tt;
-  objective = subst (λ o. IfSome o (λ x. IsObjective (names_of r.names) (row_names r.rows.items) x.now)) (sym e.objective) tt;
+  objective = subst (λ o. IfSome o (λ x. IsObjective (names_of r.names) (declared_row_names r.rows.items) x.now)) (sym e.objective) tt;
 }
 
 pub empty-columns : (count : ℕ) (c : ColumnTable) → IsEmptyColumns c → ColumnsFit count c
@@ -94,10 +94,10 @@ names-with-side p v [] = refl
 names-with-side zero v (r ∷ rows) = refl
 names-with-side (suc p) v (r ∷ rows) = ap (λ ns. r.name ∷ ns) (names-with-side p v rows)
 
-pub same-names : (p : ℕ) (v : ℤ) (new old : List Row) → map shown_row new ≡ with_side p v (map shown_row old) → row_names new ≡ row_names old
+pub same-names : (p : ℕ) (v : ℤ) (new old : List Row) → map shown_row new ≡ with_side p v (map shown_row old) → declared_row_names new ≡ declared_row_names old
 same-names p v new old h = names-shown new ∙ ap (map (λ (r : TableRow). r.name)) h ∙ names-with-side p v (map shown_row old) ∙ sym (names-shown old)
 
-pub sided-fit : (r new : Rows) → RowsFit r → new.names ≡ r.names → new.places ≡ r.places → new.objective ≡ r.objective → length new.stamps.items ≡ length r.stamps.items → row_names new.rows.items ≡ row_names r.rows.items → RowsFit new
+pub sided-fit : (r new : Rows) → RowsFit r → new.names ≡ r.names → new.places ≡ r.places → new.objective ≡ r.objective → length new.stamps.items ≡ length r.stamps.items → declared_row_names new.rows.items ≡ declared_row_names r.rows.items → RowsFit new
 sided-fit r new fit names places objective stamps rows = record {
   distinct = subst (λ s. IsDistinct bytes_eq (names_of s)) (sym names) fit.distinct;
   plain = subst (λ s. AllByRecursion IsName (names_of s)) (sym names) fit.plain;
@@ -146,20 +146,20 @@ pub program-fits : (r : Rows) (c : ColumnTable) (objective : List ℕ) (bounds :
     → IsProgram (record { objective = objective; rows = map shown_row r.rows.items; columns = bounded c.done bounds })
 unfolding IsDistinct
 program-fits r c objective bounds fit columns none is size =
-    let own : IsObjective (names_of r.names) (row_names r.rows.items) objective = objective-from r.objective is fit.objective in
+    let own : IsObjective (names_of r.names) (declared_row_names r.rows.items) objective = objective-from r.objective is fit.objective in
     let names : map (λ (k : TableColumn). k.name) (bounded c.done bounds) ≡ names_of c.names = names-bounded c.done bounds size ∙ sym (done-names (length r.rows.items) c columns none) in
-    let rows : map (λ (q : TableRow). q.name) (map shown_row r.rows.items) ≡ row_names r.rows.items = sym (names-shown r.rows.items) in
+    let rows : map (λ (q : TableRow). q.name) (map shown_row r.rows.items) ≡ declared_row_names r.rows.items = sym (names-shown r.rows.items) in
     record {
-      row_names = (own.name, subst (λ ns. AllByRecursion IsName ns) (sym rows) (all-rows IsName 0 (names_of r.names) r.places.items (row_names r.rows.items) fit.places fit.plain));
-      rows_differ = (subst (λ ns. AllByRecursion (λ n. bytes_eq objective n ≡ false) ns) (sym rows) own.apart, subst (λ ns. IsDistinct bytes_eq ns) (sym rows) (distinct-rows 0 (names_of r.names) r.places.items (row_names r.rows.items) fit.places fit.distinct));
+      row_names = (own.name, subst (λ ns. AllByRecursion IsName ns) (sym rows) (all-rows IsName 0 (names_of r.names) r.places.items (declared_row_names r.rows.items) fit.places fit.plain));
+      rows_differ = (subst (λ ns. AllByRecursion (λ n. bytes_eq objective n ≡ false) ns) (sym rows) own.apart, subst (λ ns. IsDistinct bytes_eq ns) (sym rows) (distinct-rows 0 (names_of r.names) r.places.items (declared_row_names r.rows.items) fit.places fit.distinct));
       column_names = subst (λ ns. AllByRecursion IsName ns) (sym names) columns.plain;
       columns_differ = subst (λ ns. IsDistinct bytes_eq ns) (sym names) columns.distinct;
       entries = entries-bounded (length (map shown_row r.rows.items)) c.done bounds (subst (λ n. AllByRecursion (λ k. AreEntries n k.entries) c.done) (sym (length-shown r.rows.items)) columns.entries);
     }
   where
-    objective-from : (o : Option _) → option_now o ≡ Some objective → IfSome o (λ x. IsObjective (names_of r.names) (row_names r.rows.items) x.now) → IsObjective (names_of r.names) (row_names r.rows.items) objective
+    objective-from : (o : Option _) → option_now o ≡ Some objective → IfSome o (λ x. IsObjective (names_of r.names) (declared_row_names r.rows.items) x.now) → IsObjective (names_of r.names) (declared_row_names r.rows.items) objective
     objective-from None e h = absurd cc
-    objective-from (Some x) e h = let same : x.now ≡ objective = cc in subst (λ n. IsObjective (names_of r.names) (row_names r.rows.items) n) same h
+    objective-from (Some x) e h = let same : x.now ≡ objective = cc in subst (λ n. IsObjective (names_of r.names) (declared_row_names r.rows.items) n) same h
 
 pub side-count : (p : ℕ) (v : ℤ) (new old : List Row) → map shown_row new ≡ with_side p v (map shown_row old) → length new ≡ length old
 side-count p v new old h = sym (length-shown new) ∙ ap length h ∙ length-side p v (map shown_row old) ∙ length-shown old

@@ -8,12 +8,12 @@ use Rattle.std.proofs.Math.Seq.{take-length}
 use denote.Ref.{Bor}
 use Rattle.program_rows.specs.Lines.{Header, LineFields}
 use Rattle.program_rows.specs.Sections.{Sections, with_line}
-use Rattle.program_rows.specs.Described.{first_free, column_names}
+use Rattle.program_rows.specs.Described.{first_free, columns_named}
 use Rattle.program_rows.specs.Faults.{place_of, header_fault, not_binary, is_binary}
 use Rattle.program_rows.specs.declared.fault.FaultKind.{FaultKind}
 use Rattle.program_rows.specs.declared.fault.FaultKind.TheVariants.{NotBinary}
 use Rattle.auction_terms.specs.Borrowed.{bytes_of}
-use Rattle.mps_reader.specs.inside.Rows.{option_now, row_names}
+use Rattle.mps_reader.specs.inside.Rows.{option_now, declared_row_names}
 use Rattle.mps_reader.specs.inside.Columns.{ColumnsFit}
 use Rattle.mps_reader.specs.inside.Fit.{ReadingFits}
 use Rattle.mps_reader.specs.inside.Sections.{word_of}
@@ -67,11 +67,11 @@ at-or-len before (s ∷ ss) (n ∷ ns) h =
     by true e more = rw e refl
     by false e more = rw e (ap (λ (k : ℕ). 1 + k) more)
 
-pub first-open : (before : Sections) (states : List ColumnState) → map state_values states ≡ map (told_values before.columns before.bounds) (column_names before.columns)
+pub first-open : (before : Sections) (states : List ColumnState) → map state_values states ≡ map (told_values before.columns before.bounds) (columns_named before.columns)
     → option_map NotBinary (position (λ s. not (is_binary_state s)) states) ≡ not_binary before
 first-open before states h =
-    let size : length states ≡ length (column_names before.columns) = sym (length-map states state_values) ∙ ap length h ∙ length-map (column_names before.columns) (told_values before.columns before.bounds) in
-    rw (at-or-len before states (column_names before.columns) h, size) refl
+    let size : length states ≡ length (columns_named before.columns) = sym (length-map states state_values) ∙ ap length h ∙ length-map (columns_named before.columns) (told_values before.columns before.bounds) in
+    rw (at-or-len before states (columns_named before.columns) h, size) refl
 
 -- ---- a section opens
 
@@ -82,7 +82,7 @@ header-tells before word more r s columns up is names none closed fit h = record
   section = sym is;
   lines = record {
     of_rows = h.lines.of_rows;
-    of_columns = closed (option_now r.rows.objective) (row_names r.rows.rows.items) before.columns before.bounds (subst (λ n. ColumnsFit n r.columns) (sym (length-names r.rows.rows.items)) fit.both.columns) h.lines.of_columns;
+    of_columns = closed (option_now r.rows.objective) (declared_row_names r.rows.rows.items) before.columns before.bounds (subst (λ n. ColumnsFit n r.columns) (sym (length-names r.rows.rows.items)) fit.both.columns) h.lines.of_columns;
     of_section = section-opens r.section s before.rows before.columns before.right_sides before.bounds r.rows r.columns columns up names none (fit.rows.stamps ∙ sym (length-bytes r.rows.names.keys)) h.lines.of_section;
   };
 }

@@ -12,13 +12,13 @@ use Rattle.program_rows.specs.declared.bounds.Bounds.TheVariants.{ZeroOrOne}
 use Rattle.program_rows.specs.Program.{TableColumn}
 use Rattle.program_rows.specs.Lines.{LineFields, field}
 use Rattle.program_rows.specs.Sections.{Sections}
-use Rattle.program_rows.specs.Described.{Entry, pairs, names, line_entries, each_once, is_marker, all_entries, column_lines, column_names, coefficient}
+use Rattle.program_rows.specs.Described.{Entry, pairs, names_both, line_entries, each_once, is_marker, all_entries, column_lines, columns_named, coefficient}
 use Rattle.program_rows.specs.Faults.{is_integer_open, stands_in_integers, is_split, marker_fault, column_fault, pairs_fault, earliest_fault, when}
 use Rattle.program_rows.specs.declared.fault.FaultKind.{FaultKind}
 use Rattle.program_rows.specs.declared.fault.FaultKind.TheVariants.{ColumnSplit}
 use Rattle.mps_reader.specs.inside.Columns.{ColumnsFit, entries_at, nearest_column}
-use Rattle.mps_reader.specs.inside.Rows.{names_of, option_now, row_names, StampsAre}
-use Rattle.mps_reader.specs.inside.Tracking.{worth, OpenTells, ColumnsTell, ColumnAdded, InColumns, AreStampsUpTo, told_column, told_values, state_values, is_current}
+use Rattle.mps_reader.specs.inside.Rows.{names_of, option_now, declared_row_names, StampsAre}
+use Rattle.mps_reader.specs.inside.Tracking.{number_at_place, OpenTells, ColumnsTell, ColumnAdded, InColumns, AreStampsUpTo, told_column, told_values, state_values, is_current}
 use Rattle.mps_reader.specs.declared.column_table.ColumnTable.{ColumnTable}
 use Rattle.mps_reader.specs.declared.open_column.OpenColumn.{OpenColumn}
 use Rattle.mps_reader.specs.declared.row_table.Rows.{Rows}
@@ -26,7 +26,7 @@ use Rattle.mps_reader.proofs.NameFacts.{same_name, own_name, or-false, any-last,
 use Rattle.mps_reader.proofs.PairSteps.{length-names}
 use Rattle.mps_reader.proofs.ColumnSteps.{current-is}
 
--- ---- names, each once
+-- ---- names_both, each once
 
 or-last : (a b : Bool) → (a || (b || false)) ≡ (b || a)
 or-last true true = refl
@@ -66,12 +66,12 @@ entries_at-same k f g (n ∷ rows) e = rw (e n) (by (int_eq (g n) (pos 0)) (entr
     by false more = ap (λ es. (k, g n) ∷ es) more
 
 no-entries-of : (name row : List ℕ) (f : LineFields) → bytes_eq name (field 0 f) ≡ false → (ps : List (List ℕ × List ℕ)) (es : List Entry)
-    → list_any (names name row) (map (λ p. record { column = field 0 f; row = p.0; number = p.1 }) ps ++ es) ≡ list_any (names name row) es
+    → list_any (names_both name row) (map (λ p. record { column = field 0 f; row = p.0; number = p.1 }) ps ++ es) ≡ list_any (names_both name row) es
 no-entries-of name row f h [] es = refl
 no-entries-of name row f h (p ∷ ps) es = rw h (no-entries-of name row f h ps es)
 
 -- a name that no line has has no entries
-pub unnamed : (name row : List ℕ) (ls : List LineFields) → list_any (λ other. bytes_eq name (field 0 other)) ls ≡ false → list_any (names name row) (flat_map line_entries ls) ≡ false
+pub unnamed : (name row : List ℕ) (ls : List LineFields) → list_any (λ other. bytes_eq name (field 0 other)) ls ≡ false → list_any (names_both name row) (flat_map line_entries ls) ≡ false
 unnamed name row [] h = refl
 unnamed name row (f ∷ ls) h =
     let parts = or-false (bytes_eq name (field 0 f)) (list_any (λ other. bytes_eq name (field 0 other)) ls) h in
@@ -133,11 +133,11 @@ told-by o rows ls name = record { name = name; bounds = ZeroOrOne; cost = coeffi
 
 pub marker-tells : (f : LineFields) (o : Option (List ℕ)) (rows : List (List ℕ)) (lines : List LineFields) (old new : ColumnTable) → is_marker f ≡ true → new.names ≡ old.names → new.states ≡ old.states → new.done ≡ old.done → is_some new.current ≡ false
     → new.current_column.cost ≡ pos 0 → new.is_begun ≡ bytes_eq (field 2 f) (codes "'INTORG'") → ColumnsTell o rows lines [] old → ColumnsTell o rows (f ∷ lines) [] new
-marker-tells f o rows lines old new m names states done none nothing begun h =
+marker-tells f o rows lines old new m names_both states done none nothing begun h =
     let same : column_lines (f ∷ lines) ≡ column_lines lines = rw m refl in
-    let values : map (told_values (f ∷ lines) []) (column_names lines) ≡ map (told_values lines []) (column_names lines) = values-same f lines (column_names lines) (λ n k. marker-stands f lines n m) in
+    let values : map (told_values (f ∷ lines) []) (columns_named lines) ≡ map (told_values lines []) (columns_named lines) = values-same f lines (columns_named lines) (λ n k. marker-stands f lines n m) in
     record {
-      names = ap names_of names ∙ h.names ∙ ap each_once (sym same);
+      names = ap names_of names_both ∙ h.names ∙ ap each_once (sym same);
       begun = begun ∙ rw m refl;
       states = ap (λ s. map state_values s.items) states ∙ h.states ∙ sym values ∙ ap (λ ls. map (told_values (f ∷ lines) []) (each_once ls)) (sym same);
       done = subst (λ ls. AllByRecursion (λ (k : TableColumn). k ≡ told-by o rows ls k.name) new.done) (sym same) (subst (λ ks. AllByRecursion (λ (k : TableColumn). k ≡ told-by o rows (column_lines lines) k.name) ks) (sym done) h.done);
@@ -154,17 +154,17 @@ marker-tells f o rows lines old new m names states done none nothing begun h =
 -- its column is the current one, and what the lines before say of it
 pub record IsReady (f : LineFields) (o : Option (List ℕ)) (rows : List (List ℕ)) (lines : List LineFields) (r : Rows) (c : ColumnTable) : Type 0 where
   pub tells : OpenTells o rows (coefficient (all_entries lines) (field 0 f)) c.current_column
-  pub stamps : StampsAre r.stamps.items (length (names_of c.names)) (names_of r.names) (λ row. list_any (names (field 0 f) row) (all_entries lines))
+  pub stamps : StampsAre r.stamps.items (length (names_of c.names)) (names_of r.names) (λ row. list_any (names_both (field 0 f) row) (all_entries lines))
   pub low : AreStampsUpTo (length (names_of c.names)) r
-  pub all : names_of c.names ≡ column_names (f ∷ lines)
+  pub all : names_of c.names ≡ columns_named (f ∷ lines)
   pub begun : c.is_begun ≡ is_integer_open lines
-  pub states : map state_values c.states.items ≡ map (told_values (f ∷ lines) []) (column_names (f ∷ lines))
+  pub states : map state_values c.states.items ≡ map (told_values (f ∷ lines) []) (columns_named (f ∷ lines))
   pub done : AllByRecursion (λ k. k ≡ told_column o rows lines k.name) c.done
 
-names-known : (f : LineFields) (lines : List LineFields) → is_marker f ≡ false → list_any (bytes_eq (field 0 f)) (column_names lines) ≡ true → column_names (f ∷ lines) ≡ column_names lines
+names-known : (f : LineFields) (lines : List LineFields) → is_marker f ≡ false → list_any (bytes_eq (field 0 f)) (columns_named lines) ≡ true → columns_named (f ∷ lines) ≡ columns_named lines
 names-known f lines m h = let known = sym (each-any (field 0 f) (column_lines lines)) ∙ h in rw (m, known) refl
 
-names-fresh : (f : LineFields) (lines : List LineFields) → is_marker f ≡ false → list_any (bytes_eq (field 0 f)) (column_names lines) ≡ false → column_names (f ∷ lines) ≡ column_names lines ++ field 0 f ∷ []
+names-fresh : (f : LineFields) (lines : List LineFields) → is_marker f ≡ false → list_any (bytes_eq (field 0 f)) (columns_named lines) ≡ false → columns_named (f ∷ lines) ≡ columns_named lines ++ field 0 f ∷ []
 names-fresh f lines m h = let known = sym (each-any (field 0 f) (column_lines lines)) ∙ h in rw (m, known) refl
 
 now-is : (o : Option (Bor (List ℕ))) (name : List ℕ) (P : List ℕ → Type 0) → option_now o ≡ Some name → IfSome o (λ n. P n.now) → P name
@@ -174,15 +174,15 @@ now-is (Some x) name P e h = let same : x.now ≡ name = cc in subst P same h
 pub ready-same : (f : LineFields) (o : Option (List ℕ)) (rows : List (List ℕ)) (lines : List LineFields) (r : Rows) (c : ColumnTable) → is_marker f ≡ false → option_now c.current ≡ Some (field 0 f) → ColumnsFit (length rows) c
     → ColumnsTell o rows lines [] c → InColumns lines [] [] r c → IsReady f o rows lines r c
 ready-same f o rows lines r c m current fit h at =
-    let own : list_any (bytes_eq (field 0 f)) (column_names lines) ≡ true = ap (list_any (bytes_eq (field 0 f))) (sym h.names ∙ fit.done ∙ ap (λ n. map (λ (k : TableColumn). k.name) c.done ++ option_to_list n) current) ∙ any-last (field 0 f) (map (λ (k : TableColumn). k.name) c.done) in
+    let own : list_any (bytes_eq (field 0 f)) (columns_named lines) ≡ true = ap (list_any (bytes_eq (field 0 f))) (sym h.names ∙ fit.done ∙ ap (λ n. map (λ (k : TableColumn). k.name) c.done ++ option_to_list n) current) ∙ any-last (field 0 f) (map (λ (k : TableColumn). k.name) c.done) in
     let same = names-known f lines m own in
     record {
       tells = now-is c.current (field 0 f) (λ n. OpenTells o rows (coefficient (all_entries lines) n) c.current_column) current h.opened;
-      stamps = now-is c.current (field 0 f) (λ n. StampsAre r.stamps.items (length (names_of c.names)) (names_of r.names) (λ row. list_any (names n row) (all_entries lines))) current at.stamps;
+      stamps = now-is c.current (field 0 f) (λ n. StampsAre r.stamps.items (length (names_of c.names)) (names_of r.names) (λ row. list_any (names_both n row) (all_entries lines))) current at.stamps;
       low = at.low;
       all = h.names ∙ sym same;
       begun = h.begun;
-      states = h.states ∙ sym (values-same f lines (column_names lines) (λ n k. nearest-stands f lines n m (sym at.current ∙ current))) ∙ ap (map (told_values (f ∷ lines) [])) (sym same);
+      states = h.states ∙ sym (values-same f lines (columns_named lines) (λ n k. nearest-stands f lines n m (sym at.current ∙ current))) ∙ ap (map (told_values (f ∷ lines) [])) (sym same);
       done = h.done;
     }
 
@@ -200,24 +200,24 @@ low-up [] a b le h = tt
 low-up (s ∷ stamps) a b le h = let under = h.0 in (omega arith, low-up stamps a b le h.1)
 
 pub ready-added : (f : LineFields) (o : Option (List ℕ)) (rows : List (List ℕ)) (lines : List LineFields) (r : Rows) (old c : ColumnTable) → is_marker f ≡ false → length r.stamps.items ≡ length (names_of r.names)
-    → names_of old.names ≡ column_names lines → AreStampsUpTo (length (names_of old.names)) r → ColumnAdded o rows lines (field 0 f) c → IsReady f o rows lines r c
+    → names_of old.names ≡ columns_named lines → AreStampsUpTo (length (names_of old.names)) r → ColumnAdded o rows lines (field 0 f) c → IsReady f o rows lines r c
 ready-added f o rows lines r old c m stamped names-old low h =
-    let count : length (names_of c.names) ≡ length (names_of old.names) + 1 = ap length h.all ∙ length-append (column_names lines) (field 0 f ∷ []) ∙ ap (λ (ns : List (List ℕ)). length ns + 1) (sym names-old) in
+    let count : length (names_of c.names) ≡ length (names_of old.names) + 1 = ap length h.all ∙ length-append (columns_named lines) (field 0 f ∷ []) ∙ ap (λ (ns : List (List ℕ)). length ns + 1) (sym names-old) in
     let unknown : list_any (λ other. bytes_eq (field 0 f) (field 0 other)) (column_lines lines) ≡ false = sym (each-any (field 0 f) (column_lines lines)) ∙ h.fresh in
     let fresh = names-fresh f lines m h.fresh in
     record {
       tells = record {
         cost = h.cost ∙ sym (unnamed-number (field 0 f) (unwrap_or o []) (column_lines lines) unknown);
-        entries = λ p n at. ap (worth p) h.entries ∙ sym (unnamed-number (field 0 f) n (column_lines lines) unknown);
+        entries = λ p n at. ap (number_at_place p) h.entries ∙ sym (unnamed-number (field 0 f) n (column_lines lines) unknown);
       };
-      stamps = subst (λ (k : ℕ). StampsAre r.stamps.items k (names_of r.names) (λ row. list_any (names (field 0 f) row) (all_entries lines))) (sym count)
-          (none-stamped r.stamps.items (names_of r.names) (length (names_of old.names)) (λ row. list_any (names (field 0 f) row) (all_entries lines)) stamped low (λ n. unnamed (field 0 f) n (column_lines lines) unknown));
+      stamps = subst (λ (k : ℕ). StampsAre r.stamps.items k (names_of r.names) (λ row. list_any (names_both (field 0 f) row) (all_entries lines))) (sym count)
+          (none-stamped r.stamps.items (names_of r.names) (length (names_of old.names)) (λ row. list_any (names_both (field 0 f) row) (all_entries lines)) stamped low (λ n. unnamed (field 0 f) n (column_lines lines) unknown));
       low = low-up r.stamps.items (length (names_of old.names)) (length (names_of c.names)) (omega arith) low;
       all = h.all ∙ sym fresh;
       begun = h.begun;
-      states = h.states ∙ ap (λ vs. vs ++ (is_integer_open lines, pos 0, None) ∷ []) (sym (values-same f lines (column_names lines) (λ n k. other-stands f lines n m (differs n (field 0 f) (column_names lines) k h.fresh))))
-          ∙ ap (λ b. map (told_values (f ∷ lines) []) (column_names lines) ++ (b, pos 0, None) ∷ []) (sym (own-integer (is_integer_open lines)) ∙ ap (λ b. b || false) (sym (own-stands f lines (field 0 f) m (own_name (field 0 f)))))
-          ∙ sym (map-append (told_values (f ∷ lines) []) (column_names lines) (field 0 f ∷ [])) ∙ ap (map (told_values (f ∷ lines) [])) (sym fresh);
+      states = h.states ∙ ap (λ vs. vs ++ (is_integer_open lines, pos 0, None) ∷ []) (sym (values-same f lines (columns_named lines) (λ n k. other-stands f lines n m (differs n (field 0 f) (columns_named lines) k h.fresh))))
+          ∙ ap (λ b. map (told_values (f ∷ lines) []) (columns_named lines) ++ (b, pos 0, None) ∷ []) (sym (own-integer (is_integer_open lines)) ∙ ap (λ b. b || false) (sym (own-stands f lines (field 0 f) m (own_name (field 0 f)))))
+          ∙ sym (map-append (told_values (f ∷ lines) []) (columns_named lines) (field 0 f ∷ [])) ∙ ap (map (told_values (f ∷ lines) [])) (sym fresh);
       done = h.done;
     }
   where
@@ -269,7 +269,7 @@ line-tells f o rows lines r c column m fit current h tells =
     none-some (Some x) e t = absurd cc
 
 pub line-stays : (f : LineFields) (lines : List LineFields) (r new : Rows) (c : ColumnTable) (column : OpenColumn) → is_marker f ≡ false → option_now c.current ≡ Some (field 0 f) → new.names ≡ r.names
-    → AreStampsUpTo (length (names_of c.names)) new → StampsAre new.stamps.items (length (names_of c.names)) (names_of r.names) (λ row. list_any (names (field 0 f) row) (line_entries f ++ all_entries lines))
+    → AreStampsUpTo (length (names_of c.names)) new → StampsAre new.stamps.items (length (names_of c.names)) (names_of r.names) (λ row. list_any (names_both (field 0 f) row) (line_entries f ++ all_entries lines))
     → InColumns (f ∷ lines) [] [] new (record c { current_column = column })
 line-stays f lines r new c column m current kept low stamps =
     let more : column_lines (f ∷ lines) ≡ f ∷ column_lines lines = rw m refl in
@@ -278,14 +278,14 @@ line-stays f lines r new c column m current kept low stamps =
       no_bounds = refl;
       low = low;
       current = current ∙ rw m refl;
-      stamps = by c.current current (subst (λ ls. StampsAre new.stamps.items (length (names_of c.names)) (names_of new.names) (λ row. list_any (names (field 0 f) row) (flat_map line_entries ls))) (sym more)
-          (subst (λ ns. StampsAre new.stamps.items (length (names_of c.names)) (names_of ns) (λ row. list_any (names (field 0 f) row) (line_entries f ++ all_entries lines))) (sym kept) stamps));
+      stamps = by c.current current (subst (λ ls. StampsAre new.stamps.items (length (names_of c.names)) (names_of new.names) (λ row. list_any (names_both (field 0 f) row) (flat_map line_entries ls))) (sym more)
+          (subst (λ ns. StampsAre new.stamps.items (length (names_of c.names)) (names_of ns) (λ row. list_any (names_both (field 0 f) row) (line_entries f ++ all_entries lines))) (sym kept) stamps));
     }
   where
-    by : (x : Option (Bor (List ℕ))) → option_now x ≡ Some (field 0 f) → StampsAre new.stamps.items (length (names_of c.names)) (names_of new.names) (λ row. list_any (names (field 0 f) row) (all_entries (f ∷ lines)))
-        → IfSome x (λ n. StampsAre new.stamps.items (length (names_of c.names)) (names_of new.names) (λ row. list_any (names n.now row) (all_entries (f ∷ lines))))
+    by : (x : Option (Bor (List ℕ))) → option_now x ≡ Some (field 0 f) → StampsAre new.stamps.items (length (names_of c.names)) (names_of new.names) (λ row. list_any (names_both (field 0 f) row) (all_entries (f ∷ lines)))
+        → IfSome x (λ n. StampsAre new.stamps.items (length (names_of c.names)) (names_of new.names) (λ row. list_any (names_both n.now row) (all_entries (f ∷ lines))))
     by None e t = absurd cc
-    by (Some x) e t = let same : x.now ≡ field 0 f = cc in subst (λ n. StampsAre new.stamps.items (length (names_of c.names)) (names_of new.names) (λ row. list_any (names n row) (all_entries (f ∷ lines)))) (sym same) t
+    by (Some x) e t = let same : x.now ≡ field 0 f = cc in subst (λ n. StampsAre new.stamps.items (length (names_of c.names)) (names_of new.names) (λ row. list_any (names_both n row) (all_entries (f ∷ lines)))) (sym same) t
 
 -- ---- faults
 
@@ -297,22 +297,22 @@ and-swap false false = refl
 
 split-lines : (lines : List LineFields) (c : Option (Bor (List ℕ))) (name : List ℕ) → option_now c ≡ nearest_column lines
     → (list_any (λ fields. bytes_eq name (field 0 fields)) (column_lines lines) && (is_marker (unwrap_or (slice_get lines 0) []) || not (bytes_eq name (field 0 (unwrap_or (slice_get lines 0) [])))))
-    ≡ (not (is_current c name) && list_any (bytes_eq name) (column_names lines))
+    ≡ (not (is_current c name) && list_any (bytes_eq name) (columns_named lines))
 split-lines [] c name e = sym (and-swap (not (is_current c name)) false)
 split-lines (g ∷ lines) c name e = ap (λ b. b && (is_marker g || not (bytes_eq name (field 0 g)))) (sym (each-any name (column_lines (g ∷ lines)))) ∙ by (is_marker g) refl c e
   where
     by : (b : Bool) → is_marker g ≡ b → (c : Option (Bor (List ℕ))) → option_now c ≡ (if is_marker g then None else Some (field 0 g))
-        → (list_any (bytes_eq name) (column_names (g ∷ lines)) && (is_marker g || not (bytes_eq name (field 0 g)))) ≡ (not (is_current c name) && list_any (bytes_eq name) (column_names (g ∷ lines)))
-    by true m None e = ap (λ b. list_any (bytes_eq name) (column_names (g ∷ lines)) && (b || not (bytes_eq name (field 0 g)))) m ∙ and-swap (list_any (bytes_eq name) (column_names (g ∷ lines))) true
+        → (list_any (bytes_eq name) (columns_named (g ∷ lines)) && (is_marker g || not (bytes_eq name (field 0 g)))) ≡ (not (is_current c name) && list_any (bytes_eq name) (columns_named (g ∷ lines)))
+    by true m None e = ap (λ b. list_any (bytes_eq name) (columns_named (g ∷ lines)) && (b || not (bytes_eq name (field 0 g)))) m ∙ and-swap (list_any (bytes_eq name) (columns_named (g ∷ lines))) true
     by true m (Some x) e = absurd (let none : Some x.now ≡ None = e ∙ rw m refl in cc)
     by false m None e = absurd (let some : None ≡ Some (field 0 g) = e ∙ rw m refl in cc)
     by false m (Some x) e =
         let some : Some x.now ≡ Some (field 0 g) = e ∙ rw m refl in
         let same : x.now ≡ field 0 g = cc in
-        ap (λ b. list_any (bytes_eq name) (column_names (g ∷ lines)) && (b || not (bytes_eq name (field 0 g)))) m ∙ and-swap (list_any (bytes_eq name) (column_names (g ∷ lines))) (not (bytes_eq name (field 0 g)))
-        ∙ ap (λ n. not (bytes_eq name n) && list_any (bytes_eq name) (column_names (g ∷ lines))) (sym same)
+        ap (λ b. list_any (bytes_eq name) (columns_named (g ∷ lines)) && (b || not (bytes_eq name (field 0 g)))) m ∙ and-swap (list_any (bytes_eq name) (columns_named (g ∷ lines))) (not (bytes_eq name (field 0 g)))
+        ∙ ap (λ n. not (bytes_eq name n) && list_any (bytes_eq name) (columns_named (g ∷ lines))) (sym same)
 
-pub split-is : (before : Sections) (c : ColumnTable) (name : List ℕ) → option_now c.current ≡ nearest_column before.columns → names_of c.names ≡ column_names before.columns
+pub split-is : (before : Sections) (c : ColumnTable) (name : List ℕ) → option_now c.current ≡ nearest_column before.columns → names_of c.names ≡ columns_named before.columns
     → is_split before.columns name ≡ (not (is_current c.current name) && list_any (bytes_eq name) (names_of c.names))
 split-is before c name current all = split-lines before.columns c.current name current ∙ ap (λ ns. not (is_current c.current name) && list_any (bytes_eq name) ns) (sym all)
 
@@ -323,8 +323,8 @@ marker-refused before f fault count m h = rw (count, m) (last-of (marker_fault b
     last-of None e = e
     last-of (Some k) e = e
 
-pub pairs-fault : (before : Sections) (f : LineFields) → ((length f == 3) || (length f == 5)) ≡ true → is_marker f ≡ false → is_split before.columns (field 0 f) ≡ false → column_fault before f ≡ pairs_fault before.rows (λ pair. None) (λ row. list_any (names (field 0 f) row) (all_entries before.columns)) (pairs (drop 1 f))
-pairs-fault before f count m split = rw (count, m, split) (twice (pairs_fault before.rows (λ pair. None) (λ row. list_any (names (field 0 f) row) (all_entries before.columns)) (pairs (drop 1 f))))
+pub pairs-fault : (before : Sections) (f : LineFields) → ((length f == 3) || (length f == 5)) ≡ true → is_marker f ≡ false → is_split before.columns (field 0 f) ≡ false → column_fault before f ≡ pairs_fault before.rows (λ pair. None) (λ row. list_any (names_both (field 0 f) row) (all_entries before.columns)) (pairs (drop 1 f))
+pairs-fault before f count m split = rw (count, m, split) (twice (pairs_fault before.rows (λ pair. None) (λ row. list_any (names_both (field 0 f) row) (all_entries before.columns)) (pairs (drop 1 f))))
   where
     twice : (o : Option FaultKind) → earliest_fault (earliest_fault (None ∷ o ∷ []) ∷ []) ≡ o
     twice None = refl
@@ -336,16 +336,16 @@ split-fault before f count m split = rw (count, m, split) refl
 -- ---- the column of a line
 
 pub ready-of : (f : LineFields) (o : Option (List ℕ)) (lines : List LineFields) (r : Rows) (old mid : ColumnTable) (name : List ℕ) → is_marker f ≡ false → field 0 f ≡ name → length r.stamps.items ≡ length (names_of r.names)
-    → (is_current old.current name ≡ true → mid ≡ old) → (is_current old.current name ≡ false → ColumnAdded o (row_names r.rows.items) lines name mid) → ColumnsFit (length r.rows.items) old
-    → ColumnsTell o (row_names r.rows.items) lines [] old → InColumns lines [] [] r old → IsReady f o (row_names r.rows.items) lines r mid
+    → (is_current old.current name ≡ true → mid ≡ old) → (is_current old.current name ≡ false → ColumnAdded o (declared_row_names r.rows.items) lines name mid) → ColumnsFit (length r.rows.items) old
+    → ColumnsTell o (declared_row_names r.rows.items) lines [] old → InColumns lines [] [] r old → IsReady f o (declared_row_names r.rows.items) lines r mid
 ready-of f o lines r old mid name m named stamped same added fit h at = by (is_current old.current name) refl
   where
-    by : (b : Bool) → is_current old.current name ≡ b → IsReady f o (row_names r.rows.items) lines r mid
-    by true e = subst (λ c. IsReady f o (row_names r.rows.items) lines r c) (sym (same e))
-        (ready-same f o (row_names r.rows.items) lines r old m (current-is old.current name e ∙ ap (λ n. Some n) (sym named)) (subst (λ n. ColumnsFit n old) (sym (length-names r.rows.items)) fit) h at)
-    by false e = ready-added f o (row_names r.rows.items) lines r old mid m stamped h.names at.low (subst (λ n. ColumnAdded o (row_names r.rows.items) lines n mid) (sym named) (added e))
+    by : (b : Bool) → is_current old.current name ≡ b → IsReady f o (declared_row_names r.rows.items) lines r mid
+    by true e = subst (λ c. IsReady f o (declared_row_names r.rows.items) lines r c) (sym (same e))
+        (ready-same f o (declared_row_names r.rows.items) lines r old m (current-is old.current name e ∙ ap (λ n. Some n) (sym named)) (subst (λ n. ColumnsFit n old) (sym (length-names r.rows.items)) fit) h at)
+    by false e = ready-added f o (declared_row_names r.rows.items) lines r old mid m stamped h.names at.low (subst (λ n. ColumnAdded o (declared_row_names r.rows.items) lines n mid) (sym named) (added e))
 
-pub split-refused : (before : Sections) (f : LineFields) (c : ColumnTable) (name : List ℕ) (kind : FaultKind) → ((length f == 3) || (length f == 5)) ≡ true → is_marker f ≡ false → field 0 f ≡ name → option_now c.current ≡ nearest_column before.columns → names_of c.names ≡ column_names before.columns
+pub split-refused : (before : Sections) (f : LineFields) (c : ColumnTable) (name : List ℕ) (kind : FaultKind) → ((length f == 3) || (length f == 5)) ≡ true → is_marker f ≡ false → field 0 f ≡ name → option_now c.current ≡ nearest_column before.columns → names_of c.names ≡ columns_named before.columns
     → when (not (is_current c.current name) && list_any (bytes_eq name) (names_of c.names)) ColumnSplit ≡ Some kind → column_fault before f ≡ Some kind
 split-refused before f c name kind count m named current all h = by (not (is_current c.current name) && list_any (bytes_eq name) (names_of c.names)) refl h
   where
@@ -353,7 +353,7 @@ split-refused before f c name kind count m named current all h = by (not (is_cur
     by true e k = split-fault before f count m (ap (is_split before.columns) named ∙ split-is before c name current all ∙ e) ∙ k
     by false e k = absurd cc
 
-pub not-split : (before : Sections) (f : LineFields) (c : ColumnTable) (name : List ℕ) → field 0 f ≡ name → option_now c.current ≡ nearest_column before.columns → names_of c.names ≡ column_names before.columns
+pub not-split : (before : Sections) (f : LineFields) (c : ColumnTable) (name : List ℕ) → field 0 f ≡ name → option_now c.current ≡ nearest_column before.columns → names_of c.names ≡ columns_named before.columns
     → when (not (is_current c.current name) && list_any (bytes_eq name) (names_of c.names)) ColumnSplit ≡ None → is_split before.columns (field 0 f) ≡ false
 not-split before f c name named current all h = ap (is_split before.columns) named ∙ split-is before c name current all ∙ by (not (is_current c.current name) && list_any (bytes_eq name) (names_of c.names)) h
   where

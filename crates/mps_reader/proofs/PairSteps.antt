@@ -7,7 +7,7 @@ use Rattle.std.proofs.lemmas.Bool.{eqb-false, both_ways, cases_eq, cases_order}
 use mathlib.Core.Logic.{◌⊎◌, inl, inr}
 use Rattle.std.proofs.lemmas.Bool.Decides.{Decides-int_eq}
 use Rattle.program_rows.specs.declared.row.Row.{Row}
-use Rattle.mps_reader.specs.inside.Rows.{AreAt, RowsFit, names_of, row_names}
+use Rattle.mps_reader.specs.inside.Rows.{AreAt, RowsFit, names_of, declared_row_names}
 use Rattle.mps_reader.specs.declared.row_table.Rows.{Rows}
 use Rattle.mps_reader.specs.declared.open_column.OpenColumn.{OpenColumn}
 use Rattle.mps_reader.specs.inside.Columns.{AreDistinctEntries, IsApart, PairsFit, put_entries}
@@ -78,7 +78,7 @@ get-some [] i h = absurd (omega arith)
 get-some (y ∷ xs) zero h = refl
 get-some (y ∷ xs) (suc i) h = get-some xs i (omega arith)
 
-pub length-names : (rs : List Row) → length (row_names rs) ≡ length rs
+pub length-names : (rs : List Row) → length (declared_row_names rs) ≡ length rs
 length-names [] = refl
 length-names (r ∷ rs) = ap suc (length-names rs)
 
@@ -99,10 +99,10 @@ pair-fits r new column after stamp i row cost place v fit at here fresh places r
     let stamped = get-some r.stamps.items i (omega (arith, fit.stamps)) in
     record {
       entries = subst (λ q. AreDistinctEntries (length q.items) after.entries.items) (sym rows) (subst (λ es. AreDistinctEntries (length r.rows.items) es) (sym entries) (entries-put (length r.rows.items) column.entries.items cost place v
-          (λ p e. let there = placed 0 (names_of r.names) r.places.items (row_names r.rows.items) i p fit.places (here ∙ ap (λ o. Some o) e) in
+          (λ p e. let there = placed 0 (names_of r.names) r.places.items (declared_row_names r.rows.items) i p fit.places (here ∙ ap (λ o. Some o) e) in
           (omega (arith, there.1, length-names r.rows.items), h.apart i p (get_or r.stamps.items i 0) (here ∙ ap (λ o. Some o) e) stamped (fresh (get_or r.stamps.items i 0) stamped))) h.entries));
       apart = subst (λ q. IsApart new.stamps.items q.items stamp after.entries.items) (sym places) (subst (λ s. IsApart s r.places.items stamp after.entries.items) (sym stamps) (subst (λ es. IsApart (slice_set r.stamps.items i stamp) r.places.items stamp es) (sym entries)
-          (apart-put (names_of r.names) r.places.items (row_names r.rows.items) r.stamps.items column.entries.items i stamp cost place v fit.places here h.apart)));
+          (apart-put (names_of r.names) r.places.items (declared_row_names r.rows.items) r.stamps.items column.entries.items i stamp cost place v fit.places here h.apart)));
     }
 
 pub length-stamped : (xs : List ℕ) (i v : ℕ) → length (slice_set xs i v) ≡ length xs

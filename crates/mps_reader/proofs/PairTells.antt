@@ -11,7 +11,7 @@ use denote.Ref.{Bor}
 use Rattle.program_rows.specs.Parts.{IsName}
 use Rattle.mps_reader.specs.inside.Rows.{AreAt, StampsAre, IsObjective, option_now}
 use Rattle.mps_reader.specs.inside.Columns.{put_entries}
-use Rattle.mps_reader.specs.inside.Tracking.{worth, OpenTells}
+use Rattle.mps_reader.specs.inside.Tracking.{number_at_place, OpenTells}
 use Rattle.mps_reader.specs.declared.open_column.OpenColumn.{OpenColumn}
 use Rattle.mps_reader.proofs.NameFacts.{same_name, own_name, all-rows, distinct-rows, placed}
 
@@ -92,19 +92,19 @@ row-at p (m ∷ ns) (Some q ∷ ps) (r ∷ rows) (suc i) (suc k) row h e f = row
 
 -- ---- the number at a place
 
-pub worth-none : (p : ℕ) (es : List (ℕ × ℤ)) → AllByRecursion (λ e. (e.0 == p) ≡ false) es → worth p es ≡ pos 0
+pub worth-none : (p : ℕ) (es : List (ℕ × ℤ)) → AllByRecursion (λ e. (e.0 == p) ≡ false) es → number_at_place p es ≡ pos 0
 worth-none p [] h = refl
 worth-none p (e ∷ es) h = rw (h.0) (worth-none p es h.1)
 
-pub worth-last : (p : ℕ) (v : ℤ) (es : List (ℕ × ℤ)) → AllByRecursion (λ e. (e.0 == p) ≡ false) es → worth p (es ++ (p, v) ∷ []) ≡ v
+pub worth-last : (p : ℕ) (v : ℤ) (es : List (ℕ × ℤ)) → AllByRecursion (λ e. (e.0 == p) ≡ false) es → number_at_place p (es ++ (p, v) ∷ []) ≡ v
 worth-last p v [] h = rw (self-eq p) refl
 worth-last p v (e ∷ es) h = rw (h.0) (worth-last p v es h.1)
 
-pub worth-other : (p q : ℕ) (v : ℤ) (es : List (ℕ × ℤ)) → q ≢ p → worth p (es ++ (q, v) ∷ []) ≡ worth p es
+pub worth-other : (p q : ℕ) (v : ℤ) (es : List (ℕ × ℤ)) → q ≢ p → number_at_place p (es ++ (q, v) ∷ []) ≡ number_at_place p es
 worth-other p q v [] ne = rw (ne_eqb q p ne) refl
 worth-other p q v (e ∷ es) ne = by (e.0 == p) (worth-other p q v es ne)
   where
-    by : (b : Bool) → worth p (es ++ (q, v) ∷ []) ≡ worth p es → (if b then e.1 else worth p (es ++ (q, v) ∷ [])) ≡ (if b then e.1 else worth p es)
+    by : (b : Bool) → number_at_place p (es ++ (q, v) ∷ []) ≡ number_at_place p es → (if b then e.1 else number_at_place p (es ++ (q, v) ∷ [])) ≡ (if b then e.1 else number_at_place p es)
     by true more = refl
     by false more = more
 
@@ -116,7 +116,7 @@ pub open-put : (objective : Option (Bor (List ℕ))) (ns : List (List ℕ)) (ps 
     → OpenTells (option_now objective) rows number column → OpenTells (option_now objective) rows (λ name. if bytes_eq name row then v else number name) after
 open-put objective ns ps rows number column after i row cost place v distinct named at apart here there fresh is_cost spent entries h = record {
   cost = spent ∙ cost-case objective apart is_cost h.cost;
-  entries = λ p n e. ap (worth p) entries ∙ at-place p n e cost place is_cost there fresh;
+  entries = λ p n e. ap (number_at_place p) entries ∙ at-place p n e cost place is_cost there fresh;
 }
   where
     filled : (x : List ℕ) → IsName x → bytes_eq [] x ≡ false
@@ -136,12 +136,12 @@ open-put objective ns ps rows number column after i row cost place v distinct na
     apart-cost None a e = absurd cc
     apart-cost (Some o) a e = subst (λ x. AllByRecursion (λ r. bytes_eq x r ≡ false) rows) (sym (same_name row o.now e)) a.apart
 
-    other : (p : ℕ) (n : List ℕ) → slice_get rows p ≡ Some n → bytes_eq row n ≡ false → worth p column.entries.items ≡ (if bytes_eq n row then v else number n)
+    other : (p : ℕ) (n : List ℕ) → slice_get rows p ≡ Some n → bytes_eq row n ≡ false → number_at_place p column.entries.items ≡ (if bytes_eq n row then v else number n)
     other p n e ne = rw (flip-name row n ne) (h.entries p n e)
 
     at-place : (p : ℕ) (n : List ℕ) → slice_get rows p ≡ Some n → (c : Bool) (pl : Option ℕ) → c ≡ option_map_or (λ name. bytes_eq row name.now) objective false → slice_get ps i ≡ Some pl
         → ((q : ℕ) → pl ≡ Some q → AllByRecursion (λ e. (e.0 == q) ≡ false) column.entries.items)
-        → worth p (put_entries c pl v column.entries.items) ≡ (if bytes_eq n row then v else number n)
+        → number_at_place p (put_entries c pl v column.entries.items) ≡ (if bytes_eq n row then v else number n)
     at-place p n e true pl is f a = other p n e (all-at (λ r. bytes_eq row r ≡ false) rows p n e (apart-cost objective apart (sym is)))
     at-place p n e false None is f a = other p n e (all-at (λ r. bytes_eq row r ≡ false) rows p n e (free-apart 0 ns ps rows i row at distinct here f))
     at-place p n e false (Some q) is f a = by (cases_eq q p)
@@ -149,16 +149,16 @@ open-put objective ns ps rows number column after i row cost place v distinct na
         stands : slice_get rows q ≡ Some row
         stands = row-at 0 ns ps rows i q row at here (f ∙ ap (λ k. Some (Some k)) (omega arith))
 
-        equal : (z : Bool) → int_eq v (pos 0) ≡ z → worth q (if z then column.entries.items else column.entries.items ++ (q, v) ∷ []) ≡ v
+        equal : (z : Bool) → int_eq v (pos 0) ≡ z → number_at_place q (if z then column.entries.items else column.entries.items ++ (q, v) ∷ []) ≡ v
         equal true e = worth-none q column.entries.items (a q refl) ∙ sym ((Decides-int_eq v (pos 0)).0 e)
         equal false e = worth-last q v column.entries.items (a q refl)
 
-        apart-place : (z : Bool) → q ≢ p → worth p (if z then column.entries.items else column.entries.items ++ (q, v) ∷ []) ≡ worth p column.entries.items
+        apart-place : (z : Bool) → q ≢ p → number_at_place p (if z then column.entries.items else column.entries.items ++ (q, v) ∷ []) ≡ number_at_place p column.entries.items
         apart-place true ne = refl
         apart-place false ne = worth-other p q v column.entries.items ne
 
-        by : (q ≡ p) ⊎ (q ≡ p → ⊥) → worth p (put_entries false (Some q) v column.entries.items) ≡ (if bytes_eq n row then v else number n)
+        by : (q ≡ p) ⊎ (q ≡ p → ⊥) → number_at_place p (put_entries false (Some q) v column.entries.items) ≡ (if bytes_eq n row then v else number n)
         by (inl same) =
             let name : n ≡ row = let at-p : slice_get rows p ≡ Some row = subst (λ k. slice_get rows k ≡ Some row) same stands in cc in
-            subst (λ k. worth k (put_entries false (Some q) v column.entries.items) ≡ (if bytes_eq n row then v else number n)) same (rw (name, own_name row) (equal (int_eq v (pos 0)) refl))
+            subst (λ k. number_at_place k (put_entries false (Some q) v column.entries.items) ≡ (if bytes_eq n row then v else number n)) same (rw (name, own_name row) (equal (int_eq v (pos 0)) refl))
         by (inr ne) = apart-place (int_eq v (pos 0)) ne ∙ other p n e (distinct-at rows q p row n (distinct-rows 0 ns ps rows at distinct) stands e ne)

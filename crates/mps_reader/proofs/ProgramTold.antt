@@ -4,14 +4,14 @@ use Rattle.std.specs.Prelude.{filter, not, is_some, unwrap_or, option_map, if◌
 use Rattle.std.specs.List.{AllByRecursion, enumerate_from}
 use Rattle.std.specs.Ordering.{int_eq}
 use Rattle.program_rows.specs.Sections.{Sections}
-use Rattle.program_rows.specs.Described.{program, all_entries, all_right_sides, table_rows, table_bounds, table_column, column_names, coefficient, first_free}
+use Rattle.program_rows.specs.Described.{program, all_entries, all_right_sides, table_rows, table_bounds, table_column, columns_named, coefficient, first_free}
 use Rattle.program_rows.specs.Bounded.{bounded}
 use Rattle.program_rows.specs.Program.{TableRow, TableColumn}
 use Rattle.program_rows.specs.Parts.{shown_row}
 use Rattle.program_rows.specs.declared.bounds.Bounds.{Bounds}
 use Rattle.program_rows.specs.declared.bounds.Bounds.TheVariants.{ZeroOrOne, Zero, One}
 use Rattle.mps_reader.specs.inside.Columns.{entries_at}
-use Rattle.mps_reader.specs.inside.Rows.{option_now, row_names}
+use Rattle.mps_reader.specs.inside.Rows.{option_now, declared_row_names}
 use Rattle.mps_reader.specs.inside.Fit.{ReadingFits}
 use Rattle.mps_reader.specs.inside.States.{state_bounds, upper_bounds}
 use Rattle.mps_reader.specs.inside.Tracking.{ReadingTells, state_values, told_values, told_column, bit}
@@ -74,10 +74,10 @@ pub program-told : (before : Sections) (r : Reading) (name : List ℕ) (made : L
 unfolding program
 program-told before r name made fit none named bounds-are h =
     let objective-is : option_now r.rows.objective ≡ first_free before.rows = h.lines.of_rows.objective in
-    let names-are : row_names r.rows.rows.items ≡ map (λ (q : TableRow). q.name) (table_rows before.rows (all_right_sides before.right_sides)) = names-shown r.rows.rows.items ∙ ap (map (λ (q : TableRow). q.name)) h.lines.of_rows.shown in
-    let all : map (λ (k : TableColumn). k.name) r.columns.done ≡ column_names before.columns = sym (done-names (length r.rows.rows.items) r.columns fit.both.columns none) ∙ h.lines.of_columns.names in
-    let columns-are = columns-told before (option_now r.rows.objective) (row_names r.rows.rows.items) r.columns.done r.columns.states.items (column_names before.columns) objective-is names-are h.lines.of_columns.done all h.lines.of_columns.states in
+    let names-are : declared_row_names r.rows.rows.items ≡ map (λ (q : TableRow). q.name) (table_rows before.rows (all_right_sides before.right_sides)) = names-shown r.rows.rows.items ∙ ap (map (λ (q : TableRow). q.name)) h.lines.of_rows.shown in
+    let all : map (λ (k : TableColumn). k.name) r.columns.done ≡ columns_named before.columns = sym (done-names (length r.rows.rows.items) r.columns fit.both.columns none) ∙ h.lines.of_columns.names in
+    let columns-are = columns-told before (option_now r.rows.objective) (declared_row_names r.rows.rows.items) r.columns.done r.columns.states.items (columns_named before.columns) objective-is names-are h.lines.of_columns.done all h.lines.of_columns.states in
     let name-is : unwrap_or (first_free before.rows) [] ≡ name = ap (λ o. unwrap_or o []) (sym objective-is ∙ named) in
-    ap (λ n. record { objective = n; rows = table_rows before.rows (all_right_sides before.right_sides); columns = map (table_column before) (column_names before.columns) }) name-is
-    ∙ ap (λ rs. record { objective = name; rows = rs; columns = map (table_column before) (column_names before.columns) }) (sym h.lines.of_rows.shown)
+    ap (λ n. record { objective = n; rows = table_rows before.rows (all_right_sides before.right_sides); columns = map (table_column before) (columns_named before.columns) }) name-is
+    ∙ ap (λ rs. record { objective = name; rows = rs; columns = map (table_column before) (columns_named before.columns) }) (sym h.lines.of_rows.shown)
     ∙ ap (λ cs. record { objective = name; rows = map shown_row r.rows.rows.items; columns = cs }) (sym columns-are ∙ ap (bounded r.columns.done) (sym bounds-are))

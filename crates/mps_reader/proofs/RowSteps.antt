@@ -9,7 +9,7 @@ use Rattle.program_rows.specs.Program.{TableRow}
 use Rattle.program_rows.specs.Parts.{IsName, shown_row}
 use Rattle.program_rows.specs.Lines.{field}
 use Rattle.auction_terms.specs.Borrowed.{bytes_of}
-use Rattle.mps_reader.specs.inside.Rows.{names_of, option_now, row_names, IsObjective, RowsFit, AddsFree, AddsBound}
+use Rattle.mps_reader.specs.inside.Rows.{names_of, option_now, declared_row_names, IsObjective, RowsFit, AddsFree, AddsBound}
 use Rattle.mps_reader.specs.declared.row_table.Rows.{Rows}
 use Rattle.mps_reader.proofs.NameFacts.{length-bytes, others, all-push, differs, any-push, any-last, at-free, at-bound, all-rows}
 
@@ -44,23 +44,23 @@ pub added-free : (old mid new : Rows) (name : List ℕ) → RowsFit old → name
 added-free old mid new name fit names fresh distinct plain places stamps rows objective adds =
     let all : names_of new.names ≡ names_of old.names ++ name ∷ [] = ap names_of adds.names ∙ names in
     let there : new.places.items ≡ old.places.items ++ None ∷ [] = adds.places ∙ ap (λ p. p.items ++ None ∷ []) places in
-    let same-rows : row_names new.rows.items ≡ row_names old.rows.items = ap (λ r. row_names r.items) (adds.rows ∙ rows) in
-    let known : IfSome old.objective (λ o. IsObjective (names_of new.names) (row_names new.rows.items) o.now) =
-    if-weaker (λ n. IsObjective (names_of old.names) (row_names old.rows.items) n) (λ n. IsObjective (names_of new.names) (row_names new.rows.items) n) old.objective
+    let same-rows : declared_row_names new.rows.items ≡ declared_row_names old.rows.items = ap (λ r. declared_row_names r.items) (adds.rows ∙ rows) in
+    let known : IfSome old.objective (λ o. IsObjective (names_of new.names) (declared_row_names new.rows.items) o.now) =
+    if-weaker (λ n. IsObjective (names_of old.names) (declared_row_names old.rows.items) n) (λ n. IsObjective (names_of new.names) (declared_row_names new.rows.items) n) old.objective
     (λ n h. record { known = rw all (any-push n (names_of old.names) name h.known); name = h.name; apart = rw same-rows h.apart }) fit.objective in
-    let own : IsObjective (names_of new.names) (row_names new.rows.items) name =
-    record { known = rw all (any-last name (names_of old.names)); name = plain; apart = rw same-rows (all-rows (λ r. bytes_eq name r ≡ false) 0 (names_of old.names) old.places.items (row_names old.rows.items) fit.places (others name (names_of old.names) fresh)) } in
+    let own : IsObjective (names_of new.names) (declared_row_names new.rows.items) name =
+    record { known = rw all (any-last name (names_of old.names)); name = plain; apart = rw same-rows (all-rows (λ r. bytes_eq name r ≡ false) 0 (names_of old.names) old.places.items (declared_row_names old.rows.items) fit.places (others name (names_of old.names) fresh)) } in
     record {
       distinct = rw (ap names_of adds.names) distinct;
       plain = rw all (all-push IsName (names_of old.names) name fit.plain plain);
       stamps = ap length (adds.stamps ∙ ap (λ s. s.items ++ 0 ∷ []) stamps) ∙ length-append old.stamps.items (0 ∷ []) ∙ ap (λ (n : ℕ). n + 1) (fit.stamps ∙ sym (length-bytes old.names.keys)) ∙ sym (length-append (names_of old.names) (name ∷ [])) ∙ sym (ap length all) ∙ length-bytes new.names.keys;
-      places = rw (all, there, same-rows) (at-free 0 (names_of old.names) old.places.items (row_names old.rows.items) name fit.places);
-      objective = now-from (λ n. IsObjective (names_of new.names) (row_names new.rows.items) n) new.objective (if is_none old.objective then Some name else option_now old.objective)
+      places = rw (all, there, same-rows) (at-free 0 (names_of old.names) old.places.items (declared_row_names old.rows.items) name fit.places);
+      objective = now-from (λ n. IsObjective (names_of new.names) (declared_row_names new.rows.items) n) new.objective (if is_none old.objective then Some name else option_now old.objective)
           (adds.objective ∙ ap (λ o. if is_none o then Some name else option_now o) objective)
-          (now-if (λ n. IsObjective (names_of new.names) (row_names new.rows.items) n) old.objective name known own);
+          (now-if (λ n. IsObjective (names_of new.names) (declared_row_names new.rows.items) n) old.objective name known own);
     }
 
-pub names-shown : (rows : List Row) → row_names rows ≡ map (λ (r : TableRow). r.name) (map shown_row rows)
+pub names-shown : (rows : List Row) → declared_row_names rows ≡ map (λ (r : TableRow). r.name) (map shown_row rows)
 names-shown [] = refl
 names-shown (r ∷ rows) = ap (λ ns. r.name.items ∷ ns) (names-shown rows)
 
@@ -69,20 +69,20 @@ pub added-bound : (old mid new : Rows) (letter name : List ℕ) → RowsFit old 
 added-bound old mid new letter name fit names fresh distinct plain places stamps rows objective adds =
     let all : names_of new.names ≡ names_of old.names ++ name ∷ [] = ap names_of adds.names ∙ names in
     let there : new.places.items ≡ old.places.items ++ Some (length old.rows.items) ∷ [] = adds.places ∙ ap (λ p. p.items ++ Some (length mid.rows.items) ∷ []) places ∙ ap (λ r. old.places.items ++ Some (length r.items) ∷ []) rows in
-    let more-rows : row_names new.rows.items ≡ row_names old.rows.items ++ name ∷ [] =
-    names-shown new.rows.items ∙ ap (map (λ (r : TableRow). r.name)) adds.rows ∙ map_push (λ (r : TableRow). r.name) (map shown_row mid.rows.items) _ ∙ ap (λ ns. ns ++ name ∷ []) (sym (names-shown mid.rows.items)) ∙ ap (λ r. row_names r.items ++ name ∷ []) rows in
-    let count : length old.rows.items ≡ 0 + length (row_names old.rows.items) = sym (omega (arith, length-names old.rows.items)) in
+    let more-rows : declared_row_names new.rows.items ≡ declared_row_names old.rows.items ++ name ∷ [] =
+    names-shown new.rows.items ∙ ap (map (λ (r : TableRow). r.name)) adds.rows ∙ map_push (λ (r : TableRow). r.name) (map shown_row mid.rows.items) _ ∙ ap (λ ns. ns ++ name ∷ []) (sym (names-shown mid.rows.items)) ∙ ap (λ r. declared_row_names r.items ++ name ∷ []) rows in
+    let count : length old.rows.items ≡ 0 + length (declared_row_names old.rows.items) = sym (omega (arith, length-names old.rows.items)) in
     record {
       distinct = rw (ap names_of adds.names) distinct;
       plain = rw all (all-push IsName (names_of old.names) name fit.plain plain);
       stamps = ap length (adds.stamps ∙ ap (λ s. s.items ++ 0 ∷ []) stamps) ∙ length-append old.stamps.items (0 ∷ []) ∙ ap (λ (n : ℕ). n + 1) (fit.stamps ∙ sym (length-bytes old.names.keys)) ∙ sym (length-append (names_of old.names) (name ∷ [])) ∙ sym (ap length all) ∙ length-bytes new.names.keys;
-      places = rw (all, there, more-rows) (at-bound 0 (length old.rows.items) (names_of old.names) old.places.items (row_names old.rows.items) name count fit.places);
-      objective = subst (λ o. IfSome o (λ x. IsObjective (names_of new.names) (row_names new.rows.items) x.now)) (sym (adds.objective ∙ objective))
-          (if-weaker (λ n. IsObjective (names_of old.names) (row_names old.rows.items) n) (λ n. IsObjective (names_of new.names) (row_names new.rows.items) n) old.objective
-          (λ n h. record { known = rw all (any-push n (names_of old.names) name h.known); name = h.name; apart = rw more-rows (all-push (λ r. bytes_eq n r ≡ false) (row_names old.rows.items) name h.apart (differs n name (names_of old.names) h.known fresh)) }) fit.objective);
+      places = rw (all, there, more-rows) (at-bound 0 (length old.rows.items) (names_of old.names) old.places.items (declared_row_names old.rows.items) name count fit.places);
+      objective = subst (λ o. IfSome o (λ x. IsObjective (names_of new.names) (declared_row_names new.rows.items) x.now)) (sym (adds.objective ∙ objective))
+          (if-weaker (λ n. IsObjective (names_of old.names) (declared_row_names old.rows.items) n) (λ n. IsObjective (names_of new.names) (declared_row_names new.rows.items) n) old.objective
+          (λ n h. record { known = rw all (any-push n (names_of old.names) name h.known); name = h.name; apart = rw more-rows (all-push (λ r. bytes_eq n r ≡ false) (declared_row_names old.rows.items) name h.apart (differs n name (names_of old.names) h.known fresh)) }) fit.objective);
     }
   where
-    length-names : (rs : List Row) → length (row_names rs) ≡ length rs
+    length-names : (rs : List Row) → length (declared_row_names rs) ≡ length rs
     length-names [] = refl
     length-names (r ∷ rs) = ap suc (length-names rs)
 

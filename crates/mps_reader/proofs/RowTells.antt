@@ -9,7 +9,7 @@ use Rattle.std.proofs.lemmas.List.Folds.{find-append, list_any-append}
 use Rattle.program_rows.specs.Program.{TableRow}
 use Rattle.program_rows.specs.Parts.{shown_row}
 use Rattle.program_rows.specs.Lines.{LineFields, field}
-use Rattle.program_rows.specs.Described.{is_free, kind_of, first_free, all_right_sides, right_side, table_rows}
+use Rattle.program_rows.specs.Described.{is_free, row_kind_of, first_free, all_right_sides, right_side, table_rows}
 use Rattle.mps_reader.specs.inside.Rows.{names_of, option_now, AddsFree, AddsBound, declared_names}
 use Rattle.mps_reader.specs.inside.Tracking.{RowsTell, AreStampsUpTo}
 use Rattle.mps_reader.specs.declared.row_table.Rows.{Rows}
@@ -25,7 +25,7 @@ bound-more : (f : LineFields) (rows : List LineFields) → filter (λ r. not (is
 bound-more f rows = ap (filter (λ r. not (is_free r))) (reverse-more f rows) ∙ filter-append (λ r. not (is_free r)) (reverse rows) (f ∷ [])
 
 abbrev row_of : List LineFields → LineFields → TableRow
-row_of rights fields = record { name = field 1 fields; kind = kind_of (field 0 fields); right_side = right_side (all_right_sides rights) (field 1 fields) }
+row_of rights fields = record { name = field 1 fields; kind = row_kind_of (field 0 fields); right_side = right_side (all_right_sides rights) (field 1 fields) }
 
 rows-more : (f : LineFields) (rows : List LineFields) → table_rows (f ∷ rows) [] ≡ table_rows rows [] ++ map (row_of []) (filter (λ r. not (is_free r)) (f ∷ []))
 rows-more f rows = ap (map (row_of [])) (bound-more f rows) ∙ map-append (row_of []) (filter (λ r. not (is_free r)) (reverse rows)) (filter (λ r. not (is_free r)) (f ∷ []))
@@ -51,7 +51,7 @@ pub tells-bound : (f : LineFields) (rows : List LineFields) (old mid new : Rows)
     → AddsBound letter name mid new → RowsTell rows [] old → RowsTell (f ∷ rows) [] new
 tells-bound f rows old mid new letter name bound first same names kept objective adds h = record {
   names = ap names_of adds.names ∙ names ∙ ap (λ ns. ns ++ name ∷ []) h.names ∙ ap (λ n. declared_names rows ++ n ∷ []) (sym same) ∙ sym (names-more f rows);
-  shown = adds.rows ∙ ap (λ rs. rs ++ record { name = name; kind = kind_of letter; right_side = pos 0 } ∷ []) (ap (λ r. map shown_row r.items) kept ∙ h.shown) ∙ sym (rows-more f rows ∙ rw (bound, first, same) refl);
+  shown = adds.rows ∙ ap (λ rs. rs ++ record { name = name; kind = row_kind_of letter; right_side = pos 0 } ∷ []) (ap (λ r. map shown_row r.items) kept ∙ h.shown) ∙ sym (rows-more f rows ∙ rw (bound, first, same) refl);
   objective = ap option_now (adds.objective ∙ objective) ∙ h.objective ∙ sym (objective-more f rows ∙ rw bound (by (find is_free (reverse rows))));
 }
   where

@@ -9,7 +9,7 @@ use Rattle.std.proofs.Math.Seq.{take-length}
 use denote.Ref.{Bor}
 use Rattle.program_rows.specs.Lines.{LineFields, field}
 use Rattle.program_rows.specs.Sections.{Sections}
-use Rattle.program_rows.specs.Described.{pairs, kind_of, value, all_right_sides, line_right_sides, right_side}
+use Rattle.program_rows.specs.Described.{pairs, row_kind_of, value, all_right_sides, line_right_sides, right_side}
 use Rattle.program_rows.specs.Faults.{earliest_fault, when, is_declared, is_objective, constant_fault, pairs_fault, right_side_fault}
 use Rattle.program_rows.specs.declared.fault.FaultKind.{FaultKind}
 use Rattle.program_rows.specs.declared.fault.FaultKind.TheVariants.{UnknownRow, EntryRepeated}
@@ -17,7 +17,7 @@ use Rattle.program_rows.specs.declared.row.Row.{Row}
 use Rattle.program_rows.specs.Program.{TableRow}
 use Rattle.program_rows.specs.Parts.{shown_row}
 use Rattle.auction_terms.specs.Borrowed.{bytes_of}
-use Rattle.mps_reader.specs.inside.Rows.{StampsAre, row_names, with_side, rows_by, side_fault}
+use Rattle.mps_reader.specs.inside.Rows.{StampsAre, declared_row_names, with_side, rows_by, side_fault}
 use Rattle.mps_reader.proofs.PairFaults.{pair_checks, begins, second}
 use Rattle.mps_reader.proofs.NameFacts.{own_name, same_name, length-bytes}
 use Rattle.mps_reader.proofs.RowSteps.{names-shown}
@@ -30,26 +30,26 @@ pub names-by : (side : List ℕ → ℤ) (lines : List LineFields) → map (λ (
 names-by side [] = refl
 names-by side (f ∷ lines) = ap (λ ns. field 1 f ∷ ns) (names-by side lines)
 
-pub row-names-by : (rows : List Row) (side : List ℕ → ℤ) (lines : List LineFields) → map shown_row rows ≡ rows_by side lines → row_names rows ≡ map (field 1) lines
+pub row-names-by : (rows : List Row) (side : List ℕ → ℤ) (lines : List LineFields) → map shown_row rows ≡ rows_by side lines → declared_row_names rows ≡ map (field 1) lines
 row-names-by rows side lines h = names-shown rows ∙ ap (map (λ (r : TableRow). r.name)) h ∙ names-by side lines
 
 pub rows-same : (side other : List ℕ → ℤ) (lines : List LineFields) → ((n : List ℕ) → side n ≡ other n) → rows_by side lines ≡ rows_by other lines
 rows-same side other [] e = refl
-rows-same side other (f ∷ lines) e = rw (e (field 1 f)) (ap (λ rs. record { name = field 1 f; kind = kind_of (field 0 f); right_side = other (field 1 f) } ∷ rs) (rows-same side other lines e))
+rows-same side other (f ∷ lines) e = rw (e (field 1 f)) (ap (λ rs. record { name = field 1 f; kind = row_kind_of (field 0 f); right_side = other (field 1 f) } ∷ rs) (rows-same side other lines e))
 
 -- a row that is none of these changes nothing
 pub none-by : (side : List ℕ → ℤ) (row : List ℕ) (v : ℤ) (lines : List LineFields) → AllByRecursion (λ n. bytes_eq row n ≡ false) (map (field 1) lines) → rows_by side lines ≡ rows_by (λ n. if bytes_eq n row then v else side n) lines
 none-by side row v [] h = refl
-none-by side row v (f ∷ lines) h = rw (flip-name row (field 1 f) h.0) (ap (λ rs. record { name = field 1 f; kind = kind_of (field 0 f); right_side = side (field 1 f) } ∷ rs) (none-by side row v lines h.1))
+none-by side row v (f ∷ lines) h = rw (flip-name row (field 1 f) h.0) (ap (λ rs. record { name = field 1 f; kind = row_kind_of (field 0 f); right_side = side (field 1 f) } ∷ rs) (none-by side row v lines h.1))
 
 pub side-by : (side : List ℕ → ℤ) (row : List ℕ) (v : ℤ) (place : ℕ) (lines : List LineFields) → IsDistinct bytes_eq (map (field 1) lines) → slice_get (map (field 1) lines) place ≡ Some row → with_side place v (rows_by side lines) ≡ rows_by (λ n. if bytes_eq n row then v else side n) lines
 unfolding IsDistinct
 side-by side row v place [] d e = absurd cc
 side-by side row v zero (f ∷ lines) d e =
     let same : field 1 f ≡ row = cc in
-    rw (same, own_name row) (ap (λ rs. record { name = row; kind = kind_of (field 0 f); right_side = v } ∷ rs) (none-by side row v lines (subst (λ n. AllByRecursion (λ y. bytes_eq n y ≡ false) (map (field 1) lines)) same d.0)))
+    rw (same, own_name row) (ap (λ rs. record { name = row; kind = row_kind_of (field 0 f); right_side = v } ∷ rs) (none-by side row v lines (subst (λ n. AllByRecursion (λ y. bytes_eq n y ≡ false) (map (field 1) lines)) same d.0)))
 side-by side row v (suc place) (f ∷ lines) d e =
-    rw (all-at (λ y. bytes_eq (field 1 f) y ≡ false) (map (field 1) lines) place row e d.0) (ap (λ rs. record { name = field 1 f; kind = kind_of (field 0 f); right_side = side (field 1 f) } ∷ rs) (side-by side row v place lines d.1 e))
+    rw (all-at (λ y. bytes_eq (field 1 f) y ≡ false) (map (field 1) lines) place row e d.0) (ap (λ rs. record { name = field 1 f; kind = row_kind_of (field 0 f); right_side = side (field 1 f) } ∷ rs) (side-by side row v place lines d.1 e))
 
 -- ---- the pairs of a line
 

@@ -11,7 +11,7 @@ pub record IsPassed (line : List ℕ) : Type 0 where
   pub is_text : line_of line ≢ Unprintable
 
 -- a line of the text is the end, and each before it is passed
-pub record Ends (text : List ℕ) : Type 0 where
+pub record HasEnd (text : List ℕ) : Type 0 where
   pub before : List (List ℕ)
   pub line : List ℕ
   pub after : List (List ℕ)

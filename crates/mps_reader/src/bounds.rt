@@ -4,10 +4,10 @@ ghost use Rattle.std.specs.Prelude.{◌≡◌, ◌≤◌, ◌<◌, ◌+◌, ◌�
 ghost use Rattle.program_rows.specs.declared.fault.FaultKind.TheVariants.{BoundType, Fields};
 ghost use Rattle.std.specs.List.{IsDistinct};
 ghost use Rattle.program_rows.specs.Lines.{LineFields, field};
-ghost use Rattle.program_rows.specs.Described.{is_one_of, is_binary_bound, value, column_names};
+ghost use Rattle.program_rows.specs.Described.{is_one_of, is_binary_bound, value, columns_named};
 ghost use Rattle.program_rows.specs.Faults.{earliest_fault, when, bit_fault, bound_fault};
 ghost use Rattle.auction_terms.specs.Borrowed.{bytes_of};
-ghost use Rattle.mps_reader.specs.inside.Reading.{Answers};
+ghost use Rattle.mps_reader.specs.inside.Reading.{AnswersFault};
 ghost use Rattle.mps_reader.specs.inside.Columns.{BothFit};
 ghost use Rattle.mps_reader.specs.inside.Rows.{names_of};
 ghost use Rattle.mps_reader.specs.inside.Tracking.{ColumnsTell, bit, state_values, bounded_values};
@@ -47,7 +47,7 @@ fn is_count(is_binary: bool, count: usize) -> bool
 fn take_bound_type(fields: &[&[u8]]) -> Result<bool, Refusal>
     requires some { 1 ≤ length fields.now }
     ensures number { IfOk result (λ is_binary. is_binary ≡ false → is_one_of (field 0 (bytes_of fields.now)) (codes "UP" ∷ codes "LO" ∷ codes "FX" ∷ []) ≡ true) }
-    ensures fault { Answers result (earliest_fault (when (not (is_one_of (field 0 (bytes_of fields.now)) (codes "UP" ∷ codes "LO" ∷ codes "FX" ∷ codes "BV" ∷ []))) BoundType
+    ensures fault { AnswersFault result (earliest_fault (when (not (is_one_of (field 0 (bytes_of fields.now)) (codes "UP" ∷ codes "LO" ∷ codes "FX" ∷ codes "BV" ∷ []))) BoundType
         ∷ when (not (if is_binary_bound (bytes_of fields.now) then nat_le 2 (length (bytes_of fields.now)) && nat_le (length (bytes_of fields.now)) 4 else nat_le 3 (length (bytes_of fields.now)) && nat_le (length (bytes_of fields.now)) 4)) Fields ∷ [])) }
     ensures binary { IfOk result (λ is_binary. is_binary ≡ is_binary_bound (bytes_of fields.now)) }
     ensures range { IfOk result (λ is_binary. ((if is_binary then 2 else 3) ≤ length fields.now) × (length fields.now ≤ 4)) }
@@ -75,7 +75,7 @@ fn place_of_column(is_binary: bool, count: usize) -> usize
 /// What a bound says of its column.
 fn bounded(word: &[u8], state: ColumnState, token: &[u8]) -> Result<ColumnState, Refusal>
     requires { is_one_of word.now (codes "UP" ∷ codes "LO" ∷ codes "FX" ∷ []) ≡ true }
-    ensures fault { Answers result (bit_fault token.now) }
+    ensures fault { AnswersFault result (bit_fault token.now) }
     ensures values { IfOk result (λ new. state_values new ≡ bounded_values word.now (value token.now) (state_values state)) }
 {
     let value = take_bit(token)?;
@@ -104,7 +104,7 @@ pub fn take_bound<'t>(columns: &mut ColumnTable<'t>, fields: &[&[u8]]) -> Result
     requires states { length columns.old.states.items ≡ length columns.old.names.keys }
     ensures fit { OnOk result ((r : row_table.Rows) → BothFit r columns.old → BothFit r columns.new) }
     ensures current { columns.new.current ≡ columns.old.current }
-    ensures fault { (lines : List LineFields) → names_of columns.old.names ≡ column_names lines → Answers result (bound_fault lines (bytes_of fields.now)) }
+    ensures fault { (lines : List LineFields) → names_of columns.old.names ≡ columns_named lines → AnswersFault result (bound_fault lines (bytes_of fields.now)) }
     ensures tells { OnOk result ((objective : Option (List ℕ)) (rows : List (List ℕ)) (lines bounds : List LineFields) → IsDistinct bytes_eq (names_of columns.old.names)
         → ColumnsTell objective rows lines bounds columns.old → ColumnsTell objective rows lines (bytes_of fields.now ∷ bounds) columns.new) }
 {

@@ -7,7 +7,7 @@ ghost use Rattle.program_rows.specs.declared.fault.FaultKind.TheVariants.{Column
 ghost use Rattle.program_rows.specs.Lines.{LineFields};
 ghost use Rattle.program_rows.specs.Faults.{when};
 ghost use Rattle.program_rows.specs.Parts.{IsName};
-ghost use Rattle.mps_reader.specs.inside.Reading.{Answers};
+ghost use Rattle.mps_reader.specs.inside.Reading.{AnswersFault};
 ghost use Rattle.mps_reader.specs.inside.Rows.{names_of, option_now};
 ghost use Rattle.mps_reader.specs.inside.Columns.{ColumnsFit, AddsColumn, IsApart};
 ghost use Rattle.mps_reader.specs.inside.Tracking.{ColumnsTell, ColumnAdded, is_current};
@@ -62,7 +62,7 @@ fn is_current(current: Option<&[u8]>, name: &[u8]) -> bool
 }
 
 fn add_column<'t>(columns: &mut ColumnTable<'t>, name: &'t [u8]) -> Result<(), Refusal>
-    ensures fault { Answers result (when (list_any (bytes_eq name.now) (names_of columns.old.names)) ColumnSplit) }
+    ensures fault { AnswersFault result (when (list_any (bytes_eq name.now) (names_of columns.old.names)) ColumnSplit) }
     ensures added { OnOk result (AddsColumn name.now columns.old columns.new) }
 {
     let is_new = insert_name(&mut columns.names, name)?;
@@ -81,7 +81,7 @@ pub fn open_column<'t>(columns: &mut ColumnTable<'t>, name: &'t [u8]) -> Result<
     requires { IsName name.now }
     ensures current { OnOk result (option_now columns.new.current ≡ Some name.now) }
     ensures fit { OnOk result ((count : ℕ) → ColumnsFit count columns.old → ColumnsFit count columns.new) }
-    ensures fault { Answers result (when (not (is_current columns.old.current name.now) && list_any (bytes_eq name.now) (names_of columns.old.names)) ColumnSplit) }
+    ensures fault { AnswersFault result (when (not (is_current columns.old.current name.now) && list_any (bytes_eq name.now) (names_of columns.old.names)) ColumnSplit) }
     ensures same { OnOk result (is_current columns.old.current name.now ≡ true → columns.new ≡ columns.old) }
     ensures added { OnOk result (is_current columns.old.current name.now ≡ false → (objective : Option (List ℕ)) (rows : List (List ℕ)) (lines : List LineFields) → ColumnsFit (length rows) columns.old → ColumnsTell objective rows lines [] columns.old → ColumnAdded objective rows lines name.now columns.new) }
     ensures apart { OnOk result ((count : ℕ) (stamps : List ℕ) (places : List (Option ℕ)) → ColumnsFit count columns.old → IsApart stamps places (length (names_of columns.old.names)) columns.old.current_column.entries.items → IsApart stamps places (length (names_of columns.new.names)) columns.new.current_column.entries.items) }

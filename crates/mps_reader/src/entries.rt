@@ -5,12 +5,12 @@ ghost use Rattle.std.specs.List.{AllByRecursion, list_any};
 ghost use Rattle.program_rows.specs.declared.fault.FaultKind.TheVariants.{UnknownRow, EntryRepeated};
 ghost use Rattle.program_rows.specs.Lines.{field, LineFields};
 ghost use Rattle.program_rows.specs.Sections.{Sections};
-ghost use Rattle.program_rows.specs.Described.{value, pairs, Entry, names, line_entries, is_marker, coefficient};
+ghost use Rattle.program_rows.specs.Described.{value, pairs, Entry, names_both, line_entries, is_marker, coefficient};
 ghost use Rattle.program_rows.specs.Faults.{earliest_fault, when, number_fault, is_declared, pairs_fault, is_integer_open, marker_fault, column_fault};
 ghost use Rattle.program_rows.specs.Parts.{IsName};
 ghost use Rattle.auction_terms.specs.Borrowed.{bytes_of};
-ghost use Rattle.mps_reader.specs.inside.Reading.{Answers};
-ghost use Rattle.mps_reader.specs.inside.Rows.{RowsFit, StampsAre, names_of, row_names, option_now};
+ghost use Rattle.mps_reader.specs.inside.Reading.{AnswersFault};
+ghost use Rattle.mps_reader.specs.inside.Rows.{RowsFit, StampsAre, names_of, declared_row_names, option_now};
 ghost use Rattle.mps_reader.specs.inside.Tracking.{AreStampsUpTo, OpenTells, ColumnsTell, InColumns};
 ghost use Rattle.mps_reader.specs.declared.row_table.Rows as row_table;
 ghost use Rattle.mps_reader.specs.inside.Columns.{ColumnsFit, put_entries, PairsFit, BothFit};
@@ -62,11 +62,11 @@ fn take_entry<'t>(
     ensures frame { rows.new ≡ record rows.old { stamps = rows.new.stamps } }
     ensures entries { OnOk result (PairsFit stamp rows.old column.old → PairsFit stamp rows.new column.new) }
     ensures fault { (has : List ℕ → Bool) → StampsAre rows.old.stamps.items stamp (names_of rows.old.names) has
-        → Answers result (earliest_fault (when (not (list_any (bytes_eq row.now) (names_of rows.old.names))) UnknownRow ∷ when (has row.now) EntryRepeated ∷ number_fault token.now ∷ [])) }
+        → AnswersFault result (earliest_fault (when (not (list_any (bytes_eq row.now) (names_of rows.old.names))) UnknownRow ∷ when (has row.now) EntryRepeated ∷ number_fault token.now ∷ [])) }
     ensures stamps { OnOk result ((has : List ℕ → Bool) → StampsAre rows.old.stamps.items stamp (names_of rows.old.names) has → StampsAre rows.new.stamps.items stamp (names_of rows.old.names) (λ name. bytes_eq name row.now || has name)) }
     ensures low { OnOk result (AreStampsUpTo stamp rows.old → AreStampsUpTo stamp rows.new) }
-    ensures tells { OnOk result (PairsFit stamp rows.old column.old → (number : List ℕ → ℤ) → OpenTells (option_now rows.old.objective) (row_names rows.old.rows.items) number column.old
-        → OpenTells (option_now rows.old.objective) (row_names rows.old.rows.items) (λ name. if bytes_eq name row.now then value token.now else number name) column.new) }
+    ensures tells { OnOk result (PairsFit stamp rows.old column.old → (number : List ℕ → ℤ) → OpenTells (option_now rows.old.objective) (declared_row_names rows.old.rows.items) number column.old
+        → OpenTells (option_now rows.old.objective) (declared_row_names rows.old.rows.items) (λ name. if bytes_eq name row.now then value token.now else number name) column.new) }
 {
     let index = stamp_row(&rows.names, &rows.next, &mut rows.stamps, row, stamp)?;
     let value = take_number(token)?;
@@ -89,7 +89,7 @@ fn is_three_or_five(count: usize) -> bool
 fn take_marker_line<'t>(columns: &mut ColumnTable<'t>, fields: &[&[u8]]) -> Result<(), Refusal>
     ensures fit { OnOk result ((r : row_table.Rows) → BothFit r columns.old → BothFit r columns.new) }
     ensures closed { OnOk result (is_some columns.new.current ≡ false) }
-    ensures fault { (lines : List LineFields) → is_integer_open lines ≡ columns.old.is_begun → Answers result (marker_fault lines (bytes_of fields.now)) }
+    ensures fault { (lines : List LineFields) → is_integer_open lines ≡ columns.old.is_begun → AnswersFault result (marker_fault lines (bytes_of fields.now)) }
     ensures names { OnOk result (columns.new.names ≡ columns.old.names) }
     ensures tells { OnOk result (is_marker (bytes_of fields.now) ≡ true → (objective : Option (List ℕ)) (rows : List (List ℕ)) (lines : List LineFields) → ColumnsFit (length rows) columns.old
         → ColumnsTell objective rows lines [] columns.old → ColumnsTell objective rows (bytes_of fields.now ∷ lines) [] columns.new) }
@@ -114,13 +114,13 @@ fn take_entries<'t>(
     ensures entries { OnOk result (PairsFit stamp rows.old column.old → PairsFit stamp rows.new column.new) }
     ensures fault { (lines : List LineFields) (has : List ℕ → Bool) → ((name : List ℕ) → is_declared lines name ≡ list_any (bytes_eq name) (names_of rows.old.names))
         → StampsAre rows.old.stamps.items stamp (names_of rows.old.names) has
-        → Answers result (pairs_fault lines (λ pair. None) has (pairs (drop 1 (bytes_of fields.now)))) }
-    ensures stamps { OnOk result ((earlier : List Entry) → StampsAre rows.old.stamps.items stamp (names_of rows.old.names) (λ row. list_any (names (field 0 (bytes_of fields.now)) row) earlier)
-        → StampsAre rows.new.stamps.items stamp (names_of rows.old.names) (λ row. list_any (names (field 0 (bytes_of fields.now)) row) (line_entries (bytes_of fields.now) ++ earlier))) }
+        → AnswersFault result (pairs_fault lines (λ pair. None) has (pairs (drop 1 (bytes_of fields.now)))) }
+    ensures stamps { OnOk result ((earlier : List Entry) → StampsAre rows.old.stamps.items stamp (names_of rows.old.names) (λ row. list_any (names_both (field 0 (bytes_of fields.now)) row) earlier)
+        → StampsAre rows.new.stamps.items stamp (names_of rows.old.names) (λ row. list_any (names_both (field 0 (bytes_of fields.now)) row) (line_entries (bytes_of fields.now) ++ earlier))) }
     ensures low { OnOk result (AreStampsUpTo stamp rows.old → AreStampsUpTo stamp rows.new) }
-    ensures tells { OnOk result (PairsFit stamp rows.old column.old → (earlier : List Entry) → StampsAre rows.old.stamps.items stamp (names_of rows.old.names) (λ row. list_any (names (field 0 (bytes_of fields.now)) row) earlier)
-        → OpenTells (option_now rows.old.objective) (row_names rows.old.rows.items) (coefficient earlier (field 0 (bytes_of fields.now))) column.old
-        → OpenTells (option_now rows.old.objective) (row_names rows.old.rows.items) (coefficient (line_entries (bytes_of fields.now) ++ earlier) (field 0 (bytes_of fields.now))) column.new) }
+    ensures tells { OnOk result (PairsFit stamp rows.old column.old → (earlier : List Entry) → StampsAre rows.old.stamps.items stamp (names_of rows.old.names) (λ row. list_any (names_both (field 0 (bytes_of fields.now)) row) earlier)
+        → OpenTells (option_now rows.old.objective) (declared_row_names rows.old.rows.items) (coefficient earlier (field 0 (bytes_of fields.now))) column.old
+        → OpenTells (option_now rows.old.objective) (declared_row_names rows.old.rows.items) (coefficient (line_entries (bytes_of fields.now) ++ earlier) (field 0 (bytes_of fields.now))) column.new) }
 {
     take_entry(rows, column, stamp, fields[1], fields[2])?;
     if fields.len() == 5 {
@@ -142,10 +142,10 @@ pub fn take_column_line<'t>(
     ensures frame { rows.new ≡ record rows.old { stamps = rows.new.stamps } }
     ensures columns { OnOk result (BothFit rows.old columns.old → BothFit rows.new columns.new) }
     ensures fault { (before : Sections) → ((name : List ℕ) → is_declared before.rows name ≡ list_any (bytes_eq name) (names_of rows.old.names)) → BothFit rows.old columns.old
-        → ColumnsTell (option_now rows.old.objective) (row_names rows.old.rows.items) before.columns [] columns.old → InColumns before.columns [] [] rows.old columns.old
-        → Answers result (column_fault before (bytes_of fields.now)) }
-    ensures tells { OnOk result ((lines : List LineFields) → BothFit rows.old columns.old → ColumnsTell (option_now rows.old.objective) (row_names rows.old.rows.items) lines [] columns.old → InColumns lines [] [] rows.old columns.old
-        → ColumnsTell (option_now rows.old.objective) (row_names rows.old.rows.items) (bytes_of fields.now ∷ lines) [] columns.new × InColumns (bytes_of fields.now ∷ lines) [] [] rows.new columns.new) }
+        → ColumnsTell (option_now rows.old.objective) (declared_row_names rows.old.rows.items) before.columns [] columns.old → InColumns before.columns [] [] rows.old columns.old
+        → AnswersFault result (column_fault before (bytes_of fields.now)) }
+    ensures tells { OnOk result ((lines : List LineFields) → BothFit rows.old columns.old → ColumnsTell (option_now rows.old.objective) (declared_row_names rows.old.rows.items) lines [] columns.old → InColumns lines [] [] rows.old columns.old
+        → ColumnsTell (option_now rows.old.objective) (declared_row_names rows.old.rows.items) (bytes_of fields.now ∷ lines) [] columns.new × InColumns (bytes_of fields.now ∷ lines) [] [] rows.new columns.new) }
 {
     refuse!(!is_three_or_five(fields.len()), Fields);
     if names_marker(fields) {

@@ -4,7 +4,7 @@ ghost use Rattle.std.specs.Prelude.{◌≡◌, not, map, true, false, position, 
 ghost use Rattle.program_rows.specs.Sections.{Sections};
 ghost use Rattle.program_rows.specs.Described.{program};
 ghost use Rattle.program_rows.specs.declared.fault.FaultKind.TheVariants.{NotBinary};
-ghost use Rattle.mps_reader.specs.inside.Reading.{Answers};
+ghost use Rattle.mps_reader.specs.inside.Reading.{AnswersFault};
 ghost use Rattle.mps_reader.specs.inside.Tracking.{ReadingTells};
 ghost use Rattle.mps_reader.specs.inside.Fit.{ReadingFits};
 ghost use Rattle.mps_reader.specs.inside.Rows.{option_now};
@@ -33,7 +33,7 @@ fn first_open(states: &[ColumnState]) -> Option<usize>
 
 /// Refuses the first column that isn't binary.
 pub fn refuse_open(states: &[ColumnState]) -> Result<(), Refusal>
-    ensures { Answers result (option_map NotBinary (position (λ state. not (is_binary_state state)) states.now)) }
+    ensures { AnswersFault result (option_map NotBinary (position (λ state. not (is_binary_state state)) states.now)) }
 {
     match first_open(states) {
         Some(column) => Err(Refusal::Fault(FaultKind::NotBinary { column })),

@@ -7,7 +7,7 @@ ghost use Rattle.program_rows.specs.Sections.{Sections};
 ghost use Rattle.program_rows.specs.Described.{is_one_of, first_free};
 ghost use Rattle.program_rows.specs.Faults.{sections_left_out, place_of, earliest_fault, when, sense_fault, header_fault, not_binary};
 ghost use Rattle.auction_terms.specs.Borrowed.{bytes_of};
-ghost use Rattle.mps_reader.specs.inside.Reading.{Answers, AnswersUpTo};
+ghost use Rattle.mps_reader.specs.inside.Reading.{AnswersFault, AnswersUpTo};
 ghost use Rattle.mps_reader.specs.inside.Sections.{word_of};
 
 use crate::refusal::Refusal;
@@ -56,7 +56,7 @@ fn lacks_objective(word: &[u8], has_objective: bool) -> bool
 
 /// The sense that a header names, if it does.
 fn take_named_sense(more: &[&[u8]]) -> Result<(), Refusal>
-    ensures { Answers result (earliest_fault (when (nat_lt 1 (length (bytes_of more.now))) Fields ∷ (if length (bytes_of more.now) == 1 then sense_fault (field 0 (bytes_of more.now)) else None) ∷ [])) }
+    ensures { AnswersFault result (earliest_fault (when (nat_lt 1 (length (bytes_of more.now))) Fields ∷ (if length (bytes_of more.now) == 1 then sense_fault (field 0 (bytes_of more.now)) else None) ∷ [])) }
 {
     refuse!(more.len() > 1, Fields);
     if more.len() == 1 {
@@ -66,7 +66,7 @@ fn take_named_sense(more: &[&[u8]]) -> Result<(), Refusal>
 }
 
 fn take_header_sense(word: &[u8], more: &[&[u8]]) -> Result<(), Refusal>
-    ensures { Answers result (if bytes_eq word.now (codes "OBJSENSE") then earliest_fault (when (nat_lt 1 (length (bytes_of more.now))) Fields ∷ (if length (bytes_of more.now) == 1 then sense_fault (field 0 (bytes_of more.now)) else None) ∷ []) else None) }
+    ensures { AnswersFault result (if bytes_eq word.now (codes "OBJSENSE") then earliest_fault (when (nat_lt 1 (length (bytes_of more.now))) Fields ∷ (if length (bytes_of more.now) == 1 then sense_fault (field 0 (bytes_of more.now)) else None) ∷ []) else None) }
 {
     if is(word, b"OBJSENSE") {
         return take_named_sense(more);

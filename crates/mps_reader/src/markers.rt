@@ -5,7 +5,7 @@ ghost use Rattle.program_rows.specs.Lines.{LineFields, field};
 ghost use Rattle.program_rows.specs.Described.{is_one_of, is_marker};
 ghost use Rattle.program_rows.specs.Faults.{is_integer_open, marker_fault};
 ghost use Rattle.auction_terms.specs.Borrowed.{bytes_of};
-ghost use Rattle.mps_reader.specs.inside.Reading.{Answers};
+ghost use Rattle.mps_reader.specs.inside.Reading.{AnswersFault};
 
 use crate::refusal::Refusal;
 use crate::words::is;
@@ -41,7 +41,7 @@ pub fn names_marker(fields: &[&[u8]]) -> bool
 
 /// A marker line: whether integers are begun behind it.
 pub fn take_marker(is_begun: bool, fields: &[&[u8]]) -> Result<bool, Refusal>
-    ensures fault { (lines : List LineFields) → is_integer_open lines ≡ is_begun → Answers result (marker_fault lines (bytes_of fields.now)) }
+    ensures fault { (lines : List LineFields) → is_integer_open lines ≡ is_begun → AnswersFault result (marker_fault lines (bytes_of fields.now)) }
     ensures value { IfOk result (λ now. now ≡ bytes_eq (field 2 (bytes_of fields.now)) (codes "'INTORG'")) }
 {
     if fields.len() != 3 {

@@ -1,7 +1,7 @@
 //! What is wrong with an MPS text.
 
 ghost use Rattle.std.specs.Prelude.{◌≡◌, Some};
-ghost use Rattle.mps_reader.specs.MpsFaultText.{kind_text, mps_fault_text};
+ghost use Rattle.mps_reader.specs.MpsFaultText.{mps_kind_text, mps_fault_text};
 
 use program_rows::FaultKind;
 use std::fmt;
@@ -17,7 +17,7 @@ pub struct MpsFault {
 
 // The number and name of a fault.
 fn kind_text(kind: FaultKind) -> &'static str
-    ensures { result.now ≡ kind_text kind }
+    ensures { result.now ≡ mps_kind_text kind }
 {
     match kind {
         FaultKind::TooLarge => "1 TooLarge",

@@ -2,9 +2,9 @@
 
 ghost use Rattle.std.specs.Prelude.{◌≡◌, ◌≤◌, ◌<◌, length, Err, IfErr, OnOk};
 ghost use Rattle.auction_terms.specs.Lines.{lines_of};
-ghost use Rattle.mps_reader.specs.Ending.{Ends};
+ghost use Rattle.mps_reader.specs.Ending.{HasEnd};
 ghost use Rattle.mps_reader.specs.Answer.{IsRead};
-ghost use Rattle.mps_reader.specs.inside.Answer.{IsRefused};
+ghost use Rattle.mps_reader.specs.inside.Answer.{IsRefusedLine};
 ghost use Rattle.program_rows.specs.Meaning.{meaning};
 ghost use Rattle.program_rows.specs.declared.fault.FaultKind.TheVariants.{TooLarge};
 
@@ -19,7 +19,7 @@ use std::alloc::Global;
 
 fn refused(line: usize, refusal: Refusal) -> MpsFault
     ensures line { result.line ≤ line }
-    ensures is { IsRefused line refusal result }
+    ensures is { IsRefusedLine line refusal result }
 {
     match refusal {
         Refusal::Memory => MpsFault {
@@ -32,7 +32,7 @@ fn refused(line: usize, refusal: Refusal) -> MpsFault
 
 fn read_lines(alloc: Global, text: &[u8]) -> Result<Program, MpsFault>
     requires { length text.now ≤ PROGRAM_LIMIT }
-    ensures ends { OnOk result (Ends text.now) }
+    ensures ends { OnOk result (HasEnd text.now) }
     ensures line { IfErr result (λ e. e.line ≤ length (lines_of text.now)) }
     ensures meaning { IsRead result (meaning text.now) }
 {
@@ -61,7 +61,7 @@ fn read_lines(alloc: Global, text: &[u8]) -> Result<Program, MpsFault>
 /// The program that an MPS text describes, or its first faulty line.
 pub fn read_program(alloc: Global, text: &[u8]) -> Result<Program, MpsFault>
     ensures too_large { PROGRAM_LIMIT < length text.now → result ≡ Err (record { line = 0; kind = TooLarge }) }
-    ensures ends { OnOk result (Ends text.now) }
+    ensures ends { OnOk result (HasEnd text.now) }
     ensures line { IfErr result (λ e. e.line ≤ length (lines_of text.now)) }
     ensures meaning { length text.now ≤ PROGRAM_LIMIT → IsRead result (meaning text.now) }
 {

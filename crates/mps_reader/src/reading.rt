@@ -8,7 +8,7 @@ ghost use Rattle.program_rows.specs.Sections.{Sections, no_lines, with_line, is_
 ghost use Rattle.program_rows.specs.Faults.{fault, header_fault, data_fault};
 ghost use Rattle.program_rows.specs.Parts.{IsName};
 ghost use Rattle.auction_terms.specs.Borrowed.{bytes_of};
-ghost use Rattle.mps_reader.specs.inside.Reading.{Answers};
+ghost use Rattle.mps_reader.specs.inside.Reading.{AnswersFault};
 ghost use Rattle.mps_reader.specs.inside.Fit.{ReadingFits};
 ghost use Rattle.mps_reader.specs.inside.Tracking.{ReadingTells};
 
@@ -49,7 +49,7 @@ fn take_header_line<'t>(reading: &mut Reading<'t>, fields: &[&'t [u8]]) -> Resul
     ensures fit { OnOk result (ReadingFits reading.new) }
     ensures closed { IfOk result (λ is_end. is_end ≡ true → is_some reading.new.columns.current ≡ false) }
     ensures objective { IfOk result (λ is_end. is_end ≡ true → is_some reading.new.rows.objective ≡ true) }
-    ensures fault { (before : Sections) → ReadingTells before reading.old → Answers result (header_fault before (field 0 (bytes_of fields.now)) (drop 1 (bytes_of fields.now))) }
+    ensures fault { (before : Sections) → ReadingTells before reading.old → AnswersFault result (header_fault before (field 0 (bytes_of fields.now)) (drop 1 (bytes_of fields.now))) }
     ensures tells { OnOk result ((before : Sections) (more : LineFields) → ReadingTells before reading.old → ReadingTells (with_line before (spec.Header (field 0 (bytes_of fields.now)) more)) reading.new) }
 {
     close_column(&mut reading.columns)?;
@@ -67,7 +67,7 @@ fn take_data<'t>(reading: &mut Reading<'t>, fields: &[&'t [u8]]) -> Result<(), R
     requires some { 1 ≤ length fields.now }
     requires names { AllByRecursion IsName (bytes_of fields.now) }
     ensures fit { OnOk result (ReadingFits reading.new) }
-    ensures fault { (before : Sections) → ReadingTells before reading.old → Answers result (data_fault before (bytes_of fields.now)) }
+    ensures fault { (before : Sections) → ReadingTells before reading.old → AnswersFault result (data_fault before (bytes_of fields.now)) }
     ensures tells { OnOk result ((before : Sections) → ReadingTells before reading.old → ReadingTells (with_line before (spec.Data (bytes_of fields.now))) reading.new) }
 {
     match reading.section {
@@ -100,7 +100,7 @@ pub fn take_line<'t>(reading: &mut Reading<'t>, line: &'t [u8]) -> Result<bool, 
     ensures fit { OnOk result (ReadingFits reading.new) }
     ensures closed { IfOk result (λ is_end. is_end ≡ true → is_some reading.new.columns.current ≡ false) }
     ensures objective { IfOk result (λ is_end. is_end ≡ true → is_some reading.new.rows.objective ≡ true) }
-    ensures fault { (before : Sections) → ReadingTells before reading.old → Answers result (fault before (line_of line.now)) }
+    ensures fault { (before : Sections) → ReadingTells before reading.old → AnswersFault result (fault before (line_of line.now)) }
     ensures tells { OnOk result ((before : Sections) → ReadingTells before reading.old → ReadingTells (with_line before (line_of line.now)) reading.new) }
 {
     match read_line(line) {

@@ -8,7 +8,7 @@ ghost use Rattle.program_rows.specs.Sections.{Sections};
 ghost use Rattle.program_rows.specs.Described.{pairs, value, all_right_sides, right_side};
 ghost use Rattle.program_rows.specs.Faults.{is_declared, is_objective, constant_fault, pairs_fault, right_side_fault};
 ghost use Rattle.auction_terms.specs.Borrowed.{bytes_of};
-ghost use Rattle.mps_reader.specs.inside.Reading.{Answers};
+ghost use Rattle.mps_reader.specs.inside.Reading.{AnswersFault};
 ghost use Rattle.std.specs.Ordering.{int_eq};
 ghost use Rattle.program_rows.specs.Parts.{shown_row};
 ghost use Rattle.mps_reader.specs.inside.Rows.{RowsFit, StampsAre, names_of, with_side, rows_by, side_fault};
@@ -46,7 +46,7 @@ fn take_right_side<'t>(
     ensures objective { rows.new.objective ≡ rows.old.objective }
     ensures names { rows.new.names ≡ rows.old.names }
     ensures fault { (has : List ℕ → Bool) → StampsAre rows.old.stamps.items stamp (names_of rows.old.names) has
-        → Answers result (side_fault (list_any (bytes_eq row.now) (names_of rows.old.names)) (has row.now) (option_map_or (λ name. bytes_eq row.now name.now) rows.old.objective false) token.now) }
+        → AnswersFault result (side_fault (list_any (bytes_eq row.now) (names_of rows.old.names)) (has row.now) (option_map_or (λ name. bytes_eq row.now name.now) rows.old.objective false) token.now) }
     ensures stamps { OnOk result ((has : List ℕ → Bool) → StampsAre rows.old.stamps.items stamp (names_of rows.old.names) has → StampsAre rows.new.stamps.items stamp (names_of rows.old.names) (λ name. bytes_eq name row.now || has name)) }
     ensures rows { OnOk result ((side : List ℕ → ℤ) (lines : List LineFields) → map shown_row rows.old.rows.items ≡ rows_by side lines → map shown_row rows.new.rows.items ≡ rows_by (λ name. if bytes_eq name row.now then value token.now else side name) lines) }
 {
@@ -81,7 +81,7 @@ fn take_right_sides<'t>(rows: &mut Rows<'t>, stamp: usize, fields: &[&[u8]]) -> 
     ensures fault { (lines : List LineFields) (has : List ℕ → Bool) → ((name : List ℕ) → is_declared lines name ≡ list_any (bytes_eq name) (names_of rows.old.names))
         → ((name : List ℕ) → is_objective lines name ≡ option_map_or (λ other. bytes_eq name other.now) rows.old.objective false)
         → StampsAre rows.old.stamps.items stamp (names_of rows.old.names) has
-        → Answers result (pairs_fault lines (constant_fault lines) has (pairs (bytes_of fields.now))) }
+        → AnswersFault result (pairs_fault lines (constant_fault lines) has (pairs (bytes_of fields.now))) }
     ensures stamps { OnOk result ((earlier : List (List ℕ × List ℕ)) → StampsAre rows.old.stamps.items stamp (names_of rows.old.names) (λ row. list_any (λ other. bytes_eq row other.0) earlier)
         → StampsAre rows.new.stamps.items stamp (names_of rows.old.names) (λ row. list_any (λ other. bytes_eq row other.0) (pairs (bytes_of fields.now) ++ earlier))) }
     ensures rows { OnOk result ((earlier : List (List ℕ × List ℕ)) (lines : List LineFields) → StampsAre rows.old.stamps.items stamp (names_of rows.old.names) (λ row. list_any (λ other. bytes_eq row other.0) earlier)
@@ -109,7 +109,7 @@ pub fn take_right_side_line<'t>(
     ensures fault { (before : Sections) → ((name : List ℕ) → is_declared before.rows name ≡ list_any (bytes_eq name) (names_of rows.old.names))
         → ((name : List ℕ) → is_objective before.rows name ≡ option_map_or (λ other. bytes_eq name other.now) rows.old.objective false)
         → StampsAre rows.old.stamps.items stamp (names_of rows.old.names) (λ row. list_any (λ other. bytes_eq row other.0) (all_right_sides before.right_sides))
-        → Answers result (right_side_fault before (bytes_of fields.now)) }
+        → AnswersFault result (right_side_fault before (bytes_of fields.now)) }
     ensures stamps { OnOk result ((rights : List LineFields) → StampsAre rows.old.stamps.items stamp (names_of rows.old.names) (λ row. list_any (λ other. bytes_eq row other.0) (all_right_sides rights))
         → StampsAre rows.new.stamps.items stamp (names_of rows.old.names) (λ row. list_any (λ other. bytes_eq row other.0) (all_right_sides (bytes_of fields.now ∷ rights)))) }
     ensures tells { OnOk result ((lines rights : List LineFields) → StampsAre rows.old.stamps.items stamp (names_of rows.old.names) (λ row. list_any (λ other. bytes_eq row other.0) (all_right_sides rights))

@@ -5,11 +5,11 @@ ghost use Rattle.std.specs.List.{list_any, slice_set, AllByRecursion};
 ghost use Rattle.std.specs.Option.{option_map, option_map_or};
 ghost use Rattle.program_rows.specs.declared.fault.FaultKind.TheVariants.{Fields, RowType, RowRepeated, UnknownRow, EntryRepeated};
 ghost use Rattle.program_rows.specs.Lines.{field, LineFields};
-ghost use Rattle.program_rows.specs.Described.{is_one_of, kind_of};
+ghost use Rattle.program_rows.specs.Described.{is_one_of, row_kind_of};
 ghost use Rattle.program_rows.specs.Faults.{row_types, earliest_fault, when};
 ghost use Rattle.program_rows.specs.Parts.{shown_row, IsName};
 ghost use Rattle.auction_terms.specs.Borrowed.{bytes_of};
-ghost use Rattle.mps_reader.specs.inside.Reading.{Answers};
+ghost use Rattle.mps_reader.specs.inside.Reading.{AnswersFault};
 ghost use Rattle.mps_reader.specs.inside.Rows.{names_of, RowsFit, AddsFree, AddsBound, StampsAre};
 ghost use Rattle.mps_reader.specs.inside.Tracking.{RowsTell, AreStampsUpTo};
 
@@ -28,7 +28,7 @@ fn is_row_type(letter: &[u8]) -> bool
 }
 
 fn row_kind(letter: &[u8]) -> RowKind
-    ensures { result ≡ kind_of letter.now }
+    ensures { result ≡ row_kind_of letter.now }
 {
     if is(letter, b"L") {
         return RowKind::AtMost;
@@ -67,7 +67,7 @@ fn add_bound<'t>(rows: &mut Rows<'t>, letter: &[u8], name: &'t [u8]) -> Result<(
 pub fn take_row<'t>(rows: &mut Rows<'t>, fields: &[&'t [u8]]) -> Result<(), Refusal>
     requires fit { RowsFit rows.old }
     requires names { AllByRecursion IsName (bytes_of fields.now) }
-    ensures fault { Answers result (earliest_fault (when (not (length (bytes_of fields.now) == 2)) Fields
+    ensures fault { AnswersFault result (earliest_fault (when (not (length (bytes_of fields.now) == 2)) Fields
         ∷ when (not (is_one_of (field 0 (bytes_of fields.now)) row_types)) RowType
         ∷ when (list_any (bytes_eq (field 1 (bytes_of fields.now))) (names_of rows.old.names)) RowRepeated ∷ [])) }
     ensures fit { OnOk result (RowsFit rows.new) }
@@ -97,7 +97,7 @@ pub fn stamp_row(
 ) -> Result<usize, Refusal>
     requires fit { length stamps.old.items ≡ length names.now.keys }
     ensures fault { (has : List ℕ → Bool) → StampsAre stamps.old.items stamp (names_of names.now) has
-        → Answers result (earliest_fault (when (not (list_any (bytes_eq row.now) (names_of names.now))) UnknownRow ∷ when (has row.now) EntryRepeated ∷ [])) }
+        → AnswersFault result (earliest_fault (when (not (list_any (bytes_eq row.now) (names_of names.now))) UnknownRow ∷ when (has row.now) EntryRepeated ∷ [])) }
     ensures index { IfOk result (λ i. slice_get (names_of names.now) i ≡ Some row.now) }
     ensures fresh { IfOk result (λ i. (d : ℕ) → slice_get stamps.old.items i ≡ Some d → (d == stamp) ≡ false) }
     ensures stamped { IfOk result (λ i. stamps.new.items ≡ slice_set stamps.old.items i stamp) }

@@ -4,7 +4,7 @@ ghost use Rattle.std.specs.Prelude.{◌≡◌, ◌∷◌, [], codes};
 ghost use Rattle.program_rows.specs.Described.{is_one_of};
 ghost use Rattle.program_rows.specs.Faults.{sense_fault, objsense_fault};
 ghost use Rattle.auction_terms.specs.Borrowed.{bytes_of};
-ghost use Rattle.mps_reader.specs.inside.Reading.{Answers};
+ghost use Rattle.mps_reader.specs.inside.Reading.{AnswersFault};
 
 use crate::refusal::Refusal;
 use crate::words::is;
@@ -24,7 +24,7 @@ fn is_least(word: &[u8]) -> bool
 
 /// A sense.
 pub fn take_sense(word: &[u8]) -> Result<(), Refusal>
-    ensures { Answers result (sense_fault word.now) }
+    ensures { AnswersFault result (sense_fault word.now) }
 {
     if is_greatest(word) {
         return Err(Refusal::Fault(FaultKind::SenseMax));
@@ -37,7 +37,7 @@ pub fn take_sense(word: &[u8]) -> Result<(), Refusal>
 
 /// A line of OBJSENSE.
 pub fn take_sense_line(fields: &[&[u8]]) -> Result<(), Refusal>
-    ensures { Answers result (objsense_fault (bytes_of fields.now)) }
+    ensures { AnswersFault result (objsense_fault (bytes_of fields.now)) }
 {
     if fields.len() != 1 {
         return Err(Refusal::Fault(FaultKind::Fields));

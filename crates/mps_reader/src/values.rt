@@ -3,7 +3,7 @@
 ghost use Rattle.std.specs.Prelude.{◌≡◌, IfOk};
 ghost use Rattle.program_rows.specs.Described.{value};
 ghost use Rattle.program_rows.specs.Faults.{number_fault, bit_fault};
-ghost use Rattle.mps_reader.specs.inside.Reading.{Answers};
+ghost use Rattle.mps_reader.specs.inside.Reading.{AnswersFault};
 ghost use Rattle.mps_reader.specs.inside.Tracking.{bit};
 
 use crate::refusal::Refusal;
@@ -11,7 +11,7 @@ use program_rows::{FaultKind, NumberFault, read_number};
 
 /// A number.
 pub fn take_number(token: &[u8]) -> Result<i64, Refusal>
-    ensures fault { Answers result (number_fault token.now) }
+    ensures fault { AnswersFault result (number_fault token.now) }
     ensures value { IfOk result (λ n. value token.now ≡ n) }
 {
     match read_number(token) {
@@ -24,7 +24,7 @@ pub fn take_number(token: &[u8]) -> Result<i64, Refusal>
 
 /// A number that is 0 or 1.
 pub fn take_bit(token: &[u8]) -> Result<bool, Refusal>
-    ensures fault { Answers result (bit_fault token.now) }
+    ensures fault { AnswersFault result (bit_fault token.now) }
     ensures value { IfOk result (λ b. value token.now ≡ bit b) }
 {
     let value = take_number(token)?;

@@ -9,23 +9,23 @@ use Rattle.mps_text.specs.declared.writer.Writer.{Writer}
 use Rattle.mps_text.specs.Sinks.{Counts, HasFailed, IsFront, SentFront}
 use Rattle.mps_text.specs.Written.{written_of}
 use Rattle.mps_text.specs.inside.Bytes.{where_any}
-use Rattle.mps_text.specs.Adds.{Adds, IsBroken, IsNew, IsSent, held}
+use Rattle.mps_text.specs.Adds.{Adds, IsBroken, IsNew, IsSent, bytes_given}
 use Rattle.mps_text.proofs.Known.{Appends-then, Counts-then, IsFront-empty, IsFront-longer, IsFront-piece, SentFront-from}
 
 -- a put failed in one of two steps
 broken-then : {X : Type 0} (taken : X → Option (List ℕ)) (failures : X → ℕ) (a b c : Writer X) (xs ys : List ℕ) (meanwhile : Bool) → b.has_failed ≡ meanwhile
     → Adds taken failures a b xs → Adds taken failures b c ys → a.has_failed ≡ false → c.has_failed ≡ true
-    → IsFront (taken c.sink.now) (append_known (held taken a) (xs ++ ys)) × HasFailed (failures a.sink.now) (failures c.sink.now)
+    → IsFront (taken c.sink.now) (append_known (bytes_given taken a) (xs ++ ys)) × HasFailed (failures a.sink.now) (failures c.sink.now)
 broken-then {X} taken failures a b c xs ys true e p q before after =
     let first = p.broken before e in
     let same = sym (q.silent e).1 in (
-      subst (λ (x : X). IsFront (taken x) (append_known (held taken a) (xs ++ ys))) same (IsFront-longer (taken b.sink.now) (held taken a) xs ys first.0),
+      subst (λ (x : X). IsFront (taken x) (append_known (bytes_given taken a) (xs ++ ys))) same (IsFront-longer (taken b.sink.now) (bytes_given taken a) xs ys first.0),
       subst (λ (x : X). HasFailed (failures a.sink.now) (failures x)) same first.1,
     )
 broken-then taken failures a b c xs ys false e p q before after =
     let first = p.whole e in
     let second = q.broken e after in (
-      IsFront-piece (taken c.sink.now) (held taken a) (held taken b) xs ys [] (xs ++ ys) (ap (λ (w : List ℕ). xs ++ w) (sym (append-nil ys))) first.1 second.0,
+      IsFront-piece (taken c.sink.now) (bytes_given taken a) (bytes_given taken b) xs ys [] (xs ++ ys) (ap (λ (w : List ℕ). xs ++ w) (sym (append-nil ys))) first.1 second.0,
       subst (λ (n : ℕ). HasFailed n (failures c.sink.now)) first.2 second.1,
     )
 
@@ -37,7 +37,7 @@ Adds-then {X} {taken} {failures} {a} {b} {c} {xs} {ys} p q = record {
   whole = λ after.
       let second = q.whole after in
       let first = p.whole second.0 in
-      (first.0, Appends-then (held taken a) (held taken b) (held taken c) xs ys (xs ++ ys) refl first.1 second.1, second.2 ∙ first.2);
+      (first.0, Appends-then (bytes_given taken a) (bytes_given taken b) (bytes_given taken c) xs ys (xs ++ ys) refl first.1 second.1, second.2 ∙ first.2);
   broken = λ before after. broken-then taken failures a b c xs ys b.has_failed refl p q before after;
   silent = λ before.
       let first = p.silent before in
@@ -49,7 +49,7 @@ Adds-then {X} {taken} {failures} {a} {b} {c} {xs} {ys} p q = record {
 pub Adds-to : {X : Type 0} {taken : X → Option (List ℕ)} {failures : X → ℕ} {a b : Writer X} {xs ys : List ℕ} → Adds taken failures a b xs → xs ≡ ys → Adds taken failures a b ys
 Adds-to {X} {taken} {failures} {a} {b} p e = subst (λ (w : List ℕ). Adds taken failures a b w) e p
 
-held-empty : {X : Type 0} (taken : X → Option (List ℕ)) (w : Writer X) (x : X) → w.sink.now ≡ x → w.waiting.items ≡ [] → held taken w ≡ append_known (taken x) []
+held-empty : {X : Type 0} (taken : X → Option (List ℕ)) (w : Writer X) (x : X) → w.sink.now ≡ x → w.waiting.items ≡ [] → bytes_given taken w ≡ append_known (taken x) []
 held-empty taken w x now empty = ap (λ y. append_known (taken y) w.waiting.items) now ∙ ap (λ (bytes : List ℕ). append_known (taken x) bytes) empty
 
 Appends-empty : (a b : Option (List ℕ)) (xs : List ℕ) → Appends (append_known a []) (append_known b []) xs → Appends a b xs
@@ -62,7 +62,7 @@ pub sent-whole : {X : Type 0} {taken : X → Option (List ℕ)} {failures : X �
 sent-whole {X} {taken} {failures} {s} {a} {b} {bytes} new added sent =
     Appends-empty (taken s.now) (taken b.sink.now) bytes
     (subst (λ (o : Option (List ℕ)). Appends (append_known (taken s.now) []) o bytes) (held-empty taken b b.sink.now refl sent.1)
-    (subst (λ (o : Option (List ℕ)). Appends o (held taken b) bytes) (held-empty taken a s.now new.untouched new.empty) (added.whole sent.0).1))
+    (subst (λ (o : Option (List ℕ)). Appends o (bytes_given taken b) bytes) (held-empty taken a s.now new.untouched new.empty) (added.whole sent.0).1))
 
 -- how many bytes of it went out
 pub counts-new : {X : Type 0} {taken : X → Option (List ℕ)} {failures : X → ℕ} {s : MutBor X} {a b : Writer X} {bytes : List ℕ} → IsNew s a → Adds taken failures a b bytes → Counts (taken s.now) (taken b.sink.now) 0 b.sent

@@ -6,7 +6,7 @@ use Rattle.std.specs.Prelude.{bytes_eq, codes, filter, find, flat_map, option_ma
 use Rattle.std.specs.List.{list_any, AllByRecursion, IsDistinct}
 use Rattle.std.proofs.lemmas.Slice.Eq.{bytes_eq-Decides}
 use Rattle.program_rows.specs.Lines.{LineFields, field}
-use Rattle.program_rows.specs.Described.{is_marker, each_once, Entry, line_entries, names}
+use Rattle.program_rows.specs.Described.{is_marker, each_once, Entry, line_entries, names_both}
 use Rattle.program_rows.specs.Faults.{is_integer_open, stands_in_integers}
 use Rattle.mps_text.proofs.RowPhase.{flip}
 use Rattle.mps_text.proofs.ColumnPhase.{Pair, pair_fields, same-name}
@@ -55,9 +55,9 @@ lines-entries (c ∷ cs) before =
     let chunk = map (pair_fields c.0) c.1 in
     rw (push-append chunk (plain_lines cs) before, push-append (map (of_column c.0) c.1) (entries_of cs) (flat_map line_entries before), lines-entries cs (push chunk before), pairs-entries c.0 c.1 before) refl
 
--- ---- names
+-- ---- names_both
 
--- the names of others aren't this one
+-- the names_both of others aren't this one
 abbrev pub Differs : List ℕ → List Listed → Type 0
 Differs name cs = AllByRecursion (λ c. bytes_eq c.0 name ≡ false) cs
 
@@ -101,22 +101,22 @@ names-once (c ∷ cs) before d f h =
 abbrev pub look : List ℕ → List Pair → Option Pair
 look row pairs = find (λ pair. bytes_eq row pair.0) pairs
 
-other-column : (name row other : List ℕ) (pairs : List Pair) (before : List Entry) → bytes_eq name other ≡ false → find (names name row) (push (map (of_column other) pairs) before) ≡ find (names name row) before
+other-column : (name row other : List ℕ) (pairs : List Pair) (before : List Entry) → bytes_eq name other ≡ false → find (names_both name row) (push (map (of_column other) pairs) before) ≡ find (names_both name row) before
 other-column name row other [] before d = refl
 other-column name row other (pair ∷ pairs) before d = other-column name row other pairs (of_column other pair ∷ before) d ∙ rw d refl
 
-other-rows : (name row : List ℕ) (pairs : List Pair) (before : List Entry) → AllByRecursion (λ q. bytes_eq row q ≡ false) (map (λ pair. pair.0) pairs) → find (names name row) (push (map (of_column name) pairs) before) ≡ find (names name row) before
+other-rows : (name row : List ℕ) (pairs : List Pair) (before : List Entry) → AllByRecursion (λ q. bytes_eq row q ≡ false) (map (λ pair. pair.0) pairs) → find (names_both name row) (push (map (of_column name) pairs) before) ≡ find (names_both name row) before
 other-rows name row [] before d = refl
 other-rows name row (pair ∷ pairs) before d = other-rows name row pairs (of_column name pair ∷ before) d.1 ∙ rw (same-name name, d.0) refl
 
-own-column : (name row : List ℕ) (pairs : List Pair) (before : List Entry) → IsDistinct bytes_eq (map (λ pair. pair.0) pairs) → find (names name row) before ≡ None
-    → find (names name row) (push (map (of_column name) pairs) before) ≡ option_map (of_column name) (look row pairs)
+own-column : (name row : List ℕ) (pairs : List Pair) (before : List Entry) → IsDistinct bytes_eq (map (λ pair. pair.0) pairs) → find (names_both name row) before ≡ None
+    → find (names_both name row) (push (map (of_column name) pairs) before) ≡ option_map (of_column name) (look row pairs)
 unfolding IsDistinct
 own-column name row [] before d h = h
 own-column name row (pair ∷ pairs) before d h = by (bytes_eq row pair.0) refl (own-column name row pairs (of_column name pair ∷ before) d.1)
   where
-    by : (b : Bool) → bytes_eq row pair.0 ≡ b → (find (names name row) (of_column name pair ∷ before) ≡ None → find (names name row) (push (map (of_column name) pairs) (of_column name pair ∷ before)) ≡ option_map (of_column name) (look row pairs))
-        → find (names name row) (push (map (of_column name) pairs) (of_column name pair ∷ before)) ≡ option_map (of_column name) (cond b (Some pair) (look row pairs))
+    by : (b : Bool) → bytes_eq row pair.0 ≡ b → (find (names_both name row) (of_column name pair ∷ before) ≡ None → find (names_both name row) (push (map (of_column name) pairs) (of_column name pair ∷ before)) ≡ option_map (of_column name) (look row pairs))
+        → find (names_both name row) (push (map (of_column name) pairs) (of_column name pair ∷ before)) ≡ option_map (of_column name) (cond b (Some pair) (look row pairs))
     by true e more =
         let same : row ≡ pair.0 = (bytes_eq-Decides row pair.0).0 e in
         rw same (other-rows name pair.0 pairs (of_column name pair ∷ before) d.0 ∙ rw (same-name name, same-name pair.0) refl)
@@ -124,25 +124,25 @@ own-column name row (pair ∷ pairs) before d h = by (bytes_eq row pair.0) refl 
 
 -- no pair of these columns stood before
 abbrev pub AreUnlisted : List Entry → List Listed → Type 0
-AreUnlisted before cs = AllByRecursion (λ c. (row : List ℕ) → find (names c.0 row) before ≡ None) cs
+AreUnlisted before cs = AllByRecursion (λ c. (row : List ℕ) → find (names_both c.0 row) before ≡ None) cs
 
 still_unlisted : (name : List ℕ) (pairs : List Pair) (before : List Entry) (cs : List Listed) → AllByRecursion (λ other. bytes_eq name other ≡ false) (map (λ c. c.0) cs) → AreUnlisted before cs → AreUnlisted (push (map (of_column name) pairs) before) cs
 still_unlisted name pairs before [] d h = tt
 still_unlisted name pairs before (c ∷ cs) d h = (λ row. other-column c.0 row name pairs before (flip name c.0 d.0) ∙ h.0 row, still_unlisted name pairs before cs d.1 h.1)
 
-other-columns : (name row : List ℕ) (cs : List Listed) (before : List Entry) → AllByRecursion (λ other. bytes_eq name other ≡ false) (map (λ c. c.0) cs) → find (names name row) (push (entries_of cs) before) ≡ find (names name row) before
+other-columns : (name row : List ℕ) (cs : List Listed) (before : List Entry) → AllByRecursion (λ other. bytes_eq name other ≡ false) (map (λ c. c.0) cs) → find (names_both name row) (push (entries_of cs) before) ≡ find (names_both name row) before
 other-columns name row [] before d = refl
 other-columns name row (c ∷ cs) before d =
     rw (push-append (map (of_column c.0) c.1) (entries_of cs) before) (other-columns name row cs (push (map (of_column c.0) c.1) before) d.1 ∙ other-column name row c.0 c.1 before d.0)
 
 -- a pair of a column is found where its row stands in the column
 pub pairs-found : (cs : List Listed) (before : List Entry) → IsDistinct bytes_eq (map (λ c. c.0) cs) → AllByRecursion (λ c. IsDistinct bytes_eq (map (λ pair. pair.0) c.1)) cs → AreUnlisted before cs
-    → AllByRecursion (λ c. (row : List ℕ) → find (names c.0 row) (push (entries_of cs) before) ≡ option_map (of_column c.0) (look row c.1)) cs
+    → AllByRecursion (λ c. (row : List ℕ) → find (names_both c.0 row) (push (entries_of cs) before) ≡ option_map (of_column c.0) (look row c.1)) cs
 unfolding IsDistinct
 pairs-found [] before d rows h = tt
 pairs-found (c ∷ cs) before d rows h =
     let chunk = map (of_column c.0) c.1 in
-    subst (λ (w : List Entry). AllByRecursion (λ q. (row : List ℕ) → find (names q.0 row) w ≡ option_map (of_column q.0) (look row q.1)) (c ∷ cs)) (sym (push-append chunk (entries_of cs) before)) (
+    subst (λ (w : List Entry). AllByRecursion (λ q. (row : List ℕ) → find (names_both q.0 row) w ≡ option_map (of_column q.0) (look row q.1)) (c ∷ cs)) (sym (push-append chunk (entries_of cs) before)) (
       λ row. other-columns c.0 row cs (push chunk before) d.0 ∙ own-column c.0 row c.1 before rows.0 (h.0 row),
       pairs-found cs (push chunk before) d.1 rows.1 (still_unlisted c.0 c.1 before cs d.0 h.1),
     )

@@ -12,7 +12,7 @@ use Rattle.program_rows.specs.Program.{Table, TableRow, TableColumn}
 use Rattle.program_rows.specs.Parts.{IsProgram, AreEntries}
 use Rattle.program_rows.specs.Lines.{LineFields}
 use Rattle.program_rows.specs.Sections.{Sections}
-use Rattle.program_rows.specs.Described.{column_lines, all_right_sides, all_entries, names, Entry, line_entries, value, first_free, coefficient, column_entries, column_names, table_column, table_rows, program, table_bounds}
+use Rattle.program_rows.specs.Described.{column_lines, all_right_sides, all_entries, names_both, Entry, line_entries, value, first_free, coefficient, column_entries, columns_named, table_column, table_rows, program, table_bounds}
 use Rattle.program_rows.specs.Faults.{is_binary, not_binary, stands_in_integers}
 use Rattle.mps_text.specs.Text.{row_name, row_block, right_side_fields, bound_fields}
 use Rattle.program_rows.specs.Legal.{IsWritable, IsSmall}
@@ -61,17 +61,17 @@ unlisted : (p : Table) (cs : List TableColumn) → AreUnlisted [] (all_listed p 
 unlisted p [] = tt
 unlisted p (c ∷ cs) = (λ row. refl, unlisted p cs)
 
-pub names-back : (before : Sections) (p : Table) → IsProgram p → Lists before p → column_names before.columns ≡ map (λ c. c.name) p.columns
+pub names-back : (before : Sections) (p : Table) → IsProgram p → Lists before p → columns_named before.columns ≡ map (λ c. c.name) p.columns
 names-back before p legal h =
     rw h.columns (names-once (all_listed p p.columns) [] (subst (IsDistinct bytes_eq) (sym (names-listed p p.columns)) legal.columns_differ) (all-filled p p.columns) (unnamed p p.columns) ∙ names-listed p p.columns)
 
 -- where a pair of a column is found
 abbrev IsFound : Sections → Table → TableColumn → Type 0
-IsFound before p c = (row : List ℕ) → find (names c.name row) (all_entries before.columns) ≡ option_map (of_column c.name) (look row (pairs_of p c))
+IsFound before p c = (row : List ℕ) → find (names_both c.name row) (all_entries before.columns) ≡ option_map (of_column c.name) (look row (pairs_of p c))
 
-from-listed : (before : Sections) (p : Table) (es : List Entry) (cs : List TableColumn) → all_entries before.columns ≡ es → AllByRecursion (λ c. (row : List ℕ) → find (names c.0 row) es ≡ option_map (of_column c.0) (look row c.1)) (all_listed p cs) → AllByRecursion (IsFound before p) cs
+from-listed : (before : Sections) (p : Table) (es : List Entry) (cs : List TableColumn) → all_entries before.columns ≡ es → AllByRecursion (λ c. (row : List ℕ) → find (names_both c.0 row) es ≡ option_map (of_column c.0) (look row c.1)) (all_listed p cs) → AllByRecursion (IsFound before p) cs
 from-listed before p es [] e h = tt
-from-listed before p es (c ∷ cs) e h = (λ row. ap (find (names c.name row)) e ∙ h.0 row, from-listed before p es cs e h.1)
+from-listed before p es (c ∷ cs) e h = (λ row. ap (find (names_both c.name row)) e ∙ h.0 row, from-listed before p es cs e h.1)
 
 all-found : (before : Sections) (p : Table) → IsProgram p → Lists before p → AllByRecursion (IsFound before p) p.columns
 all-found before p legal h =
@@ -135,8 +135,8 @@ program-back before p legal told h =
     let o : objective_in before ≡ p.objective = ap (λ (w : Option (List ℕ)). unwrap_or w []) (objective-back before p h.rows) in
     let rs = rows-listed before p legal told h in
     let cs = ap (map (table_column before)) (names-back before p legal h) ∙ columns-from before p p.columns o rs legal.rows_differ (all-found before p legal h) (all-set before p lower_types legal h) (all-set before p upper_types legal h) legal.entries (small_costs p.columns told.numbers) (small_entries p.columns told.numbers) in
-    ap (λ (w : List ℕ). record { objective = w; rows = rows_in before; columns = map (table_column before) (column_names before.columns) }) o
-    ∙ ap (λ (w : List TableRow). record { objective = p.objective; rows = w; columns = map (table_column before) (column_names before.columns) }) rs
+    ap (λ (w : List ℕ). record { objective = w; rows = rows_in before; columns = map (table_column before) (columns_named before.columns) }) o
+    ∙ ap (λ (w : List TableRow). record { objective = p.objective; rows = w; columns = map (table_column before) (columns_named before.columns) }) rs
     ∙ ap (λ (w : List TableColumn). record { objective = p.objective; rows = p.rows; columns = w }) cs
 
 -- ---- all columns are binary

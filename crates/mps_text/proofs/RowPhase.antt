@@ -9,7 +9,7 @@ use Rattle.program_rows.specs.declared.row.RowKind.TheVariants.{AtMost, AtLeast,
 use Rattle.program_rows.specs.Program.{TableRow}
 use Rattle.program_rows.specs.Lines.{Data}
 use Rattle.program_rows.specs.Sections.{Sections, with_line}
-use Rattle.program_rows.specs.Described.{is_one_of, is_free, kind_of}
+use Rattle.program_rows.specs.Described.{is_one_of, is_free, row_kind_of}
 use Rattle.program_rows.specs.Faults.{fault, is_declared, row_types}
 use Rattle.mps_text.specs.Text.{row_fields, kind_letter}
 use Rattle.mps_text.proofs.Blocks.{AreRead}
@@ -43,7 +43,7 @@ rows-read before (r ∷ rows) s new differ =
 
 -- ---- what the lines of ROWS and RHS say of the program
 
-type_is : (k : RowKind) → (bytes_eq (kind_letter k) (codes "N") ≡ false) × (kind_of (kind_letter k) ≡ k)
+type_is : (k : RowKind) → (bytes_eq (kind_letter k) (codes "N") ≡ false) × (row_kind_of (kind_letter k) ≡ k)
 type_is AtMost = (refl, refl)
 type_is AtLeast = (refl, refl)
 type_is Equal = (refl, refl)

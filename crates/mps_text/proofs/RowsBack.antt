@@ -11,7 +11,7 @@ use Rattle.program_rows.specs.declared.row.RowKind.TheVariants.{AtMost, AtLeast,
 use Rattle.program_rows.specs.Program.{TableRow}
 use Rattle.program_rows.specs.Lines.{LineFields, field}
 use Rattle.program_rows.specs.Sections.{Sections}
-use Rattle.program_rows.specs.Described.{kind_of, is_free, table_rows, right_side, all_right_sides, line_right_sides}
+use Rattle.program_rows.specs.Described.{row_kind_of, is_free, table_rows, right_side, all_right_sides, line_right_sides}
 use Rattle.mps_text.specs.Text.{row_fields, right_side_fields, kind_letter}
 use Rattle.mps_text.proofs.Numbers.{IsSmall, number-signed_decimal}
 use Rattle.mps_text.proofs.RowPhase.{bound_rows}
@@ -54,12 +54,12 @@ found (r ∷ ps) h =
       subst (λ (w : List (List ℕ × List ℕ)). AllByRecursion (λ q. find (named q.name) w ≡ Some (shown q)) ps) back others,
     )
 
-kind-back : (k : RowKind) → kind_of (kind_letter k) ≡ k
+kind-back : (k : RowKind) → row_kind_of (kind_letter k) ≡ k
 kind-back AtMost = refl
 kind-back AtLeast = refl
 kind-back Equal = refl
 
-rows_by : (number : List ℕ → ℤ) (ps : List TableRow) → AllByRecursion (λ r. number r.name ≡ r.right_side) ps → map (λ fields. record { name = field 1 fields; kind = kind_of (field 0 fields); right_side = number (field 1 fields) }) (map row_fields ps) ≡ ps
+rows_by : (number : List ℕ → ℤ) (ps : List TableRow) → AllByRecursion (λ r. number r.name ≡ r.right_side) ps → map (λ fields. record { name = field 1 fields; kind = row_kind_of (field 0 fields); right_side = number (field 1 fields) }) (map row_fields ps) ≡ ps
 rows_by number [] h = refl
 rows_by number (r ∷ ps) h = rw (kind-back r.kind, h.0, rows_by number ps h.1) refl
 

@@ -14,20 +14,20 @@ use Rattle.program_rows.specs.Points.{coefficient_at}
 use Rattle.program_rows.specs.Parts.{AreEntries, IsProgram}
 use Rattle.optimality.specs.Certificates.{Form, number_in}
 use Rattle.optimality.specs.inside.Adding.{form_at}
-use Rattle.optimality.specs.inside.RowForms.{with_term, with_entries, with_columns, row_forms, forms_of}
+use Rattle.optimality.specs.inside.RowForms.{with_term, with_entries, with_columns, row_forms, forms_held}
 
 -- ---------- what the code does ----------
 
 -- a term pushed onto the form of a row
-pub term-pushed : (forms : List (Vec (ℕ × ℤ) Global)) (row : ℕ) (t : ℕ × ℤ) (d next : Vec (ℕ × ℤ) Global) → row < length forms → next.items ≡ (get_or forms row d).items ++ t ∷ [] → forms_of (slice_set forms row next) ≡ with_term row t (forms_of forms)
+pub term-pushed : (forms : List (Vec (ℕ × ℤ) Global)) (row : ℕ) (t : ℕ × ℤ) (d next : Vec (ℕ × ℤ) Global) → row < length forms → next.items ≡ (get_or forms row d).items ++ t ∷ [] → forms_held (slice_set forms row next) ≡ with_term row t (forms_held forms)
 term-pushed forms row t d next h e =
     map-set (λ (form : Vec (ℕ × ℤ) Global). form.items) forms row next
-    ∙ ap (λ (form : Form). slice_set (forms_of forms) row form) (e ∙ ap (λ (form : Form). form ++ t ∷ []) (sym (get_or-map (λ (form : Vec (ℕ × ℤ) Global). form.items) forms row d [] h)))
+    ∙ ap (λ (form : Form). slice_set (forms_held forms) row form) (e ∙ ap (λ (form : Form). form ++ t ∷ []) (sym (get_or-map (λ (form : Vec (ℕ × ℤ) Global). form.items) forms row d [] h)))
 
 -- one empty form more
-pub form-pushed : (forms next : List (Vec (ℕ × ℤ) Global)) (form : Vec (ℕ × ℤ) Global) (n : ℕ) → form.items ≡ [] → next ≡ forms ++ form ∷ [] → forms_of forms ≡ replicate n [] → forms_of next ≡ replicate (n + 1) []
+pub form-pushed : (forms next : List (Vec (ℕ × ℤ) Global)) (form : Vec (ℕ × ℤ) Global) (n : ℕ) → form.items ≡ [] → next ≡ forms ++ form ∷ [] → forms_held forms ≡ replicate n [] → forms_held next ≡ replicate (n + 1) []
 form-pushed forms next form n e p h =
-    ap forms_of p ∙ map-append (λ (f : Vec (ℕ × ℤ) Global). f.items) forms (form ∷ [])
+    ap forms_held p ∙ map-append (λ (f : Vec (ℕ × ℤ) Global). f.items) forms (form ∷ [])
     ∙ ap (λ (fs : List Form). fs ++ form.items ∷ []) h ∙ ap (λ (f : Form). replicate n [] ++ f ∷ []) e ∙ replicate_more {X = Form} n []
 
 columns_there : (place i : ℕ) (cs : List TableColumn) (es : List (ℕ × ℤ)) (forms : List Form) → option_map (λ c. c.entries) (slice_get cs i) ≡ Some es → with_columns place (drop i cs) forms ≡ with_columns (suc place) (drop (suc i) cs) (with_entries place es forms)

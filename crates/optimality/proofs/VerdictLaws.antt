@@ -17,10 +17,10 @@ use Rattle.optimality.specs.Shows.{may_have, leaf_value, LeafShows, ShowsWithin}
 use Rattle.optimality.specs.Lines.{is_telling}
 use Rattle.auction_terms.specs.Stages.{and_then}
 use Rattle.program_rows.specs.ProgramNames.{row_names, column_names}
-use Rattle.optimality.specs.Told.{Told, BoundLine, SplitLine, natural_told, naturals_told, number_told, terms_told, rows_told, signed_rows, bound_told, split_told, line_told}
-use Rattle.optimality.specs.Telling.{Tells, IsShownBy}
+use Rattle.optimality.specs.Told.{Told, BoundLine, SplitLine, natural_told, naturals_told, token_told, named_numbers, rows_told, signed_rows, bound_told, split_told, line_told}
+use Rattle.optimality.specs.Telling.{TellsCertificate, IsShownBy}
 use Rattle.optimality.specs.Branches.{Branch, Low, High, cuts_above, closed}
-use Rattle.optimality.specs.Verdict.{is_above, taken, after_telling, fault_at, fault_from, first_fault}
+use Rattle.optimality.specs.Verdict.{is_above, taken, after_telling, fault_at, fault_from, certificate_fault}
 
 -- ---------- what lines still have to tell ----------
 
@@ -29,12 +29,12 @@ abbrev Completes : Table → ℤ → List Branch → List (List ℕ) → Type 0
 Completes p least [] lines = lines ≡ []
 Completes p least (High form most ∷ above) lines = Completes p least above lines
 Completes p least (Low form most ∷ above) lines =
-    (t : Certificate) × (left : List (List ℕ)) × Tells p (suc (length above)) t lines left × ShowsWithin p least (cuts_above above ++ side true form most ∷ []) t × Completes p least above left
+    (t : Certificate) × (left : List (List ℕ)) × TellsCertificate p (suc (length above)) t lines left × ShowsWithin p least (cuts_above above ++ side true form most ∷ []) t × Completes p least above left
 
 -- within open splits: a subtree, and what is to come behind it
 abbrev Awaits : Table → ℤ → List Branch → List (List ℕ) → Type 0
 Awaits p least branches lines =
-    (t : Certificate) × (left : List (List ℕ)) × Tells p (length branches) t lines left × ShowsWithin p least (cuts_above branches) t × Completes p least branches left
+    (t : Certificate) × (left : List (List ℕ)) × TellsCertificate p (length branches) t lines left × ShowsWithin p least (cuts_above branches) t × Completes p least branches left
 
 abbrev Holds : Table → ℤ → Option (List Branch) → List (List ℕ) → Type 0
 Holds p least None lines = lines ≡ []
@@ -45,7 +45,7 @@ closes p least [] lines = (λ h. h, λ h. h)
 closes p least (High form most ∷ above) lines = closes p least above lines
 closes p least (Low form most ∷ above) lines = (λ h. h, λ h. h)
 
-nothing-told : (p : Table) (depth : ℕ) (t : Certificate) (left : List (List ℕ)) → Tells p depth t [] left → ⊥
+nothing-told : (p : Table) (depth : ℕ) (t : Certificate) (left : List (List ℕ)) → TellsCertificate p depth t [] left → ⊥
 nothing-told p depth (Bound scale ys rows) left h = h
 nothing-told p depth (Split form most low high) left h = h
 
@@ -58,7 +58,7 @@ abbrev told_err : FaultKind → Result Told FaultKind
 told_err kind = Err kind
 
 to-first-side : (p : Table) (least : ℤ) (branches : List Branch) (line : List ℕ) (lines : List (List ℕ)) (form : Form) (most : ℤ) → line_told p (length branches) (fields line) ≡ Ok (SplitLine form most)
-    → (t : Certificate) (left : List (List ℕ)) → Tells p (length branches) t (line ∷ lines) left → ShowsWithin p least (cuts_above branches) t → Completes p least branches left → Awaits p least (Low form most ∷ branches) lines
+    → (t : Certificate) (left : List (List ℕ)) → TellsCertificate p (length branches) t (line ∷ lines) left → ShowsWithin p least (cuts_above branches) t → Completes p least branches left → Awaits p least (Low form most ∷ branches) lines
 to-first-side p least branches line lines form most e (Bound scale ys rows) left h shows after = let other : told_ok (SplitLine form most) ≡ told_ok (BoundLine scale ys rows) = sym e ∙ h.0 in absurd cc
 to-first-side p least branches line lines form most e (Split f m low high) left h shows after =
     let same : told_ok (SplitLine form most) ≡ told_ok (SplitLine f m) = sym e ∙ h.0 in
@@ -74,7 +74,7 @@ splits p least branches line lines form most e = (
 )
 
 to-end : (p : Table) (least : ℤ) (branches : List Branch) (line : List ℕ) (lines : List (List ℕ)) (scale : ℕ) (ys : List ℕ) (rows : Form) → line_told p (length branches) (fields line) ≡ Ok (BoundLine scale ys rows)
-    → (t : Certificate) (left : List (List ℕ)) → Tells p (length branches) t (line ∷ lines) left → ShowsWithin p least (cuts_above branches) t → Completes p least branches left → LeafShows p least (cuts_above branches) scale ys rows × Completes p least branches lines
+    → (t : Certificate) (left : List (List ℕ)) → TellsCertificate p (length branches) t (line ∷ lines) left → ShowsWithin p least (cuts_above branches) t → Completes p least branches left → LeafShows p least (cuts_above branches) scale ys rows × Completes p least branches lines
 to-end p least branches line lines scale ys rows e (Split f m low high) left h shows after = let other : told_ok (BoundLine scale ys rows) ≡ told_ok (SplitLine f m) = sym e ∙ h.0 in absurd cc
 to-end p least branches line lines scale ys rows e (Bound s y r) left h shows after =
     let same : told_ok (BoundLine scale ys rows) ≡ told_ok (BoundLine s y r) = sym e ∙ h.0 in
@@ -86,7 +86,7 @@ to-end p least branches line lines scale ys rows e (Bound s y r) left h shows af
     )
 
 refused : (p : Table) (least : ℤ) (branches : List Branch) (line : List ℕ) (lines : List (List ℕ)) (kind : FaultKind) → line_told p (length branches) (fields line) ≡ Err kind
-    → (t : Certificate) (left : List (List ℕ)) → Tells p (length branches) t (line ∷ lines) left → ⊥
+    → (t : Certificate) (left : List (List ℕ)) → TellsCertificate p (length branches) t (line ∷ lines) left → ⊥
 refused p least branches line lines kind e (Bound scale ys rows) left h = let other : told_err kind ≡ told_ok (BoundLine scale ys rows) = sym e ∙ h.0 in cc
 refused p least branches line lines kind e (Split form most low high) left h = let other : told_err kind ≡ told_ok (SplitLine form most) = sym e ∙ h.0 in cc
 
@@ -109,7 +109,7 @@ bound-signed p depth (token ∷ fs) scale ys rows e =
     let a = passed (natural_told token) (λ s. and_then (naturals_told depth fs) (λ m. and_then (rows_told p m.1) (λ r. Ok (BoundLine s m.0 r)))) (BoundLine scale ys rows) e in
     let b = passed (naturals_told depth fs) (λ m. and_then (rows_told p m.1) (λ r. Ok (BoundLine a.0 m.0 r))) (BoundLine scale ys rows) a.1 in
     let d = read (rows_told p b.0.1) a.0 b.0.0 b.1 in
-    let t = terms (terms_told (row_names p) _ b.0.1) d in
+    let t = terms (named_numbers (row_names p) _ b.0.1) d in
     signed p t.0 rows t.1
   where
     read : (r : Result Form FaultKind) (s : ℕ) (y : List ℕ) → and_then r (λ f. Ok (BoundLine s y f)) ≡ Ok (BoundLine scale ys rows) → r ≡ Ok rows
@@ -123,8 +123,8 @@ bound-signed p depth (token ∷ fs) scale ys rows e =
 split-apart : (p : Table) (fs : List (List ℕ)) (scale : ℕ) (ys : List ℕ) (rows : Form) → split_told p fs ≡ Ok (BoundLine scale ys rows) → ⊥
 split-apart p [] scale ys rows e = cc
 split-apart p (token ∷ fs) scale ys rows e =
-    let a = passed (number_told token) (λ most. and_then (terms_told (column_names p) _ fs) (λ form. Ok (SplitLine form most))) (BoundLine scale ys rows) e in
-    let b = passed (terms_told (column_names p) _ fs) (λ form. Ok (SplitLine form a.0)) (BoundLine scale ys rows) a.1 in
+    let a = passed (token_told token) (λ most. and_then (named_numbers (column_names p) _ fs) (λ form. Ok (SplitLine form most))) (BoundLine scale ys rows) e in
+    let b = passed (named_numbers (column_names p) _ fs) (λ form. Ok (SplitLine form a.0)) (BoundLine scale ys rows) a.1 in
     let other = b.1 in cc
 
 line-signed : (p : Table) (depth : ℕ) (fs : List (List ℕ)) (scale : ℕ) (ys : List ℕ) (rows : Form) → line_told p depth fs ≡ Ok (BoundLine scale ys rows) → list_all (may_have p.rows) rows ≡ true
@@ -184,20 +184,20 @@ stands : (p : Table) (least : ℤ) (lines : List (List ℕ)) → Stands p least 
 stands p least [] = end-of-text p least
 stands p least (line ∷ lines) = λ branches place. any-stands p least line lines (stands p least lines) branches place (is_telling line)
 
-pub verdict : (p : Table) (least : ℤ) (text : List ℕ) → (first_fault p least text ≡ None) ↔ IsShownBy p least text
+pub verdict : (p : Table) (least : ℤ) (text : List ℕ) → (certificate_fault p least text ≡ None) ↔ IsShownBy p least text
 verdict p least text =
     let all = stands p least (lines_of text) (Some []) 0 in (
-      (λ h. let a = all.0 h in (a.0, subst (λ (left : List (List ℕ)). Tells p 0 a.0 (filter is_telling (lines_of text)) left) a.4 a.2, a.3)),
+      (λ h. let a = all.0 h in (a.0, subst (λ (left : List (List ℕ)). TellsCertificate p 0 a.0 (filter is_telling (lines_of text)) left) a.4 a.2, a.3)),
       (λ h. all.1 (h.0, [], h.1, h.2, refl)),
     )
 
 -- ---------- an answer ----------
 
-pub shown : (p : Table) (least : ℤ) (text : List ℕ) (r : Result (Unit {0}) CertificateFault) → IsVerdict r (first_fault p least text) → OnOk r (IsShownBy p least text)
+pub shown : (p : Table) (least : ℤ) (text : List ℕ) (r : Result (Unit {0}) CertificateFault) → IsVerdict r (certificate_fault p least text) → OnOk r (IsShownBy p least text)
 shown p least text (Ok u) h = (verdict p least text).0 h
 shown p least text (Err fault) h = tt
 
-pub not-shown : (p : Table) (least : ℤ) (text : List ℕ) (r : Result (Unit {0}) CertificateFault) → IsVerdict r (first_fault p least text) → IfErr r (λ fault. IsLimit fault.kind ⊎ ¬ IsShownBy p least text)
+pub not-shown : (p : Table) (least : ℤ) (text : List ℕ) (r : Result (Unit {0}) CertificateFault) → IsVerdict r (certificate_fault p least text) → IfErr r (λ fault. IsLimit fault.kind ⊎ ¬ IsShownBy p least text)
 not-shown p least text (Ok u) h = tt
 not-shown p least text (Err fault) (inl limit) = inl limit
 not-shown p least text (Err fault) (inr e) = inr (λ s. let none = (verdict p least text).1 s in cc)

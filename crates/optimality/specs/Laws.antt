@@ -8,7 +8,7 @@ use Rattle.program_rows.specs.Faithful.{IsFaithful, IsGreatest, IsLeast, back}
 use Rattle.optimality.specs.Certificates.{Certificate}
 use Rattle.optimality.specs.Shows.{Shows}
 use Rattle.optimality.specs.Telling.{IsShownBy}
-use Rattle.optimality.specs.Verdict.{first_fault}
+use Rattle.optimality.specs.Verdict.{certificate_fault}
 
 -- no point has an objective below `least`
 abbrev pub IsBound : Table → ℤ → Type 0
@@ -29,4 +29,4 @@ ShownIsGreatest = (lots : Lots) (book : Book) (group : ℕ → Bool) (program : 
 
 -- a text has no fault exactly where it tells a certificate that shows `least`
 abbrev pub FirstFaultIsExact : Type 0
-FirstFaultIsExact = (p : Table) (least : ℤ) (text : List ℕ) → (first_fault p least text ≡ None) ↔ IsShownBy p least text
+FirstFaultIsExact = (p : Table) (least : ℤ) (text : List ℕ) → (certificate_fault p least text ≡ None) ↔ IsShownBy p least text

@@ -8,12 +8,12 @@ use Rattle.optimality.specs.Lines.{telling_lines}
 use Rattle.optimality.specs.Told.{BoundLine, SplitLine, line_told}
 
 -- the first of the lines tell a certificate below as many splits as `depth`, and these are left
-abbrev pub Tells : Table → ℕ → Certificate → List (List ℕ) → List (List ℕ) → Type 0
-Tells p depth certificate [] left = ⊥
-Tells p depth (Bound scale ys rows) (line ∷ lines) left = (line_told p depth (fields line) ≡ Ok (BoundLine scale ys rows)) × (lines ≡ left)
-Tells p depth (Split form most low high) (line ∷ lines) left =
-    (line_told p depth (fields line) ≡ Ok (SplitLine form most)) × ((middle : List (List ℕ)) × Tells p (suc depth) low lines middle × Tells p (suc depth) high middle left)
+abbrev pub TellsCertificate : Table → ℕ → Certificate → List (List ℕ) → List (List ℕ) → Type 0
+TellsCertificate p depth certificate [] left = ⊥
+TellsCertificate p depth (Bound scale ys rows) (line ∷ lines) left = (line_told p depth (fields line) ≡ Ok (BoundLine scale ys rows)) × (lines ≡ left)
+TellsCertificate p depth (Split form most low high) (line ∷ lines) left =
+    (line_told p depth (fields line) ≡ Ok (SplitLine form most)) × ((middle : List (List ℕ)) × TellsCertificate p (suc depth) low lines middle × TellsCertificate p (suc depth) high middle left)
 
 -- the text tells a certificate that shows `least`
 abbrev pub IsShownBy : Table → ℤ → List ℕ → Type 0
-IsShownBy p least text = (certificate : Certificate) × Tells p 0 certificate (telling_lines text) [] × Shows p least certificate
+IsShownBy p least text = (certificate : Certificate) × TellsCertificate p 0 certificate (telling_lines text) [] × Shows p least certificate

@@ -50,5 +50,5 @@ fault_from p least branches place [] = ends branches place
 fault_from p least branches place (line ∷ lines) = fault_at (after_line p least branches line) (suc place) (λ next. fault_from p least next (suc place) lines)
 
 -- the first fault of a text that is to show `least`
-abbrev pub first_fault : Table → ℤ → List ℕ → Option (ℕ × FaultKind)
-first_fault p least text = fault_from p least (Some []) 0 (lines_of text)
+abbrev pub certificate_fault : Table → ℤ → List ℕ → Option (ℕ × FaultKind)
+certificate_fault p least text = fault_from p least (Some []) 0 (lines_of text)

@@ -2,7 +2,7 @@
 
 ghost use Rattle.std.specs.Prelude.{◌≡◌, ◌==◌, not, bytes_eq, length, IfOk};
 ghost use Rattle.program_rows.specs.Lines.{fields};
-ghost use Rattle.optimality.specs.inside.Answers.{Answers};
+ghost use Rattle.optimality.specs.inside.Answers.{AnswersSeen};
 ghost use Rattle.optimality.specs.inside.Branches.{branches_of, opened};
 ghost use Rattle.optimality.specs.Branches.{cuts_above};
 ghost use Rattle.optimality.specs.inside.Checking.{IsPrepared};
@@ -37,7 +37,7 @@ fn take_split_line(
     text: &[u8],
 ) -> Result<bool, Refusal>
     requires { IsPrepared checker.now }
-    ensures { Answers (λ is_last. opened is_last splits.new.items) result (and_then (split_told checker.now.program.now (fields text.now)) (taken checker.now.program.now checker.now.least (branches_of splits.old.items))) }
+    ensures { AnswersSeen (λ is_last. opened is_last splits.new.items) result (and_then (split_told checker.now.program.now (fields text.now)) (taken checker.now.program.now checker.now.least (branches_of splits.old.items))) }
 {
     let split = take_split(checker, text)?;
     splits.push(split)?;
@@ -64,7 +64,7 @@ fn take_leaf_line(
     text: &[u8],
 ) -> Result<bool, Refusal>
     requires { IsPrepared checker.now }
-    ensures { Answers (λ is_last. opened is_last splits.new.items) result (and_then (bound_told checker.now.program.now (length splits.old.items) (fields text.now)) (taken checker.now.program.now checker.now.least (branches_of splits.old.items))) }
+    ensures { AnswersSeen (λ is_last. opened is_last splits.new.items) result (and_then (bound_told checker.now.program.now (length splits.old.items) (fields text.now)) (taken checker.now.program.now checker.now.least (branches_of splits.old.items))) }
 {
     let leaf = take_leaf(checker, splits.len(), text)?;
     if !leaf_shows(checker, numbers, splits.as_slice(), &leaf)? {
@@ -81,7 +81,7 @@ fn take_line(
     line: &[u8],
 ) -> Result<bool, Refusal>
     requires { IsPrepared checker.now }
-    ensures { Answers (λ is_last. opened is_last splits.new.items) result (after_open checker.now.program.now checker.now.least (branches_of splits.old.items) line.now) }
+    ensures { AnswersSeen (λ is_last. opened is_last splits.new.items) result (after_open checker.now.program.now checker.now.least (branches_of splits.old.items) line.now) }
 {
     let Some(word) = next_field(line) else {
         return Err(Refusal::Fault(FaultKind::Fields));
@@ -125,7 +125,7 @@ pub fn take_any(
     line: &[u8],
 ) -> Result<bool, Refusal>
     requires { IsPrepared checker.now }
-    ensures { Answers (λ is_last_then. opened is_last_then splits.new.items) result (after_line checker.now.program.now checker.now.least (opened is_last splits.old.items) line.now) }
+    ensures { AnswersSeen (λ is_last_then. opened is_last_then splits.new.items) result (after_line checker.now.program.now checker.now.least (opened is_last splits.old.items) line.now) }
 {
     if !is_telling(line) {
         return Ok(is_last);

@@ -2,11 +2,11 @@
 
 ghost use Rattle.std.specs.Prelude.{◌≡◌, ◌⊎◌, IfErr, IfOk, OnOk};
 ghost use Rattle.optimality.specs.Answers.{IsLimit, IsVerdict};
-ghost use Rattle.optimality.specs.inside.Answers.{IsRefused};
+ghost use Rattle.optimality.specs.inside.Answers.{IsRefusedCertificate};
 ghost use Rattle.optimality.specs.inside.Checking.{IsPrepared};
 ghost use Rattle.optimality.specs.Laws.{IsBound};
 ghost use Rattle.optimality.specs.Telling.{IsShownBy};
-ghost use Rattle.optimality.specs.Verdict.{first_fault};
+ghost use Rattle.optimality.specs.Verdict.{certificate_fault};
 
 use crate::checker::Checker;
 use crate::fault::{CertificateFault, FaultKind};
@@ -21,7 +21,7 @@ use std::alloc::{AllocError, Global};
 use std::cell::Cell;
 
 fn refused(line: usize, refusal: Refusal) -> CertificateFault
-    ensures { IsRefused line refusal result }
+    ensures { IsRefusedCertificate line refusal result }
 {
     let kind = match refusal {
         Refusal::Stopped(Limit::Memory) => FaultKind::OutOfMemory,
@@ -33,7 +33,7 @@ fn refused(line: usize, refusal: Refusal) -> CertificateFault
 
 fn check_lines(checker: &Checker, text: &[u8]) -> Result<(), CertificateFault>
     requires { IsPrepared checker.now }
-    ensures { IsVerdict result (first_fault checker.now.program.now checker.now.least text.now) }
+    ensures { IsVerdict result (certificate_fault checker.now.program.now checker.now.least text.now) }
 {
     let mut numbers = Vec::new(checker.alloc);
     let mut splits = Vec::new(checker.alloc);
@@ -87,7 +87,7 @@ pub fn check_certificate(
     ensures sound { OnOk result (IsBound program.now least) }
     ensures shown { OnOk result (IsShownBy program.now least text.now) }
     ensures refused { IfErr result (λ fault. IsLimit fault.kind ⊎ ¬ IsShownBy program.now least text.now) }
-    ensures first { IsVerdict result (first_fault program.now least text.now) }
+    ensures first { IsVerdict result (certificate_fault program.now least text.now) }
 {
     let Ok(checker) = new_checker(alloc, program, least) else {
         return Err(CertificateFault {

@@ -3,7 +3,7 @@
 ghost use Rattle.std.specs.Prelude.{◌≡◌, IfOk, OnOk, ◌+ℤ◌, ◌*ℤ◌};
 ghost use Rattle.optimality.specs.inside.Adding.{form_at, with_form, with_rows};
 ghost use Rattle.optimality.specs.Reduced as reduced;
-ghost use Rattle.optimality.specs.inside.RowForms.{forms_of};
+ghost use Rattle.optimality.specs.inside.RowForms.{forms_held};
 
 use crate::arithmetic::{plus, product};
 use crate::forms::add_form;
@@ -12,7 +12,7 @@ use crate::row_forms::Form;
 use program_rows::Program;
 
 fn add_row(numbers: &mut [i128], forms: &[Form], row: usize, multiplier: i64) -> Result<(), Limit>
-    ensures { OnOk result (numbers.new ≡ with_form multiplier (form_at (forms_of forms.now) row) numbers.old) }
+    ensures { OnOk result (numbers.new ≡ with_form multiplier (form_at (forms_held forms.now) row) numbers.old) }
 {
     if row >= forms.len() {
         return Ok(());
@@ -22,7 +22,7 @@ fn add_row(numbers: &mut [i128], forms: &[Form], row: usize, multiplier: i64) ->
 
 /// Adds the rows, each times its multiplier. A row that isn't named costs nothing.
 pub fn add_rows(numbers: &mut [i128], forms: &[Form], rows: &[(usize, i64)]) -> Result<(), Limit>
-    ensures { OnOk result (numbers.new ≡ with_rows rows.now (forms_of forms.now) numbers.old) }
+    ensures { OnOk result (numbers.new ≡ with_rows rows.now (forms_held forms.now) numbers.old) }
 {
     for i in 0..rows.len() {
         let (row, multiplier) = rows[i];

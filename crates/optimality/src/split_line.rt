@@ -2,7 +2,7 @@
 
 ghost use Rattle.std.specs.Prelude.{◌≡◌, IfOk, false};
 ghost use Rattle.program_rows.specs.Lines.{fields};
-ghost use Rattle.optimality.specs.inside.Answers.{Answers};
+ghost use Rattle.optimality.specs.inside.Answers.{AnswersSeen};
 ghost use Rattle.optimality.specs.inside.Checking.{IsPrepared};
 ghost use Rattle.optimality.specs.Told.{SplitLine, split_told};
 
@@ -17,7 +17,7 @@ use crate::terms::take_column_terms;
 /// The split that a text tells, at its first side.
 pub fn take_split(checker: &Checker, text: &[u8]) -> Result<OpenSplit, Refusal>
     requires { IsPrepared checker.now }
-    ensures told { Answers (λ split. SplitLine split.form.items split.most) result (split_told checker.now.program.now (fields text.now)) }
+    ensures told { AnswersSeen (λ split. SplitLine split.form.items split.most) result (split_told checker.now.program.now (fields text.now)) }
     ensures low { IfOk result (λ split. split.is_high ≡ false) }
 {
     let Some(token) = next_field(text) else {

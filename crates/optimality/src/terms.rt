@@ -2,12 +2,12 @@
 
 ghost use Rattle.std.specs.Prelude.{◌≡◌};
 ghost use Rattle.program_rows.specs.Lines.{fields};
-ghost use Rattle.optimality.specs.inside.Answers.{Answers};
+ghost use Rattle.optimality.specs.inside.Answers.{AnswersSeen};
 ghost use Rattle.optimality.specs.inside.Checking.{IsPrepared};
 ghost use Rattle.optimality.specs.declared.fault.FaultKind.TheVariants.{UnknownColumn, UnknownRow};
 ghost use Rattle.auction_terms.specs.Borrowed.{bytes_of};
 ghost use Rattle.program_rows.specs.ProgramNames.{column_names, row_names};
-ghost use Rattle.optimality.specs.Told.{place_told, term_told, terms_told};
+ghost use Rattle.optimality.specs.Told.{place_told, term_told, named_numbers};
 
 use crate::checker::Checker;
 use crate::fault::FaultKind;
@@ -24,7 +24,7 @@ fn take_place(
     unknown: FaultKind,
     name: &[u8],
 ) -> Result<usize, Refusal>
-    ensures { Answers (λ place. place) result (place_told (bytes_of names.now.keys) unknown name.now) }
+    ensures { AnswersSeen (λ place. place) result (place_told (bytes_of names.now.keys) unknown name.now) }
 {
     match place_of(names, next, name) {
         Some(place) => Ok(place),
@@ -39,7 +39,7 @@ fn take_term(
     name: &[u8],
     token: &[u8],
 ) -> Result<(usize, i64), Refusal>
-    ensures { Answers (λ term. term) result (term_told (bytes_of names.now.keys) unknown name.now token.now) }
+    ensures { AnswersSeen (λ term. term) result (term_told (bytes_of names.now.keys) unknown name.now token.now) }
 {
     let place = take_place(names, next, unknown, name)?;
     let number = take_number(token)?;
@@ -55,7 +55,7 @@ fn take_terms(
     unknown: FaultKind,
     text: &[u8],
 ) -> Result<Vec<(usize, i64)>, Refusal>
-    ensures { Answers (λ terms. terms.items) result (terms_told (bytes_of names.now.keys) unknown (fields text.now)) }
+    ensures { AnswersSeen (λ terms. terms.items) result (named_numbers (bytes_of names.now.keys) unknown (fields text.now)) }
 {
     let mut terms = Vec::new(alloc);
     let mut rest = text;
@@ -73,7 +73,7 @@ fn take_terms(
 /// Names of columns, each with a number, to the end of a line.
 pub fn take_column_terms(checker: &Checker, text: &[u8]) -> Result<Vec<(usize, i64)>, Refusal>
     requires { IsPrepared checker.now }
-    ensures { Answers (λ terms. terms.items) result (terms_told (column_names checker.now.program.now) UnknownColumn (fields text.now)) }
+    ensures { AnswersSeen (λ terms. terms.items) result (named_numbers (column_names checker.now.program.now) UnknownColumn (fields text.now)) }
 {
     take_terms(
         checker.alloc,
@@ -87,7 +87,7 @@ pub fn take_column_terms(checker: &Checker, text: &[u8]) -> Result<Vec<(usize, i
 /// Names of rows, each with a number, to the end of a line.
 pub fn take_row_terms(checker: &Checker, text: &[u8]) -> Result<Vec<(usize, i64)>, Refusal>
     requires { IsPrepared checker.now }
-    ensures { Answers (λ terms. terms.items) result (terms_told (row_names checker.now.program.now) UnknownRow (fields text.now)) }
+    ensures { AnswersSeen (λ terms. terms.items) result (named_numbers (row_names checker.now.program.now) UnknownRow (fields text.now)) }
 {
     take_terms(
         checker.alloc,

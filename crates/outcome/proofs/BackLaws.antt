@@ -25,7 +25,7 @@ use Rattle.program_rows.proofs.FaithfulLaws.{presolved_is_faithful}
 use Rattle.mps_text.specs.FaithfulText.{presolved_text}
 use Rattle.mps_text.proofs.FaithfulTexts.{presolved_text_is_faithful}
 use Rattle.program_rows.proofs.SpellingLaws.{reads_names_alone}
-use Rattle.outcome.specs.Winning.{by_bidder, all_bidders, allocation_of, IsMap, IsRising}
+use Rattle.outcome.specs.Winning.{by_bidder, all_bidders, allocation_of, IsMap, HasRisingBidders}
 use Rattle.outcome.specs.Coming.{ComesBack, PointsComeBack, SolutionsComeBack, AnswersOfSolversComeBack}
 use Rattle.outcome.proofs.PointLaws.{solutions_are_points}
 
@@ -110,12 +110,12 @@ from_on choices s (suc n) = all_append (λ c. s ≤ c.bidder) (filter (λ c. c.b
     (all_agree (λ c. c.bidder ≡ s) (λ c. s ≤ c.bidder) (filter (λ c. c.bidder == s) choices) (λ c e. omega arith) (of_one s choices))
     (all_agree (λ c. s + 1 ≤ c.bidder) (λ c. s ≤ c.bidder) (by_bidder (range_with_len (s + 1) n) choices) (λ c e. omega arith) (from_on choices (s + 1) n))
 
-one_then : (s : ℕ) (one more : List Choice) → length one ≤ 1 → AllByRecursion (λ c. c.bidder ≡ s) one → AllByRecursion (λ c. s + 1 ≤ c.bidder) more → IsRising more → IsRising (one ++ more)
+one_then : (s : ℕ) (one more : List Choice) → length one ≤ 1 → AllByRecursion (λ c. c.bidder ≡ s) one → AllByRecursion (λ c. s + 1 ≤ c.bidder) more → HasRisingBidders more → HasRisingBidders (one ++ more)
 one_then s [] more short h later rising = rising
 one_then s (c ∷ []) more short h later rising = (all_agree (λ d. s + 1 ≤ d.bidder) (λ d. c.bidder < d.bidder) more (λ d e. let same = h.0 in omega arith) later, rising)
 one_then s (c ∷ d ∷ one) more short h later rising = absurd (omega arith)
 
-rises : (choices : List Choice) → IsMap choices → (s n : ℕ) → IsRising (by_bidder (range_with_len s n) choices)
+rises : (choices : List Choice) → IsMap choices → (s n : ℕ) → HasRisingBidders (by_bidder (range_with_len s n) choices)
 rises choices map s zero = tt
 rises choices map s (suc n) =
     let one = filter (λ c. c.bidder == s) choices in
@@ -173,7 +173,7 @@ by_bidder-more choices s (suc n) =
     rw (next, same) (ap (λ (w : List Choice). filter (λ c. c.bidder == s) choices ++ w) (by_bidder-more choices (s + 1) n)
     ∙ sym (append_assoc (filter (λ c. c.bidder == s) choices) (by_bidder (range_with_len (s + 1) n) choices) (filter (λ c. c.bidder == (s + 1) + n) choices)))
 
-pub rises_all : (choices : List Choice) → IsMap choices → IsRising (by_bidder all_bidders choices)
+pub rises_all : (choices : List Choice) → IsMap choices → HasRisingBidders (by_bidder all_bidders choices)
 rises_all choices map = rises choices map 1 MOST_BIDDERS
 
 -- ---- one column more

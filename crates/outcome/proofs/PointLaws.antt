@@ -14,7 +14,7 @@ use Rattle.outcome.specs.declared.fault.SolutionFault.{SolutionFault}
 use Rattle.outcome.specs.declared.fault.SolutionFault.TheVariants as fault
 use Rattle.auction_terms.specs.Stages.{unless}
 use Rattle.program_rows.specs.ProgramNames.{column_names}
-use Rattle.outcome.specs.Solution.{solution, text_fault, point_fault, values_of, is_one, broken_bound_from, line_fault}
+use Rattle.outcome.specs.Solution.{solution, text_fault, point_fault, values_of, is_one, broken_bound_from, solution_line_fault}
 use Rattle.outcome.specs.Coming.{SolutionsArePoints}
 
 both_none : {F : Type 0} (a b : Option F) → option_or a b ≡ None → (a ≡ None) × (b ≡ None)
@@ -90,5 +90,5 @@ solutions_are_points p text values e = by (nat_lt SOLUTION_LIMIT (length text)) 
     by false t =
         let f = rw t at e in
         let mine = told_ok (text_fault p (lines_of text)) (values_of (column_names p) (lines_of text)) values f in
-        let both = both_none (first_fault (line_fault (column_names p)) [] (lines_of text)) (point_fault p (values_of (column_names p) (lines_of text))) mine.0 in
+        let both = both_none (first_fault (solution_line_fault (column_names p)) [] (lines_of text)) (point_fault p (values_of (column_names p) (lines_of text))) mine.0 in
         subst (IsPoint p) mine.1 (is_point_of both.1)

@@ -17,7 +17,7 @@ use Rattle.outcome.specs.declared.fault.ValueFault.{ValueFault}
 use Rattle.outcome.specs.declared.fault.SolutionFault.{SolutionFault}
 use Rattle.outcome.specs.declared.fault.SolutionFault.TheVariants as fault
 use Rattle.auction_terms.specs.Stages.{unless}
-use Rattle.outcome.specs.Solution.{is_skipped, value_in, names, is_one, values_of, value_fault, pair_fault}
+use Rattle.outcome.specs.Solution.{is_skipped, value_in, names_column, is_one, values_of, value_fault, pair_fault}
 use Rattle.auction_terms.specs.Borrowed.{bytes_of}
 use Rattle.outcome.specs.inside.Reading.{said_of, said_by}
 
@@ -36,36 +36,36 @@ either_false true b h = cc h
 either_false false b h = (refl, h)
 
 abbrev sets : List ℕ → List ℕ → Bool
-sets column line = names column line && result_unwrap_or (token_value (value_in line)) false
+sets column line = names_column column line && result_unwrap_or (token_value (value_in line)) false
 
-none_one : (text : List (List ℕ)) (column : List ℕ) → list_any (names column) text ≡ false → is_one text column ≡ false
+none_one : (text : List (List ℕ)) (column : List ℕ) → list_any (names_column column) text ≡ false → is_one text column ≡ false
 none_one [] column h = refl
 none_one (line ∷ text) column h =
-    let parts = either_false (names column line) (list_any (names column) text) h in
+    let parts = either_false (names_column column line) (list_any (names_column column) text) h in
     let first : sets column line ≡ false = ap (λ b. b && result_unwrap_or (token_value (value_in line)) false) parts.0 in
     ap₂ (λ a b. a || b) first (none_one text column parts.1)
 
 -- a line says nothing of a column that it doesn't name
-unsaid : (text : List (List ℕ)) (line column : List ℕ) → names column line ≡ false → said_of (text ++ line ∷ []) column ≡ said_of text column
+unsaid : (text : List (List ℕ)) (line column : List ℕ) → names_column column line ≡ false → said_of (text ++ line ∷ []) column ≡ said_of text column
 unsaid text line column h =
     let sets_not : sets column line ≡ false = ap (λ b. b && result_unwrap_or (token_value (value_in line)) false) h in
     ap₂ (λ (a b : Bool). cond a (Some b) None)
-    (list_any-append (names column) text (line ∷ []) ∙ or_left (list_any (names column) text) (names column line) h)
+    (list_any-append (names_column column) text (line ∷ []) ∙ or_left (list_any (names_column column) text) (names_column column line) h)
     (list_any-append (sets column) text (line ∷ []) ∙ or_left (list_any (sets column) text) (sets column line) sets_not)
 
--- the first line that names a column says its value
-said_now : (text : List (List ℕ)) (line column : List ℕ) (v : Bool) → names column line ≡ true → list_any (names column) text ≡ false → token_value (value_in line) ≡ Ok v → said_of (text ++ line ∷ []) column ≡ Some v
+-- the first line that names_column a column says its value
+said_now : (text : List (List ℕ)) (line column : List ℕ) (v : Bool) → names_column column line ≡ true → list_any (names_column column) text ≡ false → token_value (value_in line) ≡ Ok v → said_of (text ++ line ∷ []) column ≡ Some v
 said_now text line column v h none is =
     let sets_it : sets column line ≡ v = rw (h, is) refl in
     ap₂ (λ (a b : Bool). cond a (Some b) None)
-    (list_any-append (names column) text (line ∷ []) ∙ or_right (list_any (names column) text) (names column line) none ∙ h)
+    (list_any-append (names_column column) text (line ∷ []) ∙ or_right (list_any (names_column column) text) (names_column column line) none ∙ h)
     (list_any-append (sets column) text (line ∷ []) ∙ or_right (list_any (sets column) text) (sets column line) (none_one text column none) ∙ sets_it)
 
 flipped : (x y : List ℕ) → bytes_eq x y ≡ false → bytes_eq y x ≡ false
 flipped x y h = false_from_ne_true _ (λ e. both_ways _ h ((bytes_eq-Decides x y).1 (sym ((bytes_eq-Decides y x).0 e))))
 
--- the line names this column alone
-module _ (text : List (List ℕ)) (line name : List ℕ) (v : Bool) (only : (column : List ℕ) → names column line ≡ bytes_eq column name) where
+-- the line names_column this column alone
+module _ (text : List (List ℕ)) (line name : List ℕ) (v : Bool) (only : (column : List ℕ) → names_column column line ≡ bytes_eq column name) where
   others : (columns : List (List ℕ)) → AllByRecursion (λ c. bytes_eq name c ≡ false) columns → said_by columns text ≡ said_by columns (text ++ line ∷ [])
   others [] h = refl
   others (c ∷ columns) h = ap₂ (λ (x : Option Bool) (xs : List (Option Bool)). x ∷ xs) (sym (unsaid text line c (only c ∙ flipped name c h.0))) (others columns h.1)
@@ -75,19 +75,19 @@ module _ (text : List (List ℕ)) (line name : List ℕ) (v : Bool) (only : (col
   differs_at c (d ∷ columns) zero h e = let same : d ≡ name = cc in rw (← same) h.0
   differs_at c (d ∷ columns) (suc i) h e = differs_at c columns i h.1 e
 
-  pub said_set : (columns : List (List ℕ)) (i : ℕ) → IsDistinct bytes_eq columns → slice_get columns i ≡ Some name → list_any (names name) text ≡ false → token_value (value_in line) ≡ Ok v
+  pub said_set : (columns : List (List ℕ)) (i : ℕ) → IsDistinct bytes_eq columns → slice_get columns i ≡ Some name → list_any (names_column name) text ≡ false → token_value (value_in line) ≡ Ok v
       → set (said_by columns text) i (Some v) ≡ said_by columns (text ++ line ∷ [])
   said_set [] i d e none is = cc e
   said_set (c ∷ columns) zero d e none is =
       let same : c ≡ name = cc in
-      let here : names name line ≡ true = only name ∙ (bytes_eq-Decides name name).1 refl in
+      let here : names_column name line ≡ true = only name ∙ (bytes_eq-Decides name name).1 refl in
       let rest : AllByRecursion (λ y. bytes_eq name y ≡ false) columns = rw same at (IsDistinct-head bytes_eq c columns d) in
       ap₂ (λ (x : Option Bool) (xs : List (Option Bool)). x ∷ xs) (sym (rw same (said_now text line name v here none is))) (others columns rest)
   said_set (c ∷ columns) (suc i) d e none is =
       ap₂ (λ (x : Option Bool) (xs : List (Option Bool)). x ∷ xs) (sym (unsaid text line c (only c ∙ differs_at c columns i (IsDistinct-head bytes_eq c columns d) e))) (said_set columns i (IsDistinct-tail bytes_eq c columns d) e none is)
 
 -- what two fields name
-pub names_only : (line name token : List ℕ) → is_skipped line ≡ false → fields line ≡ name ∷ token ∷ [] → (column : List ℕ) → names column line ≡ bytes_eq column name
+pub names_only : (line name token : List ℕ) → is_skipped line ≡ false → fields line ≡ name ∷ token ∷ [] → (column : List ℕ) → names_column column line ≡ bytes_eq column name
 names_only line name token full two column = ap₂ (λ (s : Bool) (fs : List (List ℕ)). not s && bytes_eq column (unwrap_or (slice_get fs 0) [])) full two
 
 pub value_of_pair : (line name token : List ℕ) → fields line ≡ name ∷ token ∷ [] → value_in line ≡ token
@@ -146,8 +146,8 @@ is_unknown keys name h =
 
 -- ---- what a name and a value tell
 
-is_said : (text : List (List ℕ)) (name : List ℕ) → is_some (said_of text name) ≡ list_any (names name) text
-is_said text name = by (list_any (names name) text)
+is_said : (text : List (List ℕ)) (name : List ℕ) → is_some (said_of text name) ≡ list_any (names_column name) text
+is_said text name = by (list_any (names_column name) text)
   where
     by : (b : Bool) → is_some (cond b (Some (is_one text name)) None) ≡ b
     by true = refl
@@ -169,10 +169,10 @@ module _ (keys : List (Bor (List ℕ))) (before : List (List ℕ)) (place : ℕ)
 
   pub repeated : (said : List (Option Bool)) (i : ℕ) → said ≡ said_by (bytes_of keys) before → Some i ≡ position (λ k. bytes_eq name k.now) keys → is_some (get_or said i None) ≡ true → Err (fault.RepeatedColumn place) ≡ answer_is
   repeated said i is h some =
-      let before_it : list_any (names name) before ≡ true = sym (is_said before name) ∙ sym (ap (λ (o : Option Bool). is_some o) (said_at said i is h)) ∙ some in
+      let before_it : list_any (names_column name) before ≡ true = sym (is_said before name) ∙ sym (ap (λ (o : Option Bool). is_some o) (said_at said i is h)) ∙ some in
       rw (is_known keys name i (sym h), before_it) refl
 
-  is_new : (said : List (Option Bool)) (i : ℕ) → said ≡ said_by (bytes_of keys) before → Some i ≡ position (λ k. bytes_eq name k.now) keys → is_some (get_or said i None) ≡ false → list_any (names name) before ≡ false
+  is_new : (said : List (Option Bool)) (i : ℕ) → said ≡ said_by (bytes_of keys) before → Some i ≡ position (λ k. bytes_eq name k.now) keys → is_some (get_or said i None) ≡ false → list_any (names_column name) before ≡ false
   is_new said i is h none = sym (is_said before name) ∙ sym (ap (λ (o : Option Bool). is_some o) (said_at said i is h)) ∙ none
 
   by_value : (said : List (Option Bool)) (i : ℕ) → said ≡ said_by (bytes_of keys) before → Some i ≡ position (λ k. bytes_eq name k.now) keys → is_some (get_or said i None) ≡ false → fault_is ≡ value_fault place (token_value token)
@@ -199,9 +199,9 @@ nothing_said [] n e = rw e refl
 nothing_said (c ∷ columns) n e = rw e (ap (λ (xs : List (Option Bool)). None ∷ xs) (nothing_said columns (length columns) refl))
 
 said_value : (text : List (List ℕ)) (column : List ℕ) → unwrap_or (said_of text column) false ≡ is_one text column
-said_value text column = by (list_any (names column) text) refl
+said_value text column = by (list_any (names_column column) text) refl
   where
-    by : (b : Bool) → list_any (names column) text ≡ b → unwrap_or (cond (list_any (names column) text) (Some (is_one text column)) None) false ≡ is_one text column
+    by : (b : Bool) → list_any (names_column column) text ≡ b → unwrap_or (cond (list_any (names_column column) text) (Some (is_one text column)) None) false ≡ is_one text column
     by true h = rw h refl
     by false h = rw h (sym (none_one text column h))
 

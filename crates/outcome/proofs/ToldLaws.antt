@@ -17,7 +17,7 @@ use Rattle.outcome.specs.declared.fault.SolutionFault.{SolutionFault}
 use Rattle.outcome.specs.declared.fault.SolutionFault.TheVariants as fault
 use Rattle.program_rows.specs.Program.{Table}
 use Rattle.program_rows.specs.ProgramNames.{column_names}
-use Rattle.outcome.specs.Solution.{is_memory, line_fault, values_of, point_fault, text_fault, solution}
+use Rattle.outcome.specs.Solution.{is_solution_memory, solution_line_fault, values_of, point_fault, text_fault, solution}
 
 module _ {T : Type 0} where
   pub told_none : (f : Option SolutionFault) (x y : T) → Ok x ≡ unless f (Ok y) → f ≡ None
@@ -63,7 +63,7 @@ option_first (Some y) g x h = h
 
 module _ (p : Table) (text : List ℕ) where
   abbrev line_faults : Option SolutionFault
-  line_faults = first_fault (line_fault (column_names p)) [] (lines_of text)
+  line_faults = first_fault (solution_line_fault (column_names p)) [] (lines_of text)
 
   abbrev values : List Bool
   values = values_of (column_names p) (lines_of text)
@@ -76,17 +76,17 @@ module _ (p : Table) (text : List ℕ) where
   unfolding solution
   short h = let t : nat_lt SOLUTION_LIMIT (length text) ≡ false = grind (arith, nat_tests) in rw t refl
 
-  pub faulty_line : (f : SolutionFault) → length text ≤ SOLUTION_LIMIT → Answers is_memory (Err f) (unless line_faults (Ok values)) → Answers is_memory (Err f) (solution p text)
-  faulty_line f small h = answers-more is_memory f (unless line_faults (Ok values)) (solution p text) h (λ e.
+  pub faulty_line : (f : SolutionFault) → length text ≤ SOLUTION_LIMIT → Answers is_solution_memory (Err f) (unless line_faults (Ok values)) → Answers is_solution_memory (Err f) (solution p text)
+  faulty_line f small h = answers-more is_solution_memory f (unless line_faults (Ok values)) (solution p text) h (λ e.
       let some = told_some line_faults f values e in
       told_of (text_fault p (lines_of text)) f values (option_first line_faults (point_fault p values) f some) ∙ sym (short small))
 
-  pub no_point : (f : SolutionFault) (read : List Bool) → length text ≤ SOLUTION_LIMIT → Ok read ≡ unless line_faults (Ok values) → Err f ≡ unless {A = Unit {0}} (point_fault p read) (Ok tt) → Answers is_memory (Err f) (solution p text)
+  pub no_point : (f : SolutionFault) (read : List Bool) → length text ≤ SOLUTION_LIMIT → Ok read ≡ unless line_faults (Ok values) → Err f ≡ unless {A = Unit {0}} (point_fault p read) (Ok tt) → Answers is_solution_memory (Err f) (solution p text)
   no_point f read small e h =
       let none = told_none line_faults read values e in
       let same : read ≡ values = told_same line_faults read values e in
       let some : point_fault p values ≡ Some f = rw same at (told_some (point_fault p read) f tt h) in
-      answers-told is_memory (Err f) (solution p text) (told_of (text_fault p (lines_of text)) f values (option_second line_faults (point_fault p values) none ∙ some) ∙ sym (short small))
+      answers-told is_solution_memory (Err f) (solution p text) (told_of (text_fault p (lines_of text)) f values (option_second line_faults (point_fault p values) none ∙ some) ∙ sym (short small))
 
   pub point_told : (read : List Bool) → length text ≤ SOLUTION_LIMIT → Ok read ≡ unless line_faults (Ok values) → Ok tt ≡ unless {A = Unit {0}} (point_fault p read) (Ok tt) → Ok read ≡ solution p text
   point_told read small e h =

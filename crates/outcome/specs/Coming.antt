@@ -11,7 +11,7 @@ use Rattle.program_rows.specs.Rows.{program_of}
 use Rattle.program_rows.specs.Faithful.{back, IsFaithful}
 use Rattle.mps_text.specs.FaithfulText.{presolved_text}
 use Rattle.outcome.specs.Solution.{solution}
-use Rattle.outcome.specs.Winning.{allocation_of, IsMap, IsRising}
+use Rattle.outcome.specs.Winning.{allocation_of, IsMap, HasRisingBidders}
 
 -- what a solution text tells is a point
 abbrev pub SolutionsArePoints : Type 0
@@ -22,7 +22,7 @@ pub record ComesBack (lots : Lots) (book : Book) (group : ℕ → Bool) (p : Tab
   pub map : IsMap (back p.columns values)
   pub feasible : IsFeasible lots book group (allocation_of p values)
   pub same_total : pos (total lots book (allocation_of p values)) ≡ neg_ℤ (objective p values)
-  pub rising : IsRising (allocation_of p values)
+  pub rising : HasRisingBidders (allocation_of p values)
 
 -- the points of a faithful program come back
 abbrev pub PointsComeBack : Type 0

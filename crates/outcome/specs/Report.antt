@@ -5,11 +5,11 @@ use Rattle.auction_terms.specs.Groups.{has}
 use Rattle.auction_terms.specs.declared.choices.Choice.{Choice}
 use Rattle.auction_terms.specs.Packages.{Lots}
 use Rattle.auction_terms.specs.Allocations.{Book, amount_of, total}
-use Rattle.outcome.specs.Sale.{Sale, name_of}
+use Rattle.outcome.specs.Sale.{Sale, bidder_name}
 
 -- name, bid and amount of a winner
 abbrev pub winner_line : Sale → Choice → List ℕ
-winner_line sale c = name_of sale.names c.bidder ++ (32 ∷ (decimal c.bid ++ (32 ∷ (decimal (amount_of sale.book c) ++ 10 ∷ []))))
+winner_line sale c = bidder_name sale.names c.bidder ++ (32 ∷ (decimal c.bid ++ (32 ∷ (decimal (amount_of sale.book c) ++ 10 ∷ []))))
 
 abbrev pub total_line : ℕ → List ℕ
 total_line amount = codes "total " ++ (decimal amount ++ 10 ∷ [])
@@ -19,12 +19,12 @@ abbrev pub allocation_text : Sale → List Choice → List ℕ
 allocation_text sale a = flat_map (winner_line sale) a ++ total_line (total sale.lots sale.book a)
 
 abbrev pub further_name : List (List ℕ) → ℕ → List ℕ
-further_name names b = 43 ∷ name_of names b
+further_name names b = 43 ∷ bidder_name names b
 
 -- the first of the group's bidders by name, and each further one behind a plus sign; a dash for none
 abbrev pub group_names : List (List ℕ) → List ℕ → List ℕ
 group_names names [] = codes "-"
-group_names names (b ∷ more) = name_of names b ++ flat_map (further_name names) more
+group_names names (b ∷ more) = bidder_name names b ++ flat_map (further_name names) more
 
 abbrev pub number_text : ℕ → List ℕ
 number_text k = codes "group " ++ (decimal k ++ 32 ∷ [])
@@ -44,14 +44,14 @@ abbrev pub cost_line : ℤ → List ℕ
 cost_line amount = codes "cost " ++ (signed_decimal amount ++ 10 ∷ [])
 
 -- what the report says of group k
-abbrev pub group_text : Sale → List Choice → ℕ → List ℕ → List Choice → List ℕ
-group_text sale first k group a = heading sale.names k group ++ (allocation_text sale a ++ cost_line (cost sale.lots sale.book first group a))
+abbrev pub group_report : Sale → List Choice → ℕ → List ℕ → List Choice → List ℕ
+group_report sale first k group a = heading sale.names k group ++ (allocation_text sale a ++ cost_line (cost sale.lots sale.book first group a))
 
 -- what it says of the groups from k on
 abbrev pub groups_text : Sale → List Choice → ℕ → List (List ℕ) → List (List Choice) → List ℕ
 groups_text sale first k [] allocations = []
 groups_text sale first k (group ∷ groups) [] = []
-groups_text sale first k (group ∷ groups) (a ∷ allocations) = group_text sale first k group a ++ groups_text sale first (k + 1) groups allocations
+groups_text sale first k (group ∷ groups) (a ∷ allocations) = group_report sale first k group a ++ groups_text sale first (k + 1) groups allocations
 
 -- the report on an allocation for each group, the first of them for the empty group
 abbrev pub report_text : Sale → List (List ℕ) → List (List Choice) → List ℕ

@@ -15,5 +15,5 @@ abbrev pub sale_of : Closing → Sale
 sale_of closing = record { names = map (λ bidder. bidder.name) closing.rules.bidders; lots = lots_in closing.rules; book = book_of closing }
 
 -- the name of a bidder by its number
-abbrev pub name_of : List (List ℕ) → ℕ → List ℕ
-name_of names bidder = if bidder == 0 then [] else unwrap_or (slice_get names (bidder - 1)) []
+abbrev pub bidder_name : List (List ℕ) → ℕ → List ℕ
+bidder_name names bidder = if bidder == 0 then [] else unwrap_or (slice_get names (bidder - 1)) []

@@ -23,16 +23,16 @@ use Rattle.outcome.specs.Values.{token_value}
 abbrev pub is_skipped : List ℕ → Bool
 is_skipped line = (slice_index line 0 == 35) || (length (fields line) == 0)
 
--- the column that a line names, and the token of its value
+-- the column that a line names_column, and the token of its value
 abbrev pub column_in : List ℕ → List ℕ
 column_in line = field 0 (fields line)
 
 abbrev pub value_in : List ℕ → List ℕ
 value_in line = field 1 (fields line)
 
--- whether the line names the column
-abbrev pub names : List ℕ → List ℕ → Bool
-names column line = not (is_skipped line) && bytes_eq column (column_in line)
+-- whether the line names_column the column
+abbrev pub names_column : List ℕ → List ℕ → Bool
+names_column column line = not (is_skipped line) && bytes_eq column (column_in line)
 
 -- ---- the faults of a line
 
@@ -41,12 +41,12 @@ value_fault place (Ok v) = None
 value_fault place (Err value.ValueText) = Some (fault.ValueText place)
 value_fault place (Err value.NotZeroOne) = Some (fault.NotZeroOne place)
 
--- the fault of a name and a value at a place, behind these lines; the columns are given by their names
+-- the fault of a name and a value at a place, behind these lines; the columns are given by their names_column
 abbrev pub pair_fault : List (List ℕ) → List (List ℕ) → ℕ → List ℕ → List ℕ → Option SolutionFault
 pair_fault columns before place name token = option_or
     (first_failed (
     (list_any (bytes_eq name) columns, fault.UnknownColumn place) ∷
-    (not (list_any (names name) before), fault.RepeatedColumn place) ∷ []))
+    (not (list_any (names_column name) before), fault.RepeatedColumn place) ∷ []))
     (value_fault place (token_value token))
 
 -- the fault of a line that isn't skipped
@@ -56,14 +56,14 @@ fields_fault columns before line =
     else Some (fault.Fields (length before + 1))
 
 -- the fault of a line behind these lines
-abbrev pub line_fault : List (List ℕ) → List (List ℕ) → List ℕ → Option SolutionFault
-line_fault columns before line = if is_skipped line then None else fields_fault columns before line
+abbrev pub solution_line_fault : List (List ℕ) → List (List ℕ) → List ℕ → Option SolutionFault
+solution_line_fault columns before line = if is_skipped line then None else fields_fault columns before line
 
 -- ---- the values of the columns
 
--- whether a line sets the column to 1; a column that no line names is 0
+-- whether a line sets the column to 1; a column that no line names_column is 0
 abbrev pub is_one : List (List ℕ) → List ℕ → Bool
-is_one text column = list_any (λ line. names column line && result_unwrap_or (token_value (value_in line)) false) text
+is_one text column = list_any (λ line. names_column column line && result_unwrap_or (token_value (value_in line)) false) text
 
 abbrev pub values_of : List (List ℕ) → List (List ℕ) → List Bool
 values_of columns text = map (is_one text) columns
@@ -81,7 +81,7 @@ point_fault p values = option_or (option_map fault.BoundBroken (broken_bound_fro
 -- ---- what a text tells
 
 abbrev pub text_fault : Table → List (List ℕ) → Option SolutionFault
-text_fault p text = option_or (first_fault (line_fault (column_names p)) [] text) (point_fault p (values_of (column_names p) text))
+text_fault p text = option_or (first_fault (solution_line_fault (column_names p)) [] text) (point_fault p (values_of (column_names p) text))
 
 -- the values that a text gives the columns of a program, or its first refusal
 unfoldable pub solution : Table → List ℕ → Result (List Bool) SolutionFault
@@ -90,6 +90,6 @@ solution p text =
     else unless (text_fault p (lines_of text)) (Ok (values_of (column_names p) (lines_of text)))
 
 -- out of memory is no fault of the text
-abbrev pub is_memory : SolutionFault → Bool
-is_memory fault.OutOfMemory = true
-is_memory f = false
+abbrev pub is_solution_memory : SolutionFault → Bool
+is_solution_memory fault.OutOfMemory = true
+is_solution_memory f = false

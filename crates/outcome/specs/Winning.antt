@@ -24,9 +24,9 @@ abbrev pub IsMap : List Choice → Type 0
 IsMap choices = (b : ℕ) → count_by (λ c. c.bidder == b) choices ≤ 1
 
 -- the bidders rise
-abbrev pub IsRising : List Choice → Type 0
-IsRising [] = Unit {0}
-IsRising (c ∷ more) = AllByRecursion (λ later. c.bidder < later.bidder) more × IsRising more
+abbrev pub HasRisingBidders : List Choice → Type 0
+HasRisingBidders [] = Unit {0}
+HasRisingBidders (c ∷ more) = AllByRecursion (λ later. c.bidder < later.bidder) more × HasRisingBidders more
 
 -- how many columns of this name are 1
 abbrev pub ones_named : List TableColumn → List Bool → List ℕ → ℕ

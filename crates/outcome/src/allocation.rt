@@ -12,21 +12,21 @@ pub struct Allocation {
 impl Model for Allocation {
     ghost use Rattle.std.specs.Prelude.{List};
     ghost use Rattle.auction_terms.specs.declared.choices.Choice.{Choice};
-    ghost use Rattle.outcome.specs.Winning.{IsRising};
+    ghost use Rattle.outcome.specs.Winning.{HasRisingBidders};
 
     ghost Value = { List Choice };
 
     ghost view = { λ a. a.choices.items };
 
-    ghost invariant = { λ a. IsRising a.choices.items };
+    ghost invariant = { λ a. HasRisingBidders a.choices.items };
 }
 
 impl Allocation {
     ghost use Rattle.std.specs.Prelude.{◌≡◌};
-    ghost use Rattle.outcome.specs.Winning.{IsRising};
+    ghost use Rattle.outcome.specs.Winning.{HasRisingBidders};
 
     pub(crate) fn new(choices: Vec<Choice>) -> Allocation
-        requires { IsRising choices.items }
+        requires { HasRisingBidders choices.items }
         ensures { result ≡ choices.items }
     {
         Allocation { choices }
@@ -35,7 +35,7 @@ impl Allocation {
     /// The bidders with the numbers of their bids, by rising bidder.
     pub fn choices(&self) -> &[Choice]
         ensures choices { result.now ≡ self.now }
-        ensures rising { IsRising self.now }
+        ensures rising { HasRisingBidders self.now }
     {
         self.choices.as_slice()
     }

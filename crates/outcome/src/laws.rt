@@ -4,12 +4,12 @@ ghost use Rattle.std.specs.Prelude.{ℕ, List};
 ghost use Rattle.auction_terms.specs.FirstFault.{TellsTheFirst};
 ghost use Rattle.outcome.specs.Coming.{AnswersOfSolversComeBack, PointsComeBack, SolutionsArePoints, SolutionsComeBack};
 ghost use Rattle.outcome.specs.Costs.{CostsAreBounded, CostsAreOwn, CostsCoverLots};
-ghost use Rattle.outcome.specs.Solution.{line_fault};
+ghost use Rattle.outcome.specs.Solution.{solution_line_fault};
 ghost use Rattle.outcome.specs.Winning.{TakesWhatIsNamed};
 
 /// The lines of a solution have the fault of the first of them with a fault.
 pub fn lines_of_solutions_tell_their_first_fault()
-    ensures { (columns : List (List ℕ)) → TellsTheFirst (line_fault columns) }
+    ensures { (columns : List (List ℕ)) → TellsTheFirst (solution_line_fault columns) }
 {}
 
 /// The values that a solution tells are a point of the program.

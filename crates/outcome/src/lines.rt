@@ -7,7 +7,7 @@ ghost use Rattle.auction_terms.specs.Lines.{lines_of};
 ghost use Rattle.program_rows.specs.Lines.{fields};
 ghost use Rattle.outcome.specs.declared.limits.TheConstants.{SOLUTION_LIMIT};
 ghost use Rattle.auction_terms.specs.Stages.{unless};
-ghost use Rattle.outcome.specs.Solution.{pair_fault, line_fault, is_skipped};
+ghost use Rattle.outcome.specs.Solution.{pair_fault, solution_line_fault, is_skipped};
 ghost use Rattle.auction_terms.specs.Borrowed.{bytes_of};
 ghost use Rattle.outcome.specs.inside.Reading.{said_by};
 
@@ -57,7 +57,7 @@ fn take_line(
     line: &[u8],
 ) -> Result<(), SolutionFault>
     requires { length said.old ≡ length columns.now.names.keys }
-    ensures answer { (before : List (List ℕ)) → said.old ≡ said_by (bytes_of columns.now.names.keys) before → place ≡ length before + 1 → result ≡ unless (line_fault (bytes_of columns.now.names.keys) before line.now) (Ok tt) }
+    ensures answer { (before : List (List ℕ)) → said.old ≡ said_by (bytes_of columns.now.names.keys) before → place ≡ length before + 1 → result ≡ unless (solution_line_fault (bytes_of columns.now.names.keys) before line.now) (Ok tt) }
     ensures kept { OnOk result ((before : List (List ℕ)) → IsDistinct bytes_eq (bytes_of columns.now.names.keys) → said.old ≡ said_by (bytes_of columns.now.names.keys) before
         → said.new ≡ said_by (bytes_of columns.now.names.keys) (before ++ line.now ∷ [])) }
 {
@@ -86,7 +86,7 @@ pub fn take_lines(
     requires distinct { IsDistinct bytes_eq (bytes_of columns.now.names.keys) }
     requires nothing { said.old ≡ said_by (bytes_of columns.now.names.keys) [] }
     requires small { length text.now ≤ SOLUTION_LIMIT }
-    ensures answer { result ≡ unless (first_fault (line_fault (bytes_of columns.now.names.keys)) [] (lines_of text.now)) (Ok tt) }
+    ensures answer { result ≡ unless (first_fault (solution_line_fault (bytes_of columns.now.names.keys)) [] (lines_of text.now)) (Ok tt) }
     ensures said { OnOk result (said.new ≡ said_by (bytes_of columns.now.names.keys) (lines_of text.now)) }
 {
     let mut lines = LineReader::new(text);

@@ -9,7 +9,7 @@ ghost use Rattle.program_rows.specs.Points.{IsPoint};
 ghost use Rattle.outcome.specs.declared.fault.SolutionFault.TheVariants as fault;
 ghost use Rattle.outcome.specs.declared.limits.TheConstants.{SOLUTION_LIMIT};
 ghost use Rattle.program_rows.specs.ProgramNames.{column_names};
-ghost use Rattle.outcome.specs.Solution.{is_memory, line_fault, solution, values_of};
+ghost use Rattle.outcome.specs.Solution.{is_solution_memory, solution_line_fault, solution, values_of};
 
 use crate::columns::finder_of;
 use crate::fault::SolutionFault;
@@ -37,7 +37,7 @@ fn values_from(alloc: Global, said: &[Option<bool>]) -> Result<Vec<bool>, AllocE
 fn read_values(alloc: Global, bytes: &[u8], program: &Program) -> Result<Point, SolutionFault>
     requires distinct { IsDistinct bytes_eq (column_names program.now) }
     requires small { length bytes.now ≤ SOLUTION_LIMIT }
-    ensures { Answers is_memory result (unless (first_fault (line_fault (column_names program.now)) [] (lines_of bytes.now)) (Ok (values_of (column_names program.now) (lines_of bytes.now)))) }
+    ensures { Answers is_solution_memory result (unless (first_fault (solution_line_fault (column_names program.now)) [] (lines_of bytes.now)) (Ok (values_of (column_names program.now) (lines_of bytes.now)))) }
 {
     let columns = finder_of(alloc, program)?;
     let mut said = nothing_said(alloc, program.column_count())?;
@@ -48,7 +48,7 @@ fn read_values(alloc: Global, bytes: &[u8], program: &Program) -> Result<Point, 
 /// Reads a solution of a program: a line for a column that is named, its name and its value, where others are 0.
 pub fn read_solution(alloc: Global, bytes: &[u8], program: &Program) -> Result<Point, SolutionFault>
     ensures too_large { SOLUTION_LIMIT < length bytes.now → result ≡ Err fault.TooLarge }
-    ensures answer { Answers is_memory result (solution program.now bytes.now) }
+    ensures answer { Answers is_solution_memory result (solution program.now bytes.now) }
     ensures point { IfOk result (λ values. IsPoint program.now values) }
 {
     if bytes.len() > SOLUTION_LIMIT {

@@ -3,7 +3,7 @@
 ghost use Rattle.std.specs.Prelude.{◌≡◌, length};
 ghost use Rattle.mps_text.specs.Adds.{Adds};
 ghost use Rattle.outcome.specs.Sale.{sale_of};
-ghost use Rattle.outcome.specs.Report.{cost_line, group_text, groups_text};
+ghost use Rattle.outcome.specs.Report.{cost_line, group_report, groups_text};
 
 use crate::allocation::Allocation;
 use crate::costs::cost_of;
@@ -32,7 +32,7 @@ fn add_group<S: Sink>(
     group: &Group,
     choices: &[Choice],
 )
-    ensures { Adds S.taken S.failures writer.old writer.new (group_text (sale_of book.now) first.now k group.now choices.now) }
+    ensures { Adds S.taken S.failures writer.old writer.new (group_report (sale_of book.now) first.now k group.now choices.now) }
 {
     add_heading(writer, book, k, group.numbers());
     add_allocation(writer, book, choices);

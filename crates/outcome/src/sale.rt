@@ -4,14 +4,14 @@ ghost use Rattle.std.specs.Prelude.{◌≡◌, slice_index};
 ghost use Rattle.std.specs.Option.{option_map_or};
 ghost use Rattle.auction_terms.specs.Allocations.{amount_of, bid_at, quantity_of};
 ghost use Rattle.bid_desk.specs.Closing.{book_of};
-ghost use Rattle.outcome.specs.Sale.{name_of, sale_of};
+ghost use Rattle.outcome.specs.Sale.{bidder_name, sale_of};
 
 use auction_terms::{Bid, Choice};
 use bid_desk::ClosedBook;
 
 /// The name of a bidder.
 pub fn name_of(book: &ClosedBook, bidder: u16) -> &[u8]
-    ensures { result.now ≡ name_of (sale_of book.now).names bidder }
+    ensures { result.now ≡ bidder_name (sale_of book.now).names bidder }
 {
     if bidder == 0 {
         return b"".as_slice();

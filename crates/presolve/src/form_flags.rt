@@ -6,7 +6,7 @@ ghost use Rattle.auction_terms.specs.Domination.{is_kept};
 ghost use Rattle.auction_terms.specs.Packages.{is_within};
 ghost use Rattle.auction_terms.specs.Terms.{lots_in};
 ghost use Rattle.auction_terms.specs.declared.limits.TheConstants.{MOST_BIDS};
-ghost use Rattle.bid_forms.specs.Offers.{IsWithinLimits};
+ghost use Rattle.bid_forms.specs.Offers.{IsBidWithinLimits};
 ghost use Rattle.presolve.specs.inside.Shelves.{AreAlike, AreGreatest, AreStocked, bare_places, is_beaten_on};
 ghost use Rattle.presolve.specs.inside.Sizes.{AreRivals, IsAlike, TellsItsBid, beats};
 
@@ -152,7 +152,7 @@ pub(crate) fn flags_of_form(
 ) -> Result<Vec<bool>, AllocError>
     requires few { length bids.now ≤ MOST_BIDS }
     requires sized { All (λ bid. length bid.package ≡ length rules.now.categories) bids.now }
-    requires limits { All IsWithinLimits bids.now }
+    requires limits { All IsBidWithinLimits bids.now }
     ensures { IfOk result (λ flags. flags.items ≡ map (is_kept (lots_in rules.now) bids.now) bids.now) }
 {
     let rivals = ordered(alloc, rules, bids)?;

@@ -10,7 +10,7 @@ ghost use Rattle.auction_terms.specs.Offers.{offers};
 ghost use Rattle.auction_terms.specs.Terms.{lots_in};
 ghost use Rattle.auction_terms.specs.declared.limits.TheConstants.{MOST_BIDDERS, MOST_BIDS};
 ghost use Rattle.bid_desk.specs.Closing.{book_of};
-ghost use Rattle.bid_forms.specs.Offers.{IsWithinLimits};
+ghost use Rattle.bid_forms.specs.Offers.{IsBidWithinLimits};
 ghost use Rattle.presolve.specs.Flags.{kept_in_form};
 ghost use Rattle.presolve.specs.inside.Flags.{flagged_from};
 
@@ -85,7 +85,7 @@ fn keep_flagged<'b>(
     requires some { 1 ≤ bidder }
     requires bidders { bidder ≤ MOST_BIDDERS }
     requires few { length bids.now ≤ MOST_BIDS }
-    requires limits { All IsWithinLimits bids.now }
+    requires limits { All IsBidWithinLimits bids.now }
     requires flags { length flags.now ≡ length bids.now }
     requires each { All IsKeptBid kept.old.items }
     ensures added { OnOk result (offers kept.new.items ≡ offers kept.old.items ++ flagged_from bidder 1 bids.now flags.now) }

@@ -6,7 +6,7 @@ ghost use Rattle.auction_terms.specs.Terms.{lots_in};
 ghost use Rattle.presolve.specs.inside.Sizes.{fitting_from, sized_of, IsOrdered, IsOver, TellsItsBid, TellsItsNet};
 ghost use Rattle.presolve.specs.Sizes.{IsBySize};
 ghost use Rattle.auction_terms.specs.declared.limits.TheConstants.{GREATEST_AMOUNT, MOST_BIDS, MOST_CATEGORIES};
-ghost use Rattle.bid_forms.specs.Offers.{IsWithinLimits};
+ghost use Rattle.bid_forms.specs.Offers.{IsBidWithinLimits};
 
 use crate::masks::{mask_of, mask_over};
 use crate::middles::middles;
@@ -76,7 +76,7 @@ fn fitting<'b>(
 ) -> Result<Vec<SizedBid<'b>>, AllocError>
     requires few { length bids.now ≤ MOST_BIDS }
     requires sized { All (λ bid. length bid.package ≡ length rules.now.categories) bids.now }
-    requires limits { All IsWithinLimits bids.now }
+    requires limits { All IsBidWithinLimits bids.now }
     requires middles { length middles.now ≡ length rules.now.categories }
     ensures same { IfOk result (λ fitting. map sized_of fitting.items ≡ fitting_from (lots_in rules.now) 1 bids.now) }
     ensures told { IfOk result (λ fitting. All TellsItsBid fitting.items) }
@@ -100,7 +100,7 @@ pub(crate) fn ordered<'b>(
 ) -> Result<Vec<SizedBid<'b>>, AllocError>
     requires few { length bids.now ≤ MOST_BIDS }
     requires sized { All (λ bid. length bid.package ≡ length rules.now.categories) bids.now }
-    requires limits { All IsWithinLimits bids.now }
+    requires limits { All IsBidWithinLimits bids.now }
     ensures { IfOk result (λ ordered. IsOrdered (lots_in rules.now) bids.now ordered.items) }
 {
     let middles = middles(alloc, bids, rules.categories().len())?;

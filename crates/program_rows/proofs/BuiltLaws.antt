@@ -17,7 +17,7 @@ use Rattle.auction_terms.specs.Limits.{AreOffers}
 use Rattle.program_rows.specs.declared.subject.Subject.{Subject}
 use Rattle.program_rows.specs.declared.subject.Subject.TheVariants.{Bidder, Category, Pool}
 use Rattle.program_rows.specs.Parts.{IsProgram}
-use Rattle.program_rows.specs.Legal.{IsLegal}
+use Rattle.program_rows.specs.Legal.{IsLegalProgram}
 use Rattle.program_rows.specs.Program.{Table, TableRow, TableColumn}
 use Rattle.program_rows.specs.Rows.{bidder_subjects, lot_subjects, subjects, weight, row_of, entries_from, column_of, worth_column, program_of}
 use Rattle.program_rows.specs.inside.Building.{IsThere, built_column}
@@ -249,5 +249,5 @@ is_built lots offers objective ss rows columns o s r c =
     (r ∙ ap (λ (xs : List Subject). map (row_of lots) xs) s)
     (c ∙ ap (λ (xs : List Subject). map (column_of lots xs) offers ++ worth_column lots) s)
 
-pub is_legal : (p q : Table) → p ≡ q → IsLegal q → IsProgram p
+pub is_legal : (p q : Table) → p ≡ q → IsLegalProgram q → IsProgram p
 is_legal p q e h = subst (λ (t : Table). IsProgram t) (sym e) h.program

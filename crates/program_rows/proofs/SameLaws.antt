@@ -13,8 +13,8 @@ use Rattle.program_rows.specs.declared.bounds.Bounds.{Bounds}
 use Rattle.program_rows.specs.Program.{Table, TableRow, TableColumn}
 use Rattle.program_rows.specs.Parts.{IsProgram, AreEntries}
 use Rattle.program_rows.specs.Points.{coefficient_at}
-use Rattle.program_rows.specs.Same.{row_named, column_named, coefficient_in, coefficient, terms_of, IsSameProgram}
-use Rattle.program_rows.specs.inside.Comparing.{same_kind, same_bounds, row_agrees, row_stands, name_at, entry_stands, column_agrees, column_stands, stands_in, is_same}
+use Rattle.program_rows.specs.Same.{row_named, column_named, coefficient_in, coefficient_by_names, bounds_and_cost, IsSameProgram}
+use Rattle.program_rows.specs.inside.Comparing.{same_kind, same_bounds, row_agrees, row_stands, name_at, entry_stands, column_agrees, column_stands, stands_in, is_same_program}
 use Rattle.program_rows.proofs.LookupLaws.{guessed}
 use Rattle.program_rows.proofs.NamedItems.{Place, all_pass, all_true, bounds_equal, bounds_itself, found_in, found_passes, in_no_row, in_row, is_row, kind_itself, kinds_equal, name_there, own, place_by, rows_equal, same_some, stands}
 
@@ -40,7 +40,7 @@ opt_same (Some x) u f g = sym (f x refl)
 pub record Partner (rows others : List TableRow) (columns : List TableColumn) (name : List ℕ) (c : TableColumn) : Type 0 where
   pub column : TableColumn
   pub found : column_named columns name ≡ Some column
-  pub terms : terms_of c ≡ terms_of column
+  pub terms : bounds_and_cost c ≡ bounds_and_cost column
   pub entries : list_all (entry_stands rows others column) c.entries ≡ true
 
 abbrev is_column : List ℕ → TableColumn → Bool
@@ -67,7 +67,7 @@ in_row_at place e = e.0 == place
 same_place : (a b : ℕ) → (a == b) ≡ true → a ≡ b
 same_place a b h = grind (arith, nat_tests)
 
--- an entry of one column tells the coefficient of the other
+-- an entry of one column tells the coefficient_by_names of the other
 entry_over : (rows others : List TableRow) (c d : TableColumn) (name : List ℕ) (i : ℕ) (r : TableRow) (e : ℕ × ℤ) → Place rows name i r → list_all (entry_stands rows others d) c.entries ≡ true → find (in_row_at i) c.entries ≡ Some e
     → coefficient_in others d name ≡ e.1
 entry_over rows others c d name i r e place h f =
@@ -133,17 +133,17 @@ module _ (p q : Table) (over_rows : list_all (row_stands q.rows) p.rows ≡ true
       by None f = refl
       by (Some c) f = let mine = (back name c f).found in cc
 
-  columns_same : (name : List ℕ) → option_map terms_of (column_named p.columns name) ≡ option_map terms_of (column_named q.columns name)
+  columns_same : (name : List ℕ) → option_map bounds_and_cost (column_named p.columns name) ≡ option_map bounds_and_cost (column_named q.columns name)
   columns_same name = by (column_named p.columns name) refl
     where
-      by : (o : Option TableColumn) → column_named p.columns name ≡ o → option_map terms_of o ≡ option_map terms_of (column_named q.columns name)
-      by None e = sym (ap (option_map terms_of) (none_over name e))
-      by (Some c) e = let d = over name c e in ap (λ (t : Bounds × ℤ). Some t) d.terms ∙ sym (ap (option_map terms_of) d.found)
+      by : (o : Option TableColumn) → column_named p.columns name ≡ o → option_map bounds_and_cost o ≡ option_map bounds_and_cost (column_named q.columns name)
+      by None e = sym (ap (option_map bounds_and_cost) (none_over name e))
+      by (Some c) e = let d = over name c e in ap (λ (t : Bounds × ℤ). Some t) d.terms ∙ sym (ap (option_map bounds_and_cost) d.found)
 
-  coefficients_same : (column row : List ℕ) → coefficient p column row ≡ coefficient q column row
+  coefficients_same : (column row : List ℕ) → coefficient_by_names p column row ≡ coefficient_by_names q column row
   coefficients_same column row = by (column_named p.columns column) refl
     where
-      by : (o : Option TableColumn) → column_named p.columns column ≡ o → coefficient p column row ≡ coefficient q column row
+      by : (o : Option TableColumn) → column_named p.columns column ≡ o → coefficient_by_names p column row ≡ coefficient_by_names q column row
       by None e = ap (in_rows p.rows row) e ∙ sym (ap (in_rows q.rows row) (none_over column e))
       by (Some c) e =
           let d = over column c e in
@@ -152,7 +152,7 @@ module _ (p q : Table) (over_rows : list_all (row_stands q.rows) p.rows ≡ true
           let entries : list_all (entry_stands q.rows p.rows c) d.column.entries ≡ true = ap (λ (x : TableColumn). list_all (entry_stands q.rows p.rows x) d.column.entries) (sym same) ∙ b.entries in
           ap (in_rows p.rows row) e ∙ same_coefficients p.rows q.rows c d.column row (rows_same row) d.entries entries ∙ sym (ap (in_rows q.rows row) d.found)
 
-pub same_by_test : (p q : Table) → is_same p q ≡ true → IsSameProgram p q
+pub same_by_test : (p q : Table) → is_same_program p q ≡ true → IsSameProgram p q
 same_by_test p q h =
     let a = and_parts (bytes_eq p.objective q.objective) (stands_in p q && stands_in q p) h in
     let b = and_parts (stands_in p q) (stands_in q p) a.1 in
@@ -224,10 +224,10 @@ column_stand p q c differ same h = by (column_named q.columns c.name) refl
   where
     by : (o : Option TableColumn) → column_named q.columns c.name ≡ o → column_stands p.rows q.rows q.columns c ≡ true
     by None e =
-        let terms = sym (ap (option_map terms_of) h.0) ∙ same.columns c.name ∙ ap (option_map terms_of) e in
+        let terms = sym (ap (option_map bounds_and_cost) h.0) ∙ same.columns c.name ∙ ap (option_map bounds_and_cost) e in
         cc
     by (Some d) e =
-        let terms : terms_of c ≡ terms_of d = same_some (terms_of c) (terms_of d) (sym (ap (option_map terms_of) h.0) ∙ same.columns c.name ∙ ap (option_map terms_of) e) in
+        let terms : bounds_and_cost c ≡ bounds_and_cost d = same_some (bounds_and_cost c) (bounds_and_cost d) (sym (ap (option_map bounds_and_cost) h.0) ∙ same.columns c.name ∙ ap (option_map bounds_and_cost) e) in
         let bounds : same_bounds c.bounds d.bounds ≡ true = ap (same_bounds c.bounds) (sym (ap (λ (t : Bounds × ℤ). t.0) terms)) ∙ bounds_itself c.bounds in
         let cost : int_eq c.cost d.cost ≡ true = (Decides-int_eq c.cost d.cost).1 (ap (λ (t : Bounds × ℤ). t.1) terms) in
         let coefficients : (name : List ℕ) → coefficient_in p.rows c name ≡ coefficient_in q.rows d name = λ name.
@@ -257,7 +257,7 @@ turned p q same = record {
   coefficients = λ column row. sym (same.coefficients column row);
 }
 
-pub test_by_same : (p q : Table) → IsProgram p → IsProgram q → IsSameProgram p q → is_same p q ≡ true
+pub test_by_same : (p q : Table) → IsProgram p → IsProgram q → IsSameProgram p q → is_same_program p q ≡ true
 test_by_same p q legal other same =
     let objective = (bytes_eq-Decides p.objective q.objective).1 same.objective in
     rw (objective, stands_by p q legal same, stands_by q p other (turned p q same)) refl

@@ -39,7 +39,7 @@ line_right_sides fields = pairs (drop (length fields % 2) fields)
 abbrev pub all_right_sides : List LineFields → List (List ℕ × List ℕ)
 all_right_sides lines = flat_map line_right_sides lines
 
--- the number of the pair that names the row, else 0
+-- the number of the pair that names_both the row, else 0
 abbrev pub right_side : List (List ℕ × List ℕ) → List ℕ → ℤ
 right_side sides row = option_map_or (λ pair. value pair.1) (find (λ pair. bytes_eq row pair.0) sides) (pos 0)
 
@@ -54,12 +54,12 @@ abbrev pub first_free : List LineFields → Option (List ℕ)
 first_free rows = option_map (field 1) (find is_free (reverse rows))
 
 -- which of its sides a row bounds
-abbrev pub kind_of : List ℕ → RowKind
-kind_of letter = if bytes_eq letter (codes "L") then AtMost else (if bytes_eq letter (codes "G") then AtLeast else Equal)
+abbrev pub row_kind_of : List ℕ → RowKind
+row_kind_of letter = if bytes_eq letter (codes "L") then AtMost else (if bytes_eq letter (codes "G") then AtLeast else Equal)
 
 -- the rows that are not free, in the order of the text, with their right sides
 abbrev pub table_rows : List LineFields → List (List ℕ × List ℕ) → List TableRow
-table_rows rows sides = map (λ row. record { name = field 1 row; kind = kind_of (field 0 row); right_side = right_side sides (field 1 row) }) (filter (λ row. not (is_free row)) (reverse rows))
+table_rows rows sides = map (λ row. record { name = field 1 row; kind = row_kind_of (field 0 row); right_side = right_side sides (field 1 row) }) (filter (λ row. not (is_free row)) (reverse rows))
 
 -- ---- COLUMNS: the name of a column and pairs of a row and a number, between lines that are markers
 
@@ -76,9 +76,9 @@ abbrev pub each_once : List LineFields → List (List ℕ)
 each_once [] = []
 each_once (fields ∷ before) = if list_any (λ other. bytes_eq (field 0 fields) (field 0 other)) before then each_once before else each_once before ++ field 0 fields ∷ []
 
--- the columns, in the order in which the text names them first
-abbrev pub column_names : List LineFields → List (List ℕ)
-column_names lines = each_once (column_lines lines)
+-- the columns, in the order in which the text names_both them first
+abbrev pub columns_named : List LineFields → List (List ℕ)
+columns_named lines = each_once (column_lines lines)
 
 -- a row and a number that a line gives its column
 pub record Entry : Type 0 where
@@ -95,12 +95,12 @@ abbrev pub all_entries : List LineFields → List Entry
 all_entries lines = flat_map line_entries (column_lines lines)
 
 -- whether an entry is of this column and row
-abbrev pub names : List ℕ → List ℕ → Entry → Bool
-names column row e = bytes_eq column e.column && bytes_eq row e.row
+abbrev pub names_both : List ℕ → List ℕ → Entry → Bool
+names_both column row e = bytes_eq column e.column && bytes_eq row e.row
 
--- the number of the entry that names the column and the row, else 0
+-- the number of the entry that names_both the column and the row, else 0
 abbrev pub coefficient : List Entry → List ℕ → List ℕ → ℤ
-coefficient entries column row = option_map_or (λ e. value e.number) (find (names column row) entries) (pos 0)
+coefficient entries column row = option_map_or (λ e. value e.number) (find (names_both column row) entries) (pos 0)
 
 -- the coefficients of a column that are not 0, by the places of the rows
 abbrev pub column_entries : List Entry → List TableRow → List ℕ → List (ℕ × ℤ)
@@ -156,5 +156,5 @@ unfoldable pub program : Sections → Table
 program s = record {
   objective = unwrap_or (first_free s.rows) [];
   rows = table_rows s.rows (all_right_sides s.right_sides);
-  columns = map (table_column s) (column_names s.columns);
+  columns = map (table_column s) (columns_named s.columns);
 }

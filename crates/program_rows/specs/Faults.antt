@@ -9,7 +9,7 @@ use Rattle.program_rows.specs.declared.number.NumberFault.{NumberFault}
 use Rattle.program_rows.specs.declared.number.NumberFault.TheVariants as numbers
 use Rattle.program_rows.specs.Numbers.{number}
 use Rattle.program_rows.specs.Sections.{Sections, with_line, is_end}
-use Rattle.program_rows.specs.Described.{is_one_of, value, pairs, line_right_sides, all_right_sides, first_free, is_marker, column_lines, column_names, all_entries, names, is_binary_bound, bound_column, bound_number, lower, upper}
+use Rattle.program_rows.specs.Described.{is_one_of, value, pairs, line_right_sides, all_right_sides, first_free, is_marker, column_lines, columns_named, all_entries, names_both, is_binary_bound, bound_column, bound_number, lower, upper}
 use Rattle.program_rows.specs.declared.fault.FaultKind.{FaultKind}
 use Rattle.program_rows.specs.declared.fault.FaultKind.TheVariants.{NotText, Section, SectionLeftOut, Fields, RowType, RowRepeated, NoObjective, UnknownRow, ColumnSplit, EntryRepeated, NumberText, NotWhole, NumberRange, Marker, UnknownColumn, BoundType, BoundValue, ObjectiveConstant, SenseMax, NoEnd, NotBinary}
 
@@ -77,7 +77,7 @@ is_binary s column = is_integer s.columns s.bounds column && option_map_or (λ h
 
 -- the first column that is not binary
 abbrev pub not_binary : Sections → Option FaultKind
-not_binary s = option_map NotBinary (position (λ column. not (is_binary s column)) (column_names s.columns))
+not_binary s = option_map NotBinary (position (λ column. not (is_binary s column)) (columns_named s.columns))
 
 abbrev pub header_fault : Sections → List ℕ → LineFields → Option FaultKind
 header_fault s word more = earliest_fault (
@@ -116,7 +116,7 @@ marker_fault columns fields = when (not (length fields == 3 && bytes_eq (field 2
 abbrev pub is_column : List LineFields → List ℕ → Bool
 is_column columns name = list_any (λ fields. bytes_eq name (field 0 fields)) (column_lines columns)
 
--- the column was named before, and the line before this one names another or is a marker
+-- the column was named before, and the line before this one names_both another or is a marker
 abbrev pub is_split : List LineFields → List ℕ → Bool
 is_split columns name =
     let nearest = unwrap_or (slice_get columns 0) [] in
@@ -138,7 +138,7 @@ column_fault s fields = earliest_fault (
     when (not ((length fields == 3) || (length fields == 5))) Fields
     ∷ (if is_marker fields then marker_fault s.columns fields else earliest_fault (
     when (is_split s.columns (field 0 fields)) ColumnSplit
-    ∷ pairs_fault s.rows (λ pair. None) (λ row. list_any (names (field 0 fields) row) (all_entries s.columns)) (pairs (drop 1 fields))
+    ∷ pairs_fault s.rows (λ pair. None) (λ row. list_any (names_both (field 0 fields) row) (all_entries s.columns)) (pairs (drop 1 fields))
     ∷ []))
     ∷ [])
 

@@ -11,20 +11,20 @@ row_named rows name = find (λ r. bytes_eq name r.name) rows
 abbrev pub column_named : List TableColumn → List ℕ → Option TableColumn
 column_named columns name = find (λ c. bytes_eq name c.name) columns
 
--- the coefficient of a column in the row of this name
+-- the coefficient_by_names of a column in the row of this name
 abbrev pub coefficient_in : List TableRow → TableColumn → List ℕ → ℤ
 coefficient_in rows c row = option_map_or (λ place. coefficient_at place c) (position (λ r. bytes_eq row r.name) rows) (pos 0)
 
--- the coefficient of these names, which is 0 where there is no such column or row
-abbrev pub coefficient : Table → List ℕ → List ℕ → ℤ
-coefficient p column row = option_map_or (λ c. coefficient_in p.rows c row) (column_named p.columns column) (pos 0)
+-- the coefficient_by_names of these names, which is 0 where there is no such column or row
+abbrev pub coefficient_by_names : Table → List ℕ → List ℕ → ℤ
+coefficient_by_names p column row = option_map_or (λ c. coefficient_in p.rows c row) (column_named p.columns column) (pos 0)
 
 -- bounds and cost of a column
-abbrev pub terms_of : TableColumn → Bounds × ℤ
-terms_of c = (c.bounds, c.cost)
+abbrev pub bounds_and_cost : TableColumn → Bounds × ℤ
+bounds_and_cost c = (c.bounds, c.cost)
 
 pub record IsSameProgram (p q : Table) : Type 0 where
   pub objective : p.objective ≡ q.objective
   pub rows : (name : List ℕ) → row_named p.rows name ≡ row_named q.rows name
-  pub columns : (name : List ℕ) → option_map terms_of (column_named p.columns name) ≡ option_map terms_of (column_named q.columns name)
-  pub coefficients : (column row : List ℕ) → coefficient p column row ≡ coefficient q column row
+  pub columns : (name : List ℕ) → option_map bounds_and_cost (column_named p.columns name) ≡ option_map bounds_and_cost (column_named q.columns name)
+  pub coefficients : (column row : List ℕ) → coefficient_by_names p column row ≡ coefficient_by_names q column row

@@ -4,7 +4,7 @@ use Rattle.std.specs.Str.Parse.{digits_value}
 use Rattle.program_rows.specs.declared.token_parts.TokenParts.{TokenParts}
 use Rattle.program_rows.specs.declared.token_fault.TokenFault.{TokenFault}
 use Rattle.program_rows.specs.declared.token_fault.TokenFault.TheVariants.{NotToken, TooLong}
-use Rattle.program_rows.specs.Numbers.{digits_of_token, exponent_digits, exponent_text, fraction_digits, is_minus, is_number_text, is_too_long}
+use Rattle.program_rows.specs.Numbers.{digits_of_token, exponent_digits, exponent_text, fraction_digits, is_minus, is_number_token, is_too_long}
 
 -- powers of ten in the value's numerator
 abbrev pub places_up : List ℕ → ℕ
@@ -20,6 +20,6 @@ parts_of token = record { minus = is_minus token; digits = digits_value 10 (digi
 -- the parts of a token of this form that is not too long
 abbrev pub token_of : List ℕ → Result TokenParts TokenFault
 token_of token =
-    if not (is_number_text token) then Err NotToken
+    if not (is_number_token token) then Err NotToken
     else (if is_too_long token then Err TooLong
     else Ok (parts_of token))

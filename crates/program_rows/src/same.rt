@@ -60,7 +60,7 @@ fn stands_in(parts: &ProgramParts, others: &ProgramParts) -> bool
 fn is_same(parts: &ProgramParts, others: &ProgramParts) -> bool
     requires parts { IsProgram (table_of parts.now) }
     requires others { IsProgram (table_of others.now) }
-    ensures { result ≡ comparing.is_same (table_of parts.now) (table_of others.now) }
+    ensures { result ≡ comparing.is_same_program (table_of parts.now) (table_of others.now) }
 {
     is_same_name(
         parts.objective_name.as_slice(),

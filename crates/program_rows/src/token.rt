@@ -3,7 +3,7 @@
 ghost use Rattle.std.specs.Prelude.{◌≡◌, ◌≤◌, ◌<◌, ◌+◌, ◌^◌, ◌++◌, ◌&&◌, ◌||◌, not, true, nat_lt, length, drop, if◌then◌else◌, IfOk};
 ghost use Rattle.std.specs.List.{position_or_len, list_all, list_any};
 ghost use Rattle.std.specs.Str.Parse.{digits_value};
-ghost use Rattle.program_rows.specs.Numbers.{is_point, is_exponent_mark, is_minus, is_signed, without_sign, whole_digits, fraction_digits, exponent_text, exponent_digits, are_digits, is_number_text, is_too_long};
+ghost use Rattle.program_rows.specs.Numbers.{is_point, is_exponent_mark, is_minus, is_signed, without_sign, whole_digits, fraction_digits, exponent_text, exponent_digits, are_digits, is_number_token, is_too_long};
 ghost use Rattle.program_rows.specs.Tokens.{token_of};
 
 use crate::digits::digits_behind;

@@ -9,14 +9,14 @@ use Rattle.bid_desk.specs.Closing.{Closing}
 use Rattle.outcome.specs.Sale.{sale_of}
 use Rattle.group_compiler.specs.Compiled.{program_without}
 use Rattle.optimality.specs.Answers.{IsVerdict}
-use Rattle.optimality.specs.Verdict.{first_fault}
+use Rattle.optimality.specs.Verdict.{certificate_fault}
 use Rattle.optimality.specs.declared.fault.CertificateFault.{CertificateFault}
 use Rattle.answers.specs.Certified.{ClaimedBound, bound_of, shown}
 use Rattle.answers.specs.declared.certified.ClaimedBound as declared
 
 -- the value of a bound that the code holds
-abbrev pub claimed : Closing → declared.ClaimedBound → ClaimedBound
-claimed book b = record { program = program_without book b.group.now; least = b.least; certificate = b.certificate.now }
+abbrev pub bound_held : Closing → declared.ClaimedBound → ClaimedBound
+bound_held book b = record { program = program_without book b.group.now; least = b.least; certificate = b.certificate.now }
 
 -- what the certificates of groups are to show of allocations
 abbrev pub bounds_by : Closing → List (List ℕ) → List (List Choice) → List (List ℕ) → List ClaimedBound
@@ -24,7 +24,7 @@ bounds_by book groups won certificates = map (bound_of (sale_of book)) (zip (zip
 
 -- this is what a certificate comes to, or a limit stands in its place
 pub record IsJudged (book : Closing) (b : declared.ClaimedBound) (verdict : Result (Unit {0}) CertificateFault) : Type 0 where
-  pub is : IsVerdict verdict (first_fault (program_without book b.group.now) b.least b.certificate.now)
+  pub is : IsVerdict verdict (certificate_fault (program_without book b.group.now) b.least b.certificate.now)
 
 -- each certificate shows what it is to
 abbrev pub AllShown : List ClaimedBound → Type 0

@@ -11,8 +11,8 @@ abbrev pub winners_at : Sale → List (List ℕ) → List (List ℕ) → ℕ →
 winners_at sale groups texts n = winners sale (n + 1) (slice_index_or groups n [], slice_index_or texts n [])
 
 -- the answer is what is told, or want of memory stands in its place
-abbrev pub IsTold : Result (List Choice) Refused → Result (List Choice) Refusal → Type 0
-IsTold told answer = IfOk answer (λ a. told ≡ Ok a) × IfErr answer (Refuses told)
+abbrev pub IsToldAnswer : Result (List Choice) Refused → Result (List Choice) Refusal → Type 0
+IsToldAnswer told answer = IfOk answer (λ a. told ≡ Ok a) × IfErr answer (Refuses told)
 
 -- an answer that is a refusal comes after allocations alone; or memory was short
 abbrev pub IsFirstRefusal : List (Result (List Choice) Refusal) → Refusal → Type 0

@@ -6,7 +6,7 @@ use Rattle.auction_terms.specs.Terms.{Terms}
 use Rattle.auction_terms.specs.declared.groups_text.GroupFault.TheVariants as group_fault
 use Rattle.auction_terms.specs.declared.rules_text.RulesFault.TheVariants as rules_fault
 use Rattle.auction_terms.specs.Stages.{Answers}
-use Rattle.bid_forms.specs.FormText.{is_memory}
+use Rattle.bid_forms.specs.FormText.{is_form_memory}
 use Rattle.bid_forms.specs.Offers.{Meets, Offers}
 use Rattle.bid_forms.specs.declared.form_text.FormFault.TheVariants as fault
 use Rattle.bid_forms.specs.declared.form_text.FormFault.{FormFault}
@@ -16,7 +16,7 @@ use Rattle.auction_input.specs.InputTexts.{form_in}
 
 -- this is what a text tells, or memory was short
 pub record IsAnswer (t : Terms) (text : Bor (List ℕ)) (answer : Result Offers FormFault) : Type 0 where
-  pub tells : Answers is_memory answer (form_in t text.now)
+  pub tells : Answers is_form_memory answer (form_in t text.now)
   pub meets : IfOk answer (Meets t)
 
 -- all answers are forms, and stand behind those that were read before

@@ -22,7 +22,7 @@ pub record IsMember (member : Member) : Type 0 where
   pub weight : member.weight ≤ GREATEST_WEIGHT
 
 -- entries within their limits, as far as they were read
-pub record AreEntries (e : Entries) : Type 0 where
+pub record AreEntriesWithinLimits (e : Entries) : Type 0 where
   pub category_count : length e.categories ≤ MOST_CATEGORIES
   pub bidder_count : length e.bidders ≤ MOST_BIDDERS
   pub pool_count : length e.pools ≤ MOST_POOLS

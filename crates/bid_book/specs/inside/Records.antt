@@ -11,7 +11,7 @@ use Rattle.bid_book.specs.declared.standing.Standing.{Standing}
 use Rattle.bid_book.specs.declared.entry.Entry.{Entry}
 use Rattle.bid_book.specs.declared.records.Counts.{Counts}
 use Rattle.bid_book.specs.declared.records.Records.{Records}
-use Rattle.bid_book.specs.History.{IsLegal, entries_beside, changes, standing_of, is_closed, entry_value, standing_value}
+use Rattle.bid_book.specs.History.{IsLegalHistory, entries_beside, changes, standing_of, is_closed, entry_value, standing_value}
 
 -- what is kept of a bidder's entries; of a bidder that is not there, nothing
 abbrev pub counts_at : {S : Type 0} → IndexMap ℕ Counts S → ℕ → Counts
@@ -22,7 +22,7 @@ standing_at m b = option_map standing_value (get nat_eq m b)
 
 -- counts, standing forms and the rest are those of the history
 pub record Summarizes (counts : ℕ → Counts) (standing : ℕ → Option (Standing Offers)) (chair_entries : ℕ) (is_open : Bool) (history : List (Entry Offers)) : Type 0 where
-  pub legal : IsLegal history
+  pub legal : IsLegalHistory history
   pub entries_are : (b : ℕ) → (counts b).entries ≡ length (entries_beside (Session b 0) history)
   pub changes_are : (b : ℕ) → (counts b).changes ≡ length (changes (entries_beside (Session b 0) history))
   pub standing_is : (b : ℕ) → standing b ≡ standing_of history b
@@ -32,8 +32,8 @@ pub record Summarizes (counts : ℕ → Counts) (standing : ℕ → Option (Stan
 abbrev pub history_of : Records → List (Entry Offers)
 history_of r = map entry_value r.history.items
 
-abbrev pub IsBook : Records → Type 0
-IsBook r = Summarizes (counts_at r.counts) (standing_at r.standing) r.chair_entries r.is_open (history_of r)
+abbrev pub AreOfBook : Records → Type 0
+AreOfBook r = Summarizes (counts_at r.counts) (standing_at r.standing) r.chair_entries r.is_open (history_of r)
 
 -- the counts of a bidder with one entry more
 abbrev pub counts_after : Counts → Bool → Counts

@@ -5,7 +5,7 @@ use Rattle.auction_terms.specs.declared.limits.TheConstants.{MOST_SESSIONS}
 use Rattle.bid_desk.specs.declared.slots.Slot.{Slot}
 use Rattle.bid_desk.specs.Holding.{SessionOwn}
 use Rattle.bid_desk.specs.Sessions.{IsSessionOf}
-use Rattle.bid_desk.specs.Settlement.{IsBefore, is_named, times}
+use Rattle.bid_desk.specs.Settlement.{ComesBefore, is_named, times_session}
 
 -- the place of a session's slot: each bidder has one for each session that it may have
 abbrev pub slot_of : ℕ → ℕ → ℕ
@@ -21,7 +21,7 @@ slot_at slots b s = slice_index_or slots (slot_of b s) empty_slot
 pub record AreSlots (t : Terms) (sessions : List SessionOwn) (n : ℕ) (slots : List Slot) : Type 0 where
   pub size : length slots ≡ length t.bidders * MOST_SESSIONS
   pub most : (b s : ℕ) → IsSessionOf t b s → s ≤ MOST_SESSIONS
-  pub times_are : (b s : ℕ) → IsSessionOf t b s → (slot_at slots b s).times ≡ times b s (take n sessions)
+  pub times_are : (b s : ℕ) → IsSessionOf t b s → (slot_at slots b s).times ≡ times_session b s (take n sessions)
   pub within : (b s : ℕ) → IsSessionOf t b s → 1 ≤ (slot_at slots b s).times → (slot_at slots b s).place < n
   pub named : (b s : ℕ) (d : SessionOwn) → IsSessionOf t b s → 1 ≤ (slot_at slots b s).times → IsTrue (is_named b s (slice_index_or sessions (slot_at slots b s).place d))
   pub known : (k : ℕ) (d : SessionOwn) → k < n → IsSessionOf t (slice_index_or sessions k d).bidder (slice_index_or sessions k d).session
@@ -37,4 +37,4 @@ AllOnce t slots = (b s : ℕ) → IsSessionOf t b s → (slot_at slots b s).time
 pub record IsFirstWrong (t : Terms) (slots : List Slot) (bidder session : ℕ) : Type 0 where
   pub known : IsSessionOf t bidder session
   pub wrong : (slot_at slots bidder session).times ≢ 1
-  pub first : (b s : ℕ) → IsSessionOf t b s → IsBefore b s bidder session → (slot_at slots b s).times ≡ 1
+  pub first : (b s : ℕ) → IsSessionOf t b s → ComesBefore b s bidder session → (slot_at slots b s).times ≡ 1

@@ -3,7 +3,7 @@ use Rattle.std.specs.Prelude.{◌≡◌, ℕ, ◌+◌, ◌-◌, ◌<◌, List, [
 use Rattle.atomic_table.specs.Table.{State, Me}
 use Rattle.group_compiler.specs.declared.steps.View.{View}
 use Rattle.group_compiler.specs.declared.limits.TheConstants.{ALL_DRAWS, WORKER_DRAWS}
-use Rattle.group_compiler.specs.Claims.{once_below, times}
+use Rattle.group_compiler.specs.Claims.{once_below, times_drawn}
 
 abbrev pub view : List ℕ → ℕ → View
 view drawn room = record { drawn = drawn; room = room }
@@ -11,7 +11,7 @@ view drawn room = record { drawn = drawn; room = room }
 -- the claims together hold the numbers below the word, each once; and the word and the draws that are left add up to all draws
 pub record IsCounted (s : State ℕ View) : Type 0 where
   pub one_word : length s.words ≡ 1
-  pub each_once : (x : ℕ) → sum_by (λ (v : View). times x v.drawn) s.views ≡ once_below x (slice_index s.words 0)
+  pub each_once : (x : ℕ) → sum_by (λ (v : View). times_drawn x v.drawn) s.views ≡ once_below x (slice_index s.words 0)
   pub lengths : sum_by (λ (v : View). length v.drawn) s.views ≡ slice_index s.words 0
   pub rooms : slice_index s.words 0 + sum_by (λ (v : View). v.room) s.views ≡ ALL_DRAWS
 
@@ -27,5 +27,5 @@ left_of v = view v.drawn (v.room - WORKER_DRAWS)
 abbrev pub right_of : View → View
 right_of v = view [] WORKER_DRAWS
 
-abbrev pub joined : View → View → View
-joined v w = view (v.drawn ++ w.drawn) (v.room + w.room)
+abbrev pub views_joined : View → View → View
+views_joined v w = view (v.drawn ++ w.drawn) (v.room + w.room)

@@ -5,6 +5,6 @@ use Rattle.mps_reader.specs.declared.mps_fault.MpsFault.{MpsFault}
 use Rattle.mps_reader.specs.declared.refusal.Refusal.{Refusal}
 use Rattle.mps_reader.specs.declared.refusal.Refusal.TheVariants.{Memory, Fault}
 
-abbrev pub IsRefused : ℕ → Refusal → MpsFault → Type 0
-IsRefused line Memory fault = fault ≡ record { line = 0; kind = OutOfMemory }
-IsRefused line (Fault kind) fault = fault ≡ record { line = line; kind = kind }
+abbrev pub IsRefusedLine : ℕ → Refusal → MpsFault → Type 0
+IsRefusedLine line Memory fault = fault ≡ record { line = 0; kind = OutOfMemory }
+IsRefusedLine line (Fault kind) fault = fault ≡ record { line = line; kind = kind }

@@ -34,10 +34,10 @@ IsLine (Header first) bytes = (line_of bytes ≡ spec.header_of (fields bytes)) 
 IsLine (Data first) bytes = (line_of bytes ≡ spec.Data (fields bytes)) × AreFirst (bytes_of first.items) (fields bytes)
 
 -- Ok where there is no fault, else the fault, unless memory ran out
-abbrev pub Answers : {X : Type 0} → Result X Refusal → Option FaultKind → Type 0
-Answers (Ok x) fault = fault ≡ None
-Answers (Err Memory) fault = Unit {0}
-Answers (Err (Fault kind)) fault = fault ≡ Some kind
+abbrev pub AnswersFault : {X : Type 0} → Result X Refusal → Option FaultKind → Type 0
+AnswersFault (Ok x) fault = fault ≡ None
+AnswersFault (Err Memory) fault = Unit {0}
+AnswersFault (Err (Fault kind)) fault = fault ≡ Some kind
 
 -- the same for checks that a last one follows: where they pass, the fault is that of the last
 abbrev pub AnswersUpTo : {X : Type 0} → Result X Refusal → Option FaultKind → Option FaultKind → Type 0

@@ -10,7 +10,7 @@ use Rattle.program_rows.specs.declared.row.Row.{Row}
 use Rattle.program_rows.specs.Program.{TableRow}
 use Rattle.program_rows.specs.Parts.{IsName, shown_row}
 use Rattle.program_rows.specs.Lines.{LineFields, field}
-use Rattle.program_rows.specs.Described.{is_free, kind_of, value}
+use Rattle.program_rows.specs.Described.{is_free, row_kind_of, value}
 use Rattle.program_rows.specs.Faults.{earliest_fault, when, number_fault}
 use Rattle.program_rows.specs.declared.fault.FaultKind.{FaultKind}
 use Rattle.program_rows.specs.declared.fault.FaultKind.TheVariants.{UnknownRow, EntryRepeated, ObjectiveConstant}
@@ -24,8 +24,8 @@ NameSet = IndexSet (Bor (List ℕ)) Seeded
 abbrev pub names_of : NameSet → List (List ℕ)
 names_of s = bytes_of s.keys
 
-abbrev pub row_names : List Row → List (List ℕ)
-row_names rows = map (λ r. r.name.items) rows
+abbrev pub declared_row_names : List Row → List (List ℕ)
+declared_row_names rows = map (λ r. r.name.items) rows
 
 -- the names that have places are those of the rows, whose places rise from p
 abbrev pub AreAt : ℕ → List (List ℕ) → List (Option ℕ) → List (List ℕ) → Type 0
@@ -44,8 +44,8 @@ pub record RowsFit (r : Rows) : Type 0 where
   pub distinct : IsDistinct bytes_eq (names_of r.names)
   pub plain : AllByRecursion IsName (names_of r.names)
   pub stamps : length r.stamps.items ≡ length r.names.keys
-  pub places : AreAt 0 (names_of r.names) r.places.items (row_names r.rows.items)
-  pub objective : IfSome r.objective (λ o. IsObjective (names_of r.names) (row_names r.rows.items) o.now)
+  pub places : AreAt 0 (names_of r.names) r.places.items (declared_row_names r.rows.items)
+  pub objective : IfSome r.objective (λ o. IsObjective (names_of r.names) (declared_row_names r.rows.items) o.now)
 
 abbrev pub option_now : Option (Bor (List ℕ)) → Option (List ℕ)
 option_now o = option_map (λ n. n.now) o
@@ -63,7 +63,7 @@ pub record AddsBound (letter name : List ℕ) (old new : Rows) : Type 0 where
   pub names : new.names ≡ old.names
   pub places : new.places.items ≡ old.places.items ++ Some (length old.rows.items) ∷ []
   pub stamps : new.stamps.items ≡ old.stamps.items ++ 0 ∷ []
-  pub rows : map shown_row new.rows.items ≡ map shown_row old.rows.items ++ record { name = name; kind = kind_of letter; right_side = pos 0 } ∷ []
+  pub rows : map shown_row new.rows.items ≡ map shown_row old.rows.items ++ record { name = name; kind = row_kind_of letter; right_side = pos 0 } ∷ []
   pub objective : new.objective ≡ old.objective
 
 -- the names that have the stamp
@@ -94,7 +94,7 @@ bound_lines_of rows = filter (λ fields. not (is_free fields)) (reverse rows)
 
 -- rows with these right sides
 abbrev pub rows_by : (List ℕ → ℤ) → List LineFields → List TableRow
-rows_by side lines = map (λ fields. record { name = field 1 fields; kind = kind_of (field 0 fields); right_side = side (field 1 fields) }) lines
+rows_by side lines = map (λ fields. record { name = field 1 fields; kind = row_kind_of (field 0 fields); right_side = side (field 1 fields) }) lines
 
 -- the checks of a pair, whose row is known or not, repeated or not, and the objective or not
 abbrev pub side_fault : Bool → Bool → Bool → List ℕ → Option FaultKind

@@ -5,13 +5,13 @@ use Rattle.std.specs.Option.{option_map_or}
 use denote.Ref.{Bor}
 use Rattle.program_rows.specs.Lines.{LineFields}
 use Rattle.program_rows.specs.Sections.{Sections}
-use Rattle.program_rows.specs.Described.{names, first_free, all_right_sides, table_rows, column_names, all_entries, coefficient, lower, upper}
+use Rattle.program_rows.specs.Described.{names_both, first_free, all_right_sides, table_rows, columns_named, all_entries, coefficient, lower, upper}
 use Rattle.program_rows.specs.Faults.{is_integer_open, is_integer}
 use Rattle.program_rows.specs.declared.bounds.Bounds.TheVariants.{ZeroOrOne}
 use Rattle.program_rows.specs.Program.{TableColumn}
 use Rattle.program_rows.specs.Parts.{shown_row}
 use Rattle.mps_reader.specs.inside.Columns.{entries_at, nearest_column}
-use Rattle.mps_reader.specs.inside.Rows.{names_of, option_now, row_names, StampsAre, declared_names}
+use Rattle.mps_reader.specs.inside.Rows.{names_of, option_now, declared_row_names, StampsAre, declared_names}
 use Rattle.mps_reader.specs.inside.Sections.{word_of}
 use Rattle.mps_reader.specs.declared.sections.Section.{Section}
 use Rattle.mps_reader.specs.declared.sections.Section.TheVariants as sections
@@ -31,14 +31,14 @@ abbrev pub AreStampsUpTo : ℕ → Rows → Type 0
 AreStampsUpTo most r = AllByRecursion (λ stamp. stamp ≤ most) r.stamps.items
 
 -- the number at a place, 0 where no entry has it
-abbrev pub worth : ℕ → List (ℕ × ℤ) → ℤ
-worth place [] = pos 0
-worth place (e ∷ entries) = if e.0 == place then e.1 else worth place entries
+abbrev pub number_at_place : ℕ → List (ℕ × ℤ) → ℤ
+number_at_place place [] = pos 0
+number_at_place place (e ∷ entries) = if e.0 == place then e.1 else number_at_place place entries
 
 -- the current column holds these numbers of the rows
 pub record OpenTells (objective : Option (List ℕ)) (rows : List (List ℕ)) (number : List ℕ → ℤ) (column : OpenColumn) : Type 0 where
   pub cost : column.cost ≡ number (unwrap_or objective [])
-  pub entries : (place : ℕ) (row : List ℕ) → slice_get rows place ≡ Some row → worth place column.entries.items ≡ number row
+  pub entries : (place : ℕ) (row : List ℕ) → slice_get rows place ≡ Some row → number_at_place place column.entries.items ≡ number row
 
 abbrev pub bit : Bool → ℤ
 bit true = pos 1
@@ -60,9 +60,9 @@ abbrev pub told_column : Option (List ℕ) → List (List ℕ) → List LineFiel
 told_column objective rows lines name = record { name = name; bounds = ZeroOrOne; cost = coefficient (all_entries lines) name (unwrap_or objective []); entries = entries_at 0 (coefficient (all_entries lines) name) rows }
 
 pub record ColumnsTell (objective : Option (List ℕ)) (rows : List (List ℕ)) (lines bounds : List LineFields) (c : ColumnTable) : Type 0 where
-  pub names : names_of c.names ≡ column_names lines
+  pub names : names_of c.names ≡ columns_named lines
   pub begun : c.is_begun ≡ is_integer_open lines
-  pub states : map state_values c.states.items ≡ map (told_values lines bounds) (column_names lines)
+  pub states : map state_values c.states.items ≡ map (told_values lines bounds) (columns_named lines)
   pub done : AllByRecursion (λ k. k ≡ told_column objective rows lines k.name) c.done
   pub opened : IfSome c.current (λ name. OpenTells objective rows (coefficient (all_entries lines) name.now) c.current_column)
   pub closed : is_some c.current ≡ false → c.current_column.cost ≡ pos 0
@@ -73,10 +73,10 @@ is_current current name = option_map_or (λ other. bytes_eq name other.now) curr
 
 -- the columns of the lines so far, and one more that no line has named yet
 pub record ColumnAdded (objective : Option (List ℕ)) (rows : List (List ℕ)) (lines : List LineFields) (name : List ℕ) (c : ColumnTable) : Type 0 where
-  pub fresh : list_any (bytes_eq name) (column_names lines) ≡ false
-  pub all : names_of c.names ≡ column_names lines ++ name ∷ []
+  pub fresh : list_any (bytes_eq name) (columns_named lines) ≡ false
+  pub all : names_of c.names ≡ columns_named lines ++ name ∷ []
   pub begun : c.is_begun ≡ is_integer_open lines
-  pub states : map state_values c.states.items ≡ map (told_values lines []) (column_names lines) ++ (is_integer_open lines, pos 0, None) ∷ []
+  pub states : map state_values c.states.items ≡ map (told_values lines []) (columns_named lines) ++ (is_integer_open lines, pos 0, None) ∷ []
   pub done : AllByRecursion (λ k. k ≡ told_column objective rows lines k.name) c.done
   pub cost : c.current_column.cost ≡ pos 0
   pub entries : c.current_column.entries.items ≡ []
@@ -87,7 +87,7 @@ pub record InColumns (lines rights bounds : List LineFields) (r : Rows) (c : Col
   pub no_bounds : bounds ≡ []
   pub low : AreStampsUpTo (length (names_of c.names)) r
   pub current : option_now c.current ≡ nearest_column lines
-  pub stamps : IfSome c.current (λ name. StampsAre r.stamps.items (length (names_of c.names)) (names_of r.names) (λ row. list_any (names name.now row) (all_entries lines)))
+  pub stamps : IfSome c.current (λ name. StampsAre r.stamps.items (length (names_of c.names)) (names_of r.names) (λ row. list_any (names_both name.now row) (all_entries lines)))
 
 pub record InRows (lines rights bounds : List LineFields) (r : Rows) (c : ColumnTable) : Type 0 where
   pub no_lines : lines ≡ []
@@ -117,7 +117,7 @@ SectionTells sections.End rows lines rights bounds r c = Unit {0}
 -- what the data lines of each section say
 pub record LinesTell (rows lines rights bounds : List LineFields) (r : Reading) : Type 0 where
   pub of_rows : RowsTell rows rights r.rows
-  pub of_columns : ColumnsTell (option_now r.rows.objective) (row_names r.rows.rows.items) lines bounds r.columns
+  pub of_columns : ColumnsTell (option_now r.rows.objective) (declared_row_names r.rows.rows.items) lines bounds r.columns
   pub of_section : SectionTells r.section rows lines rights bounds r.rows r.columns
 
 pub record ReadingTells (before : Sections) (r : Reading) : Type 0 where

@@ -8,17 +8,17 @@ use Rattle.optimality.specs.declared.refusal.Refusal.{Refusal}
 use Rattle.optimality.specs.declared.refusal.Refusal.TheVariants.{Stopped, Fault}
 
 -- the value, as it is seen, or the fault; where a limit stops the code it says nothing
-abbrev pub Answers : {X Y : Type 0} → (X → Y) → Result X Refusal → Result Y FaultKind → Type 0
-Answers view (Ok x) told = told ≡ Ok (view x)
-Answers view (Err (Stopped limit)) told = Unit {0}
-Answers view (Err (Fault kind)) told = told ≡ Err kind
+abbrev pub AnswersSeen : {X Y : Type 0} → (X → Y) → Result X Refusal → Result Y FaultKind → Type 0
+AnswersSeen view (Ok x) told = told ≡ Ok (view x)
+AnswersSeen view (Err (Stopped limit)) told = Unit {0}
+AnswersSeen view (Err (Fault kind)) told = told ≡ Err kind
 
 abbrev pub IsStopped : Refusal → Type 0
 IsStopped (Stopped limit) = Unit {0}
 IsStopped (Fault kind) = ⊥
 
 -- the fault of a line that is not taken
-abbrev pub IsRefused : ℕ → Refusal → CertificateFault → Type 0
-IsRefused line (Stopped limits.Memory) fault = fault.kind ≡ OutOfMemory
-IsRefused line (Stopped limits.TooLarge) fault = fault.kind ≡ TooLarge
-IsRefused line (Fault kind) fault = fault ≡ record { line = line; kind = kind }
+abbrev pub IsRefusedCertificate : ℕ → Refusal → CertificateFault → Type 0
+IsRefusedCertificate line (Stopped limits.Memory) fault = fault.kind ≡ OutOfMemory
+IsRefusedCertificate line (Stopped limits.TooLarge) fault = fault.kind ≡ TooLarge
+IsRefusedCertificate line (Fault kind) fault = fault ≡ record { line = line; kind = kind }

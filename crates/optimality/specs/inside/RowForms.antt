@@ -24,5 +24,5 @@ abbrev pub row_forms : Table → List Form
 row_forms p = with_columns 0 p.columns (replicate (length p.rows) [])
 
 -- what the code holds
-abbrev pub forms_of : List (Vec (ℕ × ℤ) Global) → List Form
-forms_of forms = map (λ form. form.items) forms
+abbrev pub forms_held : List (Vec (ℕ × ℤ) Global) → List Form
+forms_held forms = map (λ form. form.items) forms

@@ -46,5 +46,5 @@ column_stands rows others columns c = option_map_or (column_agrees rows others c
 abbrev pub stands_in : Table → Table → Bool
 stands_in p q = list_all (row_stands q.rows) p.rows && list_all (column_stands p.rows q.rows q.columns) p.columns
 
-abbrev pub is_same : Table → Table → Bool
-is_same p q = bytes_eq p.objective q.objective && (stands_in p q && stands_in q p)
+abbrev pub is_same_program : Table → Table → Bool
+is_same_program p q = bytes_eq p.objective q.objective && (stands_in p q && stands_in q p)

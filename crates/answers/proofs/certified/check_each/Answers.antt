@@ -1,7 +1,7 @@
 use Rattle.std.proofs.Common.{List, Result, inl, inr, map, refl, subst, sym}
 use Rattle.std.specs.List.{AllZip}
 use Rattle.optimality.specs.declared.fault.CertificateFault.{CertificateFault}
-use Rattle.answers.specs.inside.Judging.{IsJudged, claimed}
+use Rattle.answers.specs.inside.Judging.{IsJudged, bound_held}
 use Rattle.auction_input.specs.declared.refusal.Refusal.TheVariants as refusal
 use Rattle.answers.proofs.CertifiedFacts.{EndsChecks, all-checked, checks-ended}
 use Rattle.auction_input.proofs.RefusalFacts.{if-err-of}
@@ -24,4 +24,4 @@ returns-clause-refuses g c =
 
 pub returns-in_err-verdicts-clause-refuses : goal.returns-in_err-verdicts-clause-refuses
 returns-in_err-verdicts-clause-refuses g c =
-    if-err-of (EndsChecks (map (claimed c.args.compiler.now.book) c.args.bounds.now)) c.from_residual.result refusal.OutOfMemory c.from_residual.ensures.1 (inl (inr refl))
+    if-err-of (EndsChecks (map (bound_held c.args.compiler.now.book) c.args.bounds.now)) c.from_residual.result refusal.OutOfMemory c.from_residual.ensures.1 (inl (inr refl))

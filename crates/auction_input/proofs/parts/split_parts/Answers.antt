@@ -2,7 +2,7 @@ use Rattle.std.proofs.Common.{◌≡◌, ◌∷◌, [], ◌++◌, ◌∙◌, sym
 use Rattle.std.specs.Prelude.{None, Some}
 use Rattle.auction_terms.proofs.FirstFaultFacts.{checked-all, checked-fault, checked-more}
 use Rattle.auction_input.specs.inside.Parts.{added}
-use Rattle.auction_input.specs.Parts.{bytes_before, cut_lines, kind_named, name_of, part, part_fault, parts_in, split}
+use Rattle.auction_input.specs.Parts.{bytes_before, cut_lines, kind_named, part_name, part, part_fault, parts_in, split}
 use Rattle.auction_input.proofs.PartFacts.{fault-of-parts, known-part, none-left, split-more, starts-here, unknown-part}
 use Rattle.auction_input.proofs.parts.split_parts.Goals as goal
 
@@ -23,7 +23,7 @@ loop-rest-preserved c =
     let first = c.first_part-first in
     let p = part first.result.head.now first.result.bytes.now in
     let k = c.in-Some.kind in
-    let kind : kind_named asked (name_of first.result.head.now) ≡ Some k = rw c.head_name.ensures at (sym c.kind_named.ensures ∙ c.in-Some.is) in
+    let kind : kind_named asked (part_name first.result.head.now) ≡ Some k = rw c.head_name.ensures at (sym c.kind_named.ensures ∙ c.in-Some.is) in
     let n = length-append before (p ∷ []) in (
       before ++ p ∷ [],
       checked-more (part_fault asked) (parts_in (cut_lines c.args.text.now)) before (parts_in (cut_lines c.loop-rest.rest.now)) (parts_in (cut_lines first.result.rest.now)) p so_far first.ensures.parts (known-part asked before p k kind),
@@ -40,7 +40,7 @@ returns-in_default c =
     let text = c.args.text.now in
     let first = c.first_part-first in
     let p = part first.result.head.now first.result.bytes.now in
-    let kind : kind_named asked (name_of first.result.head.now) ≡ None = rw c.head_name.ensures at (sym c.kind_named.ensures ∙ c.in_default.is) in
+    let kind : kind_named asked (part_name first.result.head.now) ≡ None = rw c.head_name.ensures at (sym c.kind_named.ensures ∙ c.in_default.is) in
     let nothing : c.body_end.result ≡ 0 = omega arith in
     let none : bytes_before (cut_lines text) ≡ [] = rw nothing at c.body_end.ensures.bytes in
     rw count (fault-of-parts asked text none

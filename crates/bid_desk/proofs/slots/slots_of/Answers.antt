@@ -7,7 +7,7 @@ use Rattle.auction_terms.specs.declared.rules.Bidder.{Bidder}
 use Rattle.auction_terms.specs.declared.limits.TheConstants.{MOST_SESSIONS}
 use Rattle.bid_desk.specs.declared.slots.Slot.{Slot}
 use Rattle.bid_desk.specs.Holding.{SessionOwn}
-use Rattle.bid_desk.specs.Settlement.{is_named, times}
+use Rattle.bid_desk.specs.Settlement.{is_named, times_session}
 use Rattle.bid_desk.specs.inside.Slots.{AreSlots, empty_slot, slot_at, slot_of}
 use Rattle.bid_desk.proofs.SlotLemmas.{slot-within, slots-empty, slots-more}
 use Rattle.bid_desk.proofs.slots.slots_of.Goals as goal
@@ -40,7 +40,7 @@ overflow_add-times g c =
     let place = c.loop-place.place in
     let within = slot-within x.bidder x.session (length g.L.Round.rules.bidders) known.bidder_least known.bidder_most known.session_least (was.most x.bidder x.session known) in
     let small : c.slot-slot.result < length c.loop-place.slots.items = omega (arith, within, was.size, c.slot-slot.ensures.slot) in
-    let read : c.index.result.now.times ≡ times x.bidder x.session (take place sessions) =
+    let read : c.index.result.now.times ≡ times_session x.bidder x.session (take place sessions) =
     ap (λ (o : Slot). o.times) (read-is c.loop-place.slots.items c.slot-slot.result x.bidder x.session c.index.result.now small c.slot-slot.ensures.slot c.index.ensures) ∙ was.times_are x.bidder x.session known in
     let few = count_by-le-length (is_named x.bidder x.session) (take place sessions) in
     let long = length-take-le place sessions (omega arith) in

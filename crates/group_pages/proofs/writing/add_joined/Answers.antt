@@ -1,7 +1,7 @@
 use Rattle.std.proofs.Common.{◌≡◌, ◌+◌, ◌<◌, ◌++◌, [], ◌∙◌, ℕ, suc, List, take, length, cond, ap, arith}
 use Rattle.auction_terms.specs.Groups.{has}
 use Rattle.mps_text.proofs.Adding.{Adds-then, Adds-to}
-use Rattle.group_pages.specs.Pages.{lines_of, outside}
+use Rattle.group_pages.specs.Pages.{section_lines, outside}
 use Rattle.group_pages.specs.Joining.{joined}
 use Rattle.group_pages.proofs.Outside.{front_more}
 use Rattle.group_pages.proofs.writing.add_joined.Goals as goal
@@ -16,7 +16,7 @@ loop-place-preserved g c =
     let lt : at < length all = omega arith in
     let number : at + 1 ≡ 1 + at = omega arith in
     let after : suc at ≡ at + 1 = omega arith in
-    let same = ap (λ w. cond w [] (lines_of section page)) (c.has-is_out.ensures.member ∙ ap group number) in
+    let same = ap (λ w. cond w [] (section_lines section page)) (c.has-is_out.ensures.member ∙ ap group number) in
     let front = joined section (outside group 1 (take at all)) in
     let more = ap (λ (w : List ℕ). front ++ w) same ∙ front_more section group 1 at all page lt c.index-pages-place.is ∙ ap (λ (n : ℕ). joined section (outside group 1 (take n all))) after in
     Adds-to (Adds-then {xs = front} c.loop-place.invariant c.add_page.ensures) more

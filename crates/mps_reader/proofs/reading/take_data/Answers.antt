@@ -3,7 +3,7 @@ use Rattle.std.specs.Prelude.{Err, bytes_eq, ◌∷◌}
 use Rattle.std.specs.List.{list_any}
 use Rattle.program_rows.specs.Described.{all_right_sides}
 use Rattle.auction_terms.specs.Borrowed.{bytes_of}
-use Rattle.mps_reader.specs.inside.Rows.{names_of, option_now, row_names, StampsAre}
+use Rattle.mps_reader.specs.inside.Rows.{names_of, option_now, declared_row_names, StampsAre}
 use Rattle.mps_reader.specs.inside.Sections.{word_of}
 use Rattle.mps_reader.proofs.NameFacts.{length-bytes}
 use Rattle.mps_reader.proofs.AnswerFacts.{handed-on}
@@ -23,7 +23,7 @@ returns-in_ok-take_bound-in-Bounds c = record {
   fit = bound-fits c.args.reading.now c.take_bound.new.columns c.requires.fit c.in-Bounds.is (c.in_ok-take_bound-in-Bounds.ensures.fit c.args.reading.now.rows c.requires.fit.both) c.in_ok-take_bound-in-Bounds.ensures.current;
   fault = λ before h. in-bounds before (bytes_of c.args.fields.now) (h.section ∙ ap word_of c.in-Bounds.is) ∙ c.in_ok-take_bound-in-Bounds.ensures.fault before.columns h.lines.of_columns.names;
   tells = λ before h. bound-step before (bytes_of c.args.fields.now) c.args.reading.now c.take_bound.new.columns c.in-Bounds.is
-      (c.in_ok-take_bound-in-Bounds.ensures.tells (option_now c.args.reading.now.rows.objective) (row_names c.args.reading.now.rows.rows.items) before.columns before.bounds c.requires.fit.both.columns.distinct h.lines.of_columns) h;
+      (c.in_ok-take_bound-in-Bounds.ensures.tells (option_now c.args.reading.now.rows.objective) (declared_row_names c.args.reading.now.rows.rows.items) before.columns before.bounds c.requires.fit.both.columns.distinct h.lines.of_columns) h;
 }
 
 pub returns-in_err-take_row-in-Rows-clause-fault : goal.returns-in_err-take_row-in-Rows-clause-fault

@@ -1,5 +1,5 @@
 use Rattle.std.proofs.Common.{refl, ap, ◌∙◌, length, arith, Some}
-use Rattle.mps_reader.specs.inside.Rows.{names_of, row_names, rows_by}
+use Rattle.mps_reader.specs.inside.Rows.{names_of, declared_row_names, rows_by}
 use Rattle.mps_reader.proofs.NameFacts.{length-places, placed}
 use Rattle.mps_reader.proofs.PairSteps.{get-below, get-from, length-names, length-stamped}
 use Rattle.mps_reader.proofs.FitFacts.{sided-fit, same-names, side-count}
@@ -21,16 +21,16 @@ use Rattle.mps_reader.proofs.right_sides.take_right_side.Goals as goal
 pub index-requires : goal.index-requires
 index-requires c =
     let low = get-below (names_of c.args.rows.now.names) c.in_ok-index.index c.args.row.now c.in_ok-index.ensures.index in
-    let size = length-places 0 (names_of c.args.rows.now.names) c.args.rows.now.places.items (row_names c.args.rows.now.rows.items) c.requires.fit.places in
+    let size = length-places 0 (names_of c.args.rows.now.names) c.args.rows.now.places.items (declared_row_names c.args.rows.now.rows.items) c.requires.fit.places in
     let ok = c.args.rows.now.places.ok in
     omega arith
 
 pub set_right_side-requires : goal.set_right_side-requires
 set_right_side-requires c =
     let low = get-below (names_of c.args.rows.now.names) c.in_ok-index.index c.args.row.now c.in_ok-index.ensures.index in
-    let size = length-places 0 (names_of c.args.rows.now.names) c.args.rows.now.places.items (row_names c.args.rows.now.rows.items) c.requires.fit.places in
+    let size = length-places 0 (names_of c.args.rows.now.names) c.args.rows.now.places.items (declared_row_names c.args.rows.now.rows.items) c.requires.fit.places in
     let here = get-from c.args.rows.now.places.items c.in_ok-index.index c.index.result.now (omega arith) c.index.ensures ∙ ap (λ o. Some o) c.in-Some.is in
-    let there = placed 0 (names_of c.args.rows.now.names) c.args.rows.now.places.items (row_names c.args.rows.now.rows.items) c.in_ok-index.index c.in-Some.place c.requires.fit.places here in
+    let there = placed 0 (names_of c.args.rows.now.names) c.args.rows.now.places.items (declared_row_names c.args.rows.now.rows.items) c.in_ok-index.index c.in-Some.place c.requires.fit.places here in
     let rows = length-names c.args.rows.now.rows.items in
     omega arith
 
@@ -62,21 +62,21 @@ returns-clause-stamps c = λ has h.
 pub returns-in_default-clause-rows : goal.returns-in_default-clause-rows
 returns-in_default-clause-rows c = λ side lines h.
     let low = get-below (names_of c.args.rows.now.names) c.in_ok-index.index c.args.row.now c.in_ok-index.ensures.index in
-    let size = length-places 0 (names_of c.args.rows.now.names) c.args.rows.now.places.items (row_names c.args.rows.now.rows.items) c.requires.fit.places in
+    let size = length-places 0 (names_of c.args.rows.now.names) c.args.rows.now.places.items (declared_row_names c.args.rows.now.rows.items) c.requires.fit.places in
     let found : slice_get c.args.rows.now.places.items c.in_ok-index.index ≡ Some c.index.result.now = get-from c.args.rows.now.places.items c.in_ok-index.index c.index.result.now (omega arith) c.index.ensures in
-    let names : row_names c.args.rows.now.rows.items ≡ map (field 1) lines = row-names-by c.args.rows.now.rows.items side lines h in
-    let free = free-apart 0 (names_of c.args.rows.now.names) c.args.rows.now.places.items (row_names c.args.rows.now.rows.items) c.in_ok-index.index c.args.row.now c.requires.fit.places c.requires.fit.distinct c.in_ok-index.ensures.index (found ∙ ap (λ o. Some o) c.in_default.is) in
+    let names : declared_row_names c.args.rows.now.rows.items ≡ map (field 1) lines = row-names-by c.args.rows.now.rows.items side lines h in
+    let free = free-apart 0 (names_of c.args.rows.now.names) c.args.rows.now.places.items (declared_row_names c.args.rows.now.rows.items) c.in_ok-index.index c.args.row.now c.requires.fit.places c.requires.fit.distinct c.in_ok-index.ensures.index (found ∙ ap (λ o. Some o) c.in_default.is) in
     h ∙ none-by side c.args.row.now (value c.args.token.now) lines (subst (λ ns. AllByRecursion (λ n. bytes_eq c.args.row.now n ≡ false) ns) names free)
 
 pub returns-clause-rows : goal.returns-clause-rows
 returns-clause-rows c = λ side lines h.
     let low = get-below (names_of c.args.rows.now.names) c.in_ok-index.index c.args.row.now c.in_ok-index.ensures.index in
-    let size = length-places 0 (names_of c.args.rows.now.names) c.args.rows.now.places.items (row_names c.args.rows.now.rows.items) c.requires.fit.places in
+    let size = length-places 0 (names_of c.args.rows.now.names) c.args.rows.now.places.items (declared_row_names c.args.rows.now.rows.items) c.requires.fit.places in
     let found : slice_get c.args.rows.now.places.items c.in_ok-index.index ≡ Some c.index.result.now = get-from c.args.rows.now.places.items c.in_ok-index.index c.index.result.now (omega arith) c.index.ensures in
-    let names : row_names c.args.rows.now.rows.items ≡ map (field 1) lines = row-names-by c.args.rows.now.rows.items side lines h in
+    let names : declared_row_names c.args.rows.now.rows.items ≡ map (field 1) lines = row-names-by c.args.rows.now.rows.items side lines h in
     let fits : SFits w64 c.in_ok-value.value = search rules in
     let same : to_z w64 (of_z w64 c.in_ok-value.value) ≡ c.in_ok-value.value = to_z-of_z w64 c.in_ok-value.value fits in
-    let stands = row-at 0 (names_of c.args.rows.now.names) c.args.rows.now.places.items (row_names c.args.rows.now.rows.items) c.in_ok-index.index c.in-Some.place c.args.row.now c.requires.fit.places c.in_ok-index.ensures.index (found ∙ ap (λ o. Some o) (c.in-Some.is ∙ ap (λ n. Some n) (omega arith))) in
+    let stands = row-at 0 (names_of c.args.rows.now.names) c.args.rows.now.places.items (declared_row_names c.args.rows.now.rows.items) c.in_ok-index.index c.in-Some.place c.args.row.now c.requires.fit.places c.in_ok-index.ensures.index (found ∙ ap (λ o. Some o) (c.in-Some.is ∙ ap (λ n. Some n) (omega arith))) in
     c.set_right_side.ensures ∙ ap (with_side c.in-Some.place _) h
-    ∙ side-by side c.args.row.now _ c.in-Some.place lines (subst (λ ns. IsDistinct bytes_eq ns) names (distinct-rows 0 (names_of c.args.rows.now.names) c.args.rows.now.places.items (row_names c.args.rows.now.rows.items) c.requires.fit.places c.requires.fit.distinct)) (subst (λ ns. slice_get ns c.in-Some.place ≡ Some c.args.row.now) names stands)
+    ∙ side-by side c.args.row.now _ c.in-Some.place lines (subst (λ ns. IsDistinct bytes_eq ns) names (distinct-rows 0 (names_of c.args.rows.now.names) c.args.rows.now.places.items (declared_row_names c.args.rows.now.rows.items) c.requires.fit.places c.requires.fit.distinct)) (subst (λ ns. slice_get ns c.in-Some.place ≡ Some c.args.row.now) names stands)
     ∙ ap (λ z. rows_by (λ n. if bytes_eq n c.args.row.now then z else side n) lines) (same ∙ sym c.in_ok-value.ensures.value)

@@ -1,7 +1,7 @@
 use Rattle.std.proofs.Common.{◌≡◌, drop}
-use Rattle.optimality.specs.inside.RowForms.{forms_of, with_columns}
+use Rattle.optimality.specs.inside.RowForms.{forms_held, with_columns}
 use Rattle.optimality.proofs.row_forms.add_columns.Given as goal
 
 -- the columns that are left, added to the forms so far
 abbrev pub invariant-loop-column : goal.invariant-loop-column
-invariant-loop-column l = with_columns l.column (drop l.column l.program.columns) (forms_of l.forms) ≡ with_columns 0 l.program.columns (forms_of l.fn.forms)
+invariant-loop-column l = with_columns l.column (drop l.column l.program.columns) (forms_held l.forms) ≡ with_columns 0 l.program.columns (forms_held l.fn.forms)

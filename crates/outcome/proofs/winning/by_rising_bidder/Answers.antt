@@ -4,7 +4,7 @@ use Rattle.std.specs.List.{range_with_len}
 use Rattle.auction_terms.specs.declared.choices.Choice.{Choice}
 use Rattle.auction_terms.specs.declared.limits.TheConstants.{MOST_BIDDERS}
 use Rattle.outcome.specs.Winning.{by_bidder}
-use Rattle.outcome.specs.Winning.{IsRising}
+use Rattle.outcome.specs.Winning.{HasRisingBidders}
 use Rattle.outcome.proofs.BackLaws.{by_bidder-more, rises_all}
 use Rattle.outcome.proofs.winning.by_rising_bidder.Goals as goal
 
@@ -22,4 +22,4 @@ pub new-requires : goal.new-requires
 new-requires c =
     let choices = c.args.choices.now in
     let all : c.loop-k.k ≡ MOST_BIDDERS = omega arith in
-    subst IsRising (sym (c.loop-k.invariant ∙ ap (λ (n : ℕ). by_bidder (range_with_len 1 n) choices) all)) (rises_all choices c.requires.map)
+    subst HasRisingBidders (sym (c.loop-k.invariant ∙ ap (λ (n : ℕ). by_bidder (range_with_len 1 n) choices) all)) (rises_all choices c.requires.map)
