@@ -39,7 +39,9 @@ pub fn check_certificates(
 ) -> Result<(), Refusal>
     requires { length won.now ≡ length auction.now.groups }
     ensures shown { OnOk result (certified (held auction.now) won.now ≡ Ok won.now) }
-    ensures refuses { IfErr result (λ r. Refuses (certified (held auction.now) won.now) r ⊎ ((length (held auction.now).certificates ≡ length auction.now.groups) × IsTooWide (bounds_of (held auction.now) won.now) r)) }
+    ensures refuses { IfErr result (λ r. Refuses (certified (held auction.now) won.now) r
+        ⊎ ((length (held auction.now).certificates ≡ length auction.now.groups)
+        × IsTooWide (bounds_of (held auction.now) won.now) r)) }
 {
     let Auction {
         book,
@@ -65,7 +67,8 @@ fn bounds_of<'c>(
 ) -> Result<Vec<ClaimedBound<'c>>, AllocError>
     requires allocations { length allocations.now ≡ length groups.now }
     requires certificates { length certificates.now ≡ length groups.now }
-    ensures { IfOk result (λ bounds. map (bound_held book.now) bounds.items ≡ bounds_by book.now groups.now allocations.now (bytes_of certificates.now)) }
+    ensures { IfOk result (λ bounds. map (bound_held book.now) bounds.items
+        ≡ bounds_by book.now groups.now allocations.now (bytes_of certificates.now)) }
 {
     let mut bounds = Vec::new(alloc);
     for place in 0..groups.count() {
@@ -87,7 +90,8 @@ fn bound_of<'c>(
     allocation: &Allocation,
     certificate: &'c [u8],
 ) -> ClaimedBound<'c>
-    ensures { bound_held book.now result ≡ bound_of (sale_of book.now) ((group.now, allocation.now), certificate.now) }
+    ensures { bound_held book.now result
+        ≡ bound_of (sale_of book.now) ((group.now, allocation.now), certificate.now) }
 {
     ClaimedBound {
         group,
@@ -111,7 +115,9 @@ fn check_each(
     bounds: &[ClaimedBound<'_>],
 ) -> Result<(), Refusal>
     ensures shown { OnOk result (AllShown (map (bound_held compiler.now.book) bounds.now)) }
-    ensures refuses { IfErr result (λ r. Refuses (each_in_turn shown 1 (map (bound_held compiler.now.book) bounds.now)) r ⊎ IsTooWide (map (bound_held compiler.now.book) bounds.now) r) }
+    ensures refuses { IfErr result (λ r. Refuses
+        (each_in_turn shown 1 (map (bound_held compiler.now.book) bounds.now)) r
+        ⊎ IsTooWide (map (bound_held compiler.now.book) bounds.now) r) }
 {
     let verdicts = verdicts_of(rt, alloc, compiler, bounds)?;
     first_refused(verdicts.as_slice())
@@ -125,7 +131,8 @@ fn verdicts_of(
     compiler: &Compiler<'_, '_>,
     bounds: &[ClaimedBound<'_>],
 ) -> Result<Vec<Result<(), CertificateFault>>, AllocError>
-    ensures { IfOk result (λ verdicts. AllZip (IsJudged compiler.now.book) bounds.now verdicts.items) }
+    ensures { IfOk result (λ verdicts. AllZip (IsJudged compiler.now.book) bounds.now
+        verdicts.items) }
 {
     bounds
         .par_iter()

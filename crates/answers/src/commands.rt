@@ -33,9 +33,13 @@ pub fn answer<R: Threads + Wait + Sync + AllocGlobal, I: Read, S: Sink>(
     out: &mut S,
 ) -> Result<(), Refusal>
     requires { IsRequestWithinLimits request }
-    ensures answered { OnOk result (IsAnswered request (I.remaining input.old.reader) (I.remaining input.new.reader) (S.taken out.old) (S.taken out.new)) }
-    ensures sold { OnOk result (HasReadSold request (I.remaining input.old.reader) (I.remaining input.new.reader)) }
-    ensures refused { IfErr result (IsRefused request (I.remaining input.old.reader) (I.remaining input.new.reader) input.old.failures input.new.failures (S.taken out.old) (S.taken out.new) (S.failures out.old) (S.failures out.new)) }
+    ensures answered { OnOk result (IsAnswered request (I.remaining input.old.reader)
+        (I.remaining input.new.reader) (S.taken out.old) (S.taken out.new)) }
+    ensures sold { OnOk result (HasReadSold request (I.remaining input.old.reader)
+        (I.remaining input.new.reader)) }
+    ensures refused { IfErr result (IsRefused request (I.remaining input.old.reader)
+        (I.remaining input.new.reader) input.old.failures input.new.failures (S.taken out.old)
+        (S.taken out.new) (S.failures out.old) (S.failures out.new)) }
 {
     let text = read_input(rt.alloc(), input)?;
     answer_text(rt, request, text.as_slice(), out)
@@ -51,7 +55,8 @@ fn answer_text<R: Threads + Wait + Sync + AllocGlobal, S: Sink>(
     requires { IsRequestWithinLimits request }
     ensures written { OnOk result (IsWritten request text.now (S.taken out.old) (S.taken out.new)) }
     ensures sold { OnOk result (HasSold request text.now) }
-    ensures refused { IfErr result (IsUnwritten request text.now (S.taken out.old) (S.taken out.new) (S.failures out.old) (S.failures out.new)) }
+    ensures refused { IfErr result (IsUnwritten request text.now (S.taken out.old) (S.taken out.new)
+        (S.failures out.old) (S.failures out.new)) }
 {
     match request {
         Request::Text => write_text(rt, text, out),

@@ -36,11 +36,15 @@ pub fn run_compile<R: Threads + Wait + Sync, G: Gate + Sync, S: Sink>(
 ) -> Result<(), RunFault>
     requires some { 1 ≤ workers }
     requires few { workers ≤ MOST_WORKERS }
-    ensures ok { OnOk result (Appends (S.taken out.old) (S.taken out.new) (programs_bytes book.now (map (compiled book.now) groups.now))) }
-    ensures faithful { All (λ group. IsFaithfulText (lots_in book.now.rules) (book_of book.now) (has group) (text (program_without book.now group))) groups.now }
-    ensures stopped { IfErr result (StopsAsTold book.now (map (compiled book.now) groups.now) (S.taken out.old) (S.taken out.new)) }
+    ensures ok { OnOk result (Appends (S.taken out.old) (S.taken out.new)
+        (programs_bytes book.now (map (compiled book.now) groups.now))) }
+    ensures faithful { All (λ group. IsFaithfulText (lots_in book.now.rules) (book_of book.now)
+        (has group) (text (program_without book.now group))) groups.now }
+    ensures stopped { IfErr result (StopsAsTold book.now (map (compiled book.now) groups.now)
+        (S.taken out.old) (S.taken out.new)) }
     ensures failed { IfErr result (FailsAsTold (S.failures out.old) (S.failures out.new)) }
 {
+    // Its contract says that the book is within limits, which the headline's clauses ask for.
     let _rules = book.rules();
     match Pages::of_book(rt, alloc, book, groups.count(), workers, gate) {
         Ok(pages) => write_programs(book, &pages, groups, out),

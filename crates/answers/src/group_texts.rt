@@ -45,8 +45,10 @@ fn add_group<S: Sink>(
     group: &Group,
 )
     requires pages { pages.now ≡ pages_of (lots_in book.now.rules) (book_of book.now) }
-    ensures { Adds S.taken S.failures writer.old writer.new (program_bytes book.now k (compiled book.now group.now)) }
+    ensures { Adds S.taken S.failures writer.old writer.new
+        (program_bytes book.now k (compiled book.now group.now)) }
 {
+    // Its contract says that the book's rules are within limits, which the lines of a program ask for.
     let _rules = book.rules();
     add_line(writer, book, k, group);
     add_group_text(writer, pages, group);
@@ -69,8 +71,10 @@ pub fn write_programs<S: Sink>(
     out: &mut S,
 ) -> Result<(), RunFault>
     requires pages { pages.now ≡ pages_of (lots_in book.now.rules) (book_of book.now) }
-    ensures ok { OnOk result (Appends (S.taken out.old) (S.taken out.new) (programs_bytes book.now (map (compiled book.now) groups.now))) }
-    ensures stopped { IfErr result (StopsAsTold book.now (map (compiled book.now) groups.now) (S.taken out.old) (S.taken out.new)) }
+    ensures ok { OnOk result (Appends (S.taken out.old) (S.taken out.new)
+        (programs_bytes book.now (map (compiled book.now) groups.now))) }
+    ensures stopped { IfErr result (StopsAsTold book.now (map (compiled book.now) groups.now)
+        (S.taken out.old) (S.taken out.new)) }
     ensures failed { IfErr result (FailsAsTold (S.failures out.old) (S.failures out.new)) }
 {
     let mut writer = Writer::new(out);

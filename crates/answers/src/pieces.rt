@@ -9,8 +9,10 @@ use mps_text::{Sink, WriteFault, Writer};
 
 /// Writes the pieces, one after the other. It takes no memory.
 pub fn write_pieces<S: Sink>(pieces: &[&[u8]], sink: &mut S) -> Result<(), WriteFault>
-    ensures ok { OnOk result (Appends (S.taken sink.old) (S.taken sink.new) (flat_map (λ p. p.now) pieces.now)) }
-    ensures err { IfErr result (λ e. SentFront (S.taken sink.old) (S.taken sink.new) (flat_map (λ p. p.now) pieces.now) (written_of e)) }
+    ensures ok { OnOk result (Appends (S.taken sink.old) (S.taken sink.new)
+        (flat_map (λ p. p.now) pieces.now)) }
+    ensures err { IfErr result (λ e. SentFront (S.taken sink.old) (S.taken sink.new)
+        (flat_map (λ p. p.now) pieces.now) (written_of e)) }
     ensures failed { OnErr result (HasFailed (S.failures sink.old) (S.failures sink.new)) }
 {
     let mut writer = Writer::new(sink);

@@ -52,6 +52,7 @@ impl<'a, 't> Maker for Winning<'a, 't> {
         alloc: Global,
         number: usize,
     ) -> Result<Result<Allocation, Refusal>, AllocError> {
+        // Its contract says how many groups there may be, so that the number behind this one is none too great.
         let _few = self.compiler.count();
         let made = self.compiler.compile(alloc, number + 1)?;
         let text = text_at(self.solutions, number);
@@ -107,8 +108,10 @@ fn won_by_each<R: Threads + Wait + Sync + AllocGlobal>(
     requires few { workers ≤ MOST_WORKERS }
     requires count { length solutions.now ≡ length groups.now }
     ensures count { IfOk result (λ won. length won.items ≡ length groups.now) }
-    ensures won { IfOk result (λ won. each_in_turn (winners (sale_of book.now)) 1 (zip groups.now (bytes_of solutions.now)) ≡ Ok won.items) }
-    ensures refuses { IfErr result (Refuses (each_in_turn (winners (sale_of book.now)) 1 (zip groups.now (bytes_of solutions.now)))) }
+    ensures won { IfOk result (λ won. each_in_turn (winners (sale_of book.now)) 1
+        (zip groups.now (bytes_of solutions.now)) ≡ Ok won.items) }
+    ensures refuses { IfErr result (Refuses (each_in_turn (winners (sale_of book.now)) 1
+        (zip groups.now (bytes_of solutions.now)))) }
 {
     let alloc: Global = rt.alloc();
     let compiler = Compiler::new(rt, alloc, book, groups)?;

@@ -170,14 +170,16 @@ fn read(matches: &ArgMatches<'_>) -> Request
 // What the parser makes of the words.
 fn matches_of<'a>(alloc: Global, words: &'a [&'a str]) -> Result<ArgMatches<'a>, Error>
     ensures faults { FailsBy (fault_of wdp (map (λ word. word.now) words.entry.now)) result }
-    ensures subcommand { IfOk result (λ m. subcommand_rows_of m ≡ subcommand_of wdp (map (λ word. word.now) words.entry.now)) }
+    ensures subcommand { IfOk result (λ m. subcommand_rows_of m
+        ≡ subcommand_of wdp (map (λ word. word.now) words.entry.now)) }
 {
     command(alloc)?.try_get_matches_from(words)
 }
 
 /// The request of the words, the program's own name first.
 pub fn request_of<'a>(alloc: Global, words: &'a [&'a str]) -> Result<Request, Error>
-    ensures request { IfOk result (λ request. asked (map (λ word. word.now) words.entry.now) ≡ Ok request) }
+    ensures request { IfOk result (λ request. asked (map (λ word. word.now) words.entry.now)
+        ≡ Ok request) }
     ensures faults { FailsBy (fault_of wdp (map (λ word. word.now) words.entry.now)) result }
     ensures limits { IfOk result IsRequestWithinLimits }
 {

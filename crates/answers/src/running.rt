@@ -34,10 +34,17 @@ pub fn run<'a, R: Threads + Wait + Sync + AllocGlobal, I: Read, S: Sink, F: Sink
     faults: &mut F,
 ) -> u8
     ensures status { result ≤ 2 }
-    ensures done { result ≡ 0 → IsDone (bytes_of words.entry.now) (I.remaining input.old.reader) (I.remaining input.new.reader) (S.taken out.old) (S.taken out.new) }
+    ensures done { result ≡ 0 → IsDone (bytes_of words.entry.now) (I.remaining input.old.reader)
+        (I.remaining input.new.reader) (S.taken out.old) (S.taken out.new) }
     ensures quiet { result ≡ 0 → F.taken faults.new ≡ F.taken faults.old }
-    ensures refused { result ≡ 1 → IsToldWhy (IsUndone (bytes_of words.entry.now) (I.remaining input.old.reader) (I.remaining input.new.reader) input.old.failures input.new.failures (S.taken out.old) (S.taken out.new) (S.failures out.old) (S.failures out.new)) (F.taken faults.old) (F.taken faults.new) (F.failures faults.old) (F.failures faults.new) }
-    ensures unasked { result ≡ 2 → IsUnasked (bytes_of words.entry.now) (I.remaining input.old.reader) (I.remaining input.new.reader) (S.taken out.old) (S.taken out.new) }
+    ensures refused { result ≡ 1 → IsToldWhy (IsUndone (bytes_of words.entry.now)
+        (I.remaining input.old.reader) (I.remaining input.new.reader) input.old.failures
+        input.new.failures (S.taken out.old) (S.taken out.new) (S.failures out.old)
+        (S.failures out.new)) (F.taken faults.old) (F.taken faults.new) (F.failures faults.old)
+        (F.failures faults.new) }
+    ensures unasked { result ≡ 2 → IsUnasked (bytes_of words.entry.now)
+        (I.remaining input.old.reader) (I.remaining input.new.reader) (S.taken out.old)
+        (S.taken out.new) }
 {
     let alloc: Global = rt.alloc();
     match request_of(alloc, words) {
@@ -56,9 +63,13 @@ fn answer_request<R: Threads + Wait + Sync + AllocGlobal, I: Read, S: Sink, F: S
 ) -> u8
     requires { IsRequestWithinLimits request }
     ensures status { result ≤ 1 }
-    ensures answered { result ≡ 0 → IsAnswered request (I.remaining input.old.reader) (I.remaining input.new.reader) (S.taken out.old) (S.taken out.new) }
+    ensures answered { result ≡ 0 → IsAnswered request (I.remaining input.old.reader)
+        (I.remaining input.new.reader) (S.taken out.old) (S.taken out.new) }
     ensures quiet { result ≡ 0 → F.taken faults.new ≡ F.taken faults.old }
-    ensures refused { result ≡ 1 → IsToldWhy (IsRefused request (I.remaining input.old.reader) (I.remaining input.new.reader) input.old.failures input.new.failures (S.taken out.old) (S.taken out.new) (S.failures out.old) (S.failures out.new)) (F.taken faults.old) (F.taken faults.new) (F.failures faults.old) (F.failures faults.new) }
+    ensures refused { result ≡ 1 → IsToldWhy (IsRefused request (I.remaining input.old.reader)
+        (I.remaining input.new.reader) input.old.failures input.new.failures (S.taken out.old)
+        (S.taken out.new) (S.failures out.old) (S.failures out.new)) (F.taken faults.old)
+        (F.taken faults.new) (F.failures faults.old) (F.failures faults.new) }
 {
     match answer(rt, request, input, out) {
         Ok(()) => 0,
@@ -72,10 +83,14 @@ fn answer_request<R: Threads + Wait + Sync + AllocGlobal, I: Read, S: Sink, F: S
 // Help and the version go to the output; a fault of the words to the faults.
 fn tell_words<S: Sink, F: Sink>(alloc: Global, error: &Error, out: &mut S, faults: &mut F) -> u8
     ensures status { result ≤ 2 }
-    ensures help { result ≡ 0 → IsShown (kind_of error.now) × ((help : List ℕ) × Appends (S.taken out.old) (S.taken out.new) help) }
+    ensures help { result ≡ 0 → IsShown (kind_of error.now)
+        × ((help : List ℕ) × Appends (S.taken out.old) (S.taken out.new) help) }
     ensures quiet { result ≡ 0 → F.taken faults.new ≡ F.taken faults.old }
-    ensures refused { result ≡ 1 → IsToldWhy (IsUntold (kind_of error.now) (S.taken out.old) (S.taken out.new) (S.failures out.old) (S.failures out.new)) (F.taken faults.old) (F.taken faults.new) (F.failures faults.old) (F.failures faults.new) }
-    ensures unasked { result ≡ 2 → ¬ (IsShown (kind_of error.now)) × (kind_of error.now ≢ kind.OutOfMemory) × (S.taken out.new ≡ S.taken out.old) }
+    ensures refused { result ≡ 1 → IsToldWhy (IsUntold (kind_of error.now) (S.taken out.old)
+        (S.taken out.new) (S.failures out.old) (S.failures out.new)) (F.taken faults.old)
+        (F.taken faults.new) (F.failures faults.old) (F.failures faults.new) }
+    ensures unasked { result ≡ 2 → ¬ (IsShown (kind_of error.now))
+        × (kind_of error.now ≢ kind.OutOfMemory) × (S.taken out.new ≡ S.taken out.old) }
 {
     match format!(in alloc; "{error}") {
         Ok(text) if error.kind() != ErrorKind::OutOfMemory => {
@@ -98,7 +113,9 @@ fn show<S: Sink, F: Sink>(help: &[u8], out: &mut S, faults: &mut F) -> u8
     ensures status { result ≤ 1 }
     ensures help { result ≡ 0 → (help : List ℕ) × Appends (S.taken out.old) (S.taken out.new) help }
     ensures quiet { result ≡ 0 → F.taken faults.new ≡ F.taken faults.old }
-    ensures refused { result ≡ 1 → IsToldWhy (IsUnshown (S.taken out.old) (S.taken out.new) (S.failures out.old) (S.failures out.new)) (F.taken faults.old) (F.taken faults.new) (F.failures faults.old) (F.failures faults.new) }
+    ensures refused { result ≡ 1 → IsToldWhy (IsUnshown (S.taken out.old) (S.taken out.new)
+        (S.failures out.old) (S.failures out.new)) (F.taken faults.old) (F.taken faults.new)
+        (F.failures faults.old) (F.failures faults.new) }
 {
     let pieces: [&[u8]; 1] = [help];
     match write_pieces(&pieces, out) {

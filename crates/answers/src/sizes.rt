@@ -24,8 +24,10 @@ fn entry_count(program: &Program) -> u64
 
 /// Writes how many rows beside the objective, columns and entries outside the objective there are. It takes no memory.
 pub fn write_sizes<S: Sink>(program: &Program, out: &mut S) -> Result<(), WriteFault>
-    ensures ok { OnOk result (Appends (S.taken out.old) (S.taken out.new) (sizes_text program.now)) }
-    ensures err { IfErr result (λ e. SentFront (S.taken out.old) (S.taken out.new) (sizes_text program.now) (written_of e)) }
+    ensures ok { OnOk result (Appends (S.taken out.old) (S.taken out.new)
+        (sizes_text program.now)) }
+    ensures err { IfErr result (λ e. SentFront (S.taken out.old) (S.taken out.new)
+        (sizes_text program.now) (written_of e)) }
     ensures failed { OnErr result (HasFailed (S.failures out.old) (S.failures out.new)) }
 {
     let mut rows = Buffer::new();

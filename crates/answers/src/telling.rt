@@ -15,7 +15,8 @@ const TEXT_ROOM: usize = 128;
 
 /// Puts the line of a refusal. It takes no memory. What a sink of such lines doesn't take changes nothing.
 pub fn tell<F: Sink>(refusal: &Refusal, faults: &mut F)
-    ensures { IsTold (refused refusal.now) (F.taken faults.old) (F.taken faults.new) (F.failures faults.old) (F.failures faults.new) }
+    ensures { IsTold (refused refusal.now) (F.taken faults.old) (F.taken faults.new)
+        (F.failures faults.old) (F.failures faults.new) }
 {
     match text_of(refusal) {
         Some(text) => put_line(text.as_str(), refusal.name(), faults),
@@ -37,7 +38,8 @@ fn text_of(refusal: &Refusal) -> Option<ArrayString<TEXT_ROOM>>
 // Puts a line: a text, and a name behind it.
 #[tactic(auto, using(crate::proofs::LineFacts::puts))]
 fn put_line<F: Sink>(text: &str, name: &[u8], faults: &mut F)
-    ensures { Puts (refusal_line text.now name.now) (F.taken faults.old) (F.taken faults.new) (F.failures faults.old) (F.failures faults.new) }
+    ensures { Puts (refusal_line text.now name.now) (F.taken faults.old) (F.taken faults.new)
+        (F.failures faults.old) (F.failures faults.new) }
 {
     let pieces: [&[u8]; 4] = [b"wdp: ", text.as_bytes(), name, b"\n"];
     let _ = write_pieces(&pieces, faults);

@@ -26,7 +26,8 @@ pub fn allocation_won(
     text: &[u8],
 ) -> Result<Allocation, Refusal>
     requires { IsFaithful (lots_in book.now.rules) (book_of book.now) (has group.now) program.now }
-    ensures feasible { IfOk result (λ a. IsFeasible (lots_in book.now.rules) (book_of book.now) (has group.now) a) }
+    ensures feasible { IfOk result (λ a. IsFeasible (lots_in book.now.rules) (book_of book.now)
+        (has group.now) a) }
     ensures won { IfOk result (λ a. winners_by program.now solution text.now ≡ Ok a) }
     ensures refuses { IfErr result (Refuses (winners_by program.now solution text.now)) }
 {

@@ -44,6 +44,7 @@ fn read_parts<'t>(alloc: Global, request: &Request, text: &'t [u8]) -> Result<Pa
     }
 }
 
+// The rules in the one text of them, with a fault as a refusal.
 fn rules_in(alloc: Global, texts: &[&[u8]]) -> Result<Rules, Refusal>
     ensures told { IfOk result (λ rules. terms_told (bytes_of texts.now) ≡ Ok rules) }
     ensures refuses { IfErr result (Refuses (terms_told (bytes_of texts.now))) }
@@ -51,6 +52,7 @@ fn rules_in(alloc: Global, texts: &[&[u8]]) -> Result<Rules, Refusal>
     Ok(read_rules(alloc, only_text(texts))?)
 }
 
+// The groups in the one text of them, with a fault as a refusal.
 fn groups_in(alloc: Global, texts: &[&[u8]], rules: &Rules) -> Result<Groups, Refusal>
     ensures told { IfOk result (λ groups. groups_told rules.now (bytes_of texts.now) ≡ Ok groups) }
     ensures refuses { IfErr result (Refuses (groups_told rules.now (bytes_of texts.now))) }

@@ -35,8 +35,10 @@ impl From<AllocError> for InputFault {
 
 /// Reads all bytes of an input, and at most one byte more than the limit.
 pub fn read_input<I: Read>(alloc: Global, input: &mut Source<I>) -> Result<Vec<u8>, InputFault>
-    ensures whole { IfOk result (λ text. IsWhole (I.remaining input.old.reader) (I.remaining input.new.reader) text.items) }
-    ensures untaken { IfErr result (λ f. IsUntaken f (I.remaining input.old.reader) (I.remaining input.new.reader) input.old.failures input.new.failures) }
+    ensures whole { IfOk result (λ text. IsWhole (I.remaining input.old.reader)
+        (I.remaining input.new.reader) text.items) }
+    ensures untaken { IfErr result (λ f. IsUntaken f (I.remaining input.old.reader)
+        (I.remaining input.new.reader) input.old.failures input.new.failures) }
 {
     let mut text: Vec<u8> = Vec::new(alloc);
     let mut block = [0u8; BLOCK_LEN];

@@ -68,7 +68,8 @@ fn submit_each<L: Round, R: Wait>(
     requires own { AreFormsOf L.rules session.old.bidder (form_values forms.now) }
     requires fresh { session.old.pairs ≡ [] }
     ensures accepted { OnOk result (AreAccepted (form_values forms.now) session.new.pairs) }
-    ensures same { (session.new.bidder ≡ session.old.bidder) × (session.new.session ≡ session.old.session) }
+    ensures same { (session.new.bidder ≡ session.old.bidder)
+        × (session.new.session ≡ session.old.session) }
 {
     let mut over = None;
     for place in 0..forms.len() {

@@ -97,7 +97,8 @@ struct FirstPart<'t> {
 // The first part of a text that begins with one.
 fn first_part(text: &[u8]) -> FirstPart<'_>
     requires { heads_part text.now ≡ true }
-    ensures parts { parts_in (cut_lines text.now) ≡ part result.head.now result.bytes.now ∷ parts_in (cut_lines result.rest.now) }
+    ensures parts { parts_in (cut_lines text.now)
+        ≡ part result.head.now result.bytes.now ∷ parts_in (cut_lines result.rest.now) }
     ensures shorter { length result.rest.now < length text.now }
     ensures next { (result.rest.now ≡ []) ⊎ (heads_part result.rest.now ≡ true) }
 {

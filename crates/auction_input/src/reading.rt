@@ -51,7 +51,8 @@ pub fn solutions_taken(request: &Request) -> Count
 
 /// The first kind of which there are too few parts or too many: one with rules, and as many with groups and with solutions as the command takes.
 pub fn miscounted(request: &Request, parts: &Parts<'_>) -> Option<CountedPart>
-    ensures { result ≡ miscounted request.now (length parts.now.rules.items) (length parts.now.groups.items) (length parts.now.solutions.items) }
+    ensures { result ≡ miscounted request.now (length parts.now.rules.items)
+        (length parts.now.groups.items) (length parts.now.solutions.items) }
 {
     if parts.rules.len() != 1 {
         return Some(CountedPart::Rules);
@@ -86,7 +87,8 @@ pub fn read_forms(
     texts: &[&[u8]],
     rules: &Rules,
 ) -> Result<Vec<Form>, Refusal>
-    ensures told { IfOk result (λ forms. forms_told rules.now (bytes_of texts.now) ≡ Ok forms.items) }
+    ensures told { IfOk result (λ forms. forms_told rules.now (bytes_of texts.now)
+        ≡ Ok forms.items) }
     ensures meet { IfOk result (λ forms. All (Meets rules.now) forms.items) }
     ensures refuses { IfErr result (Refuses (forms_told rules.now (bytes_of texts.now))) }
 {
@@ -108,8 +110,10 @@ fn read_more(
     texts: &[&[u8]],
     rules: &Rules,
 ) -> Result<(), Refusal>
-    ensures told { OnOk result (HaveMore rules.now (bytes_of texts.now) forms.old.items forms.new.items) }
-    ensures refuses { IfErr result (Refuses (more_told rules.now (length forms.old.items) (bytes_of texts.now))) }
+    ensures told { OnOk result (HaveMore rules.now (bytes_of texts.now) forms.old.items
+        forms.new.items) }
+    ensures refuses { IfErr result (Refuses (more_told rules.now (length forms.old.items)
+        (bytes_of texts.now))) }
 {
     let answers = read_each(rt, alloc, texts, rules)?;
     add_forms(forms, answers)
@@ -144,10 +148,12 @@ fn read_each(
     let (front, back) = join(
         rt,
         move || -> Result<Vec<Result<Form, FormFault>>, AllocError>
-            ensures { IfOk result (λ answers. AllZip (IsAnswer rules.entry.now) first.entry.now answers.items) }
+            ensures { IfOk result (λ answers. AllZip (IsAnswer rules.entry.now) first.entry.now
+                answers.items) }
         { read_half(rt, alloc, first, rules, 1) },
         move || -> Result<Vec<Result<Form, FormFault>>, AllocError>
-            ensures { IfOk result (λ answers. AllZip (IsAnswer rules.entry.now) second.entry.now answers.items) }
+            ensures { IfOk result (λ answers. AllZip (IsAnswer rules.entry.now) second.entry.now
+                answers.items) }
         { read_half(rt, alloc, second, rules, 1) },
     );
     let mut answers = front?;

@@ -54,6 +54,7 @@ pub fn close_round<R: Threads + Wait + Sync + AllocGlobal>(
 fn part_count(rules: &Rules) -> u64
     ensures { result ≡ session_count rules.now + 1 }
 {
+    // Its contract says that the rules are within limits, and so that the sum is no number too great.
     let _within_limits = rules.bidders();
     rules.session_count() as u64 + 1
 }
@@ -118,7 +119,8 @@ fn run_each<L: Round + Send + Sync, R: Threads + Wait + Sync + AllocGlobal>(
     desk: &Desk<L>,
     jobs: Vec<Job<'_, L>>,
 ) -> Result<Vec<Done<L>>, AllocError>
-    ensures { IfOk result (λ done. AllZip (λ job end. ComesTo job end.session end.ended) jobs.entry.items done.items) }
+    ensures { IfOk result (λ done. AllZip (λ job end. ComesTo job end.session end.ended)
+        jobs.entry.items done.items) }
 {
     thread::map_vec(
         rt,
@@ -135,7 +137,8 @@ fn sessions_of<L: Round>(
     others: Vec<Session<L>>,
 ) -> Result<Vec<Session<L>>, RoundFault>
     ensures ended { OnOk result (All (λ job. job.ended ≡ Ok tt) done.items) }
-    ensures sessions { IfOk result (λ sessions. sessions.items ≡ others.items ++ map (λ job. job.session) done.items) }
+    ensures sessions { IfOk result (λ sessions. sessions.items
+        ≡ others.items ++ map (λ job. job.session) done.items) }
 {
     let mut sessions = others;
     let mut ended = Ok(());
@@ -174,7 +177,8 @@ fn settle<L: Round, R: Wait + AllocGlobal>(
     sessions: Vec<Session<L>>,
 ) -> Result<ClosedBook, RoundFault>
     ensures rules { IfOk result (λ book. book.rules ≡ L.rules) }
-    ensures settled { IfOk result (λ book. (chair : ChairOwn) × IsSettled L.rules book.history chair sessions.items) }
+    ensures settled { IfOk result (λ book. (chair : ChairOwn)
+        × IsSettled L.rules book.history chair sessions.items) }
 {
     let mut chair = chair;
     close(rt, &desk, &mut chair)?;

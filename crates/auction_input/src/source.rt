@@ -33,7 +33,8 @@ impl<I: Read> Source<I> {
     /// Reads bytes into the front of a block, none only at the end.
     pub fn read(&mut self, block: &mut [u8]) -> Result<usize, ReadFailed>
         ensures bound { ReadsAtMost result block.new }
-        ensures bytes { ReadConsumes (I.remaining self.old.reader) (I.remaining self.new.reader) result block.new }
+        ensures bytes { ReadConsumes (I.remaining self.old.reader) (I.remaining self.new.reader)
+            result block.new }
         ensures succeeded { OnOk result (self.new.failures ≡ self.old.failures) }
         ensures failed { OnErr result (self.new.failures ≡ one_more self.old.failures) }
     {

@@ -93,8 +93,10 @@ impl Draft {
     pub(crate) fn add_category(&mut self, category: Category) -> Result<(), AllocError>
         requires limits { IsCategory category }
         requires room { length self.old.categories < MOST_CATEGORIES }
-        requires new_name { has_name (λ other. other.name) self.old.categories category.name ≡ false }
-        ensures { OnOk result (self.new ≡ entries (self.old.categories ++ category ∷ []) self.old.bidders self.old.pools self.old.members) }
+        requires new_name { has_name (λ other. other.name) self.old.categories category.name
+            ≡ false }
+        ensures { OnOk result (self.new ≡ entries (self.old.categories ++ category ∷ [])
+            self.old.bidders self.old.pools self.old.members) }
     {
         self.categories.push(category)?;
         Ok(())
@@ -104,7 +106,8 @@ impl Draft {
         requires limits { IsBidder bidder }
         requires room { length self.old.bidders < MOST_BIDDERS }
         requires new_name { has_name (λ other. other.name) self.old.bidders bidder.name ≡ false }
-        ensures { OnOk result (self.new ≡ entries self.old.categories (self.old.bidders ++ bidder ∷ []) self.old.pools self.old.members) }
+        ensures { OnOk result (self.new ≡ entries self.old.categories
+            (self.old.bidders ++ bidder ∷ []) self.old.pools self.old.members) }
     {
         self.bidders.push(bidder)?;
         Ok(())
@@ -114,7 +117,8 @@ impl Draft {
         requires limits { IsNamedCap pool }
         requires room { length self.old.pools < MOST_POOLS }
         requires new_name { has_name (λ other. other.name) self.old.pools pool.name ≡ false }
-        ensures { OnOk result (self.new ≡ entries self.old.categories self.old.bidders (self.old.pools ++ pool ∷ []) self.old.members) }
+        ensures { OnOk result (self.new ≡ entries self.old.categories self.old.bidders
+            (self.old.pools ++ pool ∷ []) self.old.members) }
     {
         self.pools.push(pool)?;
         Ok(())
@@ -122,7 +126,8 @@ impl Draft {
 
     pub(crate) fn add_member(&mut self, member: Member) -> Result<(), AllocError>
         requires limits { IsMember member }
-        ensures { OnOk result (self.new ≡ entries self.old.categories self.old.bidders self.old.pools (self.old.members ++ member ∷ [])) }
+        ensures { OnOk result (self.new ≡ entries self.old.categories self.old.bidders
+            self.old.pools (self.old.members ++ member ∷ [])) }
     {
         self.members.push(member)?;
         Ok(())
@@ -182,7 +187,8 @@ fn weighed_pools(
     caps: Vec<NamedCap>,
 ) -> Result<Vec<Pool>, AllocError>
     requires { length categories.now ≤ MOST_CATEGORIES }
-    ensures { IfOk result (λ pools. pools.items ≡ map (pool_with categories.now members.now) caps.items) }
+    ensures { IfOk result (λ pools. pools.items
+        ≡ map (pool_with categories.now members.now) caps.items) }
 {
     let mut pools = Vec::new(alloc);
     for NamedCap { name, cap } in caps {

@@ -83,7 +83,16 @@ fn check_name(
     before: &[&[u8]],
     name: &[u8],
 ) -> Result<(), GroupFault>
-    ensures { Tells is_groups_memory result (first_failed ((list_any (λ bidder. bytes_eq bidder.name name.now) bidders.now, fault.UnknownBidder place) ∷ (not (list_any (λ other. bytes_eq other.now name.now) before.now), fault.RepeatedBidder place) ∷ [])) tt }
+    ensures { Tells is_groups_memory result
+        (first_failed ((
+          list_any (λ bidder. bytes_eq bidder.name name.now) bidders.now,
+          fault.UnknownBidder place,
+        )
+        ∷ (
+          not (list_any (λ other. bytes_eq other.now name.now) before.now),
+          fault.RepeatedBidder
+              place,
+        ) ∷ [])) tt }
 {
     if !is_known(bidders, name) {
         return Err(GroupFault::UnknownBidder { place });
@@ -101,7 +110,8 @@ fn read_names<'a>(
     bidders: &[Bidder],
     line: &'a [u8],
 ) -> Result<Vec<&'a [u8]>, GroupFault>
-    ensures answer { TellsFault is_groups_memory result (first_fault (name_fault bidders.now place) [] (names_in line.now)) }
+    ensures answer { TellsFault is_groups_memory result
+        (first_fault (name_fault bidders.now place) [] (names_in line.now)) }
     ensures names { IfOk result (λ names. map (λ name. name.now) names.items ≡ names_in line.now) }
 {
     let mut names = Vec::new(alloc);
@@ -118,7 +128,8 @@ fn read_names<'a>(
 // The numbers of the bidders that the names name.
 fn numbers_of(alloc: Global, bidders: &[Bidder], names: &[&[u8]]) -> Result<Vec<u16>, AllocError>
     requires { length bidders.now ≤ MOST_BIDDERS }
-    ensures numbers { IfOk result (λ numbers. numbers.items ≡ numbers_from 1 bidders.now (map (λ name. name.now) names.now)) }
+    ensures numbers { IfOk result (λ numbers. numbers.items
+        ≡ numbers_from 1 bidders.now (map (λ name. name.now) names.now)) }
     ensures group { IfOk result (λ numbers. IsGroup numbers.items) }
 {
     let mut numbers = Vec::new(alloc);
@@ -138,7 +149,8 @@ fn read_group(
     line: &[u8],
 ) -> Result<Group, GroupFault>
     requires { length bidders.now ≤ MOST_BIDDERS }
-    ensures answer { Tells is_groups_memory result (fault_of_line bidders.now place line.now) (group_of bidders.now line.now) }
+    ensures answer { Tells is_groups_memory result (fault_of_line bidders.now place line.now)
+        (group_of bidders.now line.now) }
     ensures room { OnOk result (place ≤ MOST_GROUPS) }
     ensures group { IfOk result IsGroup }
 {
@@ -156,7 +168,8 @@ fn read_group(
 /// Reads bidder groups, under rules.
 pub fn read_groups(alloc: Global, bytes: &[u8], rules: &Rules) -> Result<Groups, GroupFault>
     ensures too_large { TEXT_LIMIT < length bytes.now → result ≡ Err fault.TooLarge }
-    ensures answer { length bytes.now ≤ TEXT_LIMIT → Answers is_groups_memory result (groups_of rules.now.bidders bytes.now) }
+    ensures answer { length bytes.now ≤ TEXT_LIMIT
+        → Answers is_groups_memory result (groups_of rules.now.bidders bytes.now) }
 {
     if bytes.len() > TEXT_LIMIT {
         return Err(GroupFault::TooLarge);

@@ -20,7 +20,8 @@ pub(crate) struct PlainRecords<'a> {
 fn line_ends(bytes: &[u8]) -> usize
     ensures within { result ≤ length bytes.now }
     ensures behind { BeginsNoLineEnd (drop result bytes.now) }
-    ensures same { records default_config (drop result bytes.now) ≡ records default_config bytes.now }
+    ensures same { records default_config (drop result bytes.now)
+        ≡ records default_config bytes.now }
 {
     let mut count = 0;
     while count < bytes.len() && (bytes[count] == b'\n' || bytes[count] == b'\r') {
@@ -34,7 +35,8 @@ fn take_fields<'a>(bytes: &'a [u8], row: &mut ByteRecord) -> Result<&'a [u8], Al
     requires plain { HasNoQuote bytes.now }
     requires whole { partial_of row.old ≡ [] }
     ensures plain { IfOk result (λ left. HasNoQuote left.now) }
-    ensures taken { IfOk result (λ left. TakesFields bytes.now (fields_of row.old) (fields_of row.new) left.now) }
+    ensures taken { IfOk result (λ left. TakesFields bytes.now (fields_of row.old)
+        (fields_of row.new) left.now) }
 {
     let mut left = bytes;
     while let Some(end) = memchr3(b',', b'\n', b'\r', left) {
@@ -54,7 +56,10 @@ impl<'a> PlainRecords<'a> {
     pub(crate) fn next(&mut self, row: &mut ByteRecord) -> Result<bool, AllocError>
         requires plain { HasNoQuote self.old.left.now }
         ensures plain { HasNoQuote self.new.left.now }
-        ensures next { IfOk result (λ found. MatchBool found (records default_config self.old.left.now ≡ fields_of row.new ∷ records default_config self.new.left.now) (records default_config self.old.left.now ≡ [])) }
+        ensures next { IfOk result (λ found. MatchBool found
+            (records default_config self.old.left.now
+            ≡ fields_of row.new ∷ records default_config self.new.left.now)
+            (records default_config self.old.left.now ≡ [])) }
     {
         let record = self.left.split_at(line_ends(self.left)).1;
         if record.is_empty() {

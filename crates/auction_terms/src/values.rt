@@ -19,6 +19,7 @@ fn product(value: u64, lots: u16) -> u64
     value * u64::from(lots)
 }
 
+// The value at a place, in the words of lists, by which sums over the categories are stated.
 fn value_at(categories: &[Category], place: usize) -> u64
     requires place { place < length categories.now }
     requires limits { All IsCategory categories.now }
@@ -28,6 +29,7 @@ fn value_at(categories: &[Category], place: usize) -> u64
     categories[place].value
 }
 
+// The supply at a place, in the same words. It is at most 10,000, and so fits.
 fn supply_at(categories: &[Category], place: usize) -> u16
     requires place { place < length categories.now }
     requires limits { All IsCategory categories.now }
@@ -39,7 +41,8 @@ fn supply_at(categories: &[Category], place: usize) -> u16
 fn worth_of(categories: &[Category], quantities: &[u16]) -> u64
     requires few { length categories.now ≤ MOST_CATEGORIES }
     requires limits { All IsCategory categories.now }
-    ensures worth { result ≡ weighed (map (λ category. category.value) categories.now) quantities.now }
+    ensures worth { result ≡ weighed (map (λ category. category.value) categories.now)
+        quantities.now }
     ensures limit { result ≤ MOST_CATEGORIES * 10 ^ 17 }
 {
     let mut sum = 0;
@@ -54,7 +57,8 @@ fn worth_where(is_valued: bool, categories: &[Category], quantities: &[u16]) -> 
     requires known { is_valued ≡ has_values categories.now }
     requires few { length categories.now ≤ MOST_CATEGORIES }
     requires limits { All IsCategory categories.now }
-    ensures worth { result ≡ weighed (map (λ category. category.value) categories.now) quantities.now }
+    ensures worth { result ≡ weighed (map (λ category. category.value) categories.now)
+        quantities.now }
     ensures limit { result ≤ MOST_CATEGORIES * 10 ^ 17 }
 {
     if is_valued {
@@ -67,7 +71,8 @@ fn worth_where(is_valued: bool, categories: &[Category], quantities: &[u16]) -> 
 fn worth_of_supply(categories: &[Category]) -> u64
     requires few { length categories.now ≤ MOST_CATEGORIES }
     requires limits { All IsCategory categories.now }
-    ensures worth { result ≡ weighed (map (λ category. category.value) categories.now) (map (λ category. category.supply) categories.now) }
+    ensures worth { result ≡ weighed (map (λ category. category.value) categories.now)
+        (map (λ category. category.supply) categories.now) }
     ensures limit { result ≤ MOST_CATEGORIES * 10 ^ 17 }
 {
     let mut sum = 0;

@@ -75,9 +75,13 @@ impl Book {
     /// Answers a call and records it with its answer. At the limit nothing is recorded.
     pub fn step(&mut self, caller: Caller, call: Call) -> Result<Reply, StepError>
         requires { MayMake caller (call_value call) }
-        ensures answered { IfOk result (λ r. reply_value r ≡ answer self.old caller (call_value call)) }
-        ensures recorded { IfOk result (λ r. reply_value r ≢ Reply.CallLimit → self.new ≡ self.old ++ record { caller = caller; call = call_value call; reply = reply_value r } ∷ []) }
-        ensures unrecorded { IfOk result (λ r. reply_value r ≡ Reply.CallLimit → self.new ≡ self.old) }
+        ensures answered { IfOk result (λ r. reply_value r
+            ≡ answer self.old caller (call_value call)) }
+        ensures recorded { IfOk result (λ r. reply_value r ≢ Reply.CallLimit
+            → self.new ≡ self.old ++ record
+            { caller = caller; call = call_value call; reply = reply_value r } ∷ []) }
+        ensures unrecorded { IfOk result (λ r. reply_value r ≡ Reply.CallLimit
+            → self.new ≡ self.old) }
         ensures run { OnOk result (self.new ≡ after self.old caller (call_value call)) }
         ensures limit { answer self.old caller (call_value call) ≡ Reply.CallLimit → IsOk result }
 

@@ -49,7 +49,8 @@ pub(crate) fn counts_of(counts: &IndexMap<u16, Counts>, bidder: u16) -> Counts
 
 /// The form that a change leaves standing.
 pub(crate) fn standing_left(call: &Call, reply: &Reply) -> Result<Option<Standing>, AllocError>
-    ensures { IfOk result (λ s. option_map standing_value s ≡ left_standing (call_value call.now) (reply_value reply.now)) }
+    ensures { IfOk result (λ s. option_map standing_value s
+        ≡ left_standing (call_value call.now) (reply_value reply.now)) }
 {
     match (call, reply) {
         (Call::Submit { form, over: _ }, Reply::Accepted { number }) => {
@@ -64,7 +65,8 @@ pub(crate) fn standing_left(call: &Call, reply: &Reply) -> Result<Option<Standin
 /// Writes the counts of a bidder that is there.
 pub(crate) fn write_counts(counts: &mut IndexMap<u16, Counts>, bidder: u16, now: Counts)
     requires { IsSome (get nat_eq counts.old bidder) }
-    ensures { (b : ℕ) → counts_at counts.new b ≡ (if b == bidder then now else counts_at counts.old b) }
+    ensures { (b : ℕ) → counts_at counts.new b
+        ≡ (if b == bidder then now else counts_at counts.old b) }
 {
     let _ = counts.insert(bidder, now);
 }
@@ -77,7 +79,9 @@ pub(crate) fn write_standing(
     left: Option<Standing>,
 )
     requires { 0 < spare standing.old }
-    ensures { (b : ℕ) → standing_at standing.new b ≡ (if b == bidder then (if is_change then option_map standing_value left else standing_at standing.old bidder) else standing_at standing.old b) }
+    ensures { (b : ℕ) → standing_at standing.new b
+        ≡ (if b == bidder then (if is_change then option_map standing_value left else standing_at
+        standing.old bidder) else standing_at standing.old b) }
 {
     if is_change {
         match left {
@@ -109,7 +113,9 @@ pub(crate) fn reply_to(
     requires kept { AreOfBook records.now }
     requires counts { counts ≡ counts_at records.now.counts bidder }
     requires below { counts.entries < call_limit }
-    ensures { IfOk result (λ r. reply_value r ≡ answer_to (entries_beside (Caller.Session bidder 0) (history_of records.now)) (entries_beside Caller.Chair (history_of records.now)) (call_value call.now)) }
+    ensures { IfOk result (λ r. reply_value r
+        ≡ answer_to (entries_beside (Caller.Session bidder 0) (history_of records.now))
+        (entries_beside Caller.Chair (history_of records.now)) (call_value call.now)) }
 {
     match call {
         Call::Submit { form: _, over } => {
@@ -180,10 +186,12 @@ fn reply_to_change(is_open: bool, standing: Option<u32>, over: Option<u32>, done
 pub(crate) fn make_room(records: &mut Records, bidder: u16) -> Result<(), AllocError>
     ensures history { records.new.history.items ≡ records.old.history.items }
     ensures counts { (b : ℕ) → counts_at records.new.counts b ≡ counts_at records.old.counts b }
-    ensures standing { (b : ℕ) → standing_at records.new.standing b ≡ standing_at records.old.standing b }
+    ensures standing { (b : ℕ) → standing_at records.new.standing b
+        ≡ standing_at records.old.standing b }
     ensures chair { records.new.chair_entries ≡ records.old.chair_entries }
     ensures open { records.new.is_open ≡ records.old.is_open }
-    ensures history_room { OnOk result (vec_len records.new.history < vec_capacity records.new.history) }
+    ensures history_room { OnOk result (vec_len records.new.history
+        < vec_capacity records.new.history) }
     ensures counts_room { OnOk result (IsSome (get nat_eq records.new.counts bidder)) }
     ensures standing_room { OnOk result (0 < spare records.new.standing) }
 {

@@ -43,10 +43,14 @@ fn prepare(
     ensures kept { AreOfBook records.new }
     ensures history { history_of records.new ≡ history_of records.old }
     ensures counts { counts ≡ counts_at records.new.counts bidder }
-    ensures told { IfOk result (λ p. reply_value p.told ≡ answer_to (entries_beside (Caller.Session bidder 0) (history_of records.old)) (entries_beside Caller.Chair (history_of records.old)) (call_value call.now)) }
+    ensures told { IfOk result (λ p. reply_value p.told
+        ≡ answer_to (entries_beside (Caller.Session bidder 0) (history_of records.old))
+        (entries_beside Caller.Chair (history_of records.old)) (call_value call.now)) }
     ensures stored { IfOk result (λ p. reply_value p.stored ≡ reply_value p.told) }
-    ensures left { IfOk result (λ p. option_map standing_value p.left ≡ left_standing (call_value call.now) (reply_value p.told)) }
-    ensures history_room { OnOk result (vec_len records.new.history < vec_capacity records.new.history) }
+    ensures left { IfOk result (λ p. option_map standing_value p.left
+        ≡ left_standing (call_value call.now) (reply_value p.told)) }
+    ensures history_room { OnOk result (vec_len records.new.history
+        < vec_capacity records.new.history) }
     ensures counts_room { OnOk result (IsSome (get nat_eq records.new.counts bidder)) }
     ensures standing_room { OnOk result (0 < spare records.new.standing) }
 {
@@ -85,13 +89,26 @@ fn record_session(
     requires kept { AreOfBook records.old }
     requires counts { counts ≡ counts_at records.old.counts bidder }
     requires below { counts.entries < call_limit }
-    requires right { IsRightAfter (history_of records.old) (record { caller = Caller.Session bidder session; call = call_value call; reply = reply_value reply }) }
-    requires left { option_map standing_value left ≡ left_standing (call_value call) (reply_value reply) }
+    requires right { IsRightAfter (history_of records.old)
+        (record {
+          caller = Caller.Session bidder session;
+          call = call_value call;
+          reply =
+              reply_value reply;
+        }) }
+    requires left { option_map standing_value left
+        ≡ left_standing (call_value call) (reply_value reply) }
     requires history_room { vec_len records.old.history < vec_capacity records.old.history }
     requires counts_room { IsSome (get nat_eq records.old.counts bidder) }
     requires standing_room { 0 < spare records.old.standing }
     ensures kept { AreOfBook records.new }
-    ensures history { history_of records.new ≡ history_of records.old ++ record { caller = Caller.Session bidder session; call = call_value call; reply = reply_value reply } ∷ [] }
+    ensures history { history_of records.new ≡ history_of records.old
+        ++ record {
+          caller = Caller.Session bidder session;
+          call = call_value call;
+          reply =
+              reply_value reply;
+        } ∷ [] }
 {
     let is_change = reply.is_change();
     let caller = Caller::Session { bidder, session };
@@ -117,9 +134,12 @@ pub(crate) fn step_session(
     requires kept { AreOfBook records.old }
     requires allowed { MayMake (Caller.Session bidder session) (call_value call) }
     ensures kept { AreOfBook records.new }
-    ensures answered { IfOk result (λ r. reply_value r ≡ answer (history_of records.old) (Caller.Session bidder session) (call_value call)) }
-    ensures recorded { OnOk result (history_of records.new ≡ after (history_of records.old) (Caller.Session bidder session) (call_value call)) }
-    ensures limit { answer (history_of records.old) (Caller.Session bidder session) (call_value call) ≡ Reply.CallLimit → IsOk result }
+    ensures answered { IfOk result (λ r. reply_value r
+        ≡ answer (history_of records.old) (Caller.Session bidder session) (call_value call)) }
+    ensures recorded { OnOk result (history_of records.new
+        ≡ after (history_of records.old) (Caller.Session bidder session) (call_value call)) }
+    ensures limit { answer (history_of records.old) (Caller.Session bidder session)
+        (call_value call) ≡ Reply.CallLimit → IsOk result }
     ensures refused { IfErr result (λ e. e ≡ StepError.OutOfMemory call) }
     ensures unchanged { OnErr result (history_of records.new ≡ history_of records.old) }
 {
@@ -142,9 +162,12 @@ pub(crate) fn step_chair(records: &mut Records, call: Call) -> Result<Reply, Ste
     requires kept { AreOfBook records.old }
     requires allowed { MayMake Caller.Chair (call_value call) }
     ensures kept { AreOfBook records.new }
-    ensures answered { IfOk result (λ r. reply_value r ≡ answer (history_of records.old) Caller.Chair (call_value call)) }
-    ensures recorded { OnOk result (history_of records.new ≡ after (history_of records.old) Caller.Chair (call_value call)) }
-    ensures limit { answer (history_of records.old) Caller.Chair (call_value call) ≡ Reply.CallLimit → IsOk result }
+    ensures answered { IfOk result (λ r. reply_value r
+        ≡ answer (history_of records.old) Caller.Chair (call_value call)) }
+    ensures recorded { OnOk result (history_of records.new
+        ≡ after (history_of records.old) Caller.Chair (call_value call)) }
+    ensures limit { answer (history_of records.old) Caller.Chair (call_value call) ≡ Reply.CallLimit
+        → IsOk result }
     ensures refused { IfErr result (λ e. e ≡ StepError.OutOfMemory call) }
     ensures unchanged { OnErr result (history_of records.new ≡ history_of records.old) }
 {

@@ -59,7 +59,8 @@ impl ClosedBook {
 
     /// The form that a bidder leaves standing.
     pub fn form(&self, bidder: u16) -> Option<&Form>
-        ensures standing { option_copied result ≡ option_map (λ s. s.form) (standing_of self.now.history bidder) }
+        ensures standing { option_copied result ≡ option_map (λ s. s.form)
+            (standing_of self.now.history bidder) }
         ensures bids { bids_in (option_copied result) ≡ form_of (book_of self.now) bidder }
         ensures meets { IfSome result (λ form. Meets self.now.rules form.now) }
     {

@@ -36,7 +36,10 @@ impl Comparison {
     /// Takes one more of the caller's entries in.
     fn with(self, own: &[(Call, Reply)], entry: &Entry) -> Comparison
         requires { IsWithin (length own.now) self }
-        ensures { (theirs : List (Call Offers × Reply Offers)) → IsCompared theirs (map pair_value own.now) self → IsCompared (theirs ++ (call_value entry.now.call, reply_value entry.now.reply) ∷ []) (map pair_value own.now) result }
+        ensures { (theirs : List (Call Offers × Reply Offers))
+            → IsCompared theirs (map pair_value own.now) self
+            → IsCompared (theirs ++ (call_value entry.now.call, reply_value entry.now.reply) ∷ [])
+            (map pair_value own.now) result }
     {
         match self {
             Comparison::Differs { place } => Comparison::Differs { place },
@@ -52,8 +55,12 @@ impl Comparison {
 
     /// The first place at which the caller's own list differs from the whole history.
     pub(crate) fn difference(self, own: &[(Call, Reply)]) -> Option<usize>
-        ensures same { (theirs : List (Call Offers × Reply Offers)) → IsCompared theirs (map pair_value own.now) self → IfNone result (theirs ≡ map pair_value own.now) }
-        ensures differs { (theirs : List (Call Offers × Reply Offers)) → IsCompared theirs (map pair_value own.now) self → IfSome result (IsFirstDifference theirs (map pair_value own.now)) }
+        ensures same { (theirs : List (Call Offers × Reply Offers))
+            → IsCompared theirs (map pair_value own.now) self
+            → IfNone result (theirs ≡ map pair_value own.now) }
+        ensures differs { (theirs : List (Call Offers × Reply Offers))
+            → IsCompared theirs (map pair_value own.now) self
+            → IfSome result (IsFirstDifference theirs (map pair_value own.now)) }
     {
         match self {
             Comparison::Differs { place } => Some(place),
@@ -70,7 +77,8 @@ impl Comparison {
 
 /// Whether the pair at a place is the entry's call and reply.
 fn agrees_at(own: &[(Call, Reply)], place: usize, entry: &Entry) -> bool
-    ensures { IsTrue result ↔ (slice_get (map pair_value own.now) place ≡ Some (call_value entry.now.call, reply_value entry.now.reply)) }
+    ensures { IsTrue result ↔ (slice_get (map pair_value own.now) place
+        ≡ Some (call_value entry.now.call, reply_value entry.now.reply)) }
 {
     match own.get(place) {
         None => false,
@@ -115,8 +123,10 @@ fn compare_entry<L: Round>(
     requires entries { All (IsEntryOf L.rules) (map entry_value history.now) }
     requires slots { AreSlots L.rules sessions.now (length sessions.now) slots.now }
     requires once { StandOnce L.rules sessions.now }
-    requires compared { AreCompared (take place (map entry_value history.now)) sessions.now chair.now comparisons.old }
-    ensures { AreCompared (take (place + 1) (map entry_value history.now)) sessions.now chair.now comparisons.new }
+    requires compared { AreCompared (take place (map entry_value history.now)) sessions.now
+        chair.now comparisons.old }
+    ensures { AreCompared (take (place + 1) (map entry_value history.now)) sessions.now chair.now
+        comparisons.new }
 {
     let entry = &history[place];
     match entry.caller {

@@ -82,11 +82,17 @@ impl<L: Round> Held<L> {
     ) -> Result<Reply, DeskError>
         requires bidder { (arc_value form.now).bidder ≡ session.old.bidder }
         requires meets { Meets L.rules (arc_value form.now) }
-        ensures answered { IfOk result (λ r. reply_value r ≡ answer self.old.history (caller_of session.old) (Call.Submit (arc_value form.now) over)) }
-        ensures recorded { IfOk result (λ r. reply_value r ≢ Reply.CallLimit → IsRecordedBy self.old self.new session.old session.new (Call.Submit (arc_value form.now) over) (reply_value r)) }
-        ensures limit { IfOk result (λ r. reply_value r ≡ Reply.CallLimit → (self.new ≡ self.old) × (session.new ≡ session.old)) }
+        ensures answered { IfOk result (λ r. reply_value r
+            ≡ answer self.old.history (caller_of session.old)
+            (Call.Submit (arc_value form.now) over)) }
+        ensures recorded { IfOk result (λ r. reply_value r ≢ Reply.CallLimit
+            → IsRecordedBy self.old self.new session.old session.new
+            (Call.Submit (arc_value form.now) over) (reply_value r)) }
+        ensures limit { IfOk result (λ r. reply_value r ≡ Reply.CallLimit
+            → (self.new ≡ self.old) × (session.new ≡ session.old)) }
         ensures err { OnErr result ((self.new ≡ self.old) × (session.new ≡ session.old)) }
-        ensures same { (session.new.bidder ≡ session.old.bidder) × (session.new.session ≡ session.old.session) }
+        ensures same { (session.new.bidder ≡ session.old.bidder)
+            × (session.new.session ≡ session.old.session) }
     {
         let form = Arc::try_clone(form)?;
         self.make(session, Call::Submit { form, over })
@@ -94,31 +100,43 @@ impl<L: Round> Held<L> {
 
     /// Withdraws the form over the number that stands.
     pub fn withdraw(&mut self, session: &mut Session<L>, over: u32) -> Result<Reply, DeskError>
-        ensures answered { IfOk result (λ r. reply_value r ≡ answer self.old.history (caller_of session.old) (Call.Withdraw over)) }
-        ensures recorded { IfOk result (λ r. reply_value r ≢ Reply.CallLimit → IsRecordedBy self.old self.new session.old session.new (Call.Withdraw over) (reply_value r)) }
-        ensures limit { IfOk result (λ r. reply_value r ≡ Reply.CallLimit → (self.new ≡ self.old) × (session.new ≡ session.old)) }
+        ensures answered { IfOk result (λ r. reply_value r
+            ≡ answer self.old.history (caller_of session.old) (Call.Withdraw over)) }
+        ensures recorded { IfOk result (λ r. reply_value r ≢ Reply.CallLimit
+            → IsRecordedBy self.old self.new session.old session.new (Call.Withdraw over)
+            (reply_value r)) }
+        ensures limit { IfOk result (λ r. reply_value r ≡ Reply.CallLimit
+            → (self.new ≡ self.old) × (session.new ≡ session.old)) }
         ensures err { OnErr result ((self.new ≡ self.old) × (session.new ≡ session.old)) }
-        ensures same { (session.new.bidder ≡ session.old.bidder) × (session.new.session ≡ session.old.session) }
+        ensures same { (session.new.bidder ≡ session.old.bidder)
+            × (session.new.session ≡ session.old.session) }
     {
         self.make(session, Call::Withdraw { over })
     }
 
     /// Shows what stands.
     pub fn show(&mut self, session: &mut Session<L>) -> Result<Reply, DeskError>
-        ensures answered { IfOk result (λ r. reply_value r ≡ answer self.old.history (caller_of session.old) Call.Show) }
-        ensures recorded { IfOk result (λ r. reply_value r ≢ Reply.CallLimit → IsRecordedBy self.old self.new session.old session.new Call.Show (reply_value r)) }
-        ensures limit { IfOk result (λ r. reply_value r ≡ Reply.CallLimit → (self.new ≡ self.old) × (session.new ≡ session.old)) }
+        ensures answered { IfOk result (λ r. reply_value r
+            ≡ answer self.old.history (caller_of session.old) Call.Show) }
+        ensures recorded { IfOk result (λ r. reply_value r ≢ Reply.CallLimit
+            → IsRecordedBy self.old self.new session.old session.new Call.Show (reply_value r)) }
+        ensures limit { IfOk result (λ r. reply_value r ≡ Reply.CallLimit
+            → (self.new ≡ self.old) × (session.new ≡ session.old)) }
         ensures err { OnErr result ((self.new ≡ self.old) × (session.new ≡ session.old)) }
-        ensures same { (session.new.bidder ≡ session.old.bidder) × (session.new.session ≡ session.old.session) }
+        ensures same { (session.new.bidder ≡ session.old.bidder)
+            × (session.new.session ≡ session.old.session) }
     {
         self.make(session, Call::Show)
     }
 
     /// Closes the round.
     pub fn close(&mut self, chair: &mut Chair<L>) -> Result<Reply, DeskError>
-        ensures answered { IfOk result (λ r. reply_value r ≡ answer self.old.history Caller.Chair Call.Close) }
-        ensures recorded { IfOk result (λ r. reply_value r ≢ Reply.CallLimit → IsRecordedByChair self.old self.new chair.old chair.new Call.Close (reply_value r)) }
-        ensures limit { IfOk result (λ r. reply_value r ≡ Reply.CallLimit → (self.new ≡ self.old) × (chair.new ≡ chair.old)) }
+        ensures answered { IfOk result (λ r. reply_value r
+            ≡ answer self.old.history Caller.Chair Call.Close) }
+        ensures recorded { IfOk result (λ r. reply_value r ≢ Reply.CallLimit
+            → IsRecordedByChair self.old self.new chair.old chair.new Call.Close (reply_value r)) }
+        ensures limit { IfOk result (λ r. reply_value r ≡ Reply.CallLimit
+            → (self.new ≡ self.old) × (chair.new ≡ chair.old)) }
         ensures err { OnErr result ((self.new ≡ self.old) × (chair.new ≡ chair.old)) }
     {
         chair.own.reserve(1)?;
@@ -135,11 +153,16 @@ impl<L: Round> Held<L> {
     fn make(&mut self, session: &mut Session<L>, call: Call) -> Result<Reply, DeskError>
         requires allowed { MayMake (caller_of session.old) (call_value call) }
         requires meets { CallMeets L.rules (call_value call) }
-        ensures answered { IfOk result (λ r. reply_value r ≡ answer self.old.history (caller_of session.old) (call_value call)) }
-        ensures recorded { IfOk result (λ r. reply_value r ≢ Reply.CallLimit → IsRecordedBy self.old self.new session.old session.new (call_value call) (reply_value r)) }
-        ensures limit { IfOk result (λ r. reply_value r ≡ Reply.CallLimit → (self.new ≡ self.old) × (session.new ≡ session.old)) }
+        ensures answered { IfOk result (λ r. reply_value r
+            ≡ answer self.old.history (caller_of session.old) (call_value call)) }
+        ensures recorded { IfOk result (λ r. reply_value r ≢ Reply.CallLimit
+            → IsRecordedBy self.old self.new session.old session.new (call_value call)
+            (reply_value r)) }
+        ensures limit { IfOk result (λ r. reply_value r ≡ Reply.CallLimit
+            → (self.new ≡ self.old) × (session.new ≡ session.old)) }
         ensures err { OnErr result ((self.new ≡ self.old) × (session.new ≡ session.old)) }
-        ensures same { (session.new.bidder ≡ session.old.bidder) × (session.new.session ≡ session.old.session) }
+        ensures same { (session.new.bidder ≡ session.old.bidder)
+            × (session.new.session ≡ session.old.session) }
     {
         let (told_call, standing) = shares(&self.book, session.bidder, &call)?;
         session.own.reserve(1)?;
@@ -159,7 +182,8 @@ impl<L: Round> Held<L> {
 
 /// Another owner of the call's form, and of the form that stands.
 fn shares(book: &Book, bidder: u16, call: &Call) -> Result<(Call, Option<Standing>), AllocError>
-    ensures { IfOk result (λ r. (call_value r.0 ≡ call_value call.now) × (option_map standing_value r.1 ≡ standing_of book.now bidder)) }
+    ensures { IfOk result (λ r. (call_value r.0 ≡ call_value call.now)
+        × (option_map standing_value r.1 ≡ standing_of book.now bidder)) }
 {
     let told = call.share()?;
     match book.standing(bidder) {
@@ -173,7 +197,8 @@ fn shares(book: &Book, bidder: u16, call: &Call) -> Result<(Call, Option<Standin
 
 /// The same reply. If it shows a form, that is the form given.
 fn told_again(reply: &Reply, standing: Option<Standing>) -> Reply
-    requires { (s : Option (Standing Offers)) → reply_value reply.now ≡ Shown s → option_map standing_value standing ≡ s }
+    requires { (s : Option (Standing Offers)) → reply_value reply.now ≡ Shown s
+        → option_map standing_value standing ≡ s }
     ensures { reply_value result ≡ reply_value reply.now }
 {
     match reply {

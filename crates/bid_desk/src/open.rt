@@ -30,7 +30,8 @@ impl<L: Round> Desk<L> {
     ) -> Result<(Desk<L>, Chair<L>, Vec<Session<L>>), OpenError>
         requires name { blank.name ≡ L.name }
         requires parts { blank.parts ≡ L.parts }
-        requires part_count { (blank.parts ≡ L.part_count) × (L.part_count ≡ session_count rules + 1) }
+        requires part_count { (blank.parts ≡ L.part_count)
+            × (L.part_count ≡ session_count rules + 1) }
         requires rules { rules ≡ L.rules }
         ensures chair { IfOk result (λ r. (r.1.pairs ≡ []) × (r.1.share ≡ 0)) }
         ensures sessions { IfOk result (λ r. r.2.items ≡ all_sessions 1 rules.bidders) }

@@ -1,4 +1,21 @@
 //! A stopped desk is settled.
+//!
+//! Settling compares two records of one round that were kept apart: the history under the lock, and the list of calls and
+//! replies that each session, and the chair, kept of its own. Where they agree, each call of each caller stands in the history
+//! once, in that caller's order, and nothing else does; that is what a closed book rests on, and no sum of counts is taken.
+//!
+//! It goes in three steps, each of which may end it with a cause, and the causes are told in this order:
+//!
+//! 1. The chair has closed. This is tested before any memory is taken.
+//! 2. Each session of the rules stands just once among those handed in (`slots`: a slot for each session that a bidder may
+//!    have, with how often it came and where).
+//! 3. One pass over the history advances a comparison for each caller (`comparing`): how many pairs of its list have been
+//!    met, or the first place that differs. At the end a list that goes on, or has ended before, differs there too. The first
+//!    caller that differs is told, by bidder, then session, the chair last.
+//!
+//! To mind when changing it: whatever ends it, the stopped desk, the chair and the sessions go back as they came, so nothing is
+//! taken out of them before the last step. A cause is told only where it holds, also when it is told late: 'differs' names a
+//! place at which the two really differ. Memory is the last cause, and may stand in the place of 2 and 3, never of 1.
 ghost use Rattle.std.specs.Prelude.{◌≡◌, map, length, true, IfSome, IfNone, IfOk, IfErr, All};
 ghost use Rattle.auction_terms.specs.Terms.{AreTerms};
 ghost use Rattle.bid_book.specs.History.{entry_value, is_closed, own_pairs};
@@ -51,9 +68,12 @@ fn differing<L: Round>(
     requires entries { All (IsEntryOf L.rules) (map entry_value history.now) }
     requires slots { AreSlots L.rules sessions.now (length sessions.now) slots.now }
     requires once { StandOnce L.rules sessions.now }
-    ensures sessions { IfOk result (λ found. IfNone found (AgreeAll L.rules (map entry_value history.now) sessions.now)) }
-    ensures chair { IfOk result (λ found. IfNone found (own_pairs (map entry_value history.now) Caller.Chair ≡ chair.now.pairs)) }
-    ensures differs { IfOk result (λ found. IfSome found (λ x. IsFirstOfAll L.rules (map entry_value history.now) chair.now sessions.now x.0 x.1)) }
+    ensures sessions { IfOk result (λ found. IfNone found
+        (AgreeAll L.rules (map entry_value history.now) sessions.now)) }
+    ensures chair { IfOk result (λ found. IfNone found
+        (own_pairs (map entry_value history.now) Caller.Chair ≡ chair.now.pairs)) }
+    ensures differs { IfOk result (λ found. IfSome found
+        (λ x. IsFirstOfAll L.rules (map entry_value history.now) chair.now sessions.now x.0 x.1)) }
 {
     let comparisons = compare(alloc, history, slots, sessions, chair)?;
     for slot in 0..slots.len() {
@@ -79,8 +99,10 @@ fn cause_of<L: Round>(
     sessions: &[Session<L>],
 ) -> Result<Option<Cause>, AllocError>
     requires { is_closed stopped.now.history ≡ true }
-    ensures none { IfOk result (λ found. IfNone found (IsSettled L.rules stopped.now.history chair.now sessions.now)) }
-    ensures some { IfOk result (λ found. IfSome found (IsCause L.rules stopped.now.history chair.now sessions.now)) }
+    ensures none { IfOk result (λ found. IfNone found
+        (IsSettled L.rules stopped.now.history chair.now sessions.now)) }
+    ensures some { IfOk result (λ found. IfSome found
+        (IsCause L.rules stopped.now.history chair.now sessions.now)) }
     ensures terms { AreTerms L.rules }
 {
     let rules = &stopped.rules;
@@ -126,8 +148,10 @@ impl<L: Round> Stopped<L> {
         ensures rules { IfOk result (λ b. b.rules ≡ L.rules) }
         ensures history { IfOk result (λ b. b.history ≡ self.history) }
         ensures settled { IfOk result (λ b. IsSettled L.rules self.history chair sessions.items) }
-        ensures back { IfErr result (λ u. (u.stopped ≡ self) × (u.chair ≡ chair) × (u.sessions ≡ sessions)) }
-        ensures cause { IfErr result (λ u. IsCause L.rules self.history chair sessions.items u.cause) }
+        ensures back { IfErr result (λ u. (u.stopped ≡ self) × (u.chair ≡ chair)
+            × (u.sessions ≡ sessions)) }
+        ensures cause { IfErr result (λ u. IsCause L.rules self.history chair sessions.items
+            u.cause) }
     {
         match refusal(alloc, &self, &chair, sessions.as_slice()) {
             Some(cause) => Err(Unsettled {

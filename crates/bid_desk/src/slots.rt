@@ -35,7 +35,8 @@ pub(crate) fn slots_of<L: Round>(
     sessions: &[Session<L>],
 ) -> Result<Vec<Slot>, AllocError>
     requires { rules.now ≡ L.rules }
-    ensures slots { IfOk result (λ slots. AreSlots L.rules sessions.now (length sessions.now) slots.items) }
+    ensures slots { IfOk result (λ slots. AreSlots L.rules sessions.now (length sessions.now)
+        slots.items) }
     ensures terms { AreTerms L.rules }
 {
     let empty = Slot { times: 0, place: 0 };

@@ -145,7 +145,9 @@ fn is_header(categories: &[Category], row: &ByteRecord) -> bool
 
 // The bidder that the header names.
 fn read_header(rules: &Rules, row: &ByteRecord) -> Result<u16, FormFault>
-    ensures answer { Tells is_form_memory result (first_failed (form_header_checks rules.now (fields_of row.now))) (bidder_in rules.now (fields_of row.now)) }
+    ensures answer { Tells is_form_memory result
+        (first_failed (form_header_checks rules.now (fields_of row.now)))
+        (bidder_in rules.now (fields_of row.now)) }
     ensures some { IfOk result (λ bidder. 1 ≤ bidder) }
     ensures known { IfOk result (λ bidder. bidder ≤ length rules.now.bidders) }
 {
@@ -162,7 +164,9 @@ fn read_header(rules: &Rules, row: &ByteRecord) -> Result<u16, FormFault>
 // The amount of a record.
 fn read_amount(step: u64, place: u32, row: &ByteRecord) -> Result<u64, FormFault>
     requires { 1 ≤ step }
-    ensures answer { Tells is_form_memory result (first_failed (amount_checks step place (fields_of row.now))) (field_number 1 (fields_of row.now)) }
+    ensures answer { Tells is_form_memory result
+        (first_failed (amount_checks step place (fields_of row.now)))
+        (field_number 1 (fields_of row.now)) }
     ensures limits { IfOk result (λ amount. (1 ≤ amount) × (amount ≤ GREATEST_AMOUNT)) }
 {
     let amount = number!(row, 1, FormFault::AmountText { place });
@@ -177,9 +181,12 @@ fn read_amount(step: u64, place: u32, row: &ByteRecord) -> Result<u64, FormFault
 // The quantities of a record.
 fn read_quantities(place: u32, row: &ByteRecord) -> Result<Quantities, FormFault>
     requires { length (fields_of row.now) ≤ MOST_CATEGORIES + 1 }
-    ensures answer { TellsFault is_form_memory result (first_failed (quantity_checks place (fields_of row.now))) }
-    ensures quantities { IfOk result (λ quantities. quantities.items ≡ quantities_in (fields_of row.now)) }
-    ensures each { IfOk result (λ quantities. All (λ quantity. quantity ≤ GREATEST_QUANTITY) quantities.items) }
+    ensures answer { TellsFault is_form_memory result
+        (first_failed (quantity_checks place (fields_of row.now))) }
+    ensures quantities { IfOk result (λ quantities. quantities.items
+        ≡ quantities_in (fields_of row.now)) }
+    ensures each { IfOk result (λ quantities. All (λ quantity. quantity ≤ GREATEST_QUANTITY)
+        quantities.items) }
 {
     let mut quantities = ArrayVec::new();
     let mut within = true;
@@ -205,7 +212,9 @@ fn check_package(
 ) -> Result<(), FormFault>
     requires sized { length quantities.now ≡ length rules.now.categories }
     requires quantities { All (λ quantity. quantity ≤ GREATEST_QUANTITY) quantities.now }
-    ensures { Tells is_form_memory result (first_failed (package_checks rules.now.categories eligibility place quantities.now amount)) tt }
+    ensures { Tells is_form_memory result
+        (first_failed (package_checks rules.now.categories eligibility place quantities.now amount))
+        tt }
 {
     let categories = rules.categories();
     refuse!(
@@ -234,12 +243,15 @@ fn read_bid(
 ) -> Result<Bid, FormFault>
     requires seen { AreSeen seen.old.multiplier seen.old.prints.keys before.now }
     requires few { length before.now ≤ MOST_BIDS }
-    ensures answer { Tells is_form_memory result (fault_of_bid rules.now eligibility place before.now (fields_of row.now)) (bid_told (fields_of row.now)) }
+    ensures answer { Tells is_form_memory result
+        (fault_of_bid rules.now eligibility place before.now (fields_of row.now))
+        (bid_told (fields_of row.now)) }
     ensures limits { IfOk result IsBidWithinLimits }
     ensures allowed { IfOk result (λ bid. IsTrue (is_bid_under rules.now eligibility bid)) }
     ensures new { IfOk result (λ bid. number_of_package bid.package before.now ≡ None) }
     ensures room { OnOk result (length before.now < MOST_BIDS) }
-    ensures seen { IfOk result (λ bid. AreSeen seen.new.multiplier seen.new.prints.keys (before.now ++ bid ∷ [])) }
+    ensures seen { IfOk result (λ bid. AreSeen seen.new.multiplier seen.new.prints.keys
+        (before.now ++ bid ∷ [])) }
 {
     refuse!(
         row.len() != rules.categories().len() + 1,
@@ -268,7 +280,9 @@ fn read_bids(
     requires known { bidder ≤ length rules.now.bidders }
     requires few { length reader.old ≤ TEXT_LIMIT + 1 }
     requires none_seen { none_seen.prints.keys ≡ [] }
-    ensures answer { Tells is_form_memory result (first_fault (bid_fault rules.now (eligibility_of rules.now bidder)) [] reader.old) (offers_of_bidder bidder (map bid_told reader.old)) }
+    ensures answer { Tells is_form_memory result
+        (first_fault (bid_fault rules.now (eligibility_of rules.now bidder)) [] reader.old)
+        (offers_of_bidder bidder (map bid_told reader.old)) }
     ensures meets { IfOk result (Meets rules.now) }
 {
     let eligibility = eligibility_of(rules, bidder);
@@ -289,7 +303,8 @@ fn read_bids(
 /// Reads a form, under rules.
 pub fn read_form(alloc: Global, bytes: &[u8], rules: &Rules) -> Result<Form, FormFault>
     ensures too_large { TEXT_LIMIT < length bytes.now → result ≡ Err fault.TooLarge }
-    ensures answer { length bytes.now ≤ TEXT_LIMIT → Answers is_form_memory result (form_in_text rules.now bytes.now) }
+    ensures answer { length bytes.now ≤ TEXT_LIMIT
+        → Answers is_form_memory result (form_in_text rules.now bytes.now) }
     ensures meets { IfOk result (Meets rules.now) }
 {
     refuse!(bytes.len() > TEXT_LIMIT, FormFault::TooLarge);

@@ -66,7 +66,8 @@ pub(crate) fn earlier(
     requires seen { AreSeen seen.old.multiplier seen.old.prints.keys bids.now }
     requires few { length bids.now ≤ MOST_BIDS }
     ensures number { IfOk result (λ number. number ≡ number_of_package quantities.now bids.now) }
-    ensures seen { IfOk result (λ _. (bid : Bid) → bid.package ≡ quantities.now → AreSeen seen.new.multiplier seen.new.prints.keys (bids.now ++ bid ∷ [])) }
+    ensures seen { IfOk result (λ _. (bid : Bid) → bid.package ≡ quantities.now
+        → AreSeen seen.new.multiplier seen.new.prints.keys (bids.now ++ bid ∷ [])) }
 {
     let print = fingerprint(seen.multiplier, quantities);
     match seen.prints.insert(print) {

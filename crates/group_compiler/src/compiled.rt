@@ -50,8 +50,10 @@ impl<'g> Compiled<'g> {
 
     /// Writes the text of the program. It takes no memory.
     pub fn write_to<S: Sink>(&self, sink: &mut S) -> Result<(), WriteFault>
-        ensures ok { OnOk result (Appends (S.taken sink.old) (S.taken sink.new) (text self.now.program)) }
-        ensures err { IfErr result (λ e. SentFront (S.taken sink.old) (S.taken sink.new) (text self.now.program) (written_of e)) }
+        ensures ok { OnOk result (Appends (S.taken sink.old) (S.taken sink.new)
+            (text self.now.program)) }
+        ensures err { IfErr result (λ e. SentFront (S.taken sink.old) (S.taken sink.new)
+            (text self.now.program) (written_of e)) }
         ensures failed { OnErr result (HasFailed (S.failures sink.old) (S.failures sink.new)) }
     {
         write_program(&self.program, sink)

@@ -32,9 +32,12 @@ pub fn compile_one<'g>(
 ) -> Result<Compiled<'g>, AllocError>
     requires some { 1 ≤ k }
     requires within { k ≤ length groups.now }
-    ensures compiled { IfOk result (λ c. c ≡ compiled book.now (slice_index_or groups.now (k - 1) [])) }
-    ensures faithful { IfOk result (λ c. IsFaithful (lots_in book.now.rules) (book_of book.now) (has (slice_index_or groups.now (k - 1) [])) c.program) }
-    ensures text { IfOk result (λ c. IsFaithfulText (lots_in book.now.rules) (book_of book.now) (has (slice_index_or groups.now (k - 1) [])) (text c.program)) }
+    ensures compiled { IfOk result (λ c. c ≡ compiled book.now
+        (slice_index_or groups.now (k - 1) [])) }
+    ensures faithful { IfOk result (λ c. IsFaithful (lots_in book.now.rules) (book_of book.now)
+        (has (slice_index_or groups.now (k - 1) [])) c.program) }
+    ensures text { IfOk result (λ c. IsFaithfulText (lots_in book.now.rules) (book_of book.now)
+        (has (slice_index_or groups.now (k - 1) [])) (text c.program)) }
 {
     let flags = Flags::new(rt, alloc, book)?;
     let group = groups.group(k);
@@ -51,8 +54,10 @@ pub(crate) fn compile(
 ) -> Result<Program, AllocError>
     requires { flags.now ≡ flags_of (lots_in book.now.rules) (book_of book.now) }
     ensures program { IfOk result (λ program. program ≡ program_without book.now group.now) }
-    ensures faithful { IfOk result (λ program. IsFaithful (lots_in book.now.rules) (book_of book.now) (has group.now) program) }
-    ensures text { IfOk result (λ program. IsFaithfulText (lots_in book.now.rules) (book_of book.now) (has group.now) (text program)) }
+    ensures faithful { IfOk result (λ program. IsFaithful (lots_in book.now.rules)
+        (book_of book.now) (has group.now) program) }
+    ensures text { IfOk result (λ program. IsFaithfulText (lots_in book.now.rules)
+        (book_of book.now) (has group.now) (text program)) }
 {
     let kept = flags.kept(alloc, book, group)?;
     build(alloc, book.rules(), &kept)
@@ -120,7 +125,8 @@ impl<'b, 'g> Compiler<'b, 'g> {
     pub fn compile(&self, alloc: Global, k: usize) -> Result<Compiled<'g>, AllocError>
         requires some { 1 ≤ k }
         requires within { k ≤ length self.now.groups }
-        ensures { IfOk result (λ c. c ≡ compiled self.now.book (slice_index_or self.now.groups (k - 1) [])) }
+        ensures { IfOk result (λ c. c ≡ compiled self.now.book
+            (slice_index_or self.now.groups (k - 1) [])) }
     {
         let group = self.groups.group(k);
         let program = self.program_without(alloc, group)?;
@@ -140,6 +146,7 @@ impl<'b, 'g> Maker for Compiler<'b, 'g> {
     }
 
     fn make(&self, alloc: Global, number: usize) -> Result<Compiled<'g>, AllocError> {
+        // Its contract says how many groups there may be, so that the number behind this one is none too great.
         let _few = Compiler::count(self);
         self.compile(alloc, number + 1)
     }

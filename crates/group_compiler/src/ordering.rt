@@ -24,9 +24,11 @@ pub(crate) fn in_order<M: Maker>(
     mut results: Vec<Numbered<M::Made>>,
 ) -> Result<Vec<M::Made>, AllocError>
     requires below { All (λ r. r.number < M.count_of maker.now) results.items }
-    requires complete { (k : ℕ) → k < M.count_of maker.now → Contains (map (λ r. r.number) results.items) k }
+    requires complete { (k : ℕ) → k < M.count_of maker.now
+        → Contains (map (λ r. r.number) results.items) k }
     requires made { All (λ r. M.makes maker.now r.number r.made) results.items }
-    ensures { IfOk result (λ ordered. AllZip (M.makes maker.now) (range_with_len 0 (M.count_of maker.now)) ordered.items) }
+    ensures { IfOk result (λ ordered. AllZip (M.makes maker.now)
+        (range_with_len 0 (M.count_of maker.now)) ordered.items) }
 {
     let count = maker.count();
     let mut slots = empty_slots(alloc, count)?;

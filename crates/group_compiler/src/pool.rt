@@ -52,8 +52,10 @@ fn join_works<M: Maker>(
 ) -> Result<Work<M::Made>, AllocError>
     requires mine { IsWork claims.now (M.count_of maker.now) (M.makes maker.now) mine }
     requires theirs { IsWork claims.now (M.count_of maker.now) (M.makes maker.now) theirs }
-    ensures { IfOk result (λ both. IsWork claims.now (M.count_of maker.now) (M.makes maker.now) both × (draws both ≡ draws mine + draws theirs)) }
+    ensures { IfOk result (λ both. IsWork claims.now (M.count_of maker.now) (M.makes maker.now) both
+        × (draws both ≡ draws mine + draws theirs)) }
 {
+    // Its contract says that the count is below the room of a claim, by which both draws add up.
     let _known = maker.count();
     let Work { claim, mut results } = theirs;
     claims.join(&mut mine.claim, claim);
@@ -75,7 +77,8 @@ fn run_workers<R: Threads + Wait + Sync, G: Gate + Sync, M: Maker + Sync>(
     requires fresh { claim.drawn ≡ [] }
     requires room { WORKER_DRAWS * workers ≤ claim.room }
     requires workers { 0 < workers }
-    ensures { IfOk result (λ work. IsWork claims.now (M.count_of maker.now) (M.makes maker.now) work × (draws work ≡ claim.room)) }
+    ensures { IfOk result (λ work. IsWork claims.now (M.count_of maker.now) (M.makes maker.now) work
+        × (draws work ≡ claim.room)) }
 {
     if workers == 1 {
         return make_drawn(rt, alloc, claims, gate, maker, claim);
@@ -91,8 +94,14 @@ fn run_workers<R: Threads + Wait + Sync, G: Gate + Sync, M: Maker + Sync>(
             ),
             AllocError,
         >
-            requires { IsSync R.row × IsSync G.row × IsSync M.row × IsOf claims.now other × (other.drawn ≡ []) × (other.room ≡ WORKER_DRAWS) × IsOf claims.now claim × (claim.drawn ≡ []) × (WORKER_DRAWS * (workers - 1) ≤ claim.room) × (1 < workers) }
-            ensures { IfOk result (λ r. IfOk r.0 (λ work. IsWork claims.entry.now (M.count_of maker.entry.now) (M.makes maker.entry.now) work × (draws work ≡ claim.room)) × IfOk r.1 (λ work. IsWork claims.entry.now (M.count_of maker.entry.now) (M.makes maker.entry.now) work × (draws work ≡ WORKER_DRAWS))) }
+            requires { IsSync R.row × IsSync G.row × IsSync M.row × IsOf claims.now other
+                × (other.drawn ≡ []) × (other.room ≡ WORKER_DRAWS) × IsOf claims.now claim
+                × (claim.drawn ≡ []) × (WORKER_DRAWS * (workers - 1) ≤ claim.room) × (1 < workers) }
+            ensures { IfOk result (λ r. IfOk r.0
+                (λ work. IsWork claims.entry.now (M.count_of maker.entry.now)
+                (M.makes maker.entry.now) work × (draws work ≡ claim.room))
+                × IfOk r.1 (λ work. IsWork claims.entry.now (M.count_of maker.entry.now)
+                (M.makes maker.entry.now) work × (draws work ≡ WORKER_DRAWS))) }
         {
             let promise = WorkOfOneClaim {
                 claims: Snapshot::of(claims),
@@ -101,8 +110,11 @@ fn run_workers<R: Threads + Wait + Sync, G: Gate + Sync, M: Maker + Sync>(
             let child = scope.spawn_with(
                 promise,
                 move || -> Result<Work<M::Made>, AllocError>
-                    requires { IsSync R.row × IsSync G.row × IsSync M.row × IsOf claims.now other × (other.drawn ≡ []) × (other.room ≡ WORKER_DRAWS) }
-                    ensures { IfOk result (λ work. IsWork claims.entry.now (M.count_of maker.entry.now) (M.makes maker.entry.now) work × (draws work ≡ WORKER_DRAWS)) }
+                    requires { IsSync R.row × IsSync G.row × IsSync M.row × IsOf claims.now other
+                        × (other.drawn ≡ []) × (other.room ≡ WORKER_DRAWS) }
+                    ensures { IfOk result (λ work. IsWork claims.entry.now
+                        (M.count_of maker.entry.now) (M.makes maker.entry.now) work
+                        × (draws work ≡ WORKER_DRAWS)) }
                 { make_drawn(rt, alloc, claims, gate, maker, other) },
             )?;
             let mine = run_workers(rt, alloc, claims, workers - 1, gate, maker, claim);
@@ -124,7 +136,8 @@ pub fn make_all<R: Threads + Wait + Sync, G: Gate + Sync, M: Maker + Sync>(
 ) -> Result<Vec<M::Made>, AllocError>
     requires some { 1 ≤ workers }
     requires few { workers ≤ MOST_WORKERS }
-    ensures { IfOk result (λ all. AllZip (M.makes maker.now) (range_with_len 0 (M.count_of maker.now)) all.items) }
+    ensures { IfOk result (λ all. AllZip (M.makes maker.now)
+        (range_with_len 0 (M.count_of maker.now)) all.items) }
 {
     let (claims, claim) = Claims::open(alloc)?;
     let work = run_workers(rt, alloc, &claims, workers, gate, maker, claim)?;

@@ -39,7 +39,8 @@ pub(crate) fn make_drawn<R: Wait, G: Gate, M: Maker>(
     requires same { IsOf claims.now claim }
     requires fresh { claim.drawn ≡ [] }
     requires room { WORKER_DRAWS ≤ claim.room }
-    ensures { IfOk result (λ work. IsWork claims.now (M.count_of maker.now) (M.makes maker.now) work × (draws work ≡ claim.room)) }
+    ensures { IfOk result (λ work. IsWork claims.now (M.count_of maker.now) (M.makes maker.now) work
+        × (draws work ≡ claim.room)) }
 {
     let count = maker.count() as u64;
     let mut results = Vec::new(alloc);

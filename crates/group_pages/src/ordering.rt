@@ -28,7 +28,8 @@ pub(crate) fn empty_slots(alloc: Global, count: usize) -> Result<Vec<Option<Page
 /// Puts each page into the slot of its number, if there is one.
 pub(crate) fn fill(slots: &mut Vec<Option<Page>>, mut made: Vec<Numbered>)
     ensures count { length slots.new.items ≡ length slots.old.items }
-    ensures in_place { (page : ℕ → PageText) → All (λ r. r.page ≡ page r.number) made.items → AreInPlace page slots.old.items → AreInPlace page slots.new.items }
+    ensures in_place { (page : ℕ → PageText) → All (λ r. r.page ≡ page r.number) made.items
+        → AreInPlace page slots.old.items → AreInPlace page slots.new.items }
 {
     while let Some(numbered) = made.pop() {
         if numbered.number < slots.len() {
@@ -68,7 +69,8 @@ pub(crate) fn in_order(
     requires flags { flags.now ≡ flags_of (lots_in book.now.rules) (book_of book.now) }
     requires count { length slots.items ≡ length (book_of book.now) }
     requires in_place { AreInPlace (page_at book.now) slots.items }
-    ensures { IfOk result (λ forms. forms.items ≡ pages_from (lots_in book.now.rules) 1 (book_of book.now)) }
+    ensures { IfOk result (λ forms. forms.items
+        ≡ pages_from (lots_in book.now.rules) 1 (book_of book.now)) }
 {
     let count = slots.len();
     let mut forms = Vec::with_capacity(alloc, count)?;

@@ -37,7 +37,8 @@ impl Page {
 
     // The lines of some rows, and of columns with entries in all rows.
     fn new(alloc: Global, all: &[Row], rows: &[Row], columns: &Columns) -> Result<Page, AllocError>
-        ensures { IfOk result (λ page. page ≡ page_with (map shown_row all.now) (map shown_row rows.now) columns.now) }
+        ensures { IfOk result (λ page. page
+            ≡ page_with (map shown_row all.now) (map shown_row rows.now) columns.now) }
     {
         Ok(Page {
             rows: rendered(alloc, all, rows, columns, Section::Rows)?,
@@ -58,7 +59,8 @@ impl Page {
         requires flags { flags.now ≡ flags_of (lots_in book.now.rules) (book_of book.now) }
         requires some { 1 ≤ bidder }
         requires bidders { bidder ≤ length (book_of book.now) }
-        ensures { IfOk result (λ page. page ≡ page_of_form (lots_in book.now.rules) bidder (form_of (book_of book.now) bidder)) }
+        ensures { IfOk result (λ page. page
+            ≡ page_of_form (lots_in book.now.rules) bidder (form_of (book_of book.now) bidder)) }
     {
         let rules = book.rules();
         let kept = flags.kept_in_form(alloc, book, bidder)?;

@@ -51,7 +51,8 @@ impl Pages {
     ) -> Result<Pages, AllocError>
         requires some { 1 ≤ workers }
         requires few { workers ≤ MOST_WORKERS }
-        ensures { IfOk result (λ pages. pages ≡ pages_of (lots_in book.now.rules) (book_of book.now)) }
+        ensures { IfOk result (λ pages. pages
+            ≡ pages_of (lots_in book.now.rules) (book_of book.now)) }
     {
         let flags = Flags::new(rt, alloc, book)?;
         let drawn = AtomicU64::new(0);

@@ -20,7 +20,9 @@ fn add_lines<S: Sink>(
     columns: &Columns,
     section: Section,
 )
-    ensures { Adds S.taken S.failures writer.old writer.new (section_lines section (page_with (map shown_row all.now) (map shown_row rows.now) columns.now)) }
+    ensures { Adds S.taken S.failures writer.old writer.new
+        (section_lines section (page_with (map shown_row all.now) (map shown_row rows.now)
+        columns.now)) }
 {
     match section {
         Section::Rows => add_rows(writer, rows),
@@ -38,7 +40,9 @@ pub(crate) fn rendered(
     columns: &Columns,
     section: Section,
 ) -> Result<Vec<u8>, AllocError>
-    ensures { IfOk result (λ lines. lines.items ≡ section_lines section (page_with (map shown_row all.now) (map shown_row rows.now) columns.now)) }
+    ensures { IfOk result (λ lines. lines.items
+        ≡ section_lines section (page_with (map shown_row all.now) (map shown_row rows.now)
+        columns.now)) }
 {
     let mut sink = MemorySink::new(alloc);
     let mut writer = Writer::new(&mut sink);

@@ -102,11 +102,14 @@ pub(crate) fn make_by_workers<R: Threads + Wait + Sync, G: Gate + Sync>(
     let (one, others) = join(
         rt,
         move || -> Result<Vec<Numbered>, AllocError>
-            requires { IsSync R.row × IsSync G.row × (flags.now ≡ flags_of (lots_in book.now.rules) (book_of book.now)) }
+            requires { IsSync R.row × IsSync G.row
+                × (flags.now ≡ flags_of (lots_in book.now.rules) (book_of book.now)) }
             ensures { IfOk result (λ made. All (IsPageOf book.entry.now) made.items) }
         { make_drawn(rt, alloc, book, flags, groups, drawn, gate) },
         move || -> Result<Vec<Numbered>, AllocError>
-            requires { IsSync R.row × IsSync G.row × (flags.now ≡ flags_of (lots_in book.now.rules) (book_of book.now)) × (1 < workers) }
+            requires { IsSync R.row × IsSync G.row
+                × (flags.now ≡ flags_of (lots_in book.now.rules) (book_of book.now))
+                × (1 < workers) }
             ensures { IfOk result (λ made. All (IsPageOf book.entry.now) made.items) }
         { make_by_workers(rt, alloc, book, flags, groups, drawn, workers - 1, gate) },
     );

@@ -74,7 +74,8 @@ fn closing(section: Section, any: bool) -> &'static [u8]
 
 // Adds the lines of a page in a section, unless its bidder is left out.
 fn add_page<S: Sink>(writer: &mut Writer<'_, S>, page: &Page, is_out: bool, section: Section)
-    ensures { Adds S.taken S.failures writer.old writer.new (cond is_out [] (section_lines section page.now)) }
+    ensures { Adds S.taken S.failures writer.old writer.new
+        (cond is_out [] (section_lines section page.now)) }
 {
     if is_out {
         return;
@@ -85,7 +86,8 @@ fn add_page<S: Sink>(writer: &mut Writer<'_, S>, page: &Page, is_out: bool, sect
 // Adds the lines of bidders outside the group in a section.
 fn add_joined<S: Sink>(writer: &mut Writer<'_, S>, pages: &[Page], group: &Group, section: Section)
     requires { length pages.now ≤ MOST_BIDDERS }
-    ensures { Adds S.taken S.failures writer.old writer.new (joined section (outside (has group.now) 1 pages.now)) }
+    ensures { Adds S.taken S.failures writer.old writer.new
+        (joined section (outside (has group.now) 1 pages.now)) }
 {
     for place in 0..pages.len() {
         let is_out = group.has(place as u16 + 1);
@@ -95,7 +97,8 @@ fn add_joined<S: Sink>(writer: &mut Writer<'_, S>, pages: &[Page], group: &Group
 
 // Adds the lines of a group's text in a section: those of bidders, then those of lots.
 fn add_lines<S: Sink>(writer: &mut Writer<'_, S>, pages: &Pages, group: &Group, section: Section)
-    ensures { Adds S.taken S.failures writer.old writer.new (joined section (pages_for (has group.now) pages.now)) }
+    ensures { Adds S.taken S.failures writer.old writer.new
+        (joined section (pages_for (has group.now) pages.now)) }
 {
     add_joined(writer, pages.forms(), group, section);
     writer.add(pages.lots().lines(section));
@@ -103,7 +106,8 @@ fn add_lines<S: Sink>(writer: &mut Writer<'_, S>, pages: &Pages, group: &Group, 
 
 // Adds a section of a group's text.
 fn add_section<S: Sink>(writer: &mut Writer<'_, S>, pages: &Pages, group: &Group, section: Section)
-    ensures { Adds S.taken S.failures writer.old writer.new (section_text section (joined section (pages_for (has group.now) pages.now))) }
+    ensures { Adds S.taken S.failures writer.old writer.new
+        (section_text section (joined section (pages_for (has group.now) pages.now))) }
 {
     let any = text_has_lines(pages, group, section);
     writer.add(opening(section, any));

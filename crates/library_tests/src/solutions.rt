@@ -14,7 +14,8 @@ mod refused;
 /// The program of three bidders' kept bids.
 fn program_of_three(alloc: Global) -> Result<Program, AllocError>
     ensures columns { IfOk result (λ program. length program.columns ≡ 4) }
-    ensures winners { IfOk result (λ program. IsMap (back program.columns (true ∷ false ∷ true ∷ true ∷ []))) }
+    ensures winners { IfOk result (λ program. IsMap
+        (back program.columns (true ∷ false ∷ true ∷ true ∷ []))) }
 {
     let mut rows = Vec::new(alloc);
     rows.push(row(alloc, b"B1", 1)?)?;

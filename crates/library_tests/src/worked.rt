@@ -47,7 +47,8 @@ pub fn form_of(alloc: Global, rules: &Rules, text: &[u8]) -> Result<Arc<Form, Gl
 }
 
 pub fn row(alloc: Global, name: &[u8], most: i64) -> Result<Row, AllocError>
-    ensures { IfOk result (λ r. shown_row r ≡ record { name = name.now; kind = AtMost; right_side = most }) }
+    ensures { IfOk result (λ r. shown_row r
+        ≡ record { name = name.now; kind = AtMost; right_side = most }) }
 {
     Ok(Row {
         name: Vec::from_slice(alloc, name)?,

@@ -34,7 +34,8 @@ fn is_from_to(low: usize, high: usize, count: usize) -> bool
 }
 
 fn is_count(is_binary: bool, count: usize) -> bool
-    ensures value { result ≡ (if is_binary then nat_le 2 count && nat_le count 4 else nat_le 3 count && nat_le count 4) }
+    ensures value { result ≡ (if is_binary then nat_le 2 count && nat_le count 4 else nat_le 3 count
+        && nat_le count 4) }
     ensures range { result ≡ true → ((if is_binary then 2 else 3) ≤ count) × (count ≤ 4) }
 {
     if is_binary {
@@ -50,7 +51,8 @@ fn take_bound_type(fields: &[&[u8]]) -> Result<bool, Refusal>
     ensures fault { AnswersFault result (earliest_fault (when (not (is_one_of (field 0 (bytes_of fields.now)) (codes "UP" ∷ codes "LO" ∷ codes "FX" ∷ codes "BV" ∷ []))) BoundType
         ∷ when (not (if is_binary_bound (bytes_of fields.now) then nat_le 2 (length (bytes_of fields.now)) && nat_le (length (bytes_of fields.now)) 4 else nat_le 3 (length (bytes_of fields.now)) && nat_le (length (bytes_of fields.now)) 4)) Fields ∷ [])) }
     ensures binary { IfOk result (λ is_binary. is_binary ≡ is_binary_bound (bytes_of fields.now)) }
-    ensures range { IfOk result (λ is_binary. ((if is_binary then 2 else 3) ≤ length fields.now) × (length fields.now ≤ 4)) }
+    ensures range { IfOk result (λ is_binary. ((if is_binary then 2 else 3) ≤ length fields.now)
+        × (length fields.now ≤ 4)) }
 {
     refuse!(!is_bound_type(fields[0]), BoundType);
     let is_binary = is(fields[0], b"BV");
@@ -76,7 +78,8 @@ fn place_of_column(is_binary: bool, count: usize) -> usize
 fn bounded(word: &[u8], state: ColumnState, token: &[u8]) -> Result<ColumnState, Refusal>
     requires { is_one_of word.now (codes "UP" ∷ codes "LO" ∷ codes "FX" ∷ []) ≡ true }
     ensures fault { AnswersFault result (bit_fault token.now) }
-    ensures values { IfOk result (λ new. state_values new ≡ bounded_values word.now (value token.now) (state_values state)) }
+    ensures values { IfOk result (λ new. state_values new
+        ≡ bounded_values word.now (value token.now) (state_values state)) }
 {
     let value = take_bit(token)?;
     if is(word, b"UP") {
@@ -102,9 +105,11 @@ fn bounded(word: &[u8], state: ColumnState, token: &[u8]) -> Result<ColumnState,
 pub fn take_bound<'t>(columns: &mut ColumnTable<'t>, fields: &[&[u8]]) -> Result<(), Refusal>
     requires some { 1 ≤ length fields.now }
     requires states { length columns.old.states.items ≡ length columns.old.names.keys }
-    ensures fit { OnOk result ((r : row_table.Rows) → BothFit r columns.old → BothFit r columns.new) }
+    ensures fit { OnOk result ((r : row_table.Rows) → BothFit r columns.old
+        → BothFit r columns.new) }
     ensures current { columns.new.current ≡ columns.old.current }
-    ensures fault { (lines : List LineFields) → names_of columns.old.names ≡ columns_named lines → AnswersFault result (bound_fault lines (bytes_of fields.now)) }
+    ensures fault { (lines : List LineFields) → names_of columns.old.names ≡ columns_named lines
+        → AnswersFault result (bound_fault lines (bytes_of fields.now)) }
     ensures tells { OnOk result ((objective : Option (List ℕ)) (rows : List (List ℕ)) (lines bounds : List LineFields) → IsDistinct bytes_eq (names_of columns.old.names)
         → ColumnsTell objective rows lines bounds columns.old → ColumnsTell objective rows lines (bytes_of fields.now ∷ bounds) columns.new) }
 {

@@ -20,6 +20,7 @@ use crate::words::is;
 use program_rows::{Bounds, FaultKind};
 use std::alloc::AllocError;
 
+// Entries are stated by their places and not by their order, so the sort has a contract of its own.
 fn sort_entries(entries: &mut Vec<(usize, i64)>)
     ensures moved { IsPermutation entries.old.items entries.new.items }
     ensures sorted { IsNonDecreasingBy (λ entry. entry.0) entries.new.items }
@@ -29,12 +30,16 @@ fn sort_entries(entries: &mut Vec<(usize, i64)>)
 
 /// Ends the current column.
 pub fn close_column<'t>(columns: &mut ColumnTable<'t>) -> Result<(), AllocError>
-    ensures fit { OnOk result ((count : ℕ) → ColumnsFit count columns.old → ColumnsFit count columns.new) }
+    ensures fit { OnOk result ((count : ℕ) → ColumnsFit count columns.old
+        → ColumnsFit count columns.new) }
     ensures names { columns.new.names ≡ columns.old.names }
     ensures states { columns.new.states ≡ columns.old.states }
     ensures begun { columns.new.is_begun ≡ columns.old.is_begun }
     ensures closed { OnOk result (is_some columns.new.current ≡ false) }
-    ensures tells { OnOk result ((objective : Option (List ℕ)) (rows : List (List ℕ)) (lines bounds : List LineFields) → ColumnsFit (length rows) columns.old → ColumnsTell objective rows lines bounds columns.old → ColumnsTell objective rows lines bounds columns.new) }
+    ensures tells { OnOk result ((objective : Option (List ℕ)) (rows : List (List ℕ))
+        (lines bounds : List LineFields) → ColumnsFit (length rows) columns.old
+        → ColumnsTell objective rows lines bounds columns.old
+        → ColumnsTell objective rows lines bounds columns.new) }
 {
     let Some(name) = columns.current else {
         return Ok(());
@@ -62,7 +67,8 @@ fn is_current(current: Option<&[u8]>, name: &[u8]) -> bool
 }
 
 fn add_column<'t>(columns: &mut ColumnTable<'t>, name: &'t [u8]) -> Result<(), Refusal>
-    ensures fault { AnswersFault result (when (list_any (bytes_eq name.now) (names_of columns.old.names)) ColumnSplit) }
+    ensures fault { AnswersFault result (when
+        (list_any (bytes_eq name.now) (names_of columns.old.names)) ColumnSplit) }
     ensures added { OnOk result (AddsColumn name.now columns.old columns.new) }
 {
     let is_new = insert_name(&mut columns.names, name)?;
@@ -80,11 +86,23 @@ fn add_column<'t>(columns: &mut ColumnTable<'t>, name: &'t [u8]) -> Result<(), R
 pub fn open_column<'t>(columns: &mut ColumnTable<'t>, name: &'t [u8]) -> Result<(), Refusal>
     requires { IsName name.now }
     ensures current { OnOk result (option_now columns.new.current ≡ Some name.now) }
-    ensures fit { OnOk result ((count : ℕ) → ColumnsFit count columns.old → ColumnsFit count columns.new) }
-    ensures fault { AnswersFault result (when (not (is_current columns.old.current name.now) && list_any (bytes_eq name.now) (names_of columns.old.names)) ColumnSplit) }
-    ensures same { OnOk result (is_current columns.old.current name.now ≡ true → columns.new ≡ columns.old) }
-    ensures added { OnOk result (is_current columns.old.current name.now ≡ false → (objective : Option (List ℕ)) (rows : List (List ℕ)) (lines : List LineFields) → ColumnsFit (length rows) columns.old → ColumnsTell objective rows lines [] columns.old → ColumnAdded objective rows lines name.now columns.new) }
-    ensures apart { OnOk result ((count : ℕ) (stamps : List ℕ) (places : List (Option ℕ)) → ColumnsFit count columns.old → IsApart stamps places (length (names_of columns.old.names)) columns.old.current_column.entries.items → IsApart stamps places (length (names_of columns.new.names)) columns.new.current_column.entries.items) }
+    ensures fit { OnOk result ((count : ℕ) → ColumnsFit count columns.old
+        → ColumnsFit count columns.new) }
+    ensures fault { AnswersFault result (when
+        (not (is_current columns.old.current name.now)
+        && list_any (bytes_eq name.now) (names_of columns.old.names)) ColumnSplit) }
+    ensures same { OnOk result (is_current columns.old.current name.now ≡ true
+        → columns.new ≡ columns.old) }
+    ensures added { OnOk result (is_current columns.old.current name.now ≡ false
+        → (objective : Option (List ℕ)) (rows : List (List ℕ)) (lines : List LineFields)
+        → ColumnsFit (length rows) columns.old → ColumnsTell objective rows lines [] columns.old
+        → ColumnAdded objective rows lines name.now columns.new) }
+    ensures apart { OnOk result ((count : ℕ) (stamps : List ℕ) (places : List (Option ℕ))
+        → ColumnsFit count columns.old
+        → IsApart stamps places (length (names_of columns.old.names))
+        columns.old.current_column.entries.items
+        → IsApart stamps places (length (names_of columns.new.names))
+        columns.new.current_column.entries.items) }
 {
     if is_current(columns.current, name) {
         return Ok(());

@@ -32,7 +32,8 @@ fn put(
     place: Option<usize>,
     value: i64,
 ) -> Result<(), AllocError>
-    ensures entries { OnOk result (column.new.entries.items ≡ put_entries is_cost place value column.old.entries.items) }
+    ensures entries { OnOk result (column.new.entries.items
+        ≡ put_entries is_cost place value column.old.entries.items) }
     ensures cost { OnOk result (column.new.cost ≡ (if is_cost then value else column.old.cost)) }
 {
     if is_cost {
@@ -60,10 +61,14 @@ fn take_entry<'t>(
     requires fit { RowsFit rows.old }
     ensures fit { OnOk result (RowsFit rows.new) }
     ensures frame { rows.new ≡ record rows.old { stamps = rows.new.stamps } }
-    ensures entries { OnOk result (PairsFit stamp rows.old column.old → PairsFit stamp rows.new column.new) }
+    ensures entries { OnOk result (PairsFit stamp rows.old column.old
+        → PairsFit stamp rows.new column.new) }
     ensures fault { (has : List ℕ → Bool) → StampsAre rows.old.stamps.items stamp (names_of rows.old.names) has
         → AnswersFault result (earliest_fault (when (not (list_any (bytes_eq row.now) (names_of rows.old.names))) UnknownRow ∷ when (has row.now) EntryRepeated ∷ number_fault token.now ∷ [])) }
-    ensures stamps { OnOk result ((has : List ℕ → Bool) → StampsAre rows.old.stamps.items stamp (names_of rows.old.names) has → StampsAre rows.new.stamps.items stamp (names_of rows.old.names) (λ name. bytes_eq name row.now || has name)) }
+    ensures stamps { OnOk result ((has : List ℕ → Bool)
+        → StampsAre rows.old.stamps.items stamp (names_of rows.old.names) has
+        → StampsAre rows.new.stamps.items stamp (names_of rows.old.names)
+        (λ name. bytes_eq name row.now || has name)) }
     ensures low { OnOk result (AreStampsUpTo stamp rows.old → AreStampsUpTo stamp rows.new) }
     ensures tells { OnOk result (PairsFit stamp rows.old column.old → (number : List ℕ → ℤ) → OpenTells (option_now rows.old.objective) (declared_row_names rows.old.rows.items) number column.old
         → OpenTells (option_now rows.old.objective) (declared_row_names rows.old.rows.items) (λ name. if bytes_eq name row.now then value token.now else number name) column.new) }
@@ -87,9 +92,11 @@ fn is_three_or_five(count: usize) -> bool
 }
 
 fn take_marker_line<'t>(columns: &mut ColumnTable<'t>, fields: &[&[u8]]) -> Result<(), Refusal>
-    ensures fit { OnOk result ((r : row_table.Rows) → BothFit r columns.old → BothFit r columns.new) }
+    ensures fit { OnOk result ((r : row_table.Rows) → BothFit r columns.old
+        → BothFit r columns.new) }
     ensures closed { OnOk result (is_some columns.new.current ≡ false) }
-    ensures fault { (lines : List LineFields) → is_integer_open lines ≡ columns.old.is_begun → AnswersFault result (marker_fault lines (bytes_of fields.now)) }
+    ensures fault { (lines : List LineFields) → is_integer_open lines ≡ columns.old.is_begun
+        → AnswersFault result (marker_fault lines (bytes_of fields.now)) }
     ensures names { OnOk result (columns.new.names ≡ columns.old.names) }
     ensures tells { OnOk result (is_marker (bytes_of fields.now) ≡ true → (objective : Option (List ℕ)) (rows : List (List ℕ)) (lines : List LineFields) → ColumnsFit (length rows) columns.old
         → ColumnsTell objective rows lines [] columns.old → ColumnsTell objective rows (bytes_of fields.now ∷ lines) [] columns.new) }
@@ -111,7 +118,8 @@ fn take_entries<'t>(
     requires count { ((length fields.now == 3) || (length fields.now == 5)) ≡ true }
     ensures fit { OnOk result (RowsFit rows.new) }
     ensures frame { rows.new ≡ record rows.old { stamps = rows.new.stamps } }
-    ensures entries { OnOk result (PairsFit stamp rows.old column.old → PairsFit stamp rows.new column.new) }
+    ensures entries { OnOk result (PairsFit stamp rows.old column.old
+        → PairsFit stamp rows.new column.new) }
     ensures fault { (lines : List LineFields) (has : List ℕ → Bool) → ((name : List ℕ) → is_declared lines name ≡ list_any (bytes_eq name) (names_of rows.old.names))
         → StampsAre rows.old.stamps.items stamp (names_of rows.old.names) has
         → AnswersFault result (pairs_fault lines (λ pair. None) has (pairs (drop 1 (bytes_of fields.now)))) }

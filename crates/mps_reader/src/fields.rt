@@ -57,6 +57,7 @@ fn is_text(line: &[u8]) -> bool
         .all(|b| *b == b'\t' || (b' ' <= *b && *b <= b'~'))
 }
 
+// The rest of a text, as a value of its own: the loop over fields states what is left by it.
 fn from(text: &[u8], start: usize) -> &[u8]
     requires { start ≤ length text.now }
     ensures { result.now ≡ drop start text.now }
@@ -70,8 +71,10 @@ pub struct NotText;
 
 /// The first field of a text, and what stands behind it.
 fn next_field(rest: &[u8]) -> Result<Option<(&[u8], &[u8])>, NotText>
-    ensures fields { IfOk result (λ found. MatchOption found (fields rest.now ≡ []) (λ found. fields rest.now ≡ found.0.now ∷ fields found.1.now)) }
-    ensures text { IfOk result (λ found. MatchOption found (list_all is_text_byte rest.now ≡ true) (λ found. list_all is_text_byte rest.now ≡ list_all is_text_byte found.1.now)) }
+    ensures fields { IfOk result (λ found. MatchOption found (fields rest.now ≡ [])
+        (λ found. fields rest.now ≡ found.0.now ∷ fields found.1.now)) }
+    ensures text { IfOk result (λ found. MatchOption found (list_all is_text_byte rest.now ≡ true)
+        (λ found. list_all is_text_byte rest.now ≡ list_all is_text_byte found.1.now)) }
     ensures other { OnErr result (list_all is_text_byte rest.now ≡ false) }
 {
     let Some(start) = field_start(rest) else {

@@ -25,6 +25,7 @@ fn is_binary(state: ColumnState) -> bool
     }
 }
 
+// The first column without bounds of 0 and 1.
 fn first_open(states: &[ColumnState]) -> Option<usize>
     ensures { result ≡ position (λ state. not (is_binary_state state)) states.now }
 {
@@ -33,7 +34,8 @@ fn first_open(states: &[ColumnState]) -> Option<usize>
 
 /// Refuses the first column that isn't binary.
 pub fn refuse_open(states: &[ColumnState]) -> Result<(), Refusal>
-    ensures { AnswersFault result (option_map NotBinary (position (λ state. not (is_binary_state state)) states.now)) }
+    ensures { AnswersFault result (option_map NotBinary
+        (position (λ state. not (is_binary_state state)) states.now)) }
 {
     match first_open(states) {
         Some(column) => Err(Refusal::Fault(FaultKind::NotBinary { column })),
@@ -53,6 +55,7 @@ fn bounds_of(state: ColumnState) -> Bounds
     }
 }
 
+// The bounds of all columns.
 fn all_bounds(alloc: Global, states: &[ColumnState]) -> Result<Vec<Bounds>, AllocError>
     ensures { IfOk result (λ bounds. bounds.items ≡ map state_bounds states.now) }
 {
@@ -74,7 +77,8 @@ pub fn finished<'t>(alloc: Global, reading: Reading<'t>) -> Result<Program, Allo
     requires fit { ReadingFits reading }
     requires closed { is_some reading.columns.current ≡ false }
     requires objective { is_some reading.rows.objective ≡ true }
-    ensures { IfOk result (λ made. (before : Sections) → ReadingTells before reading.entry → program before ≡ made) }
+    ensures { IfOk result (λ made. (before : Sections) → ReadingTells before reading.entry
+        → program before ≡ made) }
 {
     let Reading { rows, columns, .. } = reading;
     let bounds = all_bounds(alloc, columns.states.as_slice())?;

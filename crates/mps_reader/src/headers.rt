@@ -56,7 +56,10 @@ fn lacks_objective(word: &[u8], has_objective: bool) -> bool
 
 /// The sense that a header names, if it does.
 fn take_named_sense(more: &[&[u8]]) -> Result<(), Refusal>
-    ensures { AnswersFault result (earliest_fault (when (nat_lt 1 (length (bytes_of more.now))) Fields ∷ (if length (bytes_of more.now) == 1 then sense_fault (field 0 (bytes_of more.now)) else None) ∷ [])) }
+    ensures { AnswersFault result (earliest_fault
+        (when (nat_lt 1 (length (bytes_of more.now))) Fields
+        ∷ (if length (bytes_of more.now) == 1 then sense_fault (field 0 (bytes_of more.now)) else
+        None) ∷ [])) }
 {
     refuse!(more.len() > 1, Fields);
     if more.len() == 1 {
@@ -85,7 +88,8 @@ pub fn take_header(
         → AnswersUpTo result (header_fault before word.now (bytes_of more.now)) (if bytes_eq word.now (codes "ENDATA") then not_binary before else None) }
     ensures objective { OnOk result (bytes_eq word.now (codes "ENDATA") ≡ true → has_objective ≡ true) }
     ensures opened { IfOk result (λ section. word_of section ≡ word.now) }
-    ensures order { IfOk result (λ section. place_of (word_of opened) < place_of (word_of section)) }
+    ensures order { IfOk result (λ section. place_of (word_of opened)
+        < place_of (word_of section)) }
 {
     refuse!(is_left_out(word), SectionLeftOut);
     let section = section_of(word);

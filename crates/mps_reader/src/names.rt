@@ -12,8 +12,10 @@ pub fn insert_name<'t>(
     names: &mut NameSet<'t>,
     name: &'t [u8],
 ) -> Result<bool, AllocFailed<&'t [u8]>>
-    ensures new { IfOk result (λ is_new. is_new ≡ not (list_any (bytes_eq name.now) (names_of names.old))) }
-    ensures names { IfOk result (λ is_new. names_of names.new ≡ (if is_new then names_of names.old ++ name.now ∷ [] else names_of names.old)) }
+    ensures new { IfOk result (λ is_new. is_new
+        ≡ not (list_any (bytes_eq name.now) (names_of names.old))) }
+    ensures names { IfOk result (λ is_new. names_of names.new
+        ≡ (if is_new then names_of names.old ++ name.now ∷ [] else names_of names.old)) }
     ensures distinct { OnOk result (IsDistinct bytes_eq (names_of names.new)) }
 {
     let (_, is_new) = names.insert_full(name)?;

@@ -60,7 +60,8 @@ fn read_lines(alloc: Global, text: &[u8]) -> Result<Program, MpsFault>
 
 /// The program that an MPS text describes, or its first faulty line.
 pub fn read_program(alloc: Global, text: &[u8]) -> Result<Program, MpsFault>
-    ensures too_large { PROGRAM_LIMIT < length text.now → result ≡ Err (record { line = 0; kind = TooLarge }) }
+    ensures too_large { PROGRAM_LIMIT < length text.now
+        → result ≡ Err (record { line = 0; kind = TooLarge }) }
     ensures ends { OnOk result (HasEnd text.now) }
     ensures line { IfErr result (λ e. e.line ≤ length (lines_of text.now)) }
     ensures meaning { length text.now ≤ PROGRAM_LIMIT → IsRead result (meaning text.now) }

@@ -1,4 +1,21 @@
 //! What the lines so far say.
+//!
+//! The reader goes over the text once, a line at a time, and holds what the lines so far make: the open section, the rows
+//! with their right sides, and the columns, of which the last one may be open. Two things are said of that state, and each
+//! function below has a clause for each:
+//!
+//! - *It fits* (`ReadingFits`): names and tables agree with one another, whatever the text was. Places found by name lie
+//!   within the tables, and a program can be made of them.
+//! - *It tells* (`ReadingTells`): it holds what the lines so far describe, by the definitions of a text's meaning over its
+//!   gathered sections. A line more puts one in front of its section's list, so each step of a proof computes.
+//!
+//! A line's fault is that of the definition, `fault before line`, for any sections that the state tells. Nothing is kept
+//! beside the state to remember lines: a repeated entry is found by a stamp for each row (the number of the column that named
+//! it last; right sides have a stamp behind all columns), and a split column by the name of the open one.
+//!
+//! To mind when changing it: the order of the checks in a line is that of `Faults`, and the first that fails is told, so a
+//! check moved up or down is another reader. A column is closed by the first line that isn't its own, also by a header, and
+//! only then do its entries stand in the order of rows. What is added to the state needs a line in both records.
 
 ghost use Rattle.std.specs.Prelude.{◌≡◌, ◌≢◌, ◌≤◌, length, drop, codes, bytes_eq, true, false, is_some, OnOk, IfOk};
 ghost use Rattle.std.specs.List.{AllByRecursion};
@@ -47,10 +64,17 @@ fn take_header_line<'t>(reading: &mut Reading<'t>, fields: &[&'t [u8]]) -> Resul
     requires some { 1 ≤ length fields.now }
     ensures end { IfOk result (λ is_end. is_end ≡ bytes_eq (field 0 (bytes_of fields.now)) (codes "ENDATA")) }
     ensures fit { OnOk result (ReadingFits reading.new) }
-    ensures closed { IfOk result (λ is_end. is_end ≡ true → is_some reading.new.columns.current ≡ false) }
-    ensures objective { IfOk result (λ is_end. is_end ≡ true → is_some reading.new.rows.objective ≡ true) }
-    ensures fault { (before : Sections) → ReadingTells before reading.old → AnswersFault result (header_fault before (field 0 (bytes_of fields.now)) (drop 1 (bytes_of fields.now))) }
-    ensures tells { OnOk result ((before : Sections) (more : LineFields) → ReadingTells before reading.old → ReadingTells (with_line before (spec.Header (field 0 (bytes_of fields.now)) more)) reading.new) }
+    ensures closed { IfOk result (λ is_end. is_end ≡ true
+        → is_some reading.new.columns.current ≡ false) }
+    ensures objective { IfOk result (λ is_end. is_end ≡ true
+        → is_some reading.new.rows.objective ≡ true) }
+    ensures fault { (before : Sections) → ReadingTells before reading.old
+        → AnswersFault result (header_fault before (field 0 (bytes_of fields.now))
+        (drop 1 (bytes_of fields.now))) }
+    ensures tells { OnOk result ((before : Sections) (more : LineFields)
+        → ReadingTells before reading.old
+        → ReadingTells (with_line before (spec.Header (field 0 (bytes_of fields.now)) more))
+        reading.new) }
 {
     close_column(&mut reading.columns)?;
     let has_objective = reading.rows.objective.is_some();
@@ -67,8 +91,10 @@ fn take_data<'t>(reading: &mut Reading<'t>, fields: &[&'t [u8]]) -> Result<(), R
     requires some { 1 ≤ length fields.now }
     requires names { AllByRecursion IsName (bytes_of fields.now) }
     ensures fit { OnOk result (ReadingFits reading.new) }
-    ensures fault { (before : Sections) → ReadingTells before reading.old → AnswersFault result (data_fault before (bytes_of fields.now)) }
-    ensures tells { OnOk result ((before : Sections) → ReadingTells before reading.old → ReadingTells (with_line before (spec.Data (bytes_of fields.now))) reading.new) }
+    ensures fault { (before : Sections) → ReadingTells before reading.old
+        → AnswersFault result (data_fault before (bytes_of fields.now)) }
+    ensures tells { OnOk result ((before : Sections) → ReadingTells before reading.old
+        → ReadingTells (with_line before (spec.Data (bytes_of fields.now))) reading.new) }
 {
     match reading.section {
         Section::Sense => take_sense_line(fields),
@@ -98,10 +124,14 @@ pub fn take_line<'t>(reading: &mut Reading<'t>, line: &'t [u8]) -> Result<bool, 
     ensures end { IfOk result (λ end. end ≡ is_end (line_of line.now)) }
     ensures text { OnOk result (line_of line.now ≢ Unprintable) }
     ensures fit { OnOk result (ReadingFits reading.new) }
-    ensures closed { IfOk result (λ is_end. is_end ≡ true → is_some reading.new.columns.current ≡ false) }
-    ensures objective { IfOk result (λ is_end. is_end ≡ true → is_some reading.new.rows.objective ≡ true) }
-    ensures fault { (before : Sections) → ReadingTells before reading.old → AnswersFault result (fault before (line_of line.now)) }
-    ensures tells { OnOk result ((before : Sections) → ReadingTells before reading.old → ReadingTells (with_line before (line_of line.now)) reading.new) }
+    ensures closed { IfOk result (λ is_end. is_end ≡ true
+        → is_some reading.new.columns.current ≡ false) }
+    ensures objective { IfOk result (λ is_end. is_end ≡ true
+        → is_some reading.new.rows.objective ≡ true) }
+    ensures fault { (before : Sections) → ReadingTells before reading.old
+        → AnswersFault result (fault before (line_of line.now)) }
+    ensures tells { OnOk result ((before : Sections) → ReadingTells before reading.old
+        → ReadingTells (with_line before (line_of line.now)) reading.new) }
 {
     match read_line(line) {
         Line::Skipped => Ok(false),

@@ -26,6 +26,7 @@ fn is_constant(is_cost: bool, value: i64) -> bool
     is_cost && value != 0
 }
 
+// Sets the right side of the row at a place, and leaves all else as it is.
 fn set_right_side(rows: &mut Vec<Row>, place: usize, value: i64)
     requires { place < length rows.old.items }
     ensures { map shown_row rows.new.items ≡ with_side place value (map shown_row rows.old.items) }
@@ -47,8 +48,14 @@ fn take_right_side<'t>(
     ensures names { rows.new.names ≡ rows.old.names }
     ensures fault { (has : List ℕ → Bool) → StampsAre rows.old.stamps.items stamp (names_of rows.old.names) has
         → AnswersFault result (side_fault (list_any (bytes_eq row.now) (names_of rows.old.names)) (has row.now) (option_map_or (λ name. bytes_eq row.now name.now) rows.old.objective false) token.now) }
-    ensures stamps { OnOk result ((has : List ℕ → Bool) → StampsAre rows.old.stamps.items stamp (names_of rows.old.names) has → StampsAre rows.new.stamps.items stamp (names_of rows.old.names) (λ name. bytes_eq name row.now || has name)) }
-    ensures rows { OnOk result ((side : List ℕ → ℤ) (lines : List LineFields) → map shown_row rows.old.rows.items ≡ rows_by side lines → map shown_row rows.new.rows.items ≡ rows_by (λ name. if bytes_eq name row.now then value token.now else side name) lines) }
+    ensures stamps { OnOk result ((has : List ℕ → Bool)
+        → StampsAre rows.old.stamps.items stamp (names_of rows.old.names) has
+        → StampsAre rows.new.stamps.items stamp (names_of rows.old.names)
+        (λ name. bytes_eq name row.now || has name)) }
+    ensures rows { OnOk result ((side : List ℕ → ℤ) (lines : List LineFields)
+        → map shown_row rows.old.rows.items ≡ rows_by side lines
+        → map shown_row rows.new.rows.items
+        ≡ rows_by (λ name. if bytes_eq name row.now then value token.now else side name) lines) }
 {
     let index = stamp_row(&rows.names, &rows.next, &mut rows.stamps, row, stamp)?;
     let value = take_number(token)?;

@@ -72,8 +72,10 @@ pub fn take_row<'t>(rows: &mut Rows<'t>, fields: &[&'t [u8]]) -> Result<(), Refu
         ∷ when (list_any (bytes_eq (field 1 (bytes_of fields.now))) (names_of rows.old.names)) RowRepeated ∷ [])) }
     ensures fit { OnOk result (RowsFit rows.new) }
     ensures grows { OnOk result (length rows.old.rows.items ≤ length rows.new.rows.items) }
-    ensures tells { OnOk result ((lines : List LineFields) → RowsTell lines [] rows.old → RowsTell (bytes_of fields.now ∷ lines) [] rows.new) }
-    ensures stamps { OnOk result ((most : ℕ) → AreStampsUpTo most rows.old → AreStampsUpTo most rows.new) }
+    ensures tells { OnOk result ((lines : List LineFields) → RowsTell lines [] rows.old
+        → RowsTell (bytes_of fields.now ∷ lines) [] rows.new) }
+    ensures stamps { OnOk result ((most : ℕ) → AreStampsUpTo most rows.old
+        → AreStampsUpTo most rows.new) }
 {
     refuse!(fields.len() != 2, Fields);
     refuse!(!is_row_type(fields[0]), RowType);
@@ -99,7 +101,8 @@ pub fn stamp_row(
     ensures fault { (has : List ℕ → Bool) → StampsAre stamps.old.items stamp (names_of names.now) has
         → AnswersFault result (earliest_fault (when (not (list_any (bytes_eq row.now) (names_of names.now))) UnknownRow ∷ when (has row.now) EntryRepeated ∷ [])) }
     ensures index { IfOk result (λ i. slice_get (names_of names.now) i ≡ Some row.now) }
-    ensures fresh { IfOk result (λ i. (d : ℕ) → slice_get stamps.old.items i ≡ Some d → (d == stamp) ≡ false) }
+    ensures fresh { IfOk result (λ i. (d : ℕ) → slice_get stamps.old.items i ≡ Some d
+        → (d == stamp) ≡ false) }
     ensures stamped { IfOk result (λ i. stamps.new.items ≡ slice_set stamps.old.items i stamp) }
 {
     let Some(index) = place_of(names, next, row) else {

@@ -63,11 +63,16 @@ impl Sink for LimitSink {
     fn put(&mut self, bytes: &[u8]) -> Result<usize, SinkFailed>
         ensures within { IfOk result (λ n. n ≤ length bytes.now) }
         ensures some { IfOk result (λ n. 0 < length bytes.now → 0 < n) }
-        ensures took { IfOk result (λ n. Appends (⟦<LimitSink as Sink>⟧.taken self.old) (⟦<LimitSink as Sink>⟧.taken self.new) (take n bytes.now)) }
-        ensures kept { OnErr result (Keeps (⟦<LimitSink as Sink>⟧.taken self.old) (⟦<LimitSink as Sink>⟧.taken self.new)) }
-        ensures succeeded { OnOk result (⟦<LimitSink as Sink>⟧.failures self.new ≡ ⟦<LimitSink as Sink>⟧.failures self.old) }
-        ensures failed { OnErr result (⟦<LimitSink as Sink>⟧.failures self.new ≡ one_more (⟦<LimitSink as Sink>⟧.failures self.old)) }
-        ensures share { IfOk result (λ n. n ≡ min (length bytes.now) (min self.old.most self.old.room)) }
+        ensures took { IfOk result (λ n. Appends (⟦<LimitSink as Sink>⟧.taken self.old)
+            (⟦<LimitSink as Sink>⟧.taken self.new) (take n bytes.now)) }
+        ensures kept { OnErr result (Keeps (⟦<LimitSink as Sink>⟧.taken self.old)
+            (⟦<LimitSink as Sink>⟧.taken self.new)) }
+        ensures succeeded { OnOk result (⟦<LimitSink as Sink>⟧.failures self.new
+            ≡ ⟦<LimitSink as Sink>⟧.failures self.old) }
+        ensures failed { OnErr result (⟦<LimitSink as Sink>⟧.failures self.new
+            ≡ one_more (⟦<LimitSink as Sink>⟧.failures self.old)) }
+        ensures share { IfOk result (λ n. n ≡ min (length bytes.now)
+            (min self.old.most self.old.room)) }
         ensures room { IfOk result (λ n. self.new.room + n ≡ self.old.room) }
         ensures room_kept { OnErr result (self.new.room ≡ self.old.room) }
         ensures most { self.new.most ≡ self.old.most }

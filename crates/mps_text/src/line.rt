@@ -33,7 +33,8 @@ fn write_name(line: &mut [u8], at: usize, name: &[u8])
 fn write_end(line: &mut [u8], at: usize, number: u8) -> usize
     requires small { number < 100 }
     requires room { at + 4 ≤ length line.old }
-    ensures written { take result line.new ≡ take at line.old ++ (32 ∷ (decimal number ++ 10 ∷ [])) }
+    ensures written { take result line.new ≡ take at line.old
+        ++ (32 ∷ (decimal number ++ 10 ∷ [])) }
     ensures behind { at ≤ result }
     ensures within { result ≤ at + 4 }
     ensures length { length line.new ≡ length line.old }
@@ -65,7 +66,8 @@ pub fn write_line(
     requires few { length name.now ≤ 4 }
     requires small { number < 100 }
     requires room { at + LINE_ROOM ≤ length lines.old }
-    ensures written { take result lines.new ≡ take at lines.old ++ (take front_len front.now ++ (name.now ++ (32 ∷ (decimal number ++ 10 ∷ [])))) }
+    ensures written { take result lines.new ≡ take at lines.old
+        ++ (take front_len front.now ++ (name.now ++ (32 ∷ (decimal number ++ 10 ∷ [])))) }
     ensures within { result ≤ at + LINE_ROOM }
     ensures length { length lines.new ≡ length lines.old }
 {

@@ -55,7 +55,8 @@ fn name_at(rows: &[Row], place: usize) -> &[u8]
 }
 
 fn add_number<S: Sink>(writer: &mut Writer<'_, S>, a: &[u8], b: &[u8], n: i64)
-    ensures { Adds S.taken S.failures writer.old writer.new (written (Data (a.now ∷ b.now ∷ signed_decimal n ∷ []))) }
+    ensures { Adds S.taken S.failures writer.old writer.new
+        (written (Data (a.now ∷ b.now ∷ signed_decimal n ∷ []))) }
 {
     let mut buffer = Buffer::new();
     let digits = buffer.format(n);
@@ -75,7 +76,8 @@ fn add_right_side<S: Sink>(writer: &mut Writer<'_, S>, row: &Row)
 }
 
 fn add_bound<S: Sink>(writer: &mut Writer<'_, S>, column: &Column<'_>)
-    ensures { Adds S.taken S.failures writer.old writer.new (bound_bytes (shown_column column.now)) }
+    ensures { Adds S.taken S.failures writer.old writer.new
+        (bound_bytes (shown_column column.now)) }
 {
     writer.add(before_bound(column.bounds));
     writer.add(column.name);
@@ -89,14 +91,16 @@ fn add_long_entry<S: Sink>(
     name: &[u8],
     entry: &(usize, i64),
 )
-    ensures { Adds S.taken S.failures writer.old writer.new (entry_bytes (map shown_row rows.now) name.now entry.now) }
+    ensures { Adds S.taken S.failures writer.old writer.new
+        (entry_bytes (map shown_row rows.now) name.now entry.now) }
 {
     add_number(writer, name, name_at(rows, entry.0), entry.1);
 }
 
 /// Whether an entry is short: a row's name of two to four bytes, and a number below 100.
 fn is_short(row: &[u8], number: i64) -> bool
-    ensures { result ≡ true → (2 ≤ length row.now) × (length row.now ≤ 4) × (pos 0 ≤ℤ number) × (number <ℤ pos 100) }
+    ensures { result ≡ true → (2 ≤ length row.now) × (length row.now ≤ 4) × (pos 0 ≤ℤ number)
+        × (number <ℤ pos 100) }
 {
     2 <= row.len() && row.len() <= 4 && 0 <= number && number < 100
 }
@@ -114,9 +118,11 @@ fn write_entry(
 ) -> Option<usize>
     requires within { front_len ≤ FRONT_LEN }
     requires front { take front_len front.now ≡ 32 ∷ (name.now ++ 32 ∷ []) }
-    ensures written { IfSome result (λ end. take end lines.new ≡ take at lines.old ++ entry_bytes (map shown_row rows.now) name.now entry.now) }
+    ensures written { IfSome result (λ end. take end lines.new
+        ≡ take at lines.old ++ entry_bytes (map shown_row rows.now) name.now entry.now) }
     ensures within { IfSome result (λ end. end ≤ LINES_LEN) }
 {
+    // Contracts alone speak of the name: its bytes stand in the front already.
     let _of_the_front = name;
     let row = name_at(rows, entry.0);
     if at <= LINES_LEN - LINE_ROOM && is_short(row, entry.1) {
@@ -133,7 +139,8 @@ fn write_entries(
     entries: &[(usize, i64)],
 ) -> Option<usize>
     requires { length name.now ≤ FRONT_NAME_LEN }
-    ensures written { IfSome result (λ end. take end lines.new ≡ flat_map (entry_bytes (map shown_row rows.now) name.now) entries.now) }
+    ensures written { IfSome result (λ end. take end lines.new
+        ≡ flat_map (entry_bytes (map shown_row rows.now) name.now) entries.now) }
     ensures within { IfSome result (λ end. end ≤ LINES_LEN) }
 {
     let mut front = [0; FRONT_LEN];
@@ -147,7 +154,8 @@ fn write_entries(
 
 /// Adds the lines of the rows.
 pub fn add_rows<S: Sink>(writer: &mut Writer<'_, S>, rows: &[Row])
-    ensures { Adds S.taken S.failures writer.old writer.new (flat_map (λ r. row_bytes (shown_row r)) rows.now) }
+    ensures { Adds S.taken S.failures writer.old writer.new
+        (flat_map (λ r. row_bytes (shown_row r)) rows.now) }
 {
     for row in rows {
         add_row(writer, row);
@@ -156,7 +164,8 @@ pub fn add_rows<S: Sink>(writer: &mut Writer<'_, S>, rows: &[Row])
 
 /// Adds the lines of the right sides.
 pub fn add_right_sides<S: Sink>(writer: &mut Writer<'_, S>, rows: &[Row])
-    ensures { Adds S.taken S.failures writer.old writer.new (flat_map (λ r. right_side_bytes (shown_row r)) rows.now) }
+    ensures { Adds S.taken S.failures writer.old writer.new
+        (flat_map (λ r. right_side_bytes (shown_row r)) rows.now) }
 {
     for row in rows {
         add_right_side(writer, row);
@@ -179,7 +188,8 @@ fn add_long_entries<S: Sink>(
     name: &[u8],
     entries: &[(usize, i64)],
 )
-    ensures { Adds S.taken S.failures writer.old writer.new (flat_map (entry_bytes (map shown_row rows.now) name.now) entries.now) }
+    ensures { Adds S.taken S.failures writer.old writer.new
+        (flat_map (entry_bytes (map shown_row rows.now) name.now) entries.now) }
 {
     for entry in entries {
         add_long_entry(writer, rows, name, entry);
@@ -194,7 +204,8 @@ pub fn add_entries<S: Sink>(
     name: &[u8],
     entries: &[(usize, i64)],
 )
-    ensures { Adds S.taken S.failures writer.old writer.new (flat_map (entry_bytes (map shown_row rows.now) name.now) entries.now) }
+    ensures { Adds S.taken S.failures writer.old writer.new
+        (flat_map (entry_bytes (map shown_row rows.now) name.now) entries.now) }
 {
     if name.len() <= 14 {
         if let Some(end) = write_entries(lines, rows, name, entries) {
@@ -206,7 +217,8 @@ pub fn add_entries<S: Sink>(
 }
 
 fn add_cost<S: Sink>(writer: &mut Writer<'_, S>, objective: &[u8], column: &Column<'_>)
-    ensures { Adds S.taken S.failures writer.old writer.new (cost_bytes objective.now (shown_column column.now)) }
+    ensures { Adds S.taken S.failures writer.old writer.new
+        (cost_bytes objective.now (shown_column column.now)) }
 {
     add_number(writer, column.name, objective, column.cost);
 }
@@ -219,7 +231,8 @@ pub fn add_column<S: Sink>(
     rows: &[Row],
     column: &Column<'_>,
 )
-    ensures { Adds S.taken S.failures writer.old writer.new (column_bytes objective.now (map shown_row rows.now) (shown_column column.now)) }
+    ensures { Adds S.taken S.failures writer.old writer.new
+        (column_bytes objective.now (map shown_row rows.now) (shown_column column.now)) }
 {
     add_cost(writer, objective, column);
     add_entries(writer, lines, rows, column.name, column.entries);
@@ -232,7 +245,8 @@ pub fn add_columns<S: Sink>(
     rows: &[Row],
     columns: &Columns,
 )
-    ensures { Adds S.taken S.failures writer.old writer.new (flat_map (column_bytes objective.now (map shown_row rows.now)) columns.now) }
+    ensures { Adds S.taken S.failures writer.old writer.new
+        (flat_map (column_bytes objective.now (map shown_row rows.now)) columns.now) }
 {
     let mut lines = [0; LINES_LEN];
     for place in 0..columns.len() {

@@ -31,7 +31,8 @@ pub fn product(a: i64, b: i64) -> i128
 
 /// A multiplier in 64 bits, with the sign that it is to have.
 pub fn signed(is_negative: bool, multiplier: u64) -> Result<i64, Limit>
-    ensures { IfOk result (λ n. n ≡ (if is_negative then neg_ℤ (pos multiplier) else pos multiplier)) }
+    ensures { IfOk result (λ n. n ≡ (if is_negative then neg_ℤ (pos multiplier) else pos
+        multiplier)) }
 {
     let Ok(number) = i64::try_from(multiplier) else {
         return Err(Limit::TooLarge);

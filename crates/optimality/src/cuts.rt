@@ -11,7 +11,8 @@ use crate::limit::Limit;
 use crate::open_split::OpenSplit;
 
 fn add_cut(numbers: &mut [i128], multiplier: u64, split: &OpenSplit) -> Result<(), Limit>
-    ensures { OnOk result (numbers.new ≡ with_form (pos multiplier) (cut_of split.now).form numbers.old) }
+    ensures { OnOk result (numbers.new ≡ with_form (pos multiplier) (cut_of split.now).form
+        numbers.old) }
 {
     if multiplier == 0 {
         return Ok(());
@@ -27,7 +28,8 @@ pub fn add_cuts(
     splits: &[OpenSplit],
 ) -> Result<(), Limit>
     requires { length multipliers.now ≡ length splits.now }
-    ensures { OnOk result (numbers.new ≡ with_cuts multipliers.now (cuts_of splits.now) numbers.old) }
+    ensures { OnOk result (numbers.new ≡ with_cuts multipliers.now (cuts_of splits.now)
+        numbers.old) }
 {
     for i in 0..splits.len() {
         add_cut(numbers, multipliers[i], &splits[i])?;

@@ -40,7 +40,8 @@ fn are_signed(program: &Program, rows: &[(usize, i64)]) -> bool
 
 fn take_rows(checker: &Checker, text: &[u8]) -> Result<Vec<(usize, i64)>, Refusal>
     requires { IsPrepared checker.now }
-    ensures { AnswersSeen (λ rows. rows.items) result (rows_told checker.now.program.now (fields text.now)) }
+    ensures { AnswersSeen (λ rows. rows.items) result
+        (rows_told checker.now.program.now (fields text.now)) }
 {
     let rows = take_row_terms(checker, text)?;
     if !are_signed(checker.program, rows.as_slice()) {
@@ -52,7 +53,8 @@ fn take_rows(checker: &Checker, text: &[u8]) -> Result<Vec<(usize, i64)>, Refusa
 /// The leaf that a text tells, below as many splits as `depth`.
 pub fn take_leaf(checker: &Checker, depth: usize, text: &[u8]) -> Result<Leaf, Refusal>
     requires { IsPrepared checker.now }
-    ensures told { AnswersSeen (λ leaf. BoundLine leaf.scale leaf.multipliers.items leaf.rows.items) result (bound_told checker.now.program.now depth (fields text.now)) }
+    ensures told { AnswersSeen (λ leaf. BoundLine leaf.scale leaf.multipliers.items leaf.rows.items)
+        result (bound_told checker.now.program.now depth (fields text.now)) }
     ensures count { IfOk result (λ leaf. length leaf.multipliers.items ≡ depth) }
 {
     let Some(token) = next_field(text) else {

@@ -28,7 +28,9 @@ fn reduce(
 ) -> Result<(), Limit>
     requires prepared { IsPrepared checker.now }
     requires count { length leaf.now.multipliers.items ≡ length splits.now }
-    ensures { OnOk result (numbers.new.items ≡ leaf_numbers checker.now.program.now.columns (row_forms checker.now.program.now) leaf.now.scale leaf.now.multipliers.items (cuts_of splits.now) leaf.now.rows.items) }
+    ensures { OnOk result (numbers.new.items
+        ≡ leaf_numbers checker.now.program.now.columns (row_forms checker.now.program.now)
+        leaf.now.scale leaf.now.multipliers.items (cuts_of splits.now) leaf.now.rows.items) }
 {
     scaled_costs(numbers, checker.program, leaf.scale)?;
     add_cuts(numbers.as_mut_slice(), leaf.multipliers.as_slice(), splits)?;
@@ -48,8 +50,11 @@ fn least_of(
 ) -> Result<i128, Limit>
     requires prepared { IsPrepared checker.now }
     requires count { length leaf.now.multipliers.items ≡ length splits.now }
-    ensures { IfOk result (λ n. n ≡ reduced.least_sum (reduced.reduced leaf.now.scale leaf.now.multipliers.items (cuts_of splits.now) leaf.now.rows.items) 0 checker.now.program.now.columns) }
+    ensures { IfOk result (λ n. n ≡ reduced.least_sum
+        (reduced.reduced leaf.now.scale leaf.now.multipliers.items (cuts_of splits.now)
+        leaf.now.rows.items) 0 checker.now.program.now.columns) }
 {
+    // The places of entries lie within the rows.
     checker.program.well_formed();
     reduce(checker, numbers, splits, leaf)?;
     least_total(checker.program, numbers.as_slice())
@@ -58,7 +63,8 @@ fn least_of(
 /// The right sides of cuts and rows, each times its multiplier.
 fn right_of(program: &Program, splits: &[OpenSplit], leaf: &Leaf) -> Result<i128, Limit>
     requires { length leaf.now.multipliers.items ≡ length splits.now }
-    ensures { IfOk result (λ n. n ≡ reduced.cuts_right leaf.now.multipliers.items (cuts_of splits.now) +ℤ reduced.rows_right program.now.rows leaf.now.rows.items) }
+    ensures { IfOk result (λ n. n ≡ reduced.cuts_right leaf.now.multipliers.items
+        (cuts_of splits.now) +ℤ reduced.rows_right program.now.rows leaf.now.rows.items) }
 {
     let cuts = cuts_right(leaf.multipliers.as_slice(), splits)?;
     let rows = rows_right(program, leaf.rows.as_slice())?;
@@ -73,7 +79,8 @@ fn leaf_value(
 ) -> Result<i128, Limit>
     requires prepared { IsPrepared checker.now }
     requires count { length leaf.now.multipliers.items ≡ length splits.now }
-    ensures { IfOk result (λ n. n ≡ shows.leaf_value checker.now.program.now (cuts_of splits.now) leaf.now.scale leaf.now.multipliers.items leaf.now.rows.items) }
+    ensures { IfOk result (λ n. n ≡ shows.leaf_value checker.now.program.now (cuts_of splits.now)
+        leaf.now.scale leaf.now.multipliers.items leaf.now.rows.items) }
 {
     let bottom = least_of(checker, numbers, splits, leaf)?;
     let right = right_of(checker.program, splits, leaf)?;
@@ -96,7 +103,9 @@ pub fn is_above(
 ) -> Result<bool, Limit>
     requires prepared { IsPrepared checker.now }
     requires count { length leaf.now.multipliers.items ≡ length splits.now }
-    ensures { IfOk result (λ above. above ≡ verdict.is_above checker.now.program.now checker.now.least (cuts_of splits.now) leaf.now.scale leaf.now.multipliers.items leaf.now.rows.items) }
+    ensures { IfOk result (λ above. above
+        ≡ verdict.is_above checker.now.program.now checker.now.least (cuts_of splits.now)
+        leaf.now.scale leaf.now.multipliers.items leaf.now.rows.items) }
 {
     let value = leaf_value(checker, numbers, splits, leaf)?;
     let before = scaled_before(leaf.scale, checker.least)?;

@@ -37,7 +37,9 @@ fn take_split_line(
     text: &[u8],
 ) -> Result<bool, Refusal>
     requires { IsPrepared checker.now }
-    ensures { AnswersSeen (λ is_last. opened is_last splits.new.items) result (and_then (split_told checker.now.program.now (fields text.now)) (taken checker.now.program.now checker.now.least (branches_of splits.old.items))) }
+    ensures { AnswersSeen (λ is_last. opened is_last splits.new.items) result
+        (and_then (split_told checker.now.program.now (fields text.now))
+        (taken checker.now.program.now checker.now.least (branches_of splits.old.items))) }
 {
     let split = take_split(checker, text)?;
     splits.push(split)?;
@@ -52,7 +54,10 @@ fn leaf_shows(
 ) -> Result<bool, Limit>
     requires prepared { IsPrepared checker.now }
     requires count { length leaf.now.multipliers.items ≡ length splits.now }
-    ensures { IfOk result (λ shows. shows ≡ verdict.is_above checker.now.program.now checker.now.least (cuts_above (branches_of splits.now)) leaf.now.scale leaf.now.multipliers.items leaf.now.rows.items) }
+    ensures { IfOk result (λ shows. shows
+        ≡ verdict.is_above checker.now.program.now checker.now.least
+        (cuts_above (branches_of splits.now)) leaf.now.scale leaf.now.multipliers.items
+        leaf.now.rows.items) }
 {
     is_above(checker, numbers, splits, leaf)
 }
@@ -64,7 +69,9 @@ fn take_leaf_line(
     text: &[u8],
 ) -> Result<bool, Refusal>
     requires { IsPrepared checker.now }
-    ensures { AnswersSeen (λ is_last. opened is_last splits.new.items) result (and_then (bound_told checker.now.program.now (length splits.old.items) (fields text.now)) (taken checker.now.program.now checker.now.least (branches_of splits.old.items))) }
+    ensures { AnswersSeen (λ is_last. opened is_last splits.new.items) result
+        (and_then (bound_told checker.now.program.now (length splits.old.items) (fields text.now))
+        (taken checker.now.program.now checker.now.least (branches_of splits.old.items))) }
 {
     let leaf = take_leaf(checker, splits.len(), text)?;
     if !leaf_shows(checker, numbers, splits.as_slice(), &leaf)? {
@@ -81,7 +88,9 @@ fn take_line(
     line: &[u8],
 ) -> Result<bool, Refusal>
     requires { IsPrepared checker.now }
-    ensures { AnswersSeen (λ is_last. opened is_last splits.new.items) result (after_open checker.now.program.now checker.now.least (branches_of splits.old.items) line.now) }
+    ensures { AnswersSeen (λ is_last. opened is_last splits.new.items) result
+        (after_open checker.now.program.now checker.now.least (branches_of splits.old.items)
+        line.now) }
 {
     let Some(word) = next_field(line) else {
         return Err(Refusal::Fault(FaultKind::Fields));
@@ -125,7 +134,9 @@ pub fn take_any(
     line: &[u8],
 ) -> Result<bool, Refusal>
     requires { IsPrepared checker.now }
-    ensures { AnswersSeen (λ is_last_then. opened is_last_then splits.new.items) result (after_line checker.now.program.now checker.now.least (opened is_last splits.old.items) line.now) }
+    ensures { AnswersSeen (λ is_last_then. opened is_last_then splits.new.items) result
+        (after_line checker.now.program.now checker.now.least (opened is_last splits.old.items)
+        line.now) }
 {
     if !is_telling(line) {
         return Ok(is_last);

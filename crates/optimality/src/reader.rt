@@ -33,7 +33,8 @@ fn refused(line: usize, refusal: Refusal) -> CertificateFault
 
 fn check_lines(checker: &Checker, text: &[u8]) -> Result<(), CertificateFault>
     requires { IsPrepared checker.now }
-    ensures { IsVerdict result (certificate_fault checker.now.program.now checker.now.least text.now) }
+    ensures { IsVerdict result (certificate_fault checker.now.program.now checker.now.least
+        text.now) }
 {
     let mut numbers = Vec::new(checker.alloc);
     let mut splits = Vec::new(checker.alloc);
@@ -86,7 +87,8 @@ pub fn check_certificate(
 ) -> Result<(), CertificateFault>
     ensures sound { OnOk result (IsBound program.now least) }
     ensures shown { OnOk result (IsShownBy program.now least text.now) }
-    ensures refused { IfErr result (λ fault. IsLimit fault.kind ⊎ ¬ IsShownBy program.now least text.now) }
+    ensures refused { IfErr result (λ fault. IsLimit fault.kind
+        ⊎ ¬ IsShownBy program.now least text.now) }
     ensures first { IsVerdict result (certificate_fault program.now least text.now) }
 {
     let Ok(checker) = new_checker(alloc, program, least) else {

@@ -34,14 +34,16 @@ fn least_part(bounds: Bounds, number: i128) -> i128
 
 fn least_at(program: &Program, numbers: &[i128], column: usize) -> i128
     requires { column < length program.now.columns }
-    ensures { option_map (λ c. reduced.least_part c.bounds (adding.number_at numbers.now column)) (slice_get program.now.columns column) ≡ Some result }
+    ensures { option_map (λ c. reduced.least_part c.bounds (adding.number_at numbers.now column))
+        (slice_get program.now.columns column) ≡ Some result }
 {
     least_part(program.bounds(column), number_at(numbers, column))
 }
 
 /// The least that the columns contribute, each by its number.
 pub fn least_total(program: &Program, numbers: &[i128]) -> Result<i128, Limit>
-    ensures { IfOk result (λ n. n ≡ reduced.least_sum (λ place _. adding.number_at numbers.now place) 0 program.now.columns) }
+    ensures { IfOk result (λ n. n ≡ reduced.least_sum
+        (λ place _. adding.number_at numbers.now place) 0 program.now.columns) }
 {
     let mut sum: i128 = 0;
     for column in 0..program.column_count() {

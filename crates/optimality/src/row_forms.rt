@@ -21,7 +21,8 @@ fn add_term(forms: &mut [Form], row: usize, term: (usize, i64)) -> Result<(), Al
 
 /// Adds the entries of a column, each to the form of its row.
 fn add_column(forms: &mut [Form], column: usize, entries: &[(usize, i64)]) -> Result<(), AllocError>
-    ensures { OnOk result (forms_held forms.new ≡ with_entries column entries.now (forms_held forms.old)) }
+    ensures { OnOk result (forms_held forms.new
+        ≡ with_entries column entries.now (forms_held forms.old)) }
 {
     for i in 0..entries.len() {
         let (row, coefficient) = entries[i];
@@ -42,7 +43,8 @@ fn empty_forms(alloc: Global, count: usize) -> Result<Vec<Form>, AllocError>
 
 /// Adds the entries of all columns.
 fn add_columns(forms: &mut [Form], program: &Program) -> Result<(), AllocError>
-    ensures { OnOk result (forms_held forms.new ≡ with_columns 0 program.now.columns (forms_held forms.old)) }
+    ensures { OnOk result (forms_held forms.new
+        ≡ with_columns 0 program.now.columns (forms_held forms.old)) }
 {
     for column in 0..program.column_count() {
         add_column(forms, column, program.entries(column))?;

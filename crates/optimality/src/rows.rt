@@ -12,7 +12,8 @@ use crate::row_forms::Form;
 use program_rows::Program;
 
 fn add_row(numbers: &mut [i128], forms: &[Form], row: usize, multiplier: i64) -> Result<(), Limit>
-    ensures { OnOk result (numbers.new ≡ with_form multiplier (form_at (forms_held forms.now) row) numbers.old) }
+    ensures { OnOk result (numbers.new ≡ with_form multiplier (form_at (forms_held forms.now) row)
+        numbers.old) }
 {
     if row >= forms.len() {
         return Ok(());
@@ -43,7 +44,8 @@ fn right_side_at(program: &Program, row: usize) -> i64
 }
 
 fn add_right_side(sum: i128, program: &Program, row: usize, multiplier: i64) -> Result<i128, Limit>
-    ensures { IfOk result (λ n. n ≡ sum +ℤ multiplier *ℤ reduced.right_side_at program.now.rows row) }
+    ensures { IfOk result (λ n. n ≡ sum +ℤ multiplier *ℤ reduced.right_side_at program.now.rows
+        row) }
 {
     plus(sum, product(multiplier, right_side_at(program, row)))
 }

@@ -17,7 +17,8 @@ use crate::terms::take_column_terms;
 /// The split that a text tells, at its first side.
 pub fn take_split(checker: &Checker, text: &[u8]) -> Result<OpenSplit, Refusal>
     requires { IsPrepared checker.now }
-    ensures told { AnswersSeen (λ split. SplitLine split.form.items split.most) result (split_told checker.now.program.now (fields text.now)) }
+    ensures told { AnswersSeen (λ split. SplitLine split.form.items split.most) result
+        (split_told checker.now.program.now (fields text.now)) }
     ensures low { IfOk result (λ split. split.is_high ≡ false) }
 {
     let Some(token) = next_field(text) else {

@@ -24,7 +24,8 @@ fn take_place(
     unknown: FaultKind,
     name: &[u8],
 ) -> Result<usize, Refusal>
-    ensures { AnswersSeen (λ place. place) result (place_told (bytes_of names.now.keys) unknown name.now) }
+    ensures { AnswersSeen (λ place. place) result
+        (place_told (bytes_of names.now.keys) unknown name.now) }
 {
     match place_of(names, next, name) {
         Some(place) => Ok(place),
@@ -39,7 +40,8 @@ fn take_term(
     name: &[u8],
     token: &[u8],
 ) -> Result<(usize, i64), Refusal>
-    ensures { AnswersSeen (λ term. term) result (term_told (bytes_of names.now.keys) unknown name.now token.now) }
+    ensures { AnswersSeen (λ term. term) result
+        (term_told (bytes_of names.now.keys) unknown name.now token.now) }
 {
     let place = take_place(names, next, unknown, name)?;
     let number = take_number(token)?;
@@ -55,7 +57,8 @@ fn take_terms(
     unknown: FaultKind,
     text: &[u8],
 ) -> Result<Vec<(usize, i64)>, Refusal>
-    ensures { AnswersSeen (λ terms. terms.items) result (named_numbers (bytes_of names.now.keys) unknown (fields text.now)) }
+    ensures { AnswersSeen (λ terms. terms.items) result
+        (named_numbers (bytes_of names.now.keys) unknown (fields text.now)) }
 {
     let mut terms = Vec::new(alloc);
     let mut rest = text;
@@ -73,7 +76,8 @@ fn take_terms(
 /// Names of columns, each with a number, to the end of a line.
 pub fn take_column_terms(checker: &Checker, text: &[u8]) -> Result<Vec<(usize, i64)>, Refusal>
     requires { IsPrepared checker.now }
-    ensures { AnswersSeen (λ terms. terms.items) result (named_numbers (column_names checker.now.program.now) UnknownColumn (fields text.now)) }
+    ensures { AnswersSeen (λ terms. terms.items) result
+        (named_numbers (column_names checker.now.program.now) UnknownColumn (fields text.now)) }
 {
     take_terms(
         checker.alloc,
@@ -87,7 +91,8 @@ pub fn take_column_terms(checker: &Checker, text: &[u8]) -> Result<Vec<(usize, i
 /// Names of rows, each with a number, to the end of a line.
 pub fn take_row_terms(checker: &Checker, text: &[u8]) -> Result<Vec<(usize, i64)>, Refusal>
     requires { IsPrepared checker.now }
-    ensures { AnswersSeen (λ terms. terms.items) result (named_numbers (row_names checker.now.program.now) UnknownRow (fields text.now)) }
+    ensures { AnswersSeen (λ terms. terms.items) result
+        (named_numbers (row_names checker.now.program.now) UnknownRow (fields text.now)) }
 {
     take_terms(
         checker.alloc,

@@ -22,7 +22,8 @@ pub struct ColumnFinder<'p> {
 impl<'p> ColumnFinder<'p> {
     /// The place of the column of this name.
     pub fn place(&self, name: &[u8]) -> Option<usize>
-        ensures index { result ≡ position (λ column. bytes_eq name.now column.now) self.now.names.keys }
+        ensures index { result ≡ position (λ column. bytes_eq name.now column.now)
+            self.now.names.keys }
         ensures within { IfSome result (λ place. place < length self.now.names.keys) }
     {
         place_of(&self.names, &self.next, name)

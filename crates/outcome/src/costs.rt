@@ -28,7 +28,8 @@ fn amounts_of(book: &ClosedBook, choices: &[Choice]) -> u128
 /// The sum of the amounts, and what the lots are worth that are left.
 pub fn total_of(book: &ClosedBook, choices: &[Choice]) -> u128
     ensures sum { result ≡ total (lots_in book.now.rules) (book_of book.now) choices.now }
-    ensures small { result ≤ length choices.now * 2 ^ 64 + MOST_CATEGORIES * (GREATEST_VALUE * GREATEST_QUANTITY) }
+    ensures small { result ≤ length choices.now * 2 ^ 64 + MOST_CATEGORIES
+        * (GREATEST_VALUE * GREATEST_QUANTITY) }
 {
     amounts_of(book, choices) + worth_left(book, choices)
 }
@@ -57,7 +58,8 @@ fn amounts_in(book: &ClosedBook, group: &Group, choices: &[Choice]) -> u128
 
 /// The total without the group, less what the others have in the first allocation.
 pub fn cost_of(book: &ClosedBook, first: &[Choice], group: &Group, choices: &[Choice]) -> i128
-    ensures { result ≡ cost (lots_in book.now.rules) (book_of book.now) first.now group.now choices.now }
+    ensures { result ≡ cost (lots_in book.now.rules) (book_of book.now) first.now group.now
+        choices.now }
 {
     let without = total_of(book, choices) as i128;
     let all = total_of(book, first) as i128;

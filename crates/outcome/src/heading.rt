@@ -12,7 +12,8 @@ use mps_text::{Sink, Writer};
 
 /// Adds the name of a further bidder.
 fn add_further<S: Sink>(writer: &mut Writer<'_, S>, book: &ClosedBook, bidder: u16)
-    ensures { Adds S.taken S.failures writer.old writer.new (further_name (sale_of book.now).names bidder) }
+    ensures { Adds S.taken S.failures writer.old writer.new
+        (further_name (sale_of book.now).names bidder) }
 {
     let pieces: [&[u8]; 2] = [b"+", name_of(book, bidder)];
     writer.add_pieces(&pieces);
@@ -20,7 +21,8 @@ fn add_further<S: Sink>(writer: &mut Writer<'_, S>, book: &ClosedBook, bidder: u
 
 /// Adds the names of further bidders.
 fn add_more_names<S: Sink>(writer: &mut Writer<'_, S>, book: &ClosedBook, bidders: &[u16])
-    ensures { Adds S.taken S.failures writer.old writer.new (flat_map (further_name (sale_of book.now).names) bidders.now) }
+    ensures { Adds S.taken S.failures writer.old writer.new
+        (flat_map (further_name (sale_of book.now).names) bidders.now) }
 {
     for bidder in bidders {
         add_further(writer, book, *bidder);
@@ -29,7 +31,8 @@ fn add_more_names<S: Sink>(writer: &mut Writer<'_, S>, book: &ClosedBook, bidder
 
 /// Adds the names of a group that isn't empty.
 fn add_first_names<S: Sink>(writer: &mut Writer<'_, S>, book: &ClosedBook, first: u16, more: &[u16])
-    ensures { Adds S.taken S.failures writer.old writer.new (group_names (sale_of book.now).names (first ∷ more.now)) }
+    ensures { Adds S.taken S.failures writer.old writer.new
+        (group_names (sale_of book.now).names (first ∷ more.now)) }
 {
     writer.add(name_of(book, first));
     add_more_names(writer, book, more);
@@ -37,7 +40,8 @@ fn add_first_names<S: Sink>(writer: &mut Writer<'_, S>, book: &ClosedBook, first
 
 /// Adds the names of a group.
 fn add_names<S: Sink>(writer: &mut Writer<'_, S>, book: &ClosedBook, group: &[u16])
-    ensures { Adds S.taken S.failures writer.old writer.new (group_names (sale_of book.now).names group.now) }
+    ensures { Adds S.taken S.failures writer.old writer.new
+        (group_names (sale_of book.now).names group.now) }
 {
     match group.split_first() {
         None => writer.add(b"-"),
@@ -47,7 +51,8 @@ fn add_names<S: Sink>(writer: &mut Writer<'_, S>, book: &ClosedBook, group: &[u1
 
 /// Adds the names of a group by rising number, joined by plus signs, or a dash where nobody is in it, and ends the line.
 pub fn add_names_line<S: Sink>(writer: &mut Writer<'_, S>, book: &ClosedBook, group: &[u16])
-    ensures { Adds S.taken S.failures writer.old writer.new (group_names (sale_of book.now).names group.now ++ 10 ∷ []) }
+    ensures { Adds S.taken S.failures writer.old writer.new
+        (group_names (sale_of book.now).names group.now ++ 10 ∷ []) }
 {
     add_names(writer, book, group);
     writer.add(b"\n");
@@ -64,7 +69,8 @@ fn add_number<S: Sink>(writer: &mut Writer<'_, S>, k: usize)
 
 /// Adds the heading of group k.
 pub fn add_heading<S: Sink>(writer: &mut Writer<'_, S>, book: &ClosedBook, k: usize, group: &[u16])
-    ensures { Adds S.taken S.failures writer.old writer.new (heading (sale_of book.now).names k group.now) }
+    ensures { Adds S.taken S.failures writer.old writer.new
+        (heading (sale_of book.now).names k group.now) }
 {
     add_number(writer, k);
     add_names_line(writer, book, group);

@@ -26,7 +26,10 @@ fn take_pair(
     token: &[u8],
 ) -> Result<(), SolutionFault>
     requires { length said.old ≡ length columns.now.names.keys }
-    ensures answer { (before : List (List ℕ)) → said.old ≡ said_by (bytes_of columns.now.names.keys) before → result ≡ unless (pair_fault (bytes_of columns.now.names.keys) before place name.now token.now) (Ok tt) }
+    ensures answer { (before : List (List ℕ)) → said.old
+        ≡ said_by (bytes_of columns.now.names.keys) before
+        → result ≡ unless (pair_fault (bytes_of columns.now.names.keys) before place name.now
+        token.now) (Ok tt) }
     ensures kept { OnOk result ((before : List (List ℕ)) (line : List ℕ) → IsDistinct bytes_eq (bytes_of columns.now.names.keys) → said.old ≡ said_by (bytes_of columns.now.names.keys) before
         → is_skipped line ≡ false → fields line ≡ name.now ∷ token.now ∷ [] → said.new ≡ said_by (bytes_of columns.now.names.keys) (before ++ line ∷ [])) }
 {
@@ -57,7 +60,10 @@ fn take_line(
     line: &[u8],
 ) -> Result<(), SolutionFault>
     requires { length said.old ≡ length columns.now.names.keys }
-    ensures answer { (before : List (List ℕ)) → said.old ≡ said_by (bytes_of columns.now.names.keys) before → place ≡ length before + 1 → result ≡ unless (solution_line_fault (bytes_of columns.now.names.keys) before line.now) (Ok tt) }
+    ensures answer { (before : List (List ℕ)) → said.old
+        ≡ said_by (bytes_of columns.now.names.keys) before → place ≡ length before + 1
+        → result ≡ unless (solution_line_fault (bytes_of columns.now.names.keys) before line.now)
+        (Ok tt) }
     ensures kept { OnOk result ((before : List (List ℕ)) → IsDistinct bytes_eq (bytes_of columns.now.names.keys) → said.old ≡ said_by (bytes_of columns.now.names.keys) before
         → said.new ≡ said_by (bytes_of columns.now.names.keys) (before ++ line.now ∷ [])) }
 {
@@ -86,8 +92,10 @@ pub fn take_lines(
     requires distinct { IsDistinct bytes_eq (bytes_of columns.now.names.keys) }
     requires nothing { said.old ≡ said_by (bytes_of columns.now.names.keys) [] }
     requires small { length text.now ≤ SOLUTION_LIMIT }
-    ensures answer { result ≡ unless (first_fault (solution_line_fault (bytes_of columns.now.names.keys)) [] (lines_of text.now)) (Ok tt) }
-    ensures said { OnOk result (said.new ≡ said_by (bytes_of columns.now.names.keys) (lines_of text.now)) }
+    ensures answer { result ≡ unless (first_fault
+        (solution_line_fault (bytes_of columns.now.names.keys)) [] (lines_of text.now)) (Ok tt) }
+    ensures said { OnOk result (said.new ≡ said_by (bytes_of columns.now.names.keys)
+        (lines_of text.now)) }
 {
     let mut lines = LineReader::new(text);
     let mut place = 0;

@@ -37,7 +37,9 @@ fn values_from(alloc: Global, said: &[Option<bool>]) -> Result<Vec<bool>, AllocE
 fn read_values(alloc: Global, bytes: &[u8], program: &Program) -> Result<Point, SolutionFault>
     requires distinct { IsDistinct bytes_eq (column_names program.now) }
     requires small { length bytes.now ≤ SOLUTION_LIMIT }
-    ensures { Answers is_solution_memory result (unless (first_fault (solution_line_fault (column_names program.now)) [] (lines_of bytes.now)) (Ok (values_of (column_names program.now) (lines_of bytes.now)))) }
+    ensures { Answers is_solution_memory result
+        (unless (first_fault (solution_line_fault (column_names program.now)) []
+        (lines_of bytes.now)) (Ok (values_of (column_names program.now) (lines_of bytes.now)))) }
 {
     let columns = finder_of(alloc, program)?;
     let mut said = nothing_said(alloc, program.column_count())?;
@@ -54,6 +56,7 @@ pub fn read_solution(alloc: Global, bytes: &[u8], program: &Program) -> Result<P
     if bytes.len() > SOLUTION_LIMIT {
         return Err(SolutionFault::TooLarge);
     }
+    // Names of columns differ, so that a set of them has each at its place.
     program.well_formed();
     let point = read_values(alloc, bytes, program)?;
     check_point(program, &point)?;

@@ -32,7 +32,8 @@ fn add_group<S: Sink>(
     group: &Group,
     choices: &[Choice],
 )
-    ensures { Adds S.taken S.failures writer.old writer.new (group_report (sale_of book.now) first.now k group.now choices.now) }
+    ensures { Adds S.taken S.failures writer.old writer.new
+        (group_report (sale_of book.now) first.now k group.now choices.now) }
 {
     add_heading(writer, book, k, group.numbers());
     add_allocation(writer, book, choices);
@@ -48,7 +49,8 @@ pub fn add_groups<S: Sink>(
     allocations: &[Allocation],
 )
     requires { length groups.now ≡ length allocations.now }
-    ensures { Adds S.taken S.failures writer.old writer.new (groups_text (sale_of book.now) first.now 1 groups.now allocations.now) }
+    ensures { Adds S.taken S.failures writer.old writer.new
+        (groups_text (sale_of book.now) first.now 1 groups.now allocations.now) }
 {
     for i in 0..allocations.len() {
         add_group(

@@ -57,7 +57,8 @@ fn quantity_at(quantities: &[u16], category: usize) -> u16
 
 /// The quantity of a category in a bid, by its number among these.
 fn quantity_in(bids: &[Bid], number: u16, category: usize) -> u16
-    ensures { result ≡ option_map_or (λ x. slice_index x.package category) (bid_at bids.now number) 0 }
+    ensures { result ≡ option_map_or (λ x. slice_index x.package category) (bid_at bids.now number)
+        0 }
 {
     if number == 0 {
         return 0;

@@ -26,7 +26,9 @@ fn lots_taken(book: &ClosedBook, category: usize, choices: &[Choice]) -> u128
 /// What the lots of a category are worth that the choices leave.
 fn worth_left_of(book: &ClosedBook, category: usize, choices: &[Choice]) -> u128
     requires { category < length book.now.rules.categories }
-    ensures worth { result ≡ slice_index (map (λ c. c.value) book.now.rules.categories) category * (slice_index (map (λ c. c.supply) book.now.rules.categories) category - load (book_of book.now) category choices.now) }
+    ensures worth { result ≡ slice_index (map (λ c. c.value) book.now.rules.categories) category
+        * (slice_index (map (λ c. c.supply) book.now.rules.categories) category - load
+        (book_of book.now) category choices.now) }
     ensures small { result ≤ GREATEST_VALUE * GREATEST_QUANTITY }
 {
     let kind = &book.rules().categories()[category];
@@ -39,7 +41,9 @@ fn worth_left_of(book: &ClosedBook, category: usize, choices: &[Choice]) -> u128
 
 /// What the lots are worth that the choices leave.
 pub fn worth_left(book: &ClosedBook, choices: &[Choice]) -> u128
-    ensures worth { result ≡ worth (lots_in book.now.rules) (left (lots_in book.now.rules).supply (loads (lots_in book.now.rules) (book_of book.now) choices.now)) }
+    ensures worth { result ≡ worth (lots_in book.now.rules)
+        (left (lots_in book.now.rules).supply
+        (loads (lots_in book.now.rules) (book_of book.now) choices.now)) }
     ensures small { result ≤ MOST_CATEGORIES * (GREATEST_VALUE * GREATEST_QUANTITY) }
 {
     let mut sum: u128 = 0;

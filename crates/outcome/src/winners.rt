@@ -14,7 +14,8 @@ use mps_text::{Sink, Writer};
 
 /// Adds the line of a winner.
 fn add_winner<S: Sink>(writer: &mut Writer<'_, S>, book: &ClosedBook, choice: Choice)
-    ensures { Adds S.taken S.failures writer.old writer.new (winner_line (sale_of book.now) choice) }
+    ensures { Adds S.taken S.failures writer.old writer.new
+        (winner_line (sale_of book.now) choice) }
 {
     let mut bid = Buffer::new();
     let mut amount = Buffer::new();
@@ -31,7 +32,8 @@ fn add_winner<S: Sink>(writer: &mut Writer<'_, S>, book: &ClosedBook, choice: Ch
 
 /// Adds the lines of the winners.
 fn add_winners<S: Sink>(writer: &mut Writer<'_, S>, book: &ClosedBook, choices: &[Choice])
-    ensures { Adds S.taken S.failures writer.old writer.new (flat_map (winner_line (sale_of book.now)) choices.now) }
+    ensures { Adds S.taken S.failures writer.old writer.new
+        (flat_map (winner_line (sale_of book.now)) choices.now) }
 {
     for choice in choices {
         add_winner(writer, book, *choice);
@@ -49,7 +51,8 @@ fn add_total<S: Sink>(writer: &mut Writer<'_, S>, amount: u128)
 
 /// Adds the winners, then the total.
 pub fn add_allocation<S: Sink>(writer: &mut Writer<'_, S>, book: &ClosedBook, choices: &[Choice])
-    ensures { Adds S.taken S.failures writer.old writer.new (allocation_text (sale_of book.now) choices.now) }
+    ensures { Adds S.taken S.failures writer.old writer.new
+        (allocation_text (sale_of book.now) choices.now) }
 {
     add_winners(writer, book, choices);
     add_total(writer, total_of(book, choices));

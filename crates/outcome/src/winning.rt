@@ -11,7 +11,8 @@ use std::alloc::{AllocError, Global};
 
 /// Adds the choices of a bidder.
 fn add_choices_of(list: &mut Vec<Choice>, choices: &[Choice], bidder: u16) -> Result<(), AllocError>
-    ensures { OnOk result (list.new.items ≡ list.old.items ++ filter (λ c. c.bidder == bidder) choices.now) }
+    ensures { OnOk result (list.new.items
+        ≡ list.old.items ++ filter (λ c. c.bidder == bidder) choices.now) }
 {
     for choice in choices {
         if choice.bidder == bidder {
@@ -42,7 +43,9 @@ fn add_bid_at(
 ) -> Result<(), AllocError>
     requires sized { length point.now ≡ length program.now.columns }
     requires within { column < length program.now.columns }
-    ensures { OnOk result (list.new.items ++ back (drop (column + 1) program.now.columns) (drop (column + 1) point.now) ≡ list.old.items ++ back (drop column program.now.columns) (drop column point.now)) }
+    ensures { OnOk result (list.new.items
+        ++ back (drop (column + 1) program.now.columns) (drop (column + 1) point.now)
+        ≡ list.old.items ++ back (drop column program.now.columns) (drop column point.now)) }
 {
     if !point.value(column) {
         return Ok(());

@@ -25,9 +25,12 @@ pub fn write_allocation<S: Sink>(
     allocation: &Allocation,
     sink: &mut S,
 ) -> Result<(), WriteFault>
-    requires feasible { IsFeasible (lots_in book.now.rules) (book_of book.now) (λ b. false) allocation.now }
-    ensures ok { OnOk result (Appends (S.taken sink.old) (S.taken sink.new) (allocation_text (sale_of book.now) allocation.now)) }
-    ensures err { IfErr result (λ e. SentFront (S.taken sink.old) (S.taken sink.new) (allocation_text (sale_of book.now) allocation.now) (written_of e)) }
+    requires feasible { IsFeasible (lots_in book.now.rules) (book_of book.now) (λ b. false)
+        allocation.now }
+    ensures ok { OnOk result (Appends (S.taken sink.old) (S.taken sink.new)
+        (allocation_text (sale_of book.now) allocation.now)) }
+    ensures err { IfErr result (λ e. SentFront (S.taken sink.old) (S.taken sink.new)
+        (allocation_text (sale_of book.now) allocation.now) (written_of e)) }
     ensures failed { OnErr result (HasFailed (S.failures sink.old) (S.failures sink.new)) }
 {
     let mut writer = Writer::new(sink);
@@ -44,7 +47,8 @@ fn add_report<S: Sink>(
 )
     requires count { length groups.now ≡ length allocations.now }
     requires some { 0 < length allocations.now }
-    ensures { Adds S.taken S.failures writer.old writer.new (report_text (sale_of book.now) groups.now allocations.now) }
+    ensures { Adds S.taken S.failures writer.old writer.new
+        (report_text (sale_of book.now) groups.now allocations.now) }
 {
     add_groups(writer, book, allocations[0].choices(), groups, allocations);
 }
@@ -58,8 +62,10 @@ pub fn report<S: Sink>(
 ) -> Result<(), WriteFault>
     requires count { length groups.now ≡ length allocations.now }
     requires first { starts_empty groups.now ≡ true }
-    ensures ok { OnOk result (Appends (S.taken sink.old) (S.taken sink.new) (report_text (sale_of book.now) groups.now allocations.now)) }
-    ensures err { IfErr result (λ e. SentFront (S.taken sink.old) (S.taken sink.new) (report_text (sale_of book.now) groups.now allocations.now) (written_of e)) }
+    ensures ok { OnOk result (Appends (S.taken sink.old) (S.taken sink.new)
+        (report_text (sale_of book.now) groups.now allocations.now)) }
+    ensures err { IfErr result (λ e. SentFront (S.taken sink.old) (S.taken sink.new)
+        (report_text (sale_of book.now) groups.now allocations.now) (written_of e)) }
     ensures failed { OnErr result (HasFailed (S.failures sink.old) (S.failures sink.new)) }
 {
     let mut writer = Writer::new(sink);

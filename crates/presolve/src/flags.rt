@@ -39,7 +39,8 @@ impl Flags {
         alloc: Global,
         book: &ClosedBook,
     ) -> Result<Flags, AllocError>
-        ensures { IfOk result (λ flags. flags ≡ flags_of (lots_in book.now.rules) (book_of book.now)) }
+        ensures { IfOk result (λ flags. flags
+            ≡ flags_of (lots_in book.now.rules) (book_of book.now)) }
     {
         let forms = flags_by_bidder(rt, alloc, book)?;
         Ok(Flags { forms })
@@ -53,7 +54,8 @@ impl Flags {
         group: &Group,
     ) -> Result<Kept<'b>, AllocError>
         requires { self.now ≡ flags_of (lots_in book.now.rules) (book_of book.now) }
-        ensures { IfOk result (λ kept. offers kept ≡ kept_of (lots_in book.now.rules) (book_of book.now) (has group.now)) }
+        ensures { IfOk result (λ kept. offers kept
+            ≡ kept_of (lots_in book.now.rules) (book_of book.now) (has group.now)) }
     {
         let bidders = book.rules().bidders().len();
         let mut kept = Vec::new(alloc);
@@ -73,7 +75,8 @@ impl Flags {
         requires flags { self.now ≡ flags_of (lots_in book.now.rules) (book_of book.now) }
         requires some { 1 ≤ bidder }
         requires bidders { bidder ≤ length (book_of book.now) }
-        ensures { IfOk result (λ kept. offers kept ≡ kept_in_form (lots_in book.now.rules) bidder (form_of (book_of book.now) bidder)) }
+        ensures { IfOk result (λ kept. offers kept
+            ≡ kept_in_form (lots_in book.now.rules) bidder (form_of (book_of book.now) bidder)) }
     {
         // Its contract says that the rules are within limits, and so how many bidders there are.
         let _rules = book.rules();
@@ -114,7 +117,8 @@ fn flags_by_bidder(
     alloc: Global,
     book: &ClosedBook,
 ) -> Result<Vec<Vec<bool>>, AllocError>
-    ensures { IfOk result (λ forms. map (λ form. form.items) forms.items ≡ flags_of (lots_in book.now.rules) (book_of book.now)) }
+    ensures { IfOk result (λ forms. map (λ form. form.items) forms.items
+        ≡ flags_of (lots_in book.now.rules) (book_of book.now)) }
 {
     let bidders = book.rules().bidders().len() as u16;
     let middle = bidders / 2 + 1;
@@ -125,10 +129,14 @@ fn flags_by_bidder(
     let (front, back) = join(
         rt,
         move || -> Result<Vec<Vec<bool>>, AllocError>
-            ensures { IfOk result (λ forms. map (λ form. form.items) forms.items ≡ flags_of_bidders (lots_in book.entry.now.rules) (book_of book.entry.now) (range_with_len 1 (middle - 1))) }
+            ensures { IfOk result (λ forms. map (λ form. form.items) forms.items
+                ≡ flags_of_bidders (lots_in book.entry.now.rules) (book_of book.entry.now)
+                (range_with_len 1 (middle - 1))) }
         { flags_between(rt, alloc, book, 1, middle, 1) },
         move || -> Result<Vec<Vec<bool>>, AllocError>
-            ensures { IfOk result (λ forms. map (λ form. form.items) forms.items ≡ flags_of_bidders (lots_in book.entry.now.rules) (book_of book.entry.now) (range_with_len middle (end - middle))) }
+            ensures { IfOk result (λ forms. map (λ form. form.items) forms.items
+                ≡ flags_of_bidders (lots_in book.entry.now.rules) (book_of book.entry.now)
+                (range_with_len middle (end - middle))) }
         { flags_between(rt, alloc, book, middle, end, 1) },
     );
     let mut forms = front?;
@@ -146,14 +154,18 @@ fn flags_between(
     end: u16,
     least: usize,
 ) -> Result<Vec<Vec<bool>>, AllocError>
-    ensures { IfOk result (λ forms. map (λ form. form.items) forms.items ≡ flags_of_bidders (lots_in book.now.rules) (book_of book.now) (range_with_len first (end - first))) }
+    ensures { IfOk result (λ forms. map (λ form. form.items) forms.items
+        ≡ flags_of_bidders (lots_in book.now.rules) (book_of book.now)
+        (range_with_len first (end - first))) }
 {
     let made: Result<Vec<Vec<bool>>, AllocError> = (first..end)
         .into_par_iter()
         .with_min_len(least)
         .map(
             |bidder: u16| -> Result<Vec<bool>, AllocError>
-                ensures { IfOk result (λ flags. flags.items ≡ flags_of_form (lots_in book.entry.now.rules) (form_of (book_of book.entry.now) bidder)) }
+                ensures { IfOk result (λ flags. flags.items
+                    ≡ flags_of_form (lots_in book.entry.now.rules)
+                    (form_of (book_of book.entry.now) bidder)) }
             { flags_of_bidder(alloc, book, bidder) },
         )
         .collect(rt, alloc)?;
@@ -162,7 +174,8 @@ fn flags_between(
 
 // The flags of the form that a bidder leaves standing.
 fn flags_of_bidder(alloc: Global, book: &ClosedBook, bidder: u16) -> Result<Vec<bool>, AllocError>
-    ensures { IfOk result (λ flags. flags.items ≡ flags_of_form (lots_in book.now.rules) (form_of (book_of book.now) bidder)) }
+    ensures { IfOk result (λ flags. flags.items
+        ≡ flags_of_form (lots_in book.now.rules) (form_of (book_of book.now) bidder)) }
 {
     match book.form(bidder) {
         None => Ok(Vec::new(alloc)),

@@ -153,7 +153,8 @@ pub(crate) fn flags_of_form(
     requires few { length bids.now ≤ MOST_BIDS }
     requires sized { All (λ bid. length bid.package ≡ length rules.now.categories) bids.now }
     requires limits { All IsBidWithinLimits bids.now }
-    ensures { IfOk result (λ flags. flags.items ≡ map (is_kept (lots_in rules.now) bids.now) bids.now) }
+    ensures { IfOk result (λ flags. flags.items
+        ≡ map (is_kept (lots_in rules.now) bids.now) bids.now) }
 {
     let rivals = ordered(alloc, rules, bids)?;
     let shelves = shelves(alloc, &rivals, rules.categories().len())?;

@@ -28,7 +28,8 @@ pub fn kept<'b>(
     book: &'b ClosedBook,
     group: &Group,
 ) -> Result<Kept<'b>, AllocError>
-    ensures { IfOk result (λ kept. offers kept ≡ kept_of (lots_in book.now.rules) (book_of book.now) (has group.now)) }
+    ensures { IfOk result (λ kept. offers kept
+        ≡ kept_of (lots_in book.now.rules) (book_of book.now) (has group.now)) }
 {
     let flags = Flags::new(rt, alloc, book)?;
     flags.kept(alloc, book, group)
@@ -44,9 +45,13 @@ pub(crate) fn keep_bidder<'b>(
 ) -> Result<(), AllocError>
     requires some { 1 ≤ bidder }
     requires bidders { bidder ≤ MOST_BIDDERS }
-    requires flags { flags.now ≡ map (is_kept (lots_in book.now.rules) (form_of (book_of book.now) bidder)) (form_of (book_of book.now) bidder) }
+    requires flags { flags.now ≡ map (is_kept (lots_in book.now.rules)
+        (form_of (book_of book.now) bidder)) (form_of (book_of book.now) bidder) }
     requires each { All IsKeptBid kept.old.items }
-    ensures added { OnOk result (offers kept.new.items ≡ offers kept.old.items ++ filter (is_kept_offer (lots_in book.now.rules) (book_of book.now) (has group.now)) (offers_of_form bidder 1 (form_of (book_of book.now) bidder))) }
+    ensures added { OnOk result (offers kept.new.items
+        ≡ offers kept.old.items ++ filter
+        (is_kept_offer (lots_in book.now.rules) (book_of book.now) (has group.now))
+        (offers_of_form bidder 1 (form_of (book_of book.now) bidder))) }
     ensures each { OnOk result (All IsKeptBid kept.new.items) }
 {
     if group.has(bidder) {
@@ -64,9 +69,12 @@ pub(crate) fn keep_form<'b>(
 ) -> Result<(), AllocError>
     requires some { 1 ≤ bidder }
     requires bidders { bidder ≤ MOST_BIDDERS }
-    requires flags { flags.now ≡ map (is_kept (lots_in book.now.rules) (form_of (book_of book.now) bidder)) (form_of (book_of book.now) bidder) }
+    requires flags { flags.now ≡ map (is_kept (lots_in book.now.rules)
+        (form_of (book_of book.now) bidder)) (form_of (book_of book.now) bidder) }
     requires each { All IsKeptBid kept.old.items }
-    ensures added { OnOk result (offers kept.new.items ≡ offers kept.old.items ++ kept_in_form (lots_in book.now.rules) bidder (form_of (book_of book.now) bidder)) }
+    ensures added { OnOk result (offers kept.new.items
+        ≡ offers kept.old.items ++ kept_in_form (lots_in book.now.rules) bidder
+        (form_of (book_of book.now) bidder)) }
     ensures each { OnOk result (All IsKeptBid kept.new.items) }
 {
     match book.form(bidder) {
@@ -88,7 +96,8 @@ fn keep_flagged<'b>(
     requires limits { All IsBidWithinLimits bids.now }
     requires flags { length flags.now ≡ length bids.now }
     requires each { All IsKeptBid kept.old.items }
-    ensures added { OnOk result (offers kept.new.items ≡ offers kept.old.items ++ flagged_from bidder 1 bids.now flags.now) }
+    ensures added { OnOk result (offers kept.new.items
+        ≡ offers kept.old.items ++ flagged_from bidder 1 bids.now flags.now) }
     ensures each { OnOk result (All IsKeptBid kept.new.items) }
 {
     for (place, offer) in bids.iter().enumerate() {

@@ -35,7 +35,8 @@ fn peak(quantities: &[u16]) -> usize
     requires some { 0 < length quantities.now }
     requires few { length quantities.now ≤ MOST_CATEGORIES }
     ensures within { result < length quantities.now }
-    ensures greatest { All (λ quantity. quantity ≤ slice_index quantities.now result) quantities.now }
+    ensures greatest { All (λ quantity. quantity ≤ slice_index quantities.now result)
+        quantities.now }
 {
     let mut greatest = 0;
     for place in 0..quantities.len() {
@@ -48,7 +49,12 @@ fn peak(quantities: &[u16]) -> usize
 fn sized<'b>(rules: &Rules, middles: &[u16], bid: &'b Bid, number: u16) -> SizedBid<'b>
     requires amount { bid.now.amount ≤ GREATEST_AMOUNT }
     requires middles { length middles.now ≡ length bid.now.package }
-    ensures same { sized_of result ≡ record { size = size bid.now.package; number = number; bid = bid.now } }
+    ensures same { sized_of result ≡ record {
+      size = size bid.now.package;
+      number = number;
+      bid =
+          bid.now;
+    } }
     ensures told { TellsItsBid result }
     ensures over { IsOver middles.now result }
     ensures net { TellsItsNet (lots_in rules.now) result }
@@ -78,7 +84,8 @@ fn fitting<'b>(
     requires sized { All (λ bid. length bid.package ≡ length rules.now.categories) bids.now }
     requires limits { All IsBidWithinLimits bids.now }
     requires middles { length middles.now ≡ length rules.now.categories }
-    ensures same { IfOk result (λ fitting. map sized_of fitting.items ≡ fitting_from (lots_in rules.now) 1 bids.now) }
+    ensures same { IfOk result (λ fitting. map sized_of fitting.items
+        ≡ fitting_from (lots_in rules.now) 1 bids.now) }
     ensures told { IfOk result (λ fitting. All TellsItsBid fitting.items) }
     ensures over { IfOk result (λ fitting. All (IsOver middles.now) fitting.items) }
     ensures nets { IfOk result (λ fitting. All (TellsItsNet (lots_in rules.now)) fitting.items) }

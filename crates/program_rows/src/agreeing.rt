@@ -65,7 +65,8 @@ fn name_or_none(rows: &[Row], place: usize) -> &[u8]
 /// The coefficient of a column in the row of this name, whose place is guessed.
 fn coefficient_named(rows: &[Row], guess: usize, name: &[u8], column: &Column<'_>) -> i64
     requires { IsDistinct bytes_eq (map (λ r. r.name) (map shown_row rows.now)) }
-    ensures { result ≡ same.coefficient_in (map shown_row rows.now) (shown_column column.now) name.now }
+    ensures { result ≡ same.coefficient_in (map shown_row rows.now) (shown_column column.now)
+        name.now }
 {
     let place = row_place(rows, guess, name);
     if place < rows.len() {
@@ -76,11 +77,13 @@ fn coefficient_named(rows: &[Row], guess: usize, name: &[u8], column: &Column<'_
 
 fn is_entry_of(rows: &[Row], others: &[Row], column: &Column<'_>, entry: &(usize, i64)) -> bool
     requires { IsDistinct bytes_eq (map (λ r. r.name) (map shown_row others.now)) }
-    ensures { result ≡ comparing.entry_stands (map shown_row rows.now) (map shown_row others.now) (shown_column column.now) entry.now }
+    ensures { result ≡ comparing.entry_stands (map shown_row rows.now) (map shown_row others.now)
+        (shown_column column.now) entry.now }
 {
     coefficient_named(others, entry.0, name_or_none(rows, entry.0), column) == entry.1
 }
 
+// An entry by its place, in the words of lists: each loop below states what it went over by these.
 fn entry_at(entries: &[(usize, i64)], place: usize) -> &(usize, i64)
     requires { place < length entries.now }
     ensures { slice_get entries.now place ≡ Some result.now }
@@ -95,7 +98,8 @@ fn are_entries_of(
     entries: &[(usize, i64)],
 ) -> bool
     requires { IsDistinct bytes_eq (map (λ r. r.name) (map shown_row others.now)) }
-    ensures { result ≡ list_all (comparing.entry_stands (map shown_row rows.now) (map shown_row others.now) (shown_column column.now)) entries.now }
+    ensures { result ≡ list_all (comparing.entry_stands (map shown_row rows.now)
+        (map shown_row others.now) (shown_column column.now)) entries.now }
 {
     for i in 0..entries.len() {
         if !is_entry_of(rows, others, column, entry_at(entries, i)) {
@@ -107,7 +111,8 @@ fn are_entries_of(
 
 fn agrees_with_column(rows: &[Row], others: &[Row], column: &Column<'_>, other: &Column<'_>) -> bool
     requires { IsDistinct bytes_eq (map (λ r. r.name) (map shown_row others.now)) }
-    ensures { result ≡ comparing.column_agrees (map shown_row rows.now) (map shown_row others.now) (shown_column column.now) (shown_column other.now) }
+    ensures { result ≡ comparing.column_agrees (map shown_row rows.now) (map shown_row others.now)
+        (shown_column column.now) (shown_column other.now) }
 {
     are_same_bounds(column.bounds, other.bounds)
         && column.cost == other.cost
@@ -124,7 +129,8 @@ pub(crate) fn is_among_columns(
 ) -> bool
     requires rows { IsDistinct bytes_eq (map (λ r. r.name) (map shown_row others.now)) }
     requires columns { IsDistinct bytes_eq (map (λ c. c.name) columns.now) }
-    ensures { result ≡ comparing.column_stands (map shown_row rows.now) (map shown_row others.now) columns.now (shown_column column.now) }
+    ensures { result ≡ comparing.column_stands (map shown_row rows.now) (map shown_row others.now)
+        columns.now (shown_column column.now) }
 {
     let place = column_place(columns, guess, column.name);
     if place < columns.len() {

@@ -33,7 +33,8 @@ fn next_place(place: usize, last: Subject, rules: &Rules, bid: KeptBid<'_>) -> u
     requires place { place + 1 < 2 ^ 64 }
     requires there { IsThere (lots_in rules.now) last }
     requires sized { length bid.offer.now.package ≡ length rules.now.categories }
-    ensures { result ≡ cond (weight (lots_in rules.now) last (offer_of bid.entry) == 0) (place + 1) place }
+    ensures { result ≡ cond (weight (lots_in rules.now) last (offer_of bid.entry) == 0) (place + 1)
+        place }
 {
     if last.weight(rules, bid) == 0 {
         place + 1
@@ -63,7 +64,8 @@ fn add_column(
     requires amount { bid.offer.now.amount ≤ GREATEST_AMOUNT }
     requires rows { first < 2 ^ 31 }
     requires sized { length bid.offer.now.package ≡ length rules.now.categories }
-    ensures { OnOk result (columns.new ≡ columns.old ++ built_column (lots_in rules.now) first place (offer_of bid.entry) ∷ []) }
+    ensures { OnOk result (columns.new ≡ columns.old
+        ++ built_column (lots_in rules.now) first place (offer_of bid.entry) ∷ []) }
 {
     let start = write_bid_name(name, bid.bidder, bid.bid);
     let count = write_entries(entries, place, first, rules, bid);
@@ -99,7 +101,8 @@ fn columns(
     requires rows { first < 2 ^ 31 }
     requires first { first ≡ length (bidder_subjects (offers kept.now)) }
     requires subjects { subjects.now ≡ subjects_of (lots_in rules.now) (offers kept.now) }
-    ensures { IfOk result (λ columns. columns ≡ map (column_of (lots_in rules.now) subjects.now) (offers kept.now)) }
+    ensures { IfOk result (λ columns. columns
+        ≡ map (column_of (lots_in rules.now) subjects.now) (offers kept.now)) }
 {
     let mut columns = Columns::new(alloc);
     let mut name = [0; NAME_LEN];
@@ -125,8 +128,11 @@ fn columns(
 pub fn build_bids(alloc: Global, rules: &Rules, kept: &Kept<'_>) -> Result<ProgramParts, AllocError>
     requires sized { All (λ k. length k.offer.now.package ≡ length rules.now.categories) kept.now }
     ensures objective { IfOk result (λ parts. parts.objective_name.items ≡ codes "OBJ") }
-    ensures rows { IfOk result (λ parts. map shown_row parts.rows.items ≡ map (row_of (lots_in rules.now)) (subjects_of (lots_in rules.now) (offers kept.now))) }
-    ensures columns { IfOk result (λ parts. parts.columns ≡ map (column_of (lots_in rules.now) (subjects_of (lots_in rules.now) (offers kept.now))) (offers kept.now)) }
+    ensures rows { IfOk result (λ parts. map shown_row parts.rows.items
+        ≡ map (row_of (lots_in rules.now)) (subjects_of (lots_in rules.now) (offers kept.now))) }
+    ensures columns { IfOk result (λ parts. parts.columns
+        ≡ map (column_of (lots_in rules.now) (subjects_of (lots_in rules.now) (offers kept.now)))
+        (offers kept.now)) }
 {
     let kept = kept.bids();
     let mut subjects = bidders(alloc, kept)?;
@@ -147,6 +153,7 @@ pub fn build(alloc: Global, rules: &Rules, kept: &Kept<'_>) -> Result<Program, A
     requires sized { All (λ k. length k.offer.now.package ≡ length rules.now.categories) kept.now }
     ensures { IfOk result (λ program. program ≡ program_of (lots_in rules.now) (offers kept.now)) }
 {
+    // Their contracts say that rules and bids are within limits, which makes the program well formed.
     let _terms = rules.categories();
     let _bids = kept.bids();
     let mut parts = build_bids(alloc, rules, kept)?;

@@ -80,7 +80,8 @@ impl BuildHasher for Seeded {
 }
 
 fn is_at(names: &[&[u8]], place: usize, name: &[u8]) -> bool
-    ensures { result ≡ option_map_or (λ other. bytes_eq name.now other.now) (slice_get names.now place) false }
+    ensures { result ≡ option_map_or (λ other. bytes_eq name.now other.now)
+        (slice_get names.now place) false }
 {
     match names.get(place) {
         Some(other) => name == *other,
@@ -90,7 +91,8 @@ fn is_at(names: &[&[u8]], place: usize, name: &[u8]) -> bool
 
 fn place_beside(names: &NameSet, next: usize, name: &[u8]) -> Option<usize>
     ensures index { result ≡ position (λ other. bytes_eq name.now other.now) names.now.keys }
-    ensures found { is_some result ≡ list_any (λ other. bytes_eq name.now other.now) names.now.keys }
+    ensures found { is_some result ≡ list_any (λ other. bytes_eq name.now other.now)
+        names.now.keys }
     ensures within { IfSome result (λ place. place < length names.now.keys) }
 {
     if is_at(names.as_slice(), next, name) {
@@ -112,7 +114,8 @@ fn place_beside(names: &NameSet, next: usize, name: &[u8]) -> Option<usize>
 /// time; and before it, so that names in falling order are found at once, too.
 pub fn place_of(names: &NameSet, next: &Cell<usize>, name: &[u8]) -> Option<usize>
     ensures index { result ≡ position (λ other. bytes_eq name.now other.now) names.now.keys }
-    ensures found { is_some result ≡ list_any (λ other. bytes_eq name.now other.now) names.now.keys }
+    ensures found { is_some result ≡ list_any (λ other. bytes_eq name.now other.now)
+        names.now.keys }
     ensures within { IfSome result (λ place. place < length names.now.keys) }
 {
     let place = place_beside(names, next.get(), name)?;

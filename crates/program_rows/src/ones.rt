@@ -17,7 +17,8 @@ pub(crate) type Ones = ArrayVec<usize, MOST_ONES>;
 
 /// Adds a place where the value there is 1, and tells whether there was room.
 fn add_one(ones: &mut Ones, place: usize, value: bool) -> bool
-    ensures { result ≡ true → ones.new.items ≡ cond value (ones.old.items ++ place ∷ []) ones.old.items }
+    ensures { result ≡ true → ones.new.items
+        ≡ cond value (ones.old.items ++ place ∷ []) ones.old.items }
 {
     if value {
         return ones.try_push(place).is_ok();

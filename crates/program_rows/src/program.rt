@@ -121,7 +121,8 @@ impl Program {
     /// The entries of a column: places of rows, rising, and the coefficients there.
     pub fn entries(&self, column: usize) -> &[(usize, i64)]
         requires { column < length self.now.columns }
-        ensures { option_map (λ c. c.entries) (slice_get self.now.columns column) ≡ Some result.now }
+        ensures { option_map (λ c. c.entries) (slice_get self.now.columns column)
+            ≡ Some result.now }
     {
         self.parts.columns.entries(column)
     }
@@ -129,7 +130,8 @@ impl Program {
     /// The bid that the name of a column spells, if it spells one.
     pub fn column_bid(&self, column: usize) -> Option<Choice>
         requires { column < length self.now.columns }
-        ensures { option_map (λ c. column_bid c.name) (slice_get self.now.columns column) ≡ Some result }
+        ensures { option_map (λ c. column_bid c.name) (slice_get self.now.columns column)
+            ≡ Some result }
     {
         bid_named(self.parts.columns.name(column))
     }

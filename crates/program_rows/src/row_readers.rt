@@ -32,7 +32,8 @@ pub(crate) fn kind_at(rows: &[Row], row: usize) -> RowKind
 /// The right side of a row.
 pub(crate) fn right_side_at(rows: &[Row], row: usize) -> i64
     requires { row < length rows.now }
-    ensures { option_map (λ r. r.right_side) (slice_get (map shown_row rows.now) row) ≡ Some result }
+    ensures { option_map (λ r. r.right_side) (slice_get (map shown_row rows.now) row)
+        ≡ Some result }
 {
     rows[row].right_side
 }

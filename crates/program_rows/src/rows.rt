@@ -16,7 +16,8 @@ use std::alloc::{AllocError, Global};
 
 /// Adds a bidder, unless it is the last one.
 fn add_bidder(subjects: &mut Vec<Subject>, last: u16, bidder: u16) -> Result<(), AllocError>
-    ensures { OnOk result (subjects.new.items ≡ subjects.old.items ++ cond (bidder == last) [] (Bidder bidder ∷ [])) }
+    ensures { OnOk result (subjects.new.items
+        ≡ subjects.old.items ++ cond (bidder == last) [] (Bidder bidder ∷ [])) }
 {
     if bidder == last {
         return Ok(());
@@ -41,7 +42,8 @@ pub(crate) fn bidders(alloc: Global, kept: &[KeptBid<'_>]) -> Result<Vec<Subject
 
 /// Adds so many categories.
 pub(crate) fn add_categories(subjects: &mut Vec<Subject>, count: u8) -> Result<(), AllocError>
-    ensures { OnOk result (subjects.new.items ≡ subjects.old.items ++ map Category (range_with_len 0 count)) }
+    ensures { OnOk result (subjects.new.items
+        ≡ subjects.old.items ++ map Category (range_with_len 0 count)) }
 {
     for place in 0..count {
         subjects.push(Subject::Category(place))?;
@@ -51,7 +53,8 @@ pub(crate) fn add_categories(subjects: &mut Vec<Subject>, count: u8) -> Result<(
 
 /// Adds so many pools.
 pub(crate) fn add_pools(subjects: &mut Vec<Subject>, count: u8) -> Result<(), AllocError>
-    ensures { OnOk result (subjects.new.items ≡ subjects.old.items ++ map Pool (range_with_len 0 count)) }
+    ensures { OnOk result (subjects.new.items
+        ≡ subjects.old.items ++ map Pool (range_with_len 0 count)) }
 {
     for place in 0..count {
         subjects.push(Subject::Pool(place))?;
@@ -66,7 +69,8 @@ pub(crate) fn rows(
     subjects: &[Subject],
 ) -> Result<Vec<Row>, AllocError>
     requires { All (IsThere (lots_in rules.now)) subjects.now }
-    ensures { IfOk result (λ rows. map shown_row rows.items ≡ map (row_of (lots_in rules.now)) subjects.now) }
+    ensures { IfOk result (λ rows. map shown_row rows.items
+        ≡ map (row_of (lots_in rules.now)) subjects.now) }
 {
     let mut rows = Vec::new(alloc);
     for i in 0..subjects.len() {

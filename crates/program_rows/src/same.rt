@@ -15,7 +15,8 @@ use crate::row_readers::row_at;
 
 fn are_rows_among(rows: &[Row], others: &[Row]) -> bool
     requires { IsDistinct bytes_eq (map (λ r. r.name) (map shown_row others.now)) }
-    ensures { result ≡ list_all (comparing.row_stands (map shown_row others.now)) (map shown_row rows.now) }
+    ensures { result ≡ list_all (comparing.row_stands (map shown_row others.now))
+        (map shown_row rows.now) }
 {
     for i in 0..rows.len() {
         if !is_among_rows(row_at(rows, i), i, others) {
@@ -33,7 +34,8 @@ fn are_columns_among(
 ) -> bool
     requires rows { IsDistinct bytes_eq (map (λ r. r.name) (map shown_row others.now)) }
     requires columns { IsDistinct bytes_eq (map (λ c. c.name) other_columns.now) }
-    ensures { result ≡ list_all (comparing.column_stands (map shown_row rows.now) (map shown_row others.now) other_columns.now) columns.now }
+    ensures { result ≡ list_all (comparing.column_stands (map shown_row rows.now)
+        (map shown_row others.now) other_columns.now) columns.now }
 {
     for i in 0..columns.len() {
         if !is_among_columns(rows, others, &columns.column(i), i, other_columns) {

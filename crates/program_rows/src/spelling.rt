@@ -10,7 +10,8 @@ use auction_terms::{Choice, MOST_BIDDERS, MOST_BIDS};
 
 /// The number that is spelled by digits without a leading zero, where there are at most four.
 fn number_spelled(text: &[u8]) -> Option<u16>
-    ensures { MatchOption result ((n : ℕ) → 1 ≤ n → n < 10 ^ 4 → decimal n ≢ text.now) (λ n. decimal n ≡ text.now) }
+    ensures { MatchOption result ((n : ℕ) → 1 ≤ n → n < 10 ^ 4 → decimal n ≢ text.now)
+        (λ n. decimal n ≡ text.now) }
 {
     if text.is_empty() {
         return None;

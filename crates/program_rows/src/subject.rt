@@ -85,6 +85,7 @@ ghost use Rattle.auction_terms.specs.Terms.{IsCategory, IsPool, cap_of};
 
 use auction_terms::{Category, Package, Pool};
 
+// What a row of a category may hold, in the words of lists, by which rows are stated.
 fn supply_at(categories: &[Category], place: usize) -> u64
     requires place { place < length categories.now }
     requires limits { All IsCategory categories.now }
@@ -94,6 +95,7 @@ fn supply_at(categories: &[Category], place: usize) -> u64
     u64::from(categories[place].supply)
 }
 
+// What a row of a pool may hold, in the same words.
 fn cap_at(pools: &[Pool], place: usize) -> u64
     requires place { place < length pools.now }
     requires limits { All IsPool pools.now }
@@ -103,6 +105,7 @@ fn cap_at(pools: &[Pool], place: usize) -> u64
     pools[place].cap
 }
 
+// How much of a bid counts in a category, in the same words.
 fn quantity_at(quantities: &[u16], place: usize) -> u64
     requires { place < length quantities.now }
     ensures quantity { result ≡ slice_index quantities.now place }
@@ -111,9 +114,11 @@ fn quantity_at(quantities: &[u16], place: usize) -> u64
     u64::from(quantities[place])
 }
 
+// How much of a bid counts in a pool, in the same words.
 fn load_at(pools: &[Pool], place: usize, package: &Package) -> u64
     requires { place < length pools.now }
-    ensures load { result ≡ weighed (slice_index_or (map cap_of pools.now) place no_pool).weights «package».now }
+    ensures load { result ≡ weighed (slice_index_or (map cap_of pools.now) place no_pool).weights
+        «package».now }
     ensures limit { result ≤ 2 ^ 37 }
 {
     pools[place].load(package)

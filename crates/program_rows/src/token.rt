@@ -125,7 +125,8 @@ fn pieces_of(token: &[u8]) -> Pieces<'_>
 
 /// Whether there is a digit, and all are.
 fn are_some_digits(front: &[u8], back: &[u8]) -> bool
-    ensures { result ≡ (nat_lt 0 (length (front.now ++ back.now)) && are_digits (front.now ++ back.now)) }
+    ensures { result ≡ (nat_lt 0 (length (front.now ++ back.now))
+        && are_digits (front.now ++ back.now)) }
 {
     if front.is_empty() && back.is_empty() {
         return false;

@@ -11,8 +11,10 @@ use std::alloc::Global;
 
 /// Writes the sizes of the program that the input is the text of.
 pub fn check<S: Sink>(alloc: Global, text: &[u8], out: &mut S) -> Result<(), Refusal>
-    ensures written { OnOk result (IsWritten Request.Check text.now (S.taken out.old) (S.taken out.new)) }
-    ensures refused { IfErr result (IsUnwritten Request.Check text.now (S.taken out.old) (S.taken out.new) (S.failures out.old) (S.failures out.new)) }
+    ensures written { OnOk result (IsWritten Request.Check text.now (S.taken out.old)
+        (S.taken out.new)) }
+    ensures refused { IfErr result (IsUnwritten Request.Check text.now (S.taken out.old)
+        (S.taken out.new) (S.failures out.old) (S.failures out.new)) }
 {
     let program = read_program(alloc, text)?;
     write_sizes(&program, out)?;

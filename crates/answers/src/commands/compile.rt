@@ -24,9 +24,11 @@ pub fn compile<R: Threads + Wait + Sync + AllocGlobal, S: Sink>(
 ) -> Result<(), Refusal>
     requires some { 1 ≤ workers }
     requires few { workers ≤ MOST_WORKERS }
-    ensures written { OnOk result (IsWritten (Request.Compile workers) text.now (S.taken out.old) (S.taken out.new)) }
+    ensures written { OnOk result (IsWritten (Request.Compile workers) text.now (S.taken out.old)
+        (S.taken out.new)) }
     ensures sold { OnOk result (HasSold (Request.Compile workers) text.now) }
-    ensures refused { IfErr result (IsUnwritten (Request.Compile workers) text.now (S.taken out.old) (S.taken out.new) (S.failures out.old) (S.failures out.new)) }
+    ensures refused { IfErr result (IsUnwritten (Request.Compile workers) text.now (S.taken out.old)
+        (S.taken out.new) (S.failures out.old) (S.failures out.new)) }
 {
     let auction = read_auction(rt, &Request::Compile { workers }, text)?;
     write_programs_of(rt, &auction, workers, out)
@@ -41,8 +43,10 @@ fn write_programs_of<R: Threads + Wait + Sync + AllocGlobal, S: Sink>(
 ) -> Result<(), Refusal>
     requires some { 1 ≤ workers }
     requires few { workers ≤ MOST_WORKERS }
-    ensures written { OnOk result (Writes (texts_of_groups (held auction.now)) (S.taken out.old) (S.taken out.new)) }
-    ensures refused { IfErr result (Ends (texts_of_groups (held auction.now)) (S.taken out.old) (S.taken out.new) (S.failures out.old) (S.failures out.new)) }
+    ensures written { OnOk result (Writes (texts_of_groups (held auction.now)) (S.taken out.old)
+        (S.taken out.new)) }
+    ensures refused { IfErr result (Ends (texts_of_groups (held auction.now)) (S.taken out.old)
+        (S.taken out.new) (S.failures out.old) (S.failures out.new)) }
 {
     let Auction { book, groups, .. } = auction;
     match run_compile(rt, rt.alloc(), book, groups, workers, &OpenGate, out) {

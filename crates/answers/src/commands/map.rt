@@ -31,9 +31,11 @@ pub fn map<R: Threads + Wait + Sync + AllocGlobal, S: Sink>(
     out: &mut S,
 ) -> Result<(), Refusal>
     requires { 1 ≤ k }
-    ensures written { OnOk result (IsWritten (Request.Map k) text.now (S.taken out.old) (S.taken out.new)) }
+    ensures written { OnOk result (IsWritten (Request.Map k) text.now (S.taken out.old)
+        (S.taken out.new)) }
     ensures sold { OnOk result (HasSold (Request.Map k) text.now) }
-    ensures refused { IfErr result (IsUnwritten (Request.Map k) text.now (S.taken out.old) (S.taken out.new) (S.failures out.old) (S.failures out.new)) }
+    ensures refused { IfErr result (IsUnwritten (Request.Map k) text.now (S.taken out.old)
+        (S.taken out.new) (S.failures out.old) (S.failures out.new)) }
 {
     let auction = read_auction(rt, &Request::Map { group: k }, text)?;
     write_winners(rt, &auction, k, out)
@@ -47,8 +49,10 @@ fn write_winners<R: Threads + Wait + Sync + AllocGlobal, S: Sink>(
     out: &mut S,
 ) -> Result<(), Refusal>
     requires { 1 ≤ k }
-    ensures written { OnOk result (Writes (winners_text k (held auction.now)) (S.taken out.old) (S.taken out.new)) }
-    ensures refused { IfErr result (Ends (winners_text k (held auction.now)) (S.taken out.old) (S.taken out.new) (S.failures out.old) (S.failures out.new)) }
+    ensures written { OnOk result (Writes (winners_text k (held auction.now)) (S.taken out.old)
+        (S.taken out.new)) }
+    ensures refused { IfErr result (Ends (winners_text k (held auction.now)) (S.taken out.old)
+        (S.taken out.new) (S.failures out.old) (S.failures out.new)) }
 {
     let Auction { book, groups, .. } = auction;
     if k > groups.count() {
@@ -70,9 +74,12 @@ fn won_without<R: Threads + Wait + Sync + AllocGlobal>(
 ) -> Result<Allocation, Refusal>
     requires some { 1 ≤ k }
     requires within { k ≤ length groups.now }
-    ensures feasible { IfOk result (λ a. IsFeasible (lots_in book.now.rules) (book_of book.now) (λ b. false) a) }
-    ensures won { IfOk result (λ a. winners_by (program_without book.now (slice_index_or groups.now (k - 1) [])) 1 solution.now ≡ Ok a) }
-    ensures refuses { IfErr result (Refuses (winners_by (program_without book.now (slice_index_or groups.now (k - 1) [])) 1 solution.now)) }
+    ensures feasible { IfOk result (λ a. IsFeasible (lots_in book.now.rules) (book_of book.now)
+        (λ b. false) a) }
+    ensures won { IfOk result (λ a. winners_by
+        (program_without book.now (slice_index_or groups.now (k - 1) [])) 1 solution.now ≡ Ok a) }
+    ensures refuses { IfErr result (Refuses (winners_by
+        (program_without book.now (slice_index_or groups.now (k - 1) [])) 1 solution.now)) }
 {
     let alloc: Global = rt.alloc();
     let compiled = compile_one(rt, alloc, book, groups, k)?;

@@ -23,9 +23,11 @@ pub fn write_report<R: Threads + Wait + Sync + AllocGlobal, S: Sink>(
 ) -> Result<(), Refusal>
     requires some { 1 ≤ workers }
     requires few { workers ≤ MOST_WORKERS }
-    ensures written { OnOk result (IsWritten (Request.Report workers) text.now (S.taken out.old) (S.taken out.new)) }
+    ensures written { OnOk result (IsWritten (Request.Report workers) text.now (S.taken out.old)
+        (S.taken out.new)) }
     ensures sold { OnOk result (HasSold (Request.Report workers) text.now) }
-    ensures refused { IfErr result (IsUnwritten (Request.Report workers) text.now (S.taken out.old) (S.taken out.new) (S.failures out.old) (S.failures out.new)) }
+    ensures refused { IfErr result (IsUnwritten (Request.Report workers) text.now (S.taken out.old)
+        (S.taken out.new) (S.failures out.old) (S.failures out.new)) }
 {
     let auction = read_auction(rt, &Request::Report { workers }, text)?;
     write_costs(rt, &auction, workers, out)
@@ -40,8 +42,10 @@ fn write_costs<R: Threads + Wait + Sync + AllocGlobal, S: Sink>(
 ) -> Result<(), Refusal>
     requires some { 1 ≤ workers }
     requires few { workers ≤ MOST_WORKERS }
-    ensures written { OnOk result (Writes (costs_text (held auction.now)) (S.taken out.old) (S.taken out.new)) }
-    ensures refused { IfErr result (Ends (costs_text (held auction.now)) (S.taken out.old) (S.taken out.new) (S.failures out.old) (S.failures out.new)) }
+    ensures written { OnOk result (Writes (costs_text (held auction.now)) (S.taken out.old)
+        (S.taken out.new)) }
+    ensures refused { IfErr result (Ends (costs_text (held auction.now)) (S.taken out.old)
+        (S.taken out.new) (S.failures out.old) (S.failures out.new)) }
 {
     let won = won_by_groups(rt, auction, workers)?;
     report(&auction.book, &auction.groups, won.as_slice(), out)?;

@@ -21,9 +21,11 @@ pub fn write_text<R: Threads + Wait + Sync + AllocGlobal, S: Sink>(
     text: &[u8],
     out: &mut S,
 ) -> Result<(), Refusal>
-    ensures written { OnOk result (IsWritten Request.Text text.now (S.taken out.old) (S.taken out.new)) }
+    ensures written { OnOk result (IsWritten Request.Text text.now (S.taken out.old)
+        (S.taken out.new)) }
     ensures sold { OnOk result (HasSold Request.Text text.now) }
-    ensures refused { IfErr result (IsUnwritten Request.Text text.now (S.taken out.old) (S.taken out.new) (S.failures out.old) (S.failures out.new)) }
+    ensures refused { IfErr result (IsUnwritten Request.Text text.now (S.taken out.old)
+        (S.taken out.new) (S.failures out.old) (S.failures out.new)) }
 {
     let auction = read_auction(rt, &Request::Text, text)?;
     write_program_of_all(rt, &auction, out)
@@ -35,9 +37,11 @@ fn write_program_of_all<R: Threads + Wait + Sync + AllocGlobal, S: Sink>(
     auction: &Auction<'_>,
     out: &mut S,
 ) -> Result<(), Refusal>
-    ensures written { OnOk result (Writes (text_of_all (held auction.now)) (S.taken out.old) (S.taken out.new)) }
+    ensures written { OnOk result (Writes (text_of_all (held auction.now)) (S.taken out.old)
+        (S.taken out.new)) }
     ensures faithful { OnOk result (IsFaithfulWithout auction.now.book []) }
-    ensures refused { IfErr result (Ends (text_of_all (held auction.now)) (S.taken out.old) (S.taken out.new) (S.failures out.old) (S.failures out.new)) }
+    ensures refused { IfErr result (Ends (text_of_all (held auction.now)) (S.taken out.old)
+        (S.taken out.new) (S.failures out.old) (S.failures out.new)) }
 {
     let alloc: Global = rt.alloc();
     let groups = Groups::only_empty(alloc)?;

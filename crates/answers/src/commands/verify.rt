@@ -26,10 +26,13 @@ pub fn verify<R: Threads + Wait + Sync + AllocGlobal, S: Sink>(
 ) -> Result<(), Refusal>
     requires some { 1 ≤ workers }
     requires few { workers ≤ MOST_WORKERS }
-    ensures written { OnOk result (IsWritten (Request.Verify workers) text.now (S.taken out.old) (S.taken out.new)) }
+    ensures written { OnOk result (IsWritten (Request.Verify workers) text.now (S.taken out.old)
+        (S.taken out.new)) }
     ensures sold { OnOk result (HasSold (Request.Verify workers) text.now) }
-    ensures true_report { OnOk result (WritesTrueReport workers text.now (S.taken out.old) (S.taken out.new)) }
-    ensures refused { IfErr result (IsUnwritten (Request.Verify workers) text.now (S.taken out.old) (S.taken out.new) (S.failures out.old) (S.failures out.new)) }
+    ensures true_report { OnOk result (WritesTrueReport workers text.now (S.taken out.old)
+        (S.taken out.new)) }
+    ensures refused { IfErr result (IsUnwritten (Request.Verify workers) text.now (S.taken out.old)
+        (S.taken out.new) (S.failures out.old) (S.failures out.new)) }
 {
     let auction = read_auction(rt, &Request::Verify { workers }, text)?;
     write_verified(rt, &auction, workers, out)
@@ -44,8 +47,11 @@ fn write_verified<R: Threads + Wait + Sync + AllocGlobal, S: Sink>(
 ) -> Result<(), Refusal>
     requires some { 1 ≤ workers }
     requires few { workers ≤ MOST_WORKERS }
-    ensures written { OnOk result (Writes (verified_text (held auction.now)) (S.taken out.old) (S.taken out.new)) }
-    ensures refused { IfErr result (λ r. Ends (verified_text (held auction.now)) (S.taken out.old) (S.taken out.new) (S.failures out.old) (S.failures out.new) r ⊎ (IsBeyondSums (held auction.now) r × (S.taken out.new ≡ S.taken out.old))) }
+    ensures written { OnOk result (Writes (verified_text (held auction.now)) (S.taken out.old)
+        (S.taken out.new)) }
+    ensures refused { IfErr result (λ r. Ends (verified_text (held auction.now)) (S.taken out.old)
+        (S.taken out.new) (S.failures out.old) (S.failures out.new) r
+        ⊎ (IsBeyondSums (held auction.now) r × (S.taken out.new ≡ S.taken out.old))) }
 {
     let won = won_by_groups(rt, auction, workers)?;
     let allocations = won.as_slice();
