@@ -4,6 +4,7 @@ pub mod PlainFacts
 pub mod TermsFacts
 pub mod RulesTextFacts
 pub mod LineFacts
+pub mod LineCount
 pub mod GroupsTextFacts
 pub mod WeighedLaws
 pub mod PackageLaws

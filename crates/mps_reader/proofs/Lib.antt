@@ -25,5 +25,4 @@ pub mod HeaderTells
 pub mod LineAnswers
 pub mod ProgramTold
 pub mod FitFacts
-pub mod LineCount
 pub mod EndFacts

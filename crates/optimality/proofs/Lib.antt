@@ -4,9 +4,7 @@ pub mod BoundLaws
 pub mod Steps
 pub mod RowLaws
 pub mod LeafLaws
-pub mod FieldLaws
 pub mod TermLaws
 pub mod BranchLaws
 pub mod VerdictLaws
-pub mod LineCount
 pub mod ProductBounds

@@ -10,13 +10,12 @@ ghost use Rattle.optimality.specs.Told.{BoundLine, bound_told, rows_told};
 
 use crate::checker::Checker;
 use crate::fault::FaultKind;
-use crate::fields::next_field;
 use crate::leaf::Leaf;
 use crate::naturals::take_naturals;
 use crate::numbers::take_natural;
 use crate::refusal::Refusal;
 use crate::terms::take_row_terms;
-use program_rows::{Program, RowKind};
+use program_rows::{Program, RowKind, next_field};
 
 /// Whether there is a row at this place that may have the multiplier.
 fn may_have(program: &Program, row: usize, multiplier: i64) -> bool

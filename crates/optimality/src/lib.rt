@@ -6,7 +6,6 @@ mod checker;
 mod closing;
 mod cuts;
 mod fault;
-mod fields;
 mod forms;
 pub mod laws;
 mod leaf;

@@ -15,7 +15,6 @@ ghost use Rattle.optimality.specs.Verdict.{after_line, after_open, taken};
 use crate::checker::Checker;
 use crate::closing::close;
 use crate::fault::FaultKind;
-use crate::fields::next_field;
 use crate::leaf::Leaf;
 use crate::leaf_line::take_leaf;
 use crate::leaf_value::is_above;
@@ -23,6 +22,7 @@ use crate::limit::Limit;
 use crate::open_split::OpenSplit;
 use crate::refusal::Refusal;
 use crate::split_line::take_split;
+use program_rows::next_field;
 
 fn is_word(text: &[u8], word: &[u8]) -> bool
     ensures { result ≡ bytes_eq text.now word.now }

@@ -8,11 +8,11 @@ ghost use Rattle.optimality.specs.Told.{SplitLine, split_told};
 
 use crate::checker::Checker;
 use crate::fault::FaultKind;
-use crate::fields::next_field;
 use crate::numbers::take_number;
 use crate::open_split::OpenSplit;
 use crate::refusal::Refusal;
 use crate::terms::take_column_terms;
+use program_rows::next_field;
 
 /// The split that a text tells, at its first side.
 pub fn take_split(checker: &Checker, text: &[u8]) -> Result<OpenSplit, Refusal>

@@ -11,10 +11,9 @@ ghost use Rattle.optimality.specs.Told.{place_told, term_told, named_numbers};
 
 use crate::checker::Checker;
 use crate::fault::FaultKind;
-use crate::fields::next_field;
 use crate::numbers::take_number;
 use crate::refusal::Refusal;
-use program_rows::{NameSet, place_of};
+use program_rows::{NameSet, next_field, place_of};
 use std::alloc::Global;
 use std::cell::Cell;
 

@@ -1,5 +1,4 @@
 pub mod NearLaws
-pub mod FieldLaws
 pub mod SaidLaws
 pub mod ToldLaws
 pub mod PointLaws

@@ -5,7 +5,6 @@ mod allocation;
 mod columns;
 mod costs;
 mod fault;
-mod fields;
 mod heading;
 pub mod laws;
 mod limits;

@@ -13,9 +13,9 @@ ghost use Rattle.outcome.specs.inside.Reading.{said_by};
 
 use crate::columns::ColumnFinder;
 use crate::fault::SolutionFault;
-use crate::fields::next_field;
 use crate::values::{at_line, value_of};
 use auction_terms::LineReader;
+use program_rows::next_field;
 
 /// Notes the value that a line gives a column.
 fn take_pair(

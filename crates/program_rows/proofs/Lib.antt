@@ -22,3 +22,4 @@ pub mod NamedItems
 pub mod SameLaws
 pub mod NameSetLaws
 pub mod AddedNames
+pub mod FieldLaws

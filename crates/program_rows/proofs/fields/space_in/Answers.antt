@@ -1,7 +1,7 @@
 use Rattle.std.proofs.Common.{sym, ◌∙◌, arith}
 use Rattle.std.proofs.lemmas.List.Sums.{position_or_len_is}
 use Rattle.program_rows.specs.Lines.{is_space}
-use Rattle.outcome.proofs.fields.space_in.Goals as goal
+use Rattle.program_rows.proofs.fields.space_in.Goals as goal
 
 pub returns-then-is_white-clause-value : goal.returns-then-is_white-clause-value
 returns-then-is_white-clause-value c = sym (position_or_len_is is_space c.args.line.now c.loop-i.i 0 c.loop-i.invariant.0 c.loop-i.invariant.1 (λ _. sym c.is_white.ensures ∙ c.if-is_white.true))

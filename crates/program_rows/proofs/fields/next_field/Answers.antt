@@ -1,7 +1,7 @@
 use Rattle.std.proofs.Common.{◌≡◌, ◌∙◌, List, ℕ, ◌-◌, sym, drop, length, take, arith}
 use Rattle.std.proofs.lemmas.List.{length-drop, take_all}
-use Rattle.outcome.proofs.FieldLaws.{first_field, no_fields}
-use Rattle.outcome.proofs.fields.next_field.Goals as goal
+use Rattle.program_rows.proofs.FieldLaws.{first_field, no_fields}
+use Rattle.program_rows.proofs.fields.next_field.Goals as goal
 
 pub returns-then-start-line : goal.returns-then-start-line
 returns-then-start-line c = no_fields c.args.line.now (sym c.if-start-line.true ∙ c.text_in-start.ensures.value)
