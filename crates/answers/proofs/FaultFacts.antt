@@ -11,7 +11,7 @@ use Rattle.outcome.specs.declared.fault.SolutionFault.{SolutionFault}
 use Rattle.program_rows.specs.Program.{Table}
 use Rattle.program_rows.specs.declared.fault.FaultKind.{FaultKind}
 use Rattle.answers.specs.Answer.{program_refused}
-use Rattle.answers.specs.Winners.{solution_refused}
+use Rattle.answers.specs.SolutionWinners.{solution_refused}
 
 abbrev no_program : MpsFault → Result Table MpsFault
 no_program f = Err f

@@ -18,7 +18,7 @@ use Rattle.outcome.proofs.CostLaws.{costs_are_bounded, costs_are_own}
 use Rattle.outcome.specs.Report.{report_text}
 use Rattle.outcome.specs.Sale.{Sale}
 use Rattle.outcome.specs.Solution.{solution}
-use Rattle.outcome.specs.Winning.{allocation_of}
+use Rattle.outcome.specs.PointAllocation.{allocation_of}
 use Rattle.program_rows.proofs.FaithfulLaws.{presolved_is_faithful}
 use Rattle.program_rows.specs.Faithful.{IsGreatest}
 use Rattle.program_rows.specs.Program.{Table}
@@ -34,7 +34,7 @@ use Rattle.auction_terms.specs.Stages.{and_then, each_in_turn, refused_as}
 use Rattle.auction_input.specs.TextsTold.{forms_told, groups_told, terms_told}
 use Rattle.answers.specs.Exact.{IsWritten}
 use Rattle.answers.specs.Verified.{IsGreatestWithout, IsOwnCost, IsTrueReport, VerifiedIsTrue, WritesTrueReport}
-use Rattle.answers.specs.Winners.{solution_refused, winners}
+use Rattle.answers.specs.SolutionWinners.{solution_refused, winners}
 use Rattle.auction_input.specs.declared.refusal.CountedPart.TheVariants as counted
 use Rattle.auction_input.specs.declared.refusal.Refusal.TheVariants as refusal
 use Rattle.auction_input.specs.declared.request.Request.{Request}

@@ -8,10 +8,10 @@ use Rattle.auction_terms.specs.Packages.{Lots}
 use Rattle.program_rows.specs.Points.{AreAllowed}
 use Rattle.program_rows.specs.Program.{TableColumn, Table}
 use Rattle.outcome.specs.Solution.{solution}
-use Rattle.outcome.specs.Winning.{allocation_of}
+use Rattle.outcome.specs.PointAllocation.{allocation_of}
 use Rattle.outcome.specs.declared.fault.SolutionFault.{SolutionFault}
 use Rattle.auction_terms.specs.Stages.{refused_as}
-use Rattle.answers.specs.Winners.{solution_refused, winners_by}
+use Rattle.answers.specs.SolutionWinners.{solution_refused, winners_by}
 use Rattle.auction_input.proofs.StageFacts.{next}
 
 -- there is a value for each column

@@ -7,6 +7,6 @@ pub mod Requests
 pub mod Runs
 pub mod Sizes
 pub mod Verified
-pub mod Winners
+pub mod SolutionWinners
 pub mod commands
 pub mod inside

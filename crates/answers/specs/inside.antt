@@ -1,4 +1,4 @@
 pub mod GroupTexts
 pub mod Judging
 pub mod Runs
-pub mod Winners
+pub mod SolutionWinners

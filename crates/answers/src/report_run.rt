@@ -11,8 +11,8 @@ ghost use Rattle.auction_input.specs.Refused.{Refuses};
 ghost use Rattle.auction_input.specs.Settled.{held};
 ghost use Rattle.auction_terms.specs.Borrowed.{bytes_of};
 ghost use Rattle.auction_terms.specs.Stages.{each_in_turn};
-ghost use Rattle.answers.specs.Winners.{winners, winners_by};
-ghost use Rattle.answers.specs.inside.Winners.{IsFirstRefusal};
+ghost use Rattle.answers.specs.SolutionWinners.{winners, winners_by};
+ghost use Rattle.answers.specs.inside.SolutionWinners.{IsFirstRefusal};
 
 use crate::winning::allocation_won;
 use auction_input::{Auction, CountedPart, Refusal};
@@ -35,7 +35,7 @@ pub struct Winning<'a, 't> {
 impl<'a, 't> Maker for Winning<'a, 't> {
     ghost use Rattle.std.specs.Prelude.{◌+◌, length};
     ghost use Rattle.outcome.specs.Sale.{sale_of};
-    ghost use Rattle.answers.specs.inside.Winners.{IsToldAnswer, winners_at};
+    ghost use Rattle.answers.specs.inside.SolutionWinners.{IsToldAnswer, winners_at};
 
     type Made = Result<Allocation, Refusal>;
 

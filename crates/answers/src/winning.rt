@@ -7,7 +7,7 @@ ghost use Rattle.auction_terms.specs.Terms.{lots_in};
 ghost use Rattle.bid_desk.specs.Closing.{book_of};
 ghost use Rattle.program_rows.specs.Faithful.{IsFaithful};
 ghost use Rattle.auction_input.specs.Refused.{Refuses, refused};
-ghost use Rattle.answers.specs.Winners.{column_name, name_of_row, solution_refused, winners_by};
+ghost use Rattle.answers.specs.SolutionWinners.{column_name, name_of_row, solution_refused, winners_by};
 
 use auction_input::Refusal;
 use auction_terms::Group;

@@ -9,7 +9,7 @@ use Rattle.program_rows.specs.declared.row.Row.{Row}
 use Rattle.program_rows.specs.Parts.{IsProgram, shown_row}
 use Rattle.program_rows.specs.Spelling.{column_bid}
 use Rattle.program_rows.specs.Faithful.{back}
-use Rattle.outcome.specs.Winning.{IsMap}
+use Rattle.outcome.specs.PointAllocation.{IsMap}
 use Rattle.outcome.proofs.Worked.{at_most, fixed, three, winners}
 use Rattle.library_tests.proofs.Named.{are_names, distinct}
 

@@ -1,6 +1,6 @@
 ghost use Rattle.std.specs.Prelude.{◌≡◌, ◌∷◌, [], true, false, length, IfOk};
 ghost use Rattle.program_rows.specs.Faithful.{back};
-ghost use Rattle.outcome.specs.Winning.{IsMap};
+ghost use Rattle.outcome.specs.PointAllocation.{IsMap};
 
 use crate::worked::row;
 use auction_terms::Choice;

@@ -12,7 +12,7 @@ use Rattle.program_rows.specs.Faults.{row_types, earliest_fault, when, is_declar
 use Rattle.program_rows.specs.Program.{TableColumn}
 use Rattle.mps_reader.specs.inside.Rows.{names_of, option_now, declared_row_names, StampsAre, bound_lines_of}
 use Rattle.mps_reader.specs.inside.Columns.{ColumnsFit}
-use Rattle.mps_reader.specs.inside.Fit.{ReadingFits, IsClosed}
+use Rattle.mps_reader.specs.inside.Agreeing.{ReadingFits, IsClosed}
 use Rattle.mps_reader.specs.inside.Sections.{word_of}
 use Rattle.mps_reader.specs.inside.Tracking.{SectionTells, InRows, InColumns, InRightSides, AreStampsUpTo, ReadingTells, RowsTell, ColumnsTell, OpenTells, told_column}
 use Rattle.mps_reader.specs.declared.sections.Section.TheVariants as sections

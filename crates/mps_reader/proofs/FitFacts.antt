@@ -10,7 +10,7 @@ use Rattle.program_rows.specs.Bounded.{bounded}
 use Rattle.program_rows.specs.Parts.{IsName, AreEntries, IsProgram, shown_row}
 use Rattle.mps_reader.specs.inside.Rows.{names_of, option_now, declared_row_names, with_side, IsObjective, RowsFit, IsEmptyTable}
 use Rattle.mps_reader.specs.inside.Columns.{ColumnsFit, BothFit, IsApart, AreDistinctEntries, IsEmptyColumns}
-use Rattle.mps_reader.specs.inside.Fit.{IsClosed, ReadingFits}
+use Rattle.mps_reader.specs.inside.Agreeing.{IsClosed, ReadingFits}
 use Rattle.mps_reader.specs.declared.sections.Section.{Section}
 use Rattle.mps_reader.specs.declared.sections.Section.TheVariants as sections
 use Rattle.mps_reader.specs.declared.row_table.Rows.{Rows}

@@ -15,7 +15,7 @@ use Rattle.program_rows.specs.declared.fault.FaultKind.TheVariants.{NotBinary}
 use Rattle.auction_terms.specs.Borrowed.{bytes_of}
 use Rattle.mps_reader.specs.inside.Rows.{option_now, declared_row_names}
 use Rattle.mps_reader.specs.inside.Columns.{ColumnsFit}
-use Rattle.mps_reader.specs.inside.Fit.{ReadingFits}
+use Rattle.mps_reader.specs.inside.Agreeing.{ReadingFits}
 use Rattle.mps_reader.specs.inside.Sections.{word_of}
 use Rattle.mps_reader.specs.inside.States.{is_binary_state, below_or_equal}
 use Rattle.mps_reader.specs.inside.Tracking.{ReadingTells, ColumnsTell, state_values, told_values, bit}

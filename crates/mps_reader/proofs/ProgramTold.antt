@@ -12,7 +12,7 @@ use Rattle.program_rows.specs.declared.bounds.Bounds.{Bounds}
 use Rattle.program_rows.specs.declared.bounds.Bounds.TheVariants.{ZeroOrOne, Zero, One}
 use Rattle.mps_reader.specs.inside.Columns.{entries_at}
 use Rattle.mps_reader.specs.inside.Rows.{option_now, declared_row_names}
-use Rattle.mps_reader.specs.inside.Fit.{ReadingFits}
+use Rattle.mps_reader.specs.inside.Agreeing.{ReadingFits}
 use Rattle.mps_reader.specs.inside.States.{state_bounds, upper_bounds}
 use Rattle.mps_reader.specs.inside.Tracking.{ReadingTells, state_values, told_values, told_column, bit}
 use Rattle.mps_reader.specs.declared.column_state.ColumnState.{ColumnState}

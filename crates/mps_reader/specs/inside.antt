@@ -1,6 +1,6 @@
 pub mod Answer
 pub mod Columns
-pub mod Fit
+pub mod Agreeing
 pub mod Reading
 pub mod Rows
 pub mod Sections

@@ -6,7 +6,7 @@ ghost use Rattle.program_rows.specs.Described.{program};
 ghost use Rattle.program_rows.specs.declared.fault.FaultKind.TheVariants.{NotBinary};
 ghost use Rattle.mps_reader.specs.inside.Reading.{AnswersFault};
 ghost use Rattle.mps_reader.specs.inside.Tracking.{ReadingTells};
-ghost use Rattle.mps_reader.specs.inside.Fit.{ReadingFits};
+ghost use Rattle.mps_reader.specs.inside.Agreeing.{ReadingFits};
 ghost use Rattle.mps_reader.specs.inside.Rows.{option_now};
 ghost use Rattle.mps_reader.specs.inside.States.{state_bounds, is_binary_state};
 

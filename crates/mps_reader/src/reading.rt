@@ -26,7 +26,7 @@ ghost use Rattle.program_rows.specs.Faults.{fault, header_fault, data_fault};
 ghost use Rattle.program_rows.specs.Parts.{IsName};
 ghost use Rattle.auction_terms.specs.Borrowed.{bytes_of};
 ghost use Rattle.mps_reader.specs.inside.Reading.{AnswersFault};
-ghost use Rattle.mps_reader.specs.inside.Fit.{ReadingFits};
+ghost use Rattle.mps_reader.specs.inside.Agreeing.{ReadingFits};
 ghost use Rattle.mps_reader.specs.inside.Tracking.{ReadingTells};
 
 use crate::bounds::take_bound;

@@ -17,7 +17,7 @@ use Rattle.optimality.specs.Shows.{may_have, leaf_value, LeafShows, ShowsWithin}
 use Rattle.optimality.specs.Lines.{is_telling}
 use Rattle.auction_terms.specs.Stages.{and_then}
 use Rattle.program_rows.specs.ProgramNames.{row_names, column_names}
-use Rattle.optimality.specs.Told.{Told, BoundLine, SplitLine, natural_told, naturals_told, token_told, named_numbers, rows_told, signed_rows, bound_told, split_told, line_told}
+use Rattle.optimality.specs.LineMeaning.{Told, BoundLine, SplitLine, natural_told, naturals_told, token_told, named_numbers, rows_told, signed_rows, bound_told, split_told, line_told}
 use Rattle.optimality.specs.Telling.{TellsCertificate, IsShownBy}
 use Rattle.optimality.specs.Branches.{Branch, Low, High, cuts_above, closed}
 use Rattle.optimality.specs.Verdict.{is_above, taken, after_telling, fault_at, fault_from, certificate_fault}

@@ -3,7 +3,7 @@ pub mod Reduced
 pub mod Shows
 pub mod Laws
 pub mod Lines
-pub mod Told
+pub mod LineMeaning
 pub mod Telling
 pub mod Answers
 pub mod Branches

@@ -5,7 +5,7 @@ use Rattle.program_rows.specs.Lines.{fields}
 use Rattle.optimality.specs.Certificates.{Certificate, Bound, Split}
 use Rattle.optimality.specs.Shows.{Shows}
 use Rattle.optimality.specs.Lines.{telling_lines}
-use Rattle.optimality.specs.Told.{BoundLine, SplitLine, line_told}
+use Rattle.optimality.specs.LineMeaning.{BoundLine, SplitLine, line_told}
 
 -- the first of the lines tell a certificate below as many splits as `depth`, and these are left
 abbrev pub TellsCertificate : Table → ℕ → Certificate → List (List ℕ) → List (List ℕ) → Type 0

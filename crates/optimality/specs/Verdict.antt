@@ -9,7 +9,7 @@ use Rattle.optimality.specs.Certificates.{Form, Cut}
 use Rattle.optimality.specs.Shows.{leaf_value}
 use Rattle.optimality.specs.Lines.{is_telling}
 use Rattle.auction_terms.specs.Stages.{and_then}
-use Rattle.optimality.specs.Told.{Told, BoundLine, SplitLine, line_told}
+use Rattle.optimality.specs.LineMeaning.{Told, BoundLine, SplitLine, line_told}
 use Rattle.optimality.specs.Branches.{Branch, Low, cuts_above, closed}
 
 -- the value of a leaf is above `scale` times `least` - 1

@@ -6,7 +6,7 @@ ghost use Rattle.program_rows.specs.Lines.{fields};
 ghost use Rattle.optimality.specs.inside.Answers.{AnswersSeen};
 ghost use Rattle.optimality.specs.inside.Checking.{IsPrepared};
 ghost use Rattle.optimality.specs.Shows as shows;
-ghost use Rattle.optimality.specs.Told.{BoundLine, bound_told, rows_told};
+ghost use Rattle.optimality.specs.LineMeaning.{BoundLine, bound_told, rows_told};
 
 use crate::checker::Checker;
 use crate::fault::FaultKind;

@@ -8,7 +8,7 @@ ghost use Rattle.optimality.specs.Branches.{cuts_above};
 ghost use Rattle.optimality.specs.inside.Checking.{IsPrepared};
 ghost use Rattle.optimality.specs.Lines as lines;
 ghost use Rattle.auction_terms.specs.Stages.{and_then};
-ghost use Rattle.optimality.specs.Told.{bound_told, split_told};
+ghost use Rattle.optimality.specs.LineMeaning.{bound_told, split_told};
 ghost use Rattle.optimality.specs.Verdict as verdict;
 ghost use Rattle.optimality.specs.Verdict.{after_line, after_open, taken};
 

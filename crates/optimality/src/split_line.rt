@@ -4,7 +4,7 @@ ghost use Rattle.std.specs.Prelude.{◌≡◌, IfOk, false};
 ghost use Rattle.program_rows.specs.Lines.{fields};
 ghost use Rattle.optimality.specs.inside.Answers.{AnswersSeen};
 ghost use Rattle.optimality.specs.inside.Checking.{IsPrepared};
-ghost use Rattle.optimality.specs.Told.{SplitLine, split_told};
+ghost use Rattle.optimality.specs.LineMeaning.{SplitLine, split_told};
 
 use crate::checker::Checker;
 use crate::fault::FaultKind;

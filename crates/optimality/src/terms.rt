@@ -7,7 +7,7 @@ ghost use Rattle.optimality.specs.inside.Checking.{IsPrepared};
 ghost use Rattle.optimality.specs.declared.fault.FaultKind.TheVariants.{UnknownColumn, UnknownRow};
 ghost use Rattle.auction_terms.specs.Borrowed.{bytes_of};
 ghost use Rattle.program_rows.specs.ProgramNames.{column_names, row_names};
-ghost use Rattle.optimality.specs.Told.{place_told, term_told, named_numbers};
+ghost use Rattle.optimality.specs.LineMeaning.{place_told, term_told, named_numbers};
 
 use crate::checker::Checker;
 use crate::fault::FaultKind;

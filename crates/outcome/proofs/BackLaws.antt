@@ -25,7 +25,7 @@ use Rattle.program_rows.proofs.FaithfulLaws.{presolved_is_faithful}
 use Rattle.mps_text.specs.FaithfulText.{presolved_text}
 use Rattle.mps_text.proofs.FaithfulTexts.{presolved_text_is_faithful}
 use Rattle.program_rows.proofs.SpellingLaws.{reads_names_alone}
-use Rattle.outcome.specs.Winning.{by_bidder, all_bidders, allocation_of, IsMap, HasRisingBidders}
+use Rattle.outcome.specs.PointAllocation.{by_bidder, all_bidders, allocation_of, IsMap, HasRisingBidders}
 use Rattle.outcome.specs.Coming.{ComesBack, PointsComeBack, SolutionsComeBack, AnswersOfSolversComeBack}
 use Rattle.outcome.proofs.PointLaws.{solutions_are_points}
 

@@ -16,7 +16,7 @@ use Rattle.outcome.specs.declared.fault.ValueFault.TheVariants as value
 use Rattle.outcome.specs.declared.fault.SolutionFault.TheVariants as fault
 use Rattle.outcome.specs.Values.{token_value}
 use Rattle.outcome.specs.Solution.{solution}
-use Rattle.outcome.specs.Winning.{allocation_of}
+use Rattle.outcome.specs.PointAllocation.{allocation_of}
 use Rattle.outcome.specs.Sale.{Sale}
 use Rattle.outcome.specs.Report.{allocation_text, report_text}
 use Rattle.outcome.proofs.Worked.{fixed, three, winners}

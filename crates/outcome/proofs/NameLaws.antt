@@ -10,7 +10,7 @@ use Rattle.program_rows.specs.Program.{TableColumn}
 use Rattle.program_rows.specs.Spelling.{bid_name, column_bid, is_bid}
 use Rattle.program_rows.specs.Faithful.{back}
 use Rattle.program_rows.proofs.SpellingLaws.{reads_back, reads_names_alone}
-use Rattle.outcome.specs.Winning.{is_choice, ones_named, TakesWhatIsNamed}
+use Rattle.outcome.specs.PointAllocation.{is_choice, ones_named, TakesWhatIsNamed}
 use Rattle.outcome.proofs.BackLaws.{same_sum, back_bidders}
 
 count_one : (b j : ℕ) (c : Choice) → count_by (is_choice b j) (c ∷ []) ≡ cond (is_choice b j c) 1 0

@@ -11,7 +11,7 @@ use Rattle.program_rows.specs.Rows.{program_of}
 use Rattle.program_rows.specs.Faithful.{back, IsFaithful}
 use Rattle.mps_text.specs.FaithfulText.{presolved_text}
 use Rattle.outcome.specs.Solution.{solution}
-use Rattle.outcome.specs.Winning.{allocation_of, IsMap, HasRisingBidders}
+use Rattle.outcome.specs.PointAllocation.{allocation_of, IsMap, HasRisingBidders}
 
 -- what a solution text tells is a point
 abbrev pub SolutionsArePoints : Type 0

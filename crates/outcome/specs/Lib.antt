@@ -1,6 +1,6 @@
 pub mod Values
 pub mod Solution
-pub mod Winning
+pub mod PointAllocation
 pub mod Coming
 pub mod Sale
 pub mod Report

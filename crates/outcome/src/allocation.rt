@@ -12,7 +12,7 @@ pub struct Allocation {
 impl Model for Allocation {
     ghost use Rattle.std.specs.Prelude.{List};
     ghost use Rattle.auction_terms.specs.declared.choices.Choice.{Choice};
-    ghost use Rattle.outcome.specs.Winning.{HasRisingBidders};
+    ghost use Rattle.outcome.specs.PointAllocation.{HasRisingBidders};
 
     ghost Value = { List Choice };
 
@@ -23,7 +23,7 @@ impl Model for Allocation {
 
 impl Allocation {
     ghost use Rattle.std.specs.Prelude.{◌≡◌};
-    ghost use Rattle.outcome.specs.Winning.{HasRisingBidders};
+    ghost use Rattle.outcome.specs.PointAllocation.{HasRisingBidders};
 
     pub(crate) fn new(choices: Vec<Choice>) -> Allocation
         requires { HasRisingBidders choices.items }

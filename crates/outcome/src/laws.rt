@@ -5,7 +5,7 @@ ghost use Rattle.auction_terms.specs.FirstFault.{TellsTheFirst};
 ghost use Rattle.outcome.specs.Coming.{AnswersOfSolversComeBack, PointsComeBack, SolutionsArePoints, SolutionsComeBack};
 ghost use Rattle.outcome.specs.Costs.{CostsAreBounded, CostsAreOwn, CostsCoverLots};
 ghost use Rattle.outcome.specs.Solution.{solution_line_fault};
-ghost use Rattle.outcome.specs.Winning.{TakesWhatIsNamed};
+ghost use Rattle.outcome.specs.PointAllocation.{TakesWhatIsNamed};
 
 /// The lines of a solution have the fault of the first of them with a fault.
 pub fn lines_of_solutions_tell_their_first_fault()

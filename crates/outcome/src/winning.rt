@@ -2,7 +2,7 @@
 
 ghost use Rattle.std.specs.Prelude.{◌≡◌, ◌<◌, ◌+◌, ◌==◌, ◌++◌, drop, filter, length, IfOk, OnOk};
 ghost use Rattle.program_rows.specs.Faithful.{back};
-ghost use Rattle.outcome.specs.Winning.{all_bidders, allocation_of, by_bidder, IsMap};
+ghost use Rattle.outcome.specs.PointAllocation.{all_bidders, allocation_of, by_bidder, IsMap};
 
 use crate::allocation::Allocation;
 use auction_terms::{Choice, MOST_BIDDERS};

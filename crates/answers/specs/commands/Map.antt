@@ -6,7 +6,7 @@ use Rattle.auction_input.specs.Refused.{Refused}
 use Rattle.auction_terms.specs.Stages.{and_then}
 use Rattle.auction_input.specs.declared.refusal.Refusal.TheVariants as refusal
 use Rattle.outcome.specs.Report.{allocation_text}
-use Rattle.answers.specs.Winners.{winners}
+use Rattle.answers.specs.SolutionWinners.{winners}
 
 -- what the one solution wins without group k
 abbrev pub winners_text : ℕ → Auction → Result (List ℕ) Refused

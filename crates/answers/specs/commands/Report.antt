@@ -9,7 +9,7 @@ use Rattle.auction_input.specs.declared.refusal.Refusal.TheVariants as refusal
 use Rattle.auction_terms.specs.Groups.{starts_empty}
 use Rattle.auction_terms.specs.declared.choices.Choice.{Choice}
 use Rattle.outcome.specs.Report.{report_text}
-use Rattle.answers.specs.Winners.{winners}
+use Rattle.answers.specs.SolutionWinners.{winners}
 
 -- what the solutions win, group by group
 abbrev pub winners_of_groups : Auction → Result (List (List Choice)) Refused

@@ -2,7 +2,7 @@
 
 ghost use Rattle.std.specs.Prelude.{◌≡◌, ◌≤◌, ◌-◌, [], IfErr, IfOk, Ok, OnOk, false, length, slice_index_or};
 ghost use Rattle.answers.specs.Exact.{Ends, IsUnwritten, IsWritten, Writes};
-ghost use Rattle.answers.specs.Winners.{winners_by};
+ghost use Rattle.answers.specs.SolutionWinners.{winners_by};
 ghost use Rattle.answers.specs.commands.Map.{winners_text};
 ghost use Rattle.auction_input.specs.Refused.{Refuses};
 ghost use Rattle.auction_input.specs.Settled.{held};

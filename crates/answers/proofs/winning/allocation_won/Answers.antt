@@ -5,7 +5,7 @@ use Rattle.bid_desk.specs.Closing.{book_of}
 use Rattle.outcome.proofs.BackLaws.{points_come_back}
 use Rattle.outcome.specs.Solution.{solution}
 use Rattle.auction_input.specs.Refused.{Refuses}
-use Rattle.answers.specs.Winners.{winners_by}
+use Rattle.answers.specs.SolutionWinners.{winners_by}
 use Rattle.auction_input.specs.declared.refusal.Refusal.TheVariants as refusal
 use Rattle.answers.proofs.FaultFacts.{solution-refuses}
 use Rattle.auction_input.proofs.RefusalFacts.{if-err-of}

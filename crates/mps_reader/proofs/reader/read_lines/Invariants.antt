@@ -5,7 +5,7 @@ use Rattle.program_rows.specs.Meaning.{meaning}
 use Rattle.mps_reader.specs.inside.Tracking.{ReadingTells}
 use Rattle.std.specs.List.{AllByRecursion}
 use Rattle.auction_terms.specs.Lines.{lines_of}
-use Rattle.mps_reader.specs.inside.Fit.{ReadingFits}
+use Rattle.mps_reader.specs.inside.Agreeing.{ReadingFits}
 use Rattle.mps_reader.specs.Ending.{IsPassed}
 use Rattle.mps_reader.proofs.LineAnswers.{meaning_behind}
 use Rattle.mps_reader.proofs.reader.read_lines.Given as goal

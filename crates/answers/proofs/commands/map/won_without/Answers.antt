@@ -6,7 +6,7 @@ use Rattle.bid_desk.specs.Closing.{book_of}
 use Rattle.group_compiler.specs.Compiled.{GroupProgram, program_without}
 use Rattle.std.specs.Prelude.{false}
 use Rattle.auction_input.specs.Refused.{Refuses}
-use Rattle.answers.specs.Winners.{winners_by}
+use Rattle.answers.specs.SolutionWinners.{winners_by}
 use Rattle.auction_input.specs.declared.refusal.Refusal.TheVariants as refusal
 use Rattle.auction_input.proofs.RefusalFacts.{if-err-of}
 use Rattle.answers.proofs.WinningFacts.{feasible-for_all, if-ok-weaker}

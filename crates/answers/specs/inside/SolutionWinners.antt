@@ -4,7 +4,7 @@ use Rattle.auction_input.specs.Refused.{Refusal, Refused, Refuses}
 use Rattle.auction_input.specs.declared.refusal.Refusal.TheVariants as refusal
 use Rattle.auction_terms.specs.declared.choices.Choice.{Choice}
 use Rattle.outcome.specs.Sale.{Sale}
-use Rattle.answers.specs.Winners.{winners}
+use Rattle.answers.specs.SolutionWinners.{winners}
 
 -- the winners without the group at this place, from 0, by its solution
 abbrev pub winners_at : Sale → List (List ℕ) → List (List ℕ) → ℕ → Result (List Choice) Refused
