@@ -7,7 +7,7 @@ use Rattle.bid_book.specs.declared.caller.Caller.TheVariants.{Session, Chair}
 use Rattle.bid_book.specs.declared.entry.Entry.{Entry}
 use Rattle.bid_book.specs.declared.reply.Reply.{Reply}
 use Rattle.bid_book.specs.declared.reply.Reply.TheVariants.{Accepted, Withdrawn, Shown, Stale, Closed, RoundOver}
-use Rattle.bid_book.specs.History.{after, answer, run, standing_of}
+use Rattle.bid_book.specs.History.{after, reply_due, run, standing_of}
 
 -- the first session of a bidder submits the form 7, shows it, withdraws twice, and submits again; the chair closes, and closes again
 abbrev calls : List (Caller × Call ℕ)
@@ -18,9 +18,9 @@ calls =
 replies : map (λ (e : Entry ℕ). e.reply) (run calls)
     ≡ Accepted 1 ∷ Shown (Some (record { number = 1; form = 7 })) ∷ Withdrawn 2 ∷ Stale None ∷ Accepted 3
     ∷ Closed true ∷ RoundOver ∷ Shown (Some (record { number = 3; form = 7 })) ∷ Closed false ∷ []
-unfolding answer after
+unfolding reply_due after
 replies = refl
 
 stands : standing_of (run calls) 1 ≡ Some (record { number = 3; form = 7 })
-unfolding answer after standing_of
+unfolding reply_due after standing_of
 stands = refl

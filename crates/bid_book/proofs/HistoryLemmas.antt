@@ -18,7 +18,7 @@ use Rattle.bid_book.specs.declared.standing.Standing.{Standing}
 use Rattle.bid_book.specs.declared.reply.Reply.{Reply}
 use Rattle.bid_book.specs.declared.reply.Reply.TheVariants.{Accepted, Withdrawn, Shown, Stale, Closed, RoundOver, CallLimit}
 use Rattle.bid_book.specs.declared.records.Counts.{Counts}
-use Rattle.bid_book.specs.History.{reply_value, call_limit, answer, after, answer_to, MayMake, is_beside, entries_beside, is_change_reply, changes, left_standing, standing_after, has_close, standing_number, answer_to_change, standing_of, is_closed, IsRightAfter, IsLegalHistory}
+use Rattle.bid_book.specs.History.{reply_value, call_limit, reply_due, after, answer_to, MayMake, is_beside, entries_beside, is_change_reply, changes, left_standing, standing_after, has_close, standing_number, answer_to_change, standing_of, is_closed, IsRightAfter, IsLegalHistory}
 use Rattle.bid_book.specs.inside.Records.{Summarizes, counts_after, change_answer}
 
 -- at a place of a list with one more item: the place is one of the list, or the new one
@@ -179,19 +179,19 @@ Summarizes-same {counts' = counts'} {standing' = standing'} {n' = n'} {o' = o'} 
 
 -- at the limit, and below it
 module _ {F : Type 0} (h : List (Entry F)) (c : Caller) (call : Call F) where
-  pub answer-limit : call_limit ≤ length (entries_beside c h) → answer h c call ≡ CallLimit
-  unfolding answer
+  pub answer-limit : call_limit ≤ length (entries_beside c h) → reply_due h c call ≡ CallLimit
+  unfolding reply_due
   answer-limit l = rw (le-leb _ _ l) refl
 
   pub after-limit : call_limit ≤ length (entries_beside c h) → after h c call ≡ h
   unfolding after
   after-limit l = rw (le-leb _ _ l) refl
 
-  pub answer-below : length (entries_beside c h) < call_limit → answer h c call ≡ answer_to (entries_beside c h) (entries_beside Chair h) call
-  unfolding answer
+  pub answer-below : length (entries_beside c h) < call_limit → reply_due h c call ≡ answer_to (entries_beside c h) (entries_beside Chair h) call
+  unfolding reply_due
   answer-below l = rw (lt-leb _ _ l) refl
 
-  pub after-below : length (entries_beside c h) < call_limit → after h c call ≡ h ++ record { caller = c; call = call; reply = answer h c call } ∷ []
+  pub after-below : length (entries_beside c h) < call_limit → after h c call ≡ h ++ record { caller = c; call = call; reply = reply_due h c call } ∷ []
   unfolding after
   after-below l = rw (lt-leb _ _ l) refl
 
@@ -219,7 +219,7 @@ right_below h c call reply l e may = record {
   allowed = may;
 }
 
-pub answer-below_recorded : {F : Type 0} (h : List (Entry F)) (c : Caller) (call : Call F) → length (entries_beside c h) < call_limit → answer h c call ≢ CallLimit
+pub answer-below_recorded : {F : Type 0} (h : List (Entry F)) (c : Caller) (call : Call F) → length (entries_beside c h) < call_limit → reply_due h c call ≢ CallLimit
 answer-below_recorded h c call l limit =
     answer_to-recorded (entries_beside c h) (entries_beside Chair h) call (sym (answer-below h c call l) ∙ limit)
 
@@ -235,14 +235,14 @@ unfolding is_closed
 answer-close h call o l e opened = rw e (ap Closed opened)
 
 -- the history after a call, by its answer
-pub after-told : {F : Type 0} (h : List (Entry F)) (c : Caller) (call : Call F) (reply : Reply F) → reply ≡ answer h c call → reply ≢ CallLimit → after h c call ≡ h ++ record { caller = c; call = call; reply = reply } ∷ []
+pub after-told : {F : Type 0} (h : List (Entry F)) (c : Caller) (call : Call F) (reply : Reply F) → reply ≡ reply_due h c call → reply ≢ CallLimit → after h c call ≡ h ++ record { caller = c; call = call; reply = reply } ∷ []
 after-told {F} h c call reply told less =
     elim (cases_lt (length (entries_beside c h)) call_limit) [
       | inl l ↦ after-below h c call l ∙ ap (λ (r : Reply F). h ++ record { caller = c; call = call; reply = r } ∷ []) (sym told)
       | inr l ↦ absurd (less (told ∙ answer-limit h c call l))
     ]
 
-pub after-told_limit : {F : Type 0} (h : List (Entry F)) (c : Caller) (call : Call F) (reply : Reply F) → reply ≡ answer h c call → reply ≡ CallLimit → after h c call ≡ h
+pub after-told_limit : {F : Type 0} (h : List (Entry F)) (c : Caller) (call : Call F) (reply : Reply F) → reply ≡ reply_due h c call → reply ≡ CallLimit → after h c call ≡ h
 after-told_limit h c call reply told limit =
     elim (cases_lt (length (entries_beside c h)) call_limit) [
       | inl l ↦ absurd (answer-below_recorded h c call l (sym told ∙ limit))
@@ -265,7 +265,7 @@ answer_to-shown own chair (Withdraw over) x e = absurd (answer_to_change-shown o
 answer_to-shown own chair Show x e = cc
 answer_to-shown own chair Close x e = cc
 
-pub answer-shown : {F : Type 0} (h : List (Entry F)) (b s : ℕ) (call : Call F) (x : Option (Standing F)) → answer h (Session b s) call ≡ Shown x → standing_of h b ≡ x
+pub answer-shown : {F : Type 0} (h : List (Entry F)) (b s : ℕ) (call : Call F) (x : Option (Standing F)) → reply_due h (Session b s) call ≡ Shown x → standing_of h b ≡ x
 unfolding standing_of
 answer-shown h b s call x e =
     elim (cases_lt (length (entries_beside (Session b s) h)) call_limit) [
@@ -277,17 +277,17 @@ answer-shown h b s call x e =
     limit_not_shown f = cc
 
 -- the same of a result
-pub recorded_told : {X Z E : Type 0} (result : Result (Reply (Arc X Z)) E) (h h' : List (Entry X)) (c : Caller) (call : Call X) → IfOk result (λ r. reply_value r ≡ answer h c call) → OnOk result (h' ≡ after h c call)
+pub recorded_told : {X Z E : Type 0} (result : Result (Reply (Arc X Z)) E) (h h' : List (Entry X)) (c : Caller) (call : Call X) → IfOk result (λ r. reply_value r ≡ reply_due h c call) → OnOk result (h' ≡ after h c call)
     → IfOk result (λ r. reply_value r ≢ CallLimit → h' ≡ h ++ record { caller = c; call = call; reply = reply_value r } ∷ [])
 recorded_told (Ok r) h h' c call told is = λ less. is ∙ after-told h c call (reply_value r) told less
 recorded_told (Err e) h h' c call told is = tt
 
-pub unrecorded_told : {X Z E : Type 0} (result : Result (Reply (Arc X Z)) E) (h h' : List (Entry X)) (c : Caller) (call : Call X) → IfOk result (λ r. reply_value r ≡ answer h c call) → OnOk result (h' ≡ after h c call)
+pub unrecorded_told : {X Z E : Type 0} (result : Result (Reply (Arc X Z)) E) (h h' : List (Entry X)) (c : Caller) (call : Call X) → IfOk result (λ r. reply_value r ≡ reply_due h c call) → OnOk result (h' ≡ after h c call)
     → IfOk result (λ r. reply_value r ≡ CallLimit → h' ≡ h)
 unrecorded_told (Ok r) h h' c call told is = λ limit. is ∙ after-told_limit h c call (reply_value r) told limit
 unrecorded_told (Err e) h h' c call told is = tt
 
-pub answer-close_not_shown : {F : Type 0} (h : List (Entry F)) (x : Option (Standing F)) → answer h Chair Close ≢ Shown x
+pub answer-close_not_shown : {F : Type 0} (h : List (Entry F)) (x : Option (Standing F)) → reply_due h Chair Close ≢ Shown x
 answer-close_not_shown {F} h x e =
     elim (cases_lt (length (entries_beside Chair h)) call_limit) [
       | inl l ↦ closed (sym (answer-below h Chair Close l) ∙ e)

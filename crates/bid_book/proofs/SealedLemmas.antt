@@ -10,7 +10,7 @@ use Rattle.bid_book.specs.declared.call.Call.{Call}
 use Rattle.bid_book.specs.declared.entry.Entry.{Entry}
 use Rattle.bid_book.specs.declared.reply.Reply.{Reply}
 use Rattle.bid_book.specs.declared.reply.Reply.TheVariants.{CallLimit}
-use Rattle.bid_book.specs.History.{call_limit, is_beside, is_same_caller, entries_beside, answer_to, answer, after, run_from, run, own_pairs}
+use Rattle.bid_book.specs.History.{call_limit, is_beside, is_same_caller, entries_beside, answer_to, reply_due, after, run_from, run, own_pairs}
 use Rattle.bid_book.specs.Sealed.{concerns, calls_concerning, IsSealed}
 
 -- a second filter that passes all that the first does changes nothing
@@ -42,8 +42,8 @@ module _ {F : Type 0} where
   entries_beside-entries_concerning b c e h =
       filter_within (λ (x : Entry F). is_beside c x.caller) (λ (x : Entry F). concerns b x.caller) (λ x f. beside_concerns b c x.caller e f) h
 
-  answer-entries_concerning : (b : ℕ) (c : Caller) (call : Call F) → concerns b c ≡ true → (h : List (Entry F)) → answer (entries_concerning b h) c call ≡ answer h c call
-  unfolding answer
+  answer-entries_concerning : (b : ℕ) (c : Caller) (call : Call F) → concerns b c ≡ true → (h : List (Entry F)) → reply_due (entries_concerning b h) c call ≡ reply_due h c call
+  unfolding reply_due
   answer-entries_concerning b c call e h =
       let own = entries_beside-entries_concerning b c e h in
       let chair = entries_beside-entries_concerning b Chair refl h in
@@ -60,13 +60,13 @@ module _ {F : Type 0} where
   entries_concerning-after : (b : ℕ) (c : Caller) (call : Call F) → concerns b c ≡ true → (h : List (Entry F)) → entries_concerning b (after h c call) ≡ after (entries_concerning b h) c call
   unfolding entries_concerning after
   entries_concerning-after b c call e h =
-      kept (λ (x : Entry F). concerns b x.caller) (nat_le call_limit (length (entries_beside c h))) h (record { caller = c; call = call; reply = answer h c call }) e
+      kept (λ (x : Entry F). concerns b x.caller) (nat_le call_limit (length (entries_beside c h))) h (record { caller = c; call = call; reply = reply_due h c call }) e
       ∙ sym (λ i. if nat_le call_limit (length (entries_beside-entries_concerning b c e h i)) then entries_concerning b h else entries_concerning b h ++ record { caller = c; call = call; reply = answer-entries_concerning b c call e h i } ∷ [])
 
   entries_concerning-after_other : (b : ℕ) (c : Caller) (call : Call F) → concerns b c ≡ false → (h : List (Entry F)) → entries_concerning b (after h c call) ≡ entries_concerning b h
   unfolding entries_concerning after
   entries_concerning-after_other b c call e h =
-      left_out (λ (x : Entry F). concerns b x.caller) (nat_le call_limit (length (entries_beside c h))) h (record { caller = c; call = call; reply = answer h c call }) e
+      left_out (λ (x : Entry F). concerns b x.caller) (nat_le call_limit (length (entries_beside c h))) h (record { caller = c; call = call; reply = reply_due h c call }) e
 
   entries_concerning-run_from : (b : ℕ) (calls : List (Caller × Call F)) (h : List (Entry F)) → entries_concerning b (run_from h calls) ≡ run_from (entries_concerning b h) (calls_concerning b calls)
   entries_concerning-run_from b [] h = refl

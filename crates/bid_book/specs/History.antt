@@ -78,14 +78,14 @@ module _ {F : Type 0} where
   answer_to own chair Close = Closed (not (has_close chair))
 
   -- the answer to a call after a history
-  unfoldable pub answer : List (Entry F) → Caller → Call F → Reply F
-  answer history caller call =
+  unfoldable pub reply_due : List (Entry F) → Caller → Call F → Reply F
+  reply_due history caller call =
       if nat_le call_limit (length (entries_beside caller history)) then CallLimit else answer_to (entries_beside caller history) (entries_beside Chair history) call
 
   -- the history after a call: it is recorded with its answer, except at the limit
   unfoldable pub after : List (Entry F) → Caller → Call F → List (Entry F)
   after history caller call =
-      if nat_le call_limit (length (entries_beside caller history)) then history else history ++ record { caller = caller; call = call; reply = answer history caller call } ∷ []
+      if nat_le call_limit (length (entries_beside caller history)) then history else history ++ record { caller = caller; call = call; reply = reply_due history caller call } ∷ []
 
   -- the history of a list of calls
   abbrev pub run_from : List (Entry F) → List (Caller × Call F) → List (Entry F)
@@ -118,7 +118,7 @@ MayMake Chair _ = ⊥
 
 -- an entry that may come after these
 pub record IsRightAfter (before : List (Entry Offers)) (e : Entry Offers) : Type 0 where
-  pub reply : e.reply ≡ answer before e.caller e.call
+  pub reply : e.reply ≡ reply_due before e.caller e.call
   pub recorded : e.reply ≢ CallLimit
   pub allowed : MayMake e.caller e.call
 

@@ -1,7 +1,7 @@
 //! The book.
 ghost use Rattle.std.specs.Prelude.{◌≡◌, ◌≢◌, ◌∷◌, ◌++◌, map, [], not, IfOk, OnOk, IfErr, OnErr, IsOk};
 ghost use Rattle.std.specs.Option.{option_map, option_copied};
-ghost use Rattle.bid_book.specs.History.{answer, after, MayMake, call_value, reply_value, entry_value, standing_value, is_closed, standing_of, IsLegalHistory};
+ghost use Rattle.bid_book.specs.History.{reply_due, after, MayMake, call_value, reply_value, entry_value, standing_value, is_closed, standing_of, IsLegalHistory};
 
 use crate::call::Call;
 use crate::caller::Caller;
@@ -76,14 +76,14 @@ impl Book {
     pub fn step(&mut self, caller: Caller, call: Call) -> Result<Reply, StepError>
         requires { MayMake caller (call_value call) }
         ensures answered { IfOk result (λ r. reply_value r
-            ≡ answer self.old caller (call_value call)) }
+            ≡ reply_due self.old caller (call_value call)) }
         ensures recorded { IfOk result (λ r. reply_value r ≢ Reply.CallLimit
             → self.new ≡ self.old ++ record
             { caller = caller; call = call_value call; reply = reply_value r } ∷ []) }
         ensures unrecorded { IfOk result (λ r. reply_value r ≡ Reply.CallLimit
             → self.new ≡ self.old) }
         ensures run { OnOk result (self.new ≡ after self.old caller (call_value call)) }
-        ensures limit { answer self.old caller (call_value call) ≡ Reply.CallLimit → IsOk result }
+        ensures limit { reply_due self.old caller (call_value call) ≡ Reply.CallLimit → IsOk result }
 
         // Only memory can be wanting. The call comes back.
         ensures refused { IfErr result (λ e. e ≡ StepError.OutOfMemory call) }

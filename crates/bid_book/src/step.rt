@@ -2,7 +2,7 @@
 ghost use Rattle.std.specs.Prelude.{ℕ, ◌≡◌, ◌+◌, ◌<◌, ◌≤◌, ◌∷◌, ◌++◌, [], map, nat_eq, vec_len, vec_capacity, IfOk, OnOk, IfErr, OnErr, IsOk, IsSome};
 ghost use Rattle.std.specs.Option.{option_map};
 ghost use Rattle.indexmap.specs.IndexMap.{get, spare};
-ghost use Rattle.bid_book.specs.History.{call_value, reply_value, standing_value, entry_value, left_standing, entries_beside, answer_to, answer, after, call_limit, IsRightAfter, MayMake, is_closed};
+ghost use Rattle.bid_book.specs.History.{call_value, reply_value, standing_value, entry_value, left_standing, entries_beside, answer_to, reply_due, after, call_limit, IsRightAfter, MayMake, is_closed};
 ghost use Rattle.bid_book.specs.inside.Records.{counts_at, counts_after, standing_at, history_of, AreOfBook};
 
 use crate::call::Call;
@@ -135,10 +135,10 @@ pub(crate) fn step_session(
     requires allowed { MayMake (Caller.Session bidder session) (call_value call) }
     ensures kept { AreOfBook records.new }
     ensures answered { IfOk result (λ r. reply_value r
-        ≡ answer (history_of records.old) (Caller.Session bidder session) (call_value call)) }
+        ≡ reply_due (history_of records.old) (Caller.Session bidder session) (call_value call)) }
     ensures recorded { OnOk result (history_of records.new
         ≡ after (history_of records.old) (Caller.Session bidder session) (call_value call)) }
-    ensures limit { answer (history_of records.old) (Caller.Session bidder session)
+    ensures limit { reply_due (history_of records.old) (Caller.Session bidder session)
         (call_value call) ≡ Reply.CallLimit → IsOk result }
     ensures refused { IfErr result (λ e. e ≡ StepError.OutOfMemory call) }
     ensures unchanged { OnErr result (history_of records.new ≡ history_of records.old) }
@@ -163,10 +163,10 @@ pub(crate) fn step_chair(records: &mut Records, call: Call) -> Result<Reply, Ste
     requires allowed { MayMake Caller.Chair (call_value call) }
     ensures kept { AreOfBook records.new }
     ensures answered { IfOk result (λ r. reply_value r
-        ≡ answer (history_of records.old) Caller.Chair (call_value call)) }
+        ≡ reply_due (history_of records.old) Caller.Chair (call_value call)) }
     ensures recorded { OnOk result (history_of records.new
         ≡ after (history_of records.old) Caller.Chair (call_value call)) }
-    ensures limit { answer (history_of records.old) Caller.Chair (call_value call) ≡ Reply.CallLimit
+    ensures limit { reply_due (history_of records.old) Caller.Chair (call_value call) ≡ Reply.CallLimit
         → IsOk result }
     ensures refused { IfErr result (λ e. e ≡ StepError.OutOfMemory call) }
     ensures unchanged { OnErr result (history_of records.new ≡ history_of records.old) }

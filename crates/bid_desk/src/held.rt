@@ -5,7 +5,7 @@ ghost use Rattle.std.specs.Arc.{arc_value};
 ghost use Rattle.auction_terms.specs.Terms.{AreTerms};
 ghost use Rattle.bid_forms.specs.Offers.{Offers, Meets};
 ghost use Rattle.bid_book.specs.declared.reply.Reply.TheVariants.{Shown};
-ghost use Rattle.bid_book.specs.History.{entry_value, call_value, reply_value, standing_value, answer, standing_of, MayMake, IsLegalHistory, is_closed};
+ghost use Rattle.bid_book.specs.History.{entry_value, call_value, reply_value, standing_value, reply_due, standing_of, MayMake, IsLegalHistory, is_closed};
 ghost use Rattle.bid_desk.specs.Closing.{closing};
 ghost use Rattle.bid_desk.specs.Holding.{caller_of, CallMeets, IsEntryOf, IsRecordedBy, IsRecordedByChair};
 
@@ -83,7 +83,7 @@ impl<L: Round> Held<L> {
         requires bidder { (arc_value form.now).bidder ≡ session.old.bidder }
         requires meets { Meets L.rules (arc_value form.now) }
         ensures answered { IfOk result (λ r. reply_value r
-            ≡ answer self.old.history (caller_of session.old)
+            ≡ reply_due self.old.history (caller_of session.old)
             (Call.Submit (arc_value form.now) over)) }
         ensures recorded { IfOk result (λ r. reply_value r ≢ Reply.CallLimit
             → IsRecordedBy self.old self.new session.old session.new
@@ -101,7 +101,7 @@ impl<L: Round> Held<L> {
     /// Withdraws the form over the number that stands.
     pub fn withdraw(&mut self, session: &mut Session<L>, over: u32) -> Result<Reply, DeskError>
         ensures answered { IfOk result (λ r. reply_value r
-            ≡ answer self.old.history (caller_of session.old) (Call.Withdraw over)) }
+            ≡ reply_due self.old.history (caller_of session.old) (Call.Withdraw over)) }
         ensures recorded { IfOk result (λ r. reply_value r ≢ Reply.CallLimit
             → IsRecordedBy self.old self.new session.old session.new (Call.Withdraw over)
             (reply_value r)) }
@@ -117,7 +117,7 @@ impl<L: Round> Held<L> {
     /// Shows what stands.
     pub fn show(&mut self, session: &mut Session<L>) -> Result<Reply, DeskError>
         ensures answered { IfOk result (λ r. reply_value r
-            ≡ answer self.old.history (caller_of session.old) Call.Show) }
+            ≡ reply_due self.old.history (caller_of session.old) Call.Show) }
         ensures recorded { IfOk result (λ r. reply_value r ≢ Reply.CallLimit
             → IsRecordedBy self.old self.new session.old session.new Call.Show (reply_value r)) }
         ensures limit { IfOk result (λ r. reply_value r ≡ Reply.CallLimit
@@ -132,7 +132,7 @@ impl<L: Round> Held<L> {
     /// Closes the round.
     pub fn close(&mut self, chair: &mut Chair<L>) -> Result<Reply, DeskError>
         ensures answered { IfOk result (λ r. reply_value r
-            ≡ answer self.old.history Caller.Chair Call.Close) }
+            ≡ reply_due self.old.history Caller.Chair Call.Close) }
         ensures recorded { IfOk result (λ r. reply_value r ≢ Reply.CallLimit
             → IsRecordedByChair self.old self.new chair.old chair.new Call.Close (reply_value r)) }
         ensures limit { IfOk result (λ r. reply_value r ≡ Reply.CallLimit
@@ -154,7 +154,7 @@ impl<L: Round> Held<L> {
         requires allowed { MayMake (caller_of session.old) (call_value call) }
         requires meets { CallMeets L.rules (call_value call) }
         ensures answered { IfOk result (λ r. reply_value r
-            ≡ answer self.old.history (caller_of session.old) (call_value call)) }
+            ≡ reply_due self.old.history (caller_of session.old) (call_value call)) }
         ensures recorded { IfOk result (λ r. reply_value r ≢ Reply.CallLimit
             → IsRecordedBy self.old self.new session.old session.new (call_value call)
             (reply_value r)) }

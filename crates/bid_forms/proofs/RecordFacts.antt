@@ -86,7 +86,7 @@ QuantitiesSoFar r n within items =
     × All (λ quantity. quantity ≤ GREATEST_QUANTITY) items
     × (length items < n)
 
--- the next record_field is no number
+-- the next field is no number
 pub quantities-none : (r : Record) (n : ℕ) (within : Bool) (items : List ℕ) → QuantitiesSoFar r n within items → n < length r → None ≡ number_of (record_field (n + 1) r)
     → list_all is_number_text (drop 1 r) ≡ false
 quantities-none r n within items (texts, limits, are, each, few) small none =
@@ -99,7 +99,7 @@ one-more [] value n fewer = omega arith
 one-more (item ∷ items) value zero fewer = absurd (omega arith)
 one-more (item ∷ items) value (suc n) fewer = (let more = one-more items value n (omega arith) in omega arith)
 
--- the next record_field is a quantity
+-- the next field is a quantity
 pub quantities-small : (r : Record) (n : ℕ) (within : Bool) (items : List ℕ) (value : ℕ) → QuantitiesSoFar r n within items → n < length r
     → Some value ≡ number_of (record_field (n + 1) r) → value ≤ GREATEST_QUANTITY → QuantitiesSoFar r (n + 1) within (items ++ value ∷ [])
 quantities-small r n within items value (texts, limits, are, each, fewer) small some few =
@@ -113,7 +113,7 @@ quantities-small r n within items value (texts, limits, are, each, fewer) small 
       one-more items value n fewer,
     )
 
--- the next record_field is a number above the limit
+-- the next field is a number above the limit
 pub quantities-great : (r : Record) (n : ℕ) (within : Bool) (items : List ℕ) (value : ℕ) → QuantitiesSoFar r n within items → n < length r
     → Some value ≡ number_of (record_field (n + 1) r) → nat_le value GREATEST_QUANTITY ≡ false → QuantitiesSoFar r (n + 1) false items
 quantities-great r n within items value (texts, limits, are, each, fewer) small some great =

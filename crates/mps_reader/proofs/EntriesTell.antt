@@ -97,7 +97,7 @@ one-tells f row number o rows earlier column size same told h = open-same o rows
     (λ n. number-one (field 0 f) row number earlier n ∙ ap (λ r. coefficient (entry (field 0 f) r number ∷ earlier) (field 0 f) n) (sym same) ∙ ap (λ t. coefficient (entry (field 0 f) (field 1 f) t ∷ earlier) (field 0 f) n) (sym told)
     ∙ ap (λ es. coefficient (es ++ earlier) (field 0 f) n) (sym (one-entry f size))) h
 
--- the two pairs of a line, by their names_both
+-- the two pairs of a line, by their names
 pub record AreTwo (f : LineFields) (row number row2 number2 : List ℕ) : Type 0 where
   pub size : length f ≡ 5
   pub row-is : field 1 f ≡ row

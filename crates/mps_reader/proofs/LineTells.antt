@@ -26,7 +26,7 @@ use Rattle.mps_reader.proofs.NameFacts.{same_name, own_name, or-false, any-last,
 use Rattle.mps_reader.proofs.PairSteps.{length-names}
 use Rattle.mps_reader.proofs.ColumnSteps.{current-is}
 
--- ---- names_both, each once
+-- ---- names, each once
 
 or-last : (a b : Bool) → (a || (b || false)) ≡ (b || a)
 or-last true true = refl

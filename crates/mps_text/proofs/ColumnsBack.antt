@@ -55,9 +55,9 @@ lines-entries (c ∷ cs) before =
     let chunk = map (pair_fields c.0) c.1 in
     rw (push-append chunk (plain_lines cs) before, push-append (map (of_column c.0) c.1) (entries_of cs) (flat_map line_entries before), lines-entries cs (push chunk before), pairs-entries c.0 c.1 before) refl
 
--- ---- names_both
+-- ---- names
 
--- the names_both of others aren't this one
+-- the names of others aren't this one
 abbrev pub Differs : List ℕ → List Listed → Type 0
 Differs name cs = AllByRecursion (λ c. bytes_eq c.0 name ≡ false) cs
 

@@ -53,7 +53,7 @@ unsaid text line column h =
     (list_any-append (names_column column) text (line ∷ []) ∙ or_left (list_any (names_column column) text) (names_column column line) h)
     (list_any-append (sets column) text (line ∷ []) ∙ or_left (list_any (sets column) text) (sets column line) sets_not)
 
--- the first line that names_column a column says its value
+-- the first line that names a column says its value
 said_now : (text : List (List ℕ)) (line column : List ℕ) (v : Bool) → names_column column line ≡ true → list_any (names_column column) text ≡ false → token_value (value_in line) ≡ Ok v → said_of (text ++ line ∷ []) column ≡ Some v
 said_now text line column v h none is =
     let sets_it : sets column line ≡ v = rw (h, is) refl in
@@ -64,7 +64,7 @@ said_now text line column v h none is =
 flipped : (x y : List ℕ) → bytes_eq x y ≡ false → bytes_eq y x ≡ false
 flipped x y h = false_from_ne_true _ (λ e. both_ways _ h ((bytes_eq-Decides x y).1 (sym ((bytes_eq-Decides y x).0 e))))
 
--- the line names_column this column alone
+-- the line names this column alone
 module _ (text : List (List ℕ)) (line name : List ℕ) (v : Bool) (only : (column : List ℕ) → names_column column line ≡ bytes_eq column name) where
   others : (columns : List (List ℕ)) → AllByRecursion (λ c. bytes_eq name c ≡ false) columns → said_by columns text ≡ said_by columns (text ++ line ∷ [])
   others [] h = refl

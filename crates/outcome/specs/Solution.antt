@@ -23,14 +23,14 @@ use Rattle.outcome.specs.Values.{token_value}
 abbrev pub is_skipped : List ℕ → Bool
 is_skipped line = (slice_index line 0 == 35) || (length (fields line) == 0)
 
--- the column that a line names_column, and the token of its value
+-- the column that a line names, and the token of its value
 abbrev pub column_in : List ℕ → List ℕ
 column_in line = field 0 (fields line)
 
 abbrev pub value_in : List ℕ → List ℕ
 value_in line = field 1 (fields line)
 
--- whether the line names_column the column
+-- whether the line names the column
 abbrev pub names_column : List ℕ → List ℕ → Bool
 names_column column line = not (is_skipped line) && bytes_eq column (column_in line)
 
@@ -41,7 +41,7 @@ value_fault place (Ok v) = None
 value_fault place (Err value.ValueText) = Some (fault.ValueText place)
 value_fault place (Err value.NotZeroOne) = Some (fault.NotZeroOne place)
 
--- the fault of a name and a value at a place, behind these lines; the columns are given by their names_column
+-- the fault of a name and a value at a place, behind these lines; the columns are given by their names
 abbrev pub pair_fault : List (List ℕ) → List (List ℕ) → ℕ → List ℕ → List ℕ → Option SolutionFault
 pair_fault columns before place name token = option_or
     (first_failed (
@@ -61,7 +61,7 @@ solution_line_fault columns before line = if is_skipped line then None else fiel
 
 -- ---- the values of the columns
 
--- whether a line sets the column to 1; a column that no line names_column is 0
+-- whether a line sets the column to 1; a column that no line names is 0
 abbrev pub is_one : List (List ℕ) → List ℕ → Bool
 is_one text column = list_any (λ line. names_column column line && result_unwrap_or (token_value (value_in line)) false) text
 

@@ -67,7 +67,7 @@ in_row_at place e = e.0 == place
 same_place : (a b : ℕ) → (a == b) ≡ true → a ≡ b
 same_place a b h = grind (arith, nat_tests)
 
--- an entry of one column tells the coefficient_by_names of the other
+-- an entry of one column tells the coefficient of the other
 entry_over : (rows others : List TableRow) (c d : TableColumn) (name : List ℕ) (i : ℕ) (r : TableRow) (e : ℕ × ℤ) → Place rows name i r → list_all (entry_stands rows others d) c.entries ≡ true → find (in_row_at i) c.entries ≡ Some e
     → coefficient_in others d name ≡ e.1
 entry_over rows others c d name i r e place h f =

@@ -39,7 +39,7 @@ line_right_sides fields = pairs (drop (length fields % 2) fields)
 abbrev pub all_right_sides : List LineFields → List (List ℕ × List ℕ)
 all_right_sides lines = flat_map line_right_sides lines
 
--- the number of the pair that names_both the row, else 0
+-- the number of the pair that names the row, else 0
 abbrev pub right_side : List (List ℕ × List ℕ) → List ℕ → ℤ
 right_side sides row = option_map_or (λ pair. value pair.1) (find (λ pair. bytes_eq row pair.0) sides) (pos 0)
 
@@ -76,7 +76,7 @@ abbrev pub each_once : List LineFields → List (List ℕ)
 each_once [] = []
 each_once (fields ∷ before) = if list_any (λ other. bytes_eq (field 0 fields) (field 0 other)) before then each_once before else each_once before ++ field 0 fields ∷ []
 
--- the columns, in the order in which the text names_both them first
+-- the columns, in the order in which the text names them first
 abbrev pub columns_named : List LineFields → List (List ℕ)
 columns_named lines = each_once (column_lines lines)
 
@@ -98,7 +98,7 @@ all_entries lines = flat_map line_entries (column_lines lines)
 abbrev pub names_both : List ℕ → List ℕ → Entry → Bool
 names_both column row e = bytes_eq column e.column && bytes_eq row e.row
 
--- the number of the entry that names_both the column and the row, else 0
+-- the number of the entry that names the column and the row, else 0
 abbrev pub coefficient : List Entry → List ℕ → List ℕ → ℤ
 coefficient entries column row = option_map_or (λ e. value e.number) (find (names_both column row) entries) (pos 0)
 

@@ -116,7 +116,7 @@ marker_fault columns fields = when (not (length fields == 3 && bytes_eq (field 2
 abbrev pub is_column : List LineFields → List ℕ → Bool
 is_column columns name = list_any (λ fields. bytes_eq name (field 0 fields)) (column_lines columns)
 
--- the column was named before, and the line before this one names_both another or is a marker
+-- the column was named before, and the line before this one names another or is a marker
 abbrev pub is_split : List LineFields → List ℕ → Bool
 is_split columns name =
     let nearest = unwrap_or (slice_get columns 0) [] in

@@ -10,7 +10,7 @@ use Rattle.answers.specs.SolutionWinners.{winners}
 abbrev pub winners_at : Sale → List (List ℕ) → List (List ℕ) → ℕ → Result (List Choice) Refused
 winners_at sale groups texts n = winners sale (n + 1) (slice_index_or groups n [], slice_index_or texts n [])
 
--- the answer is what is told, or want of memory stands in its place
+-- the answer is what is told, or out of memory stands in its place
 abbrev pub IsToldAnswer : Result (List Choice) Refused → Result (List Choice) Refusal → Type 0
 IsToldAnswer told answer = IfOk answer (λ a. told ≡ Ok a) × IfErr answer (Refuses told)
 
