@@ -27,7 +27,7 @@ class Fault:
 
 
 def shown(value):
-    """A value of a file as a person reads it: a whole number with its thousands parted, anything else in quotes."""
+    """A value of a file as a person reads it: a whole number with its thousands set apart, anything else in quotes."""
     text = value.decode("utf-8", "replace") if isinstance(value, bytes) else str(value)
     if text.isascii() and text.isdigit() and len(text) <= 18:
         return "{:,}".format(int(text))

@@ -211,7 +211,7 @@ class Search:
         self.tasks.append(Visit(low, relaxation, basis))
 
     def settle_or_halve(self, node, relaxation):
-        """Without the help of a relaxation: the one point that is left is tested, or a block is parted."""
+        """Without the help of a relaxation: the one point that is left is tested, or a block is split."""
         split = None if self.is_empty(node) else halving(self.layout, node)
         if split is not None:
             self.go_on(node, relaxation, relaxation.basis(), split)

@@ -59,7 +59,7 @@ impl Sink for Expected {
     }
 }
 
-/// Want of memory where the refusal tells it, and else another failure.
+/// Out of memory where the refusal tells it, and else another failure.
 fn failure(refusal: &Refusal) -> Fail {
     let mut faults = Expected::new(SHORT);
     tell(refusal, &mut faults);
