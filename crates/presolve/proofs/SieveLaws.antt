@@ -1,11 +1,10 @@
 -- Laws of the sieve: its bitsets mark every rival that beats the bid.
-use Rattle.std.proofs.Common.{◌≡◌, ⊎_elim, ◌+◌, ◌-◌, ◌*◌, ◌/◌, ◌%◌, ◌<◌, ◌≤◌, ◌^◌, ℕ, zero, suc, ℤ, ◌&&◌, Bool, true, false, cond, nat_le, nat_lt, List, [], ◌∷◌, ◌++◌, append-nil, length, map, slice_index, slice_index_or, slice_range, drop, take, take_all, arith, sym, ap, ◌∙◌, subst}
+use Rattle.std.proofs.Common.{◌≡◌, ⊎_elim, ◌+◌, ◌-◌, ◌*◌, ◌/◌, ◌%◌, ◌<◌, ◌≤◌, ◌^◌, ℕ, zero, suc, ◌&&◌, Bool, true, false, cond, nat_le, nat_lt, List, [], ◌∷◌, ◌++◌, append-nil, length, map, slice_index, slice_index_or, slice_range, drop, take, take_all, arith, sym, ap, ◌∙◌, subst}
 use Rattle.std.specs.Prelude.{All, AllPairs, int_le}
 use Rattle.std.specs.Int.{bit_at, div_ceil}
 use Rattle.std.specs.List.{refill}
 use Rattle.std.proofs.Math.ListN.{drop_of_length-le}
 use Rattle.std.proofs.lemmas.Bool.{and_parts, cases_lt, cond-true, le-leb, le-ltb}
-use Rattle.std.proofs.lemmas.Int.{ints}
 use Rattle.std.proofs.lemmas.List.{get_or_append_left, get_or_default, get_or-drop, get_or-map, get_or-take, length-drop, length-map, length-take-le}
 use Rattle.std.proofs.Math.Nat.{pow-suc}
 use Rattle.std.proofs.Math.Pow.{pow_mono}
@@ -16,7 +15,7 @@ use Rattle.presolve.proofs.BitLaws.{first_bit, next_bit}
 use Rattle.presolve.specs.declared.order.SizedBid.{SizedBid}
 use Rattle.presolve.specs.declared.sieve.Level.{Level}
 use Rattle.presolve.specs.declared.sieve.Sieve.{Sieve}
-use Rattle.presolve.specs.inside.Sieves.{IsLevel, IsMarked, IsSieve, Sifts, shortfall, word_up_to}
+use Rattle.presolve.specs.inside.Sieves.{IsLevel, IsMarked, IsSieve, Sifts, word_up_to}
 use Rattle.presolve.specs.inside.Sizes.{beats}
 
 one_bit : (b : Bool) → cond b 1 0 ≤ 1
@@ -60,15 +59,9 @@ marked_more numbers words t place end w count up within full is before i small i
     ap (λ (n : ℕ). bit_at n k) (own ∙ is) ∙ word_bit t (slice_range numbers (place * 64) end) k long (omega arith))
     (cases_lt i (place * 64))
 
--- a rival that beats a bid has at most its quantity of a category, and its net isn't lower
+-- a rival that beats a bid has at most its quantity of a category
 pub fewer_at : (place : ℕ) (x s : SizedBid) → beats x s ≡ true → slice_index s.bid.now.package place ≤ slice_index x.bid.now.package place
 fewer_at place x s b = within_at s.bid.now.package x.bid.now.package place (and_parts (int_le x.net s.net) _ (and_parts (nat_lt s.size x.size) _ b).1).1
-
-shortfall_down : (x s : ℤ) → int_le x s ≡ true → shortfall s ≤ shortfall x
-shortfall_down x s h = grind (arith, ints)
-
-pub less_short : (x s : SizedBid) → beats x s ≡ true → shortfall s.net ≤ shortfall x.net
-less_short x s b = shortfall_down x.net s.net (and_parts (int_le x.net s.net) (is_within s.bid.now.package x.bid.now.package) (and_parts (nat_lt s.size x.size) _ b).1).0
 
 -- of such numbers a sieve is made
 pub is_sieve : (rivals : List SizedBid) (number : SizedBid → ℕ) (sieve : Sieve) → ((x s : SizedBid) → beats x s ≡ true → number s ≤ number x) → sieve.numbers.items ≡ map number rivals → All (IsLevel sieve.numbers.items) sieve.levels.items → IsSieve rivals sieve
