@@ -83,7 +83,8 @@ impl Book {
         ensures unrecorded { IfOk result (λ r. reply_value r ≡ Reply.CallLimit
             → self.new ≡ self.old) }
         ensures run { OnOk result (self.new ≡ after self.old caller (call_value call)) }
-        ensures limit { reply_due self.old caller (call_value call) ≡ Reply.CallLimit → IsOk result }
+        ensures limit { reply_due self.old caller (call_value call) ≡ Reply.CallLimit
+            → IsOk result }
 
         // Only memory can be wanting. The call comes back.
         ensures refused { IfErr result (λ e. e ≡ StepError.OutOfMemory call) }

@@ -1,7 +1,6 @@
 pub mod SizeLaws
-pub mod MaskLaws
+pub mod BitLaws
+pub mod SieveLaws
 pub mod NumberLaws
 pub mod FlagLaws
-pub mod GreatestLaws
-pub mod ShelfLaws
 pub mod KeepLaws

@@ -5,10 +5,8 @@
 mod flags;
 mod form_flags;
 mod keeping;
-mod masks;
-mod middles;
 mod order;
-mod shelves;
+mod sieve;
 
 pub use flags::Flags;
 pub use keeping::kept;
