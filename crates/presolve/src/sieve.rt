@@ -4,7 +4,7 @@
 //! compare each with all before it is too slow: a form has up to 4,000 bids over 32 categories. So bitsets sift them. A
 //! rival that dominates a bid has at most the bid's quantity of each category, and a net that isn't lower. So each quantity
 //! is a number of the rival, and so is how far its net stays below the greatest that there may be: none of them is greater
-//! where the rival dominates the bid. A `Sieve` is made for each of these numbers. It has up to 31 levels, each with a
+//! where the rival dominates the bid. A `Sieve` is made for each of these numbers. It has up to 15 levels, each with a
 //! threshold and the bitset of the rivals whose number is at most that: 64 rivals to a word, in their order.
 //!
 //! A bid is asked as follows. Each sieve gives its first level whose threshold isn't below the bid's own number; a sieve
@@ -31,7 +31,7 @@ use auction_terms::MOST_CATEGORIES;
 use std::alloc::{AllocError, Global};
 
 /// How many rivals the thresholds of a sieve are taken from.
-const SAMPLE: usize = 31;
+const SAMPLE: usize = 15;
 
 /// The most sieves: one for each category, and one for the net.
 const SIEVES: usize = MOST_CATEGORIES + 1;
