@@ -1,6 +1,7 @@
 pub mod SizeLaws
-pub mod BitLaws
-pub mod SieveLaws
+pub mod MaskLaws
 pub mod NumberLaws
 pub mod FlagLaws
+pub mod GreatestLaws
+pub mod ShelfLaws
 pub mod KeepLaws

@@ -1,3 +1,4 @@
 pub mod Flags
-pub mod Sieves
+pub mod Masks
+pub mod Shelves
 pub mod Sizes

@@ -5,8 +5,10 @@
 mod flags;
 mod form_flags;
 mod keeping;
+mod masks;
+mod middles;
 mod order;
-mod sieve;
+mod shelves;
 
 pub use flags::Flags;
 pub use keeping::kept;

@@ -1,0 +1,16 @@
+use Rattle.std.proofs.Common.{arith}
+use Rattle.presolve.proofs.MaskLaws.{one_at_most, mask_room}
+use Rattle.presolve.proofs.masks.mask_of.Goals as goal
+
+pub overflow_mul-mask : goal.overflow_mul-mask
+overflow_mul-mask c =
+    let so_far = c.loop-place.invariant in
+    let room = mask_room c.loop-place.place c.args.quantities.now c.loop-place-test.true c.requires in
+    omega arith
+
+pub overflow_add-mask : goal.overflow_add-mask
+overflow_add-mask c =
+    let so_far = c.loop-place.invariant in
+    let room = mask_room c.loop-place.place c.args.quantities.now c.loop-place-test.true c.requires in
+    let one = one_at_most c.from.result _ c.from.ensures in
+    omega arith

@@ -1,0 +1,17 @@
+use Rattle.std.proofs.Common.{arith}
+use Rattle.presolve.proofs.MaskLaws.{one_at_most}
+use Rattle.presolve.proofs.ShelfLaws.{bare_room}
+use Rattle.presolve.proofs.shelves.bare_places.Goals as goal
+
+pub overflow_mul-mask : goal.overflow_mul-mask
+overflow_mul-mask c =
+    let so_far = c.loop-place.invariant in
+    let room = bare_room c.loop-place.place c.args.shelves.now c.loop-place-test.true c.requires in
+    omega arith
+
+pub overflow_add-mask : goal.overflow_add-mask
+overflow_add-mask c =
+    let so_far = c.loop-place.invariant in
+    let room = bare_room c.loop-place.place c.args.shelves.now c.loop-place-test.true c.requires in
+    let one = one_at_most c.from.result _ c.from.ensures in
+    omega arith
