@@ -17,13 +17,13 @@ use crate::column_state::ColumnState;
 use crate::column_table::ColumnTable;
 use crate::refusal::Refusal;
 use crate::values::take_bit;
-use crate::words::is;
+use crate::words::is_word;
 use program_rows::{FaultKind, place_of};
 
 fn is_bound_type(word: &[u8]) -> bool
     ensures { result ≡ is_one_of word.now (codes "UP" ∷ codes "LO" ∷ codes "FX" ∷ codes "BV" ∷ []) }
 {
-    is(word, b"UP") || is(word, b"LO") || is(word, b"FX") || is(word, b"BV")
+    is_word(word, b"UP") || is_word(word, b"LO") || is_word(word, b"FX") || is_word(word, b"BV")
 }
 
 fn is_from_to(low: usize, high: usize, count: usize) -> bool
@@ -55,7 +55,7 @@ fn take_bound_type(fields: &[&[u8]]) -> Result<bool, Refusal>
         × (length fields.now ≤ 4)) }
 {
     refuse!(!is_bound_type(fields[0]), BoundType);
-    let is_binary = is(fields[0], b"BV");
+    let is_binary = is_word(fields[0], b"BV");
     refuse!(!is_count(is_binary, fields.len()), Fields);
     Ok(is_binary)
 }
@@ -82,13 +82,13 @@ fn bounded(word: &[u8], state: ColumnState, token: &[u8]) -> Result<ColumnState,
         ≡ bounded_values word.now (value token.now) (state_values state)) }
 {
     let value = take_bit(token)?;
-    if is(word, b"UP") {
+    if is_word(word, b"UP") {
         return Ok(ColumnState {
             upper: Some(value),
             ..state
         });
     }
-    if is(word, b"LO") {
+    if is_word(word, b"LO") {
         return Ok(ColumnState {
             lower: value,
             ..state

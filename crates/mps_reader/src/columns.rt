@@ -16,7 +16,7 @@ use crate::column_state::ColumnState;
 use crate::column_table::ColumnTable;
 use crate::names::insert_name;
 use crate::refusal::Refusal;
-use crate::words::is;
+use crate::words::is_word;
 use program_rows::{Bounds, FaultKind};
 use std::alloc::AllocError;
 
@@ -61,7 +61,7 @@ fn is_current(current: Option<&[u8]>, name: &[u8]) -> bool
     ensures { result ≡ is_current current.entry name.now }
 {
     match current {
-        Some(other) => is(name, other),
+        Some(other) => is_word(name, other),
         None => false,
     }
 }

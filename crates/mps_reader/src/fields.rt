@@ -58,7 +58,7 @@ fn is_text(line: &[u8]) -> bool
 }
 
 // The rest of a text, as a value of its own: the loop over fields states what is left by it.
-fn from(text: &[u8], start: usize) -> &[u8]
+fn behind(text: &[u8], start: usize) -> &[u8]
     requires { start ≤ length text.now }
     ensures { result.now ≡ drop start text.now }
 {
@@ -80,14 +80,14 @@ fn next_field(rest: &[u8]) -> Result<Option<(&[u8], &[u8])>, NotText>
     let Some(start) = field_start(rest) else {
         return Ok(None);
     };
-    let text = from(rest, start);
+    let text = behind(rest, start);
     let Some(end) = field_end(text) else {
-        return Ok(Some((text, from(text, text.len()))));
+        return Ok(Some((text, behind(text, text.len()))));
     };
     if !is_space_byte(text[end]) {
         return Err(NotText);
     }
-    Ok(Some((&text[..end], from(text, end + 1))))
+    Ok(Some((&text[..end], behind(text, end + 1))))
 }
 
 /// The first fields of a line of text.

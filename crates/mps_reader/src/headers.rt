@@ -13,33 +13,39 @@ ghost use Rattle.mps_reader.specs.inside.Sections.{word_of};
 use crate::refusal::Refusal;
 use crate::sections::{Section, place, section_of};
 use crate::senses::take_sense;
-use crate::words::is;
+use crate::words::is_word;
 use program_rows::FaultKind;
 
 fn is_left_out(word: &[u8]) -> bool
     ensures { result ≡ is_one_of word.now sections_left_out }
 {
-    is(word, b"RANGES")
-        || is(word, b"SOS")
-        || is(word, b"SOS1")
-        || is(word, b"SOS2")
-        || is(word, b"QUADOBJ")
-        || is(word, b"QMATRIX")
-        || is(word, b"QSECTION")
-        || is(word, b"QCMATRIX")
-        || is(word, b"INDICATORS")
+    is_word(word, b"RANGES")
+        || is_word(word, b"SOS")
+        || is_word(word, b"SOS1")
+        || is_word(word, b"SOS2")
+        || is_word(word, b"QUADOBJ")
+        || is_word(word, b"QMATRIX")
+        || is_word(word, b"QSECTION")
+        || is_word(word, b"QCMATRIX")
+        || is_word(word, b"INDICATORS")
 }
 
 fn stands_alone(word: &[u8]) -> bool
     ensures { result ≡ is_one_of word.now (codes "ROWS" ∷ codes "COLUMNS" ∷ codes "RHS" ∷ codes "BOUNDS" ∷ []) }
 {
-    is(word, b"ROWS") || is(word, b"COLUMNS") || is(word, b"RHS") || is(word, b"BOUNDS")
+    is_word(word, b"ROWS")
+        || is_word(word, b"COLUMNS")
+        || is_word(word, b"RHS")
+        || is_word(word, b"BOUNDS")
 }
 
 fn wants_objective(word: &[u8]) -> bool
     ensures { result ≡ is_one_of word.now (codes "COLUMNS" ∷ codes "RHS" ∷ codes "BOUNDS" ∷ codes "ENDATA" ∷ []) }
 {
-    is(word, b"COLUMNS") || is(word, b"RHS") || is(word, b"BOUNDS") || is(word, b"ENDATA")
+    is_word(word, b"COLUMNS")
+        || is_word(word, b"RHS")
+        || is_word(word, b"BOUNDS")
+        || is_word(word, b"ENDATA")
 }
 
 fn has_more(word: &[u8], more: &[&[u8]]) -> bool
@@ -71,7 +77,7 @@ fn take_named_sense(more: &[&[u8]]) -> Result<(), Refusal>
 fn take_header_sense(word: &[u8], more: &[&[u8]]) -> Result<(), Refusal>
     ensures { AnswersFault result (if bytes_eq word.now (codes "OBJSENSE") then earliest_fault (when (nat_lt 1 (length (bytes_of more.now))) Fields ∷ (if length (bytes_of more.now) == 1 then sense_fault (field 0 (bytes_of more.now)) else None) ∷ []) else None) }
 {
-    if is(word, b"OBJSENSE") {
+    if is_word(word, b"OBJSENSE") {
         return take_named_sense(more);
     }
     Ok(())

@@ -8,25 +8,25 @@ ghost use Rattle.auction_terms.specs.Borrowed.{bytes_of};
 ghost use Rattle.mps_reader.specs.inside.Reading.{AnswersFault};
 
 use crate::refusal::Refusal;
-use crate::words::is;
+use crate::words::is_word;
 use program_rows::FaultKind;
 
 fn is_marker_word(word: &[u8]) -> bool
     ensures { result ≡ is_one_of word.now (codes "'INTORG'" ∷ codes "'INTEND'" ∷ []) }
 {
-    is(word, b"'INTORG'") || is(word, b"'INTEND'")
+    is_word(word, b"'INTORG'") || is_word(word, b"'INTEND'")
 }
 
 fn begins_again(word: &[u8], is_begun: bool) -> bool
     ensures { result ≡ (bytes_eq word.now (codes "'INTORG'") && is_begun) }
 {
-    is(word, b"'INTORG'") && is_begun
+    is_word(word, b"'INTORG'") && is_begun
 }
 
 fn ends_none(word: &[u8], is_begun: bool) -> bool
     ensures { result ≡ (bytes_eq word.now (codes "'INTEND'") && not is_begun) }
 {
-    is(word, b"'INTEND'") && !is_begun
+    is_word(word, b"'INTEND'") && !is_begun
 }
 
 /// Whether a line of COLUMNS is a marker.
@@ -36,7 +36,7 @@ pub fn names_marker(fields: &[&[u8]]) -> bool
     if fields.len() < 2 {
         return false;
     }
-    is(fields[1], b"'MARKER'")
+    is_word(fields[1], b"'MARKER'")
 }
 
 /// A marker line: whether integers are begun behind it.
@@ -57,5 +57,5 @@ pub fn take_marker(is_begun: bool, fields: &[&[u8]]) -> Result<bool, Refusal>
     if ends_none(fields[2], is_begun) {
         return Err(Refusal::Fault(FaultKind::Marker));
     }
-    Ok(is(fields[2], b"'INTORG'"))
+    Ok(is_word(fields[2], b"'INTORG'"))
 }

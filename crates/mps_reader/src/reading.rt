@@ -43,7 +43,7 @@ use crate::row_table::Rows;
 use crate::rows::take_row;
 use crate::sections::Section;
 use crate::senses::take_sense_line;
-use crate::words::is;
+use crate::words::is_word;
 use program_rows::{FaultKind, Seeded};
 use std::alloc::Global;
 
@@ -79,7 +79,7 @@ fn take_header_line<'t>(reading: &mut Reading<'t>, fields: &[&'t [u8]]) -> Resul
     close_column(&mut reading.columns)?;
     let has_objective = reading.rows.objective.is_some();
     reading.section = take_header(reading.section, has_objective, fields[0], &fields[1..])?;
-    if is(fields[0], b"ENDATA") {
+    if is_word(fields[0], b"ENDATA") {
         refuse_open(reading.columns.states.as_slice())?;
         return Ok(true);
     }

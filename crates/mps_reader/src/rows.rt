@@ -16,7 +16,7 @@ ghost use Rattle.mps_reader.specs.inside.Tracking.{RowsTell, AreStampsUpTo};
 use crate::names::insert_name;
 use crate::refusal::Refusal;
 use crate::row_table::Rows;
-use crate::words::is;
+use crate::words::is_word;
 use program_rows::{FaultKind, NameSet, Row, RowKind, place_of};
 use std::alloc::{AllocError, Global};
 use std::cell::Cell;
@@ -24,16 +24,16 @@ use std::cell::Cell;
 fn is_row_type(letter: &[u8]) -> bool
     ensures { result ≡ is_one_of letter.now row_types }
 {
-    is(letter, b"N") || is(letter, b"L") || is(letter, b"G") || is(letter, b"E")
+    is_word(letter, b"N") || is_word(letter, b"L") || is_word(letter, b"G") || is_word(letter, b"E")
 }
 
 fn row_kind(letter: &[u8]) -> RowKind
     ensures { result ≡ row_kind_of letter.now }
 {
-    if is(letter, b"L") {
+    if is_word(letter, b"L") {
         return RowKind::AtMost;
     }
-    if is(letter, b"G") {
+    if is_word(letter, b"G") {
         return RowKind::AtLeast;
     }
     RowKind::Equal
@@ -81,7 +81,7 @@ pub fn take_row<'t>(rows: &mut Rows<'t>, fields: &[&'t [u8]]) -> Result<(), Refu
     refuse!(!is_row_type(fields[0]), RowType);
     let is_new = insert_name(&mut rows.names, fields[1])?;
     refuse!(!is_new, RowRepeated);
-    if is(fields[0], b"N") {
+    if is_word(fields[0], b"N") {
         add_free(rows, fields[1])?;
         return Ok(());
     }
@@ -118,7 +118,7 @@ pub fn is_objective(objective: Option<&[u8]>, row: &[u8]) -> bool
     ensures { result ≡ option_map_or (λ name. bytes_eq row.now name.now) objective.entry false }
 {
     match objective {
-        Some(name) => is(row, name),
+        Some(name) => is_word(row, name),
         None => false,
     }
 }

@@ -4,7 +4,7 @@ ghost use Rattle.std.specs.Prelude.{◌≡◌};
 ghost use Rattle.program_rows.specs.Faults.{place_of};
 ghost use Rattle.mps_reader.specs.inside.Sections.{word_of, section_named};
 
-use crate::words::is;
+use crate::words::is_word;
 
 /// The section that is open.
 #[derive(Clone, Copy, PartialEq, Eq)]
@@ -39,25 +39,25 @@ pub fn place(section: Section) -> u8
 pub fn section_of(word: &[u8]) -> Section
     ensures { result ≡ section_named word.now }
 {
-    if is(word, b"NAME") {
+    if is_word(word, b"NAME") {
         return Section::Name;
     }
-    if is(word, b"OBJSENSE") {
+    if is_word(word, b"OBJSENSE") {
         return Section::Sense;
     }
-    if is(word, b"ROWS") {
+    if is_word(word, b"ROWS") {
         return Section::Rows;
     }
-    if is(word, b"COLUMNS") {
+    if is_word(word, b"COLUMNS") {
         return Section::Columns;
     }
-    if is(word, b"RHS") {
+    if is_word(word, b"RHS") {
         return Section::RightSides;
     }
-    if is(word, b"BOUNDS") {
+    if is_word(word, b"BOUNDS") {
         return Section::Bounds;
     }
-    if is(word, b"ENDATA") {
+    if is_word(word, b"ENDATA") {
         return Section::End;
     }
     Section::Start

@@ -7,19 +7,19 @@ ghost use Rattle.auction_terms.specs.Borrowed.{bytes_of};
 ghost use Rattle.mps_reader.specs.inside.Reading.{AnswersFault};
 
 use crate::refusal::Refusal;
-use crate::words::is;
+use crate::words::is_word;
 use program_rows::FaultKind;
 
 fn is_greatest(word: &[u8]) -> bool
     ensures { result ≡ is_one_of word.now (codes "MAX" ∷ codes "MAXIMIZE" ∷ []) }
 {
-    is(word, b"MAX") || is(word, b"MAXIMIZE")
+    is_word(word, b"MAX") || is_word(word, b"MAXIMIZE")
 }
 
 fn is_least(word: &[u8]) -> bool
     ensures { result ≡ is_one_of word.now (codes "MIN" ∷ codes "MINIMIZE" ∷ []) }
 {
-    is(word, b"MIN") || is(word, b"MINIMIZE")
+    is_word(word, b"MIN") || is_word(word, b"MINIMIZE")
 }
 
 /// A sense.

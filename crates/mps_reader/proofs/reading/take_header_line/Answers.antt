@@ -12,8 +12,8 @@ use Rattle.mps_reader.specs.declared.sections.Section.{Section}
 use Rattle.mps_reader.proofs.FitFacts.{header-fits}
 use Rattle.mps_reader.proofs.reading.take_header_line.Goals as goal
 
-pub returns-then-is-clause-fit : goal.returns-then-is-clause-fit
-returns-then-is-clause-fit c = header-fits c.args.reading.now _ c.requires.fit c.in_ok-close_column.ensures.fit c.in_ok-close_column.ensures.closed refl
+pub returns-then-is_word-clause-fit : goal.returns-then-is_word-clause-fit
+returns-then-is_word-clause-fit c = header-fits c.args.reading.now _ c.requires.fit c.in_ok-close_column.ensures.fit c.in_ok-close_column.ensures.closed refl
 
 pub returns-clause-fit : goal.returns-clause-fit
 returns-clause-fit c = header-fits c.args.reading.now _ c.requires.fit c.in_ok-close_column.ensures.fit c.in_ok-close_column.ensures.closed refl
@@ -36,18 +36,18 @@ returns-in_err-refuse_open-clause-fault c = λ before h.
     let states = ap (λ ss. option_map NotBinary (position (λ s. not (is_binary_state s)) ss)) (c.as_slice.ensures.value ∙ ap (λ s. s.items) c.in_ok-close_column.ensures.states) ∙ first-open before c.args.reading.now.columns.states.items h.lines.of_columns.states in
     let r : c.from_residual-in_err-refuse_open.result ≡ Err c.in_err-refuse_open.field-0.0 = search rules in
     handed-on (Unit {0}) c.from_residual-in_err-refuse_open.result c.in_err-refuse_open.field-0.0 _ _ r
-    (λ kind k. ap (λ w. header_fault before w (drop 1 (bytes_of c.args.fields.now))) word ∙ end-fault before (get_or c.args.fields.now 0 no_name).now (drop 1 (bytes_of c.args.fields.now)) (Some kind) (sym (ap (λ w. header_fault before w (drop 1 (bytes_of c.args.fields.now))) word) ∙ left) (sym c.is.ensures ∙ c.if-is.true) (sym states ∙ k))
+    (λ kind k. ap (λ w. header_fault before w (drop 1 (bytes_of c.args.fields.now))) word ∙ end-fault before (get_or c.args.fields.now 0 no_name).now (drop 1 (bytes_of c.args.fields.now)) (Some kind) (sym (ap (λ w. header_fault before w (drop 1 (bytes_of c.args.fields.now))) word) ∙ left) (sym c.is_word.ensures ∙ c.if-is_word.true) (sym states ∙ k))
     c.in_err-refuse_open.ensures
 
-pub returns-then-is-clause-fault : goal.returns-then-is-clause-fault
-returns-then-is-clause-fault c = λ before h.
+pub returns-then-is_word-clause-fault : goal.returns-then-is_word-clause-fault
+returns-then-is_word-clause-fault c = λ before h.
     let word : field 0 (bytes_of c.args.fields.now) ≡ (get_or c.args.fields.now 0 no_name).now = field-at c.args.fields.now 0 (omega (arith, c.requires.some)) in
     let more = header-more c.args.fields.now in
     let lacks = lacks-objective before c.args.reading.now h ∙ ap not (sym c.is_some-has_objective.ensures) in
     let left = ap (λ w. header_fault before w (drop 1 (bytes_of c.args.fields.now))) word ∙ ap (header_fault before (get_or c.args.fields.now 0 no_name).now) (sym more) ∙ c.in_ok-reading.ensures.fault before h.section lacks in
     let states = ap (λ ss. option_map NotBinary (position (λ s. not (is_binary_state s)) ss)) (c.as_slice.ensures.value ∙ ap (λ s. s.items) c.in_ok-close_column.ensures.states) ∙ first-open before c.args.reading.now.columns.states.items h.lines.of_columns.states in
     ap (λ w. header_fault before w (drop 1 (bytes_of c.args.fields.now))) word
-    ∙ end-fault before (get_or c.args.fields.now 0 no_name).now (drop 1 (bytes_of c.args.fields.now)) None (sym (ap (λ w. header_fault before w (drop 1 (bytes_of c.args.fields.now))) word) ∙ left) (sym c.is.ensures ∙ c.if-is.true) (sym states ∙ c.in_ok-refuse_open.ensures)
+    ∙ end-fault before (get_or c.args.fields.now 0 no_name).now (drop 1 (bytes_of c.args.fields.now)) None (sym (ap (λ w. header_fault before w (drop 1 (bytes_of c.args.fields.now))) word) ∙ left) (sym c.is_word.ensures ∙ c.if-is_word.true) (sym states ∙ c.in_ok-refuse_open.ensures)
 
 pub returns-clause-fault : goal.returns-clause-fault
 returns-clause-fault c = λ before h.
@@ -56,10 +56,10 @@ returns-clause-fault c = λ before h.
     let lacks = lacks-objective before c.args.reading.now h ∙ ap not (sym c.is_some-has_objective.ensures) in
     let left = ap (λ w. header_fault before w (drop 1 (bytes_of c.args.fields.now))) word ∙ ap (header_fault before (get_or c.args.fields.now 0 no_name).now) (sym more) ∙ c.in_ok-reading.ensures.fault before h.section lacks in
     ap (λ w. header_fault before w (drop 1 (bytes_of c.args.fields.now))) word
-    ∙ other-fault before (get_or c.args.fields.now 0 no_name).now (drop 1 (bytes_of c.args.fields.now)) (sym (ap (λ w. header_fault before w (drop 1 (bytes_of c.args.fields.now))) word) ∙ left) (sym c.is.ensures ∙ c.if-is.false)
+    ∙ other-fault before (get_or c.args.fields.now 0 no_name).now (drop 1 (bytes_of c.args.fields.now)) (sym (ap (λ w. header_fault before w (drop 1 (bytes_of c.args.fields.now))) word) ∙ left) (sym c.is_word.ensures ∙ c.if-is_word.false)
 
-pub returns-then-is-clause-tells : goal.returns-then-is-clause-tells
-returns-then-is-clause-tells c = λ before more h.
+pub returns-then-is_word-clause-tells : goal.returns-then-is_word-clause-tells
+returns-then-is_word-clause-tells c = λ before more h.
     let word : field 0 (bytes_of c.args.fields.now) ≡ (get_or c.args.fields.now 0 no_name).now = field-at c.args.fields.now 0 (omega (arith, c.requires.some)) in
     header-tells before (field 0 (bytes_of c.args.fields.now)) more c.args.reading.now c.in_ok-reading.field-0 c.close_column.new.columns c.in_ok-reading.ensures.order (c.in_ok-reading.ensures.opened ∙ sym word) c.in_ok-close_column.ensures.names c.in_ok-close_column.ensures.closed c.in_ok-close_column.ensures.tells c.requires.fit h
 
