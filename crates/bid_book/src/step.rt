@@ -166,8 +166,8 @@ pub(crate) fn step_chair(records: &mut Records, call: Call) -> Result<Reply, Ste
         ≡ reply_due (history_of records.old) Caller.Chair (call_value call)) }
     ensures recorded { OnOk result (history_of records.new
         ≡ after (history_of records.old) Caller.Chair (call_value call)) }
-    ensures limit { reply_due (history_of records.old) Caller.Chair (call_value call) ≡ Reply.CallLimit
-        → IsOk result }
+    ensures limit { reply_due (history_of records.old) Caller.Chair (call_value call)
+        ≡ Reply.CallLimit → IsOk result }
     ensures refused { IfErr result (λ e. e ≡ StepError.OutOfMemory call) }
     ensures unchanged { OnErr result (history_of records.new ≡ history_of records.old) }
 {

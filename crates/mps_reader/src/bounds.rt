@@ -47,9 +47,16 @@ fn is_count(is_binary: bool, count: usize) -> bool
 /// The type and the number of fields of a bound: whether it makes its column binary.
 fn take_bound_type(fields: &[&[u8]]) -> Result<bool, Refusal>
     requires some { 1 ≤ length fields.now }
-    ensures number { IfOk result (λ is_binary. is_binary ≡ false → is_one_of (field 0 (bytes_of fields.now)) (codes "UP" ∷ codes "LO" ∷ codes "FX" ∷ []) ≡ true) }
-    ensures fault { AnswersFault result (earliest_fault (when (not (is_one_of (field 0 (bytes_of fields.now)) (codes "UP" ∷ codes "LO" ∷ codes "FX" ∷ codes "BV" ∷ []))) BoundType
-        ∷ when (not (if is_binary_bound (bytes_of fields.now) then nat_le 2 (length (bytes_of fields.now)) && nat_le (length (bytes_of fields.now)) 4 else nat_le 3 (length (bytes_of fields.now)) && nat_le (length (bytes_of fields.now)) 4)) Fields ∷ [])) }
+    ensures number { IfOk result (λ is_binary. is_binary ≡ false
+        → is_one_of (field 0 (bytes_of fields.now)) (codes "UP" ∷ codes "LO" ∷ codes "FX" ∷ [])
+        ≡ true) }
+    ensures fault { AnswersFault result (earliest_fault
+        (when (not (is_one_of (field 0 (bytes_of fields.now))
+        (codes "UP" ∷ codes "LO" ∷ codes "FX" ∷ codes "BV" ∷ []))) BoundType
+        ∷ when (not (if is_binary_bound (bytes_of fields.now) then nat_le 2
+        (length (bytes_of fields.now))
+        && nat_le (length (bytes_of fields.now)) 4 else nat_le 3 (length (bytes_of fields.now))
+        && nat_le (length (bytes_of fields.now)) 4)) Fields ∷ [])) }
     ensures binary { IfOk result (λ is_binary. is_binary ≡ is_binary_bound (bytes_of fields.now)) }
     ensures range { IfOk result (λ is_binary. ((if is_binary then 2 else 3) ≤ length fields.now)
         × (length fields.now ≤ 4)) }
@@ -110,8 +117,10 @@ pub fn take_bound<'t>(columns: &mut ColumnTable<'t>, fields: &[&[u8]]) -> Result
     ensures current { columns.new.current ≡ columns.old.current }
     ensures fault { (lines : List LineFields) → names_of columns.old.names ≡ columns_named lines
         → AnswersFault result (bound_fault lines (bytes_of fields.now)) }
-    ensures tells { OnOk result ((objective : Option (List ℕ)) (rows : List (List ℕ)) (lines bounds : List LineFields) → IsDistinct bytes_eq (names_of columns.old.names)
-        → ColumnsTell objective rows lines bounds columns.old → ColumnsTell objective rows lines (bytes_of fields.now ∷ bounds) columns.new) }
+    ensures tells { OnOk result ((objective : Option (List ℕ)) (rows : List (List ℕ))
+        (lines bounds : List LineFields) → IsDistinct bytes_eq (names_of columns.old.names)
+        → ColumnsTell objective rows lines bounds columns.old
+        → ColumnsTell objective rows lines (bytes_of fields.now ∷ bounds) columns.new) }
 {
     let is_binary = take_bound_type(fields)?;
     let at = place_of_column(is_binary, fields.len());

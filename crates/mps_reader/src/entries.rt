@@ -63,15 +63,21 @@ fn take_entry<'t>(
     ensures frame { rows.new ≡ record rows.old { stamps = rows.new.stamps } }
     ensures entries { OnOk result (PairsFit stamp rows.old column.old
         → PairsFit stamp rows.new column.new) }
-    ensures fault { (has : List ℕ → Bool) → StampsAre rows.old.stamps.items stamp (names_of rows.old.names) has
-        → AnswersFault result (earliest_fault (when (not (list_any (bytes_eq row.now) (names_of rows.old.names))) UnknownRow ∷ when (has row.now) EntryRepeated ∷ number_fault token.now ∷ [])) }
+    ensures fault { (has : List ℕ → Bool) → StampsAre rows.old.stamps.items stamp
+        (names_of rows.old.names) has
+        → AnswersFault result (earliest_fault
+        (when (not (list_any (bytes_eq row.now) (names_of rows.old.names))) UnknownRow
+        ∷ when (has row.now) EntryRepeated ∷ number_fault token.now ∷ [])) }
     ensures stamps { OnOk result ((has : List ℕ → Bool)
         → StampsAre rows.old.stamps.items stamp (names_of rows.old.names) has
         → StampsAre rows.new.stamps.items stamp (names_of rows.old.names)
         (λ name. bytes_eq name row.now || has name)) }
     ensures low { OnOk result (AreStampsUpTo stamp rows.old → AreStampsUpTo stamp rows.new) }
-    ensures tells { OnOk result (PairsFit stamp rows.old column.old → (number : List ℕ → ℤ) → OpenTells (option_now rows.old.objective) (declared_row_names rows.old.rows.items) number column.old
-        → OpenTells (option_now rows.old.objective) (declared_row_names rows.old.rows.items) (λ name. if bytes_eq name row.now then value token.now else number name) column.new) }
+    ensures tells { OnOk result (PairsFit stamp rows.old column.old → (number : List ℕ → ℤ)
+        → OpenTells (option_now rows.old.objective) (declared_row_names rows.old.rows.items) number
+        column.old → OpenTells (option_now rows.old.objective)
+        (declared_row_names rows.old.rows.items)
+        (λ name. if bytes_eq name row.now then value token.now else number name) column.new) }
 {
     let index = stamp_row(&rows.names, &rows.next, &mut rows.stamps, row, stamp)?;
     let value = take_number(token)?;
@@ -98,8 +104,10 @@ fn take_marker_line<'t>(columns: &mut ColumnTable<'t>, fields: &[&[u8]]) -> Resu
     ensures fault { (lines : List LineFields) → is_integer_open lines ≡ columns.old.is_begun
         → AnswersFault result (marker_fault lines (bytes_of fields.now)) }
     ensures names { OnOk result (columns.new.names ≡ columns.old.names) }
-    ensures tells { OnOk result (is_marker (bytes_of fields.now) ≡ true → (objective : Option (List ℕ)) (rows : List (List ℕ)) (lines : List LineFields) → ColumnsFit (length rows) columns.old
-        → ColumnsTell objective rows lines [] columns.old → ColumnsTell objective rows (bytes_of fields.now ∷ lines) [] columns.new) }
+    ensures tells { OnOk result (is_marker (bytes_of fields.now) ≡ true
+        → (objective : Option (List ℕ)) (rows : List (List ℕ)) (lines : List LineFields)
+        → ColumnsFit (length rows) columns.old → ColumnsTell objective rows lines [] columns.old
+        → ColumnsTell objective rows (bytes_of fields.now ∷ lines) [] columns.new) }
 {
     let is_begun = take_marker(columns.is_begun, fields)?;
     close_column(columns)?;
@@ -120,15 +128,27 @@ fn take_entries<'t>(
     ensures frame { rows.new ≡ record rows.old { stamps = rows.new.stamps } }
     ensures entries { OnOk result (PairsFit stamp rows.old column.old
         → PairsFit stamp rows.new column.new) }
-    ensures fault { (lines : List LineFields) (has : List ℕ → Bool) → ((name : List ℕ) → is_declared lines name ≡ list_any (bytes_eq name) (names_of rows.old.names))
+    ensures fault { (lines : List LineFields) (has : List ℕ → Bool)
+        → ((name : List ℕ) → is_declared lines name
+        ≡ list_any (bytes_eq name) (names_of rows.old.names))
         → StampsAre rows.old.stamps.items stamp (names_of rows.old.names) has
-        → AnswersFault result (pairs_fault lines (λ pair. None) has (pairs (drop 1 (bytes_of fields.now)))) }
-    ensures stamps { OnOk result ((earlier : List Entry) → StampsAre rows.old.stamps.items stamp (names_of rows.old.names) (λ row. list_any (names_both (field 0 (bytes_of fields.now)) row) earlier)
-        → StampsAre rows.new.stamps.items stamp (names_of rows.old.names) (λ row. list_any (names_both (field 0 (bytes_of fields.now)) row) (line_entries (bytes_of fields.now) ++ earlier))) }
+        → AnswersFault result (pairs_fault lines (λ pair. None) has
+        (pairs (drop 1 (bytes_of fields.now)))) }
+    ensures stamps { OnOk result ((earlier : List Entry)
+        → StampsAre rows.old.stamps.items stamp (names_of rows.old.names)
+        (λ row. list_any (names_both (field 0 (bytes_of fields.now)) row) earlier)
+        → StampsAre rows.new.stamps.items stamp (names_of rows.old.names)
+        (λ row. list_any (names_both (field 0 (bytes_of fields.now)) row)
+        (line_entries (bytes_of fields.now) ++ earlier))) }
     ensures low { OnOk result (AreStampsUpTo stamp rows.old → AreStampsUpTo stamp rows.new) }
-    ensures tells { OnOk result (PairsFit stamp rows.old column.old → (earlier : List Entry) → StampsAre rows.old.stamps.items stamp (names_of rows.old.names) (λ row. list_any (names_both (field 0 (bytes_of fields.now)) row) earlier)
-        → OpenTells (option_now rows.old.objective) (declared_row_names rows.old.rows.items) (coefficient earlier (field 0 (bytes_of fields.now))) column.old
-        → OpenTells (option_now rows.old.objective) (declared_row_names rows.old.rows.items) (coefficient (line_entries (bytes_of fields.now) ++ earlier) (field 0 (bytes_of fields.now))) column.new) }
+    ensures tells { OnOk result (PairsFit stamp rows.old column.old → (earlier : List Entry)
+        → StampsAre rows.old.stamps.items stamp (names_of rows.old.names)
+        (λ row. list_any (names_both (field 0 (bytes_of fields.now)) row) earlier)
+        → OpenTells (option_now rows.old.objective) (declared_row_names rows.old.rows.items)
+        (coefficient earlier (field 0 (bytes_of fields.now))) column.old
+        → OpenTells (option_now rows.old.objective) (declared_row_names rows.old.rows.items)
+        (coefficient (line_entries (bytes_of fields.now) ++ earlier)
+        (field 0 (bytes_of fields.now))) column.new) }
 {
     take_entry(rows, column, stamp, fields[1], fields[2])?;
     if fields.len() == 5 {
@@ -149,11 +169,18 @@ pub fn take_column_line<'t>(
     ensures fit { OnOk result (RowsFit rows.new) }
     ensures frame { rows.new ≡ record rows.old { stamps = rows.new.stamps } }
     ensures columns { OnOk result (BothFit rows.old columns.old → BothFit rows.new columns.new) }
-    ensures fault { (before : Sections) → ((name : List ℕ) → is_declared before.rows name ≡ list_any (bytes_eq name) (names_of rows.old.names)) → BothFit rows.old columns.old
-        → ColumnsTell (option_now rows.old.objective) (declared_row_names rows.old.rows.items) before.columns [] columns.old → InColumns before.columns [] [] rows.old columns.old
+    ensures fault { (before : Sections) → ((name : List ℕ)
+        → is_declared before.rows name ≡ list_any (bytes_eq name) (names_of rows.old.names))
+        → BothFit rows.old columns.old
+        → ColumnsTell (option_now rows.old.objective) (declared_row_names rows.old.rows.items)
+        before.columns [] columns.old → InColumns before.columns [] [] rows.old columns.old
         → AnswersFault result (column_fault before (bytes_of fields.now)) }
-    ensures tells { OnOk result ((lines : List LineFields) → BothFit rows.old columns.old → ColumnsTell (option_now rows.old.objective) (declared_row_names rows.old.rows.items) lines [] columns.old → InColumns lines [] [] rows.old columns.old
-        → ColumnsTell (option_now rows.old.objective) (declared_row_names rows.old.rows.items) (bytes_of fields.now ∷ lines) [] columns.new × InColumns (bytes_of fields.now ∷ lines) [] [] rows.new columns.new) }
+    ensures tells { OnOk result ((lines : List LineFields) → BothFit rows.old columns.old
+        → ColumnsTell (option_now rows.old.objective) (declared_row_names rows.old.rows.items) lines
+        [] columns.old → InColumns lines [] [] rows.old columns.old
+        → ColumnsTell (option_now rows.old.objective) (declared_row_names rows.old.rows.items)
+        (bytes_of fields.now ∷ lines) [] columns.new
+        × InColumns (bytes_of fields.now ∷ lines) [] [] rows.new columns.new) }
 {
     refuse!(!is_three_or_five(fields.len()), Fields);
     if names_marker(fields) {

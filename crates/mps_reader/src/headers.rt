@@ -31,7 +31,8 @@ fn is_left_out(word: &[u8]) -> bool
 }
 
 fn stands_alone(word: &[u8]) -> bool
-    ensures { result ≡ is_one_of word.now (codes "ROWS" ∷ codes "COLUMNS" ∷ codes "RHS" ∷ codes "BOUNDS" ∷ []) }
+    ensures { result ≡ is_one_of word.now
+        (codes "ROWS" ∷ codes "COLUMNS" ∷ codes "RHS" ∷ codes "BOUNDS" ∷ []) }
 {
     is_word(word, b"ROWS")
         || is_word(word, b"COLUMNS")
@@ -40,7 +41,8 @@ fn stands_alone(word: &[u8]) -> bool
 }
 
 fn wants_objective(word: &[u8]) -> bool
-    ensures { result ≡ is_one_of word.now (codes "COLUMNS" ∷ codes "RHS" ∷ codes "BOUNDS" ∷ codes "ENDATA" ∷ []) }
+    ensures { result ≡ is_one_of word.now
+        (codes "COLUMNS" ∷ codes "RHS" ∷ codes "BOUNDS" ∷ codes "ENDATA" ∷ []) }
 {
     is_word(word, b"COLUMNS")
         || is_word(word, b"RHS")
@@ -49,13 +51,17 @@ fn wants_objective(word: &[u8]) -> bool
 }
 
 fn has_more(word: &[u8], more: &[&[u8]]) -> bool
-    ensures { result ≡ (is_one_of word.now (codes "ROWS" ∷ codes "COLUMNS" ∷ codes "RHS" ∷ codes "BOUNDS" ∷ []) && nat_lt 0 (length (bytes_of more.now))) }
+    ensures { result ≡ (is_one_of word.now
+        (codes "ROWS" ∷ codes "COLUMNS" ∷ codes "RHS" ∷ codes "BOUNDS" ∷ [])
+        && nat_lt 0 (length (bytes_of more.now))) }
 {
     stands_alone(word) && more.len() > 0
 }
 
 fn lacks_objective(word: &[u8], has_objective: bool) -> bool
-    ensures { result ≡ (is_one_of word.now (codes "COLUMNS" ∷ codes "RHS" ∷ codes "BOUNDS" ∷ codes "ENDATA" ∷ []) && not has_objective) }
+    ensures { result ≡ (is_one_of word.now
+        (codes "COLUMNS" ∷ codes "RHS" ∷ codes "BOUNDS" ∷ codes "ENDATA" ∷ [])
+        && not has_objective) }
 {
     wants_objective(word) && !has_objective
 }
@@ -75,7 +81,10 @@ fn take_named_sense(more: &[&[u8]]) -> Result<(), Refusal>
 }
 
 fn take_header_sense(word: &[u8], more: &[&[u8]]) -> Result<(), Refusal>
-    ensures { AnswersFault result (if bytes_eq word.now (codes "OBJSENSE") then earliest_fault (when (nat_lt 1 (length (bytes_of more.now))) Fields ∷ (if length (bytes_of more.now) == 1 then sense_fault (field 0 (bytes_of more.now)) else None) ∷ []) else None) }
+    ensures { AnswersFault result (if bytes_eq word.now (codes "OBJSENSE") then earliest_fault
+        (when (nat_lt 1 (length (bytes_of more.now))) Fields
+        ∷ (if length (bytes_of more.now) == 1 then sense_fault (field 0 (bytes_of more.now)) else
+        None) ∷ []) else None) }
 {
     if is_word(word, b"OBJSENSE") {
         return take_named_sense(more);
@@ -90,9 +99,12 @@ pub fn take_header(
     word: &[u8],
     more: &[&[u8]],
 ) -> Result<Section, Refusal>
-    ensures fault { (before : Sections) → before.section ≡ word_of opened → is_none (first_free before.rows) ≡ not has_objective
-        → AnswersUpTo result (header_fault before word.now (bytes_of more.now)) (if bytes_eq word.now (codes "ENDATA") then not_binary before else None) }
-    ensures objective { OnOk result (bytes_eq word.now (codes "ENDATA") ≡ true → has_objective ≡ true) }
+    ensures fault { (before : Sections) → before.section ≡ word_of opened
+        → is_none (first_free before.rows) ≡ not has_objective
+        → AnswersUpTo result (header_fault before word.now (bytes_of more.now))
+        (if bytes_eq word.now (codes "ENDATA") then not_binary before else None) }
+    ensures objective { OnOk result (bytes_eq word.now (codes "ENDATA") ≡ true
+        → has_objective ≡ true) }
     ensures opened { IfOk result (λ section. word_of section ≡ word.now) }
     ensures order { IfOk result (λ section. place_of (word_of opened)
         < place_of (word_of section)) }

@@ -43,7 +43,8 @@ pub fn names_marker(fields: &[&[u8]]) -> bool
 pub fn take_marker(is_begun: bool, fields: &[&[u8]]) -> Result<bool, Refusal>
     ensures fault { (lines : List LineFields) → is_integer_open lines ≡ is_begun
         → AnswersFault result (marker_fault lines (bytes_of fields.now)) }
-    ensures value { IfOk result (λ now. now ≡ bytes_eq (field 2 (bytes_of fields.now)) (codes "'INTORG'")) }
+    ensures value { IfOk result (λ now. now ≡ bytes_eq (field 2 (bytes_of fields.now))
+        (codes "'INTORG'")) }
 {
     if fields.len() != 3 {
         return Err(Refusal::Fault(FaultKind::Marker));

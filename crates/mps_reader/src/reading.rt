@@ -62,7 +62,8 @@ pub fn start<'t>(alloc: Global, seed: Seeded) -> Reading<'t>
 fn take_header_line<'t>(reading: &mut Reading<'t>, fields: &[&'t [u8]]) -> Result<bool, Refusal>
     requires fit { ReadingFits reading.old }
     requires some { 1 ≤ length fields.now }
-    ensures end { IfOk result (λ is_end. is_end ≡ bytes_eq (field 0 (bytes_of fields.now)) (codes "ENDATA")) }
+    ensures end { IfOk result (λ is_end. is_end
+        ≡ bytes_eq (field 0 (bytes_of fields.now)) (codes "ENDATA")) }
     ensures fit { OnOk result (ReadingFits reading.new) }
     ensures closed { IfOk result (λ is_end. is_end ≡ true
         → is_some reading.new.columns.current ≡ false) }

@@ -46,8 +46,11 @@ fn take_right_side<'t>(
     ensures count { OnOk result (length rows.new.rows.items ≡ length rows.old.rows.items) }
     ensures objective { rows.new.objective ≡ rows.old.objective }
     ensures names { rows.new.names ≡ rows.old.names }
-    ensures fault { (has : List ℕ → Bool) → StampsAre rows.old.stamps.items stamp (names_of rows.old.names) has
-        → AnswersFault result (side_fault (list_any (bytes_eq row.now) (names_of rows.old.names)) (has row.now) (option_map_or (λ name. bytes_eq row.now name.now) rows.old.objective false) token.now) }
+    ensures fault { (has : List ℕ → Bool) → StampsAre rows.old.stamps.items stamp
+        (names_of rows.old.names) has
+        → AnswersFault result (side_fault (list_any (bytes_eq row.now) (names_of rows.old.names))
+        (has row.now) (option_map_or (λ name. bytes_eq row.now name.now) rows.old.objective false)
+        token.now) }
     ensures stamps { OnOk result ((has : List ℕ → Bool)
         → StampsAre rows.old.stamps.items stamp (names_of rows.old.names) has
         → StampsAre rows.new.stamps.items stamp (names_of rows.old.names)
@@ -85,14 +88,26 @@ fn take_right_sides<'t>(rows: &mut Rows<'t>, stamp: usize, fields: &[&[u8]]) -> 
     ensures count { OnOk result (length rows.new.rows.items ≡ length rows.old.rows.items) }
     ensures objective { rows.new.objective ≡ rows.old.objective }
     ensures names { rows.new.names ≡ rows.old.names }
-    ensures fault { (lines : List LineFields) (has : List ℕ → Bool) → ((name : List ℕ) → is_declared lines name ≡ list_any (bytes_eq name) (names_of rows.old.names))
-        → ((name : List ℕ) → is_objective lines name ≡ option_map_or (λ other. bytes_eq name other.now) rows.old.objective false)
+    ensures fault { (lines : List LineFields) (has : List ℕ → Bool)
+        → ((name : List ℕ) → is_declared lines name
+        ≡ list_any (bytes_eq name) (names_of rows.old.names))
+        → ((name : List ℕ) → is_objective lines name
+        ≡ option_map_or (λ other. bytes_eq name other.now) rows.old.objective false)
         → StampsAre rows.old.stamps.items stamp (names_of rows.old.names) has
-        → AnswersFault result (pairs_fault lines (constant_fault lines) has (pairs (bytes_of fields.now))) }
-    ensures stamps { OnOk result ((earlier : List (List ℕ × List ℕ)) → StampsAre rows.old.stamps.items stamp (names_of rows.old.names) (λ row. list_any (λ other. bytes_eq row other.0) earlier)
-        → StampsAre rows.new.stamps.items stamp (names_of rows.old.names) (λ row. list_any (λ other. bytes_eq row other.0) (pairs (bytes_of fields.now) ++ earlier))) }
-    ensures rows { OnOk result ((earlier : List (List ℕ × List ℕ)) (lines : List LineFields) → StampsAre rows.old.stamps.items stamp (names_of rows.old.names) (λ row. list_any (λ other. bytes_eq row other.0) earlier)
-        → map shown_row rows.old.rows.items ≡ rows_by (right_side earlier) lines → map shown_row rows.new.rows.items ≡ rows_by (right_side (pairs (bytes_of fields.now) ++ earlier)) lines) }
+        → AnswersFault result (pairs_fault lines (constant_fault lines) has
+        (pairs (bytes_of fields.now))) }
+    ensures stamps { OnOk result ((earlier : List (List ℕ × List ℕ))
+        → StampsAre rows.old.stamps.items stamp (names_of rows.old.names)
+        (λ row. list_any (λ other. bytes_eq row other.0) earlier)
+        → StampsAre rows.new.stamps.items stamp (names_of rows.old.names)
+        (λ row. list_any (λ other. bytes_eq row other.0)
+        (pairs (bytes_of fields.now) ++ earlier))) }
+    ensures rows { OnOk result ((earlier : List (List ℕ × List ℕ)) (lines : List LineFields)
+        → StampsAre rows.old.stamps.items stamp (names_of rows.old.names)
+        (λ row. list_any (λ other. bytes_eq row other.0) earlier)
+        → map shown_row rows.old.rows.items ≡ rows_by (right_side earlier) lines
+        → map shown_row rows.new.rows.items
+        ≡ rows_by (right_side (pairs (bytes_of fields.now) ++ earlier)) lines) }
 {
     take_right_side(rows, stamp, fields[0], fields[1])?;
     if fields.len() == 4 {
@@ -113,13 +128,22 @@ pub fn take_right_side_line<'t>(
     ensures count { OnOk result (length rows.new.rows.items ≡ length rows.old.rows.items) }
     ensures objective { rows.new.objective ≡ rows.old.objective }
     ensures names { rows.new.names ≡ rows.old.names }
-    ensures fault { (before : Sections) → ((name : List ℕ) → is_declared before.rows name ≡ list_any (bytes_eq name) (names_of rows.old.names))
-        → ((name : List ℕ) → is_objective before.rows name ≡ option_map_or (λ other. bytes_eq name other.now) rows.old.objective false)
-        → StampsAre rows.old.stamps.items stamp (names_of rows.old.names) (λ row. list_any (λ other. bytes_eq row other.0) (all_right_sides before.right_sides))
+    ensures fault { (before : Sections) → ((name : List ℕ)
+        → is_declared before.rows name ≡ list_any (bytes_eq name) (names_of rows.old.names))
+        → ((name : List ℕ) → is_objective before.rows name
+        ≡ option_map_or (λ other. bytes_eq name other.now) rows.old.objective false)
+        → StampsAre rows.old.stamps.items stamp (names_of rows.old.names)
+        (λ row. list_any (λ other. bytes_eq row other.0) (all_right_sides before.right_sides))
         → AnswersFault result (right_side_fault before (bytes_of fields.now)) }
-    ensures stamps { OnOk result ((rights : List LineFields) → StampsAre rows.old.stamps.items stamp (names_of rows.old.names) (λ row. list_any (λ other. bytes_eq row other.0) (all_right_sides rights))
-        → StampsAre rows.new.stamps.items stamp (names_of rows.old.names) (λ row. list_any (λ other. bytes_eq row other.0) (all_right_sides (bytes_of fields.now ∷ rights)))) }
-    ensures tells { OnOk result ((lines rights : List LineFields) → StampsAre rows.old.stamps.items stamp (names_of rows.old.names) (λ row. list_any (λ other. bytes_eq row other.0) (all_right_sides rights))
+    ensures stamps { OnOk result ((rights : List LineFields)
+        → StampsAre rows.old.stamps.items stamp (names_of rows.old.names)
+        (λ row. list_any (λ other. bytes_eq row other.0) (all_right_sides rights))
+        → StampsAre rows.new.stamps.items stamp (names_of rows.old.names)
+        (λ row. list_any (λ other. bytes_eq row other.0)
+        (all_right_sides (bytes_of fields.now ∷ rights)))) }
+    ensures tells { OnOk result ((lines rights : List LineFields)
+        → StampsAre rows.old.stamps.items stamp (names_of rows.old.names)
+        (λ row. list_any (λ other. bytes_eq row other.0) (all_right_sides rights))
         → RowsTell lines rights rows.old → RowsTell lines (bytes_of fields.now ∷ rights) rows.new) }
 {
     refuse!(!is_two_to_five(fields.len()), Fields);

@@ -67,9 +67,11 @@ fn add_bound<'t>(rows: &mut Rows<'t>, letter: &[u8], name: &'t [u8]) -> Result<(
 pub fn take_row<'t>(rows: &mut Rows<'t>, fields: &[&'t [u8]]) -> Result<(), Refusal>
     requires fit { RowsFit rows.old }
     requires names { AllByRecursion IsName (bytes_of fields.now) }
-    ensures fault { AnswersFault result (earliest_fault (when (not (length (bytes_of fields.now) == 2)) Fields
+    ensures fault { AnswersFault result (earliest_fault
+        (when (not (length (bytes_of fields.now) == 2)) Fields
         ∷ when (not (is_one_of (field 0 (bytes_of fields.now)) row_types)) RowType
-        ∷ when (list_any (bytes_eq (field 1 (bytes_of fields.now))) (names_of rows.old.names)) RowRepeated ∷ [])) }
+        ∷ when (list_any (bytes_eq (field 1 (bytes_of fields.now))) (names_of rows.old.names))
+        RowRepeated ∷ [])) }
     ensures fit { OnOk result (RowsFit rows.new) }
     ensures grows { OnOk result (length rows.old.rows.items ≤ length rows.new.rows.items) }
     ensures tells { OnOk result ((lines : List LineFields) → RowsTell lines [] rows.old
@@ -98,8 +100,10 @@ pub fn stamp_row(
     stamp: usize,
 ) -> Result<usize, Refusal>
     requires fit { length stamps.old.items ≡ length names.now.keys }
-    ensures fault { (has : List ℕ → Bool) → StampsAre stamps.old.items stamp (names_of names.now) has
-        → AnswersFault result (earliest_fault (when (not (list_any (bytes_eq row.now) (names_of names.now))) UnknownRow ∷ when (has row.now) EntryRepeated ∷ [])) }
+    ensures fault { (has : List ℕ → Bool) → StampsAre stamps.old.items stamp (names_of names.now)
+        has → AnswersFault result
+        (earliest_fault (when (not (list_any (bytes_eq row.now) (names_of names.now))) UnknownRow
+        ∷ when (has row.now) EntryRepeated ∷ [])) }
     ensures index { IfOk result (λ i. slice_get (names_of names.now) i ≡ Some row.now) }
     ensures fresh { IfOk result (λ i. (d : ℕ) → slice_get stamps.old.items i ≡ Some d
         → (d == stamp) ≡ false) }

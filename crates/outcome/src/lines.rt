@@ -30,8 +30,11 @@ fn take_pair(
         ≡ said_by (bytes_of columns.now.names.keys) before
         → result ≡ unless (pair_fault (bytes_of columns.now.names.keys) before place name.now
         token.now) (Ok tt) }
-    ensures kept { OnOk result ((before : List (List ℕ)) (line : List ℕ) → IsDistinct bytes_eq (bytes_of columns.now.names.keys) → said.old ≡ said_by (bytes_of columns.now.names.keys) before
-        → is_skipped line ≡ false → fields line ≡ name.now ∷ token.now ∷ [] → said.new ≡ said_by (bytes_of columns.now.names.keys) (before ++ line ∷ [])) }
+    ensures kept { OnOk result ((before : List (List ℕ)) (line : List ℕ)
+        → IsDistinct bytes_eq (bytes_of columns.now.names.keys)
+        → said.old ≡ said_by (bytes_of columns.now.names.keys) before → is_skipped line ≡ false
+        → fields line ≡ name.now ∷ token.now ∷ []
+        → said.new ≡ said_by (bytes_of columns.now.names.keys) (before ++ line ∷ [])) }
 {
     let Some(column) = columns.place(name) else {
         return Err(SolutionFault::UnknownColumn { place });
@@ -64,7 +67,9 @@ fn take_line(
         ≡ said_by (bytes_of columns.now.names.keys) before → place ≡ length before + 1
         → result ≡ unless (solution_line_fault (bytes_of columns.now.names.keys) before line.now)
         (Ok tt) }
-    ensures kept { OnOk result ((before : List (List ℕ)) → IsDistinct bytes_eq (bytes_of columns.now.names.keys) → said.old ≡ said_by (bytes_of columns.now.names.keys) before
+    ensures kept { OnOk result ((before : List (List ℕ))
+        → IsDistinct bytes_eq (bytes_of columns.now.names.keys)
+        → said.old ≡ said_by (bytes_of columns.now.names.keys) before
         → said.new ≡ said_by (bytes_of columns.now.names.keys) (before ++ line.now ∷ [])) }
 {
     if is_comment(line) {
