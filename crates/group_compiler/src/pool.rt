@@ -55,7 +55,7 @@ fn join_works<M: Maker>(
     ensures { IfOk result (λ both. IsWork claims.now (M.count_of maker.now) (M.makes maker.now) both
         × (draws both ≡ draws mine + draws theirs)) }
 {
-    // Its contract says that the count is below the room of a claim, by which both draws add up.
+    // Its contract says how many numbers there may be, so that the draws of both claims add up to no number too great.
     let _known = maker.count();
     let Work { claim, mut results } = theirs;
     claims.join(&mut mine.claim, claim);
