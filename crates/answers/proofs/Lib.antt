@@ -1,7 +1,9 @@
 mod AskedFacts
 pub mod CertifiedFacts
 pub mod CommandFacts
+pub mod FaithfulFacts
 pub mod FaultFacts
+pub mod FeasibleFacts
 pub mod GroupTextFacts
 mod LineFacts
 pub mod ReportFacts

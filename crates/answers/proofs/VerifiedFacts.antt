@@ -1,10 +1,9 @@
 -- What certificates show of what groups win.
-use Rattle.std.proofs.Common.{◌≡◌, ◌+◌, ◌==◌, ◌∷◌, ◌∙◌, [], ℕ, Bool, true, false, List, Option, None, Some, Result, Ok, Err, ap, arith, eqb-true, length, map, refl, subst, sym}
-use Rattle.std.specs.Prelude.{OnOk, cond, slice_index_or}
+use Rattle.std.proofs.Common.{◌≡◌, ◌+◌, ◌==◌, ◌∷◌, ◌∙◌, [], ℕ, true, false, List, Option, None, Some, Result, Ok, Err, ap, arith, eqb-true, length, map, refl, subst, sym}
+use Rattle.std.specs.Prelude.{OnOk, slice_index_or}
 use Rattle.std.specs.List.{AllZip, zip}
 use Rattle.std.specs.Option.{option_map}
 use Rattle.std.proofs.lemmas.Int.{ints}
-use Rattle.auction_terms.specs.Allocations.{IsFeasible}
 use Rattle.auction_terms.specs.Groups.{has, starts_empty}
 use Rattle.auction_terms.specs.Limits.{IsBook}
 use Rattle.auction_terms.specs.declared.choices.Choice.{Choice}
@@ -13,34 +12,27 @@ use Rattle.optimality.proofs.VerdictLaws.{verdict}
 use Rattle.optimality.specs.Laws.{IsBound}
 use Rattle.optimality.specs.Verdict.{certificate_fault}
 use Rattle.optimality.specs.declared.fault.FaultKind.{FaultKind}
-use Rattle.outcome.proofs.BackLaws.{solutions_come_back}
 use Rattle.outcome.proofs.CostLaws.{costs_are_bounded, costs_are_own}
 use Rattle.outcome.specs.Report.{report_text}
 use Rattle.outcome.specs.Sale.{Sale}
-use Rattle.outcome.specs.Solution.{solution}
-use Rattle.outcome.specs.PointAllocation.{allocation_of}
 use Rattle.program_rows.proofs.FaithfulLaws.{presolved_is_faithful}
 use Rattle.program_rows.specs.Faithful.{IsGreatest}
 use Rattle.program_rows.specs.Program.{Table}
-use Rattle.auction_input.specs.Auction.{Auction, auction_in, auction_of, auction_told}
+use Rattle.auction_input.specs.Auction.{Auction, auction_told}
 use Rattle.auction_input.specs.BookLeft.{program_for}
-use Rattle.auction_input.specs.Calls.{calls_told}
 use Rattle.answers.specs.Certified.{ClaimedBound, bound_of, bounds_of, certificate_refused, certified, shown}
 use Rattle.answers.specs.commands.Report.{report_of, winners_of_groups}
 use Rattle.answers.specs.commands.Verify.{verified_text}
-use Rattle.auction_input.specs.PartsTold.{parts_told}
-use Rattle.auction_input.specs.Refused.{Refused}
-use Rattle.auction_terms.specs.Stages.{and_then, each_in_turn, refused_as}
-use Rattle.auction_input.specs.TextsTold.{forms_told, groups_told, terms_told}
+use Rattle.auction_terms.specs.Stages.{and_then, each_in_turn}
 use Rattle.answers.specs.Exact.{IsWritten}
 use Rattle.answers.specs.Verified.{IsGreatestWithout, IsOwnCost, IsTrueReport, VerifiedIsTrue, WritesTrueReport}
-use Rattle.answers.specs.SolutionWinners.{solution_refused, winners}
+use Rattle.answers.specs.SolutionWinners.{winners}
 use Rattle.auction_input.specs.declared.refusal.CountedPart.TheVariants as counted
 use Rattle.auction_input.specs.declared.refusal.Refusal.TheVariants as refusal
-use Rattle.auction_input.specs.declared.request.Request.{Request}
 use Rattle.auction_input.specs.declared.request.Request.TheVariants as request
-use Rattle.auction_input.proofs.AnswerFacts.{ok-behind, ok-is, ok-refused_as, unless-ok}
-use Rattle.auction_input.proofs.LimitFacts.{book-within, forms-within, terms-few}
+use Rattle.auction_input.proofs.AnswerFacts.{ok-behind, ok-is, unless-ok}
+use Rattle.auction_input.proofs.WithinFacts.{auction-within}
+use Rattle.answers.proofs.FeasibleFacts.{feasible-of, when-counted}
 
 -- ---- one group
 
@@ -61,14 +53,10 @@ greatest-of : (sale : Sale) (number : ℕ) (group text certificate : List ℕ) (
     → winners sale number (group, text) ≡ Ok a → shown number (bound_of sale ((group, a), certificate)) ≡ Ok u → IsGreatestWithout sale group a
 greatest-of sale number group text certificate a u within won told =
     let p : Table = program_for sale group in
-    let (point, point_is, wins) = ok-behind (refused_as (solution_refused p number) (solution p text)) _ a won in
-    let solved = ok-refused_as (solution_refused p number) (solution p text) point point_is in
-    let comes = solutions_come_back sale.lots sale.book (has group) text point within solved in
-    let is : allocation_of p point ≡ a = ok-is _ (allocation_of p point) a refl wins in
     let faithful = presolved_is_faithful sale.lots sale.book (has group) within in
     let bound = shown-bound number (bound_of sale ((group, a), certificate)) u told in
     record {
-      feasible = subst (λ (x : List Choice). IsFeasible sale.lots sale.book (has group) x) is comes.feasible;
+      feasible = feasible-of sale number group text a within won;
       greatest = λ other f.
           let m = faithful.is_matched other f in
           let l = bound m.values m.is_point in
@@ -120,10 +108,6 @@ first-greatest sale ((b ∷ group) ∷ groups) (a ∷ won) starts each = (let no
 
 -- ---- an auction
 
-when-counted : {A : Type 0} (test : Bool) (r : Result A Refused) (e : Refused) (x : A) → cond test r (Err e) ≡ Ok x → (test ≡ true) × (r ≡ Ok x)
-when-counted true r e x told = (refl, told)
-when-counted false r e x told = cc
-
 true-report : (auction : Auction) (out : List ℕ) → IsBook auction.sale.lots auction.sale.book → verified_text auction ≡ Ok out → IsTrueReport auction out
 true-report auction out within told =
     let (won, won_is, written) = ok-behind (and_then (winners_of_groups auction) (certified auction)) (report_of auction) out told in
@@ -145,23 +129,10 @@ true-report auction out within told =
 
 -- ---- an input
 
--- an auction that is told has a book within the limits
-pub auction-within : (asked : Request) (input : List ℕ) (auction : Auction) → auction_told asked input ≡ Ok auction → IsBook auction.sale.lots auction.sale.book
-auction-within asked input auction told =
-    let (parts, parts_are, more) = ok-behind (parts_told asked input) auction_in auction told in
-    let (t, t_is, more_forms) = ok-behind (terms_told parts.rules) _ auction more in
-    let (forms, forms_are, more_groups) = ok-behind (forms_told t parts.forms) _ auction more_forms in
-    let (groups, groups_are, more_calls) = ok-behind (groups_told t parts.groups) _ auction more_groups in
-    let (accepted, accepted_is, made) = ok-behind (calls_told forms) _ auction more_calls in
-    let same : forms ≡ accepted = (unless-ok _ forms accepted (ok-refused_as refusal.CallLimit _ accepted accepted_is)).1 in
-    let is : auction_of t accepted groups parts ≡ auction = ok-is _ (auction_of t accepted groups parts) auction refl made in
-    let within = book-within t forms (terms-few parts.rules t t_is) (forms-within t 1 parts.forms forms forms_are) in
-    subst (λ (a : Auction). IsBook a.sale.lots a.sale.book) is (rw (← same) within)
-
 pub verified-is-true : VerifiedIsTrue
 verified-is-true workers input out told =
     let (auction, auction_is, text) = ok-behind (auction_told (request.Verify workers) input) verified_text out told in
-    (auction, auction_is, true-report auction out (auction-within (request.Verify workers) input auction auction_is) text)
+    (auction, auction_is, true-report auction out (auction-within (request.Verify workers) input auction auction_is).1 text)
 
 -- what is written at Ok is a true report
 pub writes-true : {T E : Type 0} (workers : ℕ) (input : List ℕ) (result : Result T E) (taken taken' : Option (List ℕ)) → OnOk result (IsWritten (request.Verify workers) input taken taken') → OnOk result (WritesTrueReport workers input taken taken')

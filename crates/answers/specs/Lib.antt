@@ -2,6 +2,8 @@ pub mod Answer
 pub mod Asked
 pub mod Certified
 pub mod Exact
+pub mod FaithfulAnswers
+pub mod FeasibleAnswers
 pub mod GroupTexts
 pub mod Requests
 pub mod Runs

@@ -7,7 +7,6 @@ use Rattle.auction_input.specs.declared.input.InputFault.{InputFault}
 use Rattle.auction_input.specs.declared.refusal.Refusal.TheVariants as refusal
 use Rattle.auction_input.specs.declared.request.Request.{Request}
 use Rattle.clap.specs.Words.{Text}
-use Rattle.clap.specs.declared.error.kind.ErrorKind.{ErrorKind}
 use Rattle.answers.specs.Asked.{AskForHelp, AskForNothing, asked}
 use Rattle.answers.specs.Exact.{Ends, IsUnwritten, IsWritten}
 

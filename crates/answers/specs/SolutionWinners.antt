@@ -1,6 +1,5 @@
 -- What a solution of the program without a group wins, or why it is refused.
 use Rattle.std.specs.Prelude.{ℕ, List, [], Result, Ok, slice_get}
-use Rattle.std.specs.List.{zip}
 use Rattle.std.specs.Option.{option_map_or}
 use Rattle.auction_input.specs.BookLeft.{program_for}
 use Rattle.auction_input.specs.Refused.{Refused}

@@ -1,6 +1,28 @@
 //! Laws of what the program answers.
 
+ghost use Rattle.answers.specs.FaithfulAnswers.{CompiledIsFaithful, TextIsFaithful};
+ghost use Rattle.answers.specs.FeasibleAnswers.{MappedIsFeasible, ReportedIsFeasible};
 ghost use Rattle.answers.specs.Verified.{VerifiedIsTrue};
+
+/// What `text` answers of an input is a text that is faithful to the auction that the input tells: each 0-1 point of its program maps back to a feasible allocation of the same total, and each feasible allocation is matched by a point of at least its total.
+pub fn a_text_is_faithful()
+    ensures { TextIsFaithful }
+{}
+
+/// What `compile` answers of an input is the line and the text of each group in order, and each text is faithful to the auction that the input tells, with its group left out.
+pub fn compiled_texts_are_faithful()
+    ensures { CompiledIsFaithful }
+{}
+
+/// What `map` answers of an input is the winners of an allocation that is feasible in the auction that the input tells, with the group left out.
+pub fn a_mapped_allocation_is_feasible()
+    ensures { MappedIsFeasible }
+{}
+
+/// What `report` answers of an input is a report on an allocation for each group that is feasible in the auction that the input tells, with the group left out.
+pub fn reported_allocations_are_feasible()
+    ensures { ReportedIsFeasible }
+{}
 
 /// What `verify` answers of an input is a report on allocations of greatest total, each without its group, of the auction that the input tells; and so each cost is the group's opportunity cost, and keeps the law on costs.
 pub fn a_verified_report_is_true()

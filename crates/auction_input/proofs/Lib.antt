@@ -5,9 +5,12 @@ pub mod FaultFacts
 pub mod FormStageFacts
 pub mod InputTextFacts
 pub mod LimitFacts
+pub mod LotFacts
 pub mod PartFacts
+pub mod RecordFacts
 pub mod RefusalFacts
 pub mod StageFacts
 pub mod StandingFacts
 pub mod SubmissionFacts
+pub mod WithinFacts
 mod WorkedLines

@@ -2,13 +2,11 @@
 use Rattle.std.proofs.Common.{◌≡◌, ◌≤◌, ◌<◌, ◌+◌, ◌==◌, ◌++◌, ◌∷◌, ◌∙◌, [], ℕ, zero, suc, Bool, true, false, List, Option, None, Some, Result, Ok, Err, append_assoc, arith, drop, eqb-true, leb-true, length, length-append, map, refl, subst, sym}
 use Rattle.std.specs.Prelude.{cond, filter, nat_lt}
 use Rattle.std.specs.List.{AllByRecursion, last_or, range_with_len}
-use Rattle.std.specs.Option.{option_map_or}
 use Rattle.std.proofs.lemmas.Bool.{and_parts, ltb-true}
 use Rattle.std.proofs.lemmas.List.{append-nil, length-map}
-use Rattle.std.proofs.lemmas.List.Elements.{filter-append}
 use Rattle.std.proofs.lemmas.List.FromFn.{length-map-range_with_len}
 use Rattle.auction_terms.specs.Entries.{terms_of}
-use Rattle.auction_terms.specs.FirstFault.{first_failed, first_fault, option_or}
+use Rattle.auction_terms.specs.FirstFault.{first_failed, first_fault}
 use Rattle.auction_terms.specs.Limits.{IsBid, IsBook}
 use Rattle.auction_terms.specs.Packages.{Lots}
 use Rattle.auction_terms.specs.Records.{Record}
@@ -17,14 +15,12 @@ use Rattle.auction_terms.specs.RulesText.{bidder_of, entries_of, entry_fault, re
 use Rattle.auction_terms.specs.Terms.{Terms, lots_in}
 use Rattle.auction_terms.specs.declared.bids.Bid.{Bid}
 use Rattle.auction_terms.specs.declared.limits.TheConstants.{GREATEST_QUANTITY, MOST_BIDDERS, MOST_BIDS}
-use Rattle.auction_terms.specs.declared.record_kinds.RecordKind.{RecordKind}
 use Rattle.auction_terms.specs.declared.record_kinds.RecordKind.TheVariants as kind
 use Rattle.auction_terms.specs.declared.record_kinds.Version.{Version}
 use Rattle.auction_terms.specs.declared.rules_text.RulesFault.{RulesFault}
 use Rattle.auction_terms.specs.declared.rules_text.RulesFault.TheVariants as rules_fault
 use Rattle.bid_desk.specs.Closing.{bids_in}
-use Rattle.bid_forms.specs.FormText as form_text
-use Rattle.bid_forms.specs.FormText.{amount_checks, bid_fault, bid_told, bidder_in, count_checks, fault_of_bid, form_in_text, form_of_records, form_header_checks, package_checks, place_checks, quantities_in, quantity_checks}
+use Rattle.bid_forms.specs.FormText.{amount_checks, bid_fault, bid_told, bidder_in, count_checks, fault_of_bid, form_of_records, form_header_checks, package_checks, place_checks, quantities_in, quantity_checks}
 use Rattle.bid_forms.specs.Offers.{Offers, are_quantities, eligibility_of, offers_of_bidder}
 use Rattle.bid_forms.specs.declared.form_text.FormFault.{FormFault}
 use Rattle.bid_forms.specs.declared.form_text.FormFault.TheVariants as form_fault
@@ -33,91 +29,27 @@ use Rattle.auction_terms.specs.Stages.{each_in_turn, unless}
 use Rattle.auction_input.specs.Submissions.{last_of}
 use Rattle.auction_input.specs.TextsTold.{form_told, terms_told}
 use Rattle.auction_input.proofs.AnswerFacts.{ok-behind, ok-is, ok-refused_as}
-
--- ---- checks
-
--- where none has failed, each holds
-none-failed : {F : Type 0} (checks : List (Bool × F)) → first_failed checks ≡ None → AllByRecursion (λ check. check.0 ≡ true) checks
-none-failed [] none = tt
-none-failed {F} ((test, f) ∷ checks) none = by test refl (none-failed checks)
-  where
-    by : (b : Bool) → test ≡ b → (first_failed checks ≡ None → AllByRecursion (λ check. check.0 ≡ true) checks) → AllByRecursion (λ check. check.0 ≡ true) ((test, f) ∷ checks)
-    by true is rest = (is, rest (rw is at none))
-    by false is rest = (let told : Some f ≡ None = rw is at none in cc)
-
-neither : {F : Type 0} (a b : Option F) → option_or a b ≡ None → (a ≡ None) × (b ≡ None)
-neither None b none = (refl, none)
-neither (Some f) b none = cc
+use Rattle.auction_input.proofs.RecordFacts.{few-of-kind, neither, none-failed, rules-told}
 
 -- ---- rules
 
--- there are at most so many bidders in records of which none has a fault
-few-bidders : (v : Version) (before more : List Record) → first_fault (entry_fault v) before more ≡ None → length (of_kind v kind.Bidder before) ≤ MOST_BIDDERS
-    → length (of_kind v kind.Bidder (before ++ more)) ≤ MOST_BIDDERS
-unfolding first_fault
-few-bidders v before [] none few = rw (append-nil before) few
-few-bidders v before (r ∷ more) none few =
-    let parts = neither (entry_fault v before r) (first_fault (entry_fault v) (before ++ r ∷ []) more) none in
-    let grown : length (of_kind v kind.Bidder (before ++ r ∷ [])) ≤ MOST_BIDDERS = one-more (record_kind v r) refl parts.0 in
-    subst (λ (rs : List Record). length (of_kind v kind.Bidder rs) ≤ MOST_BIDDERS) (append_assoc before (r ∷ []) more) (few-bidders v (before ++ r ∷ []) more parts.1 grown)
-  where
-    grows : of_kind v kind.Bidder (before ++ r ∷ []) ≡ of_kind v kind.Bidder before ++ of_kind v kind.Bidder (r ∷ [])
-    grows = filter-append (λ q. is_kind kind.Bidder (record_kind v q)) before (r ∷ [])
+-- behind records of bidders there is room for the one that has no fault
+bidder-room : (v : Version) (before : List Record) (r : Record) → record_kind v r ≡ Some kind.Bidder → entry_fault v before r ≡ None → length (of_kind v kind.Bidder before) < MOST_BIDDERS
+bidder-room v before r is free =
+    let place = length before + 2 in
+    let here : List (Bool × RulesFault) = (length r == rules_text.field_count v, rules_fault.FieldCount place) ∷ rules_text.bidder_checks place (entries_of v before).bidders r in
+    let none_here : first_failed here ≡ None = rw is at free in
+    let checks = none-failed here none_here in
+    let room : nat_lt (length (map bidder_of (of_kind v kind.Bidder before))) MOST_BIDDERS ≡ true = checks.1.1.1.1.1.0 in
+    let below = ltb-true _ _ room in
+    let count = length-map (of_kind v kind.Bidder before) bidder_of in
+    omega arith
 
-    same : is_kind kind.Bidder (record_kind v r) ≡ false → length (of_kind v kind.Bidder (before ++ r ∷ [])) ≤ MOST_BIDDERS
-    same other =
-        let none_more : of_kind v kind.Bidder (r ∷ []) ≡ [] = rw other refl in
-        rw (grows, none_more, append-nil (of_kind v kind.Bidder before)) few
-
-    one-more : (k : Option RecordKind) → record_kind v r ≡ k → entry_fault v before r ≡ None → length (of_kind v kind.Bidder (before ++ r ∷ [])) ≤ MOST_BIDDERS
-    one-more None is free = same (rw is refl)
-    one-more (Some kind.Category) is free = same (rw is refl)
-    one-more (Some kind.Pool) is free = same (rw is refl)
-    one-more (Some kind.Member) is free = same (rw is refl)
-    one-more (Some kind.Bidder) is free =
-        let place = length before + 2 in
-        let here : List (Bool × RulesFault) = (length r == rules_text.field_count v, rules_fault.FieldCount place) ∷ rules_text.bidder_checks place (entries_of v before).bidders r in
-        let none_here : first_failed here ≡ None = rw is at free in
-        let checks = none-failed here none_here in
-        let room : nat_lt (length (map bidder_of (of_kind v kind.Bidder before))) MOST_BIDDERS ≡ true = checks.1.1.1.1.1.0 in
-        let below = ltb-true _ _ room in
-        let count = length-map (of_kind v kind.Bidder before) bidder_of in
-        let one : of_kind v kind.Bidder (r ∷ []) ≡ r ∷ [] = rw is refl in
-        let whole = length-append (of_kind v kind.Bidder before) (r ∷ []) in
-        rw (grows, one) (omega arith)
-
-rules-or : (o : Option RulesFault) (answer : Result Terms RulesFault) (t : Terms) → unless o answer ≡ Ok t → (o ≡ None) × (answer ≡ Ok t)
-rules-or None answer t told = (refl, told)
-rules-or (Some f) answer t told = cc
-
--- rules that records tell have at most so many bidders
-rules-few : (records : List Record) (t : Terms) → rules_of_records records ≡ Ok t → length t.bidders ≤ MOST_BIDDERS
-rules-few [] t told = cc
-rules-few (header ∷ more) t told = by (version_of header) (told)
-  where
-    few : (v : Version) → first_fault (entry_fault v) [] more ≡ None → (step count : ℕ) → rules_text.terms_or_none step count (entries_of v more) ≡ Ok t → length t.bidders ≤ MOST_BIDDERS
-    few v none step count are =
-        let within = few-bidders v [] more none (omega arith) in
-        let number = length-map (of_kind v kind.Bidder more) bidder_of in
-        none-empty (length (entries_of v more).categories == 0) (length (entries_of v more).bidders == 0) are
-      where
-        made : terms_of step (entries_of v more) ≡ t → length t.bidders ≤ MOST_BIDDERS
-        made is =
-            let within = few-bidders v [] more none (omega arith) in
-            let number = length-map (of_kind v kind.Bidder more) bidder_of in
-            subst (λ (u : Terms). length u.bidders ≤ MOST_BIDDERS) is (omega arith)
-
-        none-empty : (a b : Bool) → cond a (Err (rules_fault.NoCategory count)) (cond b (Err (rules_fault.NoBidder count)) (Ok (terms_of step (entries_of v more)))) ≡ Ok t → length t.bidders ≤ MOST_BIDDERS
-        none-empty true b e = cc
-        none-empty false true e = cc
-        none-empty false false e = made (ok-is _ (terms_of step (entries_of v more)) t refl e)
-
-    by : (version : Option Version) → option_map_or (λ v. rules_text.rules_after v header more) version (Err (rules_fault.Header 1)) ≡ Ok t → length t.bidders ≤ MOST_BIDDERS
-    by None e = cc
-    by (Some v) e =
-        let first = rules-or (first_failed (rules_text.header_checks v header)) _ t e in
-        let second = rules-or (first_fault (entry_fault v) [] more) _ t first.1 in
-        few v second.0 _ _ second.1
+few-bidders : (v : Version) (more : List Record) → first_fault (entry_fault v) [] more ≡ None → (step : ℕ) → length (terms_of step (entries_of v more)).bidders ≤ MOST_BIDDERS
+few-bidders v more none step =
+    let within = few-of-kind v kind.Bidder MOST_BIDDERS (bidder-room v) [] more none (omega arith) in
+    let number = length-map (of_kind v kind.Bidder more) bidder_of in
+    omega arith
 
 -- ---- forms
 
@@ -180,14 +112,14 @@ form-within t (header ∷ more) form told =
 
 -- ---- what an input tells
 
-unless-large : {A F : Type 0} (large : Bool) (f : F) (r : Result A F) (x : A) → cond large (Err f) r ≡ Ok x → r ≡ Ok x
+pub unless-large : {A F : Type 0} (large : Bool) (f : F) (r : Result A F) (x : A) → cond large (Err f) r ≡ Ok x → r ≡ Ok x
 unless-large true f r x told = cc
 unless-large false f r x told = told
 
 pub terms-few : (texts : List (List ℕ)) (t : Terms) → terms_told texts ≡ Ok t → length t.bidders ≤ MOST_BIDDERS
 terms-few texts t told =
     let inside = ok-refused_as _ _ t told in
-    rules-few _ t (unless-large _ rules_fault.TooLarge _ t inside)
+    rules-told (λ t. length t.bidders ≤ MOST_BIDDERS) few-bidders _ t (unless-large _ rules_fault.TooLarge _ t inside)
 
 pub forms-within : (t : Terms) (n : ℕ) (texts : List (List ℕ)) (forms : List Offers) → each_in_turn (form_told t) n texts ≡ Ok forms → AllByRecursion (IsWithin (lots_in t)) forms
 forms-within t n [] forms told = (let none : [] ≡ forms = ok-is _ [] forms refl told in subst (λ (fs : List Offers). AllByRecursion (IsWithin (lots_in t)) fs) none tt)

@@ -1,6 +1,5 @@
 -- What the texts of the input tell, their sizes included: rules, a form, groups, and a program.
-use Rattle.std.specs.Prelude.{◌≡◌, ◌+◌, ◌++◌, ◌∷◌, ⊤, ℕ, List, Result, Ok, Err, if◌then◌else◌, IfOk, length, map, nat_lt}
-use Rattle.auction_input.specs.declared.refusal.Refusal.TheVariants as refusal
+use Rattle.std.specs.Prelude.{ℕ, List, Result, Err, if◌then◌else◌, length, nat_lt}
 use Rattle.auction_terms.specs.GroupsText.{groups_of}
 use Rattle.auction_terms.specs.RulesText.{rules_of}
 use Rattle.auction_terms.specs.Terms.{Terms}
@@ -19,7 +18,6 @@ use Rattle.program_rows.specs.Meaning.{meaning}
 use Rattle.program_rows.specs.Program.{Table}
 use Rattle.program_rows.specs.declared.fault.FaultKind.TheVariants as kind
 use Rattle.program_rows.specs.declared.fault.FaultKind.{FaultKind}
-use denote.Ref.{Bor}
 
 abbrev pub rules_in : List ℕ → Result Terms RulesFault
 rules_in text = if nat_lt TEXT_LIMIT (length text) then Err rules_fault.TooLarge else rules_of text

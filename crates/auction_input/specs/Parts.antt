@@ -12,7 +12,6 @@ use Rattle.auction_input.specs.declared.request.Request.{Request}
 use Rattle.auction_terms.specs.Borrowed.{bytes_of}
 use Rattle.auction_terms.specs.FirstFault.{first_failed, first_fault, option_or}
 use Rattle.auction_terms.specs.Lines.{is_line_feed, lines_of}
-use denote.Ref.{Bor}
 
 abbrev pub onto_first_line : ℕ → List (List ℕ) → List (List ℕ)
 onto_first_line b [] = (b ∷ []) ∷ []

@@ -1,5 +1,5 @@
 -- What the texts of rules, forms and groups tell, or which refusal is the first.
-use Rattle.std.specs.Prelude.{◌≡◌, ◌+◌, ◌++◌, ℕ, List, Result, Ok, All, length}
+use Rattle.std.specs.Prelude.{ℕ, List, Result}
 use Rattle.auction_input.specs.InputTexts.{form_in, groups_in, rules_in}
 use Rattle.auction_input.specs.PartsTold.{only_text}
 use Rattle.auction_input.specs.Refused.{Refused}

@@ -1,16 +1,12 @@
 -- What the texts of the input tell, their sizes included: rules, a form, groups, and a program.
-use Rattle.std.specs.Prelude.{◌≡◌, ◌+◌, ◌++◌, ◌∷◌, ⊤, ℕ, List, Result, Ok, Err, if◌then◌else◌, IfOk, length, map, nat_lt}
+use Rattle.std.specs.Prelude.{◌≡◌, ◌+◌, ◌++◌, ◌∷◌, ⊤, ℕ, List, Result, Ok, Err, IfOk, length, map}
 use Rattle.auction_input.specs.Refused.{Refusal}
 use Rattle.auction_input.specs.declared.refusal.Refusal.TheVariants as refusal
 use Rattle.auction_terms.specs.Terms.{Terms}
-use Rattle.auction_terms.specs.declared.groups_text.GroupFault.TheVariants as group_fault
-use Rattle.auction_terms.specs.declared.rules_text.RulesFault.TheVariants as rules_fault
 use Rattle.auction_terms.specs.Stages.{Answers}
 use Rattle.bid_forms.specs.FormText.{is_form_memory}
 use Rattle.bid_forms.specs.Offers.{Meets, Offers}
-use Rattle.bid_forms.specs.declared.form_text.FormFault.TheVariants as fault
 use Rattle.bid_forms.specs.declared.form_text.FormFault.{FormFault}
-use Rattle.program_rows.specs.declared.fault.FaultKind.TheVariants as kind
 use denote.Ref.{Bor}
 use Rattle.auction_input.specs.InputTexts.{form_in}
 

@@ -1,12 +1,7 @@
 -- The parts of the input. A line that begins with a percent sign heads a part, whose bytes run up to the next such line.
-use Rattle.std.specs.Prelude.{◌≡◌, ◌==◌, ◌+◌, ◌++◌, Bool, true, false, ⊤, ℕ, List, [], ◌∷◌, Option, None, Some, Result, Ok, Err, codes, filter, if◌then◌else◌, is_some, length, map}
-use Rattle.std.specs.Option.{option_map_or}
-use Rattle.std.specs.Str.{bytes_eq}
+use Rattle.std.specs.Prelude.{◌++◌, ℕ, List, [], ◌∷◌}
 use Rattle.auction_input.specs.declared.part_kind.PartKind.TheVariants as kind
 use Rattle.auction_input.specs.declared.part_kind.PartKind.{PartKind}
-use Rattle.auction_input.specs.declared.parts.PartFault.TheVariants as fault
-use Rattle.auction_input.specs.declared.request.Request.TheVariants as request
-use denote.Ref.{Bor}
 use Rattle.auction_input.specs.Parts.{SplitInput}
 
 -- with the bytes of one more part

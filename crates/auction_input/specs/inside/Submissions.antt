@@ -1,7 +1,6 @@
 -- The forms of the input: by bidder, as the bidders' threads submit them, and as the closed book holds them.
-use Rattle.std.specs.Prelude.{◌≡◌, ◌≢◌, ◌≤◌, ◌==◌, ◌∷◌, ◌++◌, ℕ, List, [], Option, None, Result, All, OnOk, filter, length, map, slice_index_or}
+use Rattle.std.specs.Prelude.{◌≡◌, ◌≢◌, ◌∷◌, ◌++◌, ℕ, List, [], Result, All, OnOk, map, slice_index_or}
 use Rattle.std.specs.Arc.{arc_value}
-use Rattle.std.specs.List.{AllZip, last_or}
 use Rattle.std.specs.declared.alloc.Global.{Global}
 use Rattle.std.specs.declared.sync.Arc.{Arc}
 use Rattle.std.specs.declared.vec.Vec.{Vec}

@@ -2,7 +2,6 @@
 use Rattle.std.specs.Prelude.{◌≡◌, ◌+◌, ◌++◌, ℕ, List, Result, Ok, All, length}
 use Rattle.auction_input.specs.Refused.{Refused}
 use Rattle.auction_terms.specs.Stages.{each_in_turn}
-use Rattle.auction_input.specs.declared.refusal.Refusal.TheVariants as refusal
 use Rattle.auction_terms.specs.Terms.{Terms}
 use Rattle.bid_forms.specs.Offers.{Meets, Offers}
 use Rattle.auction_input.specs.TextsTold.{form_told}

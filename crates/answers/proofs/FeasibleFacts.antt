@@ -1,0 +1,73 @@
+-- What `map` and `report` answer is feasible in the auction that the input tells.
+use Rattle.std.proofs.Common.{◌≡◌, ◌-◌, ◌+◌, ◌==◌, ◌∷◌, [], ℕ, Bool, true, false, List, Result, Ok, Err, arith, eqb-true, length, refl, subst, sym}
+use Rattle.std.specs.Prelude.{cond, nat_le, slice_index_or}
+use Rattle.std.specs.List.{AllZip, zip}
+use Rattle.auction_terms.specs.Allocations.{IsFeasible}
+use Rattle.auction_terms.specs.Groups.{has, starts_empty}
+use Rattle.auction_terms.specs.Limits.{IsBook}
+use Rattle.auction_terms.specs.Stages.{each_in_turn, refused_as}
+use Rattle.auction_terms.specs.declared.choices.Choice.{Choice}
+use Rattle.auction_input.specs.Auction.{auction_told}
+use Rattle.auction_input.specs.BookLeft.{program_for}
+use Rattle.auction_input.specs.PartsTold.{only_text}
+use Rattle.auction_input.specs.Refused.{Refused}
+use Rattle.auction_input.specs.declared.refusal.CountedPart.TheVariants as counted
+use Rattle.auction_input.specs.declared.refusal.Refusal.TheVariants as refusal
+use Rattle.auction_input.specs.declared.request.Request.TheVariants as request
+use Rattle.auction_input.proofs.AnswerFacts.{ok-behind, ok-is, ok-refused_as}
+use Rattle.auction_input.proofs.WithinFacts.{auction-within}
+use Rattle.outcome.specs.PointAllocation.{allocation_of}
+use Rattle.outcome.specs.Report.{allocation_text, report_text}
+use Rattle.outcome.specs.Sale.{Sale}
+use Rattle.outcome.specs.Solution.{solution}
+use Rattle.outcome.proofs.BackLaws.{solutions_come_back}
+use Rattle.program_rows.specs.Program.{Table}
+use Rattle.answers.specs.FeasibleAnswers.{IsFeasibleWithout, MappedIsFeasible, ReportedIsFeasible}
+use Rattle.answers.specs.SolutionWinners.{solution_refused, winners}
+use Rattle.answers.specs.commands.Map.{winners_text}
+use Rattle.answers.specs.commands.Report.{costs_text, report_of, winners_of_groups}
+
+pub when-counted : {A : Type 0} (test : Bool) (r : Result A Refused) (e : Refused) (x : A) → cond test r (Err e) ≡ Ok x → (test ≡ true) × (r ≡ Ok x)
+when-counted true r e x told = (refl, told)
+when-counted false r e x told = cc
+
+-- what a solution wins without a group is feasible
+pub feasible-of : (sale : Sale) (number : ℕ) (group text : List ℕ) (a : List Choice) → IsBook sale.lots sale.book → winners sale number (group, text) ≡ Ok a → IsFeasibleWithout sale group a
+feasible-of sale number group text a within won =
+    let p : Table = program_for sale group in
+    let (point, point_is, wins) = ok-behind (refused_as (solution_refused p number) (solution p text)) _ a won in
+    let solved = ok-refused_as (solution_refused p number) (solution p text) point point_is in
+    let comes = solutions_come_back sale.lots sale.book (has group) text point within solved in
+    let is : allocation_of p point ≡ a = ok-is _ (allocation_of p point) a refl wins in
+    subst (λ (x : List Choice). IsFeasible sale.lots sale.book (has group) x) is comes.feasible
+
+each-feasible : (sale : Sale) (n : ℕ) (groups texts : List (List ℕ)) (won : List (List Choice)) → IsBook sale.lots sale.book → length texts ≡ length groups
+    → each_in_turn (winners sale) n (zip groups texts) ≡ Ok won → AllZip (IsFeasibleWithout sale) groups won
+each-feasible sale n [] texts won within count wins = (let none : [] ≡ won = ok-is _ [] won refl wins in subst (λ (xs : List (List Choice)). AllZip (IsFeasibleWithout sale) [] xs) none tt)
+each-feasible sale n (group ∷ groups) [] won within count wins = absurd (omega arith)
+each-feasible sale n (group ∷ groups) (text ∷ texts) won within count wins =
+    let (a, a_is, more_wins) = ok-behind (winners sale n (group, text)) _ won wins in
+    let (more, more_are, are) = ok-behind (each_in_turn (winners sale) (n + 1) (zip groups texts)) _ won more_wins in
+    let is : a ∷ more ≡ won = ok-is _ (a ∷ more) won refl are in
+    let tail = each-feasible sale (n + 1) groups texts more within (omega arith) more_are in
+    subst (λ (xs : List (List Choice)). AllZip (IsFeasibleWithout sale) (group ∷ groups) xs) is (feasible-of sale n group text a within a_is, tail)
+
+pub reported-is-feasible : ReportedIsFeasible
+reported-is-feasible workers input out told =
+    let (auction, auction_is, made) = ok-behind (auction_told (request.Report workers) input) costs_text out told in
+    let within = (auction-within (request.Report workers) input auction auction_is).1 in
+    let (won, wins, written) = ok-behind (winners_of_groups auction) (report_of auction) out made in
+    let (starts, counted_wins) = when-counted (starts_empty auction.groups) _ refusal.FirstGroupNotEmpty won wins in
+    let (count, each) = when-counted (length auction.solutions == length auction.groups) _ (refusal.PartCount counted.Solutions) won counted_wins in
+    let text : report_text auction.sale auction.groups won ≡ out = ok-is _ (report_text auction.sale auction.groups won) out refl written in
+    (auction, auction_is, record { won = won; text = sym text; feasible = each-feasible auction.sale 1 auction.groups auction.solutions won within (eqb-true _ _ count) each })
+
+pub mapped-is-feasible : MappedIsFeasible
+mapped-is-feasible k input out told =
+    let (auction, auction_is, made) = ok-behind (auction_told (request.Map k) input) (winners_text k) out told in
+    let within = (auction-within (request.Map k) input auction auction_is).1 in
+    let group = slice_index_or auction.groups (k - 1) [] in
+    let (known, written) = when-counted (nat_le k (length auction.groups)) _ (refusal.NoGroup k) out made in
+    let (won, wins, printed) = ok-behind (winners auction.sale 1 (group, only_text auction.solutions)) _ out written in
+    let text : allocation_text auction.sale won ≡ out = ok-is _ (allocation_text auction.sale won) out refl printed in
+    (auction, auction_is, record { won = won; text = sym text; feasible = feasible-of auction.sale 1 group (only_text auction.solutions) won within wins })

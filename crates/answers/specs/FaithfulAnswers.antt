@@ -1,0 +1,32 @@
+-- What `text` and `compile` write where they end well: texts that are faithful to the auction that the input tells.
+use Rattle.std.specs.Prelude.{◌≡◌, ℕ, false, List, Ok}
+use Rattle.std.specs.List.{AllByRecursion}
+use Rattle.auction_input.specs.Auction.{Auction, auction_told}
+use Rattle.auction_input.specs.BookLeft.{program_for}
+use Rattle.auction_input.specs.declared.request.Request.TheVariants.{Compile, Text}
+use Rattle.auction_terms.specs.Groups.{has}
+use Rattle.mps_text.specs.FaithfulText.{IsFaithfulText}
+use Rattle.mps_text.specs.Text.{text}
+use Rattle.outcome.specs.Sale.{Sale}
+use Rattle.answers.specs.Answer.{answer}
+use Rattle.answers.specs.GroupTexts.{in_turn}
+use Rattle.answers.specs.commands.Compile.{program_text}
+
+-- the text of a group's program says of the auction, and of the group left out, what the allocations say
+abbrev pub IsFaithfulToSale : Sale → List ℕ → Type 0
+IsFaithfulToSale sale group = IsFaithfulText sale.lots sale.book (has group) (text (program_for sale group))
+
+-- what `text` answers of an input is a text that is faithful to the auction which the input tells, with nobody left out
+abbrev pub TextIsFaithful : Type 0
+TextIsFaithful = (input out : List ℕ) → answer Text input ≡ Ok out
+    → (auction : Auction) × (auction_told Text input ≡ Ok auction) × IsFaithfulText auction.sale.lots auction.sale.book (λ b. false) out
+
+-- the line and the text of each group in order, and each text faithful
+pub record AreFaithfulTexts (auction : Auction) (out : List ℕ) : Type 0 where
+  pub texts : out ≡ in_turn (program_text auction.sale) 1 auction.groups
+  pub faithful : AllByRecursion (IsFaithfulToSale auction.sale) auction.groups
+
+-- what `compile` answers of an input is these of the auction which the input tells
+abbrev pub CompiledIsFaithful : Type 0
+CompiledIsFaithful = (workers : ℕ) (input out : List ℕ) → answer (Compile workers) input ≡ Ok out
+    → (auction : Auction) × (auction_told (Compile workers) input ≡ Ok auction) × AreFaithfulTexts auction out

@@ -1,0 +1,135 @@
+-- The lots that an input tells are within the limits.
+use Rattle.std.proofs.Common.{◌≡◌, ◌≤◌, ◌<◌, ◌+◌, ◌==◌, ◌∷◌, [], ℕ, Bool, true, false, List, None, Some, Ok, arith, leb-true, length, map, refl}
+use Rattle.std.specs.Prelude.{find, nat_le, nat_lt}
+use Rattle.std.specs.List.{AllByRecursion}
+use Rattle.std.specs.Option.{option_map_or}
+use Rattle.std.proofs.lemmas.Bool.{and_parts, ltb-true}
+use Rattle.std.proofs.lemmas.List.{length-map}
+use Rattle.auction_terms.specs.Entries.{is_member_of, pool_with, terms_of, weights_in}
+use Rattle.auction_terms.specs.FirstFault.{first_failed, first_fault}
+use Rattle.auction_terms.specs.Limits.{IsLots, IsWeightedCap}
+use Rattle.auction_terms.specs.Records.{Record}
+use Rattle.auction_terms.specs.RulesText as rules_text
+use Rattle.auction_terms.specs.RulesText.{are_in_range, category_numbers, category_of, entries_of, entry_fault, field_number, is_between, member_numbers, member_of, number_told, of_kind, pool_numbers, pool_of, record_kind, value_text}
+use Rattle.auction_terms.specs.Terms.{Terms, cap_of, lots_in}
+use Rattle.auction_terms.specs.declared.limits.TheConstants.{GREATEST_AMOUNT, GREATEST_QUANTITY, GREATEST_VALUE, GREATEST_WEIGHT, MOST_CATEGORIES, MOST_POOLS}
+use Rattle.auction_terms.specs.declared.record_kinds.RecordKind.TheVariants as kind
+use Rattle.auction_terms.specs.declared.record_kinds.Version.{Version}
+use Rattle.auction_terms.specs.declared.rules.Category.{Category}
+use Rattle.auction_terms.specs.declared.draft.Member.{Member}
+use Rattle.auction_terms.specs.declared.rules_text.RulesFault.{RulesFault}
+use Rattle.auction_terms.specs.declared.rules_text.RulesFault.TheVariants as rules_fault
+use Rattle.auction_input.specs.TextsTold.{terms_told}
+use Rattle.auction_input.proofs.AnswerFacts.{ok-refused_as}
+use Rattle.auction_input.proofs.LimitFacts.{unless-large}
+use Rattle.auction_input.proofs.RecordFacts.{each-of-kind, few-of-kind, none-failed, rules-told}
+
+-- ---- a record without a fault
+
+in-range : (numbers : List (List ℕ × ℕ × ℕ)) → are_in_range numbers ≡ true → AllByRecursion (λ n. number_told n.0 ≤ n.2) numbers
+in-range [] are = tt
+in-range (n ∷ numbers) are =
+    let parts = and_parts (is_between n.1 n.2 (number_told n.0)) (are_in_range numbers) are in
+    let here = and_parts (nat_le n.1 (number_told n.0)) (nat_le (number_told n.0) n.2) parts.0 in
+    (leb-true (number_told n.0) n.2 here.1, in-range numbers parts.1)
+
+record IsCategoryRecord (v : Version) (r : Record) : Type 0 where
+  supply : field_number 3 r ≤ GREATEST_QUANTITY
+  value : number_told (value_text v r) ≤ GREATEST_VALUE
+
+category-checks : (v : Version) (before : List Record) (r : Record) → record_kind v r ≡ Some kind.Category → entry_fault v before r ≡ None
+    → IsCategoryRecord v r × (length (of_kind v kind.Category before) < MOST_CATEGORIES)
+category-checks v before r is free =
+    let place = length before + 2 in
+    let here : List (Bool × RulesFault) = (length r == rules_text.field_count v, rules_fault.FieldCount place) ∷ rules_text.category_checks v place (entries_of v before).categories r in
+    let none_here : first_failed here ≡ None = rw is at free in
+    let checks = none-failed here none_here in
+    let ranges = in-range (category_numbers v r) checks.1.1.1.0 in
+    let room : nat_lt (length (map (category_of v) (of_kind v kind.Category before))) MOST_CATEGORIES ≡ true = checks.1.1.1.1.1.0 in
+    let below = ltb-true _ _ room in
+    let count = length-map (of_kind v kind.Category before) (category_of v) in (
+      record { supply = ranges.0; value = ranges.1.1.1.0 },
+      omega arith,
+    )
+
+pool-checks : (v : Version) (before : List Record) (r : Record) → record_kind v r ≡ Some kind.Pool → entry_fault v before r ≡ None
+    → (field_number 3 r ≤ GREATEST_AMOUNT) × (length (of_kind v kind.Pool before) < MOST_POOLS)
+pool-checks v before r is free =
+    let place = length before + 2 in
+    let here : List (Bool × RulesFault) = (length r == rules_text.field_count v, rules_fault.FieldCount place) ∷ rules_text.pool_checks place (entries_of v before).pools r in
+    let none_here : first_failed here ≡ None = rw is at free in
+    let checks = none-failed here none_here in
+    let ranges = in-range (pool_numbers r) checks.1.1.1.0 in
+    let room : nat_lt (length (map pool_of (of_kind v kind.Pool before))) MOST_POOLS ≡ true = checks.1.1.1.1.1.0 in
+    let below = ltb-true _ _ room in
+    let count = length-map (of_kind v kind.Pool before) pool_of in
+    (ranges.0, omega arith)
+
+member-checks : (v : Version) (before : List Record) (r : Record) → record_kind v r ≡ Some kind.Member → entry_fault v before r ≡ None → field_number 4 r ≤ GREATEST_WEIGHT
+member-checks v before r is free =
+    let place = length before + 2 in
+    let here : List (Bool × RulesFault) = (length r == rules_text.field_count v, rules_fault.FieldCount place) ∷ rules_text.member_checks place (entries_of v before) r in
+    let none_here : first_failed here ≡ None = rw is at free in
+    let checks = none-failed here none_here in
+    (in-range (member_numbers r) checks.1.1.1.0).0
+
+-- ---- what records without a fault make
+
+small-supplies : (v : Version) (records : List Record) → AllByRecursion (IsCategoryRecord v) records → AllByRecursion (λ n. n ≤ GREATEST_QUANTITY) (map (λ (category : Category). category.supply) (map (category_of v) records))
+small-supplies v [] h = tt
+small-supplies v (r ∷ records) h = (h.0.supply, small-supplies v records h.1)
+
+small-values : (v : Version) (records : List Record) → AllByRecursion (IsCategoryRecord v) records → AllByRecursion (λ n. n ≤ GREATEST_VALUE) (map (λ (category : Category). category.value) (map (category_of v) records))
+small-values v [] h = tt
+small-values v (r ∷ records) h = (h.0.value, small-values v records h.1)
+
+small-weights : (records : List Record) → AllByRecursion (λ r. field_number 4 r ≤ GREATEST_WEIGHT) records → AllByRecursion (λ (member : Member). member.weight ≤ GREATEST_WEIGHT) (map member_of records)
+small-weights [] h = tt
+small-weights (r ∷ records) h = (h.0, small-weights records h.1)
+
+-- the weight of a category that a member names, and of one that none does
+weight-in : (test : Member → Bool) (members : List Member) → AllByRecursion (λ (member : Member). member.weight ≤ GREATEST_WEIGHT) members → option_map_or (λ (member : Member). member.weight) (find test members) 0 ≤ GREATEST_WEIGHT
+weight-in test [] h = omega arith
+weight-in test (member ∷ members) h = by (test member) refl (weight-in test members h.1)
+  where
+    by : (b : Bool) → test member ≡ b → option_map_or (λ (m : Member). m.weight) (find test members) 0 ≤ GREATEST_WEIGHT → option_map_or (λ (m : Member). m.weight) (find test (member ∷ members)) 0 ≤ GREATEST_WEIGHT
+    by true is rest = rw is h.0
+    by false is rest = rw is rest
+
+weights-in : (members : List Member) (pool : List ℕ) (categories : List Category) → AllByRecursion (λ (member : Member). member.weight ≤ GREATEST_WEIGHT) members → AllByRecursion (λ n. n ≤ GREATEST_WEIGHT) (weights_in categories members pool)
+weights-in members pool [] h = tt
+weights-in members pool (category ∷ categories) h = (weight-in (is_member_of pool category.name) members h, weights-in members pool categories h)
+
+small-pools : (categories : List Category) (members : List Member) → AllByRecursion (λ (member : Member). member.weight ≤ GREATEST_WEIGHT) members → (records : List Record)
+    → AllByRecursion (λ r. field_number 3 r ≤ GREATEST_AMOUNT) records → AllByRecursion IsWeightedCap (map cap_of (map (pool_with categories members) (map pool_of records)))
+small-pools categories members small [] h = tt
+small-pools categories members small (r ∷ records) h = (record { cap = h.0; weights = weights-in members (pool_of r).name categories small }, small-pools categories members small records h.1)
+
+made-lots : (v : Version) (more : List Record) → first_fault (entry_fault v) [] more ≡ None → (step : ℕ) → IsLots (lots_in (terms_of step (entries_of v more)))
+made-lots v more none step =
+    let categories = of_kind v kind.Category more in
+    let pools = of_kind v kind.Pool more in
+    let few = few-of-kind v kind.Category MOST_CATEGORIES (λ before r is free. (category-checks v before r is free).1) [] more none (omega arith) in
+    let few_pools = few-of-kind v kind.Pool MOST_POOLS (λ before r is free. (pool-checks v before r is free).1) [] more none (omega arith) in
+    let each = each-of-kind v kind.Category (IsCategoryRecord v) (λ before r is free. (category-checks v before r is free).0) [] more none in
+    let caps = each-of-kind v kind.Pool (λ r. field_number 3 r ≤ GREATEST_AMOUNT) (λ before r is free. (pool-checks v before r is free).0) [] more none in
+    let weights = small-weights (of_kind v kind.Member more) (each-of-kind v kind.Member (λ r. field_number 4 r ≤ GREATEST_WEIGHT) (member-checks v) [] more none) in
+    let told = length-map categories (category_of v) in
+    let count = length-map (map (category_of v) categories) (λ (category : Category). category.supply) in
+    let told_pools = length-map pools pool_of in
+    let named_pools = length-map (map pool_of pools) (pool_with (entries_of v more).categories (entries_of v more).members) in
+    let pool_count = length-map (terms_of step (entries_of v more)).pools cap_of in
+    record {
+      categories = omega arith;
+      supplies = small-supplies v categories each;
+      values = small-values v categories each;
+      few_pools = omega arith;
+      pools = small-pools (entries_of v more).categories (entries_of v more).members weights pools caps;
+    }
+
+-- ---- what an input tells
+
+pub lots-within : (texts : List (List ℕ)) (t : Terms) → terms_told texts ≡ Ok t → IsLots (lots_in t)
+lots-within texts t told =
+    let inside = ok-refused_as _ _ t told in
+    rules-told (λ u. IsLots (lots_in u)) made-lots _ t (unless-large _ rules_fault.TooLarge _ t inside)
