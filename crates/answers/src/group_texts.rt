@@ -1,12 +1,14 @@
 //! The programs of all groups as one output.
 
-ghost use Rattle.std.specs.Prelude.{◌≡◌, IfErr, OnOk, map};
+ghost use Rattle.std.specs.Prelude.{◌≡◌, IfErr, OnErr, OnOk, map};
 ghost use Rattle.std.specs.Io.KnownBytes.{Appends};
 ghost use Rattle.auction_terms.specs.Terms.{lots_in};
 ghost use Rattle.bid_desk.specs.Closing.{book_of};
-ghost use Rattle.group_compiler.specs.Compiled.{compiled};
+ghost use Rattle.group_compiler.specs.Compiled.{compiled, program_without};
 ghost use Rattle.group_pages.specs.Pages.{pages_of};
 ghost use Rattle.mps_text.specs.Adds.{Adds};
+ghost use Rattle.mps_text.specs.Sinks.{HasFailed, SentFront};
+ghost use Rattle.mps_text.specs.Text.{text};
 ghost use Rattle.mps_text.specs.Written.{written_of};
 ghost use Rattle.answers.specs.declared.run_fault.RunFault.TheVariants.{Sink as FaultOfSink};
 ghost use Rattle.answers.specs.GroupTexts.{FailsAsTold, StopsAsTold, program_bytes, program_line, program_number, programs_bytes};
@@ -36,6 +38,36 @@ fn add_line<S: Sink>(writer: &mut Writer<'_, S>, book: &ClosedBook, k: usize, gr
     add_names_line(writer, book, group.numbers());
 }
 
+// Adds the text of the program without a group.
+fn add_program<S: Sink>(writer: &mut Writer<'_, S>, book: &ClosedBook, pages: &Pages, group: &Group)
+    requires pages { pages.now ≡ pages_of (lots_in book.now.rules) (book_of book.now) }
+    ensures { Adds S.taken S.failures writer.old writer.new
+        (text (program_without book.now group.now)) }
+{
+    // Its contract says that the book's rules are within limits, which the lines of a program ask for.
+    let _rules = book.rules();
+    add_group_text(writer, pages, group);
+}
+
+/// Writes the text of the program without a group, from the pages of the book. It takes no memory.
+pub fn write_program_without<S: Sink>(
+    book: &ClosedBook,
+    pages: &Pages,
+    group: &Group,
+    out: &mut S,
+) -> Result<(), WriteFault>
+    requires pages { pages.now ≡ pages_of (lots_in book.now.rules) (book_of book.now) }
+    ensures ok { OnOk result (Appends (S.taken out.old) (S.taken out.new)
+        (text (program_without book.now group.now))) }
+    ensures err { IfErr result (λ e. SentFront (S.taken out.old) (S.taken out.new)
+        (text (program_without book.now group.now)) (written_of e)) }
+    ensures failed { OnErr result (HasFailed (S.failures out.old) (S.failures out.new)) }
+{
+    let mut writer = Writer::new(out);
+    add_program(&mut writer, book, pages, group);
+    writer.flush()
+}
+
 // Adds the line and the text of group k.
 fn add_group<S: Sink>(
     writer: &mut Writer<'_, S>,
@@ -48,10 +80,8 @@ fn add_group<S: Sink>(
     ensures { Adds S.taken S.failures writer.old writer.new
         (program_bytes book.now k (compiled book.now group.now)) }
 {
-    // Its contract says that the book's rules are within limits, which the lines of a program ask for.
-    let _rules = book.rules();
     add_line(writer, book, k, group);
-    add_group_text(writer, pages, group);
+    add_program(writer, book, pages, group);
 }
 
 // The fault of a writer in group k.

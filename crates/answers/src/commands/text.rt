@@ -1,16 +1,21 @@
 //! The command `text`: the program with nobody left out.
 
-ghost use Rattle.std.specs.Prelude.{[], IfErr, OnOk};
+ghost use Rattle.std.specs.Prelude.{◌≤◌, [], IfErr, OnOk};
 ghost use Rattle.answers.specs.Exact.{Ends, IsUnwritten, IsWritten, Writes};
 ghost use Rattle.answers.specs.inside.GroupTexts.{IsFaithfulWithout};
 ghost use Rattle.answers.specs.commands.Text.{text_of_all};
 ghost use Rattle.auction_input.specs.Settled.{held};
 ghost use Rattle.auction_input.specs.Sold.{HasSold};
+ghost use Rattle.group_compiler.specs.declared.limits.TheConstants.{MOST_WORKERS};
 
+use crate::group_texts::write_program_without;
 use auction_input::{Auction, Refusal, Request, read_auction};
 use auction_terms::Groups;
-use group_compiler::compile_one;
+use bid_desk::ClosedBook;
+use group_compiler::{MOST_WORKERS, OpenGate};
+use group_pages::Pages;
 use mps_text::Sink;
+use rayon::current_num_threads;
 use std::alloc::Global;
 use std::sync::Wait;
 use std::thread::Threads;
@@ -31,7 +36,33 @@ pub fn write_text<R: Threads + Wait + Sync + AllocGlobal, S: Sink>(
     write_program_of_all(rt, &auction, out)
 }
 
-// The text of the program with nobody left out.
+// With fewer bids than this one worker makes the pages: others would cost more time than they save.
+const FEW_BIDS: usize = 4_096;
+
+// Whether the forms have few bids together.
+fn has_few_bids(book: &ClosedBook) -> bool {
+    let bidders = book.rules().bidders().len() as u16;
+    let mut left = FEW_BIDS;
+    for bidder in 1..bidders + 1 {
+        if let Some(form) = book.form(bidder) {
+            left = left.saturating_sub(form.bids().len());
+        }
+    }
+    left > 0
+}
+
+// How many workers make the pages: one for each processor, unless there is little to do.
+fn page_workers(rt: &impl Threads, book: &ClosedBook) -> usize
+    ensures some { 1 ≤ result }
+    ensures few { result ≤ MOST_WORKERS }
+{
+    if has_few_bids(book) {
+        return 1;
+    }
+    current_num_threads(rt).min(MOST_WORKERS)
+}
+
+// The text of the program with nobody left out, joined from pages that are made side by side.
 fn write_program_of_all<R: Threads + Wait + Sync + AllocGlobal, S: Sink>(
     rt: &R,
     auction: &Auction<'_>,
@@ -44,8 +75,12 @@ fn write_program_of_all<R: Threads + Wait + Sync + AllocGlobal, S: Sink>(
         (S.taken out.new) (S.failures out.old) (S.failures out.new)) }
 {
     let alloc: Global = rt.alloc();
+    let book = &auction.book;
+    // Its contract says that the book is within limits, which a faithful text asks for.
+    let _rules = book.rules();
     let groups = Groups::only_empty(alloc)?;
-    let compiled = compile_one(rt, alloc, &auction.book, &groups, 1)?;
-    compiled.write_to(out)?;
+    let workers = page_workers(rt, book);
+    let pages = Pages::of_book(rt, alloc, book, groups.count(), workers, &OpenGate)?;
+    write_program_without(book, &pages, groups.group(1), out)?;
     Ok(())
 }

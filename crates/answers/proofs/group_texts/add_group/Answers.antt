@@ -1,11 +1,5 @@
-use Rattle.auction_terms.specs.Groups.{has}
-use Rattle.auction_terms.specs.Terms.{lots_in}
-use Rattle.bid_desk.specs.Closing.{book_of}
-use Rattle.group_pages.proofs.Joined.{joined_is}
-use Rattle.mps_text.proofs.Adding.{Adds-then, Adds-to}
+use Rattle.mps_text.proofs.Adding.{Adds-then}
 use Rattle.answers.proofs.group_texts.add_group.Goals as goal
 
 pub returns : goal.returns
-returns g c =
-    Adds-then c.add_line.ensures
-    (Adds-to c.add_group_text.ensures (joined_is (lots_in c.args.book.now.rules) (book_of c.args.book.now) (has c.args.group.now) c.args.pages.now c.rules-rules.ensures.book c.requires.pages))
+returns g c = Adds-then c.add_line.ensures c.add_program.ensures
