@@ -2,6 +2,7 @@ pub mod NearLaws
 pub mod SaidLaws
 pub mod ToldLaws
 pub mod PointLaws
+pub mod SomeBidLaws
 pub mod BackLaws
 pub mod NameLaws
 pub mod BoundLaws

@@ -17,7 +17,7 @@ use Rattle.program_rows.specs.ProgramNames.{column_names}
 use Rattle.outcome.specs.Solution.{solution, text_fault, point_fault, values_of, is_one, broken_bound_from, solution_line_fault}
 use Rattle.outcome.specs.Coming.{SolutionsArePoints}
 
-both_none : {F : Type 0} (a b : Option F) → option_or a b ≡ None → (a ≡ None) × (b ≡ None)
+pub both_none : {F : Type 0} (a b : Option F) → option_or a b ≡ None → (a ≡ None) × (b ≡ None)
 both_none None b e = (refl, e)
 both_none (Some f) b e = cc e
 
@@ -46,7 +46,7 @@ module _ (value : TableColumn → Bool) where
       by true t more = (t, more (rw t at e))
       by false t more = absurd (let f = rw t at e in cc f)
 
-told_ok : (f : Option SolutionFault) (mine values : List Bool) → unless f (Ok mine) ≡ Ok values → (f ≡ None) × (mine ≡ values)
+pub told_ok : (f : Option SolutionFault) (mine values : List Bool) → unless f (Ok mine) ≡ Ok values → (f ≡ None) × (mine ≡ values)
 told_ok None mine values e = (refl, cc e)
 told_ok (Some x) mine values e = cc e
 
@@ -72,7 +72,7 @@ is_point p value e =
       met = all_agree (λ r. not (meets r.1.kind (row_sum p values r.0) r.1.right_side) ≡ false) (λ r. meets r.1.kind (row_sum p values r.0) r.1.right_side ≡ true) (enumerate_from 0 p.rows) (λ r. not_failing _) rows;
     }
 
-map_map : {X Y Z : Type 0} (f : X → Y) (g : Y → Z) (xs : List X) → map g (map f xs) ≡ map (λ x. g (f x)) xs
+pub map_map : {X Y Z : Type 0} (f : X → Y) (g : Y → Z) (xs : List X) → map g (map f xs) ≡ map (λ x. g (f x)) xs
 map_map f g [] = refl
 map_map f g (x ∷ xs) = ap (λ ys. g (f x) ∷ ys) (map_map f g xs)
 

@@ -38,7 +38,7 @@ either_false false b h = (refl, h)
 abbrev sets : List ℕ → List ℕ → Bool
 sets column line = names_column column line && result_unwrap_or (token_value (value_in line)) false
 
-none_one : (text : List (List ℕ)) (column : List ℕ) → list_any (names_column column) text ≡ false → is_one text column ≡ false
+pub none_one : (text : List (List ℕ)) (column : List ℕ) → list_any (names_column column) text ≡ false → is_one text column ≡ false
 none_one [] column h = refl
 none_one (line ∷ text) column h =
     let parts = either_false (names_column column line) (list_any (names_column column) text) h in

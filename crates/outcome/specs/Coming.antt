@@ -1,5 +1,5 @@
 -- What the solutions of a program come back to.
-use Rattle.std.specs.Prelude.{◌≡◌, ℕ, Bool, List, pos, neg_ℤ, Ok}
+use Rattle.std.specs.Prelude.{◌≡◌, ℕ, Bool, List, filter, pos, neg_ℤ, Ok}
 use Rattle.auction_terms.specs.Packages.{Lots}
 use Rattle.auction_terms.specs.Allocations.{Book, total, IsFeasible}
 use Rattle.auction_terms.specs.Keeping.{kept_of}
@@ -38,3 +38,15 @@ SolutionsComeBack = (lots : Lots) (book : Book) (group : ℕ → Bool) (solved :
 abbrev pub AnswersOfSolversComeBack : Type 0
 AnswersOfSolversComeBack = (lots : Lots) (book : Book) (group : ℕ → Bool) (p : Table) (solved : List ℕ) (values : List Bool) → IsLots lots → IsBook lots book
     → meaning (presolved_text lots book group) ≡ Ok p → solution p solved ≡ Ok values → ComesBack lots book group p values
+
+-- what the solution tells against the one program is what it tells against the other, and it wins the same by both
+pub record WinsTheSame (one other : Table) (solved : List ℕ) (values : List Bool) : Type 0 where
+  pub others : List Bool
+  pub told : solution other solved ≡ Ok others
+  pub same_allocation : allocation_of other others ≡ allocation_of one values
+
+-- a solution that is taken against the program of some of the kept bids is taken against that of all, and wins the same
+abbrev pub SomeBidsSuffice : Type 0
+SomeBidsSuffice = (lots : Lots) (book : Book) (group : ℕ → Bool) (is_among : ℕ → ℕ → Bool) (solved : List ℕ) (values : List Bool) → IsBook lots book
+    → solution (program_of lots (filter (λ o. is_among o.bidder o.number) (kept_of lots book group))) solved ≡ Ok values
+    → WinsTheSame (program_of lots (filter (λ o. is_among o.bidder o.number) (kept_of lots book group))) (program_of lots (kept_of lots book group)) solved values

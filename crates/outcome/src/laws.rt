@@ -2,7 +2,7 @@
 
 ghost use Rattle.std.specs.Prelude.{ℕ, List};
 ghost use Rattle.auction_terms.specs.FirstFault.{TellsTheFirst};
-ghost use Rattle.outcome.specs.Coming.{AnswersOfSolversComeBack, PointsComeBack, SolutionsArePoints, SolutionsComeBack};
+ghost use Rattle.outcome.specs.Coming.{AnswersOfSolversComeBack, PointsComeBack, SolutionsArePoints, SolutionsComeBack, SomeBidsSuffice};
 ghost use Rattle.outcome.specs.Costs.{CostsAreBounded, CostsAreOwn, CostsCoverLots};
 ghost use Rattle.outcome.specs.Solution.{solution_line_fault};
 ghost use Rattle.outcome.specs.PointAllocation.{TakesWhatIsNamed};
@@ -30,6 +30,11 @@ pub fn a_solution_comes_back()
 /// And so do those that it tells against the program that is read from the program's text.
 pub fn an_answer_of_a_solver_comes_back()
     ensures { AnswersOfSolversComeBack }
+{}
+
+/// A solution that is taken against the program of some of the kept bids is taken against that of all of them, and wins the same.
+pub fn some_bids_suffice()
+    ensures { SomeBidsSuffice }
 {}
 
 /// A point takes a bid as often as columns with the bid's name are 1, and takes nothing else.

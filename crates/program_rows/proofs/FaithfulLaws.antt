@@ -78,7 +78,7 @@ each_row P n (q ∷ rows) h = (h n 0 q refl (omega arith), each_row P (n + 1) ro
 
 -- ---------- the offers whose values are 1 ----------
 
-abbrev chosen : List Offer → List Bool → List Offer
+abbrev pub chosen : List Offer → List Bool → List Offer
 chosen [] p = []
 chosen (o ∷ kept) [] = []
 chosen (o ∷ kept) (true ∷ p) = o ∷ chosen kept p
@@ -90,10 +90,10 @@ chosen_all P (o ∷ kept) [] a = tt
 chosen_all P (o ∷ kept) (true ∷ p) a = (a.0, chosen_all P kept p a.1)
 chosen_all P (o ∷ kept) (false ∷ p) a = chosen_all P kept p a.1
 
-abbrev IsNumbered : Offer → Type 0
+abbrev pub IsNumbered : Offer → Type 0
 IsNumbered o = is_bid o.bidder o.number ≡ true
 
-numbered : (lots : Lots) (offers : List Offer) → AreOffers lots offers → AllByRecursion IsNumbered offers
+pub numbered : (lots : Lots) (offers : List Offer) → AreOffers lots offers → AllByRecursion IsNumbered offers
 numbered lots [] h = tt
 numbered lots (o ∷ offers) h = (
   and_from (nat_le 1 o.bidder && nat_le o.bidder MOST_BIDDERS) (nat_le 1 o.number && nat_le o.number MOST_BIDS)
@@ -113,7 +113,7 @@ column_names_none lots false [] = refl
 column_names_none lots false (true ∷ p) = ap (λ (x : Option Choice). option_to_list x ++ []) names_none
 column_names_none lots false (false ∷ p) = refl
 
-back_is : (lots : Lots) (rows : List Subject) (kept : List Offer) (p : List Bool) → AllByRecursion IsNumbered kept → back (map (column_of lots rows) kept ++ worth_column lots) p ≡ map choice_of (chosen kept p)
+pub back_is : (lots : Lots) (rows : List Subject) (kept : List Offer) (p : List Bool) → AllByRecursion IsNumbered kept → back (map (column_of lots rows) kept ++ worth_column lots) p ≡ map choice_of (chosen kept p)
 back_is lots rows [] p n = column_names_none lots (worth_of_all lots == 0) p
 back_is lots rows (o ∷ kept) [] n = refl
 back_is lots rows (o ∷ kept) (true ∷ p) n =
@@ -207,6 +207,103 @@ coefficient_is lots r n zero (t ∷ rows) o s at e =
 coefficient_is lots r n (suc k) (t ∷ rows) o s at e =
     later_is r n (weight lots t o) (weight lots s o) (entries_from lots (r + 1) rows o) (weight lots t o == 0) (omega arith) (coefficient_is lots (r + 1) n k rows o s at (omega arith))
 
+-- ---------- what counts in a row ----------
+
+-- what a row can be about
+abbrev in_rows : Lots → Subject → Type 0
+in_rows lots (Bidder b) = Unit {0}
+in_rows lots (Category c) = c < length lots.supply
+in_rows lots (Pool p) = p < length lots.pools
+
+module _ (lots : Lots) (offers : List Offer) where
+  abbrev built : Table
+  built = program_of lots offers
+
+  row_is : (r : ℕ) (s : Subject) (p : List Bool) → slice_get (subjects lots offers) r ≡ Some s → row_sum built p r ≡ pos (sum_by (weight lots s) (chosen offers p))
+  row_is r s p at = sum_is (coefficient_at r) (weight lots s) lots (subjects lots offers) (worth_column lots) offers p (λ o. coefficient_is lots 0 r r (subjects lots offers) o s at (omega arith)) (in_no_row lots r (worth_of_all lots == 0))
+
+  -- a bidder with a column has a row
+  bidder_row : (b : ℕ) (xs : List Offer) → list_any (λ o. o.bidder == b) xs ≡ true → Contains (map (λ o. o.bidder) xs) b
+  bidder_row b [] h = absurd (both_ways false refl h)
+  bidder_row b (o ∷ xs) h = ⊎_elim
+      (λ l. (0, omega arith, eqb-true o.bidder b l))
+      (λ r. let w = bidder_row b xs r in (suc w.0, omega arith, w.2))
+      (or_cases _ _ h)
+
+  no_weight : (b : ℕ) (xs : List Offer) → list_any (λ o. o.bidder == b) xs ≡ false → AllByRecursion (λ o. weight lots (Bidder b) o ≡ 0) xs
+  no_weight b [] h = tt
+  no_weight b (o ∷ xs) h = let e = or_parts _ _ h in (cond-false (o.bidder == b) 1 0 e.0, no_weight b xs e.1)
+
+  met : (p : List Bool) → IsPoint built p → (r : ℕ) (s : Subject) → slice_get (subjects lots offers) r ≡ Some s → sum_by (weight lots s) (chosen offers p) ≤ most lots s
+  met p is_point r s at =
+      let m = row_at (λ q. meets q.1.kind (row_sum built p q.0) q.1.right_side ≡ true) 0 r r built.rows (row_of lots s) is_point.met (get_map (row_of lots) (subjects lots offers) r s at) (sym (zero-add r)) in
+      leb-true (sum_by (weight lots s) (chosen offers p)) (most lots s) (ap (λ (z : ℤ). int_le z (pos (most lots s))) (sym (row_is r s p at)) ∙ m)
+
+  one_each : (p : List Bool) → IsPoint built p → (b : ℕ) → sum_by (weight lots (Bidder b)) (chosen offers p) ≤ 1
+  one_each p is_point b = ⊎_elim
+      (λ some.
+      let w = Contains-dedup_nat (map (λ o. o.bidder) offers) b (bidder_row b offers some) in
+      let at = get_left (map Bidder (dedup nat_eq (map (λ o. o.bidder) offers))) (map Category (range_with_len 0 (length lots.supply)) ++ map Pool (range_with_len 0 (length lots.pools))) w.0 (Bidder b)
+      (get_map Bidder (dedup nat_eq (map (λ o. o.bidder) offers)) w.0 b (get_contained (dedup nat_eq (map (λ o. o.bidder) offers)) w.0 b w.1 w.2)) in
+      met p is_point w.0 (Bidder b) at)
+      (λ none.
+      let z = sum_agree (weight lots (Bidder b)) (λ o. 0) (chosen offers p) (chosen_all (λ o. weight lots (Bidder b) o ≡ 0) offers p (no_weight b offers none)) in
+      let y = sum_zero (λ (o : Offer). 0) (chosen offers p) (λ o. refl) in
+      omega arith)
+      (cases_Bool (list_any (λ o. o.bidder == b) offers))
+
+  within : (p : List Bool) → IsPoint built p → (category : ℕ) → category < length lots.supply → sum_by (weight lots (Category category)) (chosen offers p) ≤ slice_index lots.supply category
+  within p is_point category below =
+      let rest : List Subject = map Pool (range_with_len 0 (length lots.pools)) in
+      let at = get_right (map Bidder (dedup nat_eq (map (λ o. o.bidder) offers))) (map Category (range_with_len 0 (length lots.supply)) ++ rest) category (Category category)
+      (get_left (map Category (range_with_len 0 (length lots.supply))) rest category (Category category)
+      (get_map Category (range_with_len 0 (length lots.supply)) category category (get_range 0 (length lots.supply) category category below (omega arith)))) in
+      met p is_point at.0 (Category category) at.1
+
+  within_pool : (p : List Bool) → IsPoint built p → (pool : ℕ) → pool < length lots.pools → sum_by (weight lots (Pool pool)) (chosen offers p) ≤ (pool_at lots pool).cap
+  within_pool p is_point pool below =
+      let there = get_right (map Category (range_with_len 0 (length lots.supply))) (map Pool (range_with_len 0 (length lots.pools))) pool (Pool pool)
+      (get_map Pool (range_with_len 0 (length lots.pools)) pool pool (get_range 0 (length lots.pools) pool pool below (omega arith))) in
+      let at = get_right (map Bidder (dedup nat_eq (map (λ o. o.bidder) offers))) (map Category (range_with_len 0 (length lots.supply)) ++ map Pool (range_with_len 0 (length lots.pools))) there.0 (Pool pool) there.1 in
+      met p is_point at.0 (Pool pool) at.1
+
+  all_bidders : (bs : List ℕ) (rest : List Subject) → AllByRecursion (in_rows lots) rest → AllByRecursion (in_rows lots) (map Bidder bs ++ rest)
+  all_bidders [] rest h = h
+  all_bidders (b ∷ bs) rest h = (tt, all_bidders bs rest h)
+
+  all_categories : (a n : ℕ) (rest : List Subject) → a + n ≡ length lots.supply → AllByRecursion (in_rows lots) rest → AllByRecursion (in_rows lots) (map Category (range_with_len a n) ++ rest)
+  all_categories a zero rest e h = h
+  all_categories a (suc n) rest e h = (omega arith, all_categories (a + 1) n rest (omega arith) h)
+
+  all_pools : (a n : ℕ) → a + n ≡ length lots.pools → AllByRecursion (in_rows lots) (map Pool (range_with_len a n))
+  all_pools a zero e = tt
+  all_pools a (suc n) e = (omega arith, all_pools (a + 1) n (omega arith))
+
+  all_rows : AllByRecursion (in_rows lots) (subjects lots offers)
+  all_rows = all_bidders (dedup nat_eq (map (λ o. o.bidder) offers)) (map Category (range_with_len 0 (length lots.supply)) ++ map Pool (range_with_len 0 (length lots.pools)))
+      (all_categories 0 (length lots.supply) (map Pool (range_with_len 0 (length lots.pools))) (zero-add (length lots.supply)) (all_pools 0 (length lots.pools) (zero-add (length lots.pools))))
+
+  weighs_few : (p : List Bool) → IsPoint built p → (s : Subject) → in_rows lots s → sum_by (weight lots s) (chosen offers p) ≤ most lots s
+  weighs_few p is_point (Bidder b) there = one_each p is_point b
+  weighs_few p is_point (Category category) there = within p is_point category there
+  weighs_few p is_point (Pool pool) there = within_pool p is_point pool there
+
+  point_where : (p : List Bool) → AreAllowed built.columns p → ((s : Subject) → in_rows lots s → sum_by (weight lots s) (chosen offers p) ≤ most lots s) → IsPoint built p
+  point_where p allowed few = record {
+    allowed = allowed;
+    met = each_row (λ q. meets q.1.kind (row_sum built p q.0) q.1.right_side ≡ true) 0 built.rows (λ m r row at place.
+        let w = from_map (row_of lots) (subjects lots offers) r row at in
+        let fit = few w.0 (at_place (in_rows lots) (subjects lots offers) r w.0 all_rows w.1) in
+        let here : m ≡ r = omega arith in
+        let n : meets AtMost (row_sum built p m) (pos (most lots w.0)) ≡ true =
+        ap (λ (i : ℕ). int_le (row_sum built p i) (pos (most lots w.0))) here ∙ ap (λ (z : ℤ). int_le z (pos (most lots w.0))) (row_is r w.0 p w.1) ∙ le-leb (sum_by (weight lots w.0) (chosen offers p)) (most lots w.0) fit in
+        subst (λ (x : TableRow). meets x.kind (row_sum built p m) x.right_side ≡ true) (sym w.2) n);
+  }
+
+-- a point of the program of a list of offers is one of another's, where the same offers are at 1
+pub point_of_others : (lots : Lots) (offers others : List Offer) (p q : List Bool) → IsPoint (program_of lots offers) p → AreAllowed (program_of lots others).columns q → chosen others q ≡ chosen offers p → IsPoint (program_of lots others) q
+point_of_others lots offers others p q is_point allowed same = point_where lots others q allowed (λ s there. rw same (weighs_few lots offers p is_point s there))
+
 -- ---------- from a point to an allocation ----------
 
 -- a measure of the choices is that of the offers
@@ -240,59 +337,11 @@ module _ (lots : Lots) (book : Book) (group : ℕ → Bool) where
   quantity_is : (category : ℕ) (o : Offer) → IsOffered o → quantity_of book category (choice_of o) ≡ slice_index o.bid.package category
   quantity_is category o h = ap (λ c. option_map_or (λ (x : Bid). slice_index x.package category) c 0) h.0
 
-  row_is : (r : ℕ) (s : Subject) (p : List Bool) → slice_get (subjects lots kept) r ≡ Some s → row_sum program p r ≡ pos (sum_by (weight lots s) (chosen kept p))
-  row_is r s p at = sum_is (coefficient_at r) (weight lots s) lots (subjects lots kept) (worth_column lots) kept p (λ o. coefficient_is lots 0 r r (subjects lots kept) o s at (omega arith)) (in_no_row lots r (worth_of_all lots == 0))
-
   worth_is : (o : Offer) → IsOffered o → weighed_choice lots.values book (choice_of o) ≡ worth_offered lots o
   worth_is o h = ap (λ c. option_map_or (λ (x : Bid). weighed lots.values x.package) c 0) h.0
 
   load_is : (pool : ℕ) (o : Offer) → IsOffered o → weighed_choice (pool_at lots pool).weights book (choice_of o) ≡ weight lots (Pool pool) o
   load_is pool o h = ap (λ c. option_map_or (λ (x : Bid). weighed (pool_at lots pool).weights x.package) c 0) h.0
-
-  -- a bidder with a column has a row
-  bidder_row : (b : ℕ) (xs : List Offer) → list_any (λ o. o.bidder == b) xs ≡ true → Contains (map (λ o. o.bidder) xs) b
-  bidder_row b [] h = absurd (both_ways false refl h)
-  bidder_row b (o ∷ xs) h = ⊎_elim
-      (λ l. (0, omega arith, eqb-true o.bidder b l))
-      (λ r. let w = bidder_row b xs r in (suc w.0, omega arith, w.2))
-      (or_cases _ _ h)
-
-  no_weight : (b : ℕ) (xs : List Offer) → list_any (λ o. o.bidder == b) xs ≡ false → AllByRecursion (λ o. weight lots (Bidder b) o ≡ 0) xs
-  no_weight b [] h = tt
-  no_weight b (o ∷ xs) h = let e = or_parts _ _ h in (cond-false (o.bidder == b) 1 0 e.0, no_weight b xs e.1)
-
-  met : (p : List Bool) → IsPoint program p → (r : ℕ) (s : Subject) → slice_get (subjects lots kept) r ≡ Some s → sum_by (weight lots s) (chosen kept p) ≤ most lots s
-  met p is_point r s at =
-      let m = row_at (λ q. meets q.1.kind (row_sum program p q.0) q.1.right_side ≡ true) 0 r r program.rows (row_of lots s) is_point.met (get_map (row_of lots) (subjects lots kept) r s at) (sym (zero-add r)) in
-      leb-true (sum_by (weight lots s) (chosen kept p)) (most lots s) (ap (λ (z : ℤ). int_le z (pos (most lots s))) (sym (row_is r s p at)) ∙ m)
-
-  one_each : (p : List Bool) → IsPoint program p → (b : ℕ) → sum_by (weight lots (Bidder b)) (chosen kept p) ≤ 1
-  one_each p is_point b = ⊎_elim
-      (λ some.
-      let w = Contains-dedup_nat (map (λ o. o.bidder) kept) b (bidder_row b kept some) in
-      let at = get_left (map Bidder (dedup nat_eq (map (λ o. o.bidder) kept))) (map Category (range_with_len 0 (length lots.supply)) ++ map Pool (range_with_len 0 (length lots.pools))) w.0 (Bidder b)
-      (get_map Bidder (dedup nat_eq (map (λ o. o.bidder) kept)) w.0 b (get_contained (dedup nat_eq (map (λ o. o.bidder) kept)) w.0 b w.1 w.2)) in
-      met p is_point w.0 (Bidder b) at)
-      (λ none.
-      let z = sum_agree (weight lots (Bidder b)) (λ o. 0) (chosen kept p) (chosen_all (λ o. weight lots (Bidder b) o ≡ 0) kept p (no_weight b kept none)) in
-      let y = sum_zero (λ (o : Offer). 0) (chosen kept p) (λ o. refl) in
-      omega arith)
-      (cases_Bool (list_any (λ o. o.bidder == b) kept))
-
-  within : (p : List Bool) → IsPoint program p → (category : ℕ) → category < length lots.supply → sum_by (weight lots (Category category)) (chosen kept p) ≤ slice_index lots.supply category
-  within p is_point category below =
-      let rest : List Subject = map Pool (range_with_len 0 (length lots.pools)) in
-      let at = get_right (map Bidder (dedup nat_eq (map (λ o. o.bidder) kept))) (map Category (range_with_len 0 (length lots.supply)) ++ rest) category (Category category)
-      (get_left (map Category (range_with_len 0 (length lots.supply))) rest category (Category category)
-      (get_map Category (range_with_len 0 (length lots.supply)) category category (get_range 0 (length lots.supply) category category below (omega arith)))) in
-      met p is_point at.0 (Category category) at.1
-
-  within_pool : (p : List Bool) → IsPoint program p → (pool : ℕ) → pool < length lots.pools → sum_by (weight lots (Pool pool)) (chosen kept p) ≤ (pool_at lots pool).cap
-  within_pool p is_point pool below =
-      let there = get_right (map Category (range_with_len 0 (length lots.supply))) (map Pool (range_with_len 0 (length lots.pools))) pool (Pool pool)
-      (get_map Pool (range_with_len 0 (length lots.pools)) pool pool (get_range 0 (length lots.pools) pool pool below (omega arith))) in
-      let at = get_right (map Bidder (dedup nat_eq (map (λ o. o.bidder) kept))) (map Category (range_with_len 0 (length lots.supply)) ++ map Pool (range_with_len 0 (length lots.pools))) there.0 (Pool pool) there.1 in
-      met p is_point at.0 (Pool pool) at.1
 
   eligible_each : (xs : List Offer) → AllByRecursion IsOffered xs → AllByRecursion (λ c. is_eligible book group c ≡ true) (map choice_of xs)
   eligible_each [] a = tt
@@ -311,11 +360,11 @@ module _ (lots : Lots) (book : Book) (group : ℕ → Bool) where
       feasible_from lots book (map choice_of (chosen kept p)) sized
       (λ category below.
       let e = measured (quantity_of book category) (weight lots (Category category)) (chosen kept p) (all_agree IsOffered (λ o. quantity_of book category (choice_of o) ≡ slice_index o.bid.package category) (chosen kept p) (quantity_is category) here) in
-      let l = within p is_point category below in
+      let l = within lots kept p is_point category below in
       omega arith)
       (λ pool below.
       let e = measured (weighed_choice (pool_at lots pool).weights book) (weight lots (Pool pool)) (chosen kept p) (all_agree IsOffered (λ o. weighed_choice (pool_at lots pool).weights book (choice_of o) ≡ weight lots (Pool pool) o) (chosen kept p) (load_is pool) here) in
-      let l = within_pool p is_point pool below in
+      let l = within_pool lots kept p is_point pool below in
       omega arith)
 
   maps_back : IsSized lots book → (p : List Bool) → IsPoint program p → IsFeasible lots book group (map choice_of (chosen kept p)) × (pos (total lots book (map choice_of (chosen kept p))) ≡ neg_ℤ (objective program p))
@@ -325,7 +374,7 @@ module _ (lots : Lots) (book : Book) (group : ℕ → Bool) where
         record {
           one_bid_each = λ b.
               let e = measured (λ (c : Choice). cond (c.bidder == b) 1 0) (weight lots (Bidder b)) (chosen kept p) (all_agree IsOffered (λ o. cond (o.bidder == b) 1 0 ≡ cond (o.bidder == b) 1 0) (chosen kept p) (λ o h. refl) here) in
-              let l = one_each p is_point b in
+              let l = one_each lots kept p is_point b in
               omega arith;
           eligible = All-from_recursion (λ c. is_eligible book group c ≡ true) (map choice_of (chosen kept p)) (eligible_each (chosen kept p) here);
           fit = fit;
@@ -440,27 +489,6 @@ module _ (lots : Lots) (book : Book) (group : ℕ → Bool) (f : ℕ → Bid →
       both' ∙ ap₂ (λ (m n : ℕ). m + n) first' rest' ∙ sym s
 
 module _ (lots : Lots) (book : Book) (group : ℕ → Bool) (sized : IsSized lots book) where
-  abbrev in_rows : Subject → Type 0
-  in_rows (Bidder b) = Unit {0}
-  in_rows (Category c) = c < length lots.supply
-  in_rows (Pool p) = p < length lots.pools
-
-  all_bidders : (bs : List ℕ) (rest : List Subject) → AllByRecursion in_rows rest → AllByRecursion in_rows (map Bidder bs ++ rest)
-  all_bidders [] rest h = h
-  all_bidders (b ∷ bs) rest h = (tt, all_bidders bs rest h)
-
-  all_categories : (a n : ℕ) (rest : List Subject) → a + n ≡ length lots.supply → AllByRecursion in_rows rest → AllByRecursion in_rows (map Category (range_with_len a n) ++ rest)
-  all_categories a zero rest e h = h
-  all_categories a (suc n) rest e h = (omega arith, all_categories (a + 1) n rest (omega arith) h)
-
-  all_pools : (a n : ℕ) → a + n ≡ length lots.pools → AllByRecursion in_rows (map Pool (range_with_len a n))
-  all_pools a zero e = tt
-  all_pools a (suc n) e = (omega arith, all_pools (a + 1) n (omega arith))
-
-  all_rows : AllByRecursion in_rows (subjects lots (kept_of lots book group))
-  all_rows = all_bidders (dedup nat_eq (map (λ o. o.bidder) (kept_of lots book group))) (map Category (range_with_len 0 (length lots.supply)) ++ map Pool (range_with_len 0 (length lots.pools)))
-      (all_categories 0 (length lots.supply) (map Pool (range_with_len 0 (length lots.pools))) (zero-add (length lots.supply)) (all_pools 0 (length lots.pools) (zero-add (length lots.pools))))
-
   counted : (b : ℕ) (c : Choice) → is_kept_choice lots book group c ≡ true → of_choice lots book group (λ d x. cond (d == b) 1 0) c ≡ cond (c.bidder == b) 1 0
   counted b c k =
       let e = and_parts (not (group c.bidder)) (option_map_or (λ x. is_kept lots (form_of book c.bidder) x) (bid_of book c) false) k in
@@ -471,7 +499,7 @@ module _ (lots : Lots) (book : Book) (group : ℕ → Bool) (sized : IsSized lot
   values_fit rows [] p = last_allowed lots (worth_of_all lots == 0)
   values_fit rows (o ∷ xs) p = (refl, values_fit rows xs p)
 
-  weighs : (s : Subject) (a : List Choice) → AllByRecursion (λ c. is_kept_choice lots book group c ≡ true) a → IsFeasible lots book group a → in_rows s
+  weighs : (s : Subject) (a : List Choice) → AllByRecursion (λ c. is_kept_choice lots book group c ≡ true) a → IsFeasible lots book group a → in_rows lots s
       → sum_by (weight lots s) (chosen (kept_of lots book group) (map (is_member a) (kept_of lots book group) ++ last_values lots)) ≤ most lots s
   weighs (Bidder b) a k f tt =
       let e = chosen_marks (is_member a) (weight lots (Bidder b)) (kept_of lots book group) (last_values lots) in
@@ -508,16 +536,7 @@ module _ (lots : Lots) (book : Book) (group : ℕ → Bool) (sized : IsSized lot
       (total_is lots book best.choices sized best.feasible.fit) amounts worth_is (cost_is lots (subjects lots all) all p allowed) in
       let dearer = best.no_cheaper in record {
         values = p;
-        is_point = record {
-          allowed = allowed;
-          met = each_row (λ q. meets q.1.kind (row_sum (program_of lots all) p q.0) q.1.right_side ≡ true) 0 (program_of lots all).rows (λ m r row at place.
-              let w = from_map (row_of lots) (subjects lots all) r row at in
-              let fit = weighs w.0 best.choices k best.feasible (at_place in_rows (subjects lots all) r w.0 all_rows w.1) in
-              let here : m ≡ r = omega arith in
-              let n : meets AtMost (row_sum (program_of lots all) p m) (pos (most lots w.0)) ≡ true =
-              ap (λ (i : ℕ). int_le (row_sum (program_of lots all) p i) (pos (most lots w.0))) here ∙ ap (λ (z : ℤ). int_le z (pos (most lots w.0))) (row_is lots book group r w.0 p w.1) ∙ le-leb (sum_by (weight lots w.0) (chosen all p)) (most lots w.0) fit in
-              subst (λ (x : TableRow). meets x.kind (row_sum (program_of lots all) p m) x.right_side ≡ true) (sym w.2) n);
-        };
+        is_point = point_where lots all p allowed (λ s there. weighs s best.choices k best.feasible there);
         no_less = (let le : pos (total lots book a) ≤ℤ pos (total lots book best.choices) = omega (arith, ints) in
             subst (λ (z : ℤ). pos (total lots book a) ≤ℤ z) negated le);
       }

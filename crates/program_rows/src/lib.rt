@@ -47,6 +47,7 @@ pub use point::Point;
 pub use program::Program;
 pub use row::{Row, RowKind};
 pub use same::same_program;
+pub use spelling::bid_named;
 pub use token::read_token;
 pub use token_fault::TokenFault;
 pub use token_parts::TokenParts;
