@@ -35,7 +35,7 @@ module _ (lots : Lots) where
   one_left q o xs true e h before r = subst (λ (ys : List Offer). AreOffers lots ys) (sym (cond-true (q o) (o ∷ filter q xs) (filter q xs) e)) (h, all_left (IsBefore o) q xs before, r)
   one_left q o xs false e h before r = subst (λ (ys : List Offer). AreOffers lots ys) (sym (cond-false (q o) (o ∷ filter q xs) (filter q xs) e)) r
 
-  offers_left : (q : Offer → Bool) (xs : List Offer) → AreOffers lots xs → AreOffers lots (filter q xs)
+  pub offers_left : (q : Offer → Bool) (xs : List Offer) → AreOffers lots xs → AreOffers lots (filter q xs)
   offers_left q [] h = tt
   offers_left q (o ∷ xs) h = one_left q o xs (q o) refl h.0 h.1 (offers_left q xs h.2)
 

@@ -13,7 +13,7 @@ ghost use Rattle.group_compiler.specs.Compiled.{compiled, program_without};
 
 use crate::compiled::Compiled;
 use crate::maker::Maker;
-use auction_terms::{Group, Groups};
+use auction_terms::{Choice, Group, Groups};
 use bid_desk::ClosedBook;
 use presolve::Flags;
 use program_rows::{Program, build};
@@ -81,7 +81,7 @@ impl<'b, 'g> Model for Compiler<'b, 'g> {
 }
 
 impl<'b, 'g> Compiler<'b, 'g> {
-    ghost use Rattle.group_compiler.specs.Compiled.{compiling};
+    ghost use Rattle.group_compiler.specs.Compiled.{compiling, program_among};
 
     /// A compiler of the groups of an auction.
     pub fn new(
@@ -112,6 +112,29 @@ impl<'b, 'g> Compiler<'b, 'g> {
         ensures few { result ≤ MOST_GROUPS }
     {
         self.groups.count()
+    }
+
+    /// Group k, counted from 1.
+    pub fn group(&self, k: usize) -> &'g Group
+        requires some { 1 ≤ k }
+        requires within { k ≤ length self.now.groups }
+        ensures { result.now ≡ slice_index_or self.now.groups (k - 1) [] }
+    {
+        self.groups.group(k)
+    }
+
+    /// The program of those bids alone that are kept without a group and are among these choices.
+    pub fn program_among(
+        &self,
+        alloc: Global,
+        group: &Group,
+        choices: Vec<Choice>,
+    ) -> Result<Program, AllocError>
+        ensures { IfOk result (λ program. program
+            ≡ program_among self.now.book group.now choices.items) }
+    {
+        let kept = self.flags.kept_among(alloc, self.book, group, choices)?;
+        build(alloc, self.book.rules(), &kept)
     }
 
     /// The program without a group, whether it is one of these or another one.

@@ -1,5 +1,5 @@
 -- Laws of the kept bids of a book, bidder by bidder.
-use Rattle.std.proofs.Common.{◌≡◌, ℕ, suc, ◌+◌, ◌<◌, ◌≤◌, Bool, true, false, not, ◌&&◌, cond, List, [], ◌∷◌, ◌++◌, length, drop, map, slice_index_or, get_or, sym, refl, ap, ap₂, ◌∙◌, subst, arith, append_assoc, append-nil}
+use Rattle.std.proofs.Common.{◌≡◌, ℕ, suc, ◌+◌, ◌-◌, ◌<◌, ◌≤◌, Bool, true, false, not, ◌&&◌, cond, List, [], ◌∷◌, ◌++◌, length, drop, map, slice_index_or, get_or, sym, refl, ap, ap₂, ◌∙◌, subst, arith, append_assoc, append-nil}
 use Rattle.std.specs.Prelude.{All, AllPairs, Contains, filter, IfOk, MatchResult, Result, Ok, Err, zero}
 use Rattle.std.specs.List.{AllByRecursion, AllZip, range_with_len}
 use Rattle.std.specs.declared.alloc.AllocError.{AllocError}
@@ -12,6 +12,7 @@ use Rattle.std.proofs.lemmas.List.Kept.{AllPairs-cons}
 use Rattle.std.proofs.Math.Seq.{drop-cons}
 use Rattle.auction_terms.specs.declared.bids.Bid.{Bid}
 use Rattle.auction_terms.specs.declared.bids.KeptBid.{KeptBid}
+use Rattle.auction_terms.specs.declared.choices.Choice.{Choice}
 use Rattle.auction_terms.specs.declared.rules.Bidder.{Bidder}
 use Rattle.auction_terms.specs.Packages.{Lots}
 use Rattle.auction_terms.specs.Terms.{Terms}
@@ -21,10 +22,11 @@ use Rattle.auction_terms.specs.Bids.{IsKeptBid, AreKept, Precedes}
 use Rattle.auction_terms.specs.Keeping.{Offer, offers_of_form, offers_from, is_kept_offer, kept_of}
 use Rattle.auction_terms.specs.Limits.{AreOffers, IsBefore, IsBook}
 use Rattle.auction_terms.specs.Offers.{offers, offer_of}
-use Rattle.auction_terms.proofs.LimitLaws.{kept_are_offers}
+use Rattle.auction_terms.proofs.LimitLaws.{kept_are_offers, offers_left}
 use Rattle.bid_desk.specs.Closing.{Closing, book_of, bids_in, form_standing}
-use Rattle.presolve.specs.Flags.{flags_of, flags_of_form, kept_in_form}
+use Rattle.presolve.specs.Flags.{flags_of, flags_of_form, has_choice, kept_among, kept_in_form}
 use Rattle.presolve.specs.inside.Flags.{flagged_from, flags_of_bidders}
+use Rattle.presolve.proofs.ChoiceLaws.{bidder_within}
 
 -- a book has a form for each bidder of its rules
 pub length_book : (c : Closing) (t : Terms) (bidders : List Bidder) → bidders ≡ t.bidders → t ≡ c.rules → length bidders ≡ length (book_of c)
@@ -114,6 +116,18 @@ module _ (lots : Lots) (book : Book) where
             ∙ flag_of_form book i within ∙ ap (λ (n : ℕ). map (is_kept lots (form_of book n)) (form_of book n)) (let s : suc i ≡ i + 1 = omega arith in s),
       )
 
+-- the flags of the form of a choice's bidder, where the form has a bid
+pub its_flags : (lots : Lots) (book : Book) (forms : List (Vec Bool Global)) (c : Choice) (form : Vec Bool Global) (place : ℕ) → map (λ (f : Vec Bool Global). f.items) forms ≡ flags_of lots book → 0 < length (form_of book c.bidder)
+    → place ≡ c.bidder - 1 → form ≡ get_or forms place form → form.items ≡ map (is_kept lots (form_of book c.bidder)) (form_of book c.bidder)
+its_flags lots book forms c form place all some place_is at =
+    let long = length_flags lots book forms all in
+    let within = bidder_within book c.bidder some in
+    let low = within.0 in
+    let high = within.1 in
+    let there : place < length forms = omega arith in
+    let back : place + 1 ≡ c.bidder = omega arith in
+    (flags_at lots book forms place form all there at).1 ∙ ap (λ (n : ℕ). map (is_kept lots (form_of book n)) (form_of book n)) back
+
 precedes_all : (k : KeptBid) (ks : List KeptBid) → AllByRecursion (IsBefore (offer_of k)) (offers ks) → AllByRecursion (Precedes k) ks
 precedes_all k [] a = tt
 precedes_all k (l ∷ ks) a = (a.0, precedes_all k ks a.1)
@@ -126,6 +140,12 @@ pub are_kept : (lots : Lots) (book : Book) (group : ℕ → Bool) (ks : List Kep
 are_kept lots book group ks limits each e = record {
   each = each;
   rising = rising lots ks (subst (λ (os : List Offer). AreOffers lots os) (sym e) (kept_are_offers lots book group limits));
+}
+
+pub among_are_kept : (lots : Lots) (book : Book) (group : ℕ → Bool) (choices : List Choice) (ks : List KeptBid) → IsBook lots book → All IsKeptBid ks → offers ks ≡ kept_among lots book group choices → AreKept ks
+among_are_kept lots book group choices ks limits each e = record {
+  each = each;
+  rising = rising lots ks (subst (AreOffers lots) (sym e) (offers_left lots (λ o. has_choice choices o.bidder o.number) (kept_of lots book group) (kept_are_offers lots book group limits)));
 }
 
 -- the kept bids of a form, by the flags of that form

@@ -4,4 +4,5 @@ pub mod NumberLaws
 pub mod FlagLaws
 pub mod GreatestLaws
 pub mod ShelfLaws
+pub mod ChoiceLaws
 pub mod KeepLaws

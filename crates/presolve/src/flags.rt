@@ -1,8 +1,9 @@
 //! Which bids of a closed book are kept. It doesn't depend on who is left out, so one `Flags` serves every group.
 
+use crate::choices::{by_rising_bid, is_repeated};
 use crate::form_flags::flags_of_form;
 use crate::keeping::{keep_bidder, keep_form};
-use auction_terms::{Group, Kept};
+use auction_terms::{Choice, Group, Kept, KeptBid};
 use bid_desk::ClosedBook;
 use rayon::prelude::*;
 use std::alloc::{AllocError, Global};
@@ -24,14 +25,16 @@ impl Model for Flags {
 }
 
 impl Flags {
-    ghost use Rattle.std.specs.Prelude.{◌≡◌, ◌≤◌, IfOk, length};
+    ghost use Rattle.std.specs.Prelude.{◌≡◌, ◌≤◌, ◌++◌, All, IfOk, OnOk, filter, length};
     ghost use Rattle.auction_terms.specs.Allocations.{form_of};
+    ghost use Rattle.auction_terms.specs.Bids.{IsKeptBid};
     ghost use Rattle.auction_terms.specs.Groups.{has};
     ghost use Rattle.auction_terms.specs.Keeping.{kept_of};
     ghost use Rattle.auction_terms.specs.Offers.{offers};
     ghost use Rattle.auction_terms.specs.Terms.{lots_in};
     ghost use Rattle.bid_desk.specs.Closing.{book_of};
-    ghost use Rattle.presolve.specs.Flags.{flags_of, kept_in_form};
+    ghost use Rattle.presolve.specs.Flags.{flags_of, kept_among, kept_in_form};
+    ghost use Rattle.presolve.specs.inside.Flags.{is_offer_of};
 
     /// The flags of a book, by several threads.
     pub fn new(
@@ -63,6 +66,68 @@ impl Flags {
             keep_bidder(&mut kept, book, group, place as u16 + 1, &self.forms[place])?;
         }
         Ok(Kept::new(kept))
+    }
+
+    /// The kept bids of a group that are among these choices, by rising bidder, then bid, where these are the flags of the book.
+    pub fn kept_among<'b>(
+        &self,
+        alloc: Global,
+        book: &'b ClosedBook,
+        group: &Group,
+        choices: Vec<Choice>,
+    ) -> Result<Kept<'b>, AllocError>
+        requires { self.now ≡ flags_of (lots_in book.now.rules) (book_of book.now) }
+        ensures { IfOk result (λ kept. offers kept
+            ≡ kept_among (lots_in book.now.rules) (book_of book.now) (has group.now)
+            choices.items) }
+    {
+        // Its contract says that the forms are within limits.
+        let _rules = book.rules();
+        let sorted = by_rising_bid(choices);
+        let mut kept = Vec::new(alloc);
+        for place in 0..sorted.len() {
+            if !is_repeated(&sorted, place) {
+                self.keep_choice(&mut kept, book, group, sorted[place])?;
+            }
+        }
+        Ok(Kept::new(kept))
+    }
+
+    // Adds the bid of a choice, if it is kept.
+    fn keep_choice<'b>(
+        &self,
+        kept: &mut Vec<KeptBid<'b>>,
+        book: &'b ClosedBook,
+        group: &Group,
+        choice: Choice,
+    ) -> Result<(), AllocError>
+        requires flags { self.now ≡ flags_of (lots_in book.now.rules) (book_of book.now) }
+        requires each { All IsKeptBid kept.old.items }
+        ensures added { OnOk result (offers kept.new.items
+            ≡ offers kept.old.items ++ filter (is_offer_of choice)
+            (kept_of (lots_in book.now.rules) (book_of book.now) (has group.now))) }
+        ensures each { OnOk result (All IsKeptBid kept.new.items) }
+    {
+        // Its contract says how many bidders there are.
+        let _rules = book.rules();
+        let Choice { bidder, bid } = choice;
+        if group.has(bidder) {
+            return Ok(());
+        }
+        let Some(form) = book.form(bidder) else {
+            return Ok(());
+        };
+        let bids = form.bids();
+        if bid == 0 || usize::from(bid) > bids.len() {
+            return Ok(());
+        }
+        let place = usize::from(bid) - 1;
+        let flags = &self.forms[usize::from(bidder) - 1];
+        if flags[place] {
+            let offer = &bids[place];
+            kept.push(KeptBid { bidder, bid, offer })?;
+        }
+        Ok(())
     }
 
     /// The kept bids of one bidder's form, in order, where these are the flags of the book.

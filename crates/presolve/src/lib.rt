@@ -2,6 +2,7 @@
 //! or since their lots are worth more where they are left.
 #![tactic(auto)]
 
+mod choices;
 mod flags;
 mod form_flags;
 mod keeping;

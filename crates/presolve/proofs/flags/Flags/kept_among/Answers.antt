@@ -1,0 +1,74 @@
+use Rattle.std.proofs.Common.{◌≡◌, ◌∙◌, ◌≤◌, ◌<◌, ◌++◌, ap, arith, length, sym, List, Some, get_or}
+use Rattle.std.specs.Prelude.{filter, slice_get}
+use Rattle.std.proofs.lemmas.Option.{slice_get-get_or}
+use Rattle.auction_terms.specs.Bids.{IsKeptBid}
+use Rattle.auction_terms.specs.Groups.{has}
+use Rattle.auction_terms.specs.Keeping.{Offer, kept_of}
+use Rattle.auction_terms.specs.Offers.{offers}
+use Rattle.auction_terms.specs.Terms.{lots_in}
+use Rattle.auction_terms.specs.declared.bids.KeptBid.{KeptBid}
+use Rattle.auction_terms.specs.declared.choices.Choice.{Choice}
+use Rattle.bid_desk.specs.Closing.{book_of}
+use Rattle.presolve.specs.inside.Flags.{is_offer_of}
+use Rattle.presolve.proofs.ChoiceLaws.{at_end, at_start, behind_all, not_repeated, one_again_at, one_more, repeated}
+use Rattle.presolve.proofs.KeepLaws.{among_are_kept}
+use Rattle.presolve.proofs.flags.Flags.kept_among.Goals.{then-not-is_repeated+in_ok-keep_choice, else-not-is_repeated}
+use Rattle.presolve.proofs.flags.Flags.kept_among.Goals as goal
+
+pub loop-place-init : goal.loop-place-init
+loop-place-init c =
+    let lots = lots_in c.args.book.now.rules in
+    let book = book_of c.args.book.now in
+    let group = has c.args.group.now in
+    let sorted = c.by_rising_bid-sorted.result.items in
+    record {
+      so_far = ap (λ (ks : List KeptBid). offers ks) c.new-kept.ensures.items ∙ sym (at_start lots book group c.rules-rules.ensures.book sorted);
+      each = rw c.new-kept.ensures.items (λ k d l. absurd (omega arith));
+    }
+
+pub loop-place-preserved : goal.loop-place-preserved
+loop-place-preserved c =
+    let lots = lots_in c.args.book.now.rules in
+    let book = book_of c.args.book.now in
+    let group = has c.args.group.now in
+    let sorted = c.by_rising_bid-sorted.result.items in
+    let place = c.loop-place.place in
+    let less : place < length sorted = (let l = c.loop-place-test.true in omega (arith, c.by_rising_bid-sorted.result.ok.0)) in
+    let shown : c.deref.result.now ≡ sorted = c.deref.ensures.value in
+    elim c.if-not-is_repeated.branch [
+      | then-not-is_repeated+in_ok-keep_choice w ↦
+          (let choice = w.index.result.now in
+          let at : slice_get sorted place ≡ Some choice = slice_get-get_or sorted place choice less ∙ ap (λ (d : Choice). Some d) (sym w.index.ensures) in
+          let earlier = behind_all sorted place choice c.by_rising_bid-sorted.ensures.rising less at (not_repeated sorted c.deref.result.now place c.is_repeated.result shown c.is_repeated.ensures w.if-not-is_repeated.true) in
+          rw w.kept-is (record {
+            so_far = w.in_ok-keep_choice.ensures.added ∙ ap (λ (os : List Offer). os ++ filter (is_offer_of choice) (kept_of lots book group)) c.loop-place.invariant.so_far
+                ∙ sym (one_more lots book group c.rules-rules.ensures.book sorted choice place less at earlier);
+            each = w.in_ok-keep_choice.ensures.each;
+          }))
+      | else-not-is_repeated w ↦
+          (let again = repeated sorted c.deref.result.now place c.is_repeated.result shown c.is_repeated.ensures w.if-not-is_repeated.false in
+          rw w.kept-is (record {
+            so_far = c.loop-place.invariant.so_far ∙ sym (one_again_at lots book group c.rules-rules.ensures.book sorted place less again);
+            each = c.loop-place.invariant.each;
+          }))
+    ]
+
+pub new-requires : goal.new-requires
+new-requires c =
+    let lots = lots_in c.args.book.now.rules in
+    let book = book_of c.args.book.now in
+    let group = has c.args.group.now in
+    let sorted = c.by_rising_bid-sorted.result.items in
+    let over : length sorted ≤ c.loop-place.place = (let l = c.loop-place-test.false in omega (arith, c.by_rising_bid-sorted.result.ok.0)) in
+    among_are_kept lots book group c.args.choices.items c.loop-place.kept.items c.rules-rules.ensures.book c.loop-place.invariant.each
+    (c.loop-place.invariant.so_far ∙ at_end lots book group c.rules-rules.ensures.book sorted c.loop-place.place c.args.choices.items over c.by_rising_bid-sorted.ensures.same)
+
+pub returns : goal.returns
+returns c =
+    let lots = lots_in c.args.book.now.rules in
+    let book = book_of c.args.book.now in
+    let group = has c.args.group.now in
+    let sorted = c.by_rising_bid-sorted.result.items in
+    let over : length sorted ≤ c.loop-place.place = (let l = c.loop-place-test.false in omega (arith, c.by_rising_bid-sorted.result.ok.0)) in
+    ap (λ (ks : List KeptBid). offers ks) c.new.ensures ∙ c.loop-place.invariant.so_far
+    ∙ at_end lots book group c.rules-rules.ensures.book sorted c.loop-place.place c.args.choices.items over c.by_rising_bid-sorted.ensures.same
