@@ -131,6 +131,13 @@ zip-from-places R [] (y ∷ ys) same each = absurd (omega arith)
 zip-from-places R (x ∷ xs) [] same each = absurd (omega arith)
 zip-from-places R (x ∷ xs) (y ∷ ys) same each = (each 0 x y (omega arith), zip-from-places R xs ys (omega arith) (λ k d e l. each (suc k) d e (omega arith)))
 
+-- one more of each
+pub zip-more : {X Y : Type 0} (R : X → Y → Type 0) (xs : List X) (ys : List Y) (x : X) (y : Y) → AllZip R xs ys → R x y → AllZip R (xs ++ x ∷ []) (ys ++ y ∷ [])
+zip-more R [] [] x y each one = (one, tt)
+zip-more R [] (z ∷ ys) x y each one = absurd each
+zip-more R (w ∷ xs) [] x y each one = absurd each
+zip-more R (w ∷ xs) (z ∷ ys) x y each one = (each.0, zip-more R xs ys x y each.1 one)
+
 pub zip-of-vec : {X Y Z E : Type 0} (R : X → Y → Type 0) (xs : List X) (n : ℕ) (result : Result (Vec Y Z) E) → n ≡ length xs → IfOk result (λ v. vec_len v ≡ n)
     → IfOk result (λ v. (k : ℕ) (d : X) (e : Y) → k < length xs → R (slice_index_or xs k d) (slice_index_or v.items k e)) → IfOk result (λ v. AllZip R xs v.items)
 zip-of-vec R xs n (Ok v) size len each = zip-from-places R xs v.items (let same = v.ok.0 in omega arith) each

@@ -75,12 +75,13 @@ fn close_round_of<L: Round + Send + Sync, R: Threads + Wait + Sync + AllocGlobal
     ensures submitted { IfOk result (AreSubmitted forms.items) }
 {
     let alloc: Global = rt.alloc();
+    let form_count = forms.len();
     let lists = by_bidder(alloc, rules.bidders().len(), forms)?;
     let Ok((desk, chair, sessions)) = Desk::<L>::open(alloc, blank, rules) else {
         return Err(RoundFault::OutOfMemory);
     };
     let (jobs, others) = jobs_of(alloc, sessions, lists.as_slice())?;
-    let done = run_each(rt, &desk, jobs)?;
+    let done = run_all(rt, &desk, jobs, form_count)?;
     let sessions = sessions_of(done, others)?;
     settle(rt, desk, chair, sessions)
 }
@@ -111,6 +112,41 @@ fn jobs_of<'f, L: Round>(
         }
     }
     Ok((jobs, others))
+}
+
+// With fewer forms than this the jobs are done in turn: threads would take longer to start than the forms to be submitted.
+const FEW_FORMS: usize = 4_096;
+
+// Does each job: in turn where there are few forms, and else each in a thread of its own.
+fn run_all<L: Round + Send + Sync, R: Threads + Wait + Sync + AllocGlobal>(
+    rt: &R,
+    desk: &Desk<L>,
+    jobs: Vec<Job<'_, L>>,
+    form_count: usize,
+) -> Result<Vec<Done<L>>, AllocError>
+    ensures { IfOk result (λ done. AllZip (λ job end. ComesTo job end.session end.ended)
+        jobs.entry.items done.items) }
+{
+    if form_count < FEW_FORMS {
+        return run_in_turn(rt, desk, jobs);
+    }
+    run_each(rt, desk, jobs)
+}
+
+// Does one job after the other.
+fn run_in_turn<L: Round, R: Wait + AllocGlobal>(
+    rt: &R,
+    desk: &Desk<L>,
+    jobs: Vec<Job<'_, L>>,
+) -> Result<Vec<Done<L>>, AllocError>
+    ensures { IfOk result (λ done. AllZip (λ job end. ComesTo job end.session end.ended)
+        jobs.entry.items done.items) }
+{
+    let mut done = Vec::new(rt.alloc());
+    for job in jobs {
+        done.push(job.run(rt, desk))?;
+    }
+    Ok(done)
 }
 
 // Does each job, in a thread of its own.
