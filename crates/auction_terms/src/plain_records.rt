@@ -4,13 +4,13 @@ ghost use Rattle.std.specs.Prelude.{◌≡◌, ◌≤◌, ◌∷◌, [], drop, l
 ghost use Rattle.std.specs.Bool.{MatchBool};
 ghost use Rattle.csv.specs.Reading.{default_config, records};
 ghost use Rattle.csv.specs.Records.{fields_of, partial_of};
+ghost use Rattle.memchr.specs.Find.{IsFirstByte, is_byte3};
 ghost use Rattle.auction_terms.specs.inside.PlainRecords.{HasNoQuote, BeginsNoLineEnd, TakesFields};
 
 use csv::ByteRecord;
-use memchr::memchr3;
 use std::alloc::AllocError;
 
-/// The bytes that are left, from the start of a record on. Making a reader of `csv` takes longer than reading a short text.
+/// The bytes that are left, from the start of a record on.
 #[derive(Drop)]
 pub(crate) struct PlainRecords<'a> {
     pub(crate) left: &'a [u8],
@@ -30,6 +30,21 @@ fn line_ends(bytes: &[u8]) -> usize
     count
 }
 
+// Where the first comma or line end is. Fields are so short that a search by `memchr` costs more than it saves.
+#[inline]
+fn field_end(bytes: &[u8]) -> Option<usize>
+    ensures { IsFirstByte (is_byte3 44 10 13) bytes.now result }
+{
+    let mut place = 0;
+    while place < bytes.len() {
+        if matches!(bytes[place], b',' | b'\n' | b'\r') {
+            return Some(place);
+        }
+        place += 1;
+    }
+    None
+}
+
 // Adds the fields of the record that the bytes begin with, and answers the bytes behind it.
 fn take_fields<'a>(bytes: &'a [u8], row: &mut ByteRecord) -> Result<&'a [u8], AllocError>
     requires plain { HasNoQuote bytes.now }
@@ -39,7 +54,7 @@ fn take_fields<'a>(bytes: &'a [u8], row: &mut ByteRecord) -> Result<&'a [u8], Al
         (fields_of row.new) left.now) }
 {
     let mut left = bytes;
-    while let Some(end) = memchr3(b',', b'\n', b'\r', left) {
+    while let Some(end) = field_end(left) {
         row.push_field(left.split_at(end).0)?;
         let is_last = left[end] != b',';
         left = left.split_at(end + 1).1;
