@@ -1,6 +1,7 @@
 //! Which bids of a closed book are kept. It doesn't depend on who is left out, so one `Flags` serves every group.
 
 use crate::choices::{by_rising_bid, is_repeated};
+use crate::few_bids::has_few_bids;
 use crate::form_flags::flags_of_form;
 use crate::keeping::{keep_bidder, keep_form};
 use auction_terms::{Choice, Group, Kept, KeptBid};
@@ -160,21 +161,6 @@ ghost use Rattle.bid_desk.specs.Closing.{book_of};
 ghost use Rattle.presolve.specs.Flags.{flags_of, flags_of_form};
 ghost use Rattle.presolve.specs.inside.Flags.{flags_of_bidders};
 
-/// With fewer bids than this all forms are flagged by one thread: others would cost more time than they save.
-pub const FEW_BIDS: usize = 4_096;
-
-// How many bids the forms have together.
-fn bid_count(book: &ClosedBook) -> usize {
-    let bidders = book.rules().bidders().len() as u16;
-    let mut count: usize = 0;
-    for bidder in 1..bidders + 1 {
-        if let Some(form) = book.form(bidder) {
-            count = count.saturating_add(form.bids().len());
-        }
-    }
-    count
-}
-
 // The flags of every form, by rising bidder. Both halves of the bidders are flagged side by side, each by as many threads
 // as `rayon` takes: with fewer, longer pieces more processors would be without work at the end. Few bids take one thread.
 fn flags_by_bidder(
@@ -188,7 +174,7 @@ fn flags_by_bidder(
     let bidders = book.rules().bidders().len() as u16;
     let middle = bidders / 2 + 1;
     let end = bidders + 1;
-    if bid_count(book) < FEW_BIDS {
+    if has_few_bids(book) {
         return flags_between(rt, alloc, book, 1, end, usize::from(end));
     }
     let (front, back) = join(

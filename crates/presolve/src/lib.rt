@@ -3,6 +3,7 @@
 #![tactic(auto)]
 
 mod choices;
+mod few_bids;
 mod flags;
 mod form_flags;
 mod keeping;
@@ -11,6 +12,7 @@ mod middles;
 mod order;
 mod shelves;
 
+pub use few_bids::{FEW_BIDS, has_few_bids};
 pub use flags::Flags;
 pub use keeping::kept;
 pub use order::by_size;

@@ -15,6 +15,7 @@ use bid_desk::ClosedBook;
 use group_compiler::{MOST_WORKERS, OpenGate};
 use group_pages::Pages;
 use mps_text::Sink;
+use presolve::has_few_bids;
 use rayon::current_num_threads;
 use std::alloc::Global;
 use std::sync::Wait;
@@ -34,21 +35,6 @@ pub fn write_text<R: Threads + Wait + Sync + AllocGlobal, S: Sink>(
 {
     let auction = read_auction(rt, &Request::Text, text)?;
     write_program_of_all(rt, &auction, out)
-}
-
-// With fewer bids than this one worker makes the pages: others would cost more time than they save.
-const FEW_BIDS: usize = 4_096;
-
-// Whether the forms have few bids together.
-fn has_few_bids(book: &ClosedBook) -> bool {
-    let bidders = book.rules().bidders().len() as u16;
-    let mut left = FEW_BIDS;
-    for bidder in 1..bidders + 1 {
-        if let Some(form) = book.form(bidder) {
-            left = left.saturating_sub(form.bids().len());
-        }
-    }
-    left > 0
 }
 
 // How many workers make the pages: one for each processor, unless there is little to do.

@@ -1,0 +1,35 @@
+use Rattle.std.proofs.Common.{◌≡◌, ◌+◌, ◌-◌, ◌<◌, ◌≤◌, ◌∙◌, List, [], ap, arith, drop, length, nat_lt, refl, sum_by, sym}
+use Rattle.std.proofs.lemmas.Bool.Decides.{nat_tests}
+use Rattle.std.proofs.lemmas.List.{drop_all}
+use Rattle.std.proofs.lemmas.List.Sums.{sum_by-cons}
+use Rattle.auction_terms.specs.Allocations.{form_of}
+use Rattle.auction_terms.specs.declared.bids.Bid.{Bid}
+use Rattle.bid_desk.specs.Closing.{book_of}
+use Rattle.presolve.specs.declared.few_bids.TheConstants.{FEW_BIDS}
+use Rattle.presolve.proofs.KeepLaws.{length_book, next_form}
+use Rattle.presolve.proofs.few_bids.has_few_bids.Goals as goal
+
+pub loop-place-init : goal.loop-place-init
+loop-place-init c = refl
+
+pub loop-place-preserved : goal.loop-place-preserved
+loop-place-preserved c =
+    let book = book_of c.args.book.now in
+    let bidders : length c.bidders.result.now ≡ length book = length_book c.args.book.now c.rules.result.now c.bidders.result.now c.bidders.ensures.value c.rules.ensures.rules in
+    let within : c.loop-place.place < length book = (let l = c.loop-place-test.true in omega arith) in
+    let next = next_form book c.loop-place.place within in
+    let here : sum_by (λ (form : List Bid). length form) (drop c.loop-place.place book) ≡ length (form_of book (c.loop-place.place + 1)) + sum_by (λ (form : List Bid). length form) (drop (c.loop-place.place + 1) book) =
+    ap (sum_by (λ (form : List Bid). length form)) next ∙ sum_by-cons (λ (form : List Bid). length form) (form_of book (c.loop-place.place + 1)) (drop (c.loop-place.place + 1) book) in
+    let count = c.bid_count.ensures in
+    let sub = c.saturating_sub-left.ensures in
+    let so_far = c.loop-place.invariant in
+    omega arith
+
+pub returns : goal.returns
+returns c =
+    let book = book_of c.args.book.now in
+    let bidders : length c.bidders.result.now ≡ length book = length_book c.args.book.now c.rules.result.now c.bidders.result.now c.bidders.ensures.value c.rules.ensures.rules in
+    let over : length book ≤ c.loop-place.place = (let l = c.loop-place-test.false in omega arith) in
+    let none : sum_by (λ (form : List Bid). length form) (drop c.loop-place.place book) ≡ 0 = ap (sum_by (λ (form : List Bid). length form)) (drop_all c.loop-place.place book over) in
+    let so_far = c.loop-place.invariant in
+    grind (arith, nat_tests)
