@@ -1,8 +1,7 @@
 pub mod SizeLaws
-pub mod MaskLaws
+pub mod BitLaws
+pub mod SieveLaws
 pub mod NumberLaws
 pub mod FlagLaws
-pub mod GreatestLaws
-pub mod ShelfLaws
 pub mod ChoiceLaws
 pub mod KeepLaws

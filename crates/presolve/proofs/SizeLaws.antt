@@ -1,11 +1,10 @@
 -- Laws of the order by size.
-use Rattle.std.proofs.Common.{◌≡◌, ◌+◌, ◌*◌, ◌%◌, ◌<◌, ◌≤◌, ◌==◌, ◌⊎◌, inl, inr, ⊎_elim, ℕ, zero, suc, Bool, true, false, cond, List, [], ◌∷◌, ◌++◌, Option, get_or, drop, length, map, take, slice_get, slice_index, slice_index_or, nat_cmp, is_lt, arith, refl, sym, ap, ◌∙◌, subst, eq-eqb, ne_eqb, take_all}
+use Rattle.std.proofs.Common.{◌≡◌, ◌+◌, ◌<◌, ◌≤◌, ◌==◌, ⊎_elim, ℕ, zero, suc, Bool, true, false, cond, List, [], ◌∷◌, ◌++◌, Option, get_or, drop, length, map, take, slice_get, slice_index_or, nat_cmp, is_lt, arith, refl, sym, ap, ◌∙◌, subst, eq-eqb, ne_eqb, take_all}
 use Rattle.std.specs.Prelude.{All, AllPairs, count_by}
 use Rattle.std.specs.List.{AllByRecursion}
 use Rattle.std.specs.Option.{option_map_or}
-use Rattle.std.specs.Ordering.{ord_max, ordering_then}
+use Rattle.std.specs.Ordering.{ordering_then}
 use Rattle.std.proofs.lemmas.Bool.{cases_lt, cond_both, cond-true, cond-false}
-use Rattle.std.proofs.lemmas.Grind.{get_or_default_zero}
 use Rattle.std.proofs.lemmas.List.{append_assoc, at_drop_more, get_or-map, length-map, map-append}
 use Rattle.std.proofs.lemmas.List.Elements.{All-from_recursion}
 use Rattle.std.proofs.lemmas.List.Sorted.{All-permutation, sum_by-IsPermutation}
@@ -182,49 +181,3 @@ fitting_less lots bids i x made within is unfit so_far =
     let rest = fitting_from lots (1 + (i + 1)) (drop (i + 1) bids) in
     ap (λ (xs : List Sized). map sized_of made ++ xs) (sym (fitting_at lots bids i x within is ∙ ap (λ (b : Bool). cond b (sized (1 + i) x ∷ rest) rest) unfit))
     ∙ so_far
-
--- a number that stands for a place and at most its quantity: 32 times the quantity, and the place
-pub record IsPeak (quantities : List ℕ) (n : ℕ) : Type 0 where
-  pub within : n % 32 < length quantities
-  pub most : n ≤ slice_index quantities (n % 32) * 32 + n % 32
-
-max_left : (a b m : ℕ) → m ≡ ord_max nat_cmp a b → a ≤ m
-max_left a b m e = grind (arith, nat_tests)
-
-max_right : (a b m : ℕ) → m ≡ ord_max nat_cmp a b → b ≤ m
-max_right a b m e = grind (arith, nat_tests)
-
-max_either : (a b m : ℕ) → m ≡ ord_max nat_cmp a b → (m ≡ a) ⊎ (m ≡ b)
-max_either a b m e = cond_both (is_lt (nat_cmp b a)) a b (λ (n : ℕ). m ≡ n → (m ≡ a) ⊎ (m ≡ b)) (λ _ f. inl f) (λ _ f. inr f) e
-
--- the greater one of it and that of a place
-pub peak_more : (quantities : List ℕ) (n place more : ℕ) → length quantities ≤ 32 → place < length quantities → IsPeak quantities n → more ≡ ord_max nat_cmp n (slice_index quantities place * 32 + place) → IsPeak quantities more
-peak_more quantities n place more few within before e =
-    ⊎_elim
-    (λ (same : more ≡ n). rw same before)
-    (λ (own : more ≡ slice_index quantities place * 32 + place).
-    let here : place ≡ more % 32 = omega arith in
-    record {
-      within = omega arith;
-      most = subst (λ (k : ℕ). more ≤ slice_index quantities k * 32 + k) here (omega arith);
-    })
-    (max_either n (slice_index quantities place * 32 + place) more e)
-
--- none so far, with that place, stands in a greater number
-pub above_more : (quantities : List ℕ) (n place more : ℕ) → more ≡ ord_max nat_cmp n (slice_index quantities place * 32 + place) → ((k : ℕ) → k < place → slice_index quantities k * 32 + k ≤ n) → (k : ℕ) → k < place + 1 → slice_index quantities k * 32 + k ≤ more
-above_more quantities n place more e above k within =
-    let this = slice_index quantities place * 32 + place in
-    let higher = max_left n this more e in
-    let high = max_right n this more e in
-    ⊎_elim
-    (λ (before : k < place). let up = above k before in omega arith)
-    (λ (here : place ≤ k). subst (λ (i : ℕ). slice_index quantities i * 32 + i ≤ more) (let e : place ≡ k = omega arith in e) high)
-    (cases_lt k place)
-
--- no quantity is greater than that of the greatest number's place
-pub peak_of : (quantities : List ℕ) (n : ℕ) → length quantities ≤ 32 → IsPeak quantities n → ((k : ℕ) → k < length quantities → slice_index quantities k * 32 + k ≤ n) → All (λ quantity. quantity ≤ slice_index quantities (n % 32)) quantities
-peak_of quantities n few peak above k d within =
-    let own = get_or_default_zero quantities k d within in
-    let up = above k within in
-    let most = peak.most in
-    omega arith

@@ -1,4 +1,3 @@
 pub mod Flags
-pub mod Masks
-pub mod Shelves
+pub mod Sieves
 pub mod Sizes

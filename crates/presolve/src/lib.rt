@@ -7,10 +7,8 @@ mod few_bids;
 mod flags;
 mod form_flags;
 mod keeping;
-mod masks;
-mod middles;
 mod order;
-mod shelves;
+mod sieve;
 
 pub use few_bids::{FEW_BIDS, has_few_bids};
 pub use flags::Flags;

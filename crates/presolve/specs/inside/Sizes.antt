@@ -1,11 +1,9 @@
 -- The bids of one form by the sizes of their packages.
-use Rattle.std.specs.Prelude.{◌≡◌, ◌⊎◌, ◌<◌, ◌≤◌, ◌+◌, ◌==◌, ◌&&◌, ℕ, Bool, false, nat_lt, int_le, if◌then◌else◌, List, [], ◌∷◌, length, map, count_by, slice_index, All, AllPairs, IsPermutation}
-use Rattle.std.specs.Option.{option_map_or}
+use Rattle.std.specs.Prelude.{◌≡◌, ◌≤◌, ◌+◌, ◌&&◌, ℕ, Bool, nat_lt, int_le, if◌then◌else◌, List, [], ◌∷◌, length, map, All, AllPairs, IsPermutation}
 use Rattle.auction_terms.specs.declared.bids.Bid.{Bid}
 use Rattle.auction_terms.specs.Packages.{Lots, is_within, fits, size}
 use Rattle.auction_terms.specs.Domination.{net}
 use Rattle.presolve.specs.declared.order.SizedBid.{SizedBid}
-use Rattle.presolve.specs.inside.Masks.{mask_of, mask_over}
 use Rattle.presolve.specs.Sizes.{IsUpTo}
 
 -- a bid with the size of its package and its number in its form
@@ -25,22 +23,9 @@ fitting_from lots j (x ∷ form) =
     then record { size = size x.package; number = j; bid = x } ∷ fitting_from lots (j + 1) form
     else fitting_from lots (j + 1) form
 
--- it tells the size of its bid's package, the categories of which it has some, and a place with the quantity there
-pub record TellsItsBid (s : SizedBid) : Type 0 where
-  pub size : s.size ≡ size s.bid.now.package
-  pub mask : s.mask ≡ mask_of s.bid.now.package
-  pub place : s.place < length s.bid.now.package
-  pub most : s.most ≡ slice_index s.bid.now.package s.place
-
--- it tells of which categories its bid has more than the middle quantities
-abbrev pub IsOver : List ℕ → SizedBid → Type 0
-IsOver middles s = s.high ≡ mask_over middles s.bid.now.package
-
--- both tell it by the same middle quantities
-pub record IsAlike (x s : SizedBid) : Type 0 where
-  pub middles : List ℕ
-  pub first : IsOver middles x
-  pub second : IsOver middles s
+-- it tells the size of its bid's package
+abbrev pub TellsItsSize : SizedBid → Type 0
+TellsItsSize s = s.size ≡ size s.bid.now.package
 
 -- it tells the net of its bid
 abbrev pub TellsItsNet : Lots → SizedBid → Type 0
@@ -52,16 +37,13 @@ pub record IsOrdered (lots : Lots) (form : List Bid) (bids : List SizedBid) : Ty
   pub same : map sized_of fitting ≡ fitting_from lots 1 form
   pub moved : IsPermutation fitting bids
   pub rising : AllPairs (λ s t. IsUpTo s.size s.number t.size t.number) bids
-  pub told : All TellsItsBid bids
-  pub middles : List ℕ
-  pub over : All (IsOver middles) bids
+  pub told : All TellsItsSize bids
   pub nets : All (TellsItsNet lots) bids
 
 -- bids with a quantity for each of n categories, by rising size
 pub record AreRivals (n : ℕ) (rivals : List SizedBid) : Type 0 where
   pub sized : All (λ s. length s.bid.now.package ≡ n) rivals
   pub rising : AllPairs (λ s t. s.size ≤ t.size) rivals
-  pub told : All TellsItsBid rivals
 
 -- the second bid has a smaller size than the first, a net that isn't lower, and at most its package in every category
 abbrev pub beats : SizedBid → SizedBid → Bool

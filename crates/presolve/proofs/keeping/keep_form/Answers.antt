@@ -1,4 +1,4 @@
-use Rattle.std.proofs.Common.{◌≡◌, ◌++◌, List, sym, ap, ap₂, ◌∙◌, append-nil, Bool, OnOk, subst}
+use Rattle.std.proofs.Common.{◌≡◌, ◌++◌, List, ap₂, ◌∙◌, Bool, OnOk, subst}
 use Rattle.auction_terms.specs.declared.bids.Bid.{Bid}
 use Rattle.auction_terms.specs.Allocations.{form_of}
 use Rattle.auction_terms.specs.Keeping.{Offer}

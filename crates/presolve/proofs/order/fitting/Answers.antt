@@ -1,7 +1,7 @@
 use Rattle.std.proofs.Common.{◌≡◌, ◌∙◌, ◌∷◌, [], arith, sym}
 use Rattle.std.proofs.lemmas.List.Elements.{All-append}
 use Rattle.auction_terms.specs.Terms.{lots_in}
-use Rattle.presolve.specs.inside.Sizes.{IsOver, TellsItsBid, TellsItsNet}
+use Rattle.presolve.specs.inside.Sizes.{TellsItsNet, TellsItsSize}
 use Rattle.presolve.proofs.SizeLaws.{fitting_less, fitting_more}
 use Rattle.presolve.proofs.order.fitting.Goals as goal
 use Rattle.presolve.proofs.order.fitting.Goals.{then-fits+in_ok-push, else-fits}
@@ -22,14 +22,8 @@ loop-place-preserved c =
       told = elim c.if-fits.branch [
         | then-fits+in_ok-push w ↦
             rw (w.fitting-is, w.in_ok-push.ensures.items)
-            (All-append TellsItsBid before.fitting.items (w.sized.result ∷ []) before.invariant.told (λ k d small. let first : k ≡ 0 = omega arith in rw first w.sized.ensures.told))
+            (All-append TellsItsSize before.fitting.items (w.sized.result ∷ []) before.invariant.told (λ k d small. let first : k ≡ 0 = omega arith in rw first w.sized.ensures.told))
         | else-fits w ↦ rw w.fitting-is before.invariant.told
-      ];
-      over = elim c.if-fits.branch [
-        | then-fits+in_ok-push w ↦
-            rw (w.fitting-is, w.in_ok-push.ensures.items)
-            (All-append (IsOver c.args.middles.now) before.fitting.items (w.sized.result ∷ []) before.invariant.over (λ k d small. let first : k ≡ 0 = omega arith in rw first w.sized.ensures.over))
-        | else-fits w ↦ rw w.fitting-is before.invariant.over
       ];
       nets = elim c.if-fits.branch [
         | then-fits+in_ok-push w ↦

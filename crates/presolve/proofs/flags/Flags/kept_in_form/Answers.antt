@@ -1,4 +1,4 @@
-use Rattle.std.proofs.Common.{◌≡◌, ◌<◌, ◌≤◌, ◌-◌, ◌+◌, ◌++◌, ℕ, List, length, map, ap, ◌∙◌, arith}
+use Rattle.std.proofs.Common.{◌≡◌, ◌<◌, ◌-◌, ◌+◌, ◌++◌, ℕ, List, length, map, ap, ◌∙◌, arith}
 use Rattle.auction_terms.specs.Allocations.{form_of}
 use Rattle.auction_terms.specs.Domination.{is_kept}
 use Rattle.auction_terms.specs.Offers.{offers}

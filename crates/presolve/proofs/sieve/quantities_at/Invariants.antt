@@ -1,0 +1,6 @@
+use Rattle.std.proofs.Common.{◌≡◌, map, slice_index, take}
+use Rattle.presolve.proofs.sieve.quantities_at.Given as goal
+
+-- the quantities of the rivals so far
+abbrev pub invariant-loop-rival : goal.invariant-loop-rival
+invariant-loop-rival l = l.numbers.items ≡ map (λ s. slice_index s.bid.now.package l.place) (take l.rival-index l.rivals)
