@@ -1,20 +1,10 @@
 -- Laws of bits: a walk by the lowest bit comes to each that is set.
-use Rattle.std.proofs.Common.{◌≡◌, ◌≢◌, ◌⊎◌, ⊎_elim, inl, inr, ◌+◌, ◌-◌, ◌*◌, ◌/◌, ◌%◌, ◌<◌, ◌≤◌, ◌^◌, ℕ, zero, suc, Bool, true, false, arith, sym, ap, ◌∙◌}
-use Rattle.std.specs.Int.{bit_at, from_bool, trailing_zeros, w64}
+use Rattle.std.proofs.Common.{◌≡◌, ◌≢◌, ◌⊎◌, ⊎_elim, inl, inr, ◌-◌, ◌/◌, ◌%◌, ◌<◌, ◌≤◌, ◌^◌, ℕ, zero, suc, arith, sym, ap, ◌∙◌}
+use Rattle.std.specs.Int.{bit_at, trailing_zeros, w64}
 use Rattle.std.specs.Int.Bits.{bit_and}
+use Rattle.std.specs.Int.RustNames.{bit_or}
 use Rattle.std.proofs.lemmas.Bool.{cases_eq, cases_lt}
-use Rattle.std.proofs.lemmas.Nat.Bits.{bit_at-suc, bit_at-trailing_zeros, bit_at_and, bit_at_lowest}
-
-pub one_at_most : (n : ℕ) (b : Bool) → n ≡ from_bool b → n ≤ 1
-one_at_most n true e = omega arith
-one_at_most n false e = omega arith
-
--- the bits of a number with one more, the lowest
-pub first_bit : (m b : ℕ) → b ≤ 1 → bit_at (m * 2 + b) 0 ≡ b
-first_bit m b low = (let lowest = bit_at_lowest (m * 2 + b) in omega arith)
-
-pub next_bit : (m b k : ℕ) → b ≤ 1 → bit_at (m * 2 + b) (suc k) ≡ bit_at m k
-next_bit m b k low = bit_at-suc (m * 2 + b) k ∙ ap (λ (n : ℕ). bit_at n k) (let half : (m * 2 + b) / 2 ≡ m = omega arith in half)
+use Rattle.std.proofs.lemmas.Nat.Bits.{bit_at-suc, bit_at-trailing_zeros, bit_at_and, bit_at_lowest, bit_at_or, bit_at-lt}
 
 -- above its lowest bits, one less has the same ones
 above_odd : (k n : ℕ) → n % 2 ≡ 1 → bit_at n (suc k) ≡ bit_at (n - 1) (suc k)
@@ -42,6 +32,13 @@ lowest_taken n k some room none =
     (λ (apart : k ≢ place). inr (let same = same_above place k n (omega arith) lowest.1 in let both = bit_at_and n (n - 1) k in omega arith))
     (cases_eq k place))
     (cases_lt k place)
+
+-- a bit that one has, both have together
+pub first_set : (a b k : ℕ) → bit_at a k ≡ 1 → bit_at (bit_or a b) k ≡ 1
+first_set a b k own = (let either = bit_at_or a b k in let low = bit_at-lt b k in omega arith)
+
+pub second_set : (a b k : ℕ) → bit_at b k ≡ 1 → bit_at (bit_or a b) k ≡ 1
+second_set a b k own = (let either = bit_at_or a b k in let low = bit_at-lt a k in omega arith)
 
 -- a bit that both have is left
 pub both_set : (a b k : ℕ) → bit_at a k ≡ 1 → bit_at b k ≡ 1 → bit_at (bit_and a b) k ≡ 1

@@ -1,106 +1,121 @@
--- Laws of the sieve: its bitsets mark every rival that beats the bid.
-use Rattle.std.proofs.Common.{◌≡◌, ⊎_elim, ◌+◌, ◌-◌, ◌*◌, ◌/◌, ◌%◌, ◌<◌, ◌≤◌, ◌^◌, ℕ, zero, suc, ◌&&◌, Bool, true, false, cond, nat_le, nat_lt, List, [], ◌∷◌, ◌++◌, append-nil, length, map, slice_index, slice_index_or, slice_range, drop, take, take_all, arith, sym, ap, ◌∙◌, subst}
+-- Laws of the sieve: its levels mark every rival that beats the bid.
+use Rattle.std.proofs.Common.{◌≡◌, ◌≢◌, ⊎_elim, ◌+◌, ◌-◌, ◌/◌, ◌%◌, ◌<◌, ◌≤◌, ◌^◌, ℕ, ◌&&◌, Bool, true, false, nat_lt, List, length, map, slice_index, slice_index_or, slice_set, arith, sym, ap, ◌∙◌, subst}
 use Rattle.std.specs.Prelude.{All, AllPairs, int_le}
-use Rattle.std.specs.Int.{bit_at, div_ceil}
-use Rattle.std.specs.List.{refill}
-use Rattle.std.proofs.Math.ListN.{drop_of_length-le}
-use Rattle.std.proofs.lemmas.Bool.{and_parts, cases_lt, cond-true, le-leb, le-ltb}
-use Rattle.std.proofs.lemmas.List.{get_or_append_left, get_or_default, get_or-drop, get_or-map, get_or-take, length-drop, length-map, length-take-le}
-use Rattle.std.proofs.Math.Nat.{pow-suc}
-use Rattle.std.proofs.Math.Pow.{pow_mono}
-use Rattle.std.proofs.Math.Seq.{get_or-append_seam}
+use Rattle.std.specs.Int.{bit_at}
+use Rattle.std.proofs.Math.Nat.{div-mul-le_self}
+use Rattle.std.proofs.lemmas.Bool.{and_parts, cases_eq, cases_lt, false≢true, le-ltb}
+use Rattle.std.proofs.lemmas.Nat.{le-div, pow_pos}
+use Rattle.std.proofs.lemmas.Nat.Bits.{bit_at-zero}
+use Rattle.std.proofs.lemmas.List.{get_or-map, get_or-set_other, get_or-set_same, get_or_default, get_or_past, length-map}
 use Rattle.auction_terms.specs.Packages.{is_within}
 use Rattle.auction_terms.proofs.PackageLaws.{within_at}
-use Rattle.presolve.proofs.BitLaws.{first_bit, next_bit}
 use Rattle.presolve.specs.declared.order.SizedBid.{SizedBid}
 use Rattle.presolve.specs.declared.sieve.Level.{Level}
+use Rattle.presolve.specs.declared.sieve.Scale.{Scale}
 use Rattle.presolve.specs.declared.sieve.Sieve.{Sieve}
-use Rattle.presolve.specs.inside.Sieves.{IsLevel, IsMarked, IsSieve, Sifts, word_up_to}
+use Rattle.presolve.specs.inside.Sieves.{AreRanked, AreSieved, IsMarked, IsSieve, rank_in}
 use Rattle.presolve.specs.inside.Sizes.{beats}
 
-one_bit : (b : Bool) → cond b 1 0 ≤ 1
-one_bit true = omega arith
-one_bit false = omega arith
+-- what holds of each word before a place, and of the one that is set there
+pub set_word : (P : ℕ → ℕ → Type 0) (words : List ℕ) (place v : ℕ) → place < length words → ((j : ℕ) → j < place → P j (slice_index words j)) → P place v → (j : ℕ) → j < place + 1 → P j (slice_index (slice_set words place v) j)
+set_word P words place v within before own j small =
+    ⊎_elim
+    (λ (earlier : j < place). subst (P j) (sym (get_or-set_other words place j v 0 (omega arith))) (before j earlier))
+    (λ (here : place ≤ j).
+    let at : place ≡ j = omega arith in
+    subst (λ (n : ℕ). P n (slice_index (slice_set words place v) n)) at (subst (P place) (sym (get_or-set_same words place v 0 within)) own))
+    (cases_lt j place)
 
-word_below : (t : ℕ) (xs : List ℕ) → word_up_to t xs < 2 ^ length xs
-word_below t [] = omega arith
-word_below t (x ∷ xs) = (let rest = word_below t xs in let more = pow-suc 2 (length xs) in let low = one_bit (nat_le x t) in omega arith)
+-- a place stays marked where the word that is set has its bit, if the one before had
+pub still_marked : (words : List ℕ) (w v i : ℕ) → w < length words → (bit_at (slice_index words w) (i % 64) ≡ 1 → bit_at v (i % 64) ≡ 1) → IsMarked words i → IsMarked (slice_set words w v) i
+still_marked words w v i within keeps marked =
+    ⊎_elim
+    (λ (here : i / 64 ≡ w).
+    ap (λ (n : ℕ). bit_at n (i % 64)) (ap (λ (n : ℕ). slice_index (slice_set words w v) n) here ∙ get_or-set_same words w v 0 within)
+    ∙ keeps (ap (λ (n : ℕ). bit_at (slice_index words n) (i % 64)) (sym here) ∙ marked))
+    (λ (apart : i / 64 ≢ w). ap (λ (n : ℕ). bit_at n (i % 64)) (get_or-set_other words w (i / 64) v 0 apart) ∙ marked)
+    (cases_eq (i / 64) w)
 
--- room for the bit of one more number, where it isn't among the 64
-pub word_room : (k t : ℕ) (xs : List ℕ) → 1 ≤ k → length xs ≤ 64 → word_up_to t (drop k xs) < 2 ^ 63
-word_room k t xs some few =
-    let below = word_below t (drop k xs) in
-    let least = pow_mono {i = length (drop k xs)} {j = 63} (let l = length-drop k xs in omega arith) in
+-- a place stays marked on each level where the one that is set marks what the one before did
+pub still_on : (levels : List Level) (r : ℕ) (d new : Level) → r < length levels → ((i : ℕ) → IsMarked (slice_index_or levels r d).words.items i → IsMarked new.words.items i) → (s i : ℕ) → IsMarked (slice_index_or levels s d).words.items i → IsMarked (slice_index_or (slice_set levels r new) s d).words.items i
+still_on levels r d new within more s i marked =
+    ⊎_elim
+    (λ (here : s ≡ r).
+    let own : slice_index_or (slice_set levels r new) s d ≡ new = ap (λ (n : ℕ). slice_index_or (slice_set levels r new) n d) here ∙ get_or-set_same levels r new d within in
+    subst (λ (l : Level). IsMarked l.words.items i) (sym own) (more i (subst (λ (n : ℕ). IsMarked (slice_index_or levels n d).words.items i) here marked)))
+    (λ (apart : s ≢ r). subst (λ (l : Level). IsMarked l.words.items i) (sym (get_or-set_other levels r s new d apart)) marked)
+    (cases_eq s r)
+
+-- a greater number has no lower rank
+rank_rises : (scale : Scale) (a b : ℕ) → a ≤ b → rank_in scale a ≤ rank_in scale b
+rank_rises scale a b less =
+    let step = 2 ^ scale.shift in
+    let up : a - scale.low ≤ b - scale.low = omega arith in
+    let within = div-mul-le_self (a - scale.low) step in
+    let steps = le-div ((a - scale.low) / step) (b - scale.low) step (pow_pos scale.shift) (omega arith) in
     omega arith
 
--- the bit of a number that is at most the threshold is set
-word_bit : (t : ℕ) (xs : List ℕ) (k : ℕ) → k < length xs → slice_index xs k ≤ t → bit_at (word_up_to t xs) k ≡ 1
-word_bit t [] k within low = absurd (omega arith)
-word_bit t (x ∷ xs) zero within low = first_bit (word_up_to t xs) (cond (nat_le x t) 1 0) (one_bit (nat_le x t)) ∙ cond-true (nat_le x t) 1 0 (le-leb x t low)
-word_bit t (x ∷ xs) (suc k) within low = next_bit (word_up_to t xs) (cond (nat_le x t) 1 0) k (one_bit (nat_le x t)) ∙ word_bit t xs k (omega arith) low
-
--- with the word of the next 64 places, those are marked too
-pub marked_more : (numbers words : List ℕ) (t place end w : ℕ) → length words ≡ place → place * 64 ≤ end → end ≤ length numbers → ((i : ℕ) → i < length numbers → i < place * 64 + 64 → i < end) → w ≡ word_up_to t (slice_range numbers (place * 64) end)
-    → ((i : ℕ) → i < place * 64 → i < length numbers → slice_index numbers i ≤ t → IsMarked words i)
-    → (i : ℕ) → i < (place + 1) * 64 → i < length numbers → slice_index numbers i ≤ t → IsMarked (words ++ w ∷ []) i
-marked_more numbers words t place end w count up within full is before i small in_numbers low =
-    ⊎_elim
-    (λ (earlier : i < place * 64).
-    let same : slice_index (words ++ w ∷ []) (i / 64) ≡ slice_index words (i / 64) = get_or_append_left words (w ∷ []) 0 (i / 64) (omega arith) in
-    ap (λ (n : ℕ). bit_at n (i % 64)) same ∙ before i earlier in_numbers low)
-    (λ (later : place * 64 ≤ i).
-    let k = i % 64 in
-    let at : i / 64 ≡ length words = omega arith in
-    let here : place * 64 + k ≡ i = omega arith in
-    let own : slice_index (words ++ w ∷ []) (i / 64) ≡ w = ap (λ (n : ℕ). slice_index (words ++ w ∷ []) n) at ∙ get_or-append_seam words w [] 0 in
-    let inside : i < end = full i in_numbers (omega arith) in
-    let number : slice_index (slice_range numbers (place * 64) end) k ≡ slice_index numbers i = get_or-take (end - place * 64) (drop (place * 64) numbers) k 0 (omega arith) ∙ get_or-drop (place * 64) numbers k 0 ∙ ap (slice_index numbers) here in
-    let long : k < length (slice_range numbers (place * 64) end) = (let left = length-drop (place * 64) numbers in let l = length-take-le (end - place * 64) (drop (place * 64) numbers) (omega arith) in omega arith) in
-    ap (λ (n : ℕ). bit_at n k) (own ∙ is) ∙ word_bit t (slice_range numbers (place * 64) end) k long (omega arith))
-    (cases_lt i (place * 64))
+pub are_ranked : (scale : Scale) (numbers ranks : List ℕ) → ranks ≡ map (rank_in scale) numbers → AreRanked numbers ranks
+are_ranked scale numbers ranks same = record {
+  count = ap (λ (xs : List ℕ). length xs) same ∙ length-map numbers (rank_in scale);
+  rising = λ i k within inside less.
+      let first : slice_index ranks i ≡ rank_in scale (slice_index numbers i) = ap (λ (xs : List ℕ). slice_index xs i) same ∙ get_or-map (rank_in scale) numbers i 0 0 within in
+      let second : slice_index ranks k ≡ rank_in scale (slice_index numbers k) = ap (λ (xs : List ℕ). slice_index xs k) same ∙ get_or-map (rank_in scale) numbers k 0 0 inside in
+      let up = rank_rises scale (slice_index numbers i) (slice_index numbers k) less in
+      rw (first, second) up;
+}
 
 -- a rival that beats a bid has at most its quantity of a category
 pub fewer_at : (place : ℕ) (x s : SizedBid) → beats x s ≡ true → slice_index s.bid.now.package place ≤ slice_index x.bid.now.package place
 fewer_at place x s b = within_at s.bid.now.package x.bid.now.package place (and_parts (int_le x.net s.net) _ (and_parts (nat_lt s.size x.size) _ b).1).1
 
--- of such numbers a sieve is made
-pub is_sieve : (rivals : List SizedBid) (number : SizedBid → ℕ) (sieve : Sieve) → ((x s : SizedBid) → beats x s ≡ true → number s ≤ number x) → sieve.numbers.items ≡ map number rivals → All (IsLevel sieve.numbers.items) sieve.levels.items → IsSieve rivals sieve
-is_sieve rivals number sieve lower same levels = record {
-  count = ap (λ (xs : List ℕ). length xs) same ∙ length-map rivals number;
-  lower = λ i k d within inside b.
-      let its : slice_index sieve.numbers.items i ≡ number (slice_index_or rivals i d) = ap (λ (xs : List ℕ). slice_index xs i) same ∙ get_or-map number rivals i d 0 within in
-      let mine : slice_index sieve.numbers.items k ≡ number (slice_index_or rivals k d) = ap (λ (xs : List ℕ). slice_index xs k) same ∙ get_or-map number rivals k d 0 inside in
-      let less = lower (slice_index_or rivals k d) (slice_index_or rivals i d) b in
-      omega arith;
-  levels = levels;
-}
-
--- a level whose threshold isn't below the bid's own number sifts
-pub sifts : (rivals : List SizedBid) (x : SizedBid) (sieve : Sieve) (level : Level) (place : ℕ) → IsSieve rivals sieve → x ≡ slice_index_or rivals place x → place < length sieve.numbers.items → slice_index sieve.numbers.items place ≤ level.threshold
-    → ((numbers : List ℕ) → All (IsLevel numbers) sieve.levels.items → IsLevel numbers level) → Sifts rivals x level.words.items
-sifts rivals x sieve level place s is within low one =
-    let own : IsLevel sieve.numbers.items level = one sieve.numbers.items s.levels in
-    let many = s.count in
+-- levels of such numbers sift
+pub is_sieve : (rivals : List SizedBid) (numbers : List ℕ) (number : SizedBid → ℕ) (sieve : Sieve) → ((x s : SizedBid) → beats x s ≡ true → number s ≤ number x) → numbers ≡ map number rivals → AreSieved numbers sieve → IsSieve rivals sieve
+is_sieve rivals numbers number sieve lower same made =
+    let count : length numbers ≡ length rivals = ap (λ (xs : List ℕ). length xs) same ∙ length-map rivals number in
+    let ranks = made.ranked.count in
     record {
-      count = own.count ∙ ap (λ (n : ℕ). div_ceil n 64) many;
-      marks = λ i d small b.
-          let inside : place < length rivals = omega arith in
-          let mine : x ≡ slice_index_or rivals place d = is ∙ get_or_default rivals place x d inside in
-          let less = s.lower i place d small inside (subst (λ (y : SizedBid). beats y (slice_index_or rivals i d) ≡ true) mine b) in
-          own.marks i (omega arith) (omega arith);
+      places = λ k inside.
+          let ranked : k < length sieve.ranks.items = omega arith in
+          let level = made.levels.within k 0 ranked in
+          record {
+            ranked = ranked;
+            level = level;
+            bit = λ d. (let long = made.levels.long (slice_index sieve.ranks.items k) d level in omega arith);
+          };
+      sifts = λ k d e inside i f within b.
+          let its : slice_index numbers i ≡ number (slice_index_or rivals i f) = ap (λ (xs : List ℕ). slice_index xs i) same ∙ get_or-map number rivals i f 0 within in
+          let mine : slice_index numbers k ≡ number (slice_index_or rivals k d) = ap (λ (xs : List ℕ). slice_index xs k) same ∙ get_or-map number rivals k d 0 inside in
+          let less = lower (slice_index_or rivals k d) (slice_index_or rivals i f) b in
+          let up = made.ranked.rising i k (omega arith) (omega arith) (omega arith) in
+          made.levels.marks i (slice_index sieve.ranks.items k) e (omega arith) (made.levels.within k 0 (omega arith)) up;
     }
 
 -- a rival that isn't smaller doesn't beat the bid
-pub none_behind : (x : SizedBid) (rivals : List SizedBid) (place i : ℕ) (d : SizedBid) → AllPairs (λ (s t : SizedBid). s.size ≤ t.size) rivals → x ≡ slice_index_or rivals place x → place < i → i < length rivals → beats x (slice_index_or rivals i d) ≡ false
+none_behind : (x : SizedBid) (rivals : List SizedBid) (place i : ℕ) (d : SizedBid) → AllPairs (λ (s t : SizedBid). s.size ≤ t.size) rivals → x ≡ slice_index_or rivals place x → place ≤ i → i < length rivals → beats x (slice_index_or rivals i d) ≡ false
 none_behind x rivals place i d rising is behind within =
     let s : SizedBid = slice_index_or rivals i d in
     let mine : x ≡ slice_index_or rivals place d = is ∙ get_or_default rivals place x d (omega arith) in
-    let up : x.size ≤ s.size = subst (λ (y : SizedBid). y.size ≤ s.size) (sym mine) (rising place i d behind within) in
+    let up : x.size ≤ s.size = ⊎_elim
+    (λ (later : place < i). subst (λ (y : SizedBid). y.size ≤ s.size) (sym mine) (rising place i d later within))
+    (λ (here : i ≤ place). let at : place ≡ i = omega arith in let same : x ≡ s = mine ∙ ap (λ (n : ℕ). slice_index_or rivals n d) at in let size : x.size ≡ s.size = ap (λ (y : SizedBid). y.size) same in omega arith)
+    (cases_lt place i) in
     ap (λ (smaller : Bool). smaller && (int_le x.net s.net && is_within s.bid.now.package x.bid.now.package)) (le-ltb s.size x.size up)
 
--- as many elements written back are all
-pub refilled : {X : Type 0} (xs ws : List X) → length ws ≡ length xs → refill (length xs) xs ws ≡ ws
-refilled xs ws long =
-    ap (λ (rest : List _). take (length xs) (ws ++ rest)) (drop_of_length-le xs (omega arith))
-    ∙ ap (take (length xs)) (append-nil ws)
-    ∙ take_all (length xs) ws (omega arith)
+-- a rival that beats the bid stands before it
+pub stands_before : (x : SizedBid) (rivals : List SizedBid) (place i : ℕ) (d : SizedBid) → AllPairs (λ (s t : SizedBid). s.size ≤ t.size) rivals → x ≡ slice_index_or rivals place x → i < length rivals → beats x (slice_index_or rivals i d) ≡ true → i < place
+stands_before x rivals place i d rising is within b =
+    ⊎_elim
+    (λ (before : i < place). before)
+    (λ (behind : place ≤ i). absurd (false≢true (sym (none_behind x rivals place i d rising is behind within) ∙ b)))
+    (cases_lt i place)
+
+-- words of 0 mark no place
+pub none_marked : (words : List ℕ) (i : ℕ) → All (λ word. word ≡ 0) words → IsMarked words i → ⊥
+none_marked words i zeros marked =
+    let zero : slice_index words (i / 64) ≡ 0 = ⊎_elim
+    (λ (within : i / 64 < length words). zeros (i / 64) 0 within)
+    (λ (past : length words ≤ i / 64). get_or_past words (i / 64) 0 past)
+    (cases_lt (i / 64) (length words)) in
+    let no_bit : bit_at (slice_index words (i / 64)) (i % 64) ≡ 0 = ap (λ (n : ℕ). bit_at n (i % 64)) zero ∙ bit_at-zero (i % 64) in
+    omega arith

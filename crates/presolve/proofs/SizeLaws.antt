@@ -7,7 +7,7 @@ use Rattle.std.specs.Ordering.{ordering_then}
 use Rattle.std.proofs.lemmas.Bool.{cases_lt, cond_both, cond-true, cond-false}
 use Rattle.std.proofs.lemmas.List.{append_assoc, at_drop_more, get_or-map, length-map, map-append}
 use Rattle.std.proofs.lemmas.List.Elements.{All-from_recursion}
-use Rattle.std.proofs.lemmas.List.Sorted.{All-permutation, sum_by-IsPermutation}
+use Rattle.std.proofs.lemmas.List.Sorted.{All-permutation, length_permutation, sum_by-IsPermutation}
 use Rattle.std.proofs.lemmas.List.Sums.{sum_by-cons}
 use Rattle.std.proofs.lemmas.Bool.Decides.{nat_tests}
 use Rattle.auction_terms.specs.declared.bids.Bid.{Bid}
@@ -15,6 +15,21 @@ use Rattle.auction_terms.specs.Packages.{Lots, fits, size}
 use Rattle.presolve.specs.declared.order.SizedBid.{SizedBid}
 use Rattle.presolve.specs.Sizes.{IsUpTo, IsBySize, is_fitting, size_at}
 use Rattle.presolve.specs.inside.Sizes.{Sized, sized_of, fitting_from, IsOrdered}
+
+-- no more bids fit than there are
+few_fit : (lots : Lots) (j : ℕ) (form : List Bid) → length (fitting_from lots j form) ≤ length form
+few_fit lots j [] = omega arith
+few_fit lots j (x ∷ form) =
+    let rest = few_fit lots (j + 1) form in
+    cond_both (fits lots x.package) (record { size = size x.package; number = j; bid = x } ∷ fitting_from lots (j + 1) form) (fitting_from lots (j + 1) form) (λ (rs : List Sized). length rs ≤ suc (length form)) (omega arith) (omega arith)
+
+pub no_more_fit : (lots : Lots) (form : List Bid) (bids : List SizedBid) → IsOrdered lots form bids → length bids ≤ length form
+no_more_fit lots form bids o =
+    let few = few_fit lots 1 form in
+    let same = ap (λ (rs : List Sized). length rs) o.same in
+    let sized = length-map o.fitting sized_of in
+    let moved = length_permutation o.fitting bids o.moved in
+    omega arith
 
 -- what the order of pairs of a size and a number says
 pub up_to : (a m b n : ℕ) → is_lt (ordering_then (nat_cmp b a) (nat_cmp n m)) ≡ false → IsUpTo a m b n

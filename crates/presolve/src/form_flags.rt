@@ -23,6 +23,8 @@ fn is_kept_beside(
 ) -> bool
     requires rivals { AreRivals (length bid.now.bid.now.package) rivals.now }
     requires sieves { All (IsSieve rivals.now) sieves.now }
+    requires many { length rivals.now ≤ MOST_BIDS }
+    requires some { 1 ≤ length sieves.now }
     requires few { length sieves.now ≤ MOST_CATEGORIES + 1 }
     requires within { place < length rivals.now }
     requires bid { bid.now ≡ slice_index_or rivals.now place bid.now }

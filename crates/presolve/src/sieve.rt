@@ -4,88 +4,63 @@
 //! compare each with all before it is too slow: a form has up to 4,000 bids over 32 categories. So bitsets sift them. A
 //! rival that dominates a bid has at most the bid's quantity of each category, and a net that isn't lower. So each quantity
 //! is a number of the rival, and so is how far its net stays below the greatest that there may be: none of them is greater
-//! where the rival dominates the bid. A `Sieve` is made for each of these numbers. It has up to 15 levels, each with a
-//! threshold and the bitset of the rivals whose number is at most that: 64 rivals to a word, in their order.
+//! where the rival dominates the bid. A `Sieve` is made for each of these numbers. It has a rank for each rival, no lower for
+//! a greater number, and a level for each rank: the bitset of the rivals of that rank or a lower one, 64 rivals to a word, in
+//! their order. A level is made from that of the rank below it, so that each rival is put once into each sieve.
 //!
-//! A bid is asked as follows. Each sieve gives its first level whose threshold isn't below the bid's own number; a sieve
-//! that has none sifts nothing. Word by word, up to that of the bid's own place, these bitsets are taken together by `&`. A
-//! bit that is left is a candidate, and is compared with the bid exactly. Most words are 0 after two or three bitsets, since
-//! those with the fewest rivals come first.
+//! A bid is asked as follows. All rivals before it are left at first. Each sieve tells the level of the bid's own rank, and
+//! what is left is taken together with these levels by `&`, four at a time, until nothing is left, which is soon so for
+//! nearly all bids. A bit that is left at the end is a candidate, and is compared with the bid exactly.
 //!
-//! What to mind when changing it: the bitsets only have to be sound, that is, to have the bit of every rival that dominates
+//! What to mind when changing it: the levels only have to be sound, that is, to have the bit of every rival that dominates
 //! the bid (`Sifts`). One that has too many bits costs time and changes no answer, since each candidate is compared. So the
-//! thresholds, which come from a sample of the rivals, may be any numbers, a sieve may be left out, and the order of the
-//! bitsets doesn't matter. A level with a threshold below the bid's own number isn't sound, nor is a bit that is left out.
+//! scale by which numbers become ranks, which comes from a sample of them, may be any that rises, a sieve may be left out,
+//! and the order of the sieves doesn't matter. A scale that doesn't rise isn't sound, nor is a bit that is left out.
 
-ghost use Rattle.std.specs.Prelude.{◌≡◌, ◌+◌, ◌^◌, ◌<◌, ◌≤◌, ℕ, List, true, false, slice_index, slice_index_or, All, length, map, IfOk, IfSome, IsTrue};
-ghost use Rattle.std.specs.Int.{bit_at};
+ghost use Rattle.std.specs.Prelude.{◌≡◌, ◌+◌, ◌/◌, ◌<◌, ◌≤◌, ℕ, List, true, false, slice_index, slice_index_or, All, length, map, IfOk, IsTrue};
+ghost use Rattle.std.specs.Int.{bit_at, div_ceil};
 ghost use Rattle.std.specs.List.{list_any};
-ghost use Rattle.auction_terms.specs.declared.limits.TheConstants.{MOST_CATEGORIES};
+ghost use Rattle.auction_terms.specs.declared.limits.TheConstants.{MOST_BIDS, MOST_CATEGORIES};
 ghost use Rattle.presolve.specs.declared.order.SizedBid.{SizedBid};
-ghost use Rattle.presolve.specs.inside.Sieves.{IsLevel, IsSieve, Sifts, shortfall, word_up_to};
+ghost use Rattle.presolve.specs.inside.Sieves.{AreLevels, AreRanked, AreSieved, HasPlace, IsMarked, IsSieve, Sifts, rank_in, shortfall};
 ghost use Rattle.presolve.specs.inside.Sizes.{AreRivals, beats};
 
 use crate::order::SizedBid;
 use arrayvec::ArrayVec;
-use auction_terms::MOST_CATEGORIES;
+use auction_terms::MOST_BIDS;
 use std::alloc::{AllocError, Global};
 
-/// How many rivals the thresholds of a sieve are taken from.
-const SAMPLE: usize = 15;
+/// How many numbers the scale of a sieve is taken from.
+const SAMPLE: usize = 31;
 
-/// The most sieves: one for each category, and one for the net.
-const SIEVES: usize = MOST_CATEGORIES + 1;
+/// How many ranks there are at most.
+const RANKS: u64 = 32;
 
-/// The bitset of the rivals whose number is at most the threshold, and how many they are.
+/// The most words that hold a bit for each rival.
+const MOST_WORDS: usize = MOST_BIDS / 64 + 1;
+
+/// How numbers become ranks: by steps of 2 to the power of the shift above the low number.
+#[derive(Drop)]
+pub(crate) struct Scale {
+    pub(crate) low: u64,
+    pub(crate) shift: u32,
+}
+
+/// The bitset of the rivals of one rank or a lower one.
 #[derive(Drop)]
 pub(crate) struct Level {
-    pub(crate) threshold: u64,
-    pub(crate) count: u32,
     pub(crate) words: Vec<u64>,
 }
 
-/// A number of each rival, and its levels by rising threshold.
+/// A rank of each rival, and a level for each rank.
 #[derive(Drop)]
 pub(crate) struct Sieve {
-    pub(crate) numbers: Vec<u64>,
+    pub(crate) ranks: Vec<u8>,
     pub(crate) levels: Vec<Level>,
 }
 
-// A bit for each number, set where it is at most the threshold.
-fn word_up_to(numbers: &[u64], threshold: u64) -> u64
-    requires { length numbers.now ≤ 64 }
-    ensures { result ≡ word_up_to threshold numbers.now }
-{
-    let mut word = 0;
-    for place in (0..numbers.len()).rev() {
-        word = word * 2 + u64::from(numbers[place] <= threshold);
-    }
-    word
-}
-
-// The level of a threshold.
-fn level_up_to(alloc: Global, numbers: &[u64], threshold: u64) -> Result<Level, AllocError>
-    ensures { IfOk result (λ level. IsLevel numbers.now level) }
-{
-    let all = numbers.len().div_ceil(64);
-    let mut words = Vec::with_capacity(alloc, all)?;
-    let mut count: u32 = 0;
-    for place in 0..all {
-        let first = place * 64;
-        let end = numbers.len().min(first + 64);
-        let word = word_up_to(&numbers[first..end], threshold);
-        count = count.saturating_add(word.count_ones());
-        words.push(word)?;
-    }
-    Ok(Level {
-        threshold,
-        count,
-        words,
-    })
-}
-
-// The numbers of a sample of the rivals, by rising number.
-fn thresholds(numbers: &[u64]) -> ArrayVec<u64, SAMPLE> {
+// A sample of the numbers, by rising number.
+fn sample_of(numbers: &[u64]) -> ArrayVec<u64, SAMPLE> {
     let apart = numbers.len() / SAMPLE + 1;
     let mut sample = ArrayVec::new();
     for taken in 0..SAMPLE {
@@ -97,20 +72,117 @@ fn thresholds(numbers: &[u64]) -> ArrayVec<u64, SAMPLE> {
     sample
 }
 
-// The sieve of these numbers, with a level for each threshold.
-fn sieve_of(alloc: Global, numbers: Vec<u64>) -> Result<Sieve, AllocError>
-    ensures numbers { IfOk result (λ sieve. sieve.numbers.items ≡ numbers.items) }
-    ensures levels { IfOk result (λ sieve. All (IsLevel numbers.items) sieve.levels.items) }
+// A scale that tells the numbers between the second and the last but one of a sample apart, so that a few numbers far from
+// the others don't take the ranks of all.
+fn scale_of(numbers: &[u64]) -> Scale
+    ensures { result.shift < 64 }
 {
-    let mut levels: Vec<Level> = Vec::new(alloc);
-    let mut last = None;
-    for threshold in &thresholds(&numbers) {
-        if last != Some(*threshold) {
-            levels.push(level_up_to(alloc, &numbers, *threshold)?)?;
-            last = Some(*threshold);
-        }
+    let sample = sample_of(numbers);
+    let second = sample.get(1).copied().unwrap_or(0);
+    let last = sample.get(sample.len().saturating_sub(2)).copied();
+    let low = second.saturating_sub(1);
+    let step = last.unwrap_or(0).saturating_sub(low) / (RANKS - 1);
+    Scale {
+        low,
+        shift: (u64::BITS - step.leading_zeros()).min(63),
     }
-    Ok(Sieve { numbers, levels })
+}
+
+fn rank_in(scale: &Scale, number: u64) -> u8
+    requires { scale.now.shift < 64 }
+    ensures { result ≡ rank_in scale.now number }
+{
+    (number.saturating_sub(scale.low) >> scale.shift).min(RANKS - 1) as u8
+}
+
+// The rank of each number.
+fn ranks_of(alloc: Global, numbers: &[u64]) -> Result<Vec<u8>, AllocError>
+    ensures { IfOk result (λ ranks. AreRanked numbers.now ranks.items) }
+{
+    let scale = scale_of(numbers);
+    let mut ranks = Vec::with_capacity(alloc, numbers.len())?;
+    for number in numbers {
+        ranks.push(rank_in(&scale, *number))?;
+    }
+    Ok(ranks)
+}
+
+// The greatest of the ranks.
+fn greatest(ranks: &[u8]) -> u8
+    ensures { All (λ rank. rank ≤ result) ranks.now }
+{
+    let mut greatest = 0;
+    for rank in ranks {
+        greatest = greatest.max(*rank);
+    }
+    greatest
+}
+
+// Levels with no bit yet.
+fn empty_levels(alloc: Global, count: usize, words: usize) -> Result<Vec<Level>, AllocError>
+    ensures count { IfOk result (λ levels. length levels.items ≡ count) }
+    ensures long { IfOk result (λ levels. All (λ level. length level.words.items ≡ words)
+        levels.items) }
+{
+    let mut levels = Vec::with_capacity(alloc, count)?;
+    for _ in 0..count {
+        levels.push(Level {
+            words: vec![in alloc; 0; words]?,
+        })?;
+    }
+    Ok(levels)
+}
+
+// Sets the bit of a place.
+fn mark(level: &mut Level, place: usize)
+    requires { place / 64 < length level.old.words.items }
+    ensures count { length level.new.words.items ≡ length level.old.words.items }
+    ensures own { IsMarked level.new.words.items place }
+    ensures others { (i : ℕ) → IsMarked level.old.words.items i → IsMarked level.new.words.items i }
+{
+    level.words[place / 64] |= 1 << (place % 64);
+}
+
+// A level for each rank, with the places of that rank alone.
+fn own_levels(alloc: Global, ranks: &[u8]) -> Result<Vec<Level>, AllocError>
+    ensures { IfOk result (λ levels. AreLevels (λ r s. r ≡ s) ranks.now levels.items) }
+{
+    let count = usize::from(greatest(ranks)) + 1;
+    let mut levels = empty_levels(alloc, count, ranks.len().div_ceil(64))?;
+    for place in 0..ranks.len() {
+        mark(&mut levels[usize::from(ranks[place])], place);
+    }
+    Ok(levels)
+}
+
+// Adds the places so far to a level, and takes over all that it then has.
+fn add_lower(level: &mut Level, so_far: &mut Level)
+    requires { length so_far.old.words.items ≡ length level.old.words.items }
+    ensures count { length so_far.new.words.items ≡ length so_far.old.words.items }
+    ensures same { level.new.words.items ≡ so_far.new.words.items }
+    ensures own { (i : ℕ) → IsMarked level.old.words.items i → IsMarked so_far.new.words.items i }
+    ensures lower { (i : ℕ) → IsMarked so_far.old.words.items i
+        → IsMarked so_far.new.words.items i }
+{
+    for place in 0..so_far.words.len() {
+        let word = so_far.words[place] | level.words[place];
+        so_far.words[place] = word;
+        level.words[place] = word;
+    }
+}
+
+// The sieve of these numbers. To each level those below it are added.
+fn sieve_of(alloc: Global, numbers: &[u64]) -> Result<Sieve, AllocError>
+    ensures { IfOk result (λ sieve. AreSieved numbers.now sieve) }
+{
+    let ranks = ranks_of(alloc, numbers)?;
+    let mut levels = own_levels(alloc, &ranks)?;
+    let words = vec![in alloc; 0; ranks.len().div_ceil(64)]?;
+    let mut so_far = Level { words };
+    for rank in 0..levels.len() {
+        add_lower(&mut levels[rank], &mut so_far);
+    }
+    Ok(Sieve { ranks, levels })
 }
 
 // Each rival's quantity of a category.
@@ -160,66 +232,80 @@ pub(crate) fn sieves(
     ensures count { IfOk result (λ sieves. length sieves.items ≡ categories + 1) }
 {
     let mut sieves = Vec::with_capacity(alloc, categories + 1)?;
-    sieves.push(sieve_of(alloc, shortfalls(alloc, rivals)?)?)?;
+    sieves.push(sieve_of(alloc, &shortfalls(alloc, rivals)?)?)?;
     for place in 0..categories {
-        sieves.push(sieve_of(alloc, quantities_at(alloc, rivals, place)?)?)?;
+        sieves.push(sieve_of(alloc, &quantities_at(alloc, rivals, place)?)?)?;
     }
     Ok(sieves)
 }
 
-// The first level whose threshold isn't below the number at a place.
-fn level_for(sieve: &Sieve, place: usize) -> Option<&Level>
-    requires { place < length sieve.now.numbers.items }
-    ensures own { IfSome result (λ level. slice_index sieve.now.numbers.items place
-        ≤ level.now.threshold) }
-    ensures one { IfSome result (λ level. (numbers : List ℕ)
-        → All (IsLevel numbers) sieve.now.levels.items → IsLevel numbers level.now) }
+// The level of the rank that the rival at a place has in a sieve, or in the last sieve where there aren't so many.
+fn level_at(sieves: &[Sieve], number: usize, place: usize) -> &[u64]
+    requires some { 1 ≤ length sieves.now }
+    requires within { All (HasPlace place) sieves.now }
+    ensures bit { place / 64 < length result.now }
+    ensures sifts { (rivals : List SizedBid) (x : SizedBid) → All (IsSieve rivals) sieves.now
+        → place < length rivals → x ≡ slice_index_or rivals place x → Sifts rivals x result.now }
 {
-    let number = sieve.numbers[place];
-    for level in &sieve.levels {
-        if level.threshold >= number {
-            return Some(level);
-        }
-    }
-    None
+    let sieve = &sieves[number.min(sieves.len() - 1)];
+    &sieve.levels[usize::from(sieve.ranks[place])].words
 }
 
-// The bitsets that sift the rivals of the one at a place, with how many each has, those with the fewest first.
-fn bitsets_for<'s>(sieves: &'s [Sieve], place: usize) -> ArrayVec<(u32, &'s [u64]), SIEVES>
+// Leaves of the bits that are left those that four levels have too; whether there are any.
+fn narrow(left: &mut [u64], first: &[u64], second: &[u64], third: &[u64], fourth: &[u64]) -> bool
+    requires first { length left.old ≤ length first.now }
+    requires second { length left.old ≤ length second.now }
+    requires third { length left.old ≤ length third.now }
+    requires fourth { length left.old ≤ length fourth.now }
+    ensures count { length left.new ≡ length left.old }
+    ensures kept { (i : ℕ) → IsMarked left.old i → IsMarked first.now i → IsMarked second.now i
+        → IsMarked third.now i → IsMarked fourth.now i → IsMarked left.new i }
+    ensures none { result ≡ false → All (λ word. word ≡ 0) left.new }
+{
+    let mut any = 0;
+    for place in 0..left.len() {
+        let word = left[place] & first[place] & second[place] & third[place] & fourth[place];
+        left[place] = word;
+        any |= word;
+    }
+    any != 0
+}
+
+// Leaves all places before one, in as many words as there are up to it.
+fn leave_before(left: &mut [u64], place: usize)
+    requires { length left.old ≡ place / 64 + 1 }
+    ensures count { length left.new ≡ length left.old }
+    ensures before { (i : ℕ) → i < place → IsMarked left.new i }
+{
+    for word in 0..place / 64 {
+        left[word] = u64::MAX;
+    }
+    left[place / 64] = (1 << (place % 64)) - 1;
+}
+
+// Leaves of the bits that are left those that the level of each sieve has too, for the rival at a place; whether there are
+// any. A level that is taken twice changes nothing.
+fn sift(left: &mut [u64], sieves: &[Sieve], place: usize) -> bool
+    requires left { length left.old ≡ place / 64 + 1 }
+    requires some { 1 ≤ length sieves.now }
     requires few { length sieves.now ≤ MOST_CATEGORIES + 1 }
-    requires within { All (λ sieve. place < length sieve.numbers.items) sieves.now }
-    ensures { (rivals : List SizedBid) (x : SizedBid) → All (IsSieve rivals) sieves.now → x ≡ slice_index_or rivals place x
-        → All (λ bitset. Sifts rivals x bitset.1.now) result.items }
+    requires within { All (HasPlace place) sieves.now }
+    ensures count { length left.new ≡ length left.old }
+    ensures sifts { (rivals : List SizedBid) (x : SizedBid) → All (IsSieve rivals) sieves.now
+        → place < length rivals → x ≡ slice_index_or rivals place x → Sifts rivals x left.old
+        → Sifts rivals x left.new }
+    ensures none { result ≡ false → All (λ word. word ≡ 0) left.new }
 {
-    let mut bitsets: ArrayVec<(u32, &[u64]), SIEVES> = ArrayVec::new();
-    for sieve in sieves {
-        if let Some(level) = level_for(sieve, place) {
-            bitsets.push((level.count, level.words.as_slice()));
+    for group in 0..sieves.len().div_ceil(4) {
+        let first = level_at(sieves, group * 4, place);
+        let second = level_at(sieves, group * 4 + 1, place);
+        let third = level_at(sieves, group * 4 + 2, place);
+        let fourth = level_at(sieves, group * 4 + 3, place);
+        if !narrow(left, first, second, third, fourth) {
+            return false;
         }
     }
-    bitsets.sort_unstable_by_key(
-        |bitset: &(u32, &[u64])| -> u32
-            ensures { result ≡ bitset.now.0 }
-        { bitset.0 },
-    );
-    bitsets
-}
-
-// The bits of a word that all bitsets have.
-fn common_bits(bitsets: &[(u32, &[u64])], word: usize) -> u64
-    requires within { All (λ bitset. word < length bitset.1.now) bitsets.now }
-    requires few { word ≤ 2 ^ 58 }
-    ensures { (k : ℕ) → k < 64 → All (λ bitset. bit_at (slice_index bitset.1.now word) k ≡ 1)
-        bitsets.now → bit_at result k ≡ 1 }
-{
-    let mut left = u64::MAX;
-    for (_, words) in bitsets {
-        left &= words[word];
-        if left == 0 {
-            return 0;
-        }
-    }
-    left
+    true
 }
 
 // Whether the rival is smaller, its net isn't lower, and it has at most the bid's quantity of each category.
@@ -257,6 +343,23 @@ fn is_beaten_among(
     false
 }
 
+// Whether one of the candidates that are left beats the bid.
+fn is_beaten_by(rivals: &[SizedBid<'_>], left: &[u64], bid: &SizedBid<'_>) -> bool
+    requires sized { All (λ s. length s.bid.now.package ≡ length bid.now.bid.now.package)
+        rivals.now }
+    requires within { length left.now ≤ div_ceil (length rivals.now) 64 }
+    ensures beaten { IsTrue result → list_any (beats bid.now) rivals.now ≡ true }
+    ensures unbeaten { result ≡ false → (i : ℕ) (d : SizedBid) → IsMarked left.now i
+        → i < length rivals.now → beats bid.now (slice_index_or rivals.now i d) ≡ false }
+{
+    for word in 0..left.len() {
+        if is_beaten_among(rivals, word * 64, left[word], bid) {
+            return true;
+        }
+    }
+    false
+}
+
 // Whether one of the bids that fit dominates the one at a place. Those behind it aren't smaller.
 pub(crate) fn is_beaten(
     rivals: &[SizedBid<'_>],
@@ -265,18 +368,16 @@ pub(crate) fn is_beaten(
     bid: &SizedBid<'_>,
 ) -> bool
     requires rivals { AreRivals (length bid.now.bid.now.package) rivals.now }
+    requires many { length rivals.now ≤ MOST_BIDS }
     requires sieves { All (IsSieve rivals.now) sieves.now }
+    requires some { 1 ≤ length sieves.now }
     requires few { length sieves.now ≤ MOST_CATEGORIES + 1 }
     requires within { place < length rivals.now }
     requires bid { bid.now ≡ slice_index_or rivals.now place bid.now }
     ensures { result ≡ list_any (beats bid.now) rivals.now }
 {
-    let bitsets = bitsets_for(sieves, place);
-    for word in 0..place / 64 + 1 {
-        let candidates = common_bits(&bitsets, word);
-        if is_beaten_among(rivals, word * 64, candidates, bid) {
-            return true;
-        }
-    }
-    false
+    let mut words = [0; MOST_WORDS];
+    let left = &mut words[..place / 64 + 1];
+    leave_before(left, place);
+    sift(left, sieves, place) && is_beaten_by(rivals, left, bid)
 }

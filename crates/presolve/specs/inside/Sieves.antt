@@ -1,15 +1,11 @@
 -- The sieve of a form's rivals: for each number that a rival has, bitsets of those that have at most so much.
-use Rattle.std.specs.Prelude.{◌≡◌, ◌+◌, ◌-◌, ◌*◌, ◌/◌, ◌%◌, ◌^◌, ◌<◌, ◌≤◌, ℕ, ℤ, true, nat_le, if◌then◌else◌, List, [], ◌∷◌, length, slice_index, slice_index_or, All}
+use Rattle.std.specs.Prelude.{◌≡◌, ◌-◌, ◌/◌, ◌%◌, ◌^◌, ◌<◌, ◌≤◌, ℕ, ℤ, true, List, length, min, slice_index, slice_index_or, All}
 use Rattle.std.specs.Int.{bit_at, div_ceil, saturate_unsigned, w64}
 use Rattle.presolve.specs.declared.order.SizedBid.{SizedBid}
 use Rattle.presolve.specs.declared.sieve.Level.{Level}
+use Rattle.presolve.specs.declared.sieve.Scale.{Scale}
 use Rattle.presolve.specs.declared.sieve.Sieve.{Sieve}
 use Rattle.presolve.specs.inside.Sizes.{beats}
-
--- a bit for each number, the lowest one for the first: set where it is at most the threshold
-abbrev pub word_up_to : ℕ → List ℕ → ℕ
-word_up_to threshold [] = 0
-word_up_to threshold (x ∷ xs) = word_up_to threshold xs * 2 + (if nat_le x threshold then 1 else 0)
 
 -- the bit of place i is set
 abbrev pub IsMarked : List ℕ → ℕ → Type 0
@@ -19,18 +15,37 @@ IsMarked words i = bit_at (slice_index words (i / 64)) (i % 64) ≡ 1
 abbrev pub shortfall : ℤ → ℕ
 shortfall net = 2 ^ 64 - 1 - saturate_unsigned w64 net
 
--- the places whose number is at most the threshold are marked
-pub record IsLevel (numbers : List ℕ) (level : Level) : Type 0 where
-  pub count : length level.words.items ≡ div_ceil (length numbers) 64
-  pub marks : (i : ℕ) → i < length numbers → slice_index numbers i ≤ level.threshold → IsMarked level.words.items i
+-- how many steps of the scale a number stands above its low number, 31 at most
+abbrev pub rank_in : Scale → ℕ → ℕ
+rank_in scale number = min ((number - scale.low) / 2 ^ scale.shift) 31
 
--- a number of each rival, not greater for one that beats another than for that one, and its levels
-pub record IsSieve (rivals : List SizedBid) (sieve : Sieve) : Type 0 where
-  pub count : length sieve.numbers.items ≡ length rivals
-  pub lower : (i k : ℕ) (d : SizedBid) → i < length rivals → k < length rivals → beats (slice_index_or rivals k d) (slice_index_or rivals i d) ≡ true → slice_index sieve.numbers.items i ≤ slice_index sieve.numbers.items k
-  pub levels : All (IsLevel sieve.numbers.items) sieve.levels.items
+-- a rank for each number, not lower for a greater one
+pub record AreRanked (numbers ranks : List ℕ) : Type 0 where
+  pub count : length ranks ≡ length numbers
+  pub rising : (i k : ℕ) → i < length numbers → k < length numbers → slice_index numbers i ≤ slice_index numbers k → slice_index ranks i ≤ slice_index ranks k
+
+-- a level for each rank, on which the places are marked whose rank stands so to it
+pub record AreLevels (Stands : ℕ → ℕ → Type 0) (ranks : List ℕ) (levels : List Level) : Type 0 where
+  pub within : All (λ rank. rank < length levels) ranks
+  pub long : All (λ level. length level.words.items ≡ div_ceil (length ranks) 64) levels
+  pub marks : (i r : ℕ) (d : Level) → i < length ranks → r < length levels → Stands (slice_index ranks i) r → IsMarked (slice_index_or levels r d).words.items i
+
+-- a rank of each number, and the levels of the places of each rank and lower ones
+pub record AreSieved (numbers : List ℕ) (sieve : Sieve) : Type 0 where
+  pub ranked : AreRanked numbers sieve.ranks.items
+  pub levels : AreLevels (λ r s. r ≤ s) sieve.ranks.items sieve.levels.items
 
 -- the places of the rivals that beat the bid are marked
-pub record Sifts (rivals : List SizedBid) (x : SizedBid) (words : List ℕ) : Type 0 where
-  pub count : length words ≡ div_ceil (length rivals) 64
-  pub marks : (i : ℕ) (d : SizedBid) → i < length rivals → beats x (slice_index_or rivals i d) ≡ true → IsMarked words i
+abbrev pub Sifts : List SizedBid → SizedBid → List ℕ → Type 0
+Sifts rivals x words = (i : ℕ) (d : SizedBid) → i < length rivals → beats x (slice_index_or rivals i d) ≡ true → IsMarked words i
+
+-- a place has a rank, and the level of that rank has a bit for it
+pub record HasPlace (place : ℕ) (sieve : Sieve) : Type 0 where
+  pub ranked : place < length sieve.ranks.items
+  pub level : slice_index sieve.ranks.items place < length sieve.levels.items
+  pub bit : (d : Level) → place / 64 < length (slice_index_or sieve.levels.items (slice_index sieve.ranks.items place) d).words.items
+
+-- the level of each rival's rank sifts those that beat it
+pub record IsSieve (rivals : List SizedBid) (sieve : Sieve) : Type 0 where
+  pub places : (k : ℕ) → k < length rivals → HasPlace k sieve
+  pub sifts : (k : ℕ) (d : SizedBid) (e : Level) → k < length rivals → Sifts rivals (slice_index_or rivals k d) (slice_index_or sieve.levels.items (slice_index sieve.ranks.items k) e).words.items

@@ -8,6 +8,7 @@ use Rattle.presolve.specs.declared.order.SizedBid.{SizedBid}
 use Rattle.presolve.specs.inside.Sizes.{IsOrdered, TellsItsNet, TellsItsSize, beats}
 use Rattle.presolve.proofs.FlagLaws.{all_fit, all_kept, are_rivals, rivals_suffice, stands}
 use Rattle.presolve.proofs.NumberLaws.{after_failing, after_passing, are_numbered, flags_by_number, none_left_over}
+use Rattle.presolve.proofs.SizeLaws.{no_more_fit}
 use Rattle.presolve.proofs.form_flags.flags_of_form.Goals as goal
 use Rattle.presolve.proofs.form_flags.flags_of_form.Goals.{then-is_kept_beside, else-is_kept_beside}
 
@@ -25,6 +26,12 @@ is_kept_beside-requires-clause-rivals c =
     let small : c.loop-place.place < length items = rw c.deref-rival-items.ensures.value at c.loop-place-test.true in
     let size : length c.rival-item.result.bid.now.package ≡ n = subst (λ (s : SizedBid). length s.bid.now.package ≡ n) (sym at) (rivals.sized c.loop-place.place c.rival-item.result small) in
     rw (size, c.deref-in-loop-place.ensures.value) rivals
+
+pub is_kept_beside-requires-clause-many : goal.is_kept_beside-requires-clause-many
+is_kept_beside-requires-clause-many c =
+    let few = no_more_fit (lots_in c.args.rules.now) c.args.bids.now c.in_ok-rivals.rivals.items c.in_ok-rivals.ensures in
+    let many = c.requires.few in
+    rw c.deref-in-loop-place.ensures.value (omega arith)
 
 pub overflow_sub-from : goal.overflow_sub-from
 overflow_sub-from c =

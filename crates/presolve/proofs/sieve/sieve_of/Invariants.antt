@@ -1,7 +1,17 @@
+use Rattle.std.proofs.Common.{◌≡◌, ◌<◌, ◌≤◌, ℕ, length, slice_index, slice_index_or}
+use Rattle.std.specs.Int.{div_ceil}
 use Rattle.std.specs.Prelude.{All}
-use Rattle.presolve.specs.inside.Sieves.{IsLevel}
+use Rattle.presolve.specs.declared.sieve.Level.{Level}
+use Rattle.presolve.specs.inside.Sieves.{IsMarked}
 use Rattle.presolve.proofs.sieve.sieve_of.Given as goal
 
--- so far the levels are levels of the numbers
-abbrev pub invariant-loop-threshold : goal.invariant-loop-threshold
-invariant-loop-threshold l = All (IsLevel l.numbers.items) l.levels.items
+-- the levels so far have the places of lower ranks too, and so has what is to be added; the others have those of their ranks
+abbrev pub invariant-loop-rank : goal.invariant-loop-rank
+invariant-loop-rank l = record {
+  count : length l.levels.items ≡ length l.initial.levels.items;
+  room : length l.so_far.words.items ≡ div_ceil (length l.ranks.items) 64;
+  long : All (λ level. length level.words.items ≡ div_ceil (length l.ranks.items) 64) l.levels.items;
+  lower : (i r : ℕ) (d : Level) → i < length l.ranks.items → r < l.rank → slice_index l.ranks.items i ≤ r → IsMarked (slice_index_or l.levels.items r d).words.items i;
+  so_far : (i : ℕ) → i < length l.ranks.items → slice_index l.ranks.items i < l.rank → IsMarked l.so_far.words.items i;
+  own : (i r : ℕ) (d : Level) → i < length l.ranks.items → l.rank ≤ r → r < length l.levels.items → slice_index l.ranks.items i ≡ r → IsMarked (slice_index_or l.levels.items r d).words.items i;
+}

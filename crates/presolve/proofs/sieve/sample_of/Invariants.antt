@@ -1,5 +1,5 @@
 use Rattle.std.proofs.Common.{◌≤◌, length}
-use Rattle.presolve.proofs.sieve.thresholds.Given as goal
+use Rattle.presolve.proofs.sieve.sample_of.Given as goal
 
 -- as many numbers at most as were taken
 abbrev pub invariant-loop-taken : goal.invariant-loop-taken
