@@ -25,8 +25,8 @@ returns g c =
     (front ∙ ap (λ (n : ℕ). flags_of_bidders lots (book_of book) (range_with_len 1 n)) front_len)
     (back ∙ ap (λ (n : ℕ). flags_of_bidders lots (book_of book) (range_with_len n rest)) back_start)
 
-pub returns-then-bid_count-lt-FEW_BIDS : goal.returns-then-bid_count-lt-FEW_BIDS
-returns-then-bid_count-lt-FEW_BIDS g c =
+pub returns-then-has_few_bids : goal.returns-then-has_few_bids
+returns-then-has_few_bids g c =
     let book = c.args.book.now in
     let lots = lots_in book.rules in
     let count = length c.bidders.result.now in
