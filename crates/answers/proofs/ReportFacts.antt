@@ -7,8 +7,7 @@ use Rattle.std.proofs.lemmas.List.{length-map}
 use Rattle.std.proofs.lemmas.Slice.Zip.{AllZip-long}
 use Rattle.auction_terms.specs.declared.choices.Choice.{Choice}
 use Rattle.bid_desk.specs.Closing.{Closing}
-use Rattle.group_compiler.specs.Compiled.{Compiling, GroupProgram, compiled, compiling, program_without}
-use Rattle.program_rows.specs.Program.{Table}
+use Rattle.group_compiler.specs.Compiled.{Compiling, compiling, program_without}
 use Rattle.std.proofs.lemmas.List.FromFn.{length-range_with_len}
 use Rattle.auction_terms.specs.Borrowed.{bytes_of}
 use Rattle.outcome.specs.Sale.{Sale, sale_of}
@@ -98,11 +97,10 @@ text-at (s ∷ solutions) zero text below is = ap (λ (t : Text). t.now) is
 text-at (s ∷ solutions) (suc n) text below is = text-at solutions n text (omega arith) is
 
 -- what a group's program and solution tell
-pub told-by : (c : Compiling) (texts : List (List ℕ)) (n : ℕ) (made : GroupProgram) (text : List ℕ) (answer : Answer) → made ≡ compiled c.book (slice_index_or c.groups (n + 1 - 1) []) → text ≡ slice_index_or texts n []
-    → IfOk answer (λ a. winners_by made.program (n + 1) text ≡ Ok a) → IfErr answer (Refuses (winners_by made.program (n + 1) text)) → IsToldAnswer (winners_at (sale_of c.book) c.groups texts n) answer
-told-by c texts n made text answer is at won refused =
+pub told-by : (c : Compiling) (texts : List (List ℕ)) (n : ℕ) (group text : List ℕ) (answer : Answer) → group ≡ slice_index_or c.groups (n + 1 - 1) [] → text ≡ slice_index_or texts n []
+    → IfOk answer (λ a. winners_by (program_without c.book group) (n + 1) text ≡ Ok a) → IfErr answer (Refuses (winners_by (program_without c.book group) (n + 1) text)) → IsToldAnswer (winners_at (sale_of c.book) c.groups texts n) answer
+told-by c texts n group text answer is at won refused =
     let place : n + 1 - 1 ≡ n = omega arith in
-    let program : made.program ≡ program_without c.book (slice_index_or c.groups n []) = ap (λ (m : GroupProgram). m.program) is ∙ ap (λ (k : ℕ). program_without c.book (slice_index_or c.groups k [])) place in
-    let same : winners_by made.program (n + 1) text ≡ winners_by (program_without c.book (slice_index_or c.groups n [])) (n + 1) (slice_index_or texts n []) =
-    ap₂ (λ (p : Table) (t : List ℕ). winners_by p (n + 1) t) program at in
+    let same : winners_by (program_without c.book group) (n + 1) text ≡ winners_by (program_without c.book (slice_index_or c.groups n [])) (n + 1) (slice_index_or texts n []) =
+    ap₂ (λ (g t : List ℕ). winners_by (program_without c.book g) (n + 1) t) (is ∙ ap (λ (k : ℕ). slice_index_or c.groups k []) place) at in
     (subst (λ (told : Result (List Choice) Refused). IfOk answer (λ a. told ≡ Ok a)) same won, subst (λ (told : Result (List Choice) Refused). IfErr answer (Refuses told)) same refused)

@@ -1,5 +1,5 @@
 -- What a point of a program wins.
-use Rattle.std.proofs.Common.{◌≡◌, ◌≤◌, ℕ, Bool, true, false, List, [], ◌∷◌, Option, None, Some, length, refl, ap, sym, zero, suc, arith}
+use Rattle.std.proofs.Common.{◌≡◌, ◌∙◌, ◌≤◌, ℕ, Bool, true, false, List, [], ◌∷◌, Option, None, Some, length, refl, ap, sym, subst, zero, suc, arith}
 use Rattle.std.specs.Prelude.{not, ◌&&◌, is_some, slice_get, slice_index_or, IfOk, OnErr, Result, Ok, Err}
 use Rattle.std.specs.Option.{option_map, option_map_or}
 use Rattle.auction_terms.specs.declared.choices.Choice.{Choice}
@@ -7,8 +7,18 @@ use Rattle.auction_terms.specs.Allocations.{Book, IsFeasible, bid_of, is_eligibl
 use Rattle.auction_terms.specs.Packages.{Lots}
 use Rattle.program_rows.specs.Points.{AreAllowed}
 use Rattle.program_rows.specs.Program.{TableColumn, Table}
+use Rattle.auction_terms.specs.Groups.{has}
+use Rattle.auction_terms.specs.Limits.{IsBook}
+use Rattle.auction_terms.specs.Terms.{lots_in}
+use Rattle.bid_desk.specs.Closing.{Closing, book_of}
+use Rattle.group_compiler.specs.Compiled.{program_among, program_without}
+use Rattle.presolve.specs.Flags.{has_choice}
+use Rattle.program_rows.specs.Faithful.{back}
+use Rattle.outcome.proofs.BackLaws.{solutions_come_back}
+use Rattle.outcome.proofs.SomeBidLaws.{all_values, whole_back, whole_told}
+use Rattle.outcome.specs.Coming.{ComesBack}
 use Rattle.outcome.specs.Solution.{solution}
-use Rattle.outcome.specs.PointAllocation.{allocation_of}
+use Rattle.outcome.specs.PointAllocation.{IsMap, all_bidders, allocation_of, by_bidder}
 use Rattle.outcome.specs.declared.fault.SolutionFault.{SolutionFault}
 use Rattle.auction_terms.specs.Stages.{refused_as}
 use Rattle.answers.specs.SolutionWinners.{solution_refused, winners_by}
@@ -61,3 +71,36 @@ pub no-name : {X : Type 0} (name : X → List ℕ) (xs : List X) (k : ℕ) → l
 no-name name [] k least = refl
 no-name name (x ∷ xs) zero least = absurd (omega arith)
 no-name name (x ∷ xs) (suc k) least = no-name name xs k (omega arith)
+
+-- what a solution wins that is taken against the program of kept bids among choices
+module _ (book : Closing) (group : List ℕ) (choices : List Choice) (text : List ℕ) (p : Table) (values : List Bool) (within : IsBook (lots_in book.rules) (book_of book))
+    (is : p ≡ program_among book group choices) (tells : Ok values ≡ solution p text) where
+  abbrev lots : Lots
+  lots = lots_in book.rules
+
+  told : solution (program_among book group choices) text ≡ Ok values
+  told = sym (tells ∙ ap (λ (q : Table). solution q text) is)
+
+  abbrev others : List Bool
+  others = all_values lots (book_of book) (has group) (has_choice choices) text values within told
+
+  whole-told : solution (program_without book group) text ≡ Ok others
+  whole-told = whole_told lots (book_of book) (has group) (has_choice choices) text values within told
+
+  same-back : back (program_without book group).columns others ≡ back (program_among book group choices).columns values
+  same-back = whole_back lots (book_of book) (has group) (has_choice choices) text values within told
+
+  same-allocation : allocation_of (program_without book group) others ≡ allocation_of (program_among book group choices) values
+  same-allocation = ap (λ (bids : List Choice). by_bidder all_bidders bids) same-back
+
+  back-again : ComesBack lots (book_of book) (has group) (program_without book group) others
+  back-again = solutions_come_back lots (book_of book) (has group) text others within whole-told
+
+  pub is-map-by-some : IsMap (back p.columns values)
+  is-map-by-some = rw is (subst IsMap same-back back-again.map)
+
+  pub feasible-by-some : IsFeasible lots (book_of book) (has group) (allocation_of p values)
+  feasible-by-some = rw is (subst (IsFeasible lots (book_of book) (has group)) same-allocation back-again.feasible)
+
+  pub won-by-some : (number : ℕ) → winners_by (program_without book group) number text ≡ Ok (allocation_of p values)
+  won-by-some number = rw is (won-by (program_without book group) number text others _ (sym whole-told) (sym same-allocation))

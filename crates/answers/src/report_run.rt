@@ -4,27 +4,26 @@ ghost use Rattle.std.specs.Prelude.{◌≡◌, ◌≤◌, ◌<◌, ◌++◌, ◌
 ghost use Rattle.group_compiler.specs.declared.limits.TheConstants.{MOST_WORKERS};
 ghost use Rattle.std.specs.List.{zip};
 ghost use Rattle.auction_terms.specs.Groups.{starts_empty};
-ghost use Rattle.group_compiler.specs.Compiled.{compiled};
 ghost use Rattle.outcome.specs.Sale.{sale_of};
 ghost use Rattle.answers.specs.commands.Report.{winners_of_groups};
 ghost use Rattle.auction_input.specs.Refused.{Refuses};
 ghost use Rattle.auction_input.specs.Settled.{held};
 ghost use Rattle.auction_terms.specs.Borrowed.{bytes_of};
 ghost use Rattle.auction_terms.specs.Stages.{each_in_turn};
-ghost use Rattle.answers.specs.SolutionWinners.{winners, winners_by};
+ghost use Rattle.answers.specs.SolutionWinners.{winners};
 ghost use Rattle.answers.specs.inside.SolutionWinners.{IsFirstRefusal};
 
-use crate::winning::allocation_won;
+use crate::winning::won_without;
 use auction_input::{Auction, CountedPart, Refusal};
 use auction_terms::Groups;
 use bid_desk::ClosedBook;
-use group_compiler::{Compiled, Compiler, Maker, OpenGate, make_all};
+use group_compiler::{Compiler, Maker, OpenGate, make_all};
 use outcome::Allocation;
 use std::alloc::{AllocError, Global};
 use std::sync::Wait;
 use std::thread::Threads;
 
-/// Finds what the solution of each group's program wins. A program is compiled, its solution read, and the program dropped.
+/// Finds what the solution of each group's program wins.
 #[derive(Drop)]
 pub struct Winning<'a, 't> {
     compiler: Compiler<'a, 'a>,
@@ -54,9 +53,9 @@ impl<'a, 't> Maker for Winning<'a, 't> {
     ) -> Result<Result<Allocation, Refusal>, AllocError> {
         // Its contract says how many groups there may be, so that the number behind this one is none too great.
         let _few = self.compiler.count();
-        let made = self.compiler.compile(alloc, number + 1)?;
+        let group = self.compiler.group(number + 1);
         let text = text_at(self.solutions, number);
-        Ok(won_by(alloc, self.compiler.book(), &made, number + 1, text))
+        Ok(won_without(alloc, &self.compiler, group, number + 1, text))
     }
 }
 
@@ -143,21 +142,4 @@ fn add(all: &mut Vec<Allocation>, allocation: Allocation) -> Result<(), AllocErr
 {
     all.push(allocation)?;
     Ok(())
-}
-
-// The allocation that a solution of a group's program wins.
-fn won_by(
-    alloc: Global,
-    book: &ClosedBook,
-    made: &Compiled<'_>,
-    solution: usize,
-    text: &[u8],
-) -> Result<Allocation, Refusal>
-    requires { made.now ≡ compiled book.now made.now.group }
-    ensures won { IfOk result (λ a. winners_by made.now.program solution text.now ≡ Ok a) }
-    ensures refuses { IfErr result (Refuses (winners_by made.now.program solution text.now)) }
-{
-    // Its contract says that the book's forms are within limits, which the program's faithfulness asks for.
-    let _within_limits = book.rules();
-    allocation_won(alloc, book, made.group(), made.program(), solution, text)
 }

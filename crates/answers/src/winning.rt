@@ -1,17 +1,20 @@
 //! What a solution wins.
 
-ghost use Rattle.std.specs.Prelude.{◌≡◌, IfErr, IfOk, Ok};
+ghost use Rattle.std.specs.Prelude.{◌≡◌, ℕ, IfErr, IfOk, IfSome, Ok};
 ghost use Rattle.auction_terms.specs.Allocations.{IsFeasible};
 ghost use Rattle.auction_terms.specs.Groups.{has};
 ghost use Rattle.auction_terms.specs.Terms.{lots_in};
 ghost use Rattle.bid_desk.specs.Closing.{book_of};
+ghost use Rattle.group_compiler.specs.Compiled.{program_without};
 ghost use Rattle.program_rows.specs.Faithful.{IsFaithful};
 ghost use Rattle.auction_input.specs.Refused.{Refuses, refused};
 ghost use Rattle.answers.specs.SolutionWinners.{column_name, name_of_row, solution_refused, winners_by};
 
+use crate::named_bids::named_bids;
 use auction_input::Refusal;
 use auction_terms::Group;
 use bid_desk::ClosedBook;
+use group_compiler::Compiler;
 use outcome::{Allocation, SolutionFault, map_back, read_solution};
 use program_rows::Program;
 use std::alloc::{AllocError, Global};
@@ -34,6 +37,57 @@ pub fn allocation_won(
     match read_solution(alloc, text, program) {
         Ok(point) => Ok(map_back(alloc, program, &point)?),
         Err(fault) => Err(refused(alloc, program, solution, fault)?),
+    }
+}
+
+/// The allocation that a solution wins without a group. Its text is read against the program of just those kept bids that
+/// it names, and only where that refuses it against the program of all, which tells why it is refused.
+pub fn won_without(
+    alloc: Global,
+    compiler: &Compiler<'_, '_>,
+    group: &Group,
+    solution: usize,
+    text: &[u8],
+) -> Result<Allocation, Refusal>
+    ensures feasible { IfOk result (λ a. IsFeasible (lots_in compiler.now.book.rules)
+        (book_of compiler.now.book) (has group.now) a) }
+    ensures won { IfOk result (λ a. winners_by (program_without compiler.now.book group.now)
+        solution text.now ≡ Ok a) }
+    ensures refuses { IfErr result (Refuses (winners_by
+        (program_without compiler.now.book group.now) solution text.now)) }
+{
+    // Its contract says that the book's forms are within limits, which the program's faithfulness asks for.
+    let _within_limits = compiler.book().rules();
+    if let Some(allocation) = won_by_named(alloc, compiler, group, text)? {
+        return Ok(allocation);
+    }
+    let program = compiler.program_without(alloc, group)?;
+    allocation_won(alloc, compiler.book(), group, &program, solution, text)
+}
+
+// The allocation that a solution wins by the program of the bids that it names, if that takes it.
+fn won_by_named(
+    alloc: Global,
+    compiler: &Compiler<'_, '_>,
+    group: &Group,
+    text: &[u8],
+) -> Result<Option<Allocation>, AllocError>
+    ensures feasible { IfOk result (λ taken. IfSome taken (λ a.
+        IsFeasible (lots_in compiler.now.book.rules) (book_of compiler.now.book)
+        (has group.now) a)) }
+    ensures won { IfOk result (λ taken. IfSome taken (λ a. (number : ℕ)
+        → winners_by (program_without compiler.now.book group.now) number text.now ≡ Ok a)) }
+{
+    // Its contract says that the book's forms are within limits.
+    let _within_limits = compiler.book().rules();
+    let Some(choices) = named_bids(alloc, text)? else {
+        return Ok(None);
+    };
+    let program = compiler.program_among(alloc, group, choices)?;
+    match read_solution(alloc, text, &program) {
+        Ok(point) => Ok(Some(map_back(alloc, &program, &point)?)),
+        Err(SolutionFault::OutOfMemory) => Err(AllocError),
+        Err(_) => Ok(None),
     }
 }
 

@@ -12,11 +12,11 @@ ghost use Rattle.auction_terms.specs.Terms.{lots_in};
 ghost use Rattle.bid_desk.specs.Closing.{book_of};
 ghost use Rattle.group_compiler.specs.Compiled.{program_without};
 
-use crate::winning::allocation_won;
+use crate::winning::won_without;
 use auction_input::{Auction, Refusal, Request, only_text, read_auction};
 use auction_terms::Groups;
 use bid_desk::ClosedBook;
-use group_compiler::compile_one;
+use group_compiler::Compiler;
 use mps_text::Sink;
 use outcome::{Allocation, write_allocation};
 use std::alloc::Global;
@@ -59,36 +59,29 @@ fn write_winners<R: Threads + Wait + Sync + AllocGlobal, S: Sink>(
         return Err(Refusal::NoGroup { group: k });
     }
     let solution = only_text(auction.solutions.as_slice());
-    let allocation = won_without(rt, book, groups, k, solution)?;
+    let allocation = won_by_group(rt, book, groups, k, solution)?;
     write_allocation(book, &allocation, out)?;
     Ok(())
 }
 
 // What the solution of the program of group k wins.
-fn won_without<R: Threads + Wait + Sync + AllocGlobal>(
+fn won_by_group<R: Threads + Wait + Sync + AllocGlobal>(
     rt: &R,
     book: &ClosedBook,
     groups: &Groups,
     k: usize,
-    solution: &[u8],
+    text: &[u8],
 ) -> Result<Allocation, Refusal>
     requires some { 1 ≤ k }
     requires within { k ≤ length groups.now }
     ensures feasible { IfOk result (λ a. IsFeasible (lots_in book.now.rules) (book_of book.now)
         (λ b. false) a) }
     ensures won { IfOk result (λ a. winners_by
-        (program_without book.now (slice_index_or groups.now (k - 1) [])) 1 solution.now ≡ Ok a) }
+        (program_without book.now (slice_index_or groups.now (k - 1) [])) 1 text.now ≡ Ok a) }
     ensures refuses { IfErr result (Refuses (winners_by
-        (program_without book.now (slice_index_or groups.now (k - 1) [])) 1 solution.now)) }
+        (program_without book.now (slice_index_or groups.now (k - 1) [])) 1 text.now)) }
 {
     let alloc: Global = rt.alloc();
-    let compiled = compile_one(rt, alloc, book, groups, k)?;
-    allocation_won(
-        alloc,
-        book,
-        groups.group(k),
-        compiled.program(),
-        1,
-        solution,
-    )
+    let compiler = Compiler::new(rt, alloc, book, groups)?;
+    won_without(alloc, &compiler, groups.group(k), 1, text)
 }

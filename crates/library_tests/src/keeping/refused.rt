@@ -4,7 +4,7 @@
 use super::KEPT;
 use crate::worked::books::{book_of, worked_book};
 use crate::worked::{ALPHA, RULES};
-use auction_terms::{Kept, KeptBid, Rules, read_groups, read_rules};
+use auction_terms::{Choice, Kept, KeptBid, Rules, read_groups, read_rules};
 use bid_desk::ClosedBook;
 use bid_forms::read_form;
 use presolve::{Flags, by_size, kept};
@@ -126,5 +126,41 @@ fn flags_or_want_of_memory(rt: HostRuntime) -> Result<(), Fail> {
     let all = [(1u16, 1u16), (1, 2), (2, 1), (3, 1)];
     assert!(rt; flags_keep(&rt, rt.alloc(), &book, b"-\n", &all)?);
     assert!(rt; flags_keep(&rt, rt.alloc(), &book, b"Gamma+Alpha\n", &[(2, 1)])?);
+    Ok(())
+}
+
+/// Whether these bids are kept among choices where the bidders of a line are left out.
+fn keeps_among<R: Threads + Sync>(
+    rt: &R,
+    alloc: Global,
+    book: &ClosedBook,
+    line: &[u8],
+    choices: &[Choice],
+    bids: &[(u16, u16)],
+) -> Result<bool, Fail> {
+    let groups = read_groups(alloc, line, book.rules())?;
+    if groups.count() != 1 {
+        return Ok(false);
+    }
+    let flags = Flags::new(rt, alloc, book)?;
+    let choices = Vec::from_slice(alloc, choices)?;
+    let kept = flags.kept_among(alloc, book, groups.group(1), choices)?;
+    Ok(are_kept(&kept, bids))
+}
+
+#[test]
+fn bids_among_choices_or_want_of_memory(rt: HostRuntime) -> Result<(), Fail> {
+    let book = worked_book(&rt, rt.alloc())?;
+    // The bids of Gamma and Alpha that are kept, one of them twice; a dropped one; and none that there are.
+    let choices = [
+        Choice { bidder: 3, bid: 1 },
+        Choice { bidder: 1, bid: 2 },
+        Choice { bidder: 1, bid: 3 },
+        Choice { bidder: 3, bid: 1 },
+        Choice { bidder: 9, bid: 1 },
+        Choice { bidder: 0, bid: 0 },
+    ];
+    assert!(rt; keeps_among(&rt, rt.alloc(), &book, b"-\n", &choices, &[(1, 2), (3, 1)])?);
+    assert!(rt; keeps_among(&rt, rt.alloc(), &book, b"Alpha\n", &choices, &[(3, 1)])?);
     Ok(())
 }

@@ -3,8 +3,8 @@
 
 use super::{ALL, WITHOUT_ALL, WITHOUT_BETA};
 use crate::worked::books::worked_book;
-use auction_terms::read_groups;
-use group_compiler::{Claims, Compiled, OpenGate, compile_all, compile_one};
+use auction_terms::{Choice, read_groups};
+use group_compiler::{Claims, Compiled, Compiler, OpenGate, compile_all, compile_one};
 use mps_text::{MemorySink, WriteFault};
 use std::alloc::Global;
 use std::test::Fail;
@@ -32,6 +32,20 @@ fn one_program_or_want_of_memory(rt: HostRuntime) -> Result<(), Fail> {
     }
     let compiled = compile_one(&rt, rt.alloc(), &book, &groups, 2)?;
     assert!(rt; is_text(rt.alloc(), &compiled, WITHOUT_BETA)?);
+    Ok(())
+}
+
+#[test]
+fn the_program_of_a_choice_or_want_of_memory(rt: HostRuntime) -> Result<(), Fail> {
+    let book = worked_book(&rt, rt.alloc())?;
+    let groups = read_groups(rt.alloc(), b"-\nBeta\n", book.rules())?;
+    if groups.count() != 2 {
+        return Err(Fail::from("groups"));
+    }
+    let compiler = Compiler::new(&rt, rt.alloc(), &book, &groups)?;
+    let choices = vec![in rt.alloc(); Choice { bidder: 2, bid: 1 }, Choice { bidder: 3, bid: 1 }]?;
+    let program = compiler.program_among(rt.alloc(), compiler.group(2), choices)?;
+    assert_eq!(rt; program.column_count(), 1);
     Ok(())
 }
 
