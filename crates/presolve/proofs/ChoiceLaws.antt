@@ -1,6 +1,6 @@
 -- The kept bids that are among choices, choice by choice.
 use Rattle.std.proofs.Common.{◌≡◌, ℕ, zero, suc, ◌+◌, ◌-◌, ◌<◌, ◌≤◌, ◌⊎◌, inl, inr, ⊎_elim, Bool, true, false, not, ◌&&◌, ◌||◌, ◌==◌, cond, List, [], ◌∷◌, ◌++◌, Option, Some, None, length, take, get_or, slice_get, map, slice_index_or, sym, refl, ap, ap₂, ◌∙◌, subst, arith, eqb-true, eq-eqb, take_all}
-use Rattle.std.specs.Prelude.{◌↔◌, All, AllPairs, IsPermutation, IsTrue, filter, sum_by}
+use Rattle.std.specs.Prelude.{◌↔◌, AllPairs, IsPermutation, IsTrue, filter, sum_by}
 use Rattle.std.specs.List.{AllByRecursion, list_any}
 use Rattle.std.specs.Option.{option_map_or}
 use Rattle.std.proofs.lemmas.Bool.{and_parts, and_from, both_ways, cases_lt, false_from_ne_true, or_cases}

@@ -1,6 +1,4 @@
-use Rattle.std.proofs.Common.{ap, subst, ◌∙◌}
-use Rattle.auction_terms.specs.Allocations.{IsFeasible}
-use Rattle.auction_terms.specs.Groups.{has}
+use Rattle.std.proofs.Common.{subst}
 use Rattle.auction_terms.specs.Limits.{IsBook}
 use Rattle.auction_terms.specs.Terms.{lots_in}
 use Rattle.bid_desk.specs.Closing.{Closing, book_of}

@@ -1,12 +1,11 @@
-use Rattle.std.proofs.Common.{◌≡◌, ℕ, ◌∙◌, ◌≤◌, ◌<◌, ◌+◌, ◌-◌, ◌++◌, ◌∷◌, [], inl, inr, length, List, get_or, None, Some, Bool, false, true, sym, ap, ap₂, subst, arith}
-use Rattle.std.specs.Prelude.{filter}
+use Rattle.std.proofs.Common.{◌≡◌, ℕ, ◌∙◌, ◌≤◌, ◌-◌, ◌++◌, [], inl, inr, length, List, get_or, Bool, sym, ap, ap₂, subst, arith}
 use Rattle.std.proofs.lemmas.List.{get_or_default, length-map, map-append}
 use Rattle.std.proofs.lemmas.List.Elements.{All-push}
-use Rattle.auction_terms.specs.Allocations.{bid_at, bid_of, form_of}
+use Rattle.auction_terms.specs.Allocations.{form_of}
 use Rattle.auction_terms.specs.Bids.{IsKeptBid}
 use Rattle.auction_terms.specs.Domination.{is_kept}
 use Rattle.auction_terms.specs.Groups.{has}
-use Rattle.auction_terms.specs.Keeping.{Offer, kept_of}
+use Rattle.auction_terms.specs.Keeping.{Offer}
 use Rattle.auction_terms.specs.Offers.{offer_of, offers}
 use Rattle.auction_terms.specs.Terms.{lots_in}
 use Rattle.auction_terms.specs.declared.bids.Bid.{Bid}
