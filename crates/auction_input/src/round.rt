@@ -36,7 +36,7 @@ impl From<AllocError> for RoundFault {
     }
 }
 
-/// Runs a round over these forms, one thread for each bidder that has some.
+/// Runs a round over these forms: each bidder submits its own in order, in a thread of its own where there are many forms.
 pub fn close_round<R: Threads + Wait + Sync + AllocGlobal>(
     rt: &R,
     rules: Rules,
