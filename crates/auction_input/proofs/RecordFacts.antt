@@ -2,11 +2,11 @@
 use Rattle.std.proofs.Common.{◌≡◌, ◌≤◌, ◌<◌, ◌++◌, ◌∷◌, [], ℕ, Bool, true, false, List, Option, None, Some, Result, Ok, Err, append_assoc, arith, length, length-append, refl, subst}
 use Rattle.std.specs.Prelude.{cond}
 use Rattle.std.specs.List.{AllByRecursion}
-use Rattle.std.specs.Option.{option_map_or}
+use Rattle.std.specs.Option.{option_map_or, option_or}
 use Rattle.std.proofs.lemmas.List.{append-nil}
 use Rattle.std.proofs.lemmas.List.Elements.{filter-append}
 use Rattle.auction_terms.specs.Entries.{terms_of}
-use Rattle.auction_terms.specs.FirstFault.{first_failed, first_fault, option_or}
+use Rattle.auction_terms.specs.FirstFault.{first_failed, first_fault}
 use Rattle.auction_terms.specs.Records.{Record}
 use Rattle.auction_terms.specs.RulesText.{entries_of, entry_fault, header_checks, is_kind, of_kind, record_kind, rules_after, rules_of_records, version_of}
 use Rattle.auction_terms.specs.Stages.{unless}

@@ -1,6 +1,6 @@
 -- The parts of the input. A line that begins with a percent sign heads a part, whose bytes run up to the next such line.
 use Rattle.std.specs.Prelude.{◌≡◌, ◌==◌, ◌+◌, ◌++◌, Bool, true, false, ⊤, ℕ, List, [], ◌∷◌, Option, None, Some, Result, Ok, Err, codes, filter, if◌then◌else◌, is_some, length, map}
-use Rattle.std.specs.Option.{option_map_or}
+use Rattle.std.specs.Option.{option_map_or, option_or}
 use Rattle.std.specs.Str.{bytes_eq}
 use Rattle.auction_input.specs.declared.part_kind.PartKind.TheVariants as kind
 use Rattle.auction_input.specs.declared.part_kind.PartKind.{PartKind}
@@ -10,7 +10,7 @@ use Rattle.auction_input.specs.declared.parts.Parts.{Parts}
 use Rattle.auction_input.specs.declared.request.Request.TheVariants as request
 use Rattle.auction_input.specs.declared.request.Request.{Request}
 use Rattle.auction_terms.specs.Borrowed.{bytes_of}
-use Rattle.auction_terms.specs.FirstFault.{first_failed, first_fault, option_or}
+use Rattle.auction_terms.specs.FirstFault.{first_failed, first_fault}
 use Rattle.auction_terms.specs.Lines.{is_line_feed, lines_of}
 
 abbrev pub onto_first_line : ℕ → List (List ℕ) → List (List ℕ)

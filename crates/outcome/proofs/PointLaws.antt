@@ -3,9 +3,9 @@ use Rattle.std.proofs.Common.{◌≡◌, ℕ, suc, ◌+◌, Bool, true, false, n
 use Rattle.std.specs.Prelude.{position, nat_lt}
 use Rattle.std.specs.List.{AllByRecursion, enumerate_from, position_or_len}
 use Rattle.std.proofs.lemmas.Bool.Decides.{nat_tests}
-use Rattle.std.specs.Option.{option_map}
+use Rattle.std.specs.Option.{option_map, option_or}
 use Rattle.auction_terms.proofs.OfferLaws.{all_agree}
-use Rattle.auction_terms.specs.FirstFault.{option_or, first_fault}
+use Rattle.auction_terms.specs.FirstFault.{first_fault}
 use Rattle.program_rows.specs.Program.{Table, TableColumn}
 use Rattle.program_rows.specs.Points.{allows, meets, row_sum, broken_row, AreAllowed, IsPoint}
 use Rattle.auction_terms.specs.Lines.{lines_of}

@@ -1,9 +1,9 @@
 -- The text of a solution: lines of a column's name and a value.
 use Rattle.std.specs.Prelude.{◌≡◌, ℕ, ◌+◌, Bool, false, true, not, ◌&&◌, ◌||◌, ◌==◌, nat_lt, List, [], ◌∷◌, length, map, slice_index, if◌then◌else◌, Option, None, Some, Result, Ok, Err, bytes_eq}
 use Rattle.std.specs.List.{list_any}
-use Rattle.std.specs.Option.{option_map}
+use Rattle.std.specs.Option.{option_map, option_or}
 use Rattle.std.specs.Result.{result_unwrap_or}
-use Rattle.auction_terms.specs.FirstFault.{option_or, first_failed, first_fault}
+use Rattle.auction_terms.specs.FirstFault.{first_failed, first_fault}
 use Rattle.auction_terms.specs.Lines.{lines_of}
 use Rattle.auction_terms.specs.Stages.{unless}
 use Rattle.program_rows.specs.Program.{Table, TableColumn}
