@@ -5,13 +5,14 @@ use Rattle.std.specs.List.{AllByRecursion}
 use Rattle.std.specs.Option.{option_map_or}
 use Rattle.std.proofs.lemmas.Bool.{and_parts, ltb-true}
 use Rattle.std.proofs.lemmas.List.{length-map}
-use Rattle.auction_terms.specs.Entries.{is_member_of, pool_with, terms_of, weights_in}
+use Rattle.auction_terms.specs.Entries.{is_member_of, pool_with, terms_of}
 use Rattle.auction_terms.specs.FirstFault.{first_failed, first_fault}
 use Rattle.auction_terms.specs.Limits.{IsLots, IsWeightedCap}
 use Rattle.auction_terms.specs.Records.{Record}
 use Rattle.auction_terms.specs.RulesText as rules_text
 use Rattle.auction_terms.specs.RulesText.{are_in_range, category_numbers, category_of, entries_of, entry_fault, field_number, is_between, member_numbers, member_of, number_told, of_kind, pool_numbers, pool_of, record_kind, value_text}
-use Rattle.auction_terms.specs.Terms.{Terms, cap_of, lots_in}
+use Rattle.auction_terms.specs.Terms.{Terms, lots_in}
+use Rattle.auction_terms.specs.inside.Terms.{cap_of}
 use Rattle.auction_terms.specs.declared.limits.TheConstants.{GREATEST_AMOUNT, GREATEST_QUANTITY, GREATEST_VALUE, GREATEST_WEIGHT, MOST_CATEGORIES, MOST_POOLS}
 use Rattle.auction_terms.specs.declared.record_kinds.RecordKind.TheVariants as kind
 use Rattle.auction_terms.specs.declared.record_kinds.Version.{Version}
@@ -96,7 +97,7 @@ weight-in test (member ∷ members) h = by (test member) refl (weight-in test me
     by true is rest = rw is h.0
     by false is rest = rw is rest
 
-weights-in : (members : List Member) (pool : List ℕ) (categories : List Category) → AllByRecursion (λ (member : Member). member.weight ≤ GREATEST_WEIGHT) members → AllByRecursion (λ n. n ≤ GREATEST_WEIGHT) (weights_in categories members pool)
+weights-in : (members : List Member) (pool : List ℕ) (categories : List Category) → AllByRecursion (λ (member : Member). member.weight ≤ GREATEST_WEIGHT) members → AllByRecursion (λ n. n ≤ GREATEST_WEIGHT) (map (λ (category : Category). option_map_or (λ (member : Member). member.weight) (find (is_member_of pool category.name) members) 0) categories)
 weights-in members pool [] h = tt
 weights-in members pool (category ∷ categories) h = (weight-in (is_member_of pool category.name) members h, weights-in members pool categories h)
 

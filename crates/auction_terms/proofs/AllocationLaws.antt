@@ -9,9 +9,10 @@ use Rattle.std.proofs.lemmas.List.Elements.{recursion_from_All, All-from_recursi
 use Rattle.auction_terms.specs.declared.bids.Bid.{Bid}
 use Rattle.auction_terms.specs.declared.choices.Choice.{Choice}
 use Rattle.std.proofs.lemmas.Int.{ints}
-use Rattle.auction_terms.specs.Packages.{Lots, WeightedCap, no_pool, pool_at, fits, is_within, is_within_cap, weighed, left, worth, worth_of_all}
+use Rattle.auction_terms.specs.Packages.{Lots, WeightedCap, pool_at, fits, is_within, weighed, left, worth, worth_of_all}
+use Rattle.auction_terms.specs.inside.Packages.{is_within_cap}
 use Rattle.auction_terms.specs.Domination.{net, is_kept}
-use Rattle.auction_terms.specs.Allocations.{Book, form_of, bid_of, amount_of, quantity_of, weighed_choice, total, load, loads, is_eligible, IsFeasible, IsSized}
+use Rattle.auction_terms.specs.Allocations.{Book, form_of, bid_of, amount_of, quantity_of, weighed_choice, total, loads, is_eligible, IsFeasible, IsSized}
 use Rattle.auction_terms.specs.Keeping.{is_kept_choice, KeptInstead, KeptAreEnough}
 use Rattle.auction_terms.proofs.WeighedLaws.{le_from, weighed_left, weighed_loads}
 use Rattle.auction_terms.proofs.PackageLaws.{within_at, fits_smaller, keeps_the_best}
@@ -34,21 +35,21 @@ module _ (f : ℕ → ℕ) where
   mapped_length a (suc n) = ap suc (mapped_length (a + 1) n)
 
 pub loads_length : (lots : Lots) (book : Book) (a : List Choice) → length (loads lots book a) ≡ length lots.supply
-loads_length lots book a = mapped_length (λ c. load book c a) 0 (length lots.supply)
+loads_length lots book a = mapped_length (λ c. sum_by (quantity_of book c) a) 0 (length lots.supply)
 
-pub loads_at : (lots : Lots) (book : Book) (a : List Choice) (category : ℕ) → category < length lots.supply → slice_index (loads lots book a) category ≡ load book category a
-loads_at lots book a category below = mapped_at (λ c. load book c a) 0 (length lots.supply) category below ∙ ap (λ (c : ℕ). load book c a) (zero-add category)
+pub loads_at : (lots : Lots) (book : Book) (a : List Choice) (category : ℕ) → category < length lots.supply → slice_index (loads lots book a) category ≡ sum_by (quantity_of book category) a
+loads_at lots book a category below = mapped_at (λ c. sum_by (quantity_of book c) a) 0 (length lots.supply) category below ∙ ap (λ (c : ℕ). sum_by (quantity_of book c) a) (zero-add category)
 
-cap_at : (q : List ℕ) (pools : List WeightedCap) (p : ℕ) → list_all (is_within_cap q) pools ≡ true → p < length pools → is_within_cap q (slice_index_or pools p no_pool) ≡ true
+cap_at : (q : List ℕ) (pools : List WeightedCap) (p : ℕ) → list_all (is_within_cap q) pools ≡ true → p < length pools → is_within_cap q (slice_index_or pools p (record { cap = 0; weights = [] })) ≡ true
 cap_at q [] p h l = absurd (omega arith)
 cap_at q (pool ∷ pools) zero h l = (and_parts (is_within_cap q pool) (list_all (is_within_cap q) pools) h).0
 cap_at q (pool ∷ pools) (suc p) h l = cap_at q pools p (and_parts (is_within_cap q pool) (list_all (is_within_cap q) pools) h).1 (omega arith)
 
-caps_from : (q : List ℕ) (pools : List WeightedCap) → ((p : ℕ) → p < length pools → is_within_cap q (slice_index_or pools p no_pool) ≡ true) → list_all (is_within_cap q) pools ≡ true
+caps_from : (q : List ℕ) (pools : List WeightedCap) → ((p : ℕ) → p < length pools → is_within_cap q (slice_index_or pools p (record { cap = 0; weights = [] })) ≡ true) → list_all (is_within_cap q) pools ≡ true
 caps_from q [] h = refl
 caps_from q (pool ∷ pools) h = and_from (is_within_cap q pool) (list_all (is_within_cap q) pools) (h 0 (omega arith)) (caps_from q pools (λ p l. h (suc p) (omega arith)))
 
-pub feasible_at : (lots : Lots) (book : Book) (group : ℕ → Bool) (a : List Choice) → IsFeasible lots book group a → (category : ℕ) → category < length lots.supply → load book category a ≤ slice_index lots.supply category
+pub feasible_at : (lots : Lots) (book : Book) (group : ℕ → Bool) (a : List Choice) → IsFeasible lots book group a → (category : ℕ) → category < length lots.supply → sum_by (quantity_of book category) a ≤ slice_index lots.supply category
 feasible_at lots book group a f category below =
     let w = within_at (loads lots book a) lots.supply category (and_parts (is_within (loads lots book a) lots.supply) (list_all (is_within_cap (loads lots book a)) lots.pools) f.fit).0 in
     let e = loads_at lots book a category below in
@@ -61,7 +62,7 @@ feasible_pool lots book group a sized f p below =
     let e = weighed_loads lots book sized (pool_at lots p).weights a in
     omega arith
 
-pub feasible_from : (lots : Lots) (book : Book) (a : List Choice) → IsSized lots book → ((category : ℕ) → category < length lots.supply → load book category a ≤ slice_index lots.supply category)
+pub feasible_from : (lots : Lots) (book : Book) (a : List Choice) → IsSized lots book → ((category : ℕ) → category < length lots.supply → sum_by (quantity_of book category) a ≤ slice_index lots.supply category)
     → ((p : ℕ) → p < length lots.pools → sum_by (weighed_choice (pool_at lots p).weights book) a ≤ (pool_at lots p).cap) → fits lots (loads lots book a) ≡ true
 feasible_from lots book a sized h k = and_from (is_within (loads lots book a) lots.supply) (list_all (is_within_cap (loads lots book a)) lots.pools)
     (within_from (loads lots book a) lots.supply (loads_length lots book a) (λ category below.
@@ -109,7 +110,7 @@ module _ (lots : Lots) (book : Book) (group : ℕ → Bool) where
         fits = fits_smaller lots v.0.package (loads lots book a) (within_from v.0.package (loads lots book a) (sized c.bidder c.bid v.0 v.1 ∙ sym (loads_length lots book a)) (λ category below.
             let size = loads_length lots book a in
             let here : quantity_of book category c ≡ slice_index v.0.package category = ap (λ o. option_map_or (λ (x : Bid). slice_index x.package category) o 0) v.1 in
-            let part : quantity_of book category c ≤ load book category a = get_or-le-sum_by (quantity_of book category) a k d l in
+            let part : quantity_of book category c ≤ sum_by (quantity_of book category) a = get_or-le-sum_by (quantity_of book category) a k d l in
             let e = loads_at lots book a category (omega arith) in
             omega arith)) f.fit;
       }
@@ -121,7 +122,7 @@ module _ (lots : Lots) (book : Book) (group : ℕ → Bool) where
     kept : AllByRecursion (λ c. is_kept_choice lots book group c ≡ true) choices
     eligible : AllByRecursion (λ c. is_eligible book group c ≡ true) choices
     no_cheaper : sum_by (amount_of book) a + worths lots book choices ≤ sum_by (amount_of book) choices + worths lots book a
-    lighter : (category : ℕ) → load book category choices ≤ load book category a
+    lighter : (category : ℕ) → sum_by (quantity_of book category) choices ≤ sum_by (quantity_of book category) a
 
   -- a bid whose net is below 0 is left out
   left_out : (c : Choice) (a : List Choice) (g : IsGood c) → net lots g.bid <ℤ pos 0 → Replaced a → Replaced (c ∷ a)
@@ -181,8 +182,8 @@ module _ (lots : Lots) (book : Book) (group : ℕ → Bool) where
             let q' : quantity_of book category c' ≡ slice_index k.bid.package category = ap (λ o. option_map_or (λ (x : Bid). slice_index x.package category) o 0) k.stands in
             let less = within_at k.bid.package g.bid.package category k.smaller in
             let others = r.lighter category in
-            let s : load book category (c ∷ a) ≡ quantity_of book category c + load book category a = sum_by-cons (quantity_of book category) c a in
-            let s' : load book category (c' ∷ r.choices) ≡ quantity_of book category c' + load book category r.choices = sum_by-cons (quantity_of book category) c' r.choices in
+            let s : sum_by (quantity_of book category) (c ∷ a) ≡ quantity_of book category c + sum_by (quantity_of book category) a = sum_by-cons (quantity_of book category) c a in
+            let s' : sum_by (quantity_of book category) (c' ∷ r.choices) ≡ quantity_of book category c' + sum_by (quantity_of book category) r.choices = sum_by-cons (quantity_of book category) c' r.choices in
             omega arith;
       }
 

@@ -6,7 +6,8 @@ use Rattle.std.proofs.lemmas.List.Elements.{recursion_from_All}
 use Rattle.auction_terms.specs.declared.limits.TheConstants.{GREATEST_QUANTITY, GREATEST_VALUE, GREATEST_WEIGHT}
 use Rattle.auction_terms.specs.declared.rules.Category.{Category}
 use Rattle.auction_terms.specs.declared.rules.Pool.{Pool}
-use Rattle.auction_terms.specs.Terms.{Terms, IsCategory, IsPool, AreTerms, cap_of, lots_in}
+use Rattle.auction_terms.specs.Terms.{Terms, IsCategory, IsPool, AreTerms, lots_in}
+use Rattle.auction_terms.specs.inside.Terms.{cap_of}
 use Rattle.auction_terms.specs.Limits.{IsLots, IsWeightedCap}
 
 few_lots : (categories : List Category) → AllByRecursion IsCategory categories → AllByRecursion (λ n. n ≤ GREATEST_QUANTITY) (map (λ category. category.supply) categories)

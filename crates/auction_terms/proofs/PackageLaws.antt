@@ -1,11 +1,13 @@
 -- Laws of the order of packages: domination leads to a kept bid.
+use Rattle.std.specs.Prelude.{int_le}
 use Rattle.std.proofs.Common.{◌≡◌, ℕ, zero, suc, ◌<◌, ◌≤◌, Bool, true, false, List, [], ◌∷◌, Some, slice_get, slice_index, refl, arith, leb-true, leb-false, le-leb, lt-ltb, not, nat_lt, ◌&&◌, ◌||◌, ap₂, ⊎_elim, le_refl, inl, inr, pos}
 use Rattle.std.specs.List.{list_any, list_all}
 use Rattle.std.proofs.lemmas.Bool.{and_parts, and_right, and_from, and_cases, or_cases, cases_Bool, not-true, not_from_false, both_ways}
 use Rattle.auction_terms.specs.declared.bids.Bid.{Bid}
 use Rattle.std.proofs.lemmas.Int.{ints}
-use Rattle.auction_terms.specs.Packages.{Lots, fits, size, is_smaller, is_within, is_within_cap}
-use Rattle.auction_terms.specs.Domination.{SmallerSizesSuffice, net, pays, is_no_cheaper, dominates}
+use Rattle.auction_terms.specs.Packages.{Lots, fits, size, is_within}
+use Rattle.auction_terms.specs.inside.Packages.{is_within_cap}
+use Rattle.auction_terms.specs.Domination.{SmallerSizesSuffice, net, pays, dominates}
 use Rattle.auction_terms.specs.Allocations.{bid_at}
 use Rattle.auction_terms.specs.Keeping.{KeptInstead, KeepsTheBest}
 use Rattle.auction_terms.proofs.WeighedLaws.{caps_smaller, int_le_trans, le_test, lt_from}
@@ -108,7 +110,7 @@ keeps_the_best lots form j x at fit = ⊎_elim
 
 smaller_size : (lots : Lots) (x y : Bid) (b : Bool) → dominates lots y x ≡ b → (nat_lt (size y.package) (size x.package) && dominates lots y x) ≡ b
 smaller_size lots x y true d =
-    let e = and_parts (is_smaller y.package x.package) (is_no_cheaper lots y x) d in
+    let e = and_parts (is_within y.package x.package && not (is_within x.package y.package)) (int_le (net lots x) (net lots y)) d in
     let s = and_parts (is_within y.package x.package) (not (is_within x.package y.package)) e.0 in
     and_from _ _ (lt-ltb (size y.package) (size x.package) (size_lt y.package x.package s.0 (not-true (is_within x.package y.package) s.1))) d
 smaller_size lots x y false d = and_right (nat_lt (size y.package) (size x.package)) (dominates lots y x) d

@@ -11,8 +11,9 @@ use Rattle.auction_terms.specs.inside.Terms.{has_values}
 use Rattle.auction_terms.specs.declared.rules.Category.{Category}
 use Rattle.auction_terms.specs.declared.bids.Bid.{Bid}
 use Rattle.auction_terms.specs.declared.choices.Choice.{Choice}
-use Rattle.auction_terms.specs.Packages.{Lots, WeightedCap, is_within, is_within_cap, weighed, left}
-use Rattle.auction_terms.specs.Allocations.{Book, bid_of, quantity_of, weighed_choice, load, loads, IsSized}
+use Rattle.auction_terms.specs.Packages.{Lots, WeightedCap, is_within, weighed, left}
+use Rattle.auction_terms.specs.inside.Packages.{is_within_cap}
+use Rattle.auction_terms.specs.Allocations.{Book, bid_of, quantity_of, weighed_choice, loads, IsSized}
 
 -- ---------- signed numbers ----------
 
@@ -124,7 +125,7 @@ module _ (lots : Lots) (book : Book) (sized : IsSized lots book) where
   pub weighed_loads : (w : List ℕ) (a : List Choice) → weighed w (loads lots book a) ≡ sum_by (weighed_choice w book) a
   weighed_loads w [] = weighed_zero w 0 (length lots.supply)
   weighed_loads w (c ∷ a) =
-      weighed_sum (λ category. load book category (c ∷ a)) (λ category. quantity_of book category c) (λ category. load book category a) (λ category. sum_by-cons (quantity_of book category) c a) w 0 (length lots.supply)
+      weighed_sum (λ category. sum_by (quantity_of book category) (c ∷ a)) (λ category. quantity_of book category c) (λ category. sum_by (quantity_of book category) a) (λ category. sum_by-cons (quantity_of book category) c a) w 0 (length lots.supply)
       ∙ ap (λ (n : ℕ). n + weighed w (loads lots book a)) (one_weighed w (bid_of book c) (λ x e. sized c.bidder c.bid x e))
       ∙ ap (λ (n : ℕ). weighed_choice w book c + n) (weighed_loads w a)
       ∙ sym (sum_by-cons (weighed_choice w book) c a)

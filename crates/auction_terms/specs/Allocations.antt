@@ -33,13 +33,9 @@ quantity_of book category c = option_map_or (λ x. slice_index x.package categor
 abbrev pub weighed_choice : List ℕ → Book → Choice → ℕ
 weighed_choice weights book c = option_map_or (λ x. weighed weights x.package) (bid_of book c) 0
 
--- the sum of the packages in one category
-abbrev pub load : Book → ℕ → List Choice → ℕ
-load book category a = sum_by (quantity_of book category) a
-
--- the sum of the packages
+-- the sum of the packages, in each category
 abbrev pub loads : Lots → Book → List Choice → List ℕ
-loads lots book a = map (λ category. load book category a) (range_with_len 0 (length lots.supply))
+loads lots book a = map (λ category. sum_by (quantity_of book category) a) (range_with_len 0 (length lots.supply))
 
 -- the sum of the amounts, and what the lots are worth that are left
 abbrev pub total : Lots → Book → List Choice → ℕ

@@ -2,19 +2,15 @@
 use Rattle.std.specs.Prelude.{◌≡◌, Bool, not, ◌&&◌, nat_lt, List, ℤ, pos, ◌-ℤ◌, int_le}
 use Rattle.std.specs.List.{list_any}
 use Rattle.auction_terms.specs.declared.bids.Bid.{Bid}
-use Rattle.auction_terms.specs.Packages.{Lots, is_smaller, fits, size, worth}
+use Rattle.auction_terms.specs.Packages.{Lots, is_within, fits, size, worth}
 
 -- the amount, less what the package is worth where it is left
 abbrev pub net : Lots → Bid → ℤ
 net lots x = pos x.amount -ℤ pos (worth lots x.package)
 
--- the second bid's net isn't higher
-abbrev pub is_no_cheaper : Lots → Bid → Bid → Bool
-is_no_cheaper lots x y = int_le (net lots y) (net lots x)
-
--- the first bid dominates the second: its package is smaller, and its net isn't lower
+-- the first bid dominates the second: its package is at most the other's in every category, and different, and its net isn't lower
 abbrev pub dominates : Lots → Bid → Bid → Bool
-dominates lots x y = is_smaller x.package y.package && is_no_cheaper lots x y
+dominates lots x y = (is_within x.package y.package && not (is_within y.package x.package)) && int_le (net lots y) (net lots x)
 
 -- the bid's net isn't below 0: it brings at least what its package is worth where it is left
 abbrev pub pays : Lots → Bid → Bool

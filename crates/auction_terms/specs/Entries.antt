@@ -2,7 +2,7 @@
 use Rattle.std.specs.Prelude.{◌≤◌, Bool, ◌&&◌, ℕ, List, ◌++◌, length, map, find, All}
 use Rattle.std.specs.Option.{option_map_or}
 use Rattle.std.specs.Str.{bytes_eq}
-use Rattle.auction_terms.specs.Terms.{Terms, terms}
+use Rattle.auction_terms.specs.Terms.{Terms}
 use Rattle.auction_terms.specs.declared.draft.Member.{Member}
 use Rattle.auction_terms.specs.declared.draft.NamedCap.{NamedCap}
 use Rattle.auction_terms.specs.declared.rules.Bidder.{Bidder}
@@ -16,9 +16,6 @@ pub record Entries : Type 0 where
   pub pools : List NamedCap
   pub members : List Member
 
-abbrev pub entries : List Category → List Bidder → List NamedCap → List Member → Entries
-entries categories bidders pools members = record { categories = categories; bidders = bidders; pools = pools; members = members }
-
 -- the member makes this category one of this pool
 abbrev pub is_member_of : List ℕ → List ℕ → Member → Bool
 is_member_of pool category member = bytes_eq member.pool pool && bytes_eq member.category category
@@ -27,13 +24,10 @@ is_member_of pool category member = bytes_eq member.pool pool && bytes_eq member
 abbrev pub weight_in : List Member → List ℕ → List ℕ → ℕ
 weight_in members pool category = option_map_or (λ member. member.weight) (find (is_member_of pool category) members) 0
 
--- the weights of all categories in a pool
-abbrev pub weights_in : List Category → List Member → List ℕ → List ℕ
-weights_in categories members pool = map (λ category. weight_in members pool category.name) categories
-
+-- the pool with the weights of all categories in it
 abbrev pub pool_with : List Category → List Member → NamedCap → Pool
-pool_with categories members pool = record { name = pool.name; cap = pool.cap; weights = weights_in categories members pool.name }
+pool_with categories members pool = record { name = pool.name; cap = pool.cap; weights = map (λ category. weight_in members pool.name category.name) categories }
 
 -- the rules that entries make
 abbrev pub terms_of : ℕ → Entries → Terms
-terms_of step e = terms step e.categories e.bidders (map (pool_with e.categories e.members) e.pools)
+terms_of step e = record { step = step; categories = e.categories; bidders = e.bidders; pools = map (pool_with e.categories e.members) e.pools }

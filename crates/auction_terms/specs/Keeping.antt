@@ -1,10 +1,10 @@
 -- What presolve keeps of a book, and what stands in for a bid that it drops.
-use Rattle.std.specs.Prelude.{◌≡◌, ◌⊎◌, ℕ, ◌+◌, ◌≤◌, pos, ◌<ℤ◌, Bool, true, false, not, ◌&&◌, List, [], ◌∷◌, ◌++◌, Some, filter, All}
+use Rattle.std.specs.Prelude.{◌≡◌, ◌⊎◌, ℕ, ◌+◌, ◌≤◌, pos, ◌<ℤ◌, int_le, Bool, true, false, not, ◌&&◌, List, [], ◌∷◌, ◌++◌, Some, filter, All}
 use Rattle.std.specs.Option.{option_map_or}
 use Rattle.auction_terms.specs.declared.bids.Bid.{Bid}
 use Rattle.auction_terms.specs.declared.choices.Choice.{Choice}
 use Rattle.auction_terms.specs.Packages.{Lots, is_within, fits}
-use Rattle.auction_terms.specs.Domination.{net, is_no_cheaper, is_kept}
+use Rattle.auction_terms.specs.Domination.{net, is_kept}
 use Rattle.auction_terms.specs.Allocations.{Book, form_of, bid_at, bid_of, total, IsFeasible, IsSized}
 
 -- a kept bid of the form, with a package at most that of x, and a net at least that of x
@@ -14,7 +14,7 @@ pub record KeptInstead (lots : Lots) (form : List Bid) (x : Bid) : Type 0 where
   pub stands : bid_at form number ≡ Some bid
   pub kept : is_kept lots form bid ≡ true
   pub smaller : is_within bid.package x.package ≡ true
-  pub no_cheaper : is_no_cheaper lots bid x ≡ true
+  pub no_cheaper : int_le (net lots x) (net lots bid) ≡ true
 
 -- every bid that fits has a net below 0, or is kept, or a kept bid of its form is at least as good
 abbrev pub KeepsTheBest : Type 0

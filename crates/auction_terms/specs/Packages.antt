@@ -15,10 +15,6 @@ is_within [] q = true
 is_within (x ∷ p) [] = nat_le x 0 && is_within p []
 is_within (x ∷ p) (y ∷ q) = nat_le x y && is_within p q
 
--- at most in every category, and different
-abbrev pub is_smaller : List ℕ → List ℕ → Bool
-is_smaller p q = is_within p q && not (is_within q p)
-
 -- the sum of the quantities
 abbrev pub size : List ℕ → ℕ
 size [] = 0
@@ -35,9 +31,6 @@ pub record WeightedCap : Type 0 where
   pub cap : ℕ
   pub weights : List ℕ
 
-abbrev pub no_pool : WeightedCap
-no_pool = record { cap = 0; weights = [] }
-
 -- what is for sale
 pub record Lots : Type 0 where
   -- how many lots each category has
@@ -49,15 +42,11 @@ pub record Lots : Type 0 where
 
 -- a pool by its place
 abbrev pub pool_at : Lots → ℕ → WeightedCap
-pool_at lots p = slice_index_or lots.pools p no_pool
-
--- the quantities load a pool no more than its cap
-abbrev pub is_within_cap : List ℕ → WeightedCap → Bool
-is_within_cap quantities pool = nat_le (weighed pool.weights quantities) pool.cap
+pool_at lots p = slice_index_or lots.pools p (record { cap = 0; weights = [] })
 
 -- quantities, of one bid or of several together, that the lots suffice for: no category is above its supply, and no pool above its cap
 abbrev pub fits : Lots → List ℕ → Bool
-fits lots quantities = is_within quantities lots.supply && list_all (is_within_cap quantities) lots.pools
+fits lots quantities = is_within quantities lots.supply && list_all (λ pool. nat_le (weighed pool.weights quantities) pool.cap) lots.pools
 
 -- what quantities are worth where they are left
 abbrev pub worth : Lots → List ℕ → ℕ

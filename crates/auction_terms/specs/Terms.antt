@@ -13,9 +13,6 @@ pub record Terms : Type 0 where
   pub bidders : List Bidder
   pub pools : List Pool
 
-abbrev pub terms : ℕ → List Category → List Bidder → List Pool → Terms
-terms step categories bidders pools = record { step = step; categories = categories; bidders = bidders; pools = pools }
-
 -- a category within its limits
 pub record IsCategory (category : Category) : Type 0 where
   pub supply : category.supply ≤ GREATEST_QUANTITY
@@ -63,18 +60,10 @@ pub record AreTerms (t : Terms) : Type 0 where
 abbrev pub session_count : Terms → ℕ
 session_count t = sum_by (λ bidder. bidder.sessions) t.bidders
 
--- the cap of a pool, without its name
-abbrev pub cap_of : Pool → WeightedCap
-cap_of pool = record { cap = pool.cap; weights = pool.weights }
-
--- what these categories and pools have for sale
-abbrev pub lots_of : List Category → List Pool → Lots
-lots_of categories pools = record {
-  supply = map (λ category. category.supply) categories;
-  values = map (λ category. category.value) categories;
-  pools = map cap_of pools;
-}
-
 -- what these rules have for sale
 abbrev pub lots_in : Terms → Lots
-lots_in t = lots_of t.categories t.pools
+lots_in t = record {
+  supply = map (λ category. category.supply) t.categories;
+  values = map (λ category. category.value) t.categories;
+  pools = map (λ pool. record { cap = pool.cap; weights = pool.weights }) t.pools;
+}

@@ -2,6 +2,7 @@ pub mod Entries
 pub mod FirstFault
 pub mod GroupNames
 pub mod Keeping
+pub mod Packages
 pub mod PlainRecords
 pub mod Records
 pub mod Sources

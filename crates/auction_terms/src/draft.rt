@@ -2,7 +2,7 @@
 
 ghost use Rattle.std.specs.Prelude.{◌≡◌, ◌≤◌, IfOk, find, length, map};
 ghost use Rattle.std.specs.Option.{option_copied};
-ghost use Rattle.auction_terms.specs.Entries.{is_member_of, pool_with, weight_in, weights_in};
+ghost use Rattle.auction_terms.specs.Entries.{is_member_of, pool_with, weight_in};
 ghost use Rattle.auction_terms.specs.declared.limits.TheConstants.{GREATEST_AMOUNT, MOST_BIDDERS, MOST_CATEGORIES, MOST_POOLS};
 
 use crate::names::Name;
@@ -38,8 +38,8 @@ pub(crate) struct Draft {
 }
 
 impl Model for Draft {
-    ghost use Rattle.auction_terms.specs.inside.Entries.{AreEntriesWithinLimits};
-    ghost use Rattle.auction_terms.specs.Entries.{Entries, entries};
+    ghost use Rattle.auction_terms.specs.inside.Entries.{AreEntriesWithinLimits, entries};
+    ghost use Rattle.auction_terms.specs.Entries.{Entries};
 
     ghost Value = { Entries };
 
@@ -50,8 +50,8 @@ impl Model for Draft {
 
 impl Draft {
     ghost use Rattle.std.specs.Prelude.{◌≡◌, ◌≤◌, ◌<◌, [], ◌∷◌, ◌++◌, false, IfOk, OnOk, length};
-    ghost use Rattle.auction_terms.specs.inside.Entries.{IsMember, IsNamedCap};
-    ghost use Rattle.auction_terms.specs.Entries.{entries, terms_of};
+    ghost use Rattle.auction_terms.specs.inside.Entries.{IsMember, IsNamedCap, entries};
+    ghost use Rattle.auction_terms.specs.Entries.{terms_of};
     ghost use Rattle.auction_terms.specs.RulesText.{has_name};
     ghost use Rattle.auction_terms.specs.Terms.{IsBidder, IsCategory};
 
@@ -170,7 +170,8 @@ fn weight_in(members: &[Member], pool: &[u8], category: &[u8]) -> u16
 
 fn weights_in(categories: &[Category], members: &[Member], pool: &[u8]) -> Weights
     requires { length categories.now ≤ MOST_CATEGORIES }
-    ensures { result ≡ weights_in categories.now members.now pool.now }
+    ensures { result ≡ map (λ category. weight_in members.now pool.now category.name)
+        categories.now }
 {
     let mut weights: Quantities = ArrayVec::new();
     for category in categories {

@@ -93,8 +93,9 @@ impl Package {
 
 ghost use Rattle.std.specs.Prelude.{◌≡◌, ◌≤◌, ◌^◌, length, map};
 ghost use Rattle.std.specs.List.{list_all};
-ghost use Rattle.auction_terms.specs.Packages.{IsPackage, is_within, is_within_cap, size, weighed};
-ghost use Rattle.auction_terms.specs.Terms.{cap_of};
+ghost use Rattle.auction_terms.specs.Packages.{IsPackage, is_within, size, weighed};
+ghost use Rattle.auction_terms.specs.inside.Packages.{is_within_cap};
+ghost use Rattle.auction_terms.specs.inside.Terms.{cap_of};
 
 // The quantities, each in two bytes.
 fn quantities_of(quantities: &[u32]) -> Quantities

@@ -1,6 +1,6 @@
 //! Which desk a value belongs to.
 ghost use Rattle.std.specs.Prelude.{ℕ, []};
-ghost use Rattle.auction_terms.specs.Terms.{Terms, terms};
+ghost use Rattle.auction_terms.specs.Terms.{Terms};
 
 use std::marker::Brand;
 use std::sync::ledger::Ledger;
@@ -13,7 +13,7 @@ pub trait Round: Ledger {
 }
 
 impl Round for Brand {
-    ghost rules = { terms 0 [] [] [] };
+    ghost rules = { record { step = 0; categories = []; bidders = []; pools = [] } };
 
     ghost part_count = { 0 };
 }

@@ -4,17 +4,19 @@ use Rattle.std.specs.Prelude.{[], ◌∷◌, Ok, Err, codes}
 use Rattle.csv.specs.Records.{field_at}
 use Rattle.csv.proofs.OnLiterals.{csv_on_literals}
 use Rattle.auction_terms.specs.FirstFault.{first_fault}
-use Rattle.auction_terms.specs.Terms.{Terms, terms}
+use Rattle.auction_terms.specs.Terms.{Terms}
 use Rattle.bid_forms.specs.Offers.{offers_of_bidder}
 use Rattle.bid_forms.specs.FormText.{form_in_text}
 use Rattle.bid_forms.specs.declared.form_text.FormFault.TheVariants as fault
 
 -- two lots of A at 10 each, one of B at 5, and one bidder of eligibility 9
 abbrev rules : Terms
-rules = terms 1
-    (record { name = codes "A"; supply = 2; reserve = 10; points = 1; value = 0 } ∷ record { name = codes "B"; supply = 1; reserve = 5; points = 1; value = 0 } ∷ [])
-    (record { name = codes "Alpha"; eligibility = 9; sessions = 2 } ∷ [])
-    []
+rules = record {
+  step = 1;
+  categories = record { name = codes "A"; supply = 2; reserve = 10; points = 1; value = 0 } ∷ record { name = codes "B"; supply = 1; reserve = 5; points = 1; value = 0 } ∷ [];
+  bidders = record { name = codes "Alpha"; eligibility = 9; sessions = 2 } ∷ [];
+  pools = [];
+}
 
 form : form_in_text rules (codes "Alpha,A,B\n0030,1,0\n") ≡ Ok (offers_of_bidder 1 (record { «package» = 1 ∷ 0 ∷ []; amount = 30 } ∷ []))
 unfolding csv_on_literals first_fault field_at

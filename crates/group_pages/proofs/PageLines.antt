@@ -11,7 +11,8 @@ use Rattle.program_rows.specs.declared.row.Row.{Row}
 use Rattle.program_rows.specs.declared.subject.Subject.TheVariants as subject
 use Rattle.program_rows.specs.Parts.{shown_row}
 use Rattle.program_rows.specs.Program.{TableRow, TableColumn}
-use Rattle.auction_terms.specs.Terms.{Terms, lots_in, cap_of}
+use Rattle.auction_terms.specs.Terms.{Terms, lots_in}
+use Rattle.auction_terms.specs.inside.Terms.{cap_of}
 use Rattle.auction_terms.specs.declared.rules.Category.{Category}
 use Rattle.auction_terms.specs.declared.rules.Pool.{Pool}
 use Rattle.program_rows.specs.Rows.{bidder_subjects, lot_subjects, subjects, row_of, column_of}

@@ -10,7 +10,7 @@ use Rattle.std.proofs.lemmas.List.Sums.{sum_by-append, length-filter}
 use Rattle.std.proofs.lemmas.List.Elements.{recursion_from_All, All-from_recursion}
 use Rattle.auction_terms.specs.declared.choices.Choice.{Choice}
 use Rattle.auction_terms.specs.declared.limits.TheConstants.{MOST_BIDDERS, MOST_BIDS}
-use Rattle.auction_terms.specs.Allocations.{Book, amount_of, quantity_of, load, loads, is_eligible}
+use Rattle.auction_terms.specs.Allocations.{Book, amount_of, quantity_of, loads, is_eligible}
 use Rattle.auction_terms.proofs.OfferLaws.{sum_zero, sum_agree, sum_plus, sum_filter, all_agree, all_append, all_filter}
 use Rattle.program_rows.specs.Program.{Table, TableColumn}
 use Rattle.program_rows.specs.Spelling.{column_bid, is_bid}
@@ -82,7 +82,7 @@ same_each f g each [] = refl
 same_each f g each (n ∷ ns) = ap₂ (λ (x : ℕ) (xs : List ℕ). x ∷ xs) (each n) (same_each f g each ns)
 
 pub same_loads : (lots : Lots) (book : Book) (choices : List Choice) → AllByRecursion IsBidder choices → loads lots book (by_bidder all_bidders choices) ≡ loads lots book choices
-same_loads lots book choices h = same_each (λ category. load book category (by_bidder all_bidders choices)) (λ category. load book category choices) (λ category. same_sum (quantity_of book category) choices h) (range_with_len 0 (length lots.supply))
+same_loads lots book choices h = same_each (λ category. sum_by (quantity_of book category) (by_bidder all_bidders choices)) (λ category. sum_by (quantity_of book category) choices) (λ category. same_sum (quantity_of book category) choices h) (range_with_len 0 (length lots.supply))
 
 -- ---- what holds of all choices
 

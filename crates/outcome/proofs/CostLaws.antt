@@ -7,7 +7,7 @@ use Rattle.std.proofs.lemmas.Int.{ints}
 use Rattle.std.proofs.lemmas.List.Filters.{sum_by-filter_both}
 use Rattle.std.proofs.lemmas.List.Elements.{recursion_from_All, All-from_recursion}
 use Rattle.auction_terms.specs.declared.choices.Choice.{Choice}
-use Rattle.auction_terms.specs.Allocations.{Book, bid_of, amount_of, quantity_of, weighed_choice, load, loads, total, is_eligible, IsFeasible}
+use Rattle.auction_terms.specs.Allocations.{Book, bid_of, amount_of, quantity_of, weighed_choice, loads, total, is_eligible, IsFeasible}
 use Rattle.auction_terms.proofs.OfferLaws.{all_filter, all_agree}
 use Rattle.auction_terms.specs.Groups.{has}
 use Rattle.auction_terms.specs.Packages.{Lots, is_within, left, worth, worth_of_all}
@@ -51,7 +51,7 @@ module _ (lots : Lots) (book : Book) (group : List ℕ) where
   parted f a = sum_by-filter_both inside outside (λ x. refl) f a
 
   fewer : (a : List Choice) → is_within (loads lots book (filter outside a)) (loads lots book a) ≡ true
-  fewer a = within_each (λ category. load book category (filter outside a)) (λ category. load book category a) (λ category. let e = parted (quantity_of book category) a in omega arith) 0 (length lots.supply)
+  fewer a = within_each (λ category. sum_by (quantity_of book category) (filter outside a)) (λ category. sum_by (quantity_of book category) a) (λ category. let e = parted (quantity_of book category) a in omega arith) 0 (length lots.supply)
 
   -- without the group at least as much is left
   more_left : (a : List Choice) → worth lots (left lots.supply (loads lots book a)) ≤ worth lots (left lots.supply (loads lots book (filter outside a)))

@@ -4,7 +4,7 @@ ghost use Rattle.std.specs.Prelude.{◌≡◌, ◌<◌, ◌≤◌, ◌*◌, ◌-
 ghost use Rattle.auction_terms.specs.Packages.{left, worth};
 ghost use Rattle.auction_terms.specs.Terms.{lots_in};
 ghost use Rattle.auction_terms.specs.declared.limits.TheConstants.{GREATEST_QUANTITY, GREATEST_VALUE, MOST_CATEGORIES};
-ghost use Rattle.auction_terms.specs.Allocations.{load, loads};
+ghost use Rattle.auction_terms.specs.Allocations.{loads, quantity_of};
 ghost use Rattle.bid_desk.specs.Closing.{book_of};
 
 use crate::sale::quantity_of;
@@ -13,7 +13,7 @@ use bid_desk::ClosedBook;
 
 /// How many lots of a category the choices take.
 fn lots_taken(book: &ClosedBook, category: usize, choices: &[Choice]) -> u128
-    ensures load { result ≡ load (book_of book.now) category choices.now }
+    ensures load { result ≡ sum_by (quantity_of (book_of book.now) category) choices.now }
     ensures small { result ≤ length choices.now * 2 ^ 16 }
 {
     let mut lots: u128 = 0;

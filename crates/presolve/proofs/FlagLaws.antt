@@ -6,15 +6,15 @@ use Rattle.std.proofs.lemmas.Bool.{and_parts, cases_Bool, both_ways, cond-true, 
 use Rattle.std.proofs.lemmas.List.Elements.{recursion_from_All, All-from_recursion}
 use Rattle.std.proofs.lemmas.List.Sorted.{All-permutation, list_any-IsPermutation}
 use Rattle.auction_terms.specs.declared.bids.Bid.{Bid}
-use Rattle.auction_terms.specs.Packages.{Lots, is_within, is_smaller, fits, size}
-use Rattle.auction_terms.specs.Domination.{is_no_cheaper, dominates, pays, is_kept}
+use Rattle.auction_terms.specs.Packages.{Lots, is_within, fits, size}
+use Rattle.auction_terms.specs.Domination.{net, dominates, pays, is_kept}
 use Rattle.auction_terms.proofs.PackageLaws.{fits_smaller, size_le, size_lt}
 use Rattle.presolve.specs.declared.order.SizedBid.{SizedBid}
 use Rattle.presolve.specs.Sizes.{IsUpTo}
 use Rattle.presolve.specs.inside.Sizes.{Sized, sized_of, fitting_from, IsOrdered, AreRivals, TellsItsSize, TellsItsNet, beats}
 
 abbrev beats_sized : Lots → Bid → Sized → Bool
-beats_sized lots x s = nat_lt s.size (size x.package) && (is_no_cheaper lots s.bid x && is_within s.bid.package x.package)
+beats_sized lots x s = nat_lt s.size (size x.package) && (int_le (net lots x) (net lots s.bid) && is_within s.bid.package x.package)
 
 -- what bids tell of their sizes and nets is so
 beats_told : (lots : Lots) (x s : SizedBid) → TellsItsSize x → TellsItsNet lots x → TellsItsNet lots s → beats x s ≡ beats_sized lots x.bid.now (sized_of s)
@@ -51,14 +51,14 @@ tests false false false around h k = refl
 
 same_test : (lots : Lots) (x y : Bid) (j : ℕ) → beats_sized lots x (sized j y) ≡ dominates lots y x
 same_test lots x y j =
-    tests (nat_lt (size y.package) (size x.package)) (is_no_cheaper lots y x) (is_within y.package x.package) (is_within x.package y.package)
+    tests (nat_lt (size y.package) (size x.package)) (int_le (net lots x) (net lots y)) (is_within y.package x.package) (is_within x.package y.package)
     (λ a. le-ltb (size y.package) (size x.package) (size_le x.package y.package a))
     (λ w a. lt-ltb (size y.package) (size x.package) (size_lt y.package x.package w a))
 
 -- a bid that doesn't fit dominates none that fits
 dominates_none : (lots : Lots) (x y : Bid) → fits lots x.package ≡ true → fits lots y.package ≡ false → dominates lots y x ≡ false
 dominates_none lots x y fit unfit = ⊎_elim
-    (λ d. let s = (and_parts (is_within y.package x.package) (not (is_within x.package y.package)) (and_parts (is_smaller y.package x.package) (is_no_cheaper lots y x) d).0).0 in
+    (λ d. let s = (and_parts (is_within y.package x.package) (not (is_within x.package y.package)) (and_parts (is_within y.package x.package && not (is_within x.package y.package)) (int_le (net lots x) (net lots y)) d).0).0 in
     absurd (both_ways (fits lots y.package) unfit (fits_smaller lots y.package x.package s fit)))
     (λ d. d)
     (cases_Bool (dominates lots y x))

@@ -10,7 +10,8 @@ use Rattle.auction_terms.specs.declared.rules.Category as declared
 use Rattle.auction_terms.specs.declared.limits.TheConstants.{MOST_BIDDERS}
 use Rattle.auction_terms.specs.Bids.{AreKept}
 use Rattle.auction_terms.specs.Packages.{Lots}
-use Rattle.auction_terms.specs.Terms.{Terms, cap_of, lots_in}
+use Rattle.auction_terms.specs.Terms.{Terms, lots_in}
+use Rattle.auction_terms.specs.inside.Terms.{cap_of}
 use Rattle.auction_terms.specs.Offers.{offer_of, offers}
 use Rattle.auction_terms.specs.Keeping.{Offer}
 use Rattle.auction_terms.specs.Limits.{AreOffers}

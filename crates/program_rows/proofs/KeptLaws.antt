@@ -9,7 +9,8 @@ use Rattle.auction_terms.specs.declared.rules.Pool.{Pool}
 use Rattle.auction_terms.specs.declared.bids.KeptBid.{KeptBid}
 use Rattle.auction_terms.specs.declared.limits.TheConstants.{GREATEST_QUANTITY, GREATEST_VALUE, GREATEST_WEIGHT}
 use Rattle.auction_terms.specs.Packages.{Lots}
-use Rattle.auction_terms.specs.Terms.{Terms, IsCategory, IsPool, AreTerms, cap_of, lots_in}
+use Rattle.auction_terms.specs.Terms.{Terms, IsCategory, IsPool, AreTerms, lots_in}
+use Rattle.auction_terms.specs.inside.Terms.{cap_of}
 use Rattle.auction_terms.specs.Bids.{IsKeptBid, Precedes, AreKept}
 use Rattle.auction_terms.specs.Limits.{IsLots, IsWeightedCap, IsOffer, IsBefore, AreOffers}
 use Rattle.auction_terms.specs.Offers.{offer_of, offers}

@@ -80,8 +80,9 @@ impl Subject {
 
 ghost use Rattle.std.specs.Prelude.{◌≡◌, ◌≤◌, ◌<◌, ◌^◌, All, length, map, slice_index, slice_index_or};
 ghost use Rattle.auction_terms.specs.declared.limits.TheConstants.{GREATEST_AMOUNT, GREATEST_QUANTITY};
-ghost use Rattle.auction_terms.specs.Packages.{IsPackage, no_pool, weighed};
-ghost use Rattle.auction_terms.specs.Terms.{IsCategory, IsPool, cap_of};
+ghost use Rattle.auction_terms.specs.Packages.{IsPackage, weighed};
+ghost use Rattle.auction_terms.specs.Terms.{IsCategory, IsPool};
+ghost use Rattle.auction_terms.specs.inside.Terms.{cap_of};
 
 use auction_terms::{Category, Package, Pool};
 
@@ -99,7 +100,8 @@ fn supply_at(categories: &[Category], place: usize) -> u64
 fn cap_at(pools: &[Pool], place: usize) -> u64
     requires place { place < length pools.now }
     requires limits { All IsPool pools.now }
-    ensures cap { result ≡ (slice_index_or (map cap_of pools.now) place no_pool).cap }
+    ensures cap { result ≡ (slice_index_or (map cap_of pools.now) place
+        (record { cap = 0; weights = [] })).cap }
     ensures limit { result ≤ GREATEST_AMOUNT }
 {
     pools[place].cap
@@ -117,7 +119,8 @@ fn quantity_at(quantities: &[u16], place: usize) -> u64
 // How much of a bid counts in a pool, in the same words.
 fn load_at(pools: &[Pool], place: usize, package: &Package) -> u64
     requires { place < length pools.now }
-    ensures load { result ≡ weighed (slice_index_or (map cap_of pools.now) place no_pool).weights
+    ensures load { result ≡ weighed (slice_index_or (map cap_of pools.now) place
+        (record { cap = 0; weights = [] })).weights
         «package».now }
     ensures limit { result ≤ 2 ^ 37 }
 {

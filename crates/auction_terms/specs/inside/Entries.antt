@@ -6,7 +6,12 @@ use Rattle.auction_terms.specs.Terms.{AllDiffer, IsBidder, IsCategory}
 use Rattle.auction_terms.specs.declared.draft.Member.{Member}
 use Rattle.auction_terms.specs.declared.draft.NamedCap.{NamedCap}
 use Rattle.auction_terms.specs.declared.limits.TheConstants.{GREATEST_AMOUNT, GREATEST_WEIGHT, MOST_BIDDERS, MOST_CATEGORIES, MOST_POOLS}
-use Rattle.auction_terms.specs.Entries.{Entries, entries}
+use Rattle.auction_terms.specs.Entries.{Entries}
+use Rattle.auction_terms.specs.declared.rules.Bidder.{Bidder}
+use Rattle.auction_terms.specs.declared.rules.Category.{Category}
+
+abbrev pub entries : List Category → List Bidder → List NamedCap → List Member → Entries
+entries categories bidders pools members = record { categories = categories; bidders = bidders; pools = pools; members = members }
 
 -- what some records tell, and then others
 abbrev pub both : Entries → Entries → Entries

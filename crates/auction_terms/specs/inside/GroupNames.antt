@@ -2,9 +2,8 @@
 use Rattle.std.specs.Prelude.{Bool, ◌==◌, ℕ, List, [], Option, None, Some, codes, if◌then◌else◌}
 use Rattle.std.specs.List.{slice_split}
 use Rattle.std.specs.Str.{bytes_eq}
-use Rattle.auction_terms.specs.GroupNames.{is_plus}
 
 -- the names in what is left of a line
 abbrev pub names_left : Option (List ℕ) → List (List ℕ)
 names_left None = []
-names_left (Some text) = slice_split is_plus text
+names_left (Some text) = slice_split (λ b. b == 43) text

@@ -1,7 +1,7 @@
 use Rattle.std.proofs.Common.{◌≡◌, drop, map}
 use Rattle.std.specs.List.{list_all}
-use Rattle.auction_terms.specs.Packages.{is_within_cap}
-use Rattle.auction_terms.specs.Terms.{cap_of}
+use Rattle.auction_terms.specs.inside.Packages.{is_within_cap}
+use Rattle.auction_terms.specs.inside.Terms.{cap_of}
 use Rattle.auction_terms.proofs.packages.within_caps.Given as goal
 
 abbrev pub invariant-loop-place : goal.invariant-loop-place

@@ -1,11 +1,11 @@
 use Rattle.std.proofs.Common.{◌≡◌, ◌≤◌, ◌*◌, ◌^◌, take}
-use Rattle.auction_terms.specs.Allocations.{load}
+use Rattle.auction_terms.specs.Allocations.{quantity_of}
 use Rattle.bid_desk.specs.Closing.{book_of}
 use Rattle.outcome.proofs.unsold.lots_taken.Given as goal
 
 -- the lots so far
 abbrev pub invariant-loop-choice : goal.invariant-loop-choice
 invariant-loop-choice l = record {
-  lots_are : l.lots ≡ load (book_of l.book) l.category (take l.choice-index l.choices);
+  lots_are : l.lots ≡ sum_by (quantity_of (book_of l.book) l.category) (take l.choice-index l.choices);
   small : l.lots ≤ l.choice-index * 2 ^ 16;
 }

@@ -2,7 +2,8 @@ use Rattle.std.proofs.Common.{◌≡◌, ◌+◌, ◌++◌, ◌∙◌, ap, arith
 use Rattle.std.specs.List.{range_with_len}
 use Rattle.std.proofs.lemmas.List.{length-map}
 use Rattle.auction_terms.specs.Offers.{offer_of}
-use Rattle.auction_terms.specs.Terms.{cap_of, lots_in}
+use Rattle.auction_terms.specs.Terms.{lots_in}
+use Rattle.auction_terms.specs.inside.Terms.{cap_of}
 use Rattle.program_rows.specs.declared.subject.Subject.TheVariants.{Pool}
 use Rattle.program_rows.specs.Rows.{entries_from}
 use Rattle.program_rows.proofs.BuildLaws.{entry_end, entry_step}

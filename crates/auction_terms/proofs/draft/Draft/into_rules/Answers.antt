@@ -1,5 +1,6 @@
 use Rattle.std.proofs.Common.{◌≡◌, ap, map, rules, sym}
-use Rattle.auction_terms.specs.Entries.{entries, pool_with}
+use Rattle.auction_terms.specs.Entries.{pool_with}
+use Rattle.auction_terms.specs.inside.Entries.{entries}
 use Rattle.auction_terms.proofs.TermsFacts.{terms-limits}
 use Rattle.auction_terms.proofs.draft.Draft.into_rules.Goals as goal
 
