@@ -11,7 +11,7 @@ use Rattle.auction_terms.specs.Limits.{IsBid, IsBook}
 use Rattle.auction_terms.specs.Packages.{Lots}
 use Rattle.auction_terms.specs.Records.{Record}
 use Rattle.auction_terms.specs.RulesText as rules_text
-use Rattle.auction_terms.specs.RulesText.{bidder_of, entries_of, entry_fault, record_field, is_kind, record_kind, field_number, of_kind, rules_of, rules_of_records, version_of}
+use Rattle.auction_terms.specs.RulesText.{bidder_of, entries_of, entry_fault, record_field, is_kind, record_kind, field_number, of_kind, version_of}
 use Rattle.auction_terms.specs.Terms.{Terms, lots_in}
 use Rattle.auction_terms.specs.declared.bids.Bid.{Bid}
 use Rattle.auction_terms.specs.declared.limits.TheConstants.{GREATEST_QUANTITY, MOST_BIDDERS, MOST_BIDS}
@@ -37,7 +37,7 @@ use Rattle.auction_input.proofs.RecordFacts.{few-of-kind, neither, none-failed, 
 bidder-room : (v : Version) (before : List Record) (r : Record) → record_kind v r ≡ Some kind.Bidder → entry_fault v before r ≡ None → length (of_kind v kind.Bidder before) < MOST_BIDDERS
 bidder-room v before r is free =
     let place = length before + 2 in
-    let here : List (Bool × RulesFault) = (length r == rules_text.field_count v, rules_fault.FieldCount place) ∷ rules_text.bidder_checks place (entries_of v before).bidders r in
+    let here : List (Bool × RulesFault) = (length r == rules_text.field_count v, rules_fault.FieldCount place) ∷ rules_text.kind_checks v place (entries_of v before) r kind.Bidder in
     let none_here : first_failed here ≡ None = rw is at free in
     let checks = none-failed here none_here in
     let room : nat_lt (length (map bidder_of (of_kind v kind.Bidder before))) MOST_BIDDERS ≡ true = checks.1.1.1.1.1.0 in

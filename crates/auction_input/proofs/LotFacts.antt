@@ -1,7 +1,7 @@
 -- The lots that an input tells are within the limits.
 use Rattle.std.proofs.Common.{◌≡◌, ◌≤◌, ◌<◌, ◌+◌, ◌==◌, ◌∷◌, [], ℕ, Bool, true, false, List, None, Some, Ok, arith, leb-true, length, map, refl}
 use Rattle.std.specs.Prelude.{find, nat_le, nat_lt}
-use Rattle.std.specs.List.{AllByRecursion}
+use Rattle.std.specs.List.{AllByRecursion, list_all}
 use Rattle.std.specs.Option.{option_map_or}
 use Rattle.std.proofs.lemmas.Bool.{and_parts, ltb-true}
 use Rattle.std.proofs.lemmas.List.{length-map}
@@ -10,7 +10,7 @@ use Rattle.auction_terms.specs.FirstFault.{first_failed, first_fault}
 use Rattle.auction_terms.specs.Limits.{IsLots, IsWeightedCap}
 use Rattle.auction_terms.specs.Records.{Record}
 use Rattle.auction_terms.specs.RulesText as rules_text
-use Rattle.auction_terms.specs.RulesText.{are_in_range, category_numbers, category_of, entries_of, entry_fault, field_number, is_between, member_numbers, member_of, number_told, of_kind, pool_numbers, pool_of, record_kind, value_text}
+use Rattle.auction_terms.specs.RulesText.{category_of, entries_of, entry_fault, field_number, is_between, member_of, number_told, entry_numbers, of_kind, pool_of, record_kind, value_text}
 use Rattle.auction_terms.specs.Terms.{Terms, lots_in}
 use Rattle.auction_terms.specs.inside.Terms.{cap_of}
 use Rattle.auction_terms.specs.declared.limits.TheConstants.{GREATEST_AMOUNT, GREATEST_QUANTITY, GREATEST_VALUE, GREATEST_WEIGHT, MOST_CATEGORIES, MOST_POOLS}
@@ -27,10 +27,10 @@ use Rattle.auction_input.proofs.RecordFacts.{each-of-kind, few-of-kind, none-fai
 
 -- ---- a record without a fault
 
-in-range : (numbers : List (List ℕ × ℕ × ℕ)) → are_in_range numbers ≡ true → AllByRecursion (λ n. number_told n.0 ≤ n.2) numbers
+in-range : (numbers : List (List ℕ × ℕ × ℕ)) → list_all (λ (n : List ℕ × ℕ × ℕ). is_between n.1 n.2 (number_told n.0)) numbers ≡ true → AllByRecursion (λ n. number_told n.0 ≤ n.2) numbers
 in-range [] are = tt
 in-range (n ∷ numbers) are =
-    let parts = and_parts (is_between n.1 n.2 (number_told n.0)) (are_in_range numbers) are in
+    let parts = and_parts (is_between n.1 n.2 (number_told n.0)) (list_all (λ (n : List ℕ × ℕ × ℕ). is_between n.1 n.2 (number_told n.0)) numbers) are in
     let here = and_parts (nat_le n.1 (number_told n.0)) (nat_le (number_told n.0) n.2) parts.0 in
     (leb-true (number_told n.0) n.2 here.1, in-range numbers parts.1)
 
@@ -42,10 +42,10 @@ category-checks : (v : Version) (before : List Record) (r : Record) → record_k
     → IsCategoryRecord v r × (length (of_kind v kind.Category before) < MOST_CATEGORIES)
 category-checks v before r is free =
     let place = length before + 2 in
-    let here : List (Bool × RulesFault) = (length r == rules_text.field_count v, rules_fault.FieldCount place) ∷ rules_text.category_checks v place (entries_of v before).categories r in
+    let here : List (Bool × RulesFault) = (length r == rules_text.field_count v, rules_fault.FieldCount place) ∷ rules_text.kind_checks v place (entries_of v before) r kind.Category in
     let none_here : first_failed here ≡ None = rw is at free in
     let checks = none-failed here none_here in
-    let ranges = in-range (category_numbers v r) checks.1.1.1.0 in
+    let ranges = in-range (entry_numbers v r kind.Category) checks.1.1.1.0 in
     let room : nat_lt (length (map (category_of v) (of_kind v kind.Category before))) MOST_CATEGORIES ≡ true = checks.1.1.1.1.1.0 in
     let below = ltb-true _ _ room in
     let count = length-map (of_kind v kind.Category before) (category_of v) in (
@@ -57,10 +57,10 @@ pool-checks : (v : Version) (before : List Record) (r : Record) → record_kind 
     → (field_number 3 r ≤ GREATEST_AMOUNT) × (length (of_kind v kind.Pool before) < MOST_POOLS)
 pool-checks v before r is free =
     let place = length before + 2 in
-    let here : List (Bool × RulesFault) = (length r == rules_text.field_count v, rules_fault.FieldCount place) ∷ rules_text.pool_checks place (entries_of v before).pools r in
+    let here : List (Bool × RulesFault) = (length r == rules_text.field_count v, rules_fault.FieldCount place) ∷ rules_text.kind_checks v place (entries_of v before) r kind.Pool in
     let none_here : first_failed here ≡ None = rw is at free in
     let checks = none-failed here none_here in
-    let ranges = in-range (pool_numbers r) checks.1.1.1.0 in
+    let ranges = in-range (entry_numbers v r kind.Pool) checks.1.1.1.0 in
     let room : nat_lt (length (map pool_of (of_kind v kind.Pool before))) MOST_POOLS ≡ true = checks.1.1.1.1.1.0 in
     let below = ltb-true _ _ room in
     let count = length-map (of_kind v kind.Pool before) pool_of in
@@ -69,10 +69,10 @@ pool-checks v before r is free =
 member-checks : (v : Version) (before : List Record) (r : Record) → record_kind v r ≡ Some kind.Member → entry_fault v before r ≡ None → field_number 4 r ≤ GREATEST_WEIGHT
 member-checks v before r is free =
     let place = length before + 2 in
-    let here : List (Bool × RulesFault) = (length r == rules_text.field_count v, rules_fault.FieldCount place) ∷ rules_text.member_checks place (entries_of v before) r in
+    let here : List (Bool × RulesFault) = (length r == rules_text.field_count v, rules_fault.FieldCount place) ∷ rules_text.kind_checks v place (entries_of v before) r kind.Member in
     let none_here : first_failed here ≡ None = rw is at free in
     let checks = none-failed here none_here in
-    (in-range (member_numbers r) checks.1.1.1.0).0
+    (in-range (entry_numbers v r kind.Member) checks.1.1.1.0).0
 
 -- ---- what records without a fault make
 
