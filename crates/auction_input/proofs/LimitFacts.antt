@@ -1,6 +1,6 @@
 -- The book that an input leaves is within the limits.
 use Rattle.std.proofs.Common.{◌≡◌, ◌≤◌, ◌<◌, ◌+◌, ◌==◌, ◌++◌, ◌∷◌, ◌∙◌, [], ℕ, zero, suc, Bool, true, false, List, Option, None, Some, Result, Ok, Err, append_assoc, arith, drop, eqb-true, leb-true, length, length-append, map, refl, subst, sym}
-use Rattle.std.specs.Prelude.{cond, filter, nat_lt}
+use Rattle.std.specs.Prelude.{cond, filter, is_some, nat_lt}
 use Rattle.std.specs.List.{AllByRecursion, last_or, range_with_len}
 use Rattle.std.proofs.lemmas.Bool.{and_parts, ltb-true}
 use Rattle.std.proofs.lemmas.List.{append-nil, length-map}
@@ -20,8 +20,8 @@ use Rattle.auction_terms.specs.declared.record_kinds.Version.{Version}
 use Rattle.auction_terms.specs.declared.rules_text.RulesFault.{RulesFault}
 use Rattle.auction_terms.specs.declared.rules_text.RulesFault.TheVariants as rules_fault
 use Rattle.bid_desk.specs.Closing.{bids_in}
-use Rattle.bid_forms.specs.FormText.{amount_checks, bid_fault, bid_told, bidder_in, count_checks, fault_of_bid, form_of_records, form_header_checks, package_checks, place_checks, quantities_in, quantity_checks}
-use Rattle.bid_forms.specs.Offers.{Offers, are_quantities, eligibility_of, offers_of_bidder}
+use Rattle.bid_forms.specs.FormText.{bid_checks, bid_fault, bid_told, bidder_in, bidder_number, form_of_records, is_header}
+use Rattle.bid_forms.specs.Offers.{Offers, are_quantities, eligibility_of}
 use Rattle.bid_forms.specs.declared.form_text.FormFault.{FormFault}
 use Rattle.bid_forms.specs.declared.form_text.FormFault.TheVariants as form_fault
 use Rattle.auction_input.specs.BookLeft.{book_left}
@@ -66,22 +66,16 @@ length-drop-one [] n is = absurd (omega arith)
 length-drop-one (x ∷ xs) n is = omega arith
 
 -- a record without a fault tells a bid within the limits, and there is room for it
-bid-within : (t : Terms) (eligibility place : ℕ) (before : List Bid) (r : Record) → fault_of_bid t eligibility place before r ≡ None → IsBid (lots_in t) (bid_told r) × (length before < MOST_BIDS)
+bid-within : (t : Terms) (eligibility place : ℕ) (before : List Bid) (r : Record) → first_failed (bid_checks t eligibility place before r (bid_told r)) ≡ None
+    → IsBid (lots_in t) (bid_told r) × (length before < MOST_BIDS)
 bid-within t eligibility place before r free =
-    let counts = neither (first_failed (count_checks t.categories place r)) _ free in
-    let amounts = neither (first_failed (amount_checks t.step place r)) _ counts.1 in
-    let quantities = neither (first_failed (quantity_checks place r)) _ amounts.1 in
-    let packages = neither (first_failed (package_checks t.categories eligibility place (quantities_in r) (field_number 1 r))) _ quantities.1 in
-    let count = none-failed (count_checks t.categories place r) counts.0 in
-    let amount = none-failed (amount_checks t.step place r) amounts.0 in
-    let quantity = none-failed (quantity_checks place r) quantities.0 in
-    let room = none-failed (place_checks place before (quantities_in r)) packages.1 in
-    let wide = eqb-true (length r) (length t.categories + 1) count.0 in
+    let checks = none-failed (bid_checks t eligibility place before r (bid_told r)) free in
+    let wide = eqb-true (length r) (length t.categories + 1) checks.0 in
     let fields = length-drop-one r (length t.categories) wide in
-    let sized : length (quantities_in r) ≡ length (lots_in t).supply = length-map (drop 1 r) _ ∙ fields ∙ sym (length-map t.categories _) in
-    let most = and_parts _ _ amount.1.0 in (
-      record { sized = sized; quantities = small (quantities_in r) quantity.1.0; amount = leb-true _ _ most.1 },
-      ltb-true _ _ room.1.0,
+    let sized : length (bid_told r).package ≡ length (lots_in t).supply = length-map (drop 1 r) _ ∙ fields ∙ sym (length-map t.categories _) in
+    let most = and_parts _ _ checks.1.1.0 in (
+      record { sized = sized; quantities = small (bid_told r).package checks.1.1.1.1.1.0; amount = leb-true _ _ most.1 },
+      ltb-true _ _ checks.1.1.1.1.1.1.1.1.1.1.0,
     )
 
 bids-within : (t : Terms) (eligibility : ℕ) (before more : List Record) → first_fault (bid_fault t eligibility) before more ≡ None → length before ≤ MOST_BIDS
@@ -104,11 +98,11 @@ form-or (Some f) answer form told = cc
 form-within : (t : Terms) (records : List Record) (form : Offers) → form_of_records t records ≡ Ok form → IsWithin (lots_in t) form
 form-within t [] form told = cc
 form-within t (header ∷ more) form told =
-    let first = form-or (first_failed (form_header_checks t header)) _ form told in
+    let first = form-or (first_failed ((is_header t.categories header, form_fault.Header 1) ∷ (is_some (bidder_number t (record_field 1 header)), form_fault.UnknownBidder 1) ∷ [])) _ form told in
     let second = form-or (first_fault (bid_fault t (eligibility_of t (bidder_in t header))) [] more) _ form first.1 in
     let within = bids-within t (eligibility_of t (bidder_in t header)) [] more second.0 (omega arith) in
     let count = length-map more bid_told in
-    subst (λ (o : Offers). IsWithin (lots_in t) o) (ok-is _ (offers_of_bidder (bidder_in t header) (map bid_told more)) form refl second.1) (omega arith, within.1)
+    subst (λ (o : Offers). IsWithin (lots_in t) o) (ok-is _ (record { bidder = (bidder_in t header); bids = (map bid_told more) }) form refl second.1) (omega arith, within.1)
 
 -- ---- what an input tells
 

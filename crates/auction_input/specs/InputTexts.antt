@@ -10,7 +10,7 @@ use Rattle.auction_terms.specs.declared.limits.TheConstants.{TEXT_LIMIT}
 use Rattle.auction_terms.specs.declared.rules.Bidder.{Bidder}
 use Rattle.auction_terms.specs.declared.rules_text.RulesFault.TheVariants as rules_fault
 use Rattle.auction_terms.specs.declared.rules_text.RulesFault.{RulesFault}
-use Rattle.bid_forms.specs.FormText.{form_in_text}
+use Rattle.bid_forms.specs.FormText.{form_of_records}
 use Rattle.bid_forms.specs.Offers.{Offers}
 use Rattle.bid_forms.specs.declared.form_text.FormFault.TheVariants as fault
 use Rattle.bid_forms.specs.declared.form_text.FormFault.{FormFault}
@@ -27,7 +27,7 @@ abbrev pub groups_in : List Bidder → List ℕ → Result (List (List ℕ)) Gro
 groups_in bidders text = if nat_lt TEXT_LIMIT (length text) then Err group_fault.TooLarge else groups_of bidders text
 
 abbrev pub form_in : Terms → List ℕ → Result Offers FormFault
-form_in t text = if nat_lt TEXT_LIMIT (length text) then Err fault.TooLarge else form_in_text t text
+form_in t text = if nat_lt TEXT_LIMIT (length text) then Err fault.TooLarge else form_of_records t (records_of text)
 
 -- the program, or the first faulty line and its fault
 abbrev pub program_in : List ℕ → Result Table (ℕ × FaultKind)

@@ -4,9 +4,9 @@ use Rattle.std.specs.Prelude.{[], ◌∷◌, Ok, Err, codes}
 use Rattle.csv.specs.Records.{field_at}
 use Rattle.csv.proofs.OnLiterals.{csv_on_literals}
 use Rattle.auction_terms.specs.FirstFault.{first_fault}
+use Rattle.auction_terms.specs.Records.{records_of}
 use Rattle.auction_terms.specs.Terms.{Terms}
-use Rattle.bid_forms.specs.Offers.{offers_of_bidder}
-use Rattle.bid_forms.specs.FormText.{form_in_text}
+use Rattle.bid_forms.specs.FormText.{form_of_records}
 use Rattle.bid_forms.specs.declared.form_text.FormFault.TheVariants as fault
 
 -- two lots of A at 10 each, one of B at 5, and one bidder of eligibility 9
@@ -18,22 +18,22 @@ rules = record {
   pools = [];
 }
 
-form : form_in_text rules (codes "Alpha,A,B\n0030,1,0\n") ≡ Ok (offers_of_bidder 1 (record { «package» = 1 ∷ 0 ∷ []; amount = 30 } ∷ []))
+form : form_of_records rules (records_of (codes "Alpha,A,B\n0030,1,0\n")) ≡ Ok (record { bidder = 1; bids = (record { «package» = 1 ∷ 0 ∷ []; amount = 30 } ∷ []) })
 unfolding csv_on_literals first_fault field_at
 form = refl
 
-unknown_bidder : form_in_text rules (codes "Delta,A,B\n") ≡ Err (fault.UnknownBidder 1)
+unknown_bidder : form_of_records rules (records_of (codes "Delta,A,B\n")) ≡ Err (fault.UnknownBidder 1)
 unfolding csv_on_literals first_fault field_at
 unknown_bidder = refl
 
-amount_first : form_in_text rules (codes "Alpha,A,B\n0,0,0\n") ≡ Err (fault.AmountRange 2)
+amount_first : form_of_records rules (records_of (codes "Alpha,A,B\n0,0,0\n")) ≡ Err (fault.AmountRange 2)
 unfolding csv_on_literals first_fault field_at
 amount_first = refl
 
-below_reserve : form_in_text rules (codes "Alpha,A,B\n14,1,1\n") ≡ Err (fault.BelowReserve 2)
+below_reserve : form_of_records rules (records_of (codes "Alpha,A,B\n14,1,1\n")) ≡ Err (fault.BelowReserve 2)
 unfolding csv_on_literals first_fault field_at
 below_reserve = refl
 
-repeated : form_in_text rules (codes "Alpha,A,B\n30,1,0\n31,1,0\n") ≡ Err (fault.RepeatedPackage 3 1)
+repeated : form_of_records rules (records_of (codes "Alpha,A,B\n30,1,0\n31,1,0\n")) ≡ Err (fault.RepeatedPackage 3 1)
 unfolding csv_on_literals first_fault field_at
 repeated = refl

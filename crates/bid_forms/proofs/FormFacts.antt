@@ -1,18 +1,22 @@
 -- What the loop over the records after the header keeps.
-use Rattle.std.proofs.Common.{◌≡◌, ◌≢◌, ◌≤◌, ◌<◌, ◌+◌, ◌∷◌, ◌++◌, ◌∙◌, ℕ, List, [], length, Some, None, IsTrue, map, refl, sym, arith, length-append}
-use Rattle.std.specs.Prelude.{All}
+use Rattle.std.proofs.Common.{◌≡◌, ◌≢◌, ◌≤◌, ◌<◌, ◌+◌, ◌∷◌, ◌++◌, ◌∙◌, ℕ, List, [], length, Some, None, IsTrue, ap, map, refl, sym, arith, length-append}
+use Rattle.std.specs.Prelude.{All, Bool, ◌==◌}
+use Rattle.std.specs.Option.{option_or}
 use Rattle.std.proofs.lemmas.List.{map-append}
 use Rattle.std.proofs.lemmas.List.Elements.{All-push}
 use Rattle.std.proofs.lemmas.List.Quantifiers.{all_pairs_push}
-use Rattle.auction_terms.proofs.FirstFaultFacts.{CheckedSoFar, checked-all, checked-fault, checked-more}
-use Rattle.auction_terms.specs.FirstFault.{first_fault}
+use Rattle.auction_terms.proofs.FirstFaultFacts.{first_failed-append, CheckedSoFar, checked-all, checked-fault, checked-more}
+use Rattle.auction_terms.specs.FirstFault.{first_failed, first_fault}
 use Rattle.auction_terms.specs.Records.{Record}
+use Rattle.auction_terms.specs.RulesText.{field_number}
 use Rattle.auction_terms.specs.Terms.{Terms}
 use Rattle.auction_terms.specs.declared.bids.Bid.{Bid}
 use Rattle.auction_terms.specs.declared.limits.TheConstants.{MOST_BIDS}
 use Rattle.bid_forms.specs.Offers.{IsBidWithinLimits, PackagesDiffer, is_bid_under, number_of_package}
-use Rattle.bid_forms.specs.FormText.{bid_fault, bid_told, fault_of_bid}
+use Rattle.bid_forms.specs.FormText.{bid_checks, bid_fault, bid_told}
+use Rattle.bid_forms.specs.inside.FormText.{amount_checks, fault_of_bid, package_checks, place_checks, quantity_checks}
 use Rattle.bid_forms.specs.declared.form_text.FormFault.{FormFault}
+use Rattle.bid_forms.specs.declared.form_text.FormFault.TheVariants as fault
 use Rattle.bid_forms.proofs.PackageFacts.{number-differ}
 
 -- the records before those that are left have no fault, and the bids are what they tell
@@ -26,10 +30,23 @@ pub record BidsSoFar (t : Terms) (eligibility : ℕ) (all rest : List Record) (p
   pub each : All (λ bid. IsTrue (is_bid_under t eligibility bid)) bids
   pub differ : PackagesDiffer bids
 
+-- the first fault of all checks is that of the first part with a fault
+checks-parts : (t : Terms) (eligibility place : ℕ) (before : List Bid) (r : Record) → first_failed (bid_checks t eligibility place before r (bid_told r)) ≡ fault_of_bid t eligibility place before r
+checks-parts t eligibility place before r =
+    let count : List (Bool × FormFault) = (length r == length t.categories + 1, fault.FieldCount place) ∷ [] in
+    let amount = amount_checks t.step place r in
+    let quantities = quantity_checks place r in
+    let package_ = package_checks t.categories eligibility place (bid_told r).package (field_number 1 r) in
+    let last = place_checks place before (bid_told r).package in
+    first_failed-append count (amount ++ (quantities ++ (package_ ++ last)))
+    ∙ ap (option_or (first_failed count)) (first_failed-append amount (quantities ++ (package_ ++ last))
+    ∙ ap (option_or (first_failed amount)) (first_failed-append quantities (package_ ++ last)
+    ∙ ap (option_or (first_failed quantities)) (first_failed-append package_ last)))
+
 -- the fault of the next record, by what was read so far
 bid_fault-is : (t : Terms) (eligibility : ℕ) (all ahead : List Record) (place : ℕ) (bids : List Bid) (r : Record) (so_far : BidsSoFar t eligibility all ahead place bids)
     → bid_fault t eligibility so_far.before r ≡ fault_of_bid t eligibility place bids r
-bid_fault-is t eligibility all ahead place bids r so_far = rw (so_far.place_is, so_far.bids_are) refl
+bid_fault-is t eligibility all ahead place bids r so_far = rw (so_far.place_is, so_far.bids_are) (checks-parts t eligibility (length so_far.before + 2) (map bid_told so_far.before) r)
 
 -- one more record without a fault
 pub bids-more : (t : Terms) (eligibility : ℕ) (all ahead rest : List Record) (place : ℕ) (old new : List Bid) (r : Record) (bid : Bid)

@@ -1,18 +1,17 @@
 -- The fields of a record, one after the other.
 use Rattle.std.proofs.Common.{◌≡◌, ◌<◌, ◌+◌, ◌-◌, ◌∷◌, ◌++◌, ◌∙◌, Bool, true, false, ℕ, zero, suc, List, [], Some, None, add-one, drop, length, map, slice_index_or, refl, sym, ap, arith, ◌&&◌}
-use Rattle.std.specs.Prelude.{All, ◌≤◌, not, nat_le, unwrap_or, if◌then◌else◌}
+use Rattle.std.specs.Prelude.{All, ◌≤◌, is_some, not, nat_le, unwrap_or, if◌then◌else◌}
 use Rattle.std.specs.List.{list_all}
 use Rattle.std.proofs.lemmas.Bool.{le-leb}
 use Rattle.std.proofs.lemmas.List.Elements.{All-push}
 use Rattle.std.proofs.Common.{append_assoc}
-use Rattle.auction_terms.specs.Numbers.{decimal_value, is_number_text, number_of}
+use Rattle.auction_terms.specs.Numbers.{number_of}
 use Rattle.bid_forms.specs.Offers.{are_quantities}
-use Rattle.bid_forms.specs.FormText.{quantities_in}
 use Rattle.std.specs.Str.{bytes_eq}
 use Rattle.std.specs.Cmp.Lexicographic.{pointwise}
 use Rattle.std.proofs.Math.Seq.{drop-cons}
 use Rattle.csv.specs.Records.{field_at}
-use Rattle.auction_terms.specs.RulesText.{record_field}
+use Rattle.auction_terms.specs.RulesText.{number_told, record_field}
 use Rattle.auction_terms.specs.Records.{Record}
 use Rattle.auction_terms.specs.declared.rules.Category.{Category}
 use Rattle.auction_terms.specs.declared.limits.TheConstants.{GREATEST_QUANTITY}
@@ -59,38 +58,24 @@ pub when-not-false : (b : Bool) → false ≡ not b → b ≡ true
 when-not-false true e = refl
 when-not-false false e = cc e
 
-pub no-number : (text : List ℕ) → None ≡ number_of text → is_number_text text ≡ false
-no-number text e = by (is_number_text text) e
-  where
-    by : (b : Bool) → None ≡ (if b then Some (decimal_value text) else None) → b ≡ false
-    by true h = cc h
-    by false h = refl
-
-pub is-number : (text : List ℕ) (value : ℕ) → Some value ≡ number_of text → is_number_text text ≡ true
-is-number text value e = by (is_number_text text) e
-  where
-    by : (b : Bool) → Some value ≡ (if b then Some (decimal_value text) else None) → b ≡ true
-    by true h = refl
-    by false h = cc h
-
 -- the quantities of the fields from a place on
 abbrev pub quantities_from : ℕ → Record → List ℕ
-quantities_from n r = map (λ text. unwrap_or (number_of text) 0) (drop n r)
+quantities_from n r = map number_told (drop n r)
 
 -- what a loop over the quantities keeps
 abbrev pub QuantitiesSoFar : Record → ℕ → Bool → List ℕ → Type 0
 QuantitiesSoFar r n within items =
-    (list_all is_number_text (drop n r) ≡ list_all is_number_text (drop 1 r))
-    × ((within && are_quantities (quantities_from n r)) ≡ are_quantities (quantities_in r))
-    × (within ≡ true → items ++ quantities_from n r ≡ quantities_in r)
+    (list_all (λ (text : List ℕ). is_some (number_of text)) (drop n r) ≡ list_all (λ (text : List ℕ). is_some (number_of text)) (drop 1 r))
+    × ((within && are_quantities (quantities_from n r)) ≡ are_quantities (quantities_from 1 r))
+    × (within ≡ true → items ++ quantities_from n r ≡ quantities_from 1 r)
     × All (λ quantity. quantity ≤ GREATEST_QUANTITY) items
     × (length items < n)
 
 -- the next field is no number
 pub quantities-none : (r : Record) (n : ℕ) (within : Bool) (items : List ℕ) → QuantitiesSoFar r n within items → n < length r → None ≡ number_of (record_field (n + 1) r)
-    → list_all is_number_text (drop 1 r) ≡ false
+    → list_all (λ (text : List ℕ). is_some (number_of text)) (drop 1 r) ≡ false
 quantities-none r n within items (texts, limits, are, each, few) small none =
-    let told = rw (fields-more r n small, no-number (record_field (n + 1) r) none) at texts in
+    let told = rw (fields-more r n small, sym (ap is_some none)) at texts in
     sym told
 
 -- a list with one more element
@@ -104,7 +89,7 @@ pub quantities-small : (r : Record) (n : ℕ) (within : Bool) (items : List ℕ)
     → Some value ≡ number_of (record_field (n + 1) r) → value ≤ GREATEST_QUANTITY → QuantitiesSoFar r (n + 1) within (items ++ value ∷ [])
 quantities-small r n within items value (texts, limits, are, each, fewer) small some few =
     let next = fields-more r n small in
-    let is_text = is-number (record_field (n + 1) r) value some in
+    let is_text : is_some (number_of (record_field (n + 1) r)) ≡ true = sym (ap is_some some) in
     let test : nat_le value GREATEST_QUANTITY ≡ true = le-leb value GREATEST_QUANTITY few in (
       rw (next, is_text) at texts,
       rw (next, ← some, test) at limits,
@@ -118,7 +103,7 @@ pub quantities-great : (r : Record) (n : ℕ) (within : Bool) (items : List ℕ)
     → Some value ≡ number_of (record_field (n + 1) r) → nat_le value GREATEST_QUANTITY ≡ false → QuantitiesSoFar r (n + 1) false items
 quantities-great r n within items value (texts, limits, are, each, fewer) small some great =
     let next = fields-more r n small in
-    let is_text = is-number (record_field (n + 1) r) value some in
+    let is_text : is_some (number_of (record_field (n + 1) r)) ≡ true = sym (ap is_some some) in
     let told = rw (next, ← some, great) at limits in (
       rw (next, is_text) at texts,
       never within _ told,

@@ -1,8 +1,8 @@
 -- What a form says: a bidder and its bids; and when bids meet rules.
 use Rattle.std.specs.Prelude.{◌≢◌, ◌≤◌, ◌+◌, ◌-◌, ◌*◌, ◌%◌, ◌==◌, ◌&&◌, Bool, not, ℕ, List, [], ◌∷◌, Option, None, Some, if◌then◌else◌, All, AllPairs, IsTrue, length, map, nat_eq, nat_le, slice_index}
-use Rattle.std.specs.List.{list_all}
+use Rattle.std.specs.List.{list_all, position_from}
 use Rattle.std.specs.Cmp.Lexicographic.{pointwise}
-use Rattle.auction_terms.specs.Packages.{IsPackage}
+use Rattle.auction_terms.specs.Packages.{IsPackage, weighed}
 use Rattle.auction_terms.specs.RulesText.{is_between}
 use Rattle.auction_terms.specs.Terms.{Terms}
 use Rattle.auction_terms.specs.declared.bids.Bid.{Bid}
@@ -14,35 +14,17 @@ pub record Offers : Type 0 where
   pub bidder : ℕ
   pub bids : List Bid
 
-abbrev pub offers_of_bidder : ℕ → List Bid → Offers
-offers_of_bidder bidder bids = record { bidder = bidder; bids = bids }
-
--- two packages are the same
-abbrev pub is_same_package : List ℕ → List ℕ → Bool
-is_same_package = pointwise nat_eq
-
--- the number of the first of these bids that has the package, where they are numbered from n on
-abbrev pub number_from : ℕ → List ℕ → List Bid → Option ℕ
-number_from n lots [] = None
-number_from n lots (bid ∷ more) = if is_same_package lots bid.package then Some n else number_from (n + 1) lots more
-
 -- the number, from 1, of the first of these bids that has the package
 abbrev pub number_of_package : List ℕ → List Bid → Option ℕ
-number_of_package lots bids = number_from 1 lots bids
-
--- the sum of each quantity times a number of its category
-abbrev pub weighted : (Category → ℕ) → List Category → List ℕ → ℕ
-weighted weight [] quantities = 0
-weighted weight (category ∷ more) [] = 0
-weighted weight (category ∷ more) (quantity ∷ rest) = quantity * weight category + weighted weight more rest
+number_of_package lots bids = position_from (λ bid. pointwise nat_eq lots bid.package) 1 bids
 
 -- the eligibility points of a package
 abbrev pub points_of : List Category → List ℕ → ℕ
-points_of categories lots = weighted (λ category. category.points) categories lots
+points_of categories lots = weighed (map (λ category. category.points) categories) lots
 
 -- the least price of a package
 abbrev pub reserve_of : List Category → List ℕ → ℕ
-reserve_of categories lots = weighted (λ category. category.reserve) categories lots
+reserve_of categories lots = weighed (map (λ category. category.reserve) categories) lots
 
 -- every quantity is 0
 abbrev pub is_empty_package : List ℕ → Bool

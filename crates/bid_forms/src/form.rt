@@ -12,22 +12,22 @@ pub struct Form {
 }
 
 impl Model for Form {
-    ghost use Rattle.bid_forms.specs.Offers.{IsForm, Offers, offers_of_bidder};
+    ghost use Rattle.bid_forms.specs.Offers.{IsForm, Offers};
 
     ghost Value = { Offers };
 
-    ghost view = { λ f. offers_of_bidder f.bidder f.bids.items };
+    ghost view = { λ f. record { bidder = f.bidder; bids = f.bids.items } };
 
-    ghost invariant = { λ f. IsForm (offers_of_bidder f.bidder f.bids.items) };
+    ghost invariant = { λ f. IsForm (record { bidder = f.bidder; bids = f.bids.items }) };
 }
 
 impl Form {
     ghost use Rattle.std.specs.Prelude.{◌≡◌, IsTrue, ◌↔◌};
-    ghost use Rattle.bid_forms.specs.Offers.{IsForm, Meets, offers_of_bidder};
+    ghost use Rattle.bid_forms.specs.Offers.{IsForm, Meets};
 
     pub(crate) fn new(bidder: u16, bids: Vec<Bid>) -> Form
-        requires { IsForm (offers_of_bidder bidder bids.items) }
-        ensures { result ≡ offers_of_bidder bidder bids.items }
+        requires { IsForm (record { bidder = bidder; bids = bids.items }) }
+        ensures { result ≡ record { bidder = bidder; bids = bids.items } }
     {
         Form { bidder, bids }
     }

@@ -1,16 +1,18 @@
 //! The text of a form.
 
-ghost use Rattle.std.specs.Prelude.{◌≡◌, ◌≤◌, ◌<◌, ◌+◌, ◌++◌, [], ◌∷◌, None, Some, Err, All, IfOk, OnOk, IsTrue, drop, length, map};
+ghost use Rattle.std.specs.Prelude.{◌≡◌, ◌≤◌, ◌<◌, ◌+◌, ◌++◌, [], ◌∷◌, None, Some, Err, All, IfOk, OnOk, IsTrue, drop, is_some, length, map};
 ghost use Rattle.std.specs.Str.{bytes_eq};
 ghost use Rattle.std.specs.Cmp.Lexicographic.{pointwise};
 ghost use Rattle.csv.specs.Records.{fields_of};
 ghost use Rattle.auction_terms.specs.FirstFault.{first_failed, first_fault};
-ghost use Rattle.auction_terms.specs.RulesText.{field_number};
+ghost use Rattle.auction_terms.specs.RulesText.{field_number, record_field};
+ghost use Rattle.auction_terms.specs.Records.{records_of};
 ghost use Rattle.auction_terms.specs.Terms.{AreTerms};
 ghost use Rattle.auction_terms.specs.declared.limits.TheConstants.{MOST_CATEGORIES};
 ghost use Rattle.bid_forms.specs.inside.Fingerprints.{AreSeen};
-ghost use Rattle.bid_forms.specs.Offers.{IsBidWithinLimits, Meets, eligibility_of, is_bid_under, number_of_package, offers_of_bidder};
-ghost use Rattle.bid_forms.specs.FormText.{amount_checks, bid_fault, bid_told, bidder_in, fault_of_bid, form_in_text, form_header_checks, is_header, is_form_memory, package_checks, quantities_in, quantity_checks};
+ghost use Rattle.bid_forms.specs.Offers.{IsBidWithinLimits, Meets, eligibility_of, is_bid_under, number_of_package};
+ghost use Rattle.bid_forms.specs.FormText.{bid_fault, bid_told, bidder_in, bidder_number, form_of_records, is_header, is_form_memory};
+ghost use Rattle.bid_forms.specs.inside.FormText.{amount_checks, fault_of_bid, package_checks, quantity_checks};
 ghost use Rattle.auction_terms.specs.Stages.{Answers};
 ghost use Rattle.auction_terms.specs.inside.FirstFault.{Tells, TellsFault};
 ghost use Rattle.bid_forms.specs.FormFaultText.{form_fault_text};
@@ -146,7 +148,10 @@ fn is_header(categories: &[Category], row: &ByteRecord) -> bool
 // The bidder that the header names.
 fn read_header(rules: &Rules, row: &ByteRecord) -> Result<u16, FormFault>
     ensures answer { Tells is_form_memory result
-        (first_failed (form_header_checks rules.now (fields_of row.now)))
+        (first_failed (
+        (is_header rules.now.categories (fields_of row.now), fault.Header 1)
+        ∷ (is_some (bidder_number rules.now (record_field 1 (fields_of row.now))), fault.UnknownBidder 1)
+        ∷ []))
         (bidder_in rules.now (fields_of row.now)) }
     ensures some { IfOk result (λ bidder. 1 ≤ bidder) }
     ensures known { IfOk result (λ bidder. bidder ≤ length rules.now.bidders) }
@@ -184,7 +189,7 @@ fn read_quantities(place: u32, row: &ByteRecord) -> Result<Quantities, FormFault
     ensures answer { TellsFault is_form_memory result
         (first_failed (quantity_checks place (fields_of row.now))) }
     ensures quantities { IfOk result (λ quantities. quantities.items
-        ≡ quantities_in (fields_of row.now)) }
+        ≡ (bid_told (fields_of row.now)).package) }
     ensures each { IfOk result (λ quantities. All (λ quantity. quantity ≤ GREATEST_QUANTITY)
         quantities.items) }
 {
@@ -282,7 +287,7 @@ fn read_bids(
     requires none_seen { none_seen.prints.keys ≡ [] }
     ensures answer { Tells is_form_memory result
         (first_fault (bid_fault rules.now (eligibility_of rules.now bidder)) [] reader.old)
-        (offers_of_bidder bidder (map bid_told reader.old)) }
+        (record { bidder = bidder; bids = (map bid_told reader.old) }) }
     ensures meets { IfOk result (Meets rules.now) }
 {
     let eligibility = eligibility_of(rules, bidder);
@@ -304,7 +309,7 @@ fn read_bids(
 pub fn read_form(alloc: Global, bytes: &[u8], rules: &Rules) -> Result<Form, FormFault>
     ensures too_large { TEXT_LIMIT < length bytes.now → result ≡ Err fault.TooLarge }
     ensures answer { length bytes.now ≤ TEXT_LIMIT
-        → Answers is_form_memory result (form_in_text rules.now bytes.now) }
+        → Answers is_form_memory result (form_of_records rules.now (records_of bytes.now)) }
     ensures meets { IfOk result (Meets rules.now) }
 {
     refuse!(bytes.len() > TEXT_LIMIT, FormFault::TooLarge);

@@ -2,7 +2,7 @@ use Rattle.std.proofs.Common.{◌≡◌, [], ◌∷◌, ◌++◌, Err, rules, ma
 use Rattle.csv.specs.Records.{fields_of}
 use Rattle.auction_terms.proofs.FirstFaultFacts.{tells-err}
 use Rattle.bid_forms.proofs.FormFacts.{bids-all, bids-fault, bids-more}
-use Rattle.bid_forms.specs.Offers.{eligibility_of, offers_of_bidder}
+use Rattle.bid_forms.specs.Offers.{Offers, eligibility_of}
 use Rattle.bid_forms.specs.FormText.{bid_told}
 use Rattle.bid_forms.specs.FormText.{is_form_memory}
 use Rattle.bid_forms.proofs.form_text.read_bids.Goals as goal
@@ -14,7 +14,8 @@ returns-in_err-bid-clause-answer c =
     let next : c.loop-bids.reader ≡ fields_of c.next.new.row ∷ c.next.new.self = rw c.if-branch.true at c.in_ok-next.ensures.next in
     let same : c.from_residual-in_err-bid.result ≡ Err c.in_err-bid.field-0.0 = search rules in
     let told = rw (c.deref.ensures.value, c.eligibility_of-eligibility.ensures.value) at c.in_err-bid.ensures.answer in
-    rw same (tells-err is_form_memory c.in_err-bid.field-0.0 _ _ (bid_told (fields_of c.next.new.row)) (offers_of_bidder c.args.bidder (map bid_told c.args.reader.now))
+    let form : Offers = record { bidder = c.args.bidder; bids = map bid_told c.args.reader.now } in
+    rw same (tells-err is_form_memory c.in_err-bid.field-0.0 _ _ (bid_told (fields_of c.next.new.row)) form
     (λ f found. bids-fault t (eligibility_of t c.args.bidder) c.args.reader.now c.loop-bids.reader c.next.new.self c.loop-bids.place c.loop-bids.bids.items (fields_of c.next.new.row) f so_far next found)
     told)
 
