@@ -1,6 +1,6 @@
 -- What records of rules have, of which none has a fault.
 use Rattle.std.proofs.Common.{◌≡◌, ◌≤◌, ◌<◌, ◌++◌, ◌∷◌, [], ℕ, Bool, true, false, List, Option, None, Some, Result, Ok, Err, append_assoc, arith, length, length-append, refl, subst}
-use Rattle.std.specs.Prelude.{cond}
+use Rattle.std.specs.Prelude.{◌+◌, ◌==◌, cond, ok_or}
 use Rattle.std.specs.List.{AllByRecursion}
 use Rattle.std.specs.Option.{option_map_or, option_or}
 use Rattle.std.proofs.lemmas.List.{append-nil}
@@ -8,8 +8,8 @@ use Rattle.std.proofs.lemmas.List.Elements.{filter-append}
 use Rattle.auction_terms.specs.Entries.{terms_of}
 use Rattle.auction_terms.specs.FirstFault.{first_failed, first_fault}
 use Rattle.auction_terms.specs.Records.{Record}
-use Rattle.auction_terms.specs.RulesText.{entries_of, entry_fault, header_checks, is_kind, of_kind, record_kind, rules_after, rules_of, version_of}
-use Rattle.auction_terms.specs.Stages.{unless}
+use Rattle.auction_terms.specs.RulesText.{entries_of, entry_fault, header_checks, field_number, is_kind, of_kind, record_kind, rules_of, version_of}
+use Rattle.auction_terms.specs.Stages.{and_then, unless}
 use Rattle.auction_terms.specs.Terms.{Terms}
 use Rattle.auction_terms.specs.declared.record_kinds.RecordKind.{RecordKind}
 use Rattle.auction_terms.specs.declared.record_kinds.RecordKind.TheVariants as kind
@@ -112,7 +112,14 @@ module _ (P : Terms → Type 0) (made : (v : Version) (more : List Record) → f
   rules-told [] t told = cc
   rules-told (header ∷ more) t told = by (version_of header) told
     where
-      by : (version : Option Version) → option_map_or (λ v. rules_after v header more) version (Err (rules_fault.Header 1)) ≡ Ok t → P t
+      after : Version → Result Terms RulesFault
+      after v =
+          unless (first_failed (header_checks v header))
+          (unless (first_fault (entry_fault v) [] more)
+          (cond (length (entries_of v more).categories == 0) (Err (rules_fault.NoCategory (length more + 1)))
+          (cond (length (entries_of v more).bidders == 0) (Err (rules_fault.NoBidder (length more + 1))) (Ok (terms_of (field_number 3 header) (entries_of v more))))))
+
+      by : (version : Option Version) → and_then (ok_or version (rules_fault.Header 1)) after ≡ Ok t → P t
       by None e = cc
       by (Some v) e =
           let first = rules-or (first_failed (header_checks v header)) _ t e in

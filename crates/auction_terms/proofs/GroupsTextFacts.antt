@@ -1,14 +1,15 @@
 -- What the loop over the names of a line keeps.
 use Rattle.std.proofs.Common.{Bor, Bool, true, false, suc, drop, length, slice_index_or, arith, ◌+◌, ◌++◌, ◌∙◌, ◌<◌, ◌≤◌, append_assoc, add-one, ◌≡◌, ◌∷◌, ◌||◌, ℕ, List, [], Option, Some, Ok, Err, map, sym, refl, ap}
-use Rattle.std.specs.Prelude.{not, if◌then◌else◌, All, AllPairs}
+use Rattle.std.specs.Prelude.{filter, not, if◌then◌else◌, All, AllPairs}
 use Rattle.std.proofs.lemmas.List.Elements.{All-cons}
 use Rattle.std.proofs.lemmas.List.Kept.{AllPairs-cons}
 use Rattle.auction_terms.specs.Groups.{IsGroup}
 use Rattle.std.proofs.Math.Seq.{drop-cons}
-use Rattle.std.specs.List.{list_any}
+use Rattle.std.specs.List.{enumerate_from, list_any}
 use Rattle.std.specs.Str.{bytes_eq}
 use Rattle.auction_terms.specs.FirstFault.{first_failed}
-use Rattle.auction_terms.specs.GroupsText.{is_groups_memory, name_fault, numbers_from}
+use Rattle.auction_terms.specs.GroupsText.{is_groups_memory, name_fault}
+use Rattle.auction_terms.specs.inside.GroupsText.{numbers_from}
 use Rattle.auction_terms.specs.Stages.{Answers, unless}
 use Rattle.auction_terms.specs.inside.FirstFault.{Tells, TellsFault}
 use Rattle.auction_terms.specs.declared.rules.Bidder.{Bidder}
@@ -41,6 +42,15 @@ tells-fault U f found outer x same h = same f h
 pub any_name-is : (name : List ℕ) (names : List (Bor (List ℕ))) → list_any (λ other. bytes_eq other name) (map (λ other. other.now) names) ≡ list_any (λ other. bytes_eq other.now name) names
 any_name-is name names = list_any-map (λ (other : Bor (List ℕ)). other.now) (λ other. bytes_eq other name) names
 
+-- the numbers of named bidders, at the first of them
+numbers-next : (n : ℕ) (bidder : Bidder) (more : List Bidder) (names : List (List ℕ))
+    → numbers_from n (bidder ∷ more) names ≡ (if list_any (λ name. bytes_eq name bidder.name) names then n ∷ numbers_from (n + 1) more names else numbers_from (n + 1) more names)
+numbers-next n bidder more names = by (list_any (λ name. bytes_eq name bidder.name) names) (filter (λ (b : ℕ × Bidder). list_any (λ name. bytes_eq name b.1.name) names) (enumerate_from (n + 1) more))
+  where
+    by : (b : Bool) (rest : List (ℕ × Bidder)) → map (λ (b : ℕ × Bidder). b.0) (if b then (n, bidder) ∷ rest else rest) ≡ (if b then n ∷ map (λ (b : ℕ × Bidder). b.0) rest else map (λ (b : ℕ × Bidder). b.0) rest)
+    by true rest = refl
+    by false rest = refl
+
 -- the numbers found so far, and those still to find, at the next bidder
 pub numbers-more : (items : List ℕ) (place : ℕ) (bidders : List Bidder) (names : List (List ℕ)) (all : List ℕ) (bidder : Bidder) (found : Bool)
     → place < length bidders → bidder ≡ slice_index_or bidders place bidder → list_any (λ name. bytes_eq name bidder.name) names ≡ found
@@ -48,7 +58,7 @@ pub numbers-more : (items : List ℕ) (place : ℕ) (bidders : List Bidder) (nam
     → (if found then items ++ (place + 1) ∷ [] else items) ++ numbers_from (place + 1 + 1) (drop (place + 1) bidders) names ≡ all
 numbers-more items place bidders names all bidder found small at test so_far =
     let next : drop place bidders ≡ bidder ∷ drop (place + 1) bidders = rw (add-one place) (drop-cons bidders place bidder small ∙ ap (λ b. b ∷ drop (suc place) bidders) (sym at)) in
-    let told = rw (next, test) at so_far in
+    let told = rw (next, numbers-next (place + 1) bidder (drop (place + 1) bidders) names, test) at so_far in
     by found told
   where
     by : (b : Bool) → items ++ (if b then (place + 1) ∷ numbers_from (place + 1 + 1) (drop (place + 1) bidders) names else numbers_from (place + 1 + 1) (drop (place + 1) bidders) names) ≡ all
@@ -59,7 +69,7 @@ numbers-more items place bidders names all bidder found small at test so_far =
 -- numbers from n on, below a bound
 numbers-within : (n : ℕ) (bidders : List Bidder) (names : List (List ℕ)) → All (λ x. (n ≤ x) × (x < n + length bidders)) (numbers_from n bidders names)
 numbers-within n [] names = λ k d small. absurd (omega arith)
-numbers-within n (bidder ∷ more) names = by (list_any (λ name. bytes_eq name bidder.name) names) (λ k d small. (let h = numbers-within (n + 1) more names k d small in (omega arith, omega arith)))
+numbers-within n (bidder ∷ more) names = rw (numbers-next n bidder more names) (by (list_any (λ name. bytes_eq name bidder.name) names) (λ k d small. (let h = numbers-within (n + 1) more names k d small in (omega arith, omega arith))))
   where
     by : (b : Bool) → All (λ x. (n ≤ x) × (x < n + length (bidder ∷ more))) (numbers_from (n + 1) more names)
         → All (λ x. (n ≤ x) × (x < n + length (bidder ∷ more))) (if b then n ∷ numbers_from (n + 1) more names else numbers_from (n + 1) more names)
@@ -68,7 +78,7 @@ numbers-within n (bidder ∷ more) names = by (list_any (λ name. bytes_eq name 
 
 numbers-rise : (n : ℕ) (bidders : List Bidder) (names : List (List ℕ)) → AllPairs (λ a b. a < b) (numbers_from n bidders names)
 numbers-rise n [] names = λ i j d less small. absurd (omega arith)
-numbers-rise n (bidder ∷ more) names = by (list_any (λ name. bytes_eq name bidder.name) names) (numbers-rise (n + 1) more names)
+numbers-rise n (bidder ∷ more) names = rw (numbers-next n bidder more names) (by (list_any (λ name. bytes_eq name bidder.name) names) (numbers-rise (n + 1) more names))
   where
     above : All (λ x. n < x) (numbers_from (n + 1) more names)
     above k d small = let h = numbers-within (n + 1) more names k d small in omega arith

@@ -6,7 +6,8 @@ use Rattle.std.proofs.lemmas.Bool.{cond-true, cond-false}
 use Rattle.auction_terms.specs.declared.bids.Bid.{Bid}
 use Rattle.auction_terms.specs.Packages.{Lots}
 use Rattle.auction_terms.specs.Allocations.{Book, form_of, bid_at, IsSized}
-use Rattle.auction_terms.specs.Keeping.{Offer, offers_of_form, offers_from, is_kept_offer}
+use Rattle.auction_terms.specs.Keeping.{Offer, offers_of_form, offers_from}
+use Rattle.auction_terms.specs.inside.Keeping.{is_kept_offer}
 use Rattle.auction_terms.specs.Limits.{IsBid, IsBook, IsOffer, IsBefore, AreOffers, KeptAreOffers}
 use Rattle.auction_terms.proofs.OfferLaws.{all_agree, all_append}
 use Rattle.auction_terms.specs.declared.limits.TheConstants.{MOST_BIDDERS, MOST_BIDS}

@@ -20,13 +20,9 @@ pub record Entries : Type 0 where
 abbrev pub is_member_of : List ℕ → List ℕ → Member → Bool
 is_member_of pool category member = bytes_eq member.pool pool && bytes_eq member.category category
 
--- the weight of a category in a pool, 0 where it is no member
-abbrev pub weight_in : List Member → List ℕ → List ℕ → ℕ
-weight_in members pool category = option_map_or (λ member. member.weight) (find (is_member_of pool category) members) 0
-
--- the pool with the weights of all categories in it
+-- the pool with the weights of all categories in it, 0 where one is no member
 abbrev pub pool_with : List Category → List Member → NamedCap → Pool
-pool_with categories members pool = record { name = pool.name; cap = pool.cap; weights = map (λ category. weight_in members pool.name category.name) categories }
+pool_with categories members pool = record { name = pool.name; cap = pool.cap; weights = map (λ category. option_map_or (λ member. member.weight) (find (is_member_of pool.name category.name) members) 0) categories }
 
 -- the rules that entries make
 abbrev pub terms_of : ℕ → Entries → Terms

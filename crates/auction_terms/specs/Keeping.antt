@@ -36,13 +36,9 @@ abbrev pub offers_from : ℕ → Book → List Offer
 offers_from b [] = []
 offers_from b (form ∷ book) = offers_of_form b 1 form ++ offers_from (b + 1) book
 
--- a bid of a bidder outside the group that fits and pays, and that no bid of its form dominates
-abbrev pub is_kept_offer : Lots → Book → (ℕ → Bool) → Offer → Bool
-is_kept_offer lots book group o = not (group o.bidder) && is_kept lots (form_of book o.bidder) o.bid
-
--- the kept bids, by rising bidder, then bid
+-- the kept bids of the bidders outside the group, by rising bidder, then bid
 abbrev pub kept_of : Lots → Book → (ℕ → Bool) → List Offer
-kept_of lots book group = filter (is_kept_offer lots book group) (offers_from 1 book)
+kept_of lots book group = filter (λ o. not (group o.bidder) && is_kept lots (form_of book o.bidder) o.bid) (offers_from 1 book)
 
 -- the choice is of a kept bid
 abbrev pub is_kept_choice : Lots → Book → (ℕ → Bool) → Choice → Bool

@@ -1,6 +1,7 @@
 pub mod Entries
 pub mod FirstFault
 pub mod GroupNames
+pub mod GroupsText
 pub mod Keeping
 pub mod Packages
 pub mod PlainRecords

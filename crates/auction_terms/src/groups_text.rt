@@ -4,7 +4,9 @@ ghost use Rattle.std.specs.Prelude.{◌≡◌, ◌≤◌, ◌<◌, Err, [], ◌�
 ghost use Rattle.std.specs.List.{list_any};
 ghost use Rattle.std.specs.Str.{bytes_eq};
 ghost use Rattle.auction_terms.specs.FirstFault.{first_failed, first_fault};
-ghost use Rattle.auction_terms.specs.GroupsText.{fault_of_line, group_of, groups_of, is_groups_memory, group_line_fault, name_fault, numbers_from};
+ghost use Rattle.auction_terms.specs.GroupsText.{group_of, groups_of, is_groups_memory, group_line_fault, name_fault};
+ghost use Rattle.auction_terms.specs.inside.GroupsText.{numbers_from};
+ghost use Rattle.auction_terms.specs.inside.GroupsText.{fault_of_line};
 ghost use Rattle.auction_terms.specs.Stages.{Answers};
 ghost use Rattle.auction_terms.specs.inside.FirstFault.{Tells, TellsFault};
 ghost use Rattle.auction_terms.specs.GroupNames.{names_in};

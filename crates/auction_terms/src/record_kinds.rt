@@ -2,7 +2,7 @@
 
 ghost use Rattle.std.specs.Prelude.{◌≡◌};
 ghost use Rattle.csv.specs.Records.{fields_of};
-ghost use Rattle.auction_terms.specs.RulesText.{field_count, has_pools, record_kind, value_text, version_of};
+ghost use Rattle.auction_terms.specs.RulesText.{field_count, record_kind, value_text, version_of};
 
 use crate::rules_text::field;
 use csv::ByteRecord;
@@ -25,8 +25,9 @@ pub enum RecordKind {
 }
 
 impl Version {
-    ghost use Rattle.std.specs.Prelude.{◌≡◌};
-    ghost use Rattle.auction_terms.specs.RulesText.{field_count, has_pools};
+    ghost use Rattle.std.specs.Prelude.{◌≡◌, ◌∷◌, [], codes, if◌then◌else◌};
+    ghost use Rattle.auction_terms.specs.RulesText.{field_count, kinds_of};
+    ghost use Rattle.auction_terms.specs.declared.record_kinds.RecordKind.TheVariants as kind;
 
     // How many fields every record has.
     pub(crate) fn field_count(self) -> usize
@@ -38,8 +39,12 @@ impl Version {
         }
     }
 
+    // Whether it knows pools and members beside categories and bidders.
     fn has_pools(self) -> bool
-        ensures { result ≡ has_pools self }
+        ensures { kinds_of self ≡ (codes "category", kind.Category)
+            ∷ (codes "bidder", kind.Bidder)
+            ∷ (if result then (codes "pool", kind.Pool) ∷ (codes "member", kind.Member) ∷ []
+            else []) }
     {
         match self {
             Version::One | Version::Two => false,
@@ -71,14 +76,15 @@ pub(crate) fn version_of(row: &ByteRecord) -> Option<Version>
 pub(crate) fn kind_of(version: Version, row: &ByteRecord) -> Option<RecordKind>
     ensures { result ≡ record_kind version (fields_of row.now) }
 {
+    let has_pools = version.has_pools();
     let kind = field(row, 1);
     if kind == b"category".as_slice() {
         Some(RecordKind::Category)
     } else if kind == b"bidder".as_slice() {
         Some(RecordKind::Bidder)
-    } else if version.has_pools() && kind == b"pool".as_slice() {
+    } else if has_pools && kind == b"pool".as_slice() {
         Some(RecordKind::Pool)
-    } else if version.has_pools() && kind == b"member".as_slice() {
+    } else if has_pools && kind == b"member".as_slice() {
         Some(RecordKind::Member)
     } else {
         None

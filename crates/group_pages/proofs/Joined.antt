@@ -9,7 +9,8 @@ use Rattle.std.proofs.lemmas.Grind.{flat_map-append}
 use Rattle.auction_terms.specs.declared.bids.Bid.{Bid}
 use Rattle.auction_terms.specs.Packages.{Lots}
 use Rattle.auction_terms.specs.Allocations.{Book, form_of}
-use Rattle.auction_terms.specs.Keeping.{Offer, offers_of_form, offers_from, is_kept_offer, kept_of}
+use Rattle.auction_terms.specs.Keeping.{Offer, offers_of_form, offers_from, kept_of}
+use Rattle.auction_terms.specs.inside.Keeping.{is_kept_offer}
 use Rattle.auction_terms.specs.Limits.{AreOffers, IsBook}
 use Rattle.auction_terms.proofs.LimitLaws.{kept_are_offers}
 use Rattle.auction_terms.specs.Domination.{is_kept}

@@ -13,8 +13,8 @@ use Rattle.auction_terms.specs.declared.bids.Bid.{Bid}
 use Rattle.auction_terms.specs.declared.choices.Choice.{Choice}
 use Rattle.auction_terms.specs.Allocations.{Book, bid_at, bid_of, form_of}
 use Rattle.auction_terms.specs.Domination.{is_kept}
-use Rattle.auction_terms.specs.Keeping.{Offer, is_kept_choice, is_kept_offer, kept_of, offers_from}
-use Rattle.auction_terms.specs.inside.Keeping.{choice_of}
+use Rattle.auction_terms.specs.Keeping.{Offer, is_kept_choice, kept_of, offers_from}
+use Rattle.auction_terms.specs.inside.Keeping.{is_kept_offer, choice_of}
 use Rattle.auction_terms.specs.Limits.{AreOffers, IsBefore, IsBook}
 use Rattle.auction_terms.specs.Packages.{Lots}
 use Rattle.auction_terms.proofs.LimitLaws.{kept_are_offers}

@@ -19,7 +19,8 @@ use Rattle.auction_terms.specs.Terms.{Terms}
 use Rattle.auction_terms.specs.Domination.{is_kept}
 use Rattle.auction_terms.specs.Allocations.{Book, form_of}
 use Rattle.auction_terms.specs.Bids.{IsKeptBid, AreKept, Precedes}
-use Rattle.auction_terms.specs.Keeping.{Offer, offers_of_form, offers_from, is_kept_offer, kept_of}
+use Rattle.auction_terms.specs.Keeping.{Offer, offers_of_form, offers_from, kept_of}
+use Rattle.auction_terms.specs.inside.Keeping.{is_kept_offer}
 use Rattle.auction_terms.specs.Limits.{AreOffers, IsBefore, IsBook}
 use Rattle.auction_terms.specs.Offers.{offers, offer_of}
 use Rattle.auction_terms.proofs.LimitLaws.{kept_are_offers, offers_left}

@@ -13,8 +13,8 @@ use Rattle.auction_terms.specs.declared.choices.Choice.{Choice}
 use Rattle.auction_terms.specs.Packages.{Lots, pool_at, fits, weighed, worth, worth_of_all}
 use Rattle.auction_terms.specs.Domination.{net, is_kept}
 use Rattle.auction_terms.specs.Allocations.{Book, form_of, bid_of, amount_of, quantity_of, weighed_choice, loads, total, is_eligible, IsFeasible, IsSized}
-use Rattle.auction_terms.specs.Keeping.{Offer, offers_from, is_kept_offer, kept_of, is_kept_choice}
-use Rattle.auction_terms.specs.inside.Keeping.{choice_of}
+use Rattle.auction_terms.specs.Keeping.{Offer, offers_from, kept_of, is_kept_choice}
+use Rattle.auction_terms.specs.inside.Keeping.{is_kept_offer, choice_of}
 use Rattle.auction_terms.specs.Limits.{AreOffers}
 use Rattle.auction_terms.proofs.AllocationLaws.{kept_are_enough, feasible_at, feasible_pool, feasible_from, total_is, worths}
 use Rattle.auction_terms.proofs.OfferLaws.{sum_zero, sum_agree, sum_plus, sum_filter, all_agree, all_filter, at_choice, stands}

@@ -6,7 +6,7 @@ use Rattle.auction_terms.specs.Terms.{AllDiffer, IsBidder, IsCategory}
 use Rattle.auction_terms.specs.declared.draft.Member.{Member}
 use Rattle.auction_terms.specs.declared.draft.NamedCap.{NamedCap}
 use Rattle.auction_terms.specs.declared.limits.TheConstants.{GREATEST_AMOUNT, GREATEST_WEIGHT, MOST_BIDDERS, MOST_CATEGORIES, MOST_POOLS}
-use Rattle.auction_terms.specs.Entries.{Entries}
+use Rattle.auction_terms.specs.Entries.{Entries, is_member_of}
 use Rattle.auction_terms.specs.declared.rules.Bidder.{Bidder}
 use Rattle.auction_terms.specs.declared.rules.Category.{Category}
 
@@ -38,3 +38,7 @@ pub record AreEntriesWithinLimits (e : Entries) : Type 0 where
   pub category_names : AllDiffer (map (λ category. category.name) e.categories)
   pub bidder_names : AllDiffer (map (λ bidder. bidder.name) e.bidders)
   pub pool_names : AllDiffer (map (λ pool. pool.name) e.pools)
+
+-- the weight of a category in a pool, 0 where it is no member
+abbrev pub weight_in : List Member → List ℕ → List ℕ → ℕ
+weight_in members pool category = option_map_or (λ member. member.weight) (find (is_member_of pool category) members) 0

@@ -2,7 +2,14 @@
 use Rattle.std.specs.Prelude.{◌≡◌, ◌⊎◌, ℕ, ◌+◌, ◌≤◌, pos, ◌<ℤ◌, Bool, true, false, not, ◌&&◌, List, [], ◌∷◌, ◌++◌, Some, filter, All}
 use Rattle.std.specs.Option.{option_map_or}
 use Rattle.auction_terms.specs.declared.choices.Choice.{Choice}
+use Rattle.auction_terms.specs.Allocations.{Book, form_of}
+use Rattle.auction_terms.specs.Domination.{is_kept}
 use Rattle.auction_terms.specs.Keeping.{Offer}
+use Rattle.auction_terms.specs.Packages.{Lots}
 
 abbrev pub choice_of : Offer → Choice
 choice_of o = record { bidder = o.bidder; bid = o.number }
+
+-- a bid of a bidder outside the group that fits and pays, and that no bid of its form dominates
+abbrev pub is_kept_offer : Lots → Book → (ℕ → Bool) → Offer → Bool
+is_kept_offer lots book group o = not (group o.bidder) && is_kept lots (form_of book o.bidder) o.bid

@@ -1,5 +1,5 @@
 use Rattle.std.proofs.Common.{◌≡◌, map, take}
-use Rattle.auction_terms.specs.Entries.{weight_in}
+use Rattle.auction_terms.specs.inside.Entries.{weight_in}
 use Rattle.auction_terms.proofs.draft.weights_in.Given as goal
 
 abbrev pub invariant-loop-category : goal.invariant-loop-category

@@ -5,7 +5,8 @@ use Rattle.auction_terms.proofs.TermsFacts.{all-one}
 use Rattle.auction_terms.specs.Groups.{IsGroup}
 use Rattle.auction_terms.proofs.FirstFaultFacts.{checked-all, checked-fault, checked-more}
 use Rattle.auction_terms.proofs.GroupsTextFacts.{answers-fault}
-use Rattle.auction_terms.specs.GroupsText.{fault_of_line, group_of, group_line_fault}
+use Rattle.auction_terms.specs.GroupsText.{group_of, group_line_fault}
+use Rattle.auction_terms.specs.inside.GroupsText.{fault_of_line}
 use Rattle.auction_terms.specs.Lines.{lines_of}
 use Rattle.auction_terms.proofs.groups_text.read_groups.Goals as goal
 

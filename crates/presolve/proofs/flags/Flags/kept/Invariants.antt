@@ -2,7 +2,8 @@ use Rattle.std.proofs.Common.{◌≡◌, ◌+◌, ◌++◌, All, drop}
 use Rattle.std.specs.Prelude.{filter}
 use Rattle.auction_terms.specs.Bids.{IsKeptBid}
 use Rattle.auction_terms.specs.Groups.{has}
-use Rattle.auction_terms.specs.Keeping.{is_kept_offer, kept_of, offers_from}
+use Rattle.auction_terms.specs.Keeping.{kept_of, offers_from}
+use Rattle.auction_terms.specs.inside.Keeping.{is_kept_offer}
 use Rattle.auction_terms.specs.Offers.{offers}
 use Rattle.auction_terms.specs.Terms.{lots_in}
 use Rattle.bid_desk.specs.Closing.{book_of}
