@@ -1,7 +1,7 @@
 -- The book that an input leaves is within the limits.
 use Rattle.std.proofs.Common.{◌≡◌, ◌≤◌, ◌<◌, ◌+◌, ◌==◌, ◌++◌, ◌∷◌, ◌∙◌, [], ℕ, zero, suc, Bool, true, false, List, Option, None, Some, Result, Ok, Err, append_assoc, arith, drop, eqb-true, leb-true, length, length-append, map, refl, subst, sym}
-use Rattle.std.specs.Prelude.{cond, filter, is_some, nat_lt}
-use Rattle.std.specs.List.{AllByRecursion, last_or, range_with_len}
+use Rattle.std.specs.Prelude.{cond, filter, nat_le, nat_lt}
+use Rattle.std.specs.List.{AllByRecursion, last_or, list_all, range_with_len}
 use Rattle.std.proofs.lemmas.Bool.{and_parts, ltb-true}
 use Rattle.std.proofs.lemmas.List.{append-nil, length-map}
 use Rattle.std.proofs.lemmas.List.FromFn.{length-map-range_with_len}
@@ -20,8 +20,8 @@ use Rattle.auction_terms.specs.declared.record_kinds.Version.{Version}
 use Rattle.auction_terms.specs.declared.rules_text.RulesFault.{RulesFault}
 use Rattle.auction_terms.specs.declared.rules_text.RulesFault.TheVariants as rules_fault
 use Rattle.bid_desk.specs.Closing.{bids_in}
-use Rattle.bid_forms.specs.FormText.{bid_checks, bid_fault, bid_told, bidder_in, bidder_number, form_of_records, is_header}
-use Rattle.bid_forms.specs.Offers.{Offers, are_quantities, eligibility_of}
+use Rattle.bid_forms.specs.FormText.{bid_checks, bid_fault, bid_told, bidder_told, form_of_records}
+use Rattle.bid_forms.specs.Offers.{Offers, eligibility_of}
 use Rattle.bid_forms.specs.declared.form_text.FormFault.{FormFault}
 use Rattle.bid_forms.specs.declared.form_text.FormFault.TheVariants as form_fault
 use Rattle.auction_input.specs.BookLeft.{book_left}
@@ -57,7 +57,7 @@ few-bidders v more none step =
 abbrev pub IsWithin : Lots → Offers → Type 0
 IsWithin lots form = (length form.bids ≤ MOST_BIDS) × AllByRecursion (IsBid lots) form.bids
 
-small : (quantities : List ℕ) → are_quantities quantities ≡ true → AllByRecursion (λ n. n ≤ GREATEST_QUANTITY) quantities
+small : (quantities : List ℕ) → list_all (λ (quantity : ℕ). nat_le quantity GREATEST_QUANTITY) quantities ≡ true → AllByRecursion (λ n. n ≤ GREATEST_QUANTITY) quantities
 small [] are = tt
 small (n ∷ quantities) are = (let parts = and_parts _ _ are in (leb-true n GREATEST_QUANTITY parts.0, small quantities parts.1))
 
@@ -98,11 +98,13 @@ form-or (Some f) answer form told = cc
 form-within : (t : Terms) (records : List Record) (form : Offers) → form_of_records t records ≡ Ok form → IsWithin (lots_in t) form
 form-within t [] form told = cc
 form-within t (header ∷ more) form told =
-    let first = form-or (first_failed ((is_header t.categories header, form_fault.Header 1) ∷ (is_some (bidder_number t (record_field 1 header)), form_fault.UnknownBidder 1) ∷ [])) _ form told in
-    let second = form-or (first_fault (bid_fault t (eligibility_of t (bidder_in t header))) [] more) _ form first.1 in
-    let within = bids-within t (eligibility_of t (bidder_in t header)) [] more second.0 (omega arith) in
+    let first = ok-behind (bidder_told t header) _ form told in
+    let eligibility = eligibility_of t first.0 in
+    let second = form-or (first_fault (bid_fault t eligibility) [] more) _ form first.2 in
+    let within = bids-within t eligibility [] more second.0 (omega arith) in
     let count = length-map more bid_told in
-    subst (λ (o : Offers). IsWithin (lots_in t) o) (ok-is _ (record { bidder = (bidder_in t header); bids = (map bid_told more) }) form refl second.1) (omega arith, within.1)
+    let made : Offers = record { bidder = first.0; bids = map bid_told more } in
+    subst (λ (o : Offers). IsWithin (lots_in t) o) (ok-is _ made form refl second.1) (omega arith, within.1)
 
 -- ---- what an input tells
 

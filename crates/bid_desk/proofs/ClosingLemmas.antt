@@ -1,7 +1,7 @@
 -- What a settled history leaves standing.
 use Rattle.std.proofs.Common.{◌≡◌, ◌≢◌, ℕ, zero, suc, ◌+◌, ◌<◌, ◌≤◌, List, [], ◌∷◌, Bool, true, false, cond, map, length, refl, sym, ap, ◌∙◌, subst, arith, IsTrue, not, ◌==◌, ◌&&◌, ◌%◌, nat_le, ◌⊎◌, inl, inr}
 use Rattle.std.specs.Prelude.{filter, All, slice_index_or, Option, Some, None, IfSome}
-use Rattle.std.specs.List.{last_or, range_with_len, AllByRecursion}
+use Rattle.std.specs.List.{last_or, list_all, range_with_len, AllByRecursion}
 use Rattle.std.specs.Option.{option_map, option_map_or, option_and_then}
 use Rattle.std.proofs.lemmas.Bool.{and_parts, cases_lt, eqb-true, leb-true}
 use Rattle.std.proofs.lemmas.List.{get_or_past, length-map}
@@ -15,7 +15,7 @@ use Rattle.auction_terms.specs.declared.rules.Category.{Category}
 use Rattle.auction_terms.specs.declared.bids.Bid.{Bid}
 use Rattle.auction_terms.specs.declared.limits.TheConstants.{GREATEST_AMOUNT, GREATEST_QUANTITY, MOST_BIDS}
 use Rattle.auction_terms.specs.Allocations.{form_of}
-use Rattle.bid_forms.specs.Offers.{Offers, Meets, are_quantities, eligibility_of, is_bid_under, is_empty_package, points_of, reserve_of}
+use Rattle.bid_forms.specs.Offers.{Offers, Meets, eligibility_of, is_bid_under, points_of, reserve_of}
 use Rattle.bid_book.specs.declared.caller.Caller.{Caller}
 use Rattle.bid_book.specs.declared.caller.Caller.TheVariants.{Session, Chair}
 use Rattle.bid_book.specs.declared.call.Call.{Call}
@@ -98,8 +98,8 @@ IsBid-under t eligibility bid allowed =
     let sized = length bid.package == length t.categories in
     let priced = is_between 1 GREATEST_AMOUNT bid.amount in
     let stepped = bid.amount % t.step == 0 in
-    let counted = are_quantities bid.package in
-    let some = not (is_empty_package bid.package) in
+    let counted = list_all (λ (quantity : ℕ). nat_le quantity GREATEST_QUANTITY) bid.package in
+    let some = not (list_all (λ (quantity : ℕ). quantity == 0) bid.package) in
     let eligible = nat_le (points_of t.categories bid.package) eligibility in
     let dear = nat_le (reserve_of t.categories bid.package) bid.amount in
     let six = (and_parts (sized && priced && stepped && counted && some && eligible) dear allowed).0 in

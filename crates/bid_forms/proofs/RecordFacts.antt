@@ -6,7 +6,6 @@ use Rattle.std.proofs.lemmas.Bool.{le-leb}
 use Rattle.std.proofs.lemmas.List.Elements.{All-push}
 use Rattle.std.proofs.Common.{append_assoc}
 use Rattle.auction_terms.specs.Numbers.{number_of}
-use Rattle.bid_forms.specs.Offers.{are_quantities}
 use Rattle.std.specs.Str.{bytes_eq}
 use Rattle.std.specs.Cmp.Lexicographic.{pointwise}
 use Rattle.std.proofs.Math.Seq.{drop-cons}
@@ -66,7 +65,7 @@ quantities_from n r = map number_told (drop n r)
 abbrev pub QuantitiesSoFar : Record → ℕ → Bool → List ℕ → Type 0
 QuantitiesSoFar r n within items =
     (list_all (λ (text : List ℕ). is_some (number_of text)) (drop n r) ≡ list_all (λ (text : List ℕ). is_some (number_of text)) (drop 1 r))
-    × ((within && are_quantities (quantities_from n r)) ≡ are_quantities (quantities_from 1 r))
+    × ((within && list_all (λ (quantity : ℕ). nat_le quantity GREATEST_QUANTITY) (quantities_from n r)) ≡ list_all (λ (quantity : ℕ). nat_le quantity GREATEST_QUANTITY) (quantities_from 1 r))
     × (within ≡ true → items ++ quantities_from n r ≡ quantities_from 1 r)
     × All (λ quantity. quantity ≤ GREATEST_QUANTITY) items
     × (length items < n)

@@ -26,13 +26,6 @@ points_of categories lots = weighed (map (λ category. category.points) categori
 abbrev pub reserve_of : List Category → List ℕ → ℕ
 reserve_of categories lots = weighed (map (λ category. category.reserve) categories) lots
 
--- every quantity is 0
-abbrev pub is_empty_package : List ℕ → Bool
-is_empty_package lots = list_all (λ quantity. quantity == 0) lots
-
-abbrev pub are_quantities : List ℕ → Bool
-are_quantities lots = list_all (λ quantity. nat_le quantity GREATEST_QUANTITY) lots
-
 -- the eligibility of a bidder
 abbrev pub eligibility_of : Terms → ℕ → ℕ
 eligibility_of t bidder = slice_index (map (λ bidder. bidder.eligibility) t.bidders) (bidder - 1)
@@ -43,8 +36,8 @@ is_bid_under t eligibility bid =
     (length bid.package == length t.categories)
     && is_between 1 GREATEST_AMOUNT bid.amount
     && (bid.amount % t.step == 0)
-    && are_quantities bid.package
-    && not (is_empty_package bid.package)
+    && list_all (λ quantity. nat_le quantity GREATEST_QUANTITY) bid.package
+    && not (list_all (λ quantity. quantity == 0) bid.package)
     && nat_le (points_of t.categories bid.package) eligibility
     && nat_le (reserve_of t.categories bid.package) bid.amount
 

@@ -11,7 +11,7 @@ ghost use Rattle.auction_terms.specs.Terms.{AreTerms};
 ghost use Rattle.auction_terms.specs.declared.limits.TheConstants.{MOST_CATEGORIES};
 ghost use Rattle.bid_forms.specs.inside.Fingerprints.{AreSeen};
 ghost use Rattle.bid_forms.specs.Offers.{IsBidWithinLimits, Meets, eligibility_of, is_bid_under, number_of_package};
-ghost use Rattle.bid_forms.specs.FormText.{bid_fault, bid_told, bidder_in, bidder_number, form_of_records, is_header, is_form_memory};
+ghost use Rattle.bid_forms.specs.FormText.{bid_fault, bid_told, bidder_told, form_of_records, is_form_memory};
 ghost use Rattle.bid_forms.specs.inside.FormText.{amount_checks, fault_of_bid, package_checks, quantity_checks};
 ghost use Rattle.auction_terms.specs.Stages.{Answers};
 ghost use Rattle.auction_terms.specs.inside.FirstFault.{Tells, TellsFault};
@@ -132,7 +132,8 @@ macro_rules! number {
 // Whether the fields after the first are the names of the categories.
 fn is_header(categories: &[Category], row: &ByteRecord) -> bool
     requires { 1 ≤ length categories.now }
-    ensures { result ≡ is_header categories.now (fields_of row.now) }
+    ensures { result ≡ pointwise bytes_eq (drop 1 (fields_of row.now))
+        (map (λ category. category.name) categories.now) }
 {
     if row.len() != categories.len() + 1 {
         return false;
@@ -147,12 +148,7 @@ fn is_header(categories: &[Category], row: &ByteRecord) -> bool
 
 // The bidder that the header names.
 fn read_header(rules: &Rules, row: &ByteRecord) -> Result<u16, FormFault>
-    ensures answer { Tells is_form_memory result
-        (first_failed (
-        (is_header rules.now.categories (fields_of row.now), fault.Header 1)
-        ∷ (is_some (bidder_number rules.now (record_field 1 (fields_of row.now))), fault.UnknownBidder 1)
-        ∷ []))
-        (bidder_in rules.now (fields_of row.now)) }
+    ensures answer { Answers is_form_memory result (bidder_told rules.now (fields_of row.now)) }
     ensures some { IfOk result (λ bidder. 1 ≤ bidder) }
     ensures known { IfOk result (λ bidder. bidder ≤ length rules.now.bidders) }
 {

@@ -9,9 +9,9 @@ use Rattle.auction_terms.specs.RulesText.{record_field, is_between, field_number
 use Rattle.auction_terms.specs.Terms.{Terms}
 use Rattle.auction_terms.specs.declared.bids.Bid.{Bid}
 use Rattle.auction_terms.specs.declared.rules.Category.{Category}
-use Rattle.auction_terms.specs.declared.limits.TheConstants.{GREATEST_AMOUNT, MOST_BIDS}
+use Rattle.auction_terms.specs.declared.limits.TheConstants.{GREATEST_AMOUNT, GREATEST_QUANTITY, MOST_BIDS}
 use Rattle.bid_forms.specs.FormText.{bid_told}
-use Rattle.bid_forms.specs.Offers.{are_quantities, is_empty_package, number_of_package, points_of, reserve_of}
+use Rattle.bid_forms.specs.Offers.{number_of_package, points_of, reserve_of}
 use Rattle.bid_forms.specs.declared.form_text.FormFault.{FormFault}
 use Rattle.bid_forms.specs.declared.form_text.FormFault.TheVariants as fault
 
@@ -24,11 +24,11 @@ amount_checks step place r =
 abbrev pub quantity_checks : ℕ → Record → List (Bool × FormFault)
 quantity_checks place r =
     (list_all (λ text. is_some (number_of text)) (drop 1 r), fault.QuantityText place) ∷
-    (are_quantities (bid_told r).package, fault.QuantityRange place) ∷ []
+    (list_all (λ quantity. nat_le quantity GREATEST_QUANTITY) (bid_told r).package, fault.QuantityRange place) ∷ []
 
 abbrev pub package_checks : List Category → ℕ → ℕ → List ℕ → ℕ → List (Bool × FormFault)
 package_checks categories eligibility place lots amount =
-    (not (is_empty_package lots), fault.EmptyPackage place) ∷
+    (not (list_all (λ quantity. quantity == 0) lots), fault.EmptyPackage place) ∷
     (nat_le (points_of categories lots) eligibility, fault.OverEligibility place) ∷
     (nat_le (reserve_of categories lots) amount, fault.BelowReserve place) ∷ []
 
