@@ -22,7 +22,9 @@ is_member_of pool category member = bytes_eq member.pool pool && bytes_eq member
 
 -- the pool with the weights of all categories in it, 0 where one is no member
 abbrev pub pool_with : List Category → List Member → NamedCap → Pool
-pool_with categories members pool = record { name = pool.name; cap = pool.cap; weights = map (λ category. option_map_or (λ member. member.weight) (find (is_member_of pool.name category.name) members) 0) categories }
+pool_with categories members pool =
+    let weight = λ (category : Category). option_map_or (λ member. member.weight) (find (is_member_of pool.name category.name) members) 0 in
+    record { name = pool.name; cap = pool.cap; weights = map weight categories }
 
 -- the rules that entries make
 abbrev pub terms_of : ℕ → Entries → Terms

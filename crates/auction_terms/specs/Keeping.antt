@@ -1,5 +1,6 @@
 -- What presolve keeps of a book, and what stands in for a bid that it drops.
-use Rattle.std.specs.Prelude.{◌≡◌, ◌⊎◌, ℕ, ◌+◌, ◌≤◌, pos, ◌<ℤ◌, int_le, Bool, true, false, not, ◌&&◌, List, [], ◌∷◌, ◌++◌, Some, filter, All}
+use Rattle.std.specs.Prelude.{◌≡◌, ◌⊎◌, ℕ, ◌+◌, ◌≤◌, pos, ◌<ℤ◌, int_le, Bool, true, false, not, ◌&&◌, List, [], ◌∷◌, ◌++◌, Some, filter, flat_map, map, All}
+use Rattle.std.specs.List.{enumerate_from}
 use Rattle.std.specs.Option.{option_map_or}
 use Rattle.auction_terms.specs.declared.bids.Bid.{Bid}
 use Rattle.auction_terms.specs.declared.choices.Choice.{Choice}
@@ -28,13 +29,11 @@ pub record Offer : Type 0 where
 
 -- the bids of bidder b, numbered from j on
 abbrev pub offers_of_form : ℕ → ℕ → List Bid → List Offer
-offers_of_form b j [] = []
-offers_of_form b j (x ∷ form) = record { bidder = b; number = j; bid = x } ∷ offers_of_form b (j + 1) form
+offers_of_form b j form = map (λ (numbered : ℕ × Bid). record { bidder = b; number = numbered.0; bid = numbered.1 }) (enumerate_from j form)
 
 -- the bids of these bidders, numbered from b on
 abbrev pub offers_from : ℕ → Book → List Offer
-offers_from b [] = []
-offers_from b (form ∷ book) = offers_of_form b 1 form ++ offers_from (b + 1) book
+offers_from b book = flat_map (λ (numbered : ℕ × List Bid). offers_of_form numbered.0 1 numbered.1) (enumerate_from b book)
 
 -- the kept bids of the bidders outside the group, by rising bidder, then bid
 abbrev pub kept_of : Lots → Book → (ℕ → Bool) → List Offer
