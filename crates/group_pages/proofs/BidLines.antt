@@ -14,8 +14,9 @@ use Rattle.program_rows.specs.Rows.{subject_name, weight, subjects, lot_subjects
 use Rattle.program_rows.specs.Spelling.{bid_name}
 use Rattle.program_rows.specs.Lines.{Data}
 use Rattle.program_rows.proofs.LegalLaws.{Rises, dedup_rises, bidders_never_fall}
-use Rattle.mps_text.specs.Text.{row_name, written}
+use Rattle.mps_text.specs.Text.{written}
 use Rattle.mps_text.specs.Bytes.{entry_bytes, cost_bytes, column_bytes, bound_bytes}
+use Rattle.program_rows.specs.ProgramNames.{row_name}
 
 abbrev name_of : Offer → List ℕ
 name_of o = bid_name o.bidder o.number

@@ -14,7 +14,7 @@ use Rattle.program_rows.specs.Lines.{LineFields}
 use Rattle.program_rows.specs.Sections.{Sections}
 use Rattle.program_rows.specs.Described.{column_lines, all_right_sides, all_entries, names_both, Entry, line_entries, value, first_free, coefficient, column_entries, columns_named, table_column, table_rows, program, table_bounds}
 use Rattle.program_rows.specs.Faults.{is_binary, not_binary, stands_in_integers}
-use Rattle.mps_text.specs.Text.{row_name, row_block, right_side_fields, bound_fields}
+use Rattle.mps_text.specs.Text.{right_side_fields, bound_fields, row_fields}
 use Rattle.program_rows.specs.Legal.{IsWritable, IsSmall}
 use Rattle.mps_text.proofs.Small.{small_costs, small_entries}
 use Rattle.mps_text.proofs.Numbers.{number-signed_decimal}
@@ -26,6 +26,7 @@ use Rattle.mps_text.proofs.ColumnsBack.{of_column, look, plain_lines, entries_of
 use Rattle.mps_text.proofs.BoundsBack.{bounds-found, none-set, bounds-back, binary-back, sets, lower_types, upper_types}
 use Rattle.mps_text.proofs.EntriesBack.{worth, pair_of, entries-back}
 use Rattle.mps_text.proofs.Listing.{row_names, pairs_of, all_listed, places-differ, names-at, names-listed, all-filled, all-pairs-differ}
+use Rattle.program_rows.specs.ProgramNames.{row_name}
 
 abbrev rows_in : Sections → List TableRow
 rows_in before = table_rows before.rows (all_right_sides before.right_sides)
@@ -35,7 +36,7 @@ objective_in before = unwrap_or (first_free before.rows) []
 
 -- the lines before ENDATA list this program
 pub record Lists (before : Sections) (p : Table) : Type 0 where
-  pub rows : before.rows ≡ push (row_block p) []
+  pub rows : before.rows ≡ push ((codes "N" ∷ p.objective ∷ []) ∷ map row_fields p.rows) []
   pub columns : column_lines before.columns ≡ push (plain_lines (all_listed p p.columns)) []
   pub stand : AllByRecursion (λ c. stands_in_integers c.name before.columns ≡ true) p.columns
   pub sides : before.right_sides ≡ push (map right_side_fields p.rows) []
@@ -43,13 +44,13 @@ pub record Lists (before : Sections) (p : Table) : Type 0 where
 
 -- ---- rows and objective
 
-pub objective-back : (before : Sections) (p : Table) → before.rows ≡ push (row_block p) [] → first_free before.rows ≡ Some p.objective
-objective-back before p h = rw (h, push-onto_none (row_block p), reverse-reverse (row_block p)) refl
+pub objective-back : (before : Sections) (p : Table) → before.rows ≡ push ((codes "N" ∷ p.objective ∷ []) ∷ map row_fields p.rows) [] → first_free before.rows ≡ Some p.objective
+objective-back before p h = rw (h, push-onto_none ((codes "N" ∷ p.objective ∷ []) ∷ map row_fields p.rows), reverse-reverse ((codes "N" ∷ p.objective ∷ []) ∷ map row_fields p.rows)) refl
 
 pub rows-listed : (before : Sections) (p : Table) → IsProgram p → IsWritable p → Lists before p → rows_in before ≡ p.rows
 unfolding IsDistinct
 rows-listed before p legal told h =
-    rows_back before (codes "N" ∷ p.objective ∷ []) p.rows refl (h.rows ∙ push-onto_none (row_block p)) (h.sides ∙ push-onto_none (map right_side_fields p.rows)) legal.rows_differ.1 told.right_sides
+    rows_back before (codes "N" ∷ p.objective ∷ []) p.rows refl (h.rows ∙ push-onto_none ((codes "N" ∷ p.objective ∷ []) ∷ map row_fields p.rows)) (h.sides ∙ push-onto_none (map right_side_fields p.rows)) legal.rows_differ.1 told.right_sides
 
 -- ---- columns
 

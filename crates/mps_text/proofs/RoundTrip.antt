@@ -10,7 +10,7 @@ use Rattle.program_rows.specs.Described.{program, column_lines, first_free, all_
 use Rattle.program_rows.specs.Faults.{fault, first_faulty, is_declared, is_column, is_integer_open, not_binary, stands_in_integers}
 use Rattle.program_rows.specs.Meaning.{meaning}
 use Rattle.program_rows.specs.declared.fault.FaultKind.{FaultKind}
-use Rattle.mps_text.specs.Text.{text, text_lines, row_block, column_block, block, if_any, row_fields, right_side_fields, bound_fields, column_fields, marker_fields, row_name}
+use Rattle.mps_text.specs.Text.{text, text_lines, block, if_any, row_fields, right_side_fields, bound_fields, column_fields}
 use Rattle.program_rows.specs.Legal.{IsWritable, IsSmall}
 use Rattle.mps_text.specs.RoundTrip.{TextIsRead}
 use Rattle.mps_text.proofs.Small.{small_costs, small_entries}
@@ -29,11 +29,12 @@ use Rattle.mps_text.proofs.EntriesBack.{pair_of}
 use Rattle.mps_text.proofs.Listing.{row_names, all_listed, at-name, column-lines, data-lines, names-listed, all-filled, all-plain, IsPlainName, pairs-differ, any-keeps, rows-declared, columns-named}
 use Rattle.mps_text.proofs.WrittenLines.{all-written}
 use Rattle.mps_text.proofs.ProgramBack.{Lists, objective-back, program-back, all-binary}
+use Rattle.program_rows.specs.ProgramNames.{row_name}
 
 -- ---- names of rows
 
 abbrev rows_of : Table → List LineFields
-rows_of p = push (row_block p) []
+rows_of p = push ((codes "N" ∷ p.objective ∷ []) ∷ map row_fields p.rows) []
 
 -- the objective and each row is declared once the lines of ROWS stand
 objective-declared : (p : Table) → list_any (λ row. bytes_eq p.objective (field 1 row)) (rows_of p) ≡ true
@@ -135,10 +136,10 @@ abbrev name_line : Line
 name_line = Header (codes "NAME") (codes "wdp" ∷ [])
 
 abbrev rows_part : Table → List Line
-rows_part p = block (codes "ROWS") (row_block p)
+rows_part p = block (codes "ROWS") ((codes "N" ∷ p.objective ∷ []) ∷ map row_fields p.rows)
 
 abbrev columns_part : Table → List Line
-columns_part p = block (codes "COLUMNS") (column_block p)
+columns_part p = block (codes "COLUMNS") (if_any p.columns ((codes "M1" ∷ codes "'MARKER'" ∷ codes "'INTORG'" ∷ []) ∷ flat_map (column_fields p) p.columns ++ (codes "M2" ∷ codes "'MARKER'" ∷ codes "'INTEND'" ∷ []) ∷ []))
 
 abbrev sides_part : Table → List Line
 sides_part p = block (codes "RHS") (map right_side_fields p.rows)
@@ -165,7 +166,7 @@ behind-rows p legal =
     let before = held (codes "ROWS") (named ∷ []) [] [] [] in
     record {
       read = (refl, refl, (refl, refl, (refl, refl, rows-read before p.rows refl (new-rows p before (row_names p.rows) refl legal.rows_differ.0) legal.rows_differ.1)));
-      holds = holds-rows (row_block p) [] [] [] [];
+      holds = holds-rows ((codes "N" ∷ p.objective ∷ []) ∷ map row_fields p.rows) [] [] [] [];
     }
 
 -- COLUMNS without columns
@@ -176,10 +177,10 @@ behind-no_columns p ls h =
     (columns-header start p.objective refl (objective-back start p refl), refl, tt) refl
 
 abbrev first_marker : LineFields
-first_marker = marker_fields (codes "M1") (codes "'INTORG'")
+first_marker = codes "M1" ∷ codes "'MARKER'" ∷ codes "'INTORG'" ∷ []
 
 abbrev last_marker : LineFields
-last_marker = marker_fields (codes "M2") (codes "'INTEND'")
+last_marker = codes "M2" ∷ codes "'MARKER'" ∷ codes "'INTEND'" ∷ []
 
 abbrev marked : Table → List LineFields
 marked p = first_marker ∷ plain_lines (all_listed p p.columns) ++ last_marker ∷ []
@@ -297,7 +298,7 @@ behind-columns_part : (p : Table) (c : TableColumn) (cs : List TableColumn) (ls 
 behind-columns_part p c cs ls legal told e h =
     subst (λ (w : List LineFields). IsBehind (ls ++ Header (codes "COLUMNS") [] ∷ map Data w) (codes "COLUMNS") (rows_of p) (all_columns p) [] []) same (behind-columns p ls legal told h)
   where
-    same : marked p ≡ column_block p
+    same : marked p ≡ if_any p.columns ((codes "M1" ∷ codes "'MARKER'" ∷ codes "'INTORG'" ∷ []) ∷ flat_map (column_fields p) p.columns ++ (codes "M2" ∷ codes "'MARKER'" ∷ codes "'INTEND'" ∷ []) ∷ [])
     same = ap (λ (w : List LineFields). first_marker ∷ w ++ last_marker ∷ []) (sym (column-lines p p.columns)) ∙ if-some p.columns e
       where
         if-some : (ds : List TableColumn) → ds ≡ c ∷ cs → first_marker ∷ flat_map (column_fields p) p.columns ++ last_marker ∷ [] ≡ if_any ds (first_marker ∷ flat_map (column_fields p) p.columns ++ last_marker ∷ [])
