@@ -7,8 +7,8 @@ use Rattle.std.specs.Option.{option_map_or, option_to_list}
 use denote.Ref.{Bor}
 use Rattle.program_rows.specs.Lines.{Data, LineFields, field}
 use Rattle.program_rows.specs.Sections.{Sections, with_line}
-use Rattle.program_rows.specs.Described.{is_one_of, all_right_sides, right_side, coefficient, all_entries}
-use Rattle.program_rows.specs.Faults.{row_types, earliest_fault, when, is_declared, is_objective, objsense_fault, row_fault, column_fault, right_side_fault, bound_fault, data_fault}
+use Rattle.program_rows.specs.Described.{is_one_of, all_right_sides, right_side, coefficient, all_entries, first_free}
+use Rattle.program_rows.specs.Faults.{earliest_fault, when, is_declared, row_fault, column_fault, right_side_fault, bound_fault, fault, sense_fault}
 use Rattle.program_rows.specs.Program.{TableColumn}
 use Rattle.mps_reader.specs.inside.Rows.{names_of, option_now, declared_row_names, StampsAre, bound_lines_of}
 use Rattle.mps_reader.specs.inside.Columns.{ColumnsFit}
@@ -33,22 +33,27 @@ objective-any : (name : List ℕ) (o : Option (Bor (List ℕ))) → option_map_o
 objective-any name None = refl
 objective-any name (Some x) = refl
 
-pub objective-is : (before : Sections) (rights : List LineFields) (r : Rows) → RowsTell before.rows rights r → (name : List ℕ) → is_objective before.rows name ≡ option_map_or (λ other. bytes_eq name other.now) r.objective false
+pub objective-is : (before : Sections) (rights : List LineFields) (r : Rows) → RowsTell before.rows rights r → (name : List ℕ) → option_map_or (bytes_eq name) (first_free before.rows) false ≡ option_map_or (λ other. bytes_eq name other.now) r.objective false
 objective-is before rights r h name = ap (λ o. option_map_or (bytes_eq name) o false) (sym h.objective) ∙ objective-any name r.objective
 
-pub in-sense : (before : Sections) (f : LineFields) → before.section ≡ codes "OBJSENSE" → data_fault before f ≡ objsense_fault f
+pub in-sense : (before : Sections) (f : LineFields) → before.section ≡ codes "OBJSENSE" → fault before (Data f) ≡ sense_fault f
+unfolding fault
 in-sense before f s = rw s refl
 
-pub in-rows : (before : Sections) (f : LineFields) → before.section ≡ codes "ROWS" → data_fault before f ≡ row_fault before.rows f
+pub in-rows : (before : Sections) (f : LineFields) → before.section ≡ codes "ROWS" → fault before (Data f) ≡ row_fault before.rows f
+unfolding fault
 in-rows before f s = rw s refl
 
-pub in-columns : (before : Sections) (f : LineFields) → before.section ≡ codes "COLUMNS" → data_fault before f ≡ column_fault before f
+pub in-columns : (before : Sections) (f : LineFields) → before.section ≡ codes "COLUMNS" → fault before (Data f) ≡ column_fault before f
+unfolding fault
 in-columns before f s = rw s refl
 
-pub in-right-sides : (before : Sections) (f : LineFields) → before.section ≡ codes "RHS" → data_fault before f ≡ right_side_fault before f
+pub in-right-sides : (before : Sections) (f : LineFields) → before.section ≡ codes "RHS" → fault before (Data f) ≡ right_side_fault before f
+unfolding fault
 in-right-sides before f s = rw s refl
 
-pub in-bounds : (before : Sections) (f : LineFields) → before.section ≡ codes "BOUNDS" → data_fault before f ≡ bound_fault before.columns f
+pub in-bounds : (before : Sections) (f : LineFields) → before.section ≡ codes "BOUNDS" → fault before (Data f) ≡ bound_fault before.columns f
+unfolding fault
 in-bounds before f s = rw s refl
 
 -- ---- a line of ROWS
@@ -146,8 +151,8 @@ sense-step before f r is h = tells-sense before f r (h.section ∙ ap word_of is
 -- ---- the fault of a data line, as the code looks for it
 
 pub rows-fault : (before : Sections) (f : LineFields) (r : Reading) → r.section ≡ sections.Rows → ReadingTells before r
-    → data_fault before f ≡ earliest_fault (when (not (length f == 2)) Fields ∷ when (not (is_one_of (field 0 f) row_types)) RowType ∷ when (list_any (bytes_eq (field 1 f)) (names_of r.rows.names)) RowRepeated ∷ [])
-rows-fault before f r is h = in-rows before f (h.section ∙ ap word_of is) ∙ ap (λ b. earliest_fault (when (not (length f == 2)) Fields ∷ when (not (is_one_of (field 0 f) row_types)) RowType ∷ when b RowRepeated ∷ [])) (declared-is before before.right_sides r.rows h.lines.of_rows (field 1 f))
+    → fault before (Data f) ≡ earliest_fault (when (not (length f == 2)) Fields ∷ when (not (is_one_of (field 0 f) (codes "N" ∷ codes "L" ∷ codes "G" ∷ codes "E" ∷ []))) RowType ∷ when (list_any (bytes_eq (field 1 f)) (names_of r.rows.names)) RowRepeated ∷ [])
+rows-fault before f r is h = in-rows before f (h.section ∙ ap word_of is) ∙ ap (λ b. earliest_fault (when (not (length f == 2)) Fields ∷ when (not (is_one_of (field 0 f) (codes "N" ∷ codes "L" ∷ codes "G" ∷ codes "E" ∷ []))) RowType ∷ when b RowRepeated ∷ [])) (declared-is before before.right_sides r.rows h.lines.of_rows (field 1 f))
 
 -- stamps of a line of RHS
 pub right-stamps : (before : Sections) (r : Reading) (stamp : ℕ) → r.section ≡ sections.RightSides → stamp ≡ length r.columns.names.keys + 1 → ReadingTells before r

@@ -14,6 +14,7 @@ use Rattle.mps_reader.specs.inside.Tracking.{OpenTells}
 use Rattle.mps_reader.specs.declared.open_column.OpenColumn.{OpenColumn}
 use Rattle.mps_reader.proofs.NameFacts.{own_name, same_name}
 use Rattle.mps_reader.proofs.PairFaults.{begins, second, without-own}
+use Rattle.program_rows.specs.Numbers.{number as token_number}
 
 abbrev pub entry : List ℕ → List ℕ → List ℕ → Entry
 entry column row number = record { column = column; row = row; number = number }
@@ -124,7 +125,7 @@ two-tells f row number row2 number2 o rows earlier column a differ h = open-same
 
 -- the checks of a pair, whose row is known or not, and repeated or not
 abbrev pair_fault : Bool → Bool → List ℕ → Option FaultKind
-pair_fault known repeated number = earliest_fault (when (not known) UnknownRow ∷ when repeated EntryRepeated ∷ number_fault number ∷ [])
+pair_fault known repeated number = earliest_fault (when (not known) UnknownRow ∷ when repeated EntryRepeated ∷ number_fault (token_number number) ∷ [])
 
 abbrev entries_fault : List LineFields → (List ℕ → Bool) → LineFields → Option FaultKind
 entries_fault lines stood f = pairs_fault lines (λ pair. None) stood (pairs (drop 1 f))

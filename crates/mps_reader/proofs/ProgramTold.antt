@@ -4,7 +4,7 @@ use Rattle.std.specs.Prelude.{filter, not, is_some, unwrap_or, option_map, if◌
 use Rattle.std.specs.List.{AllByRecursion, enumerate_from}
 use Rattle.std.specs.Ordering.{int_eq}
 use Rattle.program_rows.specs.Sections.{Sections}
-use Rattle.program_rows.specs.Described.{program, all_entries, all_right_sides, table_rows, table_bounds, table_column, columns_named, coefficient, first_free}
+use Rattle.program_rows.specs.Described.{program, all_entries, all_right_sides, table_rows, table_column, columns_named, coefficient, first_free, lower, upper}
 use Rattle.program_rows.specs.Bounded.{bounded}
 use Rattle.program_rows.specs.Program.{TableRow, TableColumn}
 use Rattle.program_rows.specs.Parts.{shown_row}
@@ -43,7 +43,7 @@ values-bounds s = by s.lower s.upper
     by false (Some true) = refl
     by false (Some false) = refl
 
-bounds-told : (before : Sections) (s : ColumnState) (n : List ℕ) → state_values s ≡ told_values before.columns before.bounds n → state_bounds s ≡ table_bounds before.bounds n
+bounds-told : (before : Sections) (s : ColumnState) (n : List ℕ) → state_values s ≡ told_values before.columns before.bounds n → state_bounds s ≡ (if int_eq (lower before.bounds n) (pos 1) then One else (if int_eq (unwrap_or (upper before.bounds n) (pos 1)) (pos 0) then Zero else ZeroOrOne))
 bounds-told before s n h = values-bounds s ∙ ap (λ (v : Bool × ℤ × Option ℤ). if int_eq v.1 (pos 1) then One else (if int_eq (unwrap_or v.2 (pos 1)) (pos 0) then Zero else ZeroOrOne)) h
 
 column-told : (before : Sections) (o : Option (List ℕ)) (names : List (List ℕ)) (k : TableColumn) (s : ColumnState) (n : List ℕ) → o ≡ first_free before.rows → names ≡ map (λ (r : TableRow). r.name) (table_rows before.rows (all_right_sides before.right_sides)) → k ≡ told_column o names before.columns k.name → k.name ≡ n
@@ -52,8 +52,8 @@ column-told before o names k s n objective-is names-is told named h =
     ap (λ (c : TableColumn). record c { bounds = state_bounds s }) told
     ∙ ap (λ m. record { name = m; bounds = state_bounds s; cost = coefficient (all_entries before.columns) m (unwrap_or o []); entries = entries_at 0 (coefficient (all_entries before.columns) m) names }) named
     ∙ ap (λ b. record { name = n; bounds = b; cost = coefficient (all_entries before.columns) n (unwrap_or o []); entries = entries_at 0 (coefficient (all_entries before.columns) n) names }) (bounds-told before s n h)
-    ∙ ap (λ q. record { name = n; bounds = table_bounds before.bounds n; cost = coefficient (all_entries before.columns) n (unwrap_or q []); entries = entries_at 0 (coefficient (all_entries before.columns) n) names }) objective-is
-    ∙ ap (λ es. record { name = n; bounds = table_bounds before.bounds n; cost = coefficient (all_entries before.columns) n (unwrap_or (first_free before.rows) []); entries = es }) (ap (entries_at 0 (coefficient (all_entries before.columns) n)) names-is ∙ sym (entries-enumerated 0 (coefficient (all_entries before.columns) n) (table_rows before.rows (all_right_sides before.right_sides))))
+    ∙ ap (λ q. record { name = n; bounds = (if int_eq (lower before.bounds n) (pos 1) then One else (if int_eq (unwrap_or (upper before.bounds n) (pos 1)) (pos 0) then Zero else ZeroOrOne)); cost = coefficient (all_entries before.columns) n (unwrap_or q []); entries = entries_at 0 (coefficient (all_entries before.columns) n) names }) objective-is
+    ∙ ap (λ es. record { name = n; bounds = (if int_eq (lower before.bounds n) (pos 1) then One else (if int_eq (unwrap_or (upper before.bounds n) (pos 1)) (pos 0) then Zero else ZeroOrOne)); cost = coefficient (all_entries before.columns) n (unwrap_or (first_free before.rows) []); entries = es }) (ap (entries_at 0 (coefficient (all_entries before.columns) n)) names-is ∙ sym (entries-enumerated 0 (coefficient (all_entries before.columns) n) (table_rows before.rows (all_right_sides before.right_sides))))
 
 columns-told : (before : Sections) (o : Option (List ℕ)) (names : List (List ℕ)) (ks : List TableColumn) (ss : List ColumnState) (ns : List (List ℕ)) → o ≡ first_free before.rows → names ≡ map (λ (r : TableRow). r.name) (table_rows before.rows (all_right_sides before.right_sides))
     → AllByRecursion (λ k. k ≡ told_column o names before.columns k.name) ks → map (λ (k : TableColumn). k.name) ks ≡ ns

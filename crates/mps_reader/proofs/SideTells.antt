@@ -9,8 +9,8 @@ use Rattle.std.proofs.Math.Seq.{take-length}
 use denote.Ref.{Bor}
 use Rattle.program_rows.specs.Lines.{LineFields, field}
 use Rattle.program_rows.specs.Sections.{Sections}
-use Rattle.program_rows.specs.Described.{pairs, row_kind_of, value, all_right_sides, line_right_sides, right_side}
-use Rattle.program_rows.specs.Faults.{earliest_fault, when, is_declared, is_objective, constant_fault, pairs_fault, right_side_fault}
+use Rattle.program_rows.specs.Described.{pairs, row_kind_of, value, all_right_sides, line_right_sides, right_side, first_free}
+use Rattle.program_rows.specs.Faults.{earliest_fault, when, is_declared, constant_fault, pairs_fault, right_side_fault}
 use Rattle.program_rows.specs.declared.fault.FaultKind.{FaultKind}
 use Rattle.program_rows.specs.declared.fault.FaultKind.TheVariants.{UnknownRow, EntryRepeated}
 use Rattle.program_rows.specs.declared.row.Row.{Row}
@@ -137,11 +137,11 @@ two-rows f row number row2 number2 shown earlier lines a differ h = h ∙ rows-s
 abbrev sides_fault : List LineFields → (List ℕ → Bool) → LineFields → Option FaultKind
 sides_fault lines stood f = pairs_fault lines (constant_fault lines) stood (pairs f)
 
-checks-are : (lines : List LineFields) (row number : List ℕ) (known repeated cost : Bool) (fault : Option FaultKind) → is_objective lines row ≡ cost → side_fault known repeated cost number ≡ fault → pair_checks known repeated number (constant_fault lines (row, number)) ≡ fault
+checks-are : (lines : List LineFields) (row number : List ℕ) (known repeated cost : Bool) (fault : Option FaultKind) → option_map_or (bytes_eq row) (first_free lines) false ≡ cost → side_fault known repeated cost number ≡ fault → pair_checks known repeated number (constant_fault lines (row, number)) ≡ fault
 checks-are lines row number known repeated cost fault o h = ap (λ c. side_fault known repeated c number) o ∙ h
 
 pub first-refused : (lines : List LineFields) (stood : List ℕ → Bool) (f : LineFields) (row number : List ℕ) (known cost : Bool) (kind : FaultKind) → ((length f == 2) || (length f == 4)) ≡ true → field 0 f ≡ row → field 1 f ≡ number
-    → is_declared lines row ≡ known → is_objective lines row ≡ cost → side_fault known (stood row) cost number ≡ Some kind → sides_fault lines stood f ≡ Some kind
+    → is_declared lines row ≡ known → option_map_or (bytes_eq row) (first_free lines) false ≡ cost → side_fault known (stood row) cost number ≡ Some kind → sides_fault lines stood f ≡ Some kind
 first-refused lines stood f row number known cost kind count same told d o h = by (length f == 2) refl
   where
     begun : (more : List (List ℕ × List ℕ)) → pairs f ≡ (field 0 f, field 1 f) ∷ more → sides_fault lines stood f ≡ Some kind
@@ -153,13 +153,13 @@ first-refused lines stood f row number known cost kind count same told d o h = b
     by true e = begun [] (one-pair f (eqb-true _ _ e))
     by false e = begun ((field 2 f, field 3 f) ∷ []) (two-pairs f (eqb-true _ _ (ap (λ b. b || (length f == 4)) (sym e) ∙ count)))
 
-pub one-told : (lines : List LineFields) (stood : List ℕ → Bool) (f : LineFields) (row number : List ℕ) (known cost : Bool) → AreOne f row number → is_declared lines row ≡ known → is_objective lines row ≡ cost
+pub one-told : (lines : List LineFields) (stood : List ℕ → Bool) (f : LineFields) (row number : List ℕ) (known cost : Bool) → AreOne f row number → is_declared lines row ≡ known → option_map_or (bytes_eq row) (first_free lines) false ≡ cost
     → side_fault known (stood row) cost number ≡ None → sides_fault lines stood f ≡ None
 one-told lines stood f row number known cost a d o h =
     ap (pairs_fault lines (constant_fault lines) stood) (shown-one f row number a) ∙ begins lines (constant_fault lines) stood row number [] known None d (checks-are lines row number known (stood row) cost None o h)
 
 pub second-told : (lines : List LineFields) (stood : List ℕ → Bool) (f : LineFields) (row number row2 number2 : List ℕ) (known known2 cost cost2 : Bool) → AreTwo f row number row2 number2 → is_declared lines row ≡ known → is_declared lines row2 ≡ known2
-    → is_objective lines row ≡ cost → is_objective lines row2 ≡ cost2 → side_fault known (stood row) cost number ≡ None → sides_fault lines stood f ≡ side_fault known2 (bytes_eq row2 row || stood row2) cost2 number2
+    → option_map_or (bytes_eq row) (first_free lines) false ≡ cost → option_map_or (bytes_eq row2) (first_free lines) false ≡ cost2 → side_fault known (stood row) cost number ≡ None → sides_fault lines stood f ≡ side_fault known2 (bytes_eq row2 row || stood row2) cost2 number2
 second-told lines stood f row number row2 number2 known known2 cost cost2 a d d2 o o2 h =
     ap (pairs_fault lines (constant_fault lines) stood) (shown-two f row number row2 number2 a)
     ∙ second lines (constant_fault lines) stood row number row2 number2 known known2 d d2 (checks-are lines row number known (stood row) cost None o h)

@@ -14,6 +14,7 @@ ghost use Rattle.mps_reader.specs.inside.Rows.{RowsFit, StampsAre, names_of, dec
 ghost use Rattle.mps_reader.specs.inside.Tracking.{AreStampsUpTo, OpenTells, ColumnsTell, InColumns};
 ghost use Rattle.mps_reader.specs.declared.row_table.Rows as row_table;
 ghost use Rattle.mps_reader.specs.inside.Columns.{ColumnsFit, put_entries, PairsFit, BothFit};
+ghost use Rattle.program_rows.specs.Numbers.{number};
 
 use crate::column_table::ColumnTable;
 use crate::columns::{close_column, open_column};
@@ -67,7 +68,7 @@ fn take_entry<'t>(
         (names_of rows.old.names) has
         → AnswersFault result (earliest_fault
         (when (not (list_any (bytes_eq row.now) (names_of rows.old.names))) UnknownRow
-        ∷ when (has row.now) EntryRepeated ∷ number_fault token.now ∷ [])) }
+        ∷ when (has row.now) EntryRepeated ∷ number_fault (number token.now) ∷ [])) }
     ensures stamps { OnOk result ((has : List ℕ → Bool)
         → StampsAre rows.old.stamps.items stamp (names_of rows.old.names) has
         → StampsAre rows.new.stamps.items stamp (names_of rows.old.names)

@@ -5,8 +5,8 @@ ghost use Rattle.std.specs.List.{list_any};
 ghost use Rattle.std.specs.Option.{option_map_or};
 ghost use Rattle.program_rows.specs.Lines.{LineFields};
 ghost use Rattle.program_rows.specs.Sections.{Sections};
-ghost use Rattle.program_rows.specs.Described.{pairs, value, all_right_sides, right_side};
-ghost use Rattle.program_rows.specs.Faults.{is_declared, is_objective, constant_fault, pairs_fault, right_side_fault};
+ghost use Rattle.program_rows.specs.Described.{pairs, value, all_right_sides, right_side, first_free};
+ghost use Rattle.program_rows.specs.Faults.{is_declared, constant_fault, pairs_fault, right_side_fault};
 ghost use Rattle.auction_terms.specs.Borrowed.{bytes_of};
 ghost use Rattle.mps_reader.specs.inside.Reading.{AnswersFault};
 ghost use Rattle.std.specs.Ordering.{int_eq};
@@ -91,7 +91,7 @@ fn take_right_sides<'t>(rows: &mut Rows<'t>, stamp: usize, fields: &[&[u8]]) -> 
     ensures fault { (lines : List LineFields) (has : List ℕ → Bool)
         → ((name : List ℕ) → is_declared lines name
         ≡ list_any (bytes_eq name) (names_of rows.old.names))
-        → ((name : List ℕ) → is_objective lines name
+        → ((name : List ℕ) → option_map_or (bytes_eq name) (first_free lines) false
         ≡ option_map_or (λ other. bytes_eq name other.now) rows.old.objective false)
         → StampsAre rows.old.stamps.items stamp (names_of rows.old.names) has
         → AnswersFault result (pairs_fault lines (constant_fault lines) has
@@ -130,7 +130,7 @@ pub fn take_right_side_line<'t>(
     ensures names { rows.new.names ≡ rows.old.names }
     ensures fault { (before : Sections) → ((name : List ℕ)
         → is_declared before.rows name ≡ list_any (bytes_eq name) (names_of rows.old.names))
-        → ((name : List ℕ) → is_objective before.rows name
+        → ((name : List ℕ) → option_map_or (bytes_eq name) (first_free before.rows) false
         ≡ option_map_or (λ other. bytes_eq name other.now) rows.old.objective false)
         → StampsAre rows.old.stamps.items stamp (names_of rows.old.names)
         (λ row. list_any (λ other. bytes_eq row other.0) (all_right_sides before.right_sides))

@@ -1,19 +1,20 @@
 -- What the lines of BOUNDS say of the columns.
 use Rattle.std.proofs.Common.{◌≡◌, ℕ, Bool, true, false, cond, ◌&&◌, List, [], ◌∷◌, map, refl, ◌∙◌, Some, None}
-use Rattle.std.specs.Prelude.{bytes_eq, codes, find}
+use Rattle.std.specs.Prelude.{bytes_eq, codes, find, pos, if◌then◌else◌, unwrap_or}
 use Rattle.std.specs.List.{AllByRecursion, IsDistinct}
 use Rattle.program_rows.specs.declared.bounds.Bounds.{Bounds}
 use Rattle.program_rows.specs.declared.bounds.Bounds.TheVariants.{ZeroOrOne, Zero, One}
 use Rattle.program_rows.specs.Program.{TableColumn}
 use Rattle.program_rows.specs.Lines.{LineFields, field}
 use Rattle.program_rows.specs.Sections.{Sections}
-use Rattle.program_rows.specs.Described.{is_one_of, bound_column, table_bounds}
+use Rattle.program_rows.specs.Described.{is_one_of, bound_column, lower, upper}
 use Rattle.program_rows.specs.Faults.{is_binary, stands_in_integers}
 use Rattle.program_rows.specs.Numbers.{number}
 use Rattle.mps_text.specs.Text.{bound_fields, bound_words}
 use Rattle.mps_text.proofs.RowPhase.{flip}
 use Rattle.mps_text.proofs.ColumnPhase.{same-name}
 use Rattle.mps_text.proofs.Pushed.{push}
+use Rattle.std.specs.Ordering.{int_eq}
 
 -- whether a line sets a bound of one of these types on a column
 abbrev pub sets : List (List ℕ) → List ℕ → LineFields → Bool
@@ -66,7 +67,7 @@ line_for name b = (bound_words b).0 ∷ codes "BND" ∷ name ∷ (bound_words b)
 
 -- the bounds of a column come back
 pub bounds-back : (before : Sections) (name : List ℕ) (b : Bounds) → find (sets lower_types name) before.bounds ≡ find (sets lower_types name) (line_for name b ∷ [])
-    → find (sets upper_types name) before.bounds ≡ find (sets upper_types name) (line_for name b ∷ []) → table_bounds before.bounds name ≡ b
+    → find (sets upper_types name) before.bounds ≡ find (sets upper_types name) (line_for name b ∷ []) → (if int_eq (lower before.bounds name) (pos 1) then One else (if int_eq (unwrap_or (upper before.bounds name) (pos 1)) (pos 0) then Zero else ZeroOrOne)) ≡ b
 unfolding number
 bounds-back before name ZeroOrOne low high = rw (low, high, same-name name) refl
 bounds-back before name Zero low high = rw (low, high, same-name name) refl

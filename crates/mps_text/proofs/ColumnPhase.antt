@@ -9,6 +9,7 @@ use Rattle.program_rows.specs.Described.{all_entries, names_both}
 use Rattle.program_rows.specs.Faults.{fault, is_declared, is_split, is_column, number_fault}
 use Rattle.mps_text.proofs.Blocks.{onto, AreRead, AreRead-append, section-onto}
 use Rattle.mps_text.proofs.RowPhase.{flip}
+use Rattle.program_rows.specs.Numbers.{number}
 
 -- a row and a number of a column
 abbrev pub Pair : Type 0
@@ -22,7 +23,7 @@ pub record IsReady (before : Sections) (column : List ℕ) (pair : Pair) : Type 
   pub declared : is_declared before.rows pair.0 ≡ true
   pub plain : bytes_eq pair.0 (codes "'MARKER'") ≡ false
   pub new : list_any (names_both column pair.0) (all_entries before.columns) ≡ false
-  pub read : number_fault pair.1 ≡ None
+  pub read : number_fault (number pair.1) ≡ None
 
 pub same-name : (name : List ℕ) → bytes_eq name name ≡ true
 same-name name = (bytes_eq-Decides name name).1 refl

@@ -1,6 +1,6 @@
 -- The lines of a whole text give the program back.
 use Rattle.std.proofs.Common.{◌≡◌, ℕ, ◌+◌, ◌≤◌, Bool, true, false, not, List, [], ◌∷◌, length, map, refl, sym, ap, subst, ◌∙◌, arith, Option, Some, None}
-use Rattle.std.specs.Prelude.{bytes_eq, codes, find, flat_map, position, ℤ, pos, option_map, unwrap_or, slice_get}
+use Rattle.std.specs.Prelude.{bytes_eq, codes, find, flat_map, position, ℤ, pos, option_map, unwrap_or, slice_get, if◌then◌else◌, filter}
 use Rattle.std.specs.Option.{option_map_or}
 use Rattle.std.specs.List.{AllByRecursion, IsDistinct, enumerate_from}
 use Rattle.std.proofs.lemmas.List.{reverse-reverse}
@@ -12,8 +12,8 @@ use Rattle.program_rows.specs.Program.{Table, TableRow, TableColumn}
 use Rattle.program_rows.specs.Parts.{IsProgram, AreEntries}
 use Rattle.program_rows.specs.Lines.{LineFields}
 use Rattle.program_rows.specs.Sections.{Sections}
-use Rattle.program_rows.specs.Described.{column_lines, all_right_sides, all_entries, names_both, Entry, line_entries, value, first_free, coefficient, column_entries, columns_named, table_column, table_rows, program, table_bounds}
-use Rattle.program_rows.specs.Faults.{is_binary, not_binary, stands_in_integers}
+use Rattle.program_rows.specs.Described.{column_lines, all_right_sides, all_entries, names_both, Entry, line_entries, value, first_free, coefficient, columns_named, table_column, table_rows, program, lower, upper}
+use Rattle.program_rows.specs.Faults.{is_binary, stands_in_integers}
 use Rattle.mps_text.specs.Text.{right_side_fields, bound_fields, row_fields}
 use Rattle.program_rows.specs.Legal.{IsWritable, IsSmall}
 use Rattle.mps_text.proofs.Small.{small_costs, small_entries}
@@ -27,6 +27,9 @@ use Rattle.mps_text.proofs.BoundsBack.{bounds-found, none-set, bounds-back, bina
 use Rattle.mps_text.proofs.EntriesBack.{worth, pair_of, entries-back}
 use Rattle.mps_text.proofs.Listing.{row_names, pairs_of, all_listed, places-differ, names-at, names-listed, all-filled, all-pairs-differ}
 use Rattle.program_rows.specs.ProgramNames.{row_name}
+use Rattle.program_rows.specs.declared.fault.FaultKind.TheVariants.{NotBinary}
+use Rattle.program_rows.specs.declared.bounds.Bounds.TheVariants.{One, Zero, ZeroOrOne}
+use Rattle.std.specs.Ordering.{int_eq}
 
 abbrev rows_in : Sections → List TableRow
 rows_in before = table_rows before.rows (all_right_sides before.right_sides)
@@ -102,16 +105,16 @@ from-nought [] = tt
 from-nought (e ∷ es) = (omega arith, from-nought es)
 
 pub entries-listed : (before : Sections) (p : Table) (c : TableColumn) → IsFound before p c → rows_in before ≡ p.rows → IsDistinct bytes_eq (p.objective ∷ row_names p.rows) → AreEntries (length p.rows) c.entries → AllByRecursion (λ e. IsSmall e.1) c.entries
-    → column_entries (all_entries before.columns) (rows_in before) c.name ≡ c.entries
+    → filter (λ e. not (int_eq e.1 (pos 0))) (map (λ r. (r.0, coefficient (all_entries before.columns) c.name r.1.name)) (enumerate_from 0 (rows_in before))) ≡ c.entries
 unfolding IsDistinct
 entries-listed before p c h same differ legal small =
     rw same (entries-back (row_name p.rows) (length p.rows) (λ r. coefficient (all_entries before.columns) c.name r.1.name) 0 p.rows c.entries (places-differ p.rows differ.1) (omega arith) legal (from-nought c.entries) small
     (row-by-row before p c 0 p.rows h (names-at p.rows 0 p.rows (λ i. ap (λ (n : ℕ). slice_get p.rows n) (omega arith))) differ.0))
 
-column-from : (before : Sections) (c : TableColumn) → table_bounds before.bounds c.name ≡ c.bounds → coefficient (all_entries before.columns) c.name (objective_in before) ≡ c.cost → column_entries (all_entries before.columns) (rows_in before) c.name ≡ c.entries → table_column before c.name ≡ c
+column-from : (before : Sections) (c : TableColumn) → (if int_eq (lower before.bounds c.name) (pos 1) then One else (if int_eq (unwrap_or (upper before.bounds c.name) (pos 1)) (pos 0) then Zero else ZeroOrOne)) ≡ c.bounds → coefficient (all_entries before.columns) c.name (objective_in before) ≡ c.cost → filter (λ e. not (int_eq e.1 (pos 0))) (map (λ r. (r.0, coefficient (all_entries before.columns) c.name r.1.name)) (enumerate_from 0 (rows_in before))) ≡ c.entries → table_column before c.name ≡ c
 column-from before c b cost es =
-    ap (λ (w : Bounds). record { name = c.name; bounds = w; cost = coefficient (all_entries before.columns) c.name (objective_in before); entries = column_entries (all_entries before.columns) (rows_in before) c.name }) b
-    ∙ ap (λ (w : ℤ). record { name = c.name; bounds = c.bounds; cost = w; entries = column_entries (all_entries before.columns) (rows_in before) c.name }) cost
+    ap (λ (w : Bounds). record { name = c.name; bounds = w; cost = coefficient (all_entries before.columns) c.name (objective_in before); entries = filter (λ e. not (int_eq e.1 (pos 0))) (map (λ r. (r.0, coefficient (all_entries before.columns) c.name r.1.name)) (enumerate_from 0 (rows_in before))) }) b
+    ∙ ap (λ (w : ℤ). record { name = c.name; bounds = c.bounds; cost = w; entries = filter (λ e. not (int_eq e.1 (pos 0))) (map (λ r. (r.0, coefficient (all_entries before.columns) c.name r.1.name)) (enumerate_from 0 (rows_in before))) }) cost
     ∙ ap (λ (w : List (ℕ × ℤ)). record { name = c.name; bounds = c.bounds; cost = c.cost; entries = w }) es
 
 -- the one line of BOUNDS of a column decides
@@ -153,6 +156,6 @@ not-below n = false_from_ne_true _ (λ e. let lt = ltb-true n n e in absurd (ome
 none-passes : (p : List ℕ → Bool) (xs : List (List ℕ)) → position_or_len p xs ≡ length xs → position p xs ≡ None
 none-passes p xs h = rw (h, not-below (length xs)) refl
 
-pub all-binary : (before : Sections) (p : Table) → IsProgram p → Lists before p → not_binary before ≡ None
+pub all-binary : (before : Sections) (p : Table) → IsProgram p → Lists before p → option_map NotBinary (position (λ column. not (is_binary before column)) (columns_named before.columns)) ≡ None
 all-binary before p legal h =
     rw (names-back before p legal h, none-passes (λ name. not (is_binary before name)) (map (λ c. c.name) p.columns) (none-first before p.columns h.stand (all-set before p lower_types legal h) (all-set before p upper_types legal h))) refl

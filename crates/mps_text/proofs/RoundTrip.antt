@@ -1,13 +1,13 @@
 -- The meaning of the text of a program is the program.
 use Rattle.std.proofs.Common.{◌≡◌, ℕ, true, false, List, [], ◌∷◌, ◌++◌, length, map, refl, sym, ap, subst, ◌∙◌, Option, Some, None, Ok, Err, Result}
-use Rattle.std.specs.Prelude.{bytes_eq, codes, flat_map, ℤ}
+use Rattle.std.specs.Prelude.{bytes_eq, codes, flat_map, ℤ, position, option_map, not}
 use Rattle.std.specs.List.{list_any, AllByRecursion, IsDistinct}
 use Rattle.program_rows.specs.Program.{Table, TableRow, TableColumn}
 use Rattle.program_rows.specs.Parts.{IsProgram, AreEntries}
 use Rattle.program_rows.specs.Lines.{Line, Header, Data, LineFields, field}
 use Rattle.program_rows.specs.Sections.{Sections, no_lines, gathered}
-use Rattle.program_rows.specs.Described.{program, column_lines, first_free, all_entries}
-use Rattle.program_rows.specs.Faults.{fault, first_faulty, is_declared, is_column, is_integer_open, not_binary, stands_in_integers}
+use Rattle.program_rows.specs.Described.{program, column_lines, first_free, all_entries, columns_named}
+use Rattle.program_rows.specs.Faults.{fault, first_faulty, is_declared, is_column, is_integer_open, stands_in_integers, is_binary}
 use Rattle.program_rows.specs.Meaning.{meaning}
 use Rattle.program_rows.specs.declared.fault.FaultKind.{FaultKind}
 use Rattle.mps_text.specs.Text.{text, text_lines, block, if_any, row_fields, right_side_fields, bound_fields, column_fields}
@@ -30,6 +30,7 @@ use Rattle.mps_text.proofs.Listing.{row_names, all_listed, at-name, column-lines
 use Rattle.mps_text.proofs.WrittenLines.{all-written}
 use Rattle.mps_text.proofs.ProgramBack.{Lists, objective-back, program-back, all-binary}
 use Rattle.program_rows.specs.ProgramNames.{row_name}
+use Rattle.program_rows.specs.declared.fault.FaultKind.TheVariants.{NotBinary}
 
 -- ---- names of rows
 
@@ -122,11 +123,11 @@ bounds-header : (before : Sections) (name : List ℕ) → before.section ≡ cod
 unfolding fault
 bounds-header before name s o = rw (s, o) refl
 
-end-behind_sides : (before : Sections) (name : List ℕ) → before.section ≡ codes "RHS" → first_free before.rows ≡ Some name → not_binary before ≡ None → fault before (Header (codes "ENDATA") []) ≡ None
+end-behind_sides : (before : Sections) (name : List ℕ) → before.section ≡ codes "RHS" → first_free before.rows ≡ Some name → option_map NotBinary (position (λ column. not (is_binary before column)) (columns_named before.columns)) ≡ None → fault before (Header (codes "ENDATA") []) ≡ None
 unfolding fault
 end-behind_sides before name s o b = rw (s, o, b) refl
 
-end-behind_bounds : (before : Sections) (name : List ℕ) → before.section ≡ codes "BOUNDS" → first_free before.rows ≡ Some name → not_binary before ≡ None → fault before (Header (codes "ENDATA") []) ≡ None
+end-behind_bounds : (before : Sections) (name : List ℕ) → before.section ≡ codes "BOUNDS" → first_free before.rows ≡ Some name → option_map NotBinary (position (λ column. not (is_binary before column)) (columns_named before.columns)) ≡ None → fault before (Header (codes "ENDATA") []) ≡ None
 unfolding fault
 end-behind_bounds before name s o b = rw (s, o, b) refl
 

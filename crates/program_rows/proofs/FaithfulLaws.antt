@@ -26,9 +26,10 @@ use Rattle.program_rows.specs.Spelling.{is_bid, column_bid}
 use Rattle.auction_terms.specs.declared.limits.TheConstants.{MOST_BIDDERS, MOST_BIDS}
 use Rattle.program_rows.specs.declared.subject.Subject.{Subject}
 use Rattle.program_rows.specs.declared.subject.Subject.TheVariants.{Bidder, Category, Pool}
-use Rattle.program_rows.specs.Rows.{weight, most, subjects, row_of, entries_from, column_of, constant_column, worth_column, program_of}
+use Rattle.program_rows.specs.Rows.{weight, most, subjects, row_of, entries_from, column_of, worth_column, program_of}
 use Rattle.program_rows.specs.Faithful.{back, Matched, PresolvedIsFaithful, LeastIsGreatest}
 use Rattle.program_rows.proofs.SpellingLaws.{reads_back}
+use Rattle.program_rows.specs.declared.bounds.Bounds.TheVariants.{One}
 
 -- ---------- lists ----------
 
@@ -107,7 +108,7 @@ names_none : column_bid (codes "K") ≡ None
 unfolding column_bid
 names_none = refl
 
-column_names_none : (lots : Lots) (b : Bool) (p : List Bool) → back (cond b [] (constant_column lots ∷ [])) p ≡ []
+column_names_none : (lots : Lots) (b : Bool) (p : List Bool) → back (cond b [] (record { name = codes "K"; bounds = One; cost = neg_ℤ (pos (worth_of_all lots)); entries = [] } ∷ [])) p ≡ []
 column_names_none lots true p = refl
 column_names_none lots false [] = refl
 column_names_none lots false (true ∷ p) = ap (λ (x : Option Choice). option_to_list x ++ []) names_none
@@ -130,14 +131,14 @@ sum_is f g lots rows last (o ∷ kept) (true ∷ p) h z =
 sum_is f g lots rows last (o ∷ kept) (false ∷ p) h z = sum_is f g lots rows last kept p h z
 
 -- the column of what all lots are worth stands in no row
-in_no_row : (lots : Lots) (row : ℕ) (b : Bool) (q : List Bool) → sum_at_one (coefficient_at row) (cond b [] (constant_column lots ∷ [])) q ≡ pos 0
+in_no_row : (lots : Lots) (row : ℕ) (b : Bool) (q : List Bool) → sum_at_one (coefficient_at row) (cond b [] (record { name = codes "K"; bounds = One; cost = neg_ℤ (pos (worth_of_all lots)); entries = [] } ∷ [])) q ≡ pos 0
 in_no_row lots row true q = refl
 in_no_row lots row false [] = refl
 in_no_row lots row false (true ∷ q) = refl
 in_no_row lots row false (false ∷ q) = refl
 
 -- and is always 1
-always_one : (lots : Lots) (b : Bool) (q : List Bool) → (worth_of_all lots == 0) ≡ b → AreAllowed (cond b [] (constant_column lots ∷ [])) q → sum_at_one (λ c. c.cost) (cond b [] (constant_column lots ∷ [])) q ≡ neg_ℤ (pos (worth_of_all lots))
+always_one : (lots : Lots) (b : Bool) (q : List Bool) → (worth_of_all lots == 0) ≡ b → AreAllowed (cond b [] (record { name = codes "K"; bounds = One; cost = neg_ℤ (pos (worth_of_all lots)); entries = [] } ∷ [])) q → sum_at_one (λ c. c.cost) (cond b [] (record { name = codes "K"; bounds = One; cost = neg_ℤ (pos (worth_of_all lots)); entries = [] } ∷ [])) q ≡ neg_ℤ (pos (worth_of_all lots))
 always_one lots true q e a = ap (λ (n : ℕ). neg_ℤ (pos n)) (sym (eqb-true (worth_of_all lots) 0 e))
 always_one lots false [] e a = absurd a
 always_one lots false (true ∷ []) e a = let z : ℤ = neg_ℤ (pos (worth_of_all lots)) in let s : z +ℤ pos 0 ≡ z = omega (arith, ints) in s
@@ -408,7 +409,7 @@ chosen_marks q g (o ∷ xs) vs = marked q g o xs vs (q o) (chosen_marks q g xs v
 abbrev last_values : Lots → List Bool
 last_values lots = cond (worth_of_all lots == 0) [] (true ∷ [])
 
-last_allowed : (lots : Lots) (b : Bool) → AreAllowed (cond b [] (constant_column lots ∷ [])) (cond b [] (true ∷ []))
+last_allowed : (lots : Lots) (b : Bool) → AreAllowed (cond b [] (record { name = codes "K"; bounds = One; cost = neg_ℤ (pos (worth_of_all lots)); entries = [] } ∷ [])) (cond b [] (true ∷ []))
 last_allowed lots true = tt
 last_allowed lots false = (refl, tt)
 

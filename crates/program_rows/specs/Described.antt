@@ -6,7 +6,6 @@ use Rattle.std.specs.Result.{result_unwrap_or}
 use Rattle.std.specs.Ordering.{int_eq}
 use Rattle.program_rows.specs.declared.row.RowKind.{RowKind}
 use Rattle.program_rows.specs.declared.row.RowKind.TheVariants.{AtMost, AtLeast, Equal}
-use Rattle.program_rows.specs.declared.bounds.Bounds.{Bounds}
 use Rattle.program_rows.specs.declared.bounds.Bounds.TheVariants.{ZeroOrOne, Zero, One}
 use Rattle.program_rows.specs.Program.{Table, TableRow, TableColumn}
 use Rattle.program_rows.specs.Lines.{LineFields, field}
@@ -25,9 +24,8 @@ value token = result_unwrap_or (number token) (pos 0)
 
 -- fields two by two: the name of a row and a number
 abbrev pub pairs : LineFields → List (List ℕ × List ℕ)
-pairs [] = []
-pairs (a ∷ []) = []
 pairs (a ∷ b ∷ fields) = (a, b) ∷ pairs fields
+pairs fields = []
 
 -- ---- RHS: pairs of a row and its right side
 
@@ -102,10 +100,6 @@ names_both column row e = bytes_eq column e.column && bytes_eq row e.row
 abbrev pub coefficient : List Entry → List ℕ → List ℕ → ℤ
 coefficient entries column row = option_map_or (λ e. value e.number) (find (names_both column row) entries) (pos 0)
 
--- the coefficients of a column that are not 0, by the places of the rows
-abbrev pub column_entries : List Entry → List TableRow → List ℕ → List (ℕ × ℤ)
-column_entries entries rows column = filter (λ e. not (int_eq e.1 (pos 0))) (map (λ r. (r.0, coefficient entries column r.1.name)) (enumerate_from 0 rows))
-
 -- ---- BOUNDS: a type, the name of the set if there is one, a column, and a number unless the type is BV
 
 -- BV bounds a column by 0 and 1
@@ -136,19 +130,15 @@ lower bounds column = option_map_or (λ fields. if is_binary_bound fields then p
 abbrev pub upper : List LineFields → List ℕ → Option ℤ
 upper bounds column = option_map (λ fields. if is_binary_bound fields then pos 1 else value (bound_number fields)) (last_bound (codes "UP" ∷ codes "FX" ∷ codes "BV" ∷ []) bounds column)
 
--- which of 0 and 1 the bounds leave a column
-abbrev pub table_bounds : List LineFields → List ℕ → Bounds
-table_bounds bounds column = if int_eq (lower bounds column) (pos 1) then One else (if int_eq (unwrap_or (upper bounds column) (pos 1)) (pos 0) then Zero else ZeroOrOne)
-
 -- ---- the whole
 
--- a column with its bounds, its cost and its entries
+-- a column: which of 0 and 1 its bounds leave, its cost, and its coefficients that are not 0, by the places of the rows
 abbrev pub table_column : Sections → List ℕ → TableColumn
 table_column s name = record {
   name = name;
-  bounds = table_bounds s.bounds name;
+  bounds = if int_eq (lower s.bounds name) (pos 1) then One else (if int_eq (unwrap_or (upper s.bounds name) (pos 1)) (pos 0) then Zero else ZeroOrOne);
   cost = coefficient (all_entries s.columns) name (unwrap_or (first_free s.rows) []);
-  entries = column_entries (all_entries s.columns) (table_rows s.rows (all_right_sides s.right_sides)) name;
+  entries = filter (λ e. not (int_eq e.1 (pos 0))) (map (λ r. (r.0, coefficient (all_entries s.columns) name r.1.name)) (enumerate_from 0 (table_rows s.rows (all_right_sides s.right_sides))));
 }
 
 -- the objective, the rows and the columns

@@ -1,12 +1,12 @@
 -- What a reading holds of the lines before.
-use Rattle.std.specs.Prelude.{◌≡◌, ℕ, ◌+◌, ◌++◌, ◌≤◌, ◌==◌, Bool, true, false, List, [], ◌∷◌, length, map, slice_get, if◌then◌else◌, ℤ, pos, Option, Some, None, IfSome, is_some, codes, bytes_eq, option_map, unwrap_or}
+use Rattle.std.specs.Prelude.{◌≡◌, ℕ, ◌+◌, ◌++◌, ◌≤◌, ◌==◌, ◌||◌, ◌&&◌, Bool, true, false, List, [], ◌∷◌, length, map, slice_get, if◌then◌else◌, ℤ, pos, Option, Some, None, IfSome, is_some, codes, bytes_eq, option_map, unwrap_or}
 use Rattle.std.specs.List.{list_any, AllByRecursion}
 use Rattle.std.specs.Option.{option_map_or}
 use denote.Ref.{Bor}
 use Rattle.program_rows.specs.Lines.{LineFields}
 use Rattle.program_rows.specs.Sections.{Sections}
-use Rattle.program_rows.specs.Described.{names_both, first_free, all_right_sides, table_rows, columns_named, all_entries, coefficient, lower, upper}
-use Rattle.program_rows.specs.Faults.{is_integer_open, is_integer}
+use Rattle.program_rows.specs.Described.{names_both, first_free, all_right_sides, table_rows, columns_named, all_entries, coefficient, lower, upper, is_binary_bound, bound_column}
+use Rattle.program_rows.specs.Faults.{is_integer_open, stands_in_integers}
 use Rattle.program_rows.specs.declared.bounds.Bounds.TheVariants.{ZeroOrOne}
 use Rattle.program_rows.specs.Program.{TableColumn}
 use Rattle.program_rows.specs.Parts.{shown_row}
@@ -53,7 +53,11 @@ abbrev pub bounded_values : List ℕ → ℤ → Bool × ℤ × Option ℤ → B
 bounded_values word number v = (v.0, if bytes_eq word (codes "UP") then v.1 else number, if bytes_eq word (codes "LO") then v.2 else Some number)
 
 abbrev pub told_values : List LineFields → List LineFields → List ℕ → Bool × ℤ × Option ℤ
-told_values lines bounds column = (is_integer lines bounds column, lower bounds column, upper bounds column)
+told_values lines bounds column = (
+  stands_in_integers column lines || list_any (λ fields. is_binary_bound fields && bytes_eq column (bound_column fields)) bounds,
+  lower bounds column,
+  upper bounds column,
+)
 
 -- a column whose lines are all read, but for its bounds
 abbrev pub told_column : Option (List ℕ) → List (List ℕ) → List LineFields → List ℕ → TableColumn

@@ -4,7 +4,7 @@ use Rattle.std.specs.List.{list_any}
 use Rattle.program_rows.specs.declared.fault.FaultKind.TheVariants.{UnknownColumn}
 use Rattle.program_rows.specs.Lines.{field}
 use Rattle.program_rows.specs.Described.{value, is_binary_bound, bound_place, bound_column, bound_number}
-use Rattle.program_rows.specs.Faults.{is_column, bit_fault}
+use Rattle.program_rows.specs.Faults.{is_column}
 use Rattle.auction_terms.specs.Borrowed.{bytes_of}
 use Rattle.mps_reader.specs.inside.Rows.{names_of}
 use Rattle.mps_reader.specs.inside.Tracking.{state_values, told_values, bounded_values}
@@ -15,6 +15,7 @@ use Rattle.mps_reader.proofs.PairSteps.{get-below, get-from}
 use Rattle.mps_reader.specs.declared.column_state.ColumnState.{ColumnState}
 use Rattle.mps_reader.proofs.AnswerFacts.{handed-on}
 use Rattle.mps_reader.proofs.BoundTells.{type-refused, type-taken, column-any, last-one, values-binary, values-of, told-at, bound-tells}
+use Rattle.mps_reader.specs.inside.Reading.{bit_fault}
 use Rattle.mps_reader.proofs.bounds.take_bound.Goals as goal
 
 pub returns-in_err-is_binary-clause-fault : goal.returns-in_err-is_binary-clause-fault
