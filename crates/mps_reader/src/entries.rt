@@ -5,7 +5,7 @@ ghost use Rattle.std.specs.List.{AllByRecursion, list_any};
 ghost use Rattle.program_rows.specs.declared.fault.FaultKind.TheVariants.{UnknownRow, EntryRepeated};
 ghost use Rattle.program_rows.specs.Lines.{field, LineFields};
 ghost use Rattle.program_rows.specs.Sections.{Sections};
-ghost use Rattle.program_rows.specs.Described.{value, pairs, Entry, names_both, line_entries, is_marker, coefficient};
+ghost use Rattle.program_rows.specs.Described.{value, pairs, is_marker, number_beside};
 ghost use Rattle.program_rows.specs.Faults.{earliest_fault, when, number_fault, is_declared, pairs_fault, is_integer_open, marker_fault, column_fault};
 ghost use Rattle.program_rows.specs.Parts.{IsName};
 ghost use Rattle.auction_terms.specs.Borrowed.{bytes_of};
@@ -135,21 +135,20 @@ fn take_entries<'t>(
         → StampsAre rows.old.stamps.items stamp (names_of rows.old.names) has
         → AnswersFault result (pairs_fault lines (λ pair. None) has
         (pairs (drop 1 (bytes_of fields.now)))) }
-    ensures stamps { OnOk result ((earlier : List Entry)
+    ensures stamps { OnOk result ((earlier : List (List ℕ × List ℕ))
         → StampsAre rows.old.stamps.items stamp (names_of rows.old.names)
-        (λ row. list_any (names_both (field 0 (bytes_of fields.now)) row) earlier)
+        (λ row. list_any (λ other. bytes_eq row other.0) earlier)
         → StampsAre rows.new.stamps.items stamp (names_of rows.old.names)
-        (λ row. list_any (names_both (field 0 (bytes_of fields.now)) row)
-        (line_entries (bytes_of fields.now) ++ earlier))) }
+        (λ row. list_any (λ other. bytes_eq row other.0)
+        (pairs (drop 1 (bytes_of fields.now)) ++ earlier))) }
     ensures low { OnOk result (AreStampsUpTo stamp rows.old → AreStampsUpTo stamp rows.new) }
-    ensures tells { OnOk result (PairsFit stamp rows.old column.old → (earlier : List Entry)
+    ensures tells { OnOk result (PairsFit stamp rows.old column.old → (earlier : List (List ℕ × List ℕ))
         → StampsAre rows.old.stamps.items stamp (names_of rows.old.names)
-        (λ row. list_any (names_both (field 0 (bytes_of fields.now)) row) earlier)
+        (λ row. list_any (λ other. bytes_eq row other.0) earlier)
         → OpenTells (option_now rows.old.objective) (declared_row_names rows.old.rows.items)
-        (coefficient earlier (field 0 (bytes_of fields.now))) column.old
+        (number_beside earlier) column.old
         → OpenTells (option_now rows.old.objective) (declared_row_names rows.old.rows.items)
-        (coefficient (line_entries (bytes_of fields.now) ++ earlier)
-        (field 0 (bytes_of fields.now))) column.new) }
+        (number_beside (pairs (drop 1 (bytes_of fields.now)) ++ earlier)) column.new) }
 {
     take_entry(rows, column, stamp, fields[1], fields[2])?;
     if fields.len() == 5 {

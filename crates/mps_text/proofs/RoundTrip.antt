@@ -6,7 +6,7 @@ use Rattle.program_rows.specs.Program.{Table, TableRow, TableColumn}
 use Rattle.program_rows.specs.Parts.{IsProgram, AreEntries}
 use Rattle.program_rows.specs.Lines.{Line, Header, Data, LineFields, field}
 use Rattle.program_rows.specs.Sections.{Sections, no_lines, gathered}
-use Rattle.program_rows.specs.Described.{program, column_lines, first_free, all_entries, columns_named}
+use Rattle.program_rows.specs.Described.{program, column_lines, first_free, columns_named}
 use Rattle.program_rows.specs.Faults.{fault, first_faulty, is_declared, is_column, is_integer_open, stands_in_integers, is_binary}
 use Rattle.program_rows.specs.Meaning.{meaning}
 use Rattle.program_rows.specs.declared.fault.FaultKind.{FaultKind}
@@ -55,7 +55,7 @@ new-rows p before (name ∷ names) e d = (rw (e, flip p.objective name d.0) refl
 
 -- ---- the lines of COLUMNS
 
-ready-entries : (p : Table) (before : Sections) (name : List ℕ) (es : List (ℕ × ℤ)) → before.rows ≡ rows_of p → all_entries before.columns ≡ [] → AllByRecursion IsPlainName (row_names p.rows) → AreEntries (length p.rows) es → AllByRecursion (λ e. IsSmall e.1) es
+ready-entries : (p : Table) (before : Sections) (name : List ℕ) (es : List (ℕ × ℤ)) → before.rows ≡ rows_of p → column_lines before.columns ≡ [] → AllByRecursion IsPlainName (row_names p.rows) → AreEntries (length p.rows) es → AllByRecursion (λ e. IsSmall e.1) es
     → AllByRecursion (IsReady before name) (map (pair_of (row_name p.rows)) es)
 ready-entries p before name [] rs none plain legal small = tt
 ready-entries p before name (e ∷ es) rs none plain legal small = (
@@ -81,7 +81,7 @@ new-columns p before (c ∷ cs) rs none plain differ legal cost small = (
         new = rw none refl;
         read = rw (number-signed_decimal c.cost cost.0) refl;
       },
-      ready-entries p before c.name c.entries rs (rw none refl) plain.1 legal.0 small.0,
+      ready-entries p before c.name c.entries rs none plain.1 legal.0 small.0,
     );
     differ = pairs-differ p c differ legal.0;
   },

@@ -27,19 +27,15 @@ abbrev pub pairs : LineFields → List (List ℕ × List ℕ)
 pairs (a ∷ b ∷ fields) = (a, b) ∷ pairs fields
 pairs fields = []
 
+-- the number of the first of these pairs that names the row, else 0
+abbrev pub number_beside : List (List ℕ × List ℕ) → List ℕ → ℤ
+number_beside numbers row = option_map_or (λ pair. value pair.1) (find (λ pair. bytes_eq row pair.0) numbers) (pos 0)
+
 -- ---- RHS: pairs of a row and its right side
 
 -- where the number of fields is odd, the first is the name of the set
 abbrev pub line_right_sides : LineFields → List (List ℕ × List ℕ)
 line_right_sides fields = pairs (drop (length fields % 2) fields)
-
--- those of all lines, the last line first
-abbrev pub all_right_sides : List LineFields → List (List ℕ × List ℕ)
-all_right_sides lines = flat_map line_right_sides lines
-
--- the number of the pair that names the row, else 0
-abbrev pub right_side : List (List ℕ × List ℕ) → List ℕ → ℤ
-right_side sides row = option_map_or (λ pair. value pair.1) (find (λ pair. bytes_eq row pair.0) sides) (pos 0)
 
 -- ---- ROWS: a type and a name
 
@@ -57,7 +53,7 @@ row_kind_of letter = if bytes_eq letter (codes "L") then AtMost else (if bytes_e
 
 -- the rows that are not free, in the order of the text, with their right sides
 abbrev pub table_rows : List LineFields → List (List ℕ × List ℕ) → List TableRow
-table_rows rows sides = map (λ row. record { name = field 1 row; kind = row_kind_of (field 0 row); right_side = right_side sides (field 1 row) }) (filter (λ row. not (is_free row)) (reverse rows))
+table_rows rows sides = map (λ row. record { name = field 1 row; kind = row_kind_of (field 0 row); right_side = number_beside sides (field 1 row) }) (filter (λ row. not (is_free row)) (reverse rows))
 
 -- ---- COLUMNS: the name of a column and pairs of a row and a number, between lines that are markers
 
@@ -78,27 +74,9 @@ each_once (fields ∷ before) = if list_any (λ other. bytes_eq (field 0 fields)
 abbrev pub columns_named : List LineFields → List (List ℕ)
 columns_named lines = each_once (column_lines lines)
 
--- a row and a number that a line gives its column
-pub record Entry : Type 0 where
-  pub column : List ℕ
-  pub row : List ℕ
-  pub number : List ℕ
-
--- the entries of a line
-abbrev pub line_entries : LineFields → List Entry
-line_entries fields = map (λ p. record { column = field 0 fields; row = p.0; number = p.1 }) (pairs (drop 1 fields))
-
--- those of all lines, the last line first
-abbrev pub all_entries : List LineFields → List Entry
-all_entries lines = flat_map line_entries (column_lines lines)
-
--- whether an entry is of this column and row
-abbrev pub names_both : List ℕ → List ℕ → Entry → Bool
-names_both column row e = bytes_eq column e.column && bytes_eq row e.row
-
--- the number of the entry that names the column and the row, else 0
-abbrev pub coefficient : List Entry → List ℕ → List ℕ → ℤ
-coefficient entries column row = option_map_or (λ e. value e.number) (find (names_both column row) entries) (pos 0)
+-- the pairs that the lines give a column, the last line first
+abbrev pub column_pairs : List LineFields → List ℕ → List (List ℕ × List ℕ)
+column_pairs lines column = flat_map (λ fields. pairs (drop 1 fields)) (filter (λ fields. bytes_eq column (field 0 fields)) (column_lines lines))
 
 -- ---- BOUNDS: a type, the name of the set if there is one, a column, and a number unless the type is BV
 
@@ -137,14 +115,14 @@ abbrev pub table_column : Sections → List ℕ → TableColumn
 table_column s name = record {
   name = name;
   bounds = if int_eq (lower s.bounds name) (pos 1) then One else (if int_eq (unwrap_or (upper s.bounds name) (pos 1)) (pos 0) then Zero else ZeroOrOne);
-  cost = coefficient (all_entries s.columns) name (unwrap_or (first_free s.rows) []);
-  entries = filter (λ e. not (int_eq e.1 (pos 0))) (map (λ r. (r.0, coefficient (all_entries s.columns) name r.1.name)) (enumerate_from 0 (table_rows s.rows (all_right_sides s.right_sides))));
+  cost = number_beside (column_pairs s.columns name) (unwrap_or (first_free s.rows) []);
+  entries = filter (λ e. not (int_eq e.1 (pos 0))) (map (λ r. (r.0, number_beside (column_pairs s.columns name) r.1.name)) (enumerate_from 0 (table_rows s.rows (flat_map line_right_sides s.right_sides))));
 }
 
 -- the objective, the rows and the columns
 unfoldable pub program : Sections → Table
 program s = record {
   objective = unwrap_or (first_free s.rows) [];
-  rows = table_rows s.rows (all_right_sides s.right_sides);
+  rows = table_rows s.rows (flat_map line_right_sides s.right_sides);
   columns = map (table_column s) (columns_named s.columns);
 }

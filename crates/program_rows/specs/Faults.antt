@@ -1,5 +1,5 @@
 -- The faults of an MPS text: what a line may not say, given the lines before it. Checks stand in the order in which they are told.
-use Rattle.std.specs.Prelude.{ℕ, ◌+◌, drop, Bool, false, not, ◌||◌, ◌&&◌, nat_lt, nat_le, List, [], ◌∷◌, length, ◌==◌, if◌then◌else◌, pos, Option, Some, None, codes, bytes_eq, position, find, is_none, unwrap_or, slice_get, option_map, int_lt, ℤ, Result, Ok, Err}
+use Rattle.std.specs.Prelude.{ℕ, ◌+◌, drop, Bool, false, not, ◌||◌, ◌&&◌, nat_lt, nat_le, List, [], ◌∷◌, length, ◌==◌, if◌then◌else◌, pos, Option, Some, None, codes, bytes_eq, position, find, flat_map, is_none, unwrap_or, slice_get, option_map, int_lt, ℤ, Result, Ok, Err}
 use Rattle.std.specs.List.{list_any}
 use Rattle.std.specs.Option.{option_map_or, option_or}
 use Rattle.std.specs.Ordering.{int_eq}
@@ -8,7 +8,7 @@ use Rattle.program_rows.specs.declared.number.NumberFault.{NumberFault}
 use Rattle.program_rows.specs.declared.number.NumberFault.TheVariants as numbers
 use Rattle.program_rows.specs.Numbers.{number}
 use Rattle.program_rows.specs.Sections.{Sections, with_line, is_end}
-use Rattle.program_rows.specs.Described.{is_one_of, value, pairs, line_right_sides, all_right_sides, first_free, is_marker, column_lines, columns_named, all_entries, names_both, is_binary_bound, bound_column, bound_number, lower, upper}
+use Rattle.program_rows.specs.Described.{is_one_of, value, pairs, line_right_sides, first_free, is_marker, column_lines, columns_named, column_pairs, is_binary_bound, bound_column, bound_number, lower, upper}
 use Rattle.program_rows.specs.declared.fault.FaultKind.{FaultKind}
 use Rattle.program_rows.specs.declared.fault.FaultKind.TheVariants.{NotText, Section, SectionLeftOut, Fields, RowType, RowRepeated, NoObjective, UnknownRow, ColumnSplit, EntryRepeated, NumberText, NotWhole, NumberRange, Marker, UnknownColumn, BoundType, BoundValue, ObjectiveConstant, SenseMax, NoEnd, NotBinary}
 
@@ -116,7 +116,7 @@ column_fault s fields = earliest_fault (
     when (not ((length fields == 3) || (length fields == 5))) Fields
     ∷ (if is_marker fields then marker_fault s.columns fields else earliest_fault (
     when (is_split s.columns (field 0 fields)) ColumnSplit
-    ∷ pairs_fault s.rows (λ pair. None) (λ row. list_any (names_both (field 0 fields) row) (all_entries s.columns)) (pairs (drop 1 fields)) ∷ [])) ∷ [])
+    ∷ pairs_fault s.rows (λ pair. None) (λ row. list_any (λ other. bytes_eq row other.0) (column_pairs s.columns (field 0 fields))) (pairs (drop 1 fields)) ∷ [])) ∷ [])
 
 -- the objective has no right side but 0
 abbrev pub constant_fault : List LineFields → List ℕ × List ℕ → Option FaultKind
@@ -125,7 +125,7 @@ constant_fault rows pair = when (option_map_or (bytes_eq pair.0) (first_free row
 abbrev pub right_side_fault : Sections → LineFields → Option FaultKind
 right_side_fault s fields = earliest_fault (
     when (not (nat_le 2 (length fields) && nat_le (length fields) 5)) Fields
-    ∷ pairs_fault s.rows (constant_fault s.rows) (λ row. list_any (λ other. bytes_eq row other.0) (all_right_sides s.right_sides)) (line_right_sides fields) ∷ [])
+    ∷ pairs_fault s.rows (constant_fault s.rows) (λ row. list_any (λ other. bytes_eq row other.0) (flat_map line_right_sides s.right_sides)) (line_right_sides fields) ∷ [])
 
 -- a bound is 0 or 1
 abbrev pub bound_fault : List LineFields → LineFields → Option FaultKind
