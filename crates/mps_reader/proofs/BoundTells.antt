@@ -4,7 +4,7 @@ use Rattle.std.specs.Prelude.{slice_get, bytes_eq, codes, nat_le, if◌then◌el
 use Rattle.std.specs.List.{list_any, slice_set, AllByRecursion, IsDistinct}
 use Rattle.program_rows.specs.Lines.{LineFields, field}
 use Rattle.program_rows.specs.Described.{is_one_of, value, is_binary_bound, bound_column, bound_number, columns_named, column_lines}
-use Rattle.program_rows.specs.Faults.{bound_fault, earliest_fault, when, is_column, stands_in_integers}
+use Rattle.program_rows.specs.Faults.{bound_fault, earliest_fault, is_column, stands_in_integers}
 use Rattle.program_rows.specs.declared.fault.FaultKind.{FaultKind}
 use Rattle.program_rows.specs.declared.fault.FaultKind.TheVariants.{BoundType, Fields, UnknownColumn}
 use Rattle.mps_reader.specs.inside.Rows.{names_of}
@@ -15,6 +15,7 @@ use Rattle.mps_reader.proofs.NameFacts.{same_name}
 use Rattle.mps_reader.proofs.PairTells.{flip-name, all-at}
 use Rattle.mps_reader.proofs.LineTells.{each-any}
 use Rattle.mps_reader.specs.inside.Reading.{bit_fault}
+use Rattle.std.specs.Bool.{then_some as when}
 
 -- ---- faults
 

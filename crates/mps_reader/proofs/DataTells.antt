@@ -8,7 +8,7 @@ use denote.Ref.{Bor}
 use Rattle.program_rows.specs.Lines.{Data, LineFields, field}
 use Rattle.program_rows.specs.Sections.{Sections, with_line}
 use Rattle.program_rows.specs.Described.{is_one_of, first_free, column_pairs, number_beside, line_right_sides}
-use Rattle.program_rows.specs.Faults.{earliest_fault, when, is_declared, row_fault, column_fault, right_side_fault, bound_fault, fault, sense_fault}
+use Rattle.program_rows.specs.Faults.{earliest_fault, is_declared, row_fault, column_fault, right_side_fault, bound_fault, fault, sense_fault}
 use Rattle.program_rows.specs.Program.{TableColumn}
 use Rattle.mps_reader.specs.inside.Rows.{names_of, option_now, declared_row_names, StampsAre, bound_lines_of}
 use Rattle.mps_reader.specs.inside.Columns.{ColumnsFit}
@@ -23,6 +23,7 @@ use Rattle.mps_reader.proofs.NameFacts.{length-bytes}
 use Rattle.mps_reader.proofs.RowTells.{declared-any}
 use Rattle.mps_reader.proofs.SideTells.{row-names-by}
 use Rattle.mps_reader.proofs.SectionTells.{tells-rows, tells-columns, tells-right-sides, tells-bounds, tells-sense}
+use Rattle.std.specs.Bool.{then_some as when}
 
 -- ---- what the checks of a line ask
 

@@ -4,7 +4,7 @@ use Rattle.std.specs.Prelude.{nat_lt, is_none, codes, bytes_eq, if◌then◌else
 use Rattle.program_rows.specs.Lines.{LineFields}
 use Rattle.program_rows.specs.Sections.{Sections}
 use Rattle.program_rows.specs.Described.{is_one_of, first_free, columns_named}
-use Rattle.program_rows.specs.Faults.{sections_left_out, place_of, earliest_fault, sense_fault, header_fault, is_binary}
+use Rattle.program_rows.specs.Faults.{place_of, earliest_fault, sense_fault, header_fault, is_binary, sections_left_out}
 use Rattle.program_rows.specs.declared.fault.FaultKind.{FaultKind}
 use Rattle.program_rows.specs.declared.fault.FaultKind.TheVariants.{Section, NotBinary}
 

@@ -4,10 +4,10 @@ use Rattle.std.specs.Prelude.{Ok, Err, Result}
 use Rattle.std.specs.Option.{option_map_or}
 use Rattle.program_rows.specs.Program.{Table}
 use Rattle.program_rows.specs.Lines.{Line, Skipped, Unprintable, Header, Data, line_of, LineFields, field}
-use Rattle.program_rows.specs.Sections.{Sections, no_lines, with_line, is_end, gathered}
+use Rattle.program_rows.specs.Sections.{Sections, no_lines, with_line, is_end}
 use Rattle.program_rows.specs.Described.{program}
-use Rattle.program_rows.specs.Faults.{fault, first_faulty, header_fault}
-use Rattle.program_rows.specs.Meaning.{meaning}
+use Rattle.program_rows.specs.Faults.{fault, header_fault}
+use Rattle.program_rows.specs.Meaning.{meaning, meaning_behind}
 use Rattle.program_rows.specs.declared.fault.FaultKind.{FaultKind}
 use Rattle.program_rows.specs.declared.fault.FaultKind.TheVariants.{NotText, NoEnd}
 use Rattle.auction_terms.specs.Lines.{lines_of}
@@ -44,10 +44,6 @@ pub data-next : (before : Sections) (bytes : List ℕ) (shown all : LineFields) 
 data-next before bytes shown all r e a none h = subst (λ l. ReadingTells (with_line before l) r) (sym e) (subst (λ fs. ReadingTells (with_line before (Data fs)) r) (data-whole before shown all a none) h)
 
 -- ---- the meaning, line by line
-
--- of the lines behind some that are gathered
-abbrev pub meaning_behind : ℕ → Sections → List Line → Result Table (ℕ × FaultKind)
-meaning_behind place seen lines = option_map_or Err (first_faulty place seen lines) (Ok (program (gathered seen lines)))
 
 pub meaning-starts : (text : List ℕ) → meaning text ≡ meaning_behind 0 no_lines (map line_of (lines_of text))
 unfolding meaning

@@ -2,7 +2,7 @@
 use Rattle.std.proofs.Common.{◌≡◌, ℕ, suc, ◌+◌, ◌≤◌, Bool, true, false, not, ◌||◌, ◌&&◌, List, [], ◌∷◌, ◌++◌, length, map, drop, refl, sym, ap, subst, ◌∙◌, arith, Option, Some, None, ℤ, pos, length-append}
 use Rattle.std.specs.Prelude.{◌==◌, slice_get, bytes_eq, codes, unwrap_or, is_some, filter, flat_map, IfSome, if◌then◌else◌}
 use Rattle.std.specs.List.{list_any, AllByRecursion, IsDistinct}
-use Rattle.std.specs.Option.{option_to_list}
+use Rattle.std.specs.Option.{option_to_list, option_map_or}
 use Rattle.std.specs.Ordering.{int_eq}
 use Rattle.std.proofs.lemmas.List.{map-append}
 use Rattle.std.proofs.lemmas.List.Folds.{list_any-append}
@@ -13,7 +13,7 @@ use Rattle.program_rows.specs.Program.{TableColumn}
 use Rattle.program_rows.specs.Lines.{LineFields, field}
 use Rattle.program_rows.specs.Sections.{Sections}
 use Rattle.program_rows.specs.Described.{pairs, each_once, is_marker, column_lines, columns_named, column_pairs, number_beside}
-use Rattle.program_rows.specs.Faults.{is_integer_open, stands_in_integers, is_split, marker_fault, column_fault, pairs_fault, earliest_fault, when}
+use Rattle.program_rows.specs.Faults.{is_integer_open, stands_in_integers, is_split, marker_fault, column_fault, pairs_fault, earliest_fault}
 use Rattle.program_rows.specs.declared.fault.FaultKind.{FaultKind}
 use Rattle.program_rows.specs.declared.fault.FaultKind.TheVariants.{ColumnSplit}
 use Rattle.mps_reader.specs.inside.Columns.{ColumnsFit, entries_at, nearest_column}
@@ -25,6 +25,7 @@ use Rattle.mps_reader.specs.declared.row_table.Rows.{Rows}
 use Rattle.mps_reader.proofs.NameFacts.{same_name, own_name, or-false, any-last, differs}
 use Rattle.mps_reader.proofs.PairSteps.{length-names}
 use Rattle.mps_reader.proofs.ColumnSteps.{current-is}
+use Rattle.std.specs.Bool.{then_some as when}
 
 -- ---- names, each once
 
@@ -287,7 +288,7 @@ and-swap false true = refl
 and-swap false false = refl
 
 split-lines : (lines : List LineFields) (c : Option (Bor (List ℕ))) (name : List ℕ) → option_now c ≡ nearest_column lines
-    → (list_any (λ fields. bytes_eq name (field 0 fields)) (column_lines lines) && (is_marker (unwrap_or (slice_get lines 0) []) || not (bytes_eq name (field 0 (unwrap_or (slice_get lines 0) [])))))
+    → (list_any (λ fields. bytes_eq name (field 0 fields)) (column_lines lines) && option_map_or (λ nearest. is_marker nearest || not (bytes_eq name (field 0 nearest))) (slice_get lines 0) false)
     ≡ (not (is_current c name) && list_any (bytes_eq name) (columns_named lines))
 split-lines [] c name e = sym (and-swap (not (is_current c name)) false)
 split-lines (g ∷ lines) c name e = ap (λ b. b && (is_marker g || not (bytes_eq name (field 0 g)))) (sym (each-any name (column_lines (g ∷ lines)))) ∙ by (is_marker g) refl c e

@@ -2,10 +2,12 @@
 use Rattle.std.proofs.Common.{◌≡◌, ℕ, Bool, true, false, not, ◌||◌, List, [], ◌∷◌, refl, sym, ◌∙◌, Option, Some, None}
 use Rattle.std.specs.Prelude.{bytes_eq, is_none, if◌then◌else◌}
 use Rattle.program_rows.specs.Lines.{LineFields}
-use Rattle.program_rows.specs.Faults.{earliest_fault, when, number_fault, is_declared, pairs_fault}
+use Rattle.program_rows.specs.Faults.{earliest_fault, number_fault, is_declared, pairs_fault}
 use Rattle.program_rows.specs.declared.fault.FaultKind.{FaultKind}
 use Rattle.program_rows.specs.declared.fault.FaultKind.TheVariants.{UnknownRow, EntryRepeated}
 use Rattle.program_rows.specs.Numbers.{number as token_number}
+use Rattle.std.specs.Bool.{then_some as when}
+use Rattle.std.specs.Option.{option_or}
 
 -- those of a pair, whose row is known or not, and repeated or not, and the section's own
 abbrev pub pair_checks : Bool → Bool → List ℕ → Option FaultKind → Option FaultKind
@@ -48,7 +50,7 @@ without-own known repeated number fault h = by known repeated (number_fault (tok
     by true false (Some kind) h = h
 
 -- a pair that is taken repeats none
-pub not-repeated : (known r : Bool) (checks : List (Option FaultKind)) → earliest_fault (when (not known) UnknownRow ∷ when r EntryRepeated ∷ checks) ≡ None → r ≡ false
+pub not-repeated : (known r : Bool) (more : Option FaultKind) → option_or (when (not known) UnknownRow) (option_or (when r EntryRepeated) more) ≡ None → r ≡ false
 not-repeated false r checks h = absurd cc
 not-repeated true true checks h = absurd cc
 not-repeated true false checks h = refl

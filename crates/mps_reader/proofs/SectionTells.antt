@@ -7,7 +7,7 @@ use denote.Ref.{Bor}
 use Rattle.program_rows.specs.Lines.{Skipped, Data, LineFields, field}
 use Rattle.program_rows.specs.Sections.{Sections, with_line}
 use Rattle.program_rows.specs.Described.{is_one_of, is_binary_bound, bound_column, bound_number}
-use Rattle.program_rows.specs.Faults.{place_of, earliest_fault, when, header_fault, row_fault, column_fault, right_side_fault, bound_fault, is_column, fault, sense_fault}
+use Rattle.program_rows.specs.Faults.{place_of, earliest_fault, header_fault, row_fault, column_fault, right_side_fault, bound_fault, is_column, fault, sense_fault}
 use Rattle.program_rows.specs.declared.fault.FaultKind.{FaultKind}
 use Rattle.program_rows.specs.declared.fault.FaultKind.TheVariants as kinds
 use Rattle.mps_reader.specs.inside.Reading.{AreFirst, bit_fault}
@@ -20,6 +20,7 @@ use Rattle.mps_reader.specs.declared.row_table.Rows.{Rows}
 use Rattle.mps_reader.specs.declared.column_table.ColumnTable.{ColumnTable}
 use Rattle.mps_reader.specs.declared.reading_state.Reading.{Reading}
 use Rattle.mps_reader.proofs.LineTells.{none-stamped}
+use Rattle.std.specs.Bool.{then_some as when}
 
 -- ---- sections open in order
 

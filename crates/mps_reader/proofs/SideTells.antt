@@ -10,7 +10,7 @@ use denote.Ref.{Bor}
 use Rattle.program_rows.specs.Lines.{LineFields, field}
 use Rattle.program_rows.specs.Sections.{Sections}
 use Rattle.program_rows.specs.Described.{pairs, row_kind_of, value, line_right_sides, first_free, number_beside}
-use Rattle.program_rows.specs.Faults.{earliest_fault, when, is_declared, constant_fault, pairs_fault, right_side_fault}
+use Rattle.program_rows.specs.Faults.{earliest_fault, is_declared, constant_fault, pairs_fault, right_side_fault}
 use Rattle.program_rows.specs.declared.fault.FaultKind.{FaultKind}
 use Rattle.program_rows.specs.declared.fault.FaultKind.TheVariants.{UnknownRow, EntryRepeated}
 use Rattle.program_rows.specs.declared.row.Row.{Row}
@@ -23,6 +23,7 @@ use Rattle.mps_reader.proofs.NameFacts.{own_name, same_name, length-bytes}
 use Rattle.mps_reader.proofs.RowSteps.{names-shown}
 use Rattle.mps_reader.proofs.PairTells.{flip-name, all-at}
 use Rattle.mps_reader.proofs.EntriesTell.{stamps-same, has_row, number-one, number-two, swap-or}
+use Rattle.std.specs.Bool.{then_some as when}
 
 -- ---- one right side
 

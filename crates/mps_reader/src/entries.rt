@@ -6,7 +6,7 @@ ghost use Rattle.program_rows.specs.declared.fault.FaultKind.TheVariants.{Unknow
 ghost use Rattle.program_rows.specs.Lines.{field, LineFields};
 ghost use Rattle.program_rows.specs.Sections.{Sections};
 ghost use Rattle.program_rows.specs.Described.{value, pairs, is_marker, number_beside};
-ghost use Rattle.program_rows.specs.Faults.{earliest_fault, when, number_fault, is_declared, pairs_fault, is_integer_open, marker_fault, column_fault};
+ghost use Rattle.program_rows.specs.Faults.{earliest_fault, number_fault, is_declared, pairs_fault, is_integer_open, marker_fault, column_fault};
 ghost use Rattle.program_rows.specs.Parts.{IsName};
 ghost use Rattle.auction_terms.specs.Borrowed.{bytes_of};
 ghost use Rattle.mps_reader.specs.inside.Reading.{AnswersFault};
@@ -15,6 +15,7 @@ ghost use Rattle.mps_reader.specs.inside.Tracking.{AreStampsUpTo, OpenTells, Col
 ghost use Rattle.mps_reader.specs.declared.row_table.Rows as row_table;
 ghost use Rattle.mps_reader.specs.inside.Columns.{ColumnsFit, put_entries, PairsFit, BothFit};
 ghost use Rattle.program_rows.specs.Numbers.{number};
+ghost use Rattle.std.specs.Bool.{then_some as when};
 
 use crate::column_table::ColumnTable;
 use crate::columns::{close_column, open_column};

@@ -5,10 +5,11 @@ ghost use Rattle.program_rows.specs.declared.fault.FaultKind.TheVariants.{Sectio
 ghost use Rattle.program_rows.specs.Lines.{field};
 ghost use Rattle.program_rows.specs.Sections.{Sections};
 ghost use Rattle.program_rows.specs.Described.{is_one_of, first_free, columns_named};
-ghost use Rattle.program_rows.specs.Faults.{sections_left_out, place_of, earliest_fault, when, sense_fault, header_fault, is_binary};
+ghost use Rattle.program_rows.specs.Faults.{place_of, earliest_fault, sense_fault, header_fault, is_binary, sections_left_out};
 ghost use Rattle.auction_terms.specs.Borrowed.{bytes_of};
 ghost use Rattle.mps_reader.specs.inside.Reading.{AnswersFault, AnswersUpTo};
 ghost use Rattle.mps_reader.specs.inside.Sections.{word_of};
+ghost use Rattle.std.specs.Bool.{then_some as when};
 
 use crate::refusal::Refusal;
 use crate::sections::{Section, place, section_of};

@@ -6,12 +6,13 @@ ghost use Rattle.std.specs.Option.{option_map, option_map_or};
 ghost use Rattle.program_rows.specs.declared.fault.FaultKind.TheVariants.{Fields, RowType, RowRepeated, UnknownRow, EntryRepeated};
 ghost use Rattle.program_rows.specs.Lines.{field, LineFields};
 ghost use Rattle.program_rows.specs.Described.{is_one_of, row_kind_of};
-ghost use Rattle.program_rows.specs.Faults.{earliest_fault, when};
+ghost use Rattle.program_rows.specs.Faults.{earliest_fault};
 ghost use Rattle.program_rows.specs.Parts.{shown_row, IsName};
 ghost use Rattle.auction_terms.specs.Borrowed.{bytes_of};
 ghost use Rattle.mps_reader.specs.inside.Reading.{AnswersFault};
 ghost use Rattle.mps_reader.specs.inside.Rows.{names_of, RowsFit, AddsFree, AddsBound, StampsAre};
 ghost use Rattle.mps_reader.specs.inside.Tracking.{RowsTell, AreStampsUpTo};
+ghost use Rattle.std.specs.Bool.{then_some as when};
 
 use crate::names::insert_name;
 use crate::refusal::Refusal;

@@ -1,14 +1,14 @@
 -- The meaning of the text of a program is the program.
-use Rattle.std.proofs.Common.{◌≡◌, ℕ, true, false, List, [], ◌∷◌, ◌++◌, length, map, refl, sym, ap, subst, ◌∙◌, Option, Some, None, Ok, Err, Result}
+use Rattle.std.proofs.Common.{◌≡◌, ℕ, true, false, List, [], ◌∷◌, ◌++◌, length, map, refl, sym, ap, subst, ◌∙◌, Option, Some, None, Ok, Result}
 use Rattle.std.specs.Prelude.{bytes_eq, codes, flat_map, ℤ, position, option_map, not}
 use Rattle.std.specs.List.{list_any, AllByRecursion, IsDistinct}
 use Rattle.program_rows.specs.Program.{Table, TableRow, TableColumn}
 use Rattle.program_rows.specs.Parts.{IsProgram, AreEntries}
 use Rattle.program_rows.specs.Lines.{Line, Header, Data, LineFields, field}
-use Rattle.program_rows.specs.Sections.{Sections, no_lines, gathered}
+use Rattle.program_rows.specs.Sections.{Sections, no_lines}
 use Rattle.program_rows.specs.Described.{program, column_lines, first_free, columns_named}
-use Rattle.program_rows.specs.Faults.{fault, first_faulty, is_declared, is_column, is_integer_open, stands_in_integers, is_binary}
-use Rattle.program_rows.specs.Meaning.{meaning}
+use Rattle.program_rows.specs.Faults.{fault, is_declared, is_column, is_integer_open, stands_in_integers, is_binary}
+use Rattle.program_rows.specs.Meaning.{meaning, meaning_behind}
 use Rattle.program_rows.specs.declared.fault.FaultKind.{FaultKind}
 use Rattle.mps_text.specs.Text.{text, text_lines, block, if_any, row_fields, right_side_fields, bound_fields, column_fields}
 use Rattle.program_rows.specs.Legal.{IsWritable, IsSmall}
@@ -16,7 +16,7 @@ use Rattle.mps_text.specs.RoundTrip.{TextIsRead}
 use Rattle.mps_text.proofs.Small.{small_costs, small_entries}
 use Rattle.mps_text.proofs.Lines.{read_again}
 use Rattle.mps_text.proofs.Numbers.{number-signed_decimal}
-use Rattle.mps_text.proofs.Blocks.{onto, AreRead, end_line, none-faulty, all-gathered, AreRead-append, onto-append}
+use Rattle.mps_text.proofs.Blocks.{onto, AreRead, end_line, read-through, AreRead-append, onto-append}
 use Rattle.mps_text.proofs.RowPhase.{rows-read, flip}
 use Rattle.mps_text.proofs.RightSidePhase.{right_sides-read, Ready}
 use Rattle.mps_text.proofs.BoundPhase.{bounds-read}
@@ -287,13 +287,12 @@ lists-columns p legal told = record {
 }
 
 abbrev meaning_of_lines : List Line → Result Table (ℕ × FaultKind)
-meaning_of_lines ls = option_map_or Err (first_faulty 0 no_lines ls) (Ok (program (gathered no_lines ls)))
+meaning_of_lines ls = meaning_behind 0 no_lines ls
 
 -- the meaning of lines that are read, and then the end
 meaning-end : (p : Table) (ls : List Line) (word : List ℕ) (rs cs ss bs : List LineFields) → IsBehind ls word rs cs ss bs → fault (held word rs cs ss bs) end_line ≡ None → program (held word rs cs ss bs) ≡ p → meaning_of_lines (ls ++ end_line ∷ []) ≡ Ok p
 meaning-end p ls word rs cs ss bs h f e =
-    ap (λ o. option_map_or Err o (Ok (program (gathered no_lines (ls ++ end_line ∷ []))))) (none-faulty 0 no_lines ls h.read (ap (λ s. fault s end_line) h.holds ∙ f))
-    ∙ ap (λ s. Ok (program s)) (all-gathered no_lines ls h.read ∙ h.holds) ∙ ap (λ q. Ok q) e
+    read-through 0 no_lines ls h.read (ap (λ s. fault s end_line) h.holds ∙ f) ∙ ap (λ s. Ok (program s)) h.holds ∙ ap (λ q. Ok q) e
 
 behind-columns_part : (p : Table) (c : TableColumn) (cs : List TableColumn) (ls : List Line) → IsProgram p → IsWritable p → p.columns ≡ c ∷ cs → IsBehind ls (codes "ROWS") (rows_of p) [] [] [] → IsBehind (ls ++ columns_part p) (codes "COLUMNS") (rows_of p) (all_columns p) [] []
 behind-columns_part p c cs ls legal told e h =

@@ -1,5 +1,5 @@
 -- The faults of an MPS text: what a line may not say, given the lines before it. Checks stand in the order in which they are told.
-use Rattle.std.specs.Prelude.{ℕ, ◌+◌, drop, Bool, false, not, ◌||◌, ◌&&◌, nat_lt, nat_le, List, [], ◌∷◌, length, ◌==◌, if◌then◌else◌, pos, Option, Some, None, codes, bytes_eq, position, find, flat_map, is_none, unwrap_or, slice_get, option_map, int_lt, ℤ, Result, Ok, Err}
+use Rattle.std.specs.Prelude.{ℕ, ◌+◌, drop, Bool, false, not, ◌||◌, ◌&&◌, nat_lt, nat_le, List, [], ◌∷◌, length, ◌==◌, if◌then◌else◌, pos, Option, Some, None, codes, bytes_eq, position, find, flat_map, is_none, slice_get, option_map, int_lt, ℤ, Result, Ok, Err}
 use Rattle.std.specs.List.{list_any}
 use Rattle.std.specs.Option.{option_map_or, option_or}
 use Rattle.std.specs.Ordering.{int_eq}
@@ -7,22 +7,16 @@ use Rattle.program_rows.specs.Lines.{LineFields, field, Line, Skipped, Unprintab
 use Rattle.program_rows.specs.declared.number.NumberFault.{NumberFault}
 use Rattle.program_rows.specs.declared.number.NumberFault.TheVariants as numbers
 use Rattle.program_rows.specs.Numbers.{number}
-use Rattle.program_rows.specs.Sections.{Sections, with_line, is_end}
+use Rattle.program_rows.specs.Sections.{Sections}
 use Rattle.program_rows.specs.Described.{is_one_of, value, pairs, line_right_sides, first_free, is_marker, column_lines, columns_named, column_pairs, is_binary_bound, bound_column, bound_number, lower, upper}
 use Rattle.program_rows.specs.declared.fault.FaultKind.{FaultKind}
-use Rattle.program_rows.specs.declared.fault.FaultKind.TheVariants.{NotText, Section, SectionLeftOut, Fields, RowType, RowRepeated, NoObjective, UnknownRow, ColumnSplit, EntryRepeated, NumberText, NotWhole, NumberRange, Marker, UnknownColumn, BoundType, BoundValue, ObjectiveConstant, SenseMax, NoEnd, NotBinary}
+use Rattle.program_rows.specs.declared.fault.FaultKind.TheVariants.{NotText, Section, SectionLeftOut, Fields, RowType, RowRepeated, NoObjective, UnknownRow, ColumnSplit, EntryRepeated, NumberText, NotWhole, NumberRange, Marker, UnknownColumn, BoundType, BoundValue, ObjectiveConstant, SenseMax, NotBinary}
+use Rattle.std.specs.Bool.{then_some as when}
 
 -- the first fault of a list of checks
 abbrev pub earliest_fault : List (Option FaultKind) → Option FaultKind
 earliest_fault [] = None
-earliest_fault (Some fault ∷ checks) = Some fault
-earliest_fault (None ∷ checks) = earliest_fault checks
-
--- a fault where a test holds
-abbrev pub when : Bool → FaultKind → Option FaultKind
-when test fault = if test then Some fault else None
-
--- ---- numbers
+earliest_fault (check ∷ checks) = option_or check (earliest_fault checks)
 
 -- the fault of a token that is no number
 abbrev pub number_fault : Result ℤ NumberFault → Option FaultKind
@@ -39,9 +33,8 @@ sections_left_out = codes "RANGES" ∷ codes "SOS" ∷ codes "SOS1" ∷ codes "S
 
 -- the place of a section in the only order that they may stand in, from 1; 0 where it is none of them
 abbrev pub place_of : List ℕ → ℕ
-place_of word =
-    let sections = codes "NAME" ∷ codes "OBJSENSE" ∷ codes "ROWS" ∷ codes "COLUMNS" ∷ codes "RHS" ∷ codes "BOUNDS" ∷ codes "ENDATA" ∷ [] in
-    option_map_or (λ i. i + 1) (position (bytes_eq word) sections) 0
+place_of word = option_map_or (λ i. i + 1) (position (bytes_eq word) (
+    codes "NAME" ∷ codes "OBJSENSE" ∷ codes "ROWS" ∷ codes "COLUMNS" ∷ codes "RHS" ∷ codes "BOUNDS" ∷ codes "ENDATA" ∷ [])) 0
 
 -- an objective is minimised
 abbrev pub sense_fault : LineFields → Option FaultKind
@@ -97,9 +90,7 @@ is_column columns name = list_any (λ fields. bytes_eq name (field 0 fields)) (c
 
 -- the column was named before, and the line before this one names another or is a marker
 abbrev pub is_split : List LineFields → List ℕ → Bool
-is_split columns name =
-    let nearest = unwrap_or (slice_get columns 0) [] in
-    is_column columns name && (is_marker nearest || not (bytes_eq name (field 0 nearest)))
+is_split columns name = is_column columns name && option_map_or (λ nearest. is_marker nearest || not (bytes_eq name (field 0 nearest))) (slice_get columns 0) false
 
 -- the pairs of a line, where some rows stood before; a check of the section's own comes last
 abbrev pub pairs_fault : List LineFields → (List ℕ × List ℕ → Option FaultKind) → (List ℕ → Bool) → List (List ℕ × List ℕ) → Option FaultKind
@@ -149,8 +140,3 @@ fault s (Data fields) =
     else (if bytes_eq s.section (codes "RHS") then right_side_fault s fields
     else (if bytes_eq s.section (codes "BOUNDS") then bound_fault s.columns fields
     else Some Section))))
-
--- the first faulty line up to the end, counted from 1 behind those before, and its fault
-abbrev pub first_faulty : ℕ → Sections → List Line → Option (ℕ × FaultKind)
-first_faulty before s [] = Some (before, NoEnd)
-first_faulty before s (line ∷ after) = option_or (option_map (λ kind. (before + 1, kind)) (fault s line)) (if is_end line then None else first_faulty (before + 1) (with_line s line) after)

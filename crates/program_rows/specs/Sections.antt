@@ -29,8 +29,3 @@ with_line s line = s
 abbrev pub is_end : Line → Bool
 is_end (Header word more) = bytes_eq word (codes "ENDATA")
 is_end line = false
-
--- with all lines up to the end
-abbrev pub gathered : Sections → List Line → Sections
-gathered s [] = s
-gathered s (line ∷ after) = if is_end line then s else gathered (with_line s line) after

@@ -6,7 +6,7 @@ use Rattle.program_rows.specs.Lines as spec
 use Rattle.program_rows.specs.Lines.{fields, is_space, line_of}
 use Rattle.program_rows.specs.Numbers.{number}
 use Rattle.program_rows.specs.Described.{value}
-use Rattle.program_rows.specs.Faults.{earliest_fault, number_fault, when}
+use Rattle.program_rows.specs.Faults.{earliest_fault, number_fault}
 use Rattle.program_rows.specs.Parts.{IsName}
 use Rattle.program_rows.specs.declared.fault.FaultKind.{FaultKind}
 use Rattle.program_rows.specs.declared.fault.FaultKind.TheVariants.{BoundValue}
@@ -15,6 +15,7 @@ use Rattle.mps_reader.specs.declared.lines.Line.TheVariants.{Skipped, Unprintabl
 use Rattle.mps_reader.specs.declared.refusal.Refusal.{Refusal}
 use Rattle.mps_reader.specs.declared.refusal.Refusal.TheVariants.{Memory, Fault}
 use Rattle.auction_terms.specs.Borrowed.{bytes_of}
+use Rattle.std.specs.Bool.{then_some as when}
 
 -- a byte that is no white space
 abbrev pub is_other : ℕ → Bool
