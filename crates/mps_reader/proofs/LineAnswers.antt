@@ -1,8 +1,6 @@
 -- A line, whatever it is.
 use Rattle.std.proofs.Common.{◌≡◌, ℕ, ◌+◌, List, [], ◌∷◌, length, map, drop, refl, sym, ap, subst, ◌∙◌, arith, Some, None, true, false}
-use Rattle.std.specs.Prelude.{Ok, Err, Result}
-use Rattle.std.specs.Option.{option_map_or}
-use Rattle.program_rows.specs.Program.{Table}
+use Rattle.std.specs.Prelude.{Ok, Err}
 use Rattle.program_rows.specs.Lines.{Line, Skipped, Unprintable, Header, Data, line_of, LineFields, field}
 use Rattle.program_rows.specs.Sections.{Sections, no_lines, with_line, is_end}
 use Rattle.program_rows.specs.Described.{program}

@@ -6,7 +6,7 @@ use Rattle.std.proofs.lemmas.Bool.{ne_eqb, lt-ltb, ltb-true, ltb-false, le-leb, 
 use denote.Ref.{Bor}
 use Rattle.program_rows.specs.Lines.{Skipped, Data, LineFields, field}
 use Rattle.program_rows.specs.Sections.{Sections, with_line}
-use Rattle.program_rows.specs.Described.{is_one_of, is_binary_bound, bound_column, bound_number}
+use Rattle.program_rows.specs.Described.{is_one_of, is_binary_bound, bound_pair}
 use Rattle.program_rows.specs.Faults.{place_of, earliest_fault, header_fault, row_fault, column_fault, right_side_fault, bound_fault, is_column, fault, sense_fault}
 use Rattle.program_rows.specs.declared.fault.FaultKind.{FaultKind}
 use Rattle.program_rows.specs.declared.fault.FaultKind.TheVariants as kinds
@@ -176,7 +176,7 @@ bound-many before fields h =
     ∙ by (is_one_of (field 0 fields) (codes "UP" ∷ codes "LO" ∷ codes "FX" ∷ codes "BV" ∷ []))
   where
     behind : List (Option FaultKind)
-    behind = when (not (is_column before.columns (bound_column fields))) kinds.UnknownColumn ∷ (if is_binary_bound fields then None else bit_fault (bound_number fields)) ∷ []
+    behind = when (not (is_column before.columns (field 0 (bound_pair fields)))) kinds.UnknownColumn ∷ (if is_binary_bound fields then None else bit_fault (field 1 (bound_pair fields))) ∷ []
 
     and-false : (a : Bool) → (a && false) ≡ false
     and-false true = refl

@@ -1,9 +1,9 @@
 -- Right sides are those of the lines so far.
-use Rattle.std.proofs.Common.{◌≡◌, ◌≢◌, ℕ, zero, suc, Bool, true, false, not, ◌||◌, ◌&&◌, List, [], ◌∷◌, ◌++◌, length, map, take, drop, refl, sym, ap, subst, ◌∙◌, arith, Option, Some, None, ℤ, pos}
-use Rattle.std.specs.Prelude.{◌==◌, ◌-◌, ◌%◌, nat_le, slice_get, bytes_eq, find, if◌then◌else◌, flat_map}
-use Rattle.std.specs.List.{list_any, AllByRecursion, IsDistinct}
+use Rattle.std.proofs.Common.{◌≡◌, ◌≢◌, ℕ, zero, suc, Bool, true, false, not, ◌||◌, ◌&&◌, List, [], ◌∷◌, ◌++◌, length, map, take, drop, refl, sym, ap, subst, ◌∙◌, arith, Option, Some, None, ℤ}
+use Rattle.std.specs.Prelude.{◌==◌, ◌-◌, ◌%◌, nat_le, slice_get, bytes_eq, if◌then◌else◌, flat_map}
+use Rattle.std.specs.List.{AllByRecursion, IsDistinct}
 use Rattle.std.specs.Option.{option_map_or}
-use Rattle.std.proofs.lemmas.Bool.{eqb-true, both_ways}
+use Rattle.std.proofs.lemmas.Bool.{eqb-true}
 use Rattle.std.proofs.lemmas.List.{length-drop}
 use Rattle.std.proofs.Math.Seq.{take-length}
 use denote.Ref.{Bor}
@@ -19,7 +19,7 @@ use Rattle.program_rows.specs.Parts.{shown_row}
 use Rattle.auction_terms.specs.Borrowed.{bytes_of}
 use Rattle.mps_reader.specs.inside.Rows.{StampsAre, declared_row_names, with_side, rows_by, side_fault}
 use Rattle.mps_reader.proofs.PairFaults.{pair_checks, begins, second}
-use Rattle.mps_reader.proofs.NameFacts.{own_name, same_name, length-bytes}
+use Rattle.mps_reader.proofs.NameFacts.{own_name, length-bytes}
 use Rattle.mps_reader.proofs.RowSteps.{names-shown}
 use Rattle.mps_reader.proofs.PairTells.{flip-name, all-at}
 use Rattle.mps_reader.proofs.EntriesTell.{stamps-same, has_row, number-one, number-two, swap-or}

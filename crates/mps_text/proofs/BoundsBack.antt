@@ -7,7 +7,7 @@ use Rattle.program_rows.specs.declared.bounds.Bounds.TheVariants.{ZeroOrOne, Zer
 use Rattle.program_rows.specs.Program.{TableColumn}
 use Rattle.program_rows.specs.Lines.{LineFields, field}
 use Rattle.program_rows.specs.Sections.{Sections}
-use Rattle.program_rows.specs.Described.{is_one_of, bound_column, lower, upper}
+use Rattle.program_rows.specs.Described.{is_one_of, lower, upper, bound_pair}
 use Rattle.program_rows.specs.Faults.{is_binary, stands_in_integers}
 use Rattle.program_rows.specs.Numbers.{number}
 use Rattle.mps_text.specs.Text.{bound_fields, bound_words}
@@ -18,9 +18,9 @@ use Rattle.std.specs.Ordering.{int_eq}
 
 -- whether a line sets a bound of one of these types on a column
 abbrev pub sets : List (List ℕ) → List ℕ → LineFields → Bool
-sets types column fields = is_one_of (field 0 fields) types && bytes_eq column (bound_column fields)
+sets types column fields = is_one_of (field 0 fields) types && bytes_eq column (field 0 (bound_pair fields))
 
-named-column : (c : TableColumn) (b : Bounds) → bound_column ((bound_words b).0 ∷ codes "BND" ∷ c.name ∷ (bound_words b).1 ∷ []) ≡ c.name
+named-column : (c : TableColumn) (b : Bounds) → field 0 (bound_pair ((bound_words b).0 ∷ codes "BND" ∷ c.name ∷ (bound_words b).1 ∷ [])) ≡ c.name
 named-column c ZeroOrOne = refl
 named-column c Zero = refl
 named-column c One = refl

@@ -10,7 +10,7 @@ use Rattle.program_rows.specs.Described.{program, column_lines, first_free, colu
 use Rattle.program_rows.specs.Faults.{fault, is_declared, is_column, is_integer_open, stands_in_integers, is_binary}
 use Rattle.program_rows.specs.Meaning.{meaning, meaning_behind}
 use Rattle.program_rows.specs.declared.fault.FaultKind.{FaultKind}
-use Rattle.mps_text.specs.Text.{text, text_lines, block, if_any, row_fields, right_side_fields, bound_fields, column_fields}
+use Rattle.mps_text.specs.Text.{text, block, if_any, row_fields, right_side_fields, bound_fields, column_fields}
 use Rattle.program_rows.specs.Legal.{IsWritable, IsSmall}
 use Rattle.mps_text.specs.RoundTrip.{TextIsRead}
 use Rattle.mps_text.proofs.Small.{small_costs, small_entries}
@@ -27,7 +27,7 @@ use Rattle.mps_text.proofs.Pushed.{push, push-append, held, holds-rows, holds-co
 use Rattle.mps_text.proofs.ColumnsBack.{plain_lines, keeps-lines, open-lines, all-stand, ArePlain}
 use Rattle.mps_text.proofs.EntriesBack.{pair_of}
 use Rattle.mps_text.proofs.Listing.{row_names, all_listed, at-name, column-lines, data-lines, names-listed, all-filled, all-plain, IsPlainName, pairs-differ, any-keeps, rows-declared, columns-named}
-use Rattle.mps_text.proofs.WrittenLines.{all-written}
+use Rattle.mps_text.proofs.WrittenLines.{all-written, text_lines}
 use Rattle.mps_text.proofs.ProgramBack.{Lists, objective-back, program-back, all-binary}
 use Rattle.program_rows.specs.ProgramNames.{row_name}
 use Rattle.program_rows.specs.declared.fault.FaultKind.TheVariants.{NotBinary}

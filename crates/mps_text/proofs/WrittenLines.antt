@@ -10,7 +10,7 @@ use Rattle.program_rows.specs.declared.bounds.Bounds.TheVariants.{ZeroOrOne, Zer
 use Rattle.program_rows.specs.Program.{Table, TableRow, TableColumn}
 use Rattle.program_rows.specs.Parts.{IsProgram, AreEntries, IsName}
 use Rattle.program_rows.specs.Lines.{Line, Header, Data, LineFields}
-use Rattle.mps_text.specs.Text.{text_lines, block, if_any, row_fields, right_side_fields, bound_fields, kind_letter, column_fields, bound_words}
+use Rattle.mps_text.specs.Text.{block, if_any, row_fields, right_side_fields, bound_fields, kind_letter, column_fields, bound_words}
 use Rattle.program_rows.specs.Legal.{IsWritable, IsSmall}
 use Rattle.mps_text.proofs.Small.{small_costs, small_entries}
 use Rattle.mps_text.proofs.Lines.{IsField, Printable, IsWritten}
@@ -104,6 +104,16 @@ column-part p (c ∷ cs) h = (
 bound-part : (cs : List TableColumn) → AllByRecursion IsDataLine (map bound_fields cs) → AllByRecursion IsWritten (if_any cs (block (codes "BOUNDS") (map bound_fields cs)))
 bound-part [] h = tt
 bound-part (c ∷ cs) h = headed (codes "BOUNDS") (map bound_fields (c ∷ cs)) (λ e. absurd (omega (arith, e))) (known (codes "BOUNDS") refl refl) h
+
+-- the lines of a text
+abbrev pub text_lines : Table → List Line
+text_lines p =
+    Header (codes "NAME") (codes "wdp" ∷ []) ∷ block (codes "ROWS") ((codes "N" ∷ p.objective ∷ []) ∷ map row_fields p.rows)
+    ++ block (codes "COLUMNS") (if_any p.columns (
+    (codes "M1" ∷ codes "'MARKER'" ∷ codes "'INTORG'" ∷ []) ∷ flat_map (column_fields p) p.columns ++ (codes "M2" ∷ codes "'MARKER'" ∷ codes "'INTEND'" ∷ []) ∷ []))
+    ++ block (codes "RHS") (map right_side_fields p.rows)
+    ++ if_any p.columns (block (codes "BOUNDS") (map bound_fields p.columns))
+    ++ Header (codes "ENDATA") [] ∷ []
 
 pub all-written : (p : Table) → IsProgram p → IsWritable p → AllByRecursion IsWritten (text_lines p)
 all-written p legal told =

@@ -49,15 +49,12 @@ abbrev pub if_any : {X : Type 0} → List TableColumn → List X → List X
 if_any [] lines = []
 if_any (c ∷ columns) lines = lines
 
--- the lines in their order; the columns stand between markers
-abbrev pub text_lines : Table → List Line
-text_lines p =
+-- its lines in their order, with the columns between markers
+unfoldable pub text : Table → List ℕ
+text p = flat_map written (
     Header (codes "NAME") (codes "wdp" ∷ []) ∷ block (codes "ROWS") ((codes "N" ∷ p.objective ∷ []) ∷ map row_fields p.rows)
     ++ block (codes "COLUMNS") (if_any p.columns (
     (codes "M1" ∷ codes "'MARKER'" ∷ codes "'INTORG'" ∷ []) ∷ flat_map (column_fields p) p.columns ++ (codes "M2" ∷ codes "'MARKER'" ∷ codes "'INTEND'" ∷ []) ∷ []))
     ++ block (codes "RHS") (map right_side_fields p.rows)
     ++ if_any p.columns (block (codes "BOUNDS") (map bound_fields p.columns))
-    ++ Header (codes "ENDATA") [] ∷ []
-
-unfoldable pub text : Table → List ℕ
-text p = flat_map written (text_lines p)
+    ++ Header (codes "ENDATA") [] ∷ [])

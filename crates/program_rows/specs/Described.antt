@@ -1,5 +1,5 @@
 -- The program that a sound text describes: what its gathered lines say, section by section.
-use Rattle.std.specs.Prelude.{ℕ, ◌+◌, ◌%◌, drop, Bool, not, ◌&&◌, List, [], ◌∷◌, ◌++◌, length, map, reverse, ◌==◌, if◌then◌else◌, ℤ, pos, Option, codes, bytes_eq, filter, flat_map, find, unwrap_or, option_map}
+use Rattle.std.specs.Prelude.{ℕ, ◌%◌, drop, Bool, not, ◌&&◌, List, [], ◌∷◌, ◌++◌, length, map, reverse, ◌==◌, if◌then◌else◌, ℤ, pos, Option, codes, bytes_eq, filter, flat_map, find, unwrap_or, option_map}
 use Rattle.std.specs.List.{list_any, enumerate_from}
 use Rattle.std.specs.Option.{option_map_or}
 use Rattle.std.specs.Result.{result_unwrap_or}
@@ -84,29 +84,21 @@ column_pairs lines column = flat_map (λ fields. pairs (drop 1 fields)) (filter 
 abbrev pub is_binary_bound : LineFields → Bool
 is_binary_bound fields = bytes_eq (field 0 fields) (codes "BV")
 
--- where the column stands: behind the name of the set, if there is one
-abbrev pub bound_place : LineFields → ℕ
-bound_place fields = if length fields == (if is_binary_bound fields then 2 else 3) then 1 else 2
-
--- the column that a bound is on
-abbrev pub bound_column : LineFields → List ℕ
-bound_column fields = field (bound_place fields) fields
-
--- its number
-abbrev pub bound_number : LineFields → List ℕ
-bound_number fields = field (bound_place fields + 1) fields
+-- a column, and a number unless the type is BV: what stands behind the name of the set, if there is one
+abbrev pub bound_pair : LineFields → LineFields
+bound_pair fields = drop (if length fields == (if is_binary_bound fields then 2 else 3) then 1 else 2) fields
 
 -- the last bound of one of these types on a column
 abbrev pub last_bound : List (List ℕ) → List LineFields → List ℕ → Option LineFields
-last_bound types bounds column = find (λ fields. is_one_of (field 0 fields) types && bytes_eq column (bound_column fields)) bounds
+last_bound types bounds column = find (λ fields. is_one_of (field 0 fields) types && bytes_eq column (field 0 (bound_pair fields))) bounds
 
 -- by the last LO, FX or BV; 0 where there is none
 abbrev pub lower : List LineFields → List ℕ → ℤ
-lower bounds column = option_map_or (λ fields. if is_binary_bound fields then pos 0 else value (bound_number fields)) (last_bound (codes "LO" ∷ codes "FX" ∷ codes "BV" ∷ []) bounds column) (pos 0)
+lower bounds column = option_map_or (λ fields. if is_binary_bound fields then pos 0 else value (field 1 (bound_pair fields))) (last_bound (codes "LO" ∷ codes "FX" ∷ codes "BV" ∷ []) bounds column) (pos 0)
 
 -- by the last UP, FX or BV
 abbrev pub upper : List LineFields → List ℕ → Option ℤ
-upper bounds column = option_map (λ fields. if is_binary_bound fields then pos 1 else value (bound_number fields)) (last_bound (codes "UP" ∷ codes "FX" ∷ codes "BV" ∷ []) bounds column)
+upper bounds column = option_map (λ fields. if is_binary_bound fields then pos 1 else value (field 1 (bound_pair fields))) (last_bound (codes "UP" ∷ codes "FX" ∷ codes "BV" ∷ []) bounds column)
 
 -- ---- the whole
 

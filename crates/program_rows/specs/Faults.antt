@@ -8,7 +8,7 @@ use Rattle.program_rows.specs.declared.number.NumberFault.{NumberFault}
 use Rattle.program_rows.specs.declared.number.NumberFault.TheVariants as numbers
 use Rattle.program_rows.specs.Numbers.{number}
 use Rattle.program_rows.specs.Sections.{Sections}
-use Rattle.program_rows.specs.Described.{is_one_of, value, pairs, line_right_sides, first_free, is_marker, column_lines, columns_named, column_pairs, is_binary_bound, bound_column, bound_number, lower, upper}
+use Rattle.program_rows.specs.Described.{is_one_of, value, pairs, line_right_sides, first_free, is_marker, column_lines, columns_named, column_pairs, is_binary_bound, bound_pair, lower, upper}
 use Rattle.program_rows.specs.declared.fault.FaultKind.{FaultKind}
 use Rattle.program_rows.specs.declared.fault.FaultKind.TheVariants.{NotText, Section, SectionLeftOut, Fields, RowType, RowRepeated, NoObjective, UnknownRow, ColumnSplit, EntryRepeated, NumberText, NotWhole, NumberRange, Marker, UnknownColumn, BoundType, BoundValue, ObjectiveConstant, SenseMax, NotBinary}
 use Rattle.std.specs.Bool.{then_some as when}
@@ -55,7 +55,7 @@ stands_in_integers column (fields ∷ before) = if not (is_marker fields) && byt
 -- an integer, by markers or by a bound BV, with an upper bound that is not below the lower one
 abbrev pub is_binary : Sections → List ℕ → Bool
 is_binary s column =
-    (stands_in_integers column s.columns || list_any (λ fields. is_binary_bound fields && bytes_eq column (bound_column fields)) s.bounds)
+    (stands_in_integers column s.columns || list_any (λ fields. is_binary_bound fields && bytes_eq column (field 0 (bound_pair fields))) s.bounds)
     && option_map_or (λ high. not (int_lt high (lower s.bounds column))) (upper s.bounds column) false
 
 -- a header, where the last one checks that each column is binary
@@ -123,10 +123,10 @@ abbrev pub bound_fault : List LineFields → LineFields → Option FaultKind
 bound_fault columns fields = earliest_fault (
     when (not (is_one_of (field 0 fields) (codes "UP" ∷ codes "LO" ∷ codes "FX" ∷ codes "BV" ∷ []))) BoundType
     ∷ when (not (if is_binary_bound fields then nat_le 2 (length fields) && nat_le (length fields) 4 else nat_le 3 (length fields) && nat_le (length fields) 4)) Fields
-    ∷ when (not (is_column columns (bound_column fields))) UnknownColumn
+    ∷ when (not (is_column columns (field 0 (bound_pair fields)))) UnknownColumn
     ∷ (if is_binary_bound fields then None else earliest_fault (
-    number_fault (number (bound_number fields))
-    ∷ when (not (int_eq (value (bound_number fields)) (pos 0) || int_eq (value (bound_number fields)) (pos 1))) BoundValue ∷ [])) ∷ [])
+    number_fault (number (field 1 (bound_pair fields)))
+    ∷ when (not (int_eq (value (field 1 (bound_pair fields))) (pos 0) || int_eq (value (field 1 (bound_pair fields))) (pos 1))) BoundValue ∷ [])) ∷ [])
 
 -- the fault of a line, given the lines gathered before it: a data line's by the section that is open
 unfoldable pub fault : Sections → Line → Option FaultKind

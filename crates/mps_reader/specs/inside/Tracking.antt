@@ -3,9 +3,9 @@ use Rattle.std.specs.Prelude.{◌≡◌, ℕ, ◌+◌, ◌++◌, ◌≤◌, ◌=
 use Rattle.std.specs.List.{list_any, AllByRecursion}
 use Rattle.std.specs.Option.{option_map_or}
 use denote.Ref.{Bor}
-use Rattle.program_rows.specs.Lines.{LineFields}
+use Rattle.program_rows.specs.Lines.{LineFields, field}
 use Rattle.program_rows.specs.Sections.{Sections}
-use Rattle.program_rows.specs.Described.{first_free, table_rows, columns_named, lower, upper, is_binary_bound, bound_column, column_pairs, number_beside, line_right_sides}
+use Rattle.program_rows.specs.Described.{first_free, table_rows, columns_named, lower, upper, is_binary_bound, column_pairs, number_beside, line_right_sides, bound_pair}
 use Rattle.program_rows.specs.Faults.{is_integer_open, stands_in_integers}
 use Rattle.program_rows.specs.declared.bounds.Bounds.TheVariants.{ZeroOrOne}
 use Rattle.program_rows.specs.Program.{TableColumn}
@@ -54,7 +54,7 @@ bounded_values word number v = (v.0, if bytes_eq word (codes "UP") then v.1 else
 
 abbrev pub told_values : List LineFields → List LineFields → List ℕ → Bool × ℤ × Option ℤ
 told_values lines bounds column = (
-  stands_in_integers column lines || list_any (λ fields. is_binary_bound fields && bytes_eq column (bound_column fields)) bounds,
+  stands_in_integers column lines || list_any (λ fields. is_binary_bound fields && bytes_eq column (field 0 (bound_pair fields))) bounds,
   lower bounds column,
   upper bounds column,
 )

@@ -2,7 +2,7 @@ use Rattle.std.proofs.Common.{rules, ◌≡◌, ◌==◌, ◌||◌, ◌∙◌, a
 use Rattle.std.specs.Prelude.{Err, ◌++◌, drop, bytes_eq}
 use Rattle.std.specs.List.{list_any}
 use Rattle.program_rows.specs.Lines.{field}
-use Rattle.program_rows.specs.Described.{is_marker, column_pairs, number_beside, pairs}
+use Rattle.program_rows.specs.Described.{is_marker, column_pairs, pairs}
 use Rattle.auction_terms.specs.Borrowed.{bytes_of}
 use Rattle.mps_reader.specs.inside.Rows.{names_of, option_now, declared_row_names, StampsAre}
 use Rattle.mps_reader.specs.inside.Tracking.{AreStampsUpTo}
