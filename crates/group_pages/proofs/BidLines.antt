@@ -10,7 +10,7 @@ use Rattle.auction_terms.specs.Limits.{AreOffers}
 use Rattle.program_rows.specs.Program.{TableRow}
 use Rattle.program_rows.specs.declared.subject.Subject.{Subject}
 use Rattle.program_rows.specs.declared.subject.Subject.TheVariants.{Bidder}
-use Rattle.program_rows.specs.Rows.{subject_name, weight, subjects, row_of, entries_from, column_of, worth_column}
+use Rattle.program_rows.specs.Rows.{weight, subjects, row_of, entries_from, column_of, worth_column}
 use Rattle.program_rows.specs.Spelling.{bid_name}
 use Rattle.program_rows.specs.Lines.{Data}
 use Rattle.program_rows.proofs.LegalLaws.{Rises, dedup_rises, bidders_never_fall}
@@ -30,9 +30,9 @@ entry_line column row n = written (Data (column ∷ row ∷ signed_decimal (pos 
 
 module _ (lots : Lots) where
   abbrev weight_line : Offer → Subject → List ℕ
-  weight_line o s = cond (weight lots s o == 0) [] (entry_line (name_of o) (subject_name s) (weight lots s o))
+  weight_line o s = cond (weight lots s o == 0) [] (entry_line (name_of o) (row_of lots s).name (weight lots s o))
 
-  name_there : (front : List Subject) (s : Subject) (rest : List Subject) (r : ℕ) → r ≡ length front → row_name (map (row_of lots) (front ++ s ∷ rest)) r ≡ subject_name s
+  name_there : (front : List Subject) (s : Subject) (rest : List Subject) (r : ℕ) → r ≡ length front → row_name (map (row_of lots) (front ++ s ∷ rest)) r ≡ (row_of lots s).name
   name_there [] s rest zero e = refl
   name_there [] s rest (suc r) e = absurd (omega arith)
   name_there (f ∷ front) s rest zero e = absurd (omega arith)
@@ -55,8 +55,8 @@ module _ (lots : Lots) where
     entries_are : (front : List Subject) (ss : List Subject) (r : ℕ) → all ≡ front ++ ss → r ≡ length front → entry_lines (entries_from lots r ss o) ≡ flat_map (weight_line o) ss
     entries_are front [] r e l = refl
     entries_are front (s ∷ ss) r e l =
-        let named : row_name (map (row_of lots) all) r ≡ subject_name s = ap (λ (xs : List Subject). row_name (map (row_of lots) xs) r) e ∙ name_there front s ss r l in
-        one_entry r (weight lots s o) (subject_name s) (entries_from lots (r + 1) ss o) (flat_map (weight_line o) ss) (weight lots s o == 0) named
+        let named : row_name (map (row_of lots) all) r ≡ (row_of lots s).name = ap (λ (xs : List Subject). row_name (map (row_of lots) xs) r) e ∙ name_there front s ss r l in
+        one_entry r (weight lots s o) (row_of lots s).name (entries_from lots (r + 1) ss o) (flat_map (weight_line o) ss) (weight lots s o == 0) named
         (entries_are (front ++ s ∷ []) ss (r + 1) (e ∙ sym (append_assoc front (s ∷ []) ss)) (longer front s r l))
 
 -- ---------- one line in the rows of bidders ----------
