@@ -3,7 +3,7 @@ use Rattle.std.proofs.Common.{◌≡◌, ◌<◌, ◌≤◌, ◌+◌, ◌-◌, �
 use Rattle.std.specs.Io.KnownBytes.{Appends, append_known}
 use denote.Ref.{MutBor}
 use Rattle.std.proofs.lemmas.List.{append-nil, length-take, take-append-drop, take-append-le, take_more}
-use Rattle.mps_text.specs.Sinks.{Counts, HasFailed, IsFront, SentFront, counted}
+use Rattle.mps_text.specs.Sinks.{Counts, HasFailed, IsFront, SentFront}
 use Rattle.mps_text.specs.declared.writer.Writer.{Writer}
 use Rattle.mps_text.specs.Adds.{Adds, IsBroken, IsNew, IsSent}
 use Rattle.mps_text.proofs.Adding.{Adds-then, counts-new, fails-new, front-behind, sent-whole}
@@ -11,6 +11,7 @@ use Rattle.mps_text.proofs.Known.{Counts-then, IsFront-piece, SentFront-from}
 use Rattle.bid_desk.specs.Closing.{Closing}
 use Rattle.group_compiler.specs.Compiled.{GroupProgram}
 use Rattle.answers.specs.GroupTexts.{EndsIn, in_turn, programs_bytes}
+use Rattle.std.specs.Prelude.{min, ◌^◌}
 
 pub in_turn-append : {X : Type 0} (f : ℕ → X → List ℕ) (k : ℕ) (xs ys : List X) → in_turn f k (xs ++ ys) ≡ in_turn f k xs ++ in_turn f (k + length xs) ys
 in_turn-append f k [] ys = (let same : k ≡ k + 0 = omega arith in ap (λ n. in_turn f n ys) same)
@@ -40,7 +41,7 @@ abbrev pub EndsWithin : Option (List ℕ) → Option (List ℕ) → List ℕ →
 EndsWithin None after whole done upto written = Unit {0}
 EndsWithin (Some before) None whole done upto written = ⊥
 EndsWithin (Some before) (Some after) whole done upto written =
-    (n : ℕ) × (after ≡ before ++ take n whole) × (written ≡ counted n) × (length done ≤ n) × (n < length upto)
+    (n : ℕ) × (after ≡ before ++ take n whole) × (written ≡ min n (2 ^ 64 - 1)) × (length done ≤ n) × (n < length upto)
 
 ends-known : (o m u done b later : List ℕ) (written : ℕ) → m ≡ o ++ done → length m ≤ length u → SentFront (Some o) (Some u) (done ++ b) written
     → EndsWithin (Some o) (Some u) ((done ++ b) ++ later) done (done ++ b) written

@@ -1,8 +1,8 @@
 -- What is written for all groups: for each in order a line with its number and names, and then the text of its program.
-use Rattle.std.specs.Prelude.{◌≡◌, ◌≤◌, ◌<◌, ◌+◌, ◌-◌, ⊤, ℕ, List, [], ◌∷◌, ◌++◌, Option, None, Some, codes, decimal, length, take}
+use Rattle.std.specs.Prelude.{◌≡◌, ◌≤◌, ◌<◌, ◌+◌, ◌-◌, ⊤, ℕ, List, [], ◌∷◌, ◌++◌, Option, None, Some, codes, decimal, length, take, min, ◌^◌}
 use Rattle.bid_desk.specs.Closing.{Closing}
 use Rattle.group_compiler.specs.Compiled.{GroupProgram}
-use Rattle.mps_text.specs.Sinks.{HasFailed, counted}
+use Rattle.mps_text.specs.Sinks.{HasFailed}
 use Rattle.mps_text.specs.Text.{text}
 use Rattle.outcome.specs.Report.{group_names}
 use Rattle.outcome.specs.Sale.{sale_of}
@@ -35,7 +35,7 @@ abbrev pub EndsIn : Closing → List GroupProgram → ℕ → ℕ → Option (Li
 EndsIn book programs group written None after = ⊤
 EndsIn book programs group written (Some before) None = ⊥
 EndsIn book programs group written (Some before) (Some after) =
-    (n : ℕ) × (after ≡ before ++ take n (programs_bytes book programs)) × (written ≡ counted n)
+    (n : ℕ) × (after ≡ before ++ take n (programs_bytes book programs)) × (written ≡ min n (2 ^ 64 - 1))
     × (length (programs_bytes book (take (group - 1) programs)) ≤ n) × (n < length (programs_bytes book (take group programs)))
 
 -- a fault after which the output ends as it tells

@@ -12,18 +12,16 @@ use Rattle.outcome.specs.PointAllocation.{allocation_of}
 use Rattle.outcome.specs.declared.fault.SolutionFault.TheVariants as fault
 use Rattle.outcome.specs.declared.fault.SolutionFault.{SolutionFault}
 use Rattle.program_rows.specs.Program.{Table}
+use Rattle.program_rows.specs.ProgramNames.{row_name}
 
--- the name of a column, and of a row, by its place from 0
+-- the name of the column at a place, counted from 0
 abbrev pub column_name : Table → ℕ → List ℕ
 column_name p column = option_map_or (λ c. c.name) (slice_get p.columns column) []
-
-abbrev pub name_of_row : Table → ℕ → List ℕ
-name_of_row p row = option_map_or (λ r. r.name) (slice_get p.rows row) []
 
 -- a fault of the solution of this number; a bound or a row that is broken is told by its name
 abbrev pub solution_refused : Table → ℕ → SolutionFault → Refused
 solution_refused p number (fault.BoundBroken column) = refusal.BoundBroken number (column_name p column)
-solution_refused p number (fault.RowBroken row) = refusal.RowBroken number (name_of_row p row)
+solution_refused p number (fault.RowBroken row) = refusal.RowBroken number (row_name p.rows row)
 solution_refused p number f = refusal.Solution number f
 
 -- the winners by a program and its solution

@@ -8,7 +8,8 @@ ghost use Rattle.bid_desk.specs.Closing.{book_of};
 ghost use Rattle.group_compiler.specs.Compiled.{program_without};
 ghost use Rattle.program_rows.specs.Faithful.{IsFaithful};
 ghost use Rattle.auction_input.specs.Refused.{Refuses, refused};
-ghost use Rattle.answers.specs.SolutionWinners.{column_name, name_of_row, solution_refused, winners_by};
+ghost use Rattle.answers.specs.SolutionWinners.{column_name, solution_refused, winners_by};
+ghost use Rattle.program_rows.specs.ProgramNames.{row_name};
 
 use crate::named_bids::named_bids;
 use auction_input::Refusal;
@@ -126,7 +127,7 @@ fn column_name(program: &Program, column: usize) -> &[u8]
 
 // The name of a row; where there is none, no name.
 fn row_name(program: &Program, row: usize) -> &[u8]
-    ensures { result.now ≡ name_of_row program.now row }
+    ensures { result.now ≡ row_name program.now.rows row }
 {
     if row < program.row_count() {
         program.row_name(row)

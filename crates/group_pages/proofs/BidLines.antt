@@ -1,21 +1,23 @@
 -- The lines of a bid's column depend on the bid, its bidder and its number alone.
 use Rattle.std.proofs.Common.{◌≡◌, ℕ, zero, suc, ◌+◌, ◌<◌, ◌⊎◌, inl, inr, Bool, true, false, ◌==◌, nat_eq, cond, List, [], ◌∷◌, ◌++◌, map, length, sym, refl, ap, ap₂, ◌∙◌, subst, arith, ⊎_elim, eqb-true, eq-eqb, ne_eqb, ℤ, pos, append_assoc, append-nil}
-use Rattle.std.specs.Prelude.{codes, flat_map, decimal}
+use Rattle.std.specs.Prelude.{codes, flat_map, decimal, neg_ℤ}
 use Rattle.std.specs.Fmt.{signed_decimal}
 use Rattle.std.specs.List.{AllByRecursion, dedup, dedup_from}
 use Rattle.std.proofs.lemmas.Grind.{flat_map-append}
-use Rattle.auction_terms.specs.Packages.{Lots}
+use Rattle.auction_terms.specs.Packages.{Lots, worth_of_all}
 use Rattle.auction_terms.specs.Keeping.{Offer}
 use Rattle.auction_terms.specs.Limits.{AreOffers}
 use Rattle.program_rows.specs.Program.{TableRow}
 use Rattle.program_rows.specs.declared.subject.Subject.{Subject}
 use Rattle.program_rows.specs.declared.subject.Subject.TheVariants.{Bidder}
-use Rattle.program_rows.specs.Rows.{subject_name, weight, subjects, lot_subjects, row_of, entries_from, column_of, worth_column, constant_column}
+use Rattle.program_rows.specs.Rows.{weight, subjects, row_of, entries_from, column_of, worth_column}
 use Rattle.program_rows.specs.Spelling.{bid_name}
 use Rattle.program_rows.specs.Lines.{Data}
 use Rattle.program_rows.proofs.LegalLaws.{Rises, dedup_rises, bidders_never_fall}
-use Rattle.mps_text.specs.Text.{row_name, written}
+use Rattle.mps_text.specs.Text.{written}
 use Rattle.mps_text.specs.Bytes.{entry_bytes, cost_bytes, column_bytes, bound_bytes}
+use Rattle.program_rows.specs.ProgramNames.{row_name}
+use Rattle.program_rows.specs.declared.bounds.Bounds.TheVariants.{One}
 
 abbrev name_of : Offer → List ℕ
 name_of o = bid_name o.bidder o.number
@@ -28,9 +30,9 @@ entry_line column row n = written (Data (column ∷ row ∷ signed_decimal (pos 
 
 module _ (lots : Lots) where
   abbrev weight_line : Offer → Subject → List ℕ
-  weight_line o s = cond (weight lots s o == 0) [] (entry_line (name_of o) (subject_name s) (weight lots s o))
+  weight_line o s = cond (weight lots s o == 0) [] (entry_line (name_of o) (row_of lots s).name (weight lots s o))
 
-  name_there : (front : List Subject) (s : Subject) (rest : List Subject) (r : ℕ) → r ≡ length front → row_name (map (row_of lots) (front ++ s ∷ rest)) r ≡ subject_name s
+  name_there : (front : List Subject) (s : Subject) (rest : List Subject) (r : ℕ) → r ≡ length front → row_name (map (row_of lots) (front ++ s ∷ rest)) r ≡ (row_of lots s).name
   name_there [] s rest zero e = refl
   name_there [] s rest (suc r) e = absurd (omega arith)
   name_there (f ∷ front) s rest zero e = absurd (omega arith)
@@ -53,8 +55,8 @@ module _ (lots : Lots) where
     entries_are : (front : List Subject) (ss : List Subject) (r : ℕ) → all ≡ front ++ ss → r ≡ length front → entry_lines (entries_from lots r ss o) ≡ flat_map (weight_line o) ss
     entries_are front [] r e l = refl
     entries_are front (s ∷ ss) r e l =
-        let named : row_name (map (row_of lots) all) r ≡ subject_name s = ap (λ (xs : List Subject). row_name (map (row_of lots) xs) r) e ∙ name_there front s ss r l in
-        one_entry r (weight lots s o) (subject_name s) (entries_from lots (r + 1) ss o) (flat_map (weight_line o) ss) (weight lots s o == 0) named
+        let named : row_name (map (row_of lots) all) r ≡ (row_of lots s).name = ap (λ (xs : List Subject). row_name (map (row_of lots) xs) r) e ∙ name_there front s ss r l in
+        one_entry r (weight lots s o) (row_of lots s).name (entries_from lots (r + 1) ss o) (flat_map (weight_line o) ss) (weight lots s o == 0) named
         (entries_are (front ++ s ∷ []) ss (r + 1) (e ∙ sym (append_assoc front (s ∷ []) ss)) (longer front s r l))
 
 -- ---------- one line in the rows of bidders ----------
@@ -124,18 +126,18 @@ bidders offers = map (λ (o : Offer). o.bidder) offers
 
 -- the lines of a bid's column, whatever rows there are
 abbrev pub own_lines : Lots → Offer → List ℕ
-own_lines lots o = cost_bytes (codes "OBJ") (column_of lots [] o) ++ (own_entry lots o o.bidder ++ flat_map (weight_line lots o) (lot_subjects lots))
+own_lines lots o = cost_bytes (codes "OBJ") (column_of lots [] o) ++ (own_entry lots o o.bidder ++ flat_map (weight_line lots o) (subjects lots []))
 
 module _ (lots : Lots) (bs : List ℕ) (rises : Rises bs) where
   abbrev rows_about : List Subject
-  rows_about = map Bidder bs ++ lot_subjects lots
+  rows_about = map Bidder bs ++ subjects lots []
 
   one_column : (o : Offer) → Has o.bidder bs → column_bytes (codes "OBJ") (map (row_of lots) rows_about) (column_of lots rows_about o) ≡ own_lines lots o
   one_column o at =
       ap (λ (lines : List ℕ). cost_bytes (codes "OBJ") (column_of lots [] o) ++ lines)
       (entries_are lots rows_about o [] rows_about 0 refl refl
-      ∙ flat_map-append (weight_line lots o) (map Bidder bs) (lot_subjects lots)
-      ∙ ap (λ (xs : List ℕ). xs ++ flat_map (weight_line lots o) (lot_subjects lots)) (one_line lots o bs rises at))
+      ∙ flat_map-append (weight_line lots o) (map Bidder bs) (subjects lots [])
+      ∙ ap (λ (xs : List ℕ). xs ++ flat_map (weight_line lots o) (subjects lots [])) (one_line lots o bs rises at))
 
   each_column : (offers : List Offer) → AllByRecursion (λ b. Has b bs) (bidders offers)
       → flat_map (column_bytes (codes "OBJ") (map (row_of lots) rows_about)) (map (column_of lots rows_about) offers) ≡ flat_map (own_lines lots) offers
@@ -161,7 +163,7 @@ bounds_are lots rows [] = refl
 bounds_are lots rows (o ∷ offers) = ap (λ (lines : List ℕ). own_bound lots o ++ lines) (bounds_are lots rows offers)
 
 -- the lines of the column of all lots' worth, whatever rows there are
-worth_at : (lots : Lots) (rows others : List TableRow) (none : Bool) → flat_map (column_bytes (codes "OBJ") rows) (cond none [] (constant_column lots ∷ [])) ≡ flat_map (column_bytes (codes "OBJ") others) (cond none [] (constant_column lots ∷ []))
+worth_at : (lots : Lots) (rows others : List TableRow) (none : Bool) → flat_map (column_bytes (codes "OBJ") rows) (cond none [] (record { name = codes "K"; bounds = One; cost = neg_ℤ (pos (worth_of_all lots)); entries = [] } ∷ [])) ≡ flat_map (column_bytes (codes "OBJ") others) (cond none [] (record { name = codes "K"; bounds = One; cost = neg_ℤ (pos (worth_of_all lots)); entries = [] } ∷ []))
 worth_at lots rows others true = refl
 worth_at lots rows others false = refl
 

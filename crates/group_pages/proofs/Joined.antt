@@ -19,7 +19,7 @@ use Rattle.presolve.proofs.KeepLaws.{kept_outside, none_inside, next_form, offer
 use Rattle.program_rows.specs.Program.{TableRow}
 use Rattle.program_rows.specs.declared.subject.Subject.{Subject}
 use Rattle.program_rows.specs.declared.subject.Subject.TheVariants.{Bidder}
-use Rattle.program_rows.specs.Rows.{bidder_subjects, lot_subjects, subjects, row_of, column_of, worth_column, program_of}
+use Rattle.program_rows.specs.Rows.{bidder_subjects, subjects, row_of, column_of, worth_column, program_of}
 use Rattle.mps_text.specs.Bytes.{row_bytes, right_side_bytes, column_bytes, bound_bytes}
 use Rattle.mps_text.specs.FaithfulText.{presolved_text}
 use Rattle.group_pages.specs.declared.section.Section.{Section}
@@ -166,9 +166,9 @@ module _ (lots : Lots) (book : Book) (group : ℕ → Bool) where
 -- ---------- the whole ----------
 
 rows_are : (lots : Lots) (bytes : TableRow → List ℕ) (offers : List Offer)
-    → flat_map bytes (map (row_of lots) (subjects lots offers)) ≡ flat_map bytes (map (row_of lots) (bidder_subjects offers)) ++ flat_map bytes (map (row_of lots) (lot_subjects lots))
+    → flat_map bytes (map (row_of lots) (subjects lots offers)) ≡ flat_map bytes (map (row_of lots) (bidder_subjects offers)) ++ flat_map bytes (map (row_of lots) (subjects lots []))
 rows_are lots bytes offers =
-    ap (flat_map bytes) (map-append (row_of lots) (bidder_subjects offers) (lot_subjects lots)) ∙ flat_map-append bytes (map (row_of lots) (bidder_subjects offers)) (map (row_of lots) (lot_subjects lots))
+    ap (flat_map bytes) (map-append (row_of lots) (bidder_subjects offers) (subjects lots [])) ∙ flat_map-append bytes (map (row_of lots) (bidder_subjects offers)) (map (row_of lots) (subjects lots []))
 
 same_sections : {rows rows' columns columns' right_sides right_sides' bounds bounds' : List ℕ} → rows ≡ rows' → columns ≡ columns' → right_sides ≡ right_sides' → bounds ≡ bounds'
     → section_text Rows rows ++ (section_text Columns columns ++ (section_text RightSides right_sides ++ section_text Bounds bounds))
@@ -187,7 +187,7 @@ text_is_joined lots book group limits =
     ∙ same_sections
     (rows_are lots row_bytes kept ∙ each Rows)
     (flat_map-append (column_bytes (codes "OBJ") all) own (worth_column lots)
-    ∙ ap (λ (w : List ℕ). flat_map (column_bytes (codes "OBJ") all) own ++ w) (worth_is lots all (map (row_of lots) (lot_subjects lots))) ∙ each Columns)
+    ∙ ap (λ (w : List ℕ). flat_map (column_bytes (codes "OBJ") all) own ++ w) (worth_is lots all (map (row_of lots) (subjects lots []))) ∙ each Columns)
     (rows_are lots right_side_bytes kept ∙ each RightSides)
     (flat_map-append bound_bytes own (worth_column lots) ∙ each Bounds)
 

@@ -15,7 +15,7 @@ use Rattle.auction_terms.specs.Terms.{Terms, lots_in}
 use Rattle.auction_terms.specs.inside.Terms.{cap_of}
 use Rattle.auction_terms.specs.declared.rules.Category.{Category}
 use Rattle.auction_terms.specs.declared.rules.Pool.{Pool}
-use Rattle.program_rows.specs.Rows.{bidder_subjects, lot_subjects, subjects, row_of, column_of}
+use Rattle.program_rows.specs.Rows.{bidder_subjects, subjects, row_of, column_of}
 use Rattle.group_pages.specs.declared.section.Section.{Section}
 use Rattle.group_pages.specs.Pages.{PageText, AllPages, section_lines, outside, page_of_offers, page_with}
 use Rattle.group_pages.specs.Joining.{joined, pages_for}
@@ -36,7 +36,7 @@ pub length_rows : (lots : Lots) (offers : List Offer) (rows : List Row) → map 
     → length rows ≡ length (bidder_subjects offers) + (length lots.supply + length lots.pools)
 length_rows lots offers rows e =
     sym (length-map rows shown_row) ∙ ap (λ (rs : List TableRow). length rs) e ∙ length-map (subjects lots offers) (row_of lots)
-    ∙ length-append (bidder_subjects offers) (lot_subjects lots)
+    ∙ length-append (bidder_subjects offers) (subjects lots [])
     ∙ ap (λ (n : ℕ). length (bidder_subjects offers) + n)
     (length-append (map subject.Category (range_with_len 0 (length lots.supply))) (map subject.Pool (range_with_len 0 (length lots.pools))) ∙ ap₂ (λ (n m : ℕ). n + m) (length-map-range_with_len subject.Category 0 (length lots.supply)) (length-map-range_with_len subject.Pool 0 (length lots.pools)))
 
@@ -53,9 +53,9 @@ take_map f (suc n) (x ∷ xs) = ap (λ ys. f x ∷ ys) (take_map f n xs)
 pub bidder_rows : (lots : Lots) (offers : List Offer) (rows : List Row) (n : ℕ) → map shown_row rows ≡ map (row_of lots) (subjects lots offers) → n ≡ length (bidder_subjects offers)
     → map shown_row (take n rows) ≡ map (row_of lots) (bidder_subjects offers)
 bidder_rows lots offers rows n e l =
-    take_map shown_row n rows ∙ ap (take n) (e ∙ map-append (row_of lots) (bidder_subjects offers) (lot_subjects lots))
-    ∙ ap (λ (m : ℕ). take m (map (row_of lots) (bidder_subjects offers) ++ map (row_of lots) (lot_subjects lots))) (l ∙ sym (length-map (bidder_subjects offers) (row_of lots)))
-    ∙ take_front (map (row_of lots) (bidder_subjects offers)) (map (row_of lots) (lot_subjects lots))
+    take_map shown_row n rows ∙ ap (take n) (e ∙ map-append (row_of lots) (bidder_subjects offers) (subjects lots []))
+    ∙ ap (λ (m : ℕ). take m (map (row_of lots) (bidder_subjects offers) ++ map (row_of lots) (subjects lots []))) (l ∙ sym (length-map (bidder_subjects offers) (row_of lots)))
+    ∙ take_front (map (row_of lots) (bidder_subjects offers)) (map (row_of lots) (subjects lots []))
 
 -- how many rows are about lots
 pub count_lots : (t : Terms) (categories : List Category) (pools : List Pool) → categories ≡ t.categories → pools ≡ t.pools → length categories + length pools ≡ length (lots_in t).supply + length (lots_in t).pools

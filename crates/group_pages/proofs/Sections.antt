@@ -1,15 +1,17 @@
 -- The text of a program, section by section.
 use Rattle.std.proofs.Common.{◌≡◌, ℕ, List, [], ◌∷◌, ◌++◌, map, refl, sym, ap, ◌∙◌, append_assoc, append-nil}
-use Rattle.std.specs.Prelude.{codes, flat_map}
+use Rattle.std.specs.Prelude.{codes, flat_map, ℤ}
 use Rattle.std.proofs.lemmas.List.{map-append}
 use Rattle.std.proofs.lemmas.Grind.{flat_map-append}
 use Rattle.program_rows.specs.Program.{Table, TableColumn}
 use Rattle.program_rows.specs.Lines.{LineFields, Line, Header, Data}
-use Rattle.mps_text.specs.Text.{written, text, block, if_any, row_block, column_block, row_fields, right_side_fields, bound_fields, entry_fields, column_fields, marker_fields}
+use Rattle.mps_text.specs.Text.{written, text, block, if_any, row_fields, right_side_fields, bound_fields, column_fields}
 use Rattle.mps_text.specs.Bytes.{row_bytes, right_side_bytes, bound_bytes, column_bytes, cost_bytes}
 use Rattle.mps_text.specs.inside.Bytes.{where_any}
 use Rattle.group_pages.specs.declared.section.Section.TheVariants.{Rows, Columns, RightSides, Bounds}
 use Rattle.group_pages.specs.Joining.{section_text}
+use Rattle.std.specs.Fmt.{signed_decimal}
+use Rattle.program_rows.specs.ProgramNames.{row_name}
 
 abbrev flat : List LineFields → List ℕ
 flat ls = flat_map written (map Data ls)
@@ -25,7 +27,7 @@ flat-columns : (p : Table) (cs : List TableColumn) → flat (flat_map (column_fi
 flat-columns p [] = refl
 flat-columns p (c ∷ cs) =
     flat-append (column_fields p c) (flat_map (column_fields p) cs)
-    ∙ ap (λ (w : List ℕ). (cost_bytes p.objective c ++ w) ++ flat (flat_map (column_fields p) cs)) (flat-each (entry_fields p.rows c.name) c.entries)
+    ∙ ap (λ (w : List ℕ). (cost_bytes p.objective c ++ w) ++ flat (flat_map (column_fields p) cs)) (flat-each (λ (e : ℕ × ℤ). c.name ∷ row_name p.rows e.0 ∷ signed_decimal e.1 ∷ []) c.entries)
     ∙ ap (λ (w : List ℕ). column_bytes p.objective p.rows c ++ w) (flat-columns p cs)
 
 -- the lines of columns between markers, where there are any
@@ -37,11 +39,11 @@ abbrev below_bounds : List ℕ → List ℕ
 below_bounds lines = where_any lines (codes "BOUNDS\n" ++ lines)
 
 -- a column has lines
-columns-part : (p : Table) (cs : List TableColumn) → p.columns ≡ cs → flat (column_block p) ≡ between_markers (flat_map (column_bytes p.objective p.rows) cs)
+columns-part : (p : Table) (cs : List TableColumn) → p.columns ≡ cs → flat (if_any p.columns ((codes "M1" ∷ codes "'MARKER'" ∷ codes "'INTORG'" ∷ []) ∷ flat_map (column_fields p) p.columns ++ (codes "M2" ∷ codes "'MARKER'" ∷ codes "'INTEND'" ∷ []) ∷ [])) ≡ between_markers (flat_map (column_bytes p.objective p.rows) cs)
 columns-part p [] e = rw e refl
 columns-part p (c ∷ cs) e =
     let L = flat_map (column_fields p) (c ∷ cs) in
-    let last = marker_fields (codes "M2") (codes "'INTEND'") in
+    let last = codes "M2" ∷ codes "'MARKER'" ∷ codes "'INTEND'" ∷ [] in
     let inner : flat (L ++ last ∷ []) ≡ flat_map (column_bytes p.objective p.rows) (c ∷ cs) ++ codes " M2 'MARKER' 'INTEND'\n" =
     flat-append L (last ∷ []) ∙ ap (λ (w : List ℕ). w ++ codes " M2 'MARKER' 'INTEND'\n") (flat-columns p (c ∷ cs)) in
     rw e (ap (λ (w : List ℕ). codes " M1 'MARKER' 'INTORG'\n" ++ w) inner)
@@ -95,10 +97,10 @@ text-sections p o =
     ∙ all-told (flat_map row_bytes p.rows) (flat_map (column_bytes p.objective p.rows) p.columns) (flat_map right_side_bytes p.rows) (flat_map bound_bytes p.columns)
   where
     first : List Line
-    first = block (codes "ROWS") (row_block p)
+    first = block (codes "ROWS") ((codes "N" ∷ p.objective ∷ []) ∷ map row_fields p.rows)
 
     second : List Line
-    second = block (codes "COLUMNS") (column_block p)
+    second = block (codes "COLUMNS") (if_any p.columns ((codes "M1" ∷ codes "'MARKER'" ∷ codes "'INTORG'" ∷ []) ∷ flat_map (column_fields p) p.columns ++ (codes "M2" ∷ codes "'MARKER'" ∷ codes "'INTEND'" ∷ []) ∷ []))
 
     third : List Line
     third = block (codes "RHS") (map right_side_fields p.rows)

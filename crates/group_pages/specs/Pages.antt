@@ -6,7 +6,7 @@ use Rattle.auction_terms.specs.Allocations.{Book}
 use Rattle.auction_terms.specs.Keeping.{Offer}
 use Rattle.presolve.specs.Flags.{kept_in_form}
 use Rattle.program_rows.specs.Program.{TableRow, TableColumn}
-use Rattle.program_rows.specs.Rows.{bidder_subjects, lot_subjects, subjects, row_of, column_of, worth_column}
+use Rattle.program_rows.specs.Rows.{bidder_subjects, subjects, row_of, column_of, worth_column}
 use Rattle.mps_text.specs.Bytes.{row_bytes, right_side_bytes, column_bytes, bound_bytes}
 use Rattle.group_pages.specs.declared.section.Section.{Section}
 use Rattle.group_pages.specs.declared.section.Section.TheVariants.{Rows, Columns, RightSides, Bounds}
@@ -37,7 +37,7 @@ page_of_offers lots offers = page_with (map (row_of lots) (subjects lots offers)
 
 -- what every program has: the rows of categories and pools, and the column of what all lots are worth
 abbrev pub page_of_lots : Lots → PageText
-page_of_lots lots = page_with (map (row_of lots) (lot_subjects lots)) (map (row_of lots) (lot_subjects lots)) (worth_column lots)
+page_of_lots lots = page_with (map (row_of lots) (subjects lots [])) (map (row_of lots) (subjects lots [])) (worth_column lots)
 
 -- the page of bidder b's form: of its kept bids
 abbrev pub page_of_form : Lots → ℕ → List Bid → PageText

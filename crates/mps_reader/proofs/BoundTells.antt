@@ -1,10 +1,10 @@
 -- Bounds are those of the lines so far.
-use Rattle.std.proofs.Common.{◌≡◌, ℕ, zero, suc, Bool, true, false, not, ◌||◌, ◌&&◌, List, [], ◌∷◌, length, map, refl, sym, ap, subst, ◌∙◌, Option, Some, None, pos}
+use Rattle.std.proofs.Common.{◌≡◌, ℕ, zero, suc, Bool, true, false, not, ◌||◌, ◌&&◌, List, [], ◌∷◌, length, map, refl, sym, ap, subst, ◌∙◌, Option, Some, None, pos, ◌+◌, drop, arith}
 use Rattle.std.specs.Prelude.{slice_get, bytes_eq, codes, nat_le, if◌then◌else◌}
 use Rattle.std.specs.List.{list_any, slice_set, AllByRecursion, IsDistinct}
 use Rattle.program_rows.specs.Lines.{LineFields, field}
-use Rattle.program_rows.specs.Described.{is_one_of, value, is_binary_bound, bound_column, bound_number, columns_named, column_lines}
-use Rattle.program_rows.specs.Faults.{bit_fault, bound_fault, earliest_fault, when, is_column, stands_in_integers}
+use Rattle.program_rows.specs.Described.{is_one_of, value, is_binary_bound, columns_named, column_lines, bound_pair}
+use Rattle.program_rows.specs.Faults.{bound_fault, earliest_fault, is_column, stands_in_integers}
 use Rattle.program_rows.specs.declared.fault.FaultKind.{FaultKind}
 use Rattle.program_rows.specs.declared.fault.FaultKind.TheVariants.{BoundType, Fields, UnknownColumn}
 use Rattle.mps_reader.specs.inside.Rows.{names_of}
@@ -14,6 +14,23 @@ use Rattle.mps_reader.specs.declared.column_table.ColumnTable.{ColumnTable}
 use Rattle.mps_reader.proofs.NameFacts.{same_name}
 use Rattle.mps_reader.proofs.PairTells.{flip-name, all-at}
 use Rattle.mps_reader.proofs.LineTells.{each-any}
+use Rattle.mps_reader.specs.inside.Reading.{bit_fault}
+use Rattle.std.specs.Bool.{then_some as when}
+
+-- ---- fields behind others
+
+pub first-behind : (k : ℕ) (f : LineFields) → field 0 (drop k f) ≡ field k f
+first-behind zero f = refl
+first-behind (suc k) [] = refl
+first-behind (suc k) (x ∷ f) = first-behind k f
+
+next-behind : (k : ℕ) (f : LineFields) → field 1 (drop k f) ≡ field (suc k) f
+next-behind zero f = refl
+next-behind (suc k) [] = refl
+next-behind (suc k) (x ∷ f) = next-behind k f
+
+pub second-behind : (k : ℕ) (f : LineFields) → field 1 (drop k f) ≡ field (k + 1) f
+second-behind k f = let next : suc k ≡ k + 1 = omega arith in next-behind k f ∙ ap (λ (n : ℕ). field n f) next
 
 -- ---- faults
 
@@ -39,16 +56,16 @@ rest true false more h = absurd cc
 rest true true more h = refl
 
 abbrev behind : List LineFields → LineFields → List (Option FaultKind)
-behind lines f = when (not (is_column lines (bound_column f))) UnknownColumn ∷ (if is_binary_bound f then None else bit_fault (bound_number f)) ∷ []
+behind lines f = when (not (is_column lines (field 0 (bound_pair f)))) UnknownColumn ∷ (if is_binary_bound f then None else bit_fault (field 1 (bound_pair f))) ∷ []
 
 pub type-refused : (lines : List LineFields) (f : LineFields) (kind : FaultKind) → type_fault f ≡ Some kind → bound_fault lines f ≡ Some kind
 type-refused lines f kind h = early (type_ok f) (count_ok f) (behind lines f) kind h
 
-pub type-taken : (lines : List LineFields) (f : LineFields) (known binary : Bool) (fault : Option FaultKind) → type_fault f ≡ None → is_column lines (bound_column f) ≡ known → is_binary_bound f ≡ binary
-    → earliest_fault (when (not known) UnknownColumn ∷ (if binary then None else bit_fault (bound_number f)) ∷ []) ≡ fault → bound_fault lines f ≡ fault
+pub type-taken : (lines : List LineFields) (f : LineFields) (known binary : Bool) (fault : Option FaultKind) → type_fault f ≡ None → is_column lines (field 0 (bound_pair f)) ≡ known → is_binary_bound f ≡ binary
+    → earliest_fault (when (not known) UnknownColumn ∷ (if binary then None else bit_fault (field 1 (bound_pair f))) ∷ []) ≡ fault → bound_fault lines f ≡ fault
 type-taken lines f known binary fault h k is e =
-    let kept = subst (λ b. earliest_fault (when (not known) UnknownColumn ∷ (if b then None else bit_fault (bound_number f)) ∷ []) ≡ fault) (sym is) e in
-    let all = subst (λ b. earliest_fault (when (not b) UnknownColumn ∷ (if is_binary_bound f then None else bit_fault (bound_number f)) ∷ []) ≡ fault) (sym k) kept in
+    let kept = subst (λ b. earliest_fault (when (not known) UnknownColumn ∷ (if b then None else bit_fault (field 1 (bound_pair f))) ∷ []) ≡ fault) (sym is) e in
+    let all = subst (λ b. earliest_fault (when (not b) UnknownColumn ∷ (if is_binary_bound f then None else bit_fault (field 1 (bound_pair f))) ∷ []) ≡ fault) (sym k) kept in
     rest (type_ok f) (count_ok f) (behind lines f) h ∙ all
 
 pub last-one : (o : Option FaultKind) → earliest_fault (o ∷ []) ≡ o
@@ -69,37 +86,37 @@ or-true : (a b : Bool) → (a || (true || b)) ≡ true
 or-true true b = refl
 or-true false b = refl
 
-values-other : (f : LineFields) (lines bounds : List LineFields) (n : List ℕ) → bytes_eq n (bound_column f) ≡ false → told_values lines (f ∷ bounds) n ≡ told_values lines bounds n
+values-other : (f : LineFields) (lines bounds : List LineFields) (n : List ℕ) → bytes_eq n (field 0 (bound_pair f)) ≡ false → told_values lines (f ∷ bounds) n ≡ told_values lines bounds n
 values-other f lines bounds n h =
-    let low : (is_one_of (field 0 f) (codes "LO" ∷ codes "FX" ∷ codes "BV" ∷ []) && bytes_eq n (bound_column f)) ≡ false = ap (λ b. is_one_of (field 0 f) (codes "LO" ∷ codes "FX" ∷ codes "BV" ∷ []) && b) h ∙ and-false _ in
-    let high : (is_one_of (field 0 f) (codes "UP" ∷ codes "FX" ∷ codes "BV" ∷ []) && bytes_eq n (bound_column f)) ≡ false = ap (λ b. is_one_of (field 0 f) (codes "UP" ∷ codes "FX" ∷ codes "BV" ∷ []) && b) h ∙ and-false _ in
-    let binary : (is_binary_bound f && bytes_eq n (bound_column f)) ≡ false = ap (λ b. is_binary_bound f && b) h ∙ and-false _ in
+    let low : (is_one_of (field 0 f) (codes "LO" ∷ codes "FX" ∷ codes "BV" ∷ []) && bytes_eq n (field 0 (bound_pair f))) ≡ false = ap (λ b. is_one_of (field 0 f) (codes "LO" ∷ codes "FX" ∷ codes "BV" ∷ []) && b) h ∙ and-false _ in
+    let high : (is_one_of (field 0 f) (codes "UP" ∷ codes "FX" ∷ codes "BV" ∷ []) && bytes_eq n (field 0 (bound_pair f))) ≡ false = ap (λ b. is_one_of (field 0 f) (codes "UP" ∷ codes "FX" ∷ codes "BV" ∷ []) && b) h ∙ and-false _ in
+    let binary : (is_binary_bound f && bytes_eq n (field 0 (bound_pair f))) ≡ false = ap (λ b. is_binary_bound f && b) h ∙ and-false _ in
     rw (low, high, binary) refl
 
-pub values-binary : (f : LineFields) (lines bounds : List LineFields) (n : List ℕ) → bytes_eq n (bound_column f) ≡ true → field 0 f ≡ codes "BV" → told_values lines (f ∷ bounds) n ≡ (true, pos 0, Some (pos 1))
+pub values-binary : (f : LineFields) (lines bounds : List LineFields) (n : List ℕ) → bytes_eq n (field 0 (bound_pair f)) ≡ true → field 0 f ≡ codes "BV" → told_values lines (f ∷ bounds) n ≡ (true, pos 0, Some (pos 1))
 values-binary f lines bounds n h e =
-    let low : (is_one_of (field 0 f) (codes "LO" ∷ codes "FX" ∷ codes "BV" ∷ []) && bytes_eq n (bound_column f)) ≡ true = rw (h, e) refl in
-    let high : (is_one_of (field 0 f) (codes "UP" ∷ codes "FX" ∷ codes "BV" ∷ []) && bytes_eq n (bound_column f)) ≡ true = rw (h, e) refl in
-    let binary : (is_binary_bound f && bytes_eq n (bound_column f)) ≡ true = rw (h, e) refl in
+    let low : (is_one_of (field 0 f) (codes "LO" ∷ codes "FX" ∷ codes "BV" ∷ []) && bytes_eq n (field 0 (bound_pair f))) ≡ true = rw (h, e) refl in
+    let high : (is_one_of (field 0 f) (codes "UP" ∷ codes "FX" ∷ codes "BV" ∷ []) && bytes_eq n (field 0 (bound_pair f))) ≡ true = rw (h, e) refl in
+    let binary : (is_binary_bound f && bytes_eq n (field 0 (bound_pair f))) ≡ true = rw (h, e) refl in
     let is : is_binary_bound f ≡ true = rw e refl in
-    rw (low, high, binary, is) (ap (λ b. (b, pos 0, Some (pos 1))) (or-true (stands_in_integers n lines) (list_any (λ x. is_binary_bound x && bytes_eq n (bound_column x)) bounds)))
+    rw (low, high, binary, is) (ap (λ b. (b, pos 0, Some (pos 1))) (or-true (stands_in_integers n lines) (list_any (λ x. is_binary_bound x && bytes_eq n (field 0 (bound_pair x))) bounds)))
 
-pub values-of : (f : LineFields) (lines bounds : List LineFields) (n : List ℕ) → bytes_eq n (bound_column f) ≡ true → is_one_of (field 0 f) (codes "UP" ∷ codes "LO" ∷ codes "FX" ∷ []) ≡ true
-    → told_values lines (f ∷ bounds) n ≡ bounded_values (field 0 f) (value (bound_number f)) (told_values lines bounds n)
+pub values-of : (f : LineFields) (lines bounds : List LineFields) (n : List ℕ) → bytes_eq n (field 0 (bound_pair f)) ≡ true → is_one_of (field 0 f) (codes "UP" ∷ codes "LO" ∷ codes "FX" ∷ []) ≡ true
+    → told_values lines (f ∷ bounds) n ≡ bounded_values (field 0 f) (value (field 1 (bound_pair f))) (told_values lines bounds n)
 values-of f lines bounds n h one = by (bytes_eq (field 0 f) (codes "UP")) refl
   where
-    low-is : (b : Bool) → is_one_of (field 0 f) (codes "LO" ∷ codes "FX" ∷ codes "BV" ∷ []) ≡ b → (is_one_of (field 0 f) (codes "LO" ∷ codes "FX" ∷ codes "BV" ∷ []) && bytes_eq n (bound_column f)) ≡ b
+    low-is : (b : Bool) → is_one_of (field 0 f) (codes "LO" ∷ codes "FX" ∷ codes "BV" ∷ []) ≡ b → (is_one_of (field 0 f) (codes "LO" ∷ codes "FX" ∷ codes "BV" ∷ []) && bytes_eq n (field 0 (bound_pair f))) ≡ b
     low-is true e = rw (e, h) refl
     low-is false e = rw e refl
 
-    high-is : (b : Bool) → is_one_of (field 0 f) (codes "UP" ∷ codes "FX" ∷ codes "BV" ∷ []) ≡ b → (is_one_of (field 0 f) (codes "UP" ∷ codes "FX" ∷ codes "BV" ∷ []) && bytes_eq n (bound_column f)) ≡ b
+    high-is : (b : Bool) → is_one_of (field 0 f) (codes "UP" ∷ codes "FX" ∷ codes "BV" ∷ []) ≡ b → (is_one_of (field 0 f) (codes "UP" ∷ codes "FX" ∷ codes "BV" ∷ []) && bytes_eq n (field 0 (bound_pair f))) ≡ b
     high-is true e = rw (e, h) refl
     high-is false e = rw e refl
 
-    binary-is : is_binary_bound f ≡ false → (is_binary_bound f && bytes_eq n (bound_column f)) ≡ false
+    binary-is : is_binary_bound f ≡ false → (is_binary_bound f && bytes_eq n (field 0 (bound_pair f))) ≡ false
     binary-is e = rw e refl
 
-    fixed : bytes_eq (field 0 f) (codes "UP") ≡ false → bytes_eq (field 0 f) (codes "LO") ≡ false → bytes_eq (field 0 f) (codes "FX") ≡ true → told_values lines (f ∷ bounds) n ≡ bounded_values (field 0 f) (value (bound_number f)) (told_values lines bounds n)
+    fixed : bytes_eq (field 0 f) (codes "UP") ≡ false → bytes_eq (field 0 f) (codes "LO") ≡ false → bytes_eq (field 0 f) (codes "FX") ≡ true → told_values lines (f ∷ bounds) n ≡ bounded_values (field 0 f) (value (field 1 (bound_pair f))) (told_values lines bounds n)
     fixed up lo fx =
         let word : field 0 f ≡ codes "FX" = same_name (field 0 f) (codes "FX") fx in
         let low = low-is true (rw word refl) in
@@ -108,7 +125,7 @@ values-of f lines bounds n h one = by (bytes_eq (field 0 f) (codes "UP")) refl
         let binary = binary-is no in
         rw (low, high, binary, no, up, lo) refl
 
-    lower-one : bytes_eq (field 0 f) (codes "UP") ≡ false → bytes_eq (field 0 f) (codes "LO") ≡ true → told_values lines (f ∷ bounds) n ≡ bounded_values (field 0 f) (value (bound_number f)) (told_values lines bounds n)
+    lower-one : bytes_eq (field 0 f) (codes "UP") ≡ false → bytes_eq (field 0 f) (codes "LO") ≡ true → told_values lines (f ∷ bounds) n ≡ bounded_values (field 0 f) (value (field 1 (bound_pair f))) (told_values lines bounds n)
     lower-one up lo =
         let word : field 0 f ≡ codes "LO" = same_name (field 0 f) (codes "LO") lo in
         let low = low-is true (rw word refl) in
@@ -117,7 +134,7 @@ values-of f lines bounds n h one = by (bytes_eq (field 0 f) (codes "UP")) refl
         let binary = binary-is no in
         rw (low, high, binary, no, up, lo) refl
 
-    upper-one : bytes_eq (field 0 f) (codes "UP") ≡ true → told_values lines (f ∷ bounds) n ≡ bounded_values (field 0 f) (value (bound_number f)) (told_values lines bounds n)
+    upper-one : bytes_eq (field 0 f) (codes "UP") ≡ true → told_values lines (f ∷ bounds) n ≡ bounded_values (field 0 f) (value (field 1 (bound_pair f))) (told_values lines bounds n)
     upper-one up =
         let word : field 0 f ≡ codes "UP" = same_name (field 0 f) (codes "UP") up in
         let low = low-is false (rw word refl) in
@@ -127,7 +144,7 @@ values-of f lines bounds n h one = by (bytes_eq (field 0 f) (codes "UP")) refl
         let binary = binary-is no in
         rw (low, high, binary, no, up, lo) refl
 
-    by2 : (b : Bool) → bytes_eq (field 0 f) (codes "LO") ≡ b → bytes_eq (field 0 f) (codes "UP") ≡ false → told_values lines (f ∷ bounds) n ≡ bounded_values (field 0 f) (value (bound_number f)) (told_values lines bounds n)
+    by2 : (b : Bool) → bytes_eq (field 0 f) (codes "LO") ≡ b → bytes_eq (field 0 f) (codes "UP") ≡ false → told_values lines (f ∷ bounds) n ≡ bounded_values (field 0 f) (value (field 1 (bound_pair f))) (told_values lines bounds n)
     by2 true lo up = lower-one up lo
     by2 false lo up = fixed up lo (last-of (bytes_eq (field 0 f) (codes "FX")) (let whole : is_one_of (field 0 f) (codes "UP" ∷ codes "LO" ∷ codes "FX" ∷ []) ≡ (bytes_eq (field 0 f) (codes "FX") || false) = rw (up, lo) refl in sym whole ∙ one))
       where
@@ -135,28 +152,28 @@ values-of f lines bounds n h one = by (bytes_eq (field 0 f) (codes "UP")) refl
         last-of true e = refl
         last-of false e = absurd cc
 
-    by : (b : Bool) → bytes_eq (field 0 f) (codes "UP") ≡ b → told_values lines (f ∷ bounds) n ≡ bounded_values (field 0 f) (value (bound_number f)) (told_values lines bounds n)
+    by : (b : Bool) → bytes_eq (field 0 f) (codes "UP") ≡ b → told_values lines (f ∷ bounds) n ≡ bounded_values (field 0 f) (value (field 1 (bound_pair f))) (told_values lines bounds n)
     by true up = upper-one up
     by false up = by2 (bytes_eq (field 0 f) (codes "LO")) refl up
 
-others-told : (f : LineFields) (lines bounds : List LineFields) (ns : List (List ℕ)) → AllByRecursion (λ n. bytes_eq (bound_column f) n ≡ false) ns → map (told_values lines bounds) ns ≡ map (told_values lines (f ∷ bounds)) ns
+others-told : (f : LineFields) (lines bounds : List LineFields) (ns : List (List ℕ)) → AllByRecursion (λ n. bytes_eq (field 0 (bound_pair f)) n ≡ false) ns → map (told_values lines bounds) ns ≡ map (told_values lines (f ∷ bounds)) ns
 others-told f lines bounds [] h = refl
 others-told f lines bounds (n ∷ ns) h =
-    ap (λ v. v ∷ map (told_values lines bounds) ns) (sym (values-other f lines bounds n (flip-name (bound_column f) n h.0))) ∙ ap (λ vs. told_values lines (f ∷ bounds) n ∷ vs) (others-told f lines bounds ns h.1)
+    ap (λ v. v ∷ map (told_values lines bounds) ns) (sym (values-other f lines bounds n (flip-name (field 0 (bound_pair f)) n h.0))) ∙ ap (λ vs. told_values lines (f ∷ bounds) n ∷ vs) (others-told f lines bounds ns h.1)
 
-pub set-told : (f : LineFields) (lines bounds : List LineFields) (states : List ColumnState) (ns : List (List ℕ)) (i : ℕ) (s : ColumnState) → IsDistinct bytes_eq ns → slice_get ns i ≡ Some (bound_column f)
-    → map state_values states ≡ map (told_values lines bounds) ns → state_values s ≡ told_values lines (f ∷ bounds) (bound_column f) → map state_values (slice_set states i s) ≡ map (told_values lines (f ∷ bounds)) ns
+pub set-told : (f : LineFields) (lines bounds : List LineFields) (states : List ColumnState) (ns : List (List ℕ)) (i : ℕ) (s : ColumnState) → IsDistinct bytes_eq ns → slice_get ns i ≡ Some (field 0 (bound_pair f))
+    → map state_values states ≡ map (told_values lines bounds) ns → state_values s ≡ told_values lines (f ∷ bounds) (field 0 (bound_pair f)) → map state_values (slice_set states i s) ≡ map (told_values lines (f ∷ bounds)) ns
 unfolding IsDistinct
 set-told f lines bounds states [] i s d e h is = absurd cc
 set-told f lines bounds [] (n ∷ ns) i s d e h is = absurd cc
 set-told f lines bounds (x ∷ states) (n ∷ ns) zero s d e h is =
-    let same : n ≡ bound_column f = cc in
+    let same : n ≡ field 0 (bound_pair f) = cc in
     let tail : map state_values states ≡ map (told_values lines bounds) ns = cc in
     ap (λ v. v ∷ map state_values states) (is ∙ ap (told_values lines (f ∷ bounds)) (sym same)) ∙ ap (λ vs. told_values lines (f ∷ bounds) n ∷ vs) (tail ∙ others-told f lines bounds ns (subst (λ m. AllByRecursion (λ y. bytes_eq m y ≡ false) ns) same d.0))
 set-told f lines bounds (x ∷ states) (n ∷ ns) (suc i) s d e h is =
     let head : state_values x ≡ told_values lines bounds n = cc in
     let tail : map state_values states ≡ map (told_values lines bounds) ns = cc in
-    ap (λ v. v ∷ map state_values (slice_set states i s)) (head ∙ sym (values-other f lines bounds n (all-at (λ y. bytes_eq n y ≡ false) ns i (bound_column f) e d.0))) ∙ ap (λ vs. told_values lines (f ∷ bounds) n ∷ vs) (set-told f lines bounds states ns i s d.1 e tail is)
+    ap (λ v. v ∷ map state_values (slice_set states i s)) (head ∙ sym (values-other f lines bounds n (all-at (λ y. bytes_eq n y ≡ false) ns i (field 0 (bound_pair f)) e d.0))) ∙ ap (λ vs. told_values lines (f ∷ bounds) n ∷ vs) (set-told f lines bounds states ns i s d.1 e tail is)
 
 pub told-at : (lines bounds : List LineFields) (states : List ColumnState) (ns : List (List ℕ)) (i : ℕ) (s : ColumnState) (n : List ℕ) → slice_get states i ≡ Some s → slice_get ns i ≡ Some n → map state_values states ≡ map (told_values lines bounds) ns → state_values s ≡ told_values lines bounds n
 told-at lines bounds states [] i s n a b h = absurd cc
@@ -169,7 +186,7 @@ told-at lines bounds (x ∷ states) (m ∷ ns) zero s n a b h =
 told-at lines bounds (x ∷ states) (m ∷ ns) (suc i) s n a b h = let tail : map state_values states ≡ map (told_values lines bounds) ns = cc in told-at lines bounds states ns i s n a b tail
 
 pub bound-tells : (f : LineFields) (o : Option (List ℕ)) (rows : List (List ℕ)) (lines bounds : List LineFields) (old new : ColumnTable) (i : ℕ) (s : ColumnState) → new ≡ record old { states = new.states } → new.states.items ≡ slice_set old.states.items i s
-    → IsDistinct bytes_eq (names_of old.names) → slice_get (names_of old.names) i ≡ Some (bound_column f) → state_values s ≡ told_values lines (f ∷ bounds) (bound_column f) → ColumnsTell o rows lines bounds old → ColumnsTell o rows lines (f ∷ bounds) new
+    → IsDistinct bytes_eq (names_of old.names) → slice_get (names_of old.names) i ≡ Some (field 0 (bound_pair f)) → state_values s ≡ told_values lines (f ∷ bounds) (field 0 (bound_pair f)) → ColumnsTell o rows lines bounds old → ColumnsTell o rows lines (f ∷ bounds) new
 bound-tells f o rows lines bounds old new i s same set distinct at is h =
     let told = set-told f lines bounds old.states.items (names_of old.names) i s distinct at (h.states ∙ ap (map (told_values lines bounds)) (sym h.names)) is in
     subst (λ c. ColumnsTell o rows lines (f ∷ bounds) c) (sym same) (record {

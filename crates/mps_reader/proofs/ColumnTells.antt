@@ -15,7 +15,7 @@ use Rattle.program_rows.specs.declared.bounds.Bounds.TheVariants.{ZeroOrOne}
 use Rattle.program_rows.specs.Program.{TableColumn}
 use Rattle.program_rows.specs.Parts.{AreEntries}
 use Rattle.program_rows.specs.Lines.{LineFields}
-use Rattle.program_rows.specs.Described.{columns_named, all_entries, coefficient}
+use Rattle.program_rows.specs.Described.{columns_named, column_pairs, number_beside}
 use Rattle.mps_reader.specs.inside.Columns.{same_place, ColumnsFit, AddsColumn, entries_at}
 use Rattle.mps_reader.specs.inside.Rows.{names_of}
 use Rattle.mps_reader.specs.inside.Tracking.{number_at_place, OpenTells, ColumnsTell, ColumnAdded, told_column, told_values, state_values}
@@ -143,15 +143,15 @@ closed-tells o rows lines bounds old new sorted name cost fit current spent move
   begun = begun ∙ h.begun;
   states = ap (λ s. map state_values s.items) states ∙ h.states;
   done = subst (λ ks. AllByRecursion (λ (k : TableColumn). k ≡ told_column o rows lines k.name) ks) (sym done) (all-push (λ (k : TableColumn). k ≡ told_column o rows lines k.name) old.done last h.done told);
-  opened = subst (λ c. IfSome c (λ n. OpenTells o rows (coefficient (all_entries lines) n.now) new.current_column)) (sym none) tt;
+  opened = subst (λ c. IfSome c (λ n. OpenTells o rows (number_beside (column_pairs lines n.now)) new.current_column)) (sym none) tt;
   closed = λ e. nothing;
 }
   where
     last : TableColumn
     last = record { name = name.now; bounds = ZeroOrOne; cost = cost; entries = sorted }
 
-    current-tells : OpenTells o rows (coefficient (all_entries lines) name.now) old.current_column
-    current-tells = subst (λ c. IfSome c (λ n. OpenTells o rows (coefficient (all_entries lines) n.now) old.current_column)) current h.opened
+    current-tells : OpenTells o rows (number_beside (column_pairs lines name.now)) old.current_column
+    current-tells = subst (λ c. IfSome c (λ n. OpenTells o rows (number_beside (column_pairs lines n.now)) old.current_column)) current h.opened
 
     legal : AreEntries (length rows) sorted
     legal = sorted-entries (length rows) old.current_column.entries.items sorted moved up fit.opened
@@ -160,12 +160,12 @@ closed-tells o rows lines bounds old new sorted name cost fit current spent move
     from [] = tt
     from (e ∷ es) = (omega arith, from es)
 
-    entries : sorted ≡ entries_at 0 (coefficient (all_entries lines) name.now) rows
-    entries = sym (entries-told 0 (coefficient (all_entries lines) name.now) rows sorted (from sorted) (more-rows _ _ sorted (omega arith) legal)
-        (λ j n at. subst (λ q. number_at_place q sorted ≡ coefficient (all_entries lines) name.now n) (omega arith) (worth-moved old.current_column.entries.items sorted j moved fit.opened.distinct (entries-distinct (length rows) sorted legal) ∙ current-tells.entries j n at)))
+    entries : sorted ≡ entries_at 0 (number_beside (column_pairs lines name.now)) rows
+    entries = sym (entries-told 0 (number_beside (column_pairs lines name.now)) rows sorted (from sorted) (more-rows _ _ sorted (omega arith) legal)
+        (λ j n at. subst (λ q. number_at_place q sorted ≡ number_beside (column_pairs lines name.now) n) (omega arith) (worth-moved old.current_column.entries.items sorted j moved fit.opened.distinct (entries-distinct (length rows) sorted legal) ∙ current-tells.entries j n at)))
 
     told : last ≡ told_column o rows lines name.now
-    told = ap (λ z. record { name = name.now; bounds = ZeroOrOne; cost = z; entries = sorted }) (spent ∙ current-tells.cost) ∙ ap (λ es. record { name = name.now; bounds = ZeroOrOne; cost = coefficient (all_entries lines) name.now (unwrap_or o []); entries = es }) entries
+    told = ap (λ z. record { name = name.now; bounds = ZeroOrOne; cost = z; entries = sorted }) (spent ∙ current-tells.cost) ∙ ap (λ es. record { name = name.now; bounds = ZeroOrOne; cost = number_beside (column_pairs lines name.now) (unwrap_or o []); entries = es }) entries
 
 pub added-tells : (o : Option (List ℕ)) (rows : List (List ℕ)) (lines : List LineFields) (old new : ColumnTable) (name : List ℕ) → ColumnsFit (length rows) old → is_some old.current ≡ false → AddsColumn name old new → ColumnsTell o rows lines [] old → ColumnAdded o rows lines name new
 added-tells o rows lines old new name fit none adds h = record {

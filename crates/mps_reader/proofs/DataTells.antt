@@ -1,14 +1,14 @@
 -- A data line more.
 use Rattle.std.proofs.Common.{◌≡◌, ℕ, ◌+◌, false, List, [], ◌∷◌, ◌++◌, length, map, refl, sym, ap, subst, ◌∙◌, Option, Some, None}
-use Rattle.std.specs.Prelude.{◌==◌, not, is_some, codes, bytes_eq, IfSome}
+use Rattle.std.specs.Prelude.{◌==◌, not, is_some, codes, bytes_eq, IfSome, flat_map}
 use Rattle.program_rows.specs.declared.fault.FaultKind.TheVariants.{Fields, RowType, RowRepeated}
 use Rattle.std.specs.List.{list_any, AllByRecursion}
 use Rattle.std.specs.Option.{option_map_or, option_to_list}
 use denote.Ref.{Bor}
 use Rattle.program_rows.specs.Lines.{Data, LineFields, field}
 use Rattle.program_rows.specs.Sections.{Sections, with_line}
-use Rattle.program_rows.specs.Described.{is_one_of, all_right_sides, right_side, coefficient, all_entries}
-use Rattle.program_rows.specs.Faults.{row_types, earliest_fault, when, is_declared, is_objective, objsense_fault, row_fault, column_fault, right_side_fault, bound_fault, data_fault}
+use Rattle.program_rows.specs.Described.{is_one_of, first_free, column_pairs, number_beside, line_right_sides}
+use Rattle.program_rows.specs.Faults.{earliest_fault, is_declared, row_fault, column_fault, right_side_fault, bound_fault, fault, sense_fault}
 use Rattle.program_rows.specs.Program.{TableColumn}
 use Rattle.mps_reader.specs.inside.Rows.{names_of, option_now, declared_row_names, StampsAre, bound_lines_of}
 use Rattle.mps_reader.specs.inside.Columns.{ColumnsFit}
@@ -23,6 +23,7 @@ use Rattle.mps_reader.proofs.NameFacts.{length-bytes}
 use Rattle.mps_reader.proofs.RowTells.{declared-any}
 use Rattle.mps_reader.proofs.SideTells.{row-names-by}
 use Rattle.mps_reader.proofs.SectionTells.{tells-rows, tells-columns, tells-right-sides, tells-bounds, tells-sense}
+use Rattle.std.specs.Bool.{then_some as when}
 
 -- ---- what the checks of a line ask
 
@@ -33,22 +34,27 @@ objective-any : (name : List ℕ) (o : Option (Bor (List ℕ))) → option_map_o
 objective-any name None = refl
 objective-any name (Some x) = refl
 
-pub objective-is : (before : Sections) (rights : List LineFields) (r : Rows) → RowsTell before.rows rights r → (name : List ℕ) → is_objective before.rows name ≡ option_map_or (λ other. bytes_eq name other.now) r.objective false
+pub objective-is : (before : Sections) (rights : List LineFields) (r : Rows) → RowsTell before.rows rights r → (name : List ℕ) → option_map_or (bytes_eq name) (first_free before.rows) false ≡ option_map_or (λ other. bytes_eq name other.now) r.objective false
 objective-is before rights r h name = ap (λ o. option_map_or (bytes_eq name) o false) (sym h.objective) ∙ objective-any name r.objective
 
-pub in-sense : (before : Sections) (f : LineFields) → before.section ≡ codes "OBJSENSE" → data_fault before f ≡ objsense_fault f
+pub in-sense : (before : Sections) (f : LineFields) → before.section ≡ codes "OBJSENSE" → fault before (Data f) ≡ sense_fault f
+unfolding fault
 in-sense before f s = rw s refl
 
-pub in-rows : (before : Sections) (f : LineFields) → before.section ≡ codes "ROWS" → data_fault before f ≡ row_fault before.rows f
+pub in-rows : (before : Sections) (f : LineFields) → before.section ≡ codes "ROWS" → fault before (Data f) ≡ row_fault before.rows f
+unfolding fault
 in-rows before f s = rw s refl
 
-pub in-columns : (before : Sections) (f : LineFields) → before.section ≡ codes "COLUMNS" → data_fault before f ≡ column_fault before f
+pub in-columns : (before : Sections) (f : LineFields) → before.section ≡ codes "COLUMNS" → fault before (Data f) ≡ column_fault before f
+unfolding fault
 in-columns before f s = rw s refl
 
-pub in-right-sides : (before : Sections) (f : LineFields) → before.section ≡ codes "RHS" → data_fault before f ≡ right_side_fault before f
+pub in-right-sides : (before : Sections) (f : LineFields) → before.section ≡ codes "RHS" → fault before (Data f) ≡ right_side_fault before f
+unfolding fault
 in-right-sides before f s = rw s refl
 
-pub in-bounds : (before : Sections) (f : LineFields) → before.section ≡ codes "BOUNDS" → data_fault before f ≡ bound_fault before.columns f
+pub in-bounds : (before : Sections) (f : LineFields) → before.section ≡ codes "BOUNDS" → fault before (Data f) ≡ bound_fault before.columns f
+unfolding fault
 in-bounds before f s = rw s refl
 
 -- ---- a line of ROWS
@@ -70,7 +76,7 @@ columns-unnamed o other rows more count lines bounds c none fit closed h =
       closed = h.closed;
     }
   where
-    by : (x : Option (Bor (List ℕ))) → is_some x ≡ false → IfSome x (λ n. OpenTells other more (coefficient (all_entries lines) n.now) c.current_column)
+    by : (x : Option (Bor (List ℕ))) → is_some x ≡ false → IfSome x (λ n. OpenTells other more (number_beside (column_pairs lines n.now)) c.current_column)
     by None e = tt
     by (Some x) e = absurd cc
 
@@ -116,18 +122,18 @@ pub at-right-sides : (before : Sections) (r : Reading) → r.section ≡ section
 at-right-sides before r is h = subst (λ s. SectionTells s before.rows before.columns before.right_sides before.bounds r.rows r.columns) is h.lines.of_section
 
 pub right-step : (before : Sections) (f : LineFields) (r : Reading) (new : Rows) → r.section ≡ sections.RightSides → new.names ≡ r.rows.names → new.objective ≡ r.rows.objective → RowsTell before.rows (f ∷ before.right_sides) new
-    → StampsAre new.stamps.items (length (names_of r.columns.names) + 1) (names_of r.rows.names) (λ row. list_any (λ other. bytes_eq row other.0) (all_right_sides (f ∷ before.right_sides))) → ReadingTells before r → ReadingTells (with_line before (Data f)) (record r { rows = new })
+    → StampsAre new.stamps.items (length (names_of r.columns.names) + 1) (names_of r.rows.names) (λ row. list_any (λ other. bytes_eq row other.0) (flat_map line_right_sides (f ∷ before.right_sides))) → ReadingTells before r → ReadingTells (with_line before (Data f)) (record r { rows = new })
 right-step before f r new is names objective told stamps h =
     let at = at-right-sides before r is h in
     let same : declared_row_names new.rows.items ≡ declared_row_names r.rows.rows.items =
-    row-names-by new.rows.items (right_side (all_right_sides (f ∷ before.right_sides))) (bound_lines_of before.rows) told.shown
-    ∙ sym (row-names-by r.rows.rows.items (right_side (all_right_sides before.right_sides)) (bound_lines_of before.rows) h.lines.of_rows.shown) in
+    row-names-by new.rows.items (number_beside (flat_map line_right_sides (f ∷ before.right_sides))) (bound_lines_of before.rows) told.shown
+    ∙ sym (row-names-by r.rows.rows.items (number_beside (flat_map line_right_sides before.right_sides)) (bound_lines_of before.rows) h.lines.of_rows.shown) in
     tells-right-sides before f (record r { rows = new }) (h.section ∙ ap word_of is) h.section (record {
       of_rows = told;
       of_columns = subst (λ o. ColumnsTell (option_now o) (declared_row_names new.rows.items) before.columns before.bounds r.columns) (sym objective)
           (subst (λ ns. ColumnsTell (option_now r.rows.objective) ns before.columns before.bounds r.columns) (sym same) h.lines.of_columns);
       of_section = subst (λ s. SectionTells s before.rows before.columns (f ∷ before.right_sides) before.bounds new r.columns) (sym is)
-          (record { no_bounds = at.no_bounds; stamps = subst (λ ns. StampsAre new.stamps.items (length (names_of r.columns.names) + 1) (names_of ns) (λ row. list_any (λ other. bytes_eq row other.0) (all_right_sides (f ∷ before.right_sides)))) (sym names) stamps });
+          (record { no_bounds = at.no_bounds; stamps = subst (λ ns. StampsAre new.stamps.items (length (names_of r.columns.names) + 1) (names_of ns) (λ row. list_any (λ other. bytes_eq row other.0) (flat_map line_right_sides (f ∷ before.right_sides)))) (sym names) stamps });
     })
 
 -- ---- a line of BOUNDS, and of OBJSENSE
@@ -146,12 +152,12 @@ sense-step before f r is h = tells-sense before f r (h.section ∙ ap word_of is
 -- ---- the fault of a data line, as the code looks for it
 
 pub rows-fault : (before : Sections) (f : LineFields) (r : Reading) → r.section ≡ sections.Rows → ReadingTells before r
-    → data_fault before f ≡ earliest_fault (when (not (length f == 2)) Fields ∷ when (not (is_one_of (field 0 f) row_types)) RowType ∷ when (list_any (bytes_eq (field 1 f)) (names_of r.rows.names)) RowRepeated ∷ [])
-rows-fault before f r is h = in-rows before f (h.section ∙ ap word_of is) ∙ ap (λ b. earliest_fault (when (not (length f == 2)) Fields ∷ when (not (is_one_of (field 0 f) row_types)) RowType ∷ when b RowRepeated ∷ [])) (declared-is before before.right_sides r.rows h.lines.of_rows (field 1 f))
+    → fault before (Data f) ≡ earliest_fault (when (not (length f == 2)) Fields ∷ when (not (is_one_of (field 0 f) (codes "N" ∷ codes "L" ∷ codes "G" ∷ codes "E" ∷ []))) RowType ∷ when (list_any (bytes_eq (field 1 f)) (names_of r.rows.names)) RowRepeated ∷ [])
+rows-fault before f r is h = in-rows before f (h.section ∙ ap word_of is) ∙ ap (λ b. earliest_fault (when (not (length f == 2)) Fields ∷ when (not (is_one_of (field 0 f) (codes "N" ∷ codes "L" ∷ codes "G" ∷ codes "E" ∷ []))) RowType ∷ when b RowRepeated ∷ [])) (declared-is before before.right_sides r.rows h.lines.of_rows (field 1 f))
 
 -- stamps of a line of RHS
 pub right-stamps : (before : Sections) (r : Reading) (stamp : ℕ) → r.section ≡ sections.RightSides → stamp ≡ length r.columns.names.keys + 1 → ReadingTells before r
-    → StampsAre r.rows.stamps.items stamp (names_of r.rows.names) (λ row. list_any (λ other. bytes_eq row other.0) (all_right_sides before.right_sides))
+    → StampsAre r.rows.stamps.items stamp (names_of r.rows.names) (λ row. list_any (λ other. bytes_eq row other.0) (flat_map line_right_sides before.right_sides))
 right-stamps before r stamp is size h =
     let at = at-right-sides before r is h in
-    subst (λ n. StampsAre r.rows.stamps.items n (names_of r.rows.names) (λ row. list_any (λ other. bytes_eq row other.0) (all_right_sides before.right_sides))) (ap (λ (n : ℕ). n + 1) (length-bytes r.columns.names.keys) ∙ sym size) at.stamps
+    subst (λ n. StampsAre r.rows.stamps.items n (names_of r.rows.names) (λ row. list_any (λ other. bytes_eq row other.0) (flat_map line_right_sides before.right_sides))) (ap (λ (n : ℕ). n + 1) (length-bytes r.columns.names.keys) ∙ sym size) at.stamps

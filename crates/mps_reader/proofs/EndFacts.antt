@@ -1,17 +1,17 @@
 -- The line that ends a text.
-use Rattle.std.proofs.Common.{◌≡◌, ◌≢◌, ℕ, List, [], ◌∷◌, ◌++◌, length, refl, sym, ap, ◌∙◌, arith}
+use Rattle.std.proofs.Common.{◌≡◌, ◌≢◌, ℕ, List, [], ◌∷◌, ◌++◌, length, refl, sym, ap, ◌∙◌, arith, drop}
 use Rattle.std.specs.Prelude.{bytes_eq, codes}
 use Rattle.std.specs.List.{AllByRecursion}
-use Rattle.program_rows.specs.Lines.{Skipped, Unprintable, Data, header_of, field}
+use Rattle.program_rows.specs.Lines.{Skipped, Unprintable, Data, field, Header}
 use Rattle.program_rows.specs.Sections.{is_end}
 use Rattle.mps_reader.specs.inside.Reading.{AreFirst}
 use Rattle.mps_reader.specs.Ending.{IsPassed}
 
-pub end-of : (shown all : List (List ℕ)) → AreFirst shown all → bytes_eq (field 0 shown) (codes "ENDATA") ≡ is_end (header_of all)
+pub end-of : (shown all : List (List ℕ)) → AreFirst shown all → bytes_eq (field 0 shown) (codes "ENDATA") ≡ is_end (Header (field 0 all) (drop 1 all))
 end-of shown [] f = absurd (let size : length shown ≡ 0 = ap length f.front in let some = f.some in omega arith)
 end-of shown (word ∷ more) f = ap (λ ws. bytes_eq (field 0 ws) (codes "ENDATA")) f.front
 
-pub header-text : (all : List (List ℕ)) → header_of all ≢ Unprintable
+pub header-text : (all : List (List ℕ)) → Header (field 0 all) (drop 1 all) ≢ Unprintable
 header-text [] e = absurd cc
 header-text (word ∷ more) e = absurd cc
 

@@ -5,18 +5,17 @@ use Rattle.std.specs.List.{list_any}
 use Rattle.std.specs.Option.{option_map_or}
 use Rattle.std.proofs.lemmas.Bool.{both_ways, eqb-true}
 use Rattle.program_rows.specs.Lines.{LineFields, field}
-use Rattle.program_rows.specs.Described.{Entry, pairs, line_entries, names_both, value, coefficient}
-use Rattle.program_rows.specs.Faults.{number_fault, earliest_fault, when, pairs_fault, is_declared}
+use Rattle.program_rows.specs.Described.{pairs, value, number_beside}
+use Rattle.program_rows.specs.Faults.{number_fault, earliest_fault, pairs_fault, is_declared}
 use Rattle.program_rows.specs.declared.fault.FaultKind.{FaultKind}
 use Rattle.program_rows.specs.declared.fault.FaultKind.TheVariants.{UnknownRow, EntryRepeated}
 use Rattle.mps_reader.specs.inside.Rows.{StampsAre}
 use Rattle.mps_reader.specs.inside.Tracking.{OpenTells}
 use Rattle.mps_reader.specs.declared.open_column.OpenColumn.{OpenColumn}
-use Rattle.mps_reader.proofs.NameFacts.{own_name, same_name}
+use Rattle.mps_reader.proofs.NameFacts.{same_name}
 use Rattle.mps_reader.proofs.PairFaults.{begins, second, without-own}
-
-abbrev pub entry : List ℕ → List ℕ → List ℕ → Entry
-entry column row number = record { column = column; row = row; number = number }
+use Rattle.program_rows.specs.Numbers.{number as token_number}
+use Rattle.std.specs.Bool.{then_some as when}
 
 pub one-of : (f : LineFields) → length f ≡ 3 → pairs (drop 1 f) ≡ (field 1 f, field 2 f) ∷ []
 one-of [] h = absurd (omega arith)
@@ -34,12 +33,6 @@ two-of (a ∷ b ∷ c ∷ d ∷ []) h = absurd (omega arith)
 two-of (a ∷ b ∷ c ∷ d ∷ e ∷ []) h = refl
 two-of (a ∷ b ∷ c ∷ d ∷ e ∷ g ∷ f) h = absurd (omega arith)
 
-one-entry : (f : LineFields) → length f ≡ 3 → line_entries f ≡ entry (field 0 f) (field 1 f) (field 2 f) ∷ []
-one-entry f h = ap (map (λ p. entry (field 0 f) p.0 p.1)) (one-of f h)
-
-two-entries : (f : LineFields) → length f ≡ 5 → line_entries f ≡ entry (field 0 f) (field 1 f) (field 2 f) ∷ entry (field 0 f) (field 3 f) (field 4 f) ∷ []
-two-entries f h = ap (map (λ p. entry (field 0 f) p.0 p.1)) (two-of f h)
-
 -- ---- the same tests, and the same numbers
 
 pub stamps-same : (stamps : List ℕ) (stamp : ℕ) (ns : List (List ℕ)) (has other : List ℕ → Bool) → ((n : List ℕ) → has n ≡ other n) → StampsAre stamps stamp ns has → StampsAre stamps stamp ns other
@@ -52,33 +45,31 @@ stamps-same stamps stamp ns has other e h = h ∙ go ns
 pub open-same : (o : Option (List ℕ)) (rows : List (List ℕ)) (number other : List ℕ → ℤ) (column : OpenColumn) → ((n : List ℕ) → number n ≡ other n) → OpenTells o rows number column → OpenTells o rows other column
 open-same o rows number other column e h = record { cost = h.cost ∙ e _; entries = λ p n at. h.entries p n at ∙ e n }
 
-pub has-one : (column row number : List ℕ) (earlier : List Entry) (n : List ℕ) → (bytes_eq n row || list_any (names_both column n) earlier) ≡ list_any (names_both column n) (entry column row number ∷ earlier)
-has-one column row number earlier n = rw (own_name column) refl
+-- whether a pair names the row
+abbrev pub has_row : List (List ℕ × List ℕ) → List ℕ → Bool
+has_row earlier n = list_any (λ other. bytes_eq n other.0) earlier
 
-pub number-one : (column row number : List ℕ) (earlier : List Entry) (n : List ℕ) → (if bytes_eq n row then value number else coefficient earlier column n) ≡ coefficient (entry column row number ∷ earlier) column n
-number-one column row number earlier n = rw (own_name column) (by (bytes_eq n row))
+pub number-one : (row number : List ℕ) (earlier : List (List ℕ × List ℕ)) (n : List ℕ) → (if bytes_eq n row then value number else number_beside earlier n) ≡ number_beside ((row, number) ∷ earlier) n
+number-one row number earlier n = by (bytes_eq n row)
   where
-    by : (b : Bool) → (if b then value number else coefficient earlier column n) ≡ option_map_or (λ e. value e.number) (if b then Some (entry column row number) else find (names_both column n) earlier) (pos 0)
+    by : (b : Bool) → (if b then value number else number_beside earlier n) ≡ option_map_or (λ (p : List ℕ × List ℕ). value p.1) (if b then Some (row, number) else find (λ (p : List ℕ × List ℕ). bytes_eq n p.0) earlier) (pos 0)
     by true = refl
     by false = refl
 
-pub has-two : (column row number row2 number2 : List ℕ) (earlier : List Entry) (n : List ℕ) → list_any (names_both column n) (entry column row2 number2 ∷ entry column row number ∷ earlier) ≡ list_any (names_both column n) (entry column row number ∷ entry column row2 number2 ∷ earlier)
-has-two column row number row2 number2 earlier n = rw (own_name column) (swap (bytes_eq n row2) (bytes_eq n row))
-  where
-    swap : (a b : Bool) → (a || (b || list_any (names_both column n) earlier)) ≡ (b || (a || list_any (names_both column n) earlier))
-    swap true true = refl
-    swap true false = refl
-    swap false true = refl
-    swap false false = refl
+pub swap-or : (a b c : Bool) → (a || (b || c)) ≡ (b || (a || c))
+swap-or true true c = refl
+swap-or true false c = refl
+swap-or false true c = refl
+swap-or false false c = refl
 
 -- where the rows differ, the order doesn't matter
-pub number-two : (column row number row2 number2 : List ℕ) (earlier : List Entry) → bytes_eq row2 row ≡ false → (n : List ℕ)
-    → (if bytes_eq n row2 then value number2 else coefficient (entry column row number ∷ earlier) column n) ≡ coefficient (entry column row number ∷ entry column row2 number2 ∷ earlier) column n
-number-two column row number row2 number2 earlier differ n = rw (own_name column) (by (bytes_eq n row2) (bytes_eq n row) refl refl)
+pub number-two : (row number row2 number2 : List ℕ) (earlier : List (List ℕ × List ℕ)) → bytes_eq row2 row ≡ false → (n : List ℕ)
+    → (if bytes_eq n row2 then value number2 else number_beside ((row, number) ∷ earlier) n) ≡ number_beside ((row, number) ∷ (row2, number2) ∷ earlier) n
+number-two row number row2 number2 earlier differ n = by (bytes_eq n row2) (bytes_eq n row) refl refl
   where
     by : (a b : Bool) → bytes_eq n row2 ≡ a → bytes_eq n row ≡ b
-        → (if a then value number2 else option_map_or (λ e. value e.number) (if b then Some (entry column row number) else find (names_both column n) earlier) (pos 0))
-        ≡ option_map_or (λ e. value e.number) (if b then Some (entry column row number) else (if a then Some (entry column row2 number2) else find (names_both column n) earlier)) (pos 0)
+        → (if a then value number2 else option_map_or (λ (p : List ℕ × List ℕ). value p.1) (if b then Some (row, number) else find (λ (p : List ℕ × List ℕ). bytes_eq n p.0) earlier) (pos 0))
+        ≡ option_map_or (λ (p : List ℕ × List ℕ). value p.1) (if b then Some (row, number) else (if a then Some (row2, number2) else find (λ (p : List ℕ × List ℕ). bytes_eq n p.0) earlier)) (pos 0)
     by true true h k = absurd (both_ways _ differ (subst (λ x. bytes_eq x row ≡ true) (same_name n row2 h) k))
     by true false h k = refl
     by false true h k = refl
@@ -86,16 +77,16 @@ number-two column row number row2 number2 earlier differ n = rw (own_name column
 
 -- ---- a whole line
 
-pub one-stamps : (f : LineFields) (row : List ℕ) (stamps : List ℕ) (stamp : ℕ) (ns : List (List ℕ)) (earlier : List Entry) → length f ≡ 3 → field 1 f ≡ row
-    → StampsAre stamps stamp ns (λ n. bytes_eq n row || list_any (names_both (field 0 f) n) earlier) → StampsAre stamps stamp ns (λ n. list_any (names_both (field 0 f) n) (line_entries f ++ earlier))
-one-stamps f row stamps stamp ns earlier size same h = stamps-same stamps stamp ns (λ n. bytes_eq n row || list_any (names_both (field 0 f) n) earlier) (λ n. list_any (names_both (field 0 f) n) (line_entries f ++ earlier))
-    (λ n. has-one (field 0 f) row (field 2 f) earlier n ∙ ap (λ r. list_any (names_both (field 0 f) n) (entry (field 0 f) r (field 2 f) ∷ earlier)) (sym same) ∙ ap (λ es. list_any (names_both (field 0 f) n) (es ++ earlier)) (sym (one-entry f size))) h
+pub one-stamps : (f : LineFields) (row : List ℕ) (stamps : List ℕ) (stamp : ℕ) (ns : List (List ℕ)) (earlier : List (List ℕ × List ℕ)) → length f ≡ 3 → field 1 f ≡ row
+    → StampsAre stamps stamp ns (λ n. bytes_eq n row || has_row earlier n) → StampsAre stamps stamp ns (has_row (pairs (drop 1 f) ++ earlier))
+one-stamps f row stamps stamp ns earlier size same h = stamps-same stamps stamp ns (λ n. bytes_eq n row || has_row earlier n) (has_row (pairs (drop 1 f) ++ earlier))
+    (λ n. ap (λ r. has_row ((r, field 2 f) ∷ earlier) n) (sym same) ∙ ap (λ ps. has_row (ps ++ earlier) n) (sym (one-of f size))) h
 
-pub one-tells : (f : LineFields) (row number : List ℕ) (o : Option (List ℕ)) (rows : List (List ℕ)) (earlier : List Entry) (column : OpenColumn) → length f ≡ 3 → field 1 f ≡ row → field 2 f ≡ number
-    → OpenTells o rows (λ n. if bytes_eq n row then value number else coefficient earlier (field 0 f) n) column → OpenTells o rows (coefficient (line_entries f ++ earlier) (field 0 f)) column
-one-tells f row number o rows earlier column size same told h = open-same o rows (λ n. if bytes_eq n row then value number else coefficient earlier (field 0 f) n) (coefficient (line_entries f ++ earlier) (field 0 f)) column
-    (λ n. number-one (field 0 f) row number earlier n ∙ ap (λ r. coefficient (entry (field 0 f) r number ∷ earlier) (field 0 f) n) (sym same) ∙ ap (λ t. coefficient (entry (field 0 f) (field 1 f) t ∷ earlier) (field 0 f) n) (sym told)
-    ∙ ap (λ es. coefficient (es ++ earlier) (field 0 f) n) (sym (one-entry f size))) h
+pub one-tells : (f : LineFields) (row number : List ℕ) (o : Option (List ℕ)) (rows : List (List ℕ)) (earlier : List (List ℕ × List ℕ)) (column : OpenColumn) → length f ≡ 3 → field 1 f ≡ row → field 2 f ≡ number
+    → OpenTells o rows (λ n. if bytes_eq n row then value number else number_beside earlier n) column → OpenTells o rows (number_beside (pairs (drop 1 f) ++ earlier)) column
+one-tells f row number o rows earlier column size same told h = open-same o rows (λ n. if bytes_eq n row then value number else number_beside earlier n) (number_beside (pairs (drop 1 f) ++ earlier)) column
+    (λ n. number-one row number earlier n ∙ ap (λ r. number_beside ((r, number) ∷ earlier) n) (sym same) ∙ ap (λ t. number_beside ((field 1 f, t) ∷ earlier) n) (sym told)
+    ∙ ap (λ ps. number_beside (ps ++ earlier) n) (sym (one-of f size))) h
 
 -- the two pairs of a line, by their names
 pub record AreTwo (f : LineFields) (row number row2 number2 : List ℕ) : Type 0 where
@@ -105,26 +96,25 @@ pub record AreTwo (f : LineFields) (row number row2 number2 : List ℕ) : Type 0
   pub row2-is : field 3 f ≡ row2
   pub number2-is : field 4 f ≡ number2
 
-pub shown-two : (f : LineFields) (row number row2 number2 : List ℕ) → AreTwo f row number row2 number2 → line_entries f ≡ entry (field 0 f) row number ∷ entry (field 0 f) row2 number2 ∷ []
-shown-two f row number row2 number2 a = two-entries f a.size ∙ rw (a.row-is, a.number-is, a.row2-is, a.number2-is) refl
+pub shown-two : (f : LineFields) (row number row2 number2 : List ℕ) → AreTwo f row number row2 number2 → pairs (drop 1 f) ≡ (row, number) ∷ (row2, number2) ∷ []
+shown-two f row number row2 number2 a = two-of f a.size ∙ rw (a.row-is, a.number-is, a.row2-is, a.number2-is) refl
 
-pub two-stamps : (f : LineFields) (row number row2 number2 : List ℕ) (stamps : List ℕ) (stamp : ℕ) (ns : List (List ℕ)) (earlier : List Entry) → AreTwo f row number row2 number2
-    → StampsAre stamps stamp ns (λ n. bytes_eq n row2 || (bytes_eq n row || list_any (names_both (field 0 f) n) earlier)) → StampsAre stamps stamp ns (λ n. list_any (names_both (field 0 f) n) (line_entries f ++ earlier))
-two-stamps f row number row2 number2 stamps stamp ns earlier a h = stamps-same stamps stamp ns (λ n. bytes_eq n row2 || (bytes_eq n row || list_any (names_both (field 0 f) n) earlier)) (λ n. list_any (names_both (field 0 f) n) (line_entries f ++ earlier))
-    (λ n. ap (λ b. bytes_eq n row2 || b) (has-one (field 0 f) row number earlier n) ∙ has-one (field 0 f) row2 number2 (entry (field 0 f) row number ∷ earlier) n ∙ has-two (field 0 f) row number row2 number2 earlier n
-    ∙ ap (λ es. list_any (names_both (field 0 f) n) (es ++ earlier)) (sym (shown-two f row number row2 number2 a))) h
+pub two-stamps : (f : LineFields) (row number row2 number2 : List ℕ) (stamps : List ℕ) (stamp : ℕ) (ns : List (List ℕ)) (earlier : List (List ℕ × List ℕ)) → AreTwo f row number row2 number2
+    → StampsAre stamps stamp ns (λ n. bytes_eq n row2 || (bytes_eq n row || has_row earlier n)) → StampsAre stamps stamp ns (has_row (pairs (drop 1 f) ++ earlier))
+two-stamps f row number row2 number2 stamps stamp ns earlier a h = stamps-same stamps stamp ns (λ n. bytes_eq n row2 || (bytes_eq n row || has_row earlier n)) (has_row (pairs (drop 1 f) ++ earlier))
+    (λ n. swap-or (bytes_eq n row2) (bytes_eq n row) (has_row earlier n) ∙ ap (λ ps. has_row (ps ++ earlier) n) (sym (shown-two f row number row2 number2 a))) h
 
-pub two-tells : (f : LineFields) (row number row2 number2 : List ℕ) (o : Option (List ℕ)) (rows : List (List ℕ)) (earlier : List Entry) (column : OpenColumn) → AreTwo f row number row2 number2 → bytes_eq row2 row ≡ false
-    → OpenTells o rows (λ n. if bytes_eq n row2 then value number2 else (if bytes_eq n row then value number else coefficient earlier (field 0 f) n)) column → OpenTells o rows (coefficient (line_entries f ++ earlier) (field 0 f)) column
-two-tells f row number row2 number2 o rows earlier column a differ h = open-same o rows (λ n. if bytes_eq n row2 then value number2 else (if bytes_eq n row then value number else coefficient earlier (field 0 f) n)) (coefficient (line_entries f ++ earlier) (field 0 f)) column
-    (λ n. ap (λ z. if bytes_eq n row2 then value number2 else z) (number-one (field 0 f) row number earlier n) ∙ number-two (field 0 f) row number row2 number2 earlier differ n
-    ∙ ap (λ es. coefficient (es ++ earlier) (field 0 f) n) (sym (shown-two f row number row2 number2 a))) h
+pub two-tells : (f : LineFields) (row number row2 number2 : List ℕ) (o : Option (List ℕ)) (rows : List (List ℕ)) (earlier : List (List ℕ × List ℕ)) (column : OpenColumn) → AreTwo f row number row2 number2 → bytes_eq row2 row ≡ false
+    → OpenTells o rows (λ n. if bytes_eq n row2 then value number2 else (if bytes_eq n row then value number else number_beside earlier n)) column → OpenTells o rows (number_beside (pairs (drop 1 f) ++ earlier)) column
+two-tells f row number row2 number2 o rows earlier column a differ h = open-same o rows (λ n. if bytes_eq n row2 then value number2 else (if bytes_eq n row then value number else number_beside earlier n)) (number_beside (pairs (drop 1 f) ++ earlier)) column
+    (λ n. ap (λ z. if bytes_eq n row2 then value number2 else z) (number-one row number earlier n) ∙ number-two row number row2 number2 earlier differ n
+    ∙ ap (λ ps. number_beside (ps ++ earlier) n) (sym (shown-two f row number row2 number2 a))) h
 
 -- ---- its faults
 
 -- the checks of a pair, whose row is known or not, and repeated or not
 abbrev pair_fault : Bool → Bool → List ℕ → Option FaultKind
-pair_fault known repeated number = earliest_fault (when (not known) UnknownRow ∷ when repeated EntryRepeated ∷ number_fault number ∷ [])
+pair_fault known repeated number = earliest_fault (when (not known) UnknownRow ∷ when repeated EntryRepeated ∷ number_fault (token_number number) ∷ [])
 
 abbrev entries_fault : List LineFields → (List ℕ → Bool) → LineFields → Option FaultKind
 entries_fault lines stood f = pairs_fault lines (λ pair. None) stood (pairs (drop 1 f))

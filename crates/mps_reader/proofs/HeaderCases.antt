@@ -1,12 +1,12 @@
 -- The fault of a header, check by check.
 use Rattle.std.proofs.Common.{◌≡◌, ℕ, true, false, ◌&&◌, List, [], ◌∷◌, length, refl, Option, Some, None}
-use Rattle.std.specs.Prelude.{nat_lt, ◌==◌, is_none, codes, bytes_eq, if◌then◌else◌}
-use Rattle.program_rows.specs.Lines.{LineFields, field}
+use Rattle.std.specs.Prelude.{nat_lt, is_none, codes, bytes_eq, if◌then◌else◌, position, option_map, not}
+use Rattle.program_rows.specs.Lines.{LineFields}
 use Rattle.program_rows.specs.Sections.{Sections}
-use Rattle.program_rows.specs.Described.{is_one_of, first_free}
-use Rattle.program_rows.specs.Faults.{sections_left_out, place_of, earliest_fault, when, sense_fault, header_fault, not_binary}
+use Rattle.program_rows.specs.Described.{is_one_of, first_free, columns_named}
+use Rattle.program_rows.specs.Faults.{place_of, earliest_fault, sense_fault, header_fault, is_binary, sections_left_out}
 use Rattle.program_rows.specs.declared.fault.FaultKind.{FaultKind}
-use Rattle.program_rows.specs.declared.fault.FaultKind.TheVariants.{Section, Fields}
+use Rattle.program_rows.specs.declared.fault.FaultKind.TheVariants.{Section, NotBinary}
 
 pub header-place : (before : Sections) (word : List ℕ) (more : LineFields) → is_one_of word sections_left_out ≡ false → nat_lt (place_of before.section) (place_of word) ≡ false → header_fault before word more ≡ Some Section
 header-place before word more a b = rw (a, b) refl
@@ -16,10 +16,10 @@ last-fault None = refl
 last-fault (Some f) = refl
 
 abbrev pub word_sense : List ℕ → LineFields → Option FaultKind
-word_sense word more = if bytes_eq word (codes "OBJSENSE") then earliest_fault (when (nat_lt 1 (length more)) Fields ∷ (if length more == 1 then sense_fault (field 0 more) else None) ∷ []) else None
+word_sense word more = if bytes_eq word (codes "OBJSENSE") && nat_lt 0 (length more) then sense_fault more else None
 
 pub header-rest : (before : Sections) (word : List ℕ) (more : LineFields) → is_one_of word sections_left_out ≡ false → nat_lt (place_of before.section) (place_of word) ≡ true
     → (is_one_of word (codes "ROWS" ∷ codes "COLUMNS" ∷ codes "RHS" ∷ codes "BOUNDS" ∷ []) && nat_lt 0 (length more)) ≡ false → word_sense word more ≡ None
     → (is_one_of word (codes "COLUMNS" ∷ codes "RHS" ∷ codes "BOUNDS" ∷ codes "ENDATA" ∷ []) && is_none (first_free before.rows)) ≡ false
-    → header_fault before word more ≡ (if bytes_eq word (codes "ENDATA") then not_binary before else None)
-header-rest before word more a b m s l = rw (a, b, m, s, l) (last-fault (if bytes_eq word (codes "ENDATA") then not_binary before else None))
+    → header_fault before word more ≡ (if bytes_eq word (codes "ENDATA") then option_map NotBinary (position (λ column. not (is_binary before column)) (columns_named before.columns)) else None)
+header-rest before word more a b m s l = rw (a, b, m, s, l) (last-fault (if bytes_eq word (codes "ENDATA") then option_map NotBinary (position (λ column. not (is_binary before column)) (columns_named before.columns)) else None))

@@ -9,7 +9,7 @@ use denote.Ref.{Bor}
 use Rattle.program_rows.specs.Lines.{Header, LineFields}
 use Rattle.program_rows.specs.Sections.{Sections, with_line}
 use Rattle.program_rows.specs.Described.{first_free, columns_named}
-use Rattle.program_rows.specs.Faults.{place_of, header_fault, not_binary, is_binary}
+use Rattle.program_rows.specs.Faults.{place_of, header_fault, is_binary}
 use Rattle.program_rows.specs.declared.fault.FaultKind.{FaultKind}
 use Rattle.program_rows.specs.declared.fault.FaultKind.TheVariants.{NotBinary}
 use Rattle.auction_terms.specs.Borrowed.{bytes_of}
@@ -68,7 +68,7 @@ at-or-len before (s ∷ ss) (n ∷ ns) h =
     by false e more = rw e (ap (λ (k : ℕ). 1 + k) more)
 
 pub first-open : (before : Sections) (states : List ColumnState) → map state_values states ≡ map (told_values before.columns before.bounds) (columns_named before.columns)
-    → option_map NotBinary (position (λ s. not (is_binary_state s)) states) ≡ not_binary before
+    → option_map NotBinary (position (λ s. not (is_binary_state s)) states) ≡ option_map NotBinary (position (λ column. not (is_binary before column)) (columns_named before.columns))
 first-open before states h =
     let size : length states ≡ length (columns_named before.columns) = sym (length-map states state_values) ∙ ap length h ∙ length-map (columns_named before.columns) (told_values before.columns before.bounds) in
     rw (at-or-len before states (columns_named before.columns) h, size) refl
@@ -88,8 +88,8 @@ header-tells before word more r s columns up is names none closed fit h = record
 }
 
 -- what is left of a header's checks at the end
-pub end-fault : (before : Sections) (word : List ℕ) (more : LineFields) (last : Option FaultKind) → header_fault before word more ≡ (if bytes_eq word (codes "ENDATA") then not_binary before else None) → bytes_eq word (codes "ENDATA") ≡ true → not_binary before ≡ last → header_fault before word more ≡ last
-end-fault before word more last h is e = h ∙ ap (λ b. if b then not_binary before else None) is ∙ e
+pub end-fault : (before : Sections) (word : List ℕ) (more : LineFields) (last : Option FaultKind) → header_fault before word more ≡ (if bytes_eq word (codes "ENDATA") then option_map NotBinary (position (λ column. not (is_binary before column)) (columns_named before.columns)) else None) → bytes_eq word (codes "ENDATA") ≡ true → option_map NotBinary (position (λ column. not (is_binary before column)) (columns_named before.columns)) ≡ last → header_fault before word more ≡ last
+end-fault before word more last h is e = h ∙ ap (λ b. if b then option_map NotBinary (position (λ column. not (is_binary before column)) (columns_named before.columns)) else None) is ∙ e
 
-pub other-fault : (before : Sections) (word : List ℕ) (more : LineFields) → header_fault before word more ≡ (if bytes_eq word (codes "ENDATA") then not_binary before else None) → bytes_eq word (codes "ENDATA") ≡ false → header_fault before word more ≡ None
-other-fault before word more h is = h ∙ ap (λ b. if b then not_binary before else None) is
+pub other-fault : (before : Sections) (word : List ℕ) (more : LineFields) → header_fault before word more ≡ (if bytes_eq word (codes "ENDATA") then option_map NotBinary (position (λ column. not (is_binary before column)) (columns_named before.columns)) else None) → bytes_eq word (codes "ENDATA") ≡ false → header_fault before word more ≡ None
+other-fault before word more h is = h ∙ ap (λ b. if b then option_map NotBinary (position (λ column. not (is_binary before column)) (columns_named before.columns)) else None) is

@@ -1,13 +1,11 @@
 -- A line, whatever it is.
 use Rattle.std.proofs.Common.{◌≡◌, ℕ, ◌+◌, List, [], ◌∷◌, length, map, drop, refl, sym, ap, subst, ◌∙◌, arith, Some, None, true, false}
-use Rattle.std.specs.Prelude.{Ok, Err, Result}
-use Rattle.std.specs.Option.{option_map_or}
-use Rattle.program_rows.specs.Program.{Table}
-use Rattle.program_rows.specs.Lines.{Line, Skipped, Unprintable, Header, Data, line_of, header_of, LineFields, field}
-use Rattle.program_rows.specs.Sections.{Sections, no_lines, with_line, is_end, gathered}
+use Rattle.std.specs.Prelude.{Ok, Err}
+use Rattle.program_rows.specs.Lines.{Line, Skipped, Unprintable, Header, Data, line_of, LineFields, field}
+use Rattle.program_rows.specs.Sections.{Sections, no_lines, with_line, is_end}
 use Rattle.program_rows.specs.Described.{program}
-use Rattle.program_rows.specs.Faults.{fault, first_faulty, header_fault, data_fault}
-use Rattle.program_rows.specs.Meaning.{meaning}
+use Rattle.program_rows.specs.Faults.{fault, header_fault}
+use Rattle.program_rows.specs.Meaning.{meaning, meaning_behind}
 use Rattle.program_rows.specs.declared.fault.FaultKind.{FaultKind}
 use Rattle.program_rows.specs.declared.fault.FaultKind.TheVariants.{NotText, NoEnd}
 use Rattle.auction_terms.specs.Lines.{lines_of}
@@ -27,27 +25,23 @@ pub unprintable-fault : (before : Sections) (bytes : List ℕ) → line_of bytes
 unfolding fault
 unprintable-fault before bytes e = ap (fault before) e
 
-pub header-answer : (before : Sections) (bytes : List ℕ) (shown all : LineFields) → line_of bytes ≡ header_of all → AreFirst shown all → fault before (line_of bytes) ≡ header_fault before (field 0 shown) (drop 1 shown)
+pub header-answer : (before : Sections) (bytes : List ℕ) (shown all : LineFields) → line_of bytes ≡ Header (field 0 all) (drop 1 all) → AreFirst shown all → fault before (line_of bytes) ≡ header_fault before (field 0 shown) (drop 1 shown)
 unfolding fault
 header-answer before bytes shown [] e a = absurd (let size : length shown ≡ 0 = ap length a.front in let some = a.some in omega arith)
 header-answer before bytes shown (word ∷ more) e a = ap (fault before) e ∙ sym (header-first before word more) ∙ ap (λ ws. header_fault before (field 0 ws) (drop 1 ws)) (sym a.front)
 
-pub header-next : (before : Sections) (bytes : List ℕ) (shown all : LineFields) (r : Reading) → line_of bytes ≡ header_of all → AreFirst shown all → ((more : LineFields) → ReadingTells (with_line before (Header (field 0 shown) more)) r) → ReadingTells (with_line before (line_of bytes)) r
+pub header-next : (before : Sections) (bytes : List ℕ) (shown all : LineFields) (r : Reading) → line_of bytes ≡ Header (field 0 all) (drop 1 all) → AreFirst shown all → ((more : LineFields) → ReadingTells (with_line before (Header (field 0 shown) more)) r) → ReadingTells (with_line before (line_of bytes)) r
 header-next before bytes shown [] r e a h = absurd (let size : length shown ≡ 0 = ap length a.front in let some = a.some in omega arith)
 header-next before bytes shown (word ∷ more) r e a h = subst (λ l. ReadingTells (with_line before l) r) (sym e) (subst (λ ws. ReadingTells (with_line before (Header (field 0 ws) more)) r) a.front (h more))
 
-pub data-answer : (before : Sections) (bytes : List ℕ) (shown all : LineFields) → line_of bytes ≡ Data all → AreFirst shown all → fault before (line_of bytes) ≡ data_fault before shown
+pub data-answer : (before : Sections) (bytes : List ℕ) (shown all : LineFields) → line_of bytes ≡ Data all → AreFirst shown all → fault before (line_of bytes) ≡ fault before (Data shown)
 unfolding fault
 data-answer before bytes shown all e a = ap (fault before) e ∙ sym (data-first before shown all a)
 
-pub data-next : (before : Sections) (bytes : List ℕ) (shown all : LineFields) (r : Reading) → line_of bytes ≡ Data all → AreFirst shown all → data_fault before shown ≡ None → ReadingTells (with_line before (Data shown)) r → ReadingTells (with_line before (line_of bytes)) r
+pub data-next : (before : Sections) (bytes : List ℕ) (shown all : LineFields) (r : Reading) → line_of bytes ≡ Data all → AreFirst shown all → fault before (Data shown) ≡ None → ReadingTells (with_line before (Data shown)) r → ReadingTells (with_line before (line_of bytes)) r
 data-next before bytes shown all r e a none h = subst (λ l. ReadingTells (with_line before l) r) (sym e) (subst (λ fs. ReadingTells (with_line before (Data fs)) r) (data-whole before shown all a none) h)
 
 -- ---- the meaning, line by line
-
--- of the lines behind some that are gathered
-abbrev pub meaning_behind : ℕ → Sections → List Line → Result Table (ℕ × FaultKind)
-meaning_behind place seen lines = option_map_or Err (first_faulty place seen lines) (Ok (program (gathered seen lines)))
 
 pub meaning-starts : (text : List ℕ) → meaning text ≡ meaning_behind 0 no_lines (map line_of (lines_of text))
 unfolding meaning

@@ -1,9 +1,9 @@
 -- What a line is, case by case.
-use Rattle.std.proofs.Common.{◌≡◌, ℕ, suc, ◌≤◌, true, false, List, [], ◌∷◌, length, take, refl, sym, ap, subst, arith}
+use Rattle.std.proofs.Common.{◌≡◌, ℕ, suc, ◌≤◌, true, false, List, [], ◌∷◌, length, take, refl, sym, ap, subst, arith, drop}
 use Rattle.std.specs.Prelude.{◌==◌, slice_index}
 use Rattle.std.specs.List.{list_all, AllByRecursion}
 use Rattle.std.proofs.lemmas.Bool.{eqb-true, eqb-false, ne_eqb}
-use Rattle.program_rows.specs.Lines.{Skipped, Unprintable, Data, fields, line_of, header_of, is_space, is_text_byte}
+use Rattle.program_rows.specs.Lines.{Skipped, Unprintable, Data, fields, line_of, is_space, is_text_byte, Header, field}
 use Rattle.program_rows.specs.Parts.{IsName}
 use Rattle.mps_reader.specs.inside.Reading.{AreFirst}
 use Rattle.mps_reader.proofs.FieldFacts.{fields_names}
@@ -38,7 +38,7 @@ pub line-data : (bytes : List ℕ) (shown : List (List ℕ)) → shown ≡ take 
 unfolding line_of
 line-data bytes shown e a b t s = rw (a, filled-front shown (fields bytes) e b, t, s) refl
 
-pub line-header : (bytes : List ℕ) (shown : List (List ℕ)) → shown ≡ take 6 (fields bytes) → (slice_index bytes 0 == 42) ≡ false → (length shown == 0) ≡ false → list_all is_text_byte bytes ≡ true → is_space (slice_index bytes 0) ≡ false → line_of bytes ≡ header_of (fields bytes)
+pub line-header : (bytes : List ℕ) (shown : List (List ℕ)) → shown ≡ take 6 (fields bytes) → (slice_index bytes 0 == 42) ≡ false → (length shown == 0) ≡ false → list_all is_text_byte bytes ≡ true → is_space (slice_index bytes 0) ≡ false → line_of bytes ≡ Header (field 0 (fields bytes)) (drop 1 (fields bytes))
 unfolding line_of
 line-header bytes shown e a b t s = rw (a, filled-front shown (fields bytes) e b, t, s) refl
 

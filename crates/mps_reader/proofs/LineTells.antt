@@ -1,8 +1,8 @@
 -- A line of COLUMNS more.
 use Rattle.std.proofs.Common.{◌≡◌, ℕ, suc, ◌+◌, ◌≤◌, Bool, true, false, not, ◌||◌, ◌&&◌, List, [], ◌∷◌, ◌++◌, length, map, drop, refl, sym, ap, subst, ◌∙◌, arith, Option, Some, None, ℤ, pos, length-append}
-use Rattle.std.specs.Prelude.{◌==◌, slice_get, bytes_eq, codes, unwrap_or, is_some, flat_map, IfSome, if◌then◌else◌}
+use Rattle.std.specs.Prelude.{◌==◌, slice_get, bytes_eq, codes, unwrap_or, is_some, filter, flat_map, IfSome, if◌then◌else◌}
 use Rattle.std.specs.List.{list_any, AllByRecursion, IsDistinct}
-use Rattle.std.specs.Option.{option_to_list}
+use Rattle.std.specs.Option.{option_to_list, option_map_or}
 use Rattle.std.specs.Ordering.{int_eq}
 use Rattle.std.proofs.lemmas.List.{map-append}
 use Rattle.std.proofs.lemmas.List.Folds.{list_any-append}
@@ -12,8 +12,8 @@ use Rattle.program_rows.specs.declared.bounds.Bounds.TheVariants.{ZeroOrOne}
 use Rattle.program_rows.specs.Program.{TableColumn}
 use Rattle.program_rows.specs.Lines.{LineFields, field}
 use Rattle.program_rows.specs.Sections.{Sections}
-use Rattle.program_rows.specs.Described.{Entry, pairs, names_both, line_entries, each_once, is_marker, all_entries, column_lines, columns_named, coefficient}
-use Rattle.program_rows.specs.Faults.{is_integer_open, stands_in_integers, is_split, marker_fault, column_fault, pairs_fault, earliest_fault, when}
+use Rattle.program_rows.specs.Described.{pairs, each_once, is_marker, column_lines, columns_named, column_pairs, number_beside}
+use Rattle.program_rows.specs.Faults.{is_integer_open, stands_in_integers, is_split, marker_fault, column_fault, pairs_fault, earliest_fault}
 use Rattle.program_rows.specs.declared.fault.FaultKind.{FaultKind}
 use Rattle.program_rows.specs.declared.fault.FaultKind.TheVariants.{ColumnSplit}
 use Rattle.mps_reader.specs.inside.Columns.{ColumnsFit, entries_at, nearest_column}
@@ -25,6 +25,7 @@ use Rattle.mps_reader.specs.declared.row_table.Rows.{Rows}
 use Rattle.mps_reader.proofs.NameFacts.{same_name, own_name, or-false, any-last, differs}
 use Rattle.mps_reader.proofs.PairSteps.{length-names}
 use Rattle.mps_reader.proofs.ColumnSteps.{current-is}
+use Rattle.std.specs.Bool.{then_some as when}
 
 -- ---- names, each once
 
@@ -47,15 +48,14 @@ each-any name (f ∷ ls) = by (list_any (λ other. bytes_eq (field 0 f) (field 0
         known true h = subst (λ n. list_any (λ other. bytes_eq n (field 0 other)) ls ≡ true) (sym (same_name name (field 0 f) h)) e
         known false h = refl
 
--- ---- entries of other columns
+-- ---- pairs of columns
 
-other-entries : (column name row : List ℕ) (ps : List (List ℕ × List ℕ)) (es : List Entry) → bytes_eq column name ≡ false
-    → coefficient (map (λ p. record { column = name; row = p.0; number = p.1 }) ps ++ es) column row ≡ coefficient es column row
-other-entries column name row [] es h = refl
-other-entries column name row (p ∷ ps) es h = rw h (other-entries column name row ps es h)
+-- a line of another column says nothing of this one
+pub pairs-other : (column : List ℕ) (f : LineFields) (lines : List LineFields) → is_marker f ≡ false → bytes_eq column (field 0 f) ≡ false → column_pairs (f ∷ lines) column ≡ column_pairs lines column
+pairs-other column f lines m h = rw (m, h) refl
 
-pub coefficient-other : (column row : List ℕ) (f : LineFields) (es : List Entry) → bytes_eq column (field 0 f) ≡ false → coefficient (line_entries f ++ es) column row ≡ coefficient es column row
-coefficient-other column row f es h = other-entries column (field 0 f) row (pairs (drop 1 f)) es h
+pub pairs-own : (f : LineFields) (lines : List LineFields) → is_marker f ≡ false → column_pairs (f ∷ lines) (field 0 f) ≡ pairs (drop 1 f) ++ column_pairs lines (field 0 f)
+pairs-own f lines m = rw (m, own_name (field 0 f)) refl
 
 pub entries_at-same : (k : ℕ) (f g : List ℕ → ℤ) (rows : List (List ℕ)) → ((n : List ℕ) → f n ≡ g n) → entries_at k f rows ≡ entries_at k g rows
 entries_at-same k f g [] e = refl
@@ -65,23 +65,15 @@ entries_at-same k f g (n ∷ rows) e = rw (e n) (by (int_eq (g n) (pos 0)) (entr
     by true more = more
     by false more = ap (λ es. (k, g n) ∷ es) more
 
-no-entries-of : (name row : List ℕ) (f : LineFields) → bytes_eq name (field 0 f) ≡ false → (ps : List (List ℕ × List ℕ)) (es : List Entry)
-    → list_any (names_both name row) (map (λ p. record { column = field 0 f; row = p.0; number = p.1 }) ps ++ es) ≡ list_any (names_both name row) es
-no-entries-of name row f h [] es = refl
-no-entries-of name row f h (p ∷ ps) es = rw h (no-entries-of name row f h ps es)
-
--- a name that no line has has no entries
-pub unnamed : (name row : List ℕ) (ls : List LineFields) → list_any (λ other. bytes_eq name (field 0 other)) ls ≡ false → list_any (names_both name row) (flat_map line_entries ls) ≡ false
-unnamed name row [] h = refl
-unnamed name row (f ∷ ls) h =
+none-named : (name : List ℕ) (ls : List LineFields) → list_any (λ other. bytes_eq name (field 0 other)) ls ≡ false → filter (λ fields. bytes_eq name (field 0 fields)) ls ≡ []
+none-named name [] h = refl
+none-named name (f ∷ ls) h =
     let parts = or-false (bytes_eq name (field 0 f)) (list_any (λ other. bytes_eq name (field 0 other)) ls) h in
-    no-entries-of name row f parts.0 (pairs (drop 1 f)) (flat_map line_entries ls) ∙ unnamed name row ls parts.1
+    rw (parts.0) (none-named name ls parts.1)
 
-pub unnamed-number : (name row : List ℕ) (ls : List LineFields) → list_any (λ other. bytes_eq name (field 0 other)) ls ≡ false → coefficient (flat_map line_entries ls) name row ≡ pos 0
-unnamed-number name row [] h = refl
-unnamed-number name row (f ∷ ls) h =
-    let parts = or-false (bytes_eq name (field 0 f)) (list_any (λ other. bytes_eq name (field 0 other)) ls) h in
-    coefficient-other name row f (flat_map line_entries ls) parts.0 ∙ unnamed-number name row ls parts.1
+-- a name that no line has has no pairs
+pub no-pairs : (name : List ℕ) (lines : List LineFields) → list_any (λ other. bytes_eq name (field 0 other)) (column_lines lines) ≡ false → column_pairs lines name ≡ []
+no-pairs name lines h = ap (flat_map (λ fields. pairs (drop 1 fields))) (none-named name (column_lines lines) h)
 
 -- ---- whether columns are integers
 
@@ -128,8 +120,11 @@ nearest-stands f (g ∷ lines) n m h = by (is_marker g) refl h (bytes_eq n (fiel
 
 -- ---- a marker
 
+abbrev pairs_in : List LineFields → List ℕ → List (List ℕ × List ℕ)
+pairs_in ls name = flat_map (λ fields. pairs (drop 1 fields)) (filter (λ fields. bytes_eq name (field 0 fields)) ls)
+
 abbrev told-by : Option (List ℕ) → List (List ℕ) → List LineFields → List ℕ → TableColumn
-told-by o rows ls name = record { name = name; bounds = ZeroOrOne; cost = coefficient (flat_map line_entries ls) name (unwrap_or o []); entries = entries_at 0 (coefficient (flat_map line_entries ls) name) rows }
+told-by o rows ls name = record { name = name; bounds = ZeroOrOne; cost = number_beside (pairs_in ls name) (unwrap_or o []); entries = entries_at 0 (number_beside (pairs_in ls name)) rows }
 
 pub marker-tells : (f : LineFields) (o : Option (List ℕ)) (rows : List (List ℕ)) (lines : List LineFields) (old new : ColumnTable) → is_marker f ≡ true → new.names ≡ old.names → new.states ≡ old.states → new.done ≡ old.done → is_some new.current ≡ false
     → new.current_column.cost ≡ pos 0 → new.is_begun ≡ bytes_eq (field 2 f) (codes "'INTORG'") → ColumnsTell o rows lines [] old → ColumnsTell o rows (f ∷ lines) [] new
@@ -145,7 +140,7 @@ marker-tells f o rows lines old new m names_both states done none nothing begun 
       closed = λ e. nothing;
     }
   where
-    by : (c : Option (Bor (List ℕ))) → is_some c ≡ false → IfSome c (λ n. OpenTells o rows (coefficient (all_entries (f ∷ lines)) n.now) new.current_column)
+    by : (c : Option (Bor (List ℕ))) → is_some c ≡ false → IfSome c (λ n. OpenTells o rows (number_beside (column_pairs (f ∷ lines) n.now)) new.current_column)
     by None e = tt
     by (Some x) e = absurd cc
 
@@ -153,8 +148,8 @@ marker-tells f o rows lines old new m names_both states done none nothing begun 
 
 -- its column is the current one, and what the lines before say of it
 pub record IsReady (f : LineFields) (o : Option (List ℕ)) (rows : List (List ℕ)) (lines : List LineFields) (r : Rows) (c : ColumnTable) : Type 0 where
-  pub tells : OpenTells o rows (coefficient (all_entries lines) (field 0 f)) c.current_column
-  pub stamps : StampsAre r.stamps.items (length (names_of c.names)) (names_of r.names) (λ row. list_any (names_both (field 0 f) row) (all_entries lines))
+  pub tells : OpenTells o rows (number_beside (column_pairs lines (field 0 f))) c.current_column
+  pub stamps : StampsAre r.stamps.items (length (names_of c.names)) (names_of r.names) (λ row. list_any (λ other. bytes_eq row other.0) (column_pairs lines (field 0 f)))
   pub low : AreStampsUpTo (length (names_of c.names)) r
   pub all : names_of c.names ≡ columns_named (f ∷ lines)
   pub begun : c.is_begun ≡ is_integer_open lines
@@ -177,8 +172,8 @@ ready-same f o rows lines r c m current fit h at =
     let own : list_any (bytes_eq (field 0 f)) (columns_named lines) ≡ true = ap (list_any (bytes_eq (field 0 f))) (sym h.names ∙ fit.done ∙ ap (λ n. map (λ (k : TableColumn). k.name) c.done ++ option_to_list n) current) ∙ any-last (field 0 f) (map (λ (k : TableColumn). k.name) c.done) in
     let same = names-known f lines m own in
     record {
-      tells = now-is c.current (field 0 f) (λ n. OpenTells o rows (coefficient (all_entries lines) n) c.current_column) current h.opened;
-      stamps = now-is c.current (field 0 f) (λ n. StampsAre r.stamps.items (length (names_of c.names)) (names_of r.names) (λ row. list_any (names_both n row) (all_entries lines))) current at.stamps;
+      tells = now-is c.current (field 0 f) (λ n. OpenTells o rows (number_beside (column_pairs lines n)) c.current_column) current h.opened;
+      stamps = now-is c.current (field 0 f) (λ n. StampsAre r.stamps.items (length (names_of c.names)) (names_of r.names) (λ row. list_any (λ other. bytes_eq row other.0) (column_pairs lines n))) current at.stamps;
       low = at.low;
       all = h.names ∙ sym same;
       begun = h.begun;
@@ -207,11 +202,11 @@ ready-added f o rows lines r old c m stamped names-old low h =
     let fresh = names-fresh f lines m h.fresh in
     record {
       tells = record {
-        cost = h.cost ∙ sym (unnamed-number (field 0 f) (unwrap_or o []) (column_lines lines) unknown);
-        entries = λ p n at. ap (number_at_place p) h.entries ∙ sym (unnamed-number (field 0 f) n (column_lines lines) unknown);
+        cost = h.cost ∙ ap (λ ps. number_beside ps (unwrap_or o [])) (sym (no-pairs (field 0 f) lines unknown));
+        entries = λ p n at. ap (number_at_place p) h.entries ∙ ap (λ ps. number_beside ps n) (sym (no-pairs (field 0 f) lines unknown));
       };
-      stamps = subst (λ (k : ℕ). StampsAre r.stamps.items k (names_of r.names) (λ row. list_any (names_both (field 0 f) row) (all_entries lines))) (sym count)
-          (none-stamped r.stamps.items (names_of r.names) (length (names_of old.names)) (λ row. list_any (names_both (field 0 f) row) (all_entries lines)) stamped low (λ n. unnamed (field 0 f) n (column_lines lines) unknown));
+      stamps = subst (λ (k : ℕ). StampsAre r.stamps.items k (names_of r.names) (λ row. list_any (λ other. bytes_eq row other.0) (column_pairs lines (field 0 f)))) (sym count)
+          (none-stamped r.stamps.items (names_of r.names) (length (names_of old.names)) (λ row. list_any (λ other. bytes_eq row other.0) (column_pairs lines (field 0 f))) stamped low (λ n. ap (list_any (λ other. bytes_eq n other.0)) (no-pairs (field 0 f) lines unknown)));
       low = low-up r.stamps.items (length (names_of old.names)) (length (names_of c.names)) (omega arith) low;
       all = h.all ∙ sym fresh;
       begun = h.begun;
@@ -238,54 +233,51 @@ done-more : (f : LineFields) (o : Option (List ℕ)) (rows : List (List ℕ)) (l
     → AllByRecursion (λ (k : TableColumn). k ≡ told_column o rows lines k.name) ks → AllByRecursion (λ (k : TableColumn). k ≡ told_column o rows (f ∷ lines) k.name) ks
 done-more f o rows lines [] m d h = tt
 done-more f o rows lines (k ∷ ks) m d h =
-    let more : column_lines (f ∷ lines) ≡ f ∷ column_lines lines = rw m refl in
-    let same : (n : List ℕ) → coefficient (all_entries lines) k.name n ≡ coefficient (all_entries (f ∷ lines)) k.name n
-    = λ n. sym (coefficient-other k.name n f (all_entries lines) d.0) ∙ ap (λ ls. coefficient (flat_map line_entries ls) k.name n) (sym more) in (
-      h.0 ∙ ap (λ z. record { name = k.name; bounds = ZeroOrOne; cost = z; entries = entries_at 0 (coefficient (all_entries lines) k.name) rows }) (same (unwrap_or o []))
-          ∙ ap (λ es. record { name = k.name; bounds = ZeroOrOne; cost = coefficient (all_entries (f ∷ lines)) k.name (unwrap_or o []); entries = es }) (entries_at-same 0 _ _ rows same),
+    let same : (n : List ℕ) → number_beside (column_pairs lines k.name) n ≡ number_beside (column_pairs (f ∷ lines) k.name) n
+    = λ n. ap (λ ps. number_beside ps n) (sym (pairs-other k.name f lines m d.0)) in (
+      h.0 ∙ ap (λ z. record { name = k.name; bounds = ZeroOrOne; cost = z; entries = entries_at 0 (number_beside (column_pairs lines k.name)) rows }) (same (unwrap_or o []))
+          ∙ ap (λ es. record { name = k.name; bounds = ZeroOrOne; cost = number_beside (column_pairs (f ∷ lines) k.name) (unwrap_or o []); entries = es }) (entries_at-same 0 _ _ rows same),
       done-more f o rows lines ks m d.1 h.1,
     )
 
 pub line-tells : (f : LineFields) (o : Option (List ℕ)) (rows : List (List ℕ)) (lines : List LineFields) (r : Rows) (c : ColumnTable) (column : OpenColumn) → is_marker f ≡ false → ColumnsFit (length rows) c → option_now c.current ≡ Some (field 0 f) → IsReady f o rows lines r c
-    → OpenTells o rows (coefficient (line_entries f ++ all_entries lines) (field 0 f)) column → ColumnsTell o rows (f ∷ lines) [] (record c { current_column = column })
+    → OpenTells o rows (number_beside (pairs (drop 1 f) ++ column_pairs lines (field 0 f))) column → ColumnsTell o rows (f ∷ lines) [] (record c { current_column = column })
 line-tells f o rows lines r c column m fit current h tells =
-    let more : column_lines (f ∷ lines) ≡ f ∷ column_lines lines = rw m refl in
     let split : names_of c.names ≡ map (λ (k : TableColumn). k.name) c.done ++ field 0 f ∷ [] = fit.done ∙ ap (λ n. map (λ (k : TableColumn). k.name) c.done ++ option_to_list n) current in
     record {
       names = h.all;
       begun = h.begun ∙ rw m refl;
       states = h.states;
       done = done-more f o rows lines c.done m (all-last c.done (field 0 f) (subst (λ ns. IsDistinct bytes_eq ns) split fit.distinct)) h.done;
-      opened = from-now c.current current (subst (λ ls. OpenTells o rows (coefficient (flat_map line_entries ls) (field 0 f)) column) (sym more) tells);
+      opened = from-now c.current current (subst (λ ps. OpenTells o rows (number_beside ps) column) (sym (pairs-own f lines m)) tells);
       closed = λ e. absurd (none-some c.current e current);
     }
   where
-    from-now : (x : Option (Bor (List ℕ))) → option_now x ≡ Some (field 0 f) → OpenTells o rows (coefficient (all_entries (f ∷ lines)) (field 0 f)) column → IfSome x (λ n. OpenTells o rows (coefficient (all_entries (f ∷ lines)) n.now) column)
+    from-now : (x : Option (Bor (List ℕ))) → option_now x ≡ Some (field 0 f) → OpenTells o rows (number_beside (column_pairs (f ∷ lines) (field 0 f))) column → IfSome x (λ n. OpenTells o rows (number_beside (column_pairs (f ∷ lines) n.now)) column)
     from-now None e t = absurd cc
-    from-now (Some x) e t = let same : x.now ≡ field 0 f = cc in subst (λ n. OpenTells o rows (coefficient (all_entries (f ∷ lines)) n) column) (sym same) t
+    from-now (Some x) e t = let same : x.now ≡ field 0 f = cc in subst (λ n. OpenTells o rows (number_beside (column_pairs (f ∷ lines) n)) column) (sym same) t
 
     none-some : (x : Option (Bor (List ℕ))) → is_some x ≡ false → option_now x ≡ Some (field 0 f) → ⊥
     none-some None e t = absurd cc
     none-some (Some x) e t = absurd cc
 
 pub line-stays : (f : LineFields) (lines : List LineFields) (r new : Rows) (c : ColumnTable) (column : OpenColumn) → is_marker f ≡ false → option_now c.current ≡ Some (field 0 f) → new.names ≡ r.names
-    → AreStampsUpTo (length (names_of c.names)) new → StampsAre new.stamps.items (length (names_of c.names)) (names_of r.names) (λ row. list_any (names_both (field 0 f) row) (line_entries f ++ all_entries lines))
+    → AreStampsUpTo (length (names_of c.names)) new → StampsAre new.stamps.items (length (names_of c.names)) (names_of r.names) (λ row. list_any (λ other. bytes_eq row other.0) (pairs (drop 1 f) ++ column_pairs lines (field 0 f)))
     → InColumns (f ∷ lines) [] [] new (record c { current_column = column })
 line-stays f lines r new c column m current kept low stamps =
-    let more : column_lines (f ∷ lines) ≡ f ∷ column_lines lines = rw m refl in
     record {
       no_rights = refl;
       no_bounds = refl;
       low = low;
       current = current ∙ rw m refl;
-      stamps = by c.current current (subst (λ ls. StampsAre new.stamps.items (length (names_of c.names)) (names_of new.names) (λ row. list_any (names_both (field 0 f) row) (flat_map line_entries ls))) (sym more)
-          (subst (λ ns. StampsAre new.stamps.items (length (names_of c.names)) (names_of ns) (λ row. list_any (names_both (field 0 f) row) (line_entries f ++ all_entries lines))) (sym kept) stamps));
+      stamps = by c.current current (subst (λ ps. StampsAre new.stamps.items (length (names_of c.names)) (names_of new.names) (λ row. list_any (λ other. bytes_eq row other.0) ps)) (sym (pairs-own f lines m))
+          (subst (λ ns. StampsAre new.stamps.items (length (names_of c.names)) (names_of ns) (λ row. list_any (λ other. bytes_eq row other.0) (pairs (drop 1 f) ++ column_pairs lines (field 0 f)))) (sym kept) stamps));
     }
   where
-    by : (x : Option (Bor (List ℕ))) → option_now x ≡ Some (field 0 f) → StampsAre new.stamps.items (length (names_of c.names)) (names_of new.names) (λ row. list_any (names_both (field 0 f) row) (all_entries (f ∷ lines)))
-        → IfSome x (λ n. StampsAre new.stamps.items (length (names_of c.names)) (names_of new.names) (λ row. list_any (names_both n.now row) (all_entries (f ∷ lines))))
+    by : (x : Option (Bor (List ℕ))) → option_now x ≡ Some (field 0 f) → StampsAre new.stamps.items (length (names_of c.names)) (names_of new.names) (λ row. list_any (λ other. bytes_eq row other.0) (column_pairs (f ∷ lines) (field 0 f)))
+        → IfSome x (λ n. StampsAre new.stamps.items (length (names_of c.names)) (names_of new.names) (λ row. list_any (λ other. bytes_eq row other.0) (column_pairs (f ∷ lines) n.now)))
     by None e t = absurd cc
-    by (Some x) e t = let same : x.now ≡ field 0 f = cc in subst (λ n. StampsAre new.stamps.items (length (names_of c.names)) (names_of new.names) (λ row. list_any (names_both n row) (all_entries (f ∷ lines)))) (sym same) t
+    by (Some x) e t = let same : x.now ≡ field 0 f = cc in subst (λ n. StampsAre new.stamps.items (length (names_of c.names)) (names_of new.names) (λ row. list_any (λ other. bytes_eq row other.0) (column_pairs (f ∷ lines) n))) (sym same) t
 
 -- ---- faults
 
@@ -296,7 +288,7 @@ and-swap false true = refl
 and-swap false false = refl
 
 split-lines : (lines : List LineFields) (c : Option (Bor (List ℕ))) (name : List ℕ) → option_now c ≡ nearest_column lines
-    → (list_any (λ fields. bytes_eq name (field 0 fields)) (column_lines lines) && (is_marker (unwrap_or (slice_get lines 0) []) || not (bytes_eq name (field 0 (unwrap_or (slice_get lines 0) [])))))
+    → (list_any (λ fields. bytes_eq name (field 0 fields)) (column_lines lines) && option_map_or (λ nearest. is_marker nearest || not (bytes_eq name (field 0 nearest))) (slice_get lines 0) false)
     ≡ (not (is_current c name) && list_any (bytes_eq name) (columns_named lines))
 split-lines [] c name e = sym (and-swap (not (is_current c name)) false)
 split-lines (g ∷ lines) c name e = ap (λ b. b && (is_marker g || not (bytes_eq name (field 0 g)))) (sym (each-any name (column_lines (g ∷ lines)))) ∙ by (is_marker g) refl c e
@@ -323,8 +315,8 @@ marker-refused before f fault count m h = rw (count, m) (last-of (marker_fault b
     last-of None e = e
     last-of (Some k) e = e
 
-pub pairs-fault : (before : Sections) (f : LineFields) → ((length f == 3) || (length f == 5)) ≡ true → is_marker f ≡ false → is_split before.columns (field 0 f) ≡ false → column_fault before f ≡ pairs_fault before.rows (λ pair. None) (λ row. list_any (names_both (field 0 f) row) (all_entries before.columns)) (pairs (drop 1 f))
-pairs-fault before f count m split = rw (count, m, split) (twice (pairs_fault before.rows (λ pair. None) (λ row. list_any (names_both (field 0 f) row) (all_entries before.columns)) (pairs (drop 1 f))))
+pub pairs-fault : (before : Sections) (f : LineFields) → ((length f == 3) || (length f == 5)) ≡ true → is_marker f ≡ false → is_split before.columns (field 0 f) ≡ false → column_fault before f ≡ pairs_fault before.rows (λ pair. None) (λ row. list_any (λ other. bytes_eq row other.0) (column_pairs before.columns (field 0 f))) (pairs (drop 1 f))
+pairs-fault before f count m split = rw (count, m, split) (twice (pairs_fault before.rows (λ pair. None) (λ row. list_any (λ other. bytes_eq row other.0) (column_pairs before.columns (field 0 f))) (pairs (drop 1 f))))
   where
     twice : (o : Option FaultKind) → earliest_fault (earliest_fault (None ∷ o ∷ []) ∷ []) ≡ o
     twice None = refl

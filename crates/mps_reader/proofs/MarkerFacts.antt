@@ -2,9 +2,10 @@
 use Rattle.std.proofs.Common.{◌≡◌, Bool, true, false, not, ◌&&◌, List, length, refl, Some}
 use Rattle.std.specs.Prelude.{◌==◌, bytes_eq, codes}
 use Rattle.program_rows.specs.Lines.{LineFields, field}
-use Rattle.program_rows.specs.Faults.{when, is_integer_open, marker_fault}
+use Rattle.program_rows.specs.Faults.{is_integer_open, marker_fault}
 use Rattle.program_rows.specs.declared.fault.FaultKind.TheVariants.{Marker}
 use Rattle.mps_reader.proofs.NameFacts.{same_name}
+use Rattle.std.specs.Bool.{then_some as when}
 
 none-right : (b : Bool) → when (not (b && false)) Marker ≡ Some Marker
 none-right true = refl

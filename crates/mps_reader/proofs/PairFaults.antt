@@ -2,13 +2,16 @@
 use Rattle.std.proofs.Common.{◌≡◌, ℕ, Bool, true, false, not, ◌||◌, List, [], ◌∷◌, refl, sym, ◌∙◌, Option, Some, None}
 use Rattle.std.specs.Prelude.{bytes_eq, is_none, if◌then◌else◌}
 use Rattle.program_rows.specs.Lines.{LineFields}
-use Rattle.program_rows.specs.Faults.{earliest_fault, when, number_fault, is_declared, pairs_fault}
+use Rattle.program_rows.specs.Faults.{earliest_fault, number_fault, is_declared, pairs_fault}
 use Rattle.program_rows.specs.declared.fault.FaultKind.{FaultKind}
 use Rattle.program_rows.specs.declared.fault.FaultKind.TheVariants.{UnknownRow, EntryRepeated}
+use Rattle.program_rows.specs.Numbers.{number as token_number}
+use Rattle.std.specs.Bool.{then_some as when}
+use Rattle.std.specs.Option.{option_or}
 
 -- those of a pair, whose row is known or not, and repeated or not, and the section's own
 abbrev pub pair_checks : Bool → Bool → List ℕ → Option FaultKind → Option FaultKind
-pair_checks known repeated number own = earliest_fault (when (not known) UnknownRow ∷ when repeated EntryRepeated ∷ number_fault number ∷ own ∷ [])
+pair_checks known repeated number own = earliest_fault (when (not known) UnknownRow ∷ when repeated EntryRepeated ∷ number_fault (token_number number) ∷ own ∷ [])
 
 -- what the checks of a pair find, if they find nothing goes to those of the next
 goes-on : (known repeated : Bool) (number own more fault : Option FaultKind) → earliest_fault (when (not known) UnknownRow ∷ when repeated EntryRepeated ∷ number ∷ own ∷ []) ≡ fault
@@ -22,7 +25,7 @@ goes-on true false None None (Some kind) fault h = rw (sym h) refl
 
 pub begins : (lines : List LineFields) (own : List ℕ × List ℕ → Option FaultKind) (stood : List ℕ → Bool) (row number : List ℕ) (more : List (List ℕ × List ℕ)) (known : Bool) (fault : Option FaultKind) → is_declared lines row ≡ known
     → pair_checks known (stood row) number (own (row, number)) ≡ fault → pairs_fault lines own stood ((row, number) ∷ more) ≡ (if is_none fault then pairs_fault lines own (λ n. bytes_eq n row || stood n) more else fault)
-begins lines own stood row number more known fault d h = rw d (goes-on known (stood row) (number_fault number) (own (row, number)) (pairs_fault lines own (λ n. bytes_eq n row || stood n) more) fault h)
+begins lines own stood row number more known fault d h = rw d (goes-on known (stood row) (number_fault (token_number number)) (own (row, number)) (pairs_fault lines own (λ n. bytes_eq n row || stood n) more) fault h)
 
 if-none : (fault : Option FaultKind) → (if is_none fault then None else fault) ≡ fault
 if-none None = refl
@@ -37,8 +40,8 @@ second lines own stood row number row2 number2 known known2 d d2 h =
     ∙ begins lines own (λ n. bytes_eq n row || stood n) row2 number2 [] known2 (pair_checks known2 (bytes_eq row2 row || stood row2) number2 (own (row2, number2))) d2 refl ∙ if-none _
 
 -- a pair without a check of its section's own
-pub without-own : (known repeated : Bool) (number : List ℕ) (fault : Option FaultKind) → earliest_fault (when (not known) UnknownRow ∷ when repeated EntryRepeated ∷ number_fault number ∷ []) ≡ fault → pair_checks known repeated number None ≡ fault
-without-own known repeated number fault h = by known repeated (number_fault number) h
+pub without-own : (known repeated : Bool) (number : List ℕ) (fault : Option FaultKind) → earliest_fault (when (not known) UnknownRow ∷ when repeated EntryRepeated ∷ number_fault (token_number number) ∷ []) ≡ fault → pair_checks known repeated number None ≡ fault
+without-own known repeated number fault h = by known repeated (number_fault (token_number number)) h
   where
     by : (k r : Bool) (n : Option FaultKind) → earliest_fault (when (not k) UnknownRow ∷ when r EntryRepeated ∷ n ∷ []) ≡ fault → earliest_fault (when (not k) UnknownRow ∷ when r EntryRepeated ∷ n ∷ None ∷ []) ≡ fault
     by false r n h = h
@@ -47,7 +50,7 @@ without-own known repeated number fault h = by known repeated (number_fault numb
     by true false (Some kind) h = h
 
 -- a pair that is taken repeats none
-pub not-repeated : (known r : Bool) (checks : List (Option FaultKind)) → earliest_fault (when (not known) UnknownRow ∷ when r EntryRepeated ∷ checks) ≡ None → r ≡ false
+pub not-repeated : (known r : Bool) (more : Option FaultKind) → option_or (when (not known) UnknownRow) (option_or (when r EntryRepeated) more) ≡ None → r ≡ false
 not-repeated false r checks h = absurd cc
 not-repeated true true checks h = absurd cc
 not-repeated true false checks h = refl

@@ -1,10 +1,10 @@
 -- The program at the end is that of the lines.
 use Rattle.std.proofs.Common.{◌≡◌, ℕ, suc, ◌+◌, Bool, true, false, List, [], ◌∷◌, length, map, refl, sym, ap, subst, ◌∙◌, arith, Option, Some, None, ℤ, pos}
-use Rattle.std.specs.Prelude.{filter, not, is_some, unwrap_or, option_map, if◌then◌else◌}
+use Rattle.std.specs.Prelude.{filter, not, is_some, unwrap_or, option_map, if◌then◌else◌, flat_map}
 use Rattle.std.specs.List.{AllByRecursion, enumerate_from}
 use Rattle.std.specs.Ordering.{int_eq}
 use Rattle.program_rows.specs.Sections.{Sections}
-use Rattle.program_rows.specs.Described.{program, all_entries, all_right_sides, table_rows, table_bounds, table_column, columns_named, coefficient, first_free}
+use Rattle.program_rows.specs.Described.{program, table_rows, table_column, columns_named, first_free, lower, upper, column_pairs, number_beside, line_right_sides}
 use Rattle.program_rows.specs.Bounded.{bounded}
 use Rattle.program_rows.specs.Program.{TableRow, TableColumn}
 use Rattle.program_rows.specs.Parts.{shown_row}
@@ -43,19 +43,19 @@ values-bounds s = by s.lower s.upper
     by false (Some true) = refl
     by false (Some false) = refl
 
-bounds-told : (before : Sections) (s : ColumnState) (n : List ℕ) → state_values s ≡ told_values before.columns before.bounds n → state_bounds s ≡ table_bounds before.bounds n
+bounds-told : (before : Sections) (s : ColumnState) (n : List ℕ) → state_values s ≡ told_values before.columns before.bounds n → state_bounds s ≡ (if int_eq (lower before.bounds n) (pos 1) then One else (if int_eq (unwrap_or (upper before.bounds n) (pos 1)) (pos 0) then Zero else ZeroOrOne))
 bounds-told before s n h = values-bounds s ∙ ap (λ (v : Bool × ℤ × Option ℤ). if int_eq v.1 (pos 1) then One else (if int_eq (unwrap_or v.2 (pos 1)) (pos 0) then Zero else ZeroOrOne)) h
 
-column-told : (before : Sections) (o : Option (List ℕ)) (names : List (List ℕ)) (k : TableColumn) (s : ColumnState) (n : List ℕ) → o ≡ first_free before.rows → names ≡ map (λ (r : TableRow). r.name) (table_rows before.rows (all_right_sides before.right_sides)) → k ≡ told_column o names before.columns k.name → k.name ≡ n
+column-told : (before : Sections) (o : Option (List ℕ)) (names : List (List ℕ)) (k : TableColumn) (s : ColumnState) (n : List ℕ) → o ≡ first_free before.rows → names ≡ map (λ (r : TableRow). r.name) (table_rows before.rows (flat_map line_right_sides before.right_sides)) → k ≡ told_column o names before.columns k.name → k.name ≡ n
     → state_values s ≡ told_values before.columns before.bounds n → record k { bounds = state_bounds s } ≡ table_column before n
 column-told before o names k s n objective-is names-is told named h =
     ap (λ (c : TableColumn). record c { bounds = state_bounds s }) told
-    ∙ ap (λ m. record { name = m; bounds = state_bounds s; cost = coefficient (all_entries before.columns) m (unwrap_or o []); entries = entries_at 0 (coefficient (all_entries before.columns) m) names }) named
-    ∙ ap (λ b. record { name = n; bounds = b; cost = coefficient (all_entries before.columns) n (unwrap_or o []); entries = entries_at 0 (coefficient (all_entries before.columns) n) names }) (bounds-told before s n h)
-    ∙ ap (λ q. record { name = n; bounds = table_bounds before.bounds n; cost = coefficient (all_entries before.columns) n (unwrap_or q []); entries = entries_at 0 (coefficient (all_entries before.columns) n) names }) objective-is
-    ∙ ap (λ es. record { name = n; bounds = table_bounds before.bounds n; cost = coefficient (all_entries before.columns) n (unwrap_or (first_free before.rows) []); entries = es }) (ap (entries_at 0 (coefficient (all_entries before.columns) n)) names-is ∙ sym (entries-enumerated 0 (coefficient (all_entries before.columns) n) (table_rows before.rows (all_right_sides before.right_sides))))
+    ∙ ap (λ m. record { name = m; bounds = state_bounds s; cost = number_beside (column_pairs before.columns m) (unwrap_or o []); entries = entries_at 0 (number_beside (column_pairs before.columns m)) names }) named
+    ∙ ap (λ b. record { name = n; bounds = b; cost = number_beside (column_pairs before.columns n) (unwrap_or o []); entries = entries_at 0 (number_beside (column_pairs before.columns n)) names }) (bounds-told before s n h)
+    ∙ ap (λ q. record { name = n; bounds = (if int_eq (lower before.bounds n) (pos 1) then One else (if int_eq (unwrap_or (upper before.bounds n) (pos 1)) (pos 0) then Zero else ZeroOrOne)); cost = number_beside (column_pairs before.columns n) (unwrap_or q []); entries = entries_at 0 (number_beside (column_pairs before.columns n)) names }) objective-is
+    ∙ ap (λ es. record { name = n; bounds = (if int_eq (lower before.bounds n) (pos 1) then One else (if int_eq (unwrap_or (upper before.bounds n) (pos 1)) (pos 0) then Zero else ZeroOrOne)); cost = number_beside (column_pairs before.columns n) (unwrap_or (first_free before.rows) []); entries = es }) (ap (entries_at 0 (number_beside (column_pairs before.columns n))) names-is ∙ sym (entries-enumerated 0 (number_beside (column_pairs before.columns n)) (table_rows before.rows (flat_map line_right_sides before.right_sides))))
 
-columns-told : (before : Sections) (o : Option (List ℕ)) (names : List (List ℕ)) (ks : List TableColumn) (ss : List ColumnState) (ns : List (List ℕ)) → o ≡ first_free before.rows → names ≡ map (λ (r : TableRow). r.name) (table_rows before.rows (all_right_sides before.right_sides))
+columns-told : (before : Sections) (o : Option (List ℕ)) (names : List (List ℕ)) (ks : List TableColumn) (ss : List ColumnState) (ns : List (List ℕ)) → o ≡ first_free before.rows → names ≡ map (λ (r : TableRow). r.name) (table_rows before.rows (flat_map line_right_sides before.right_sides))
     → AllByRecursion (λ k. k ≡ told_column o names before.columns k.name) ks → map (λ (k : TableColumn). k.name) ks ≡ ns
     → map state_values ss ≡ map (told_values before.columns before.bounds) ns → bounded ks (map state_bounds ss) ≡ map (table_column before) ns
 columns-told before o names [] ss [] oi ni told named h = refl
@@ -74,10 +74,10 @@ pub program-told : (before : Sections) (r : Reading) (name : List ℕ) (made : L
 unfolding program
 program-told before r name made fit none named bounds-are h =
     let objective-is : option_now r.rows.objective ≡ first_free before.rows = h.lines.of_rows.objective in
-    let names-are : declared_row_names r.rows.rows.items ≡ map (λ (q : TableRow). q.name) (table_rows before.rows (all_right_sides before.right_sides)) = names-shown r.rows.rows.items ∙ ap (map (λ (q : TableRow). q.name)) h.lines.of_rows.shown in
+    let names-are : declared_row_names r.rows.rows.items ≡ map (λ (q : TableRow). q.name) (table_rows before.rows (flat_map line_right_sides before.right_sides)) = names-shown r.rows.rows.items ∙ ap (map (λ (q : TableRow). q.name)) h.lines.of_rows.shown in
     let all : map (λ (k : TableColumn). k.name) r.columns.done ≡ columns_named before.columns = sym (done-names (length r.rows.rows.items) r.columns fit.both.columns none) ∙ h.lines.of_columns.names in
     let columns-are = columns-told before (option_now r.rows.objective) (declared_row_names r.rows.rows.items) r.columns.done r.columns.states.items (columns_named before.columns) objective-is names-are h.lines.of_columns.done all h.lines.of_columns.states in
     let name-is : unwrap_or (first_free before.rows) [] ≡ name = ap (λ o. unwrap_or o []) (sym objective-is ∙ named) in
-    ap (λ n. record { objective = n; rows = table_rows before.rows (all_right_sides before.right_sides); columns = map (table_column before) (columns_named before.columns) }) name-is
+    ap (λ n. record { objective = n; rows = table_rows before.rows (flat_map line_right_sides before.right_sides); columns = map (table_column before) (columns_named before.columns) }) name-is
     ∙ ap (λ rs. record { objective = name; rows = rs; columns = map (table_column before) (columns_named before.columns) }) (sym h.lines.of_rows.shown)
     ∙ ap (λ cs. record { objective = name; rows = map shown_row r.rows.rows.items; columns = cs }) (sym columns-are ∙ ap (bounded r.columns.done) (sym bounds-are))

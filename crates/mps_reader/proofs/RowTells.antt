@@ -1,6 +1,6 @@
 -- Rows are those of the lines so far.
 use Rattle.std.proofs.Common.{◌≡◌, ℕ, ◌≤◌, Bool, true, false, not, ◌||◌, List, [], ◌∷◌, ◌++◌, map, reverse, refl, sym, ap, subst, ◌∙◌, arith, Option, Some, None, pos}
-use Rattle.std.specs.Prelude.{bytes_eq, filter, find, is_none, option_map, if◌then◌else◌}
+use Rattle.std.specs.Prelude.{bytes_eq, filter, find, is_none, option_map, if◌then◌else◌, flat_map}
 use Rattle.std.specs.List.{list_any, AllByRecursion}
 use Rattle.std.specs.Option.{option_or}
 use Rattle.std.proofs.lemmas.List.{reverse-append, map-append, append-nil}
@@ -9,7 +9,7 @@ use Rattle.std.proofs.lemmas.List.Folds.{find-append, list_any-append}
 use Rattle.program_rows.specs.Program.{TableRow}
 use Rattle.program_rows.specs.Parts.{shown_row}
 use Rattle.program_rows.specs.Lines.{LineFields, field}
-use Rattle.program_rows.specs.Described.{is_free, row_kind_of, first_free, all_right_sides, right_side, table_rows}
+use Rattle.program_rows.specs.Described.{is_free, row_kind_of, first_free, table_rows, number_beside, line_right_sides}
 use Rattle.mps_reader.specs.inside.Rows.{names_of, option_now, AddsFree, AddsBound, declared_names}
 use Rattle.mps_reader.specs.inside.Tracking.{RowsTell, AreStampsUpTo}
 use Rattle.mps_reader.specs.declared.row_table.Rows.{Rows}
@@ -25,7 +25,7 @@ bound-more : (f : LineFields) (rows : List LineFields) → filter (λ r. not (is
 bound-more f rows = ap (filter (λ r. not (is_free r))) (reverse-more f rows) ∙ filter-append (λ r. not (is_free r)) (reverse rows) (f ∷ [])
 
 abbrev row_of : List LineFields → LineFields → TableRow
-row_of rights fields = record { name = field 1 fields; kind = row_kind_of (field 0 fields); right_side = right_side (all_right_sides rights) (field 1 fields) }
+row_of rights fields = record { name = field 1 fields; kind = row_kind_of (field 0 fields); right_side = number_beside (flat_map line_right_sides rights) (field 1 fields) }
 
 rows-more : (f : LineFields) (rows : List LineFields) → table_rows (f ∷ rows) [] ≡ table_rows rows [] ++ map (row_of []) (filter (λ r. not (is_free r)) (f ∷ []))
 rows-more f rows = ap (map (row_of [])) (bound-more f rows) ∙ map-append (row_of []) (filter (λ r. not (is_free r)) (reverse rows)) (filter (λ r. not (is_free r)) (f ∷ []))

@@ -6,11 +6,11 @@ use Rattle.std.proofs.lemmas.Bool.{ne_eqb, lt-ltb, ltb-true, ltb-false, le-leb, 
 use denote.Ref.{Bor}
 use Rattle.program_rows.specs.Lines.{Skipped, Data, LineFields, field}
 use Rattle.program_rows.specs.Sections.{Sections, with_line}
-use Rattle.program_rows.specs.Described.{is_one_of, is_binary_bound, bound_column, bound_number}
-use Rattle.program_rows.specs.Faults.{place_of, earliest_fault, when, header_fault, data_fault, objsense_fault, row_fault, column_fault, right_side_fault, bound_fault, bit_fault, is_column}
+use Rattle.program_rows.specs.Described.{is_one_of, is_binary_bound, bound_pair}
+use Rattle.program_rows.specs.Faults.{place_of, earliest_fault, header_fault, row_fault, column_fault, right_side_fault, bound_fault, is_column, fault, sense_fault}
 use Rattle.program_rows.specs.declared.fault.FaultKind.{FaultKind}
 use Rattle.program_rows.specs.declared.fault.FaultKind.TheVariants as kinds
-use Rattle.mps_reader.specs.inside.Reading.{AreFirst}
+use Rattle.mps_reader.specs.inside.Reading.{AreFirst, bit_fault}
 use Rattle.mps_reader.specs.inside.Rows.{names_of, option_now}
 use Rattle.mps_reader.specs.inside.Sections.{word_of}
 use Rattle.mps_reader.specs.inside.Tracking.{SectionTells, BeforeRows, InRows, AreStampsUpTo, LinesTell, ReadingTells}
@@ -20,6 +20,7 @@ use Rattle.mps_reader.specs.declared.row_table.Rows.{Rows}
 use Rattle.mps_reader.specs.declared.column_table.ColumnTable.{ColumnTable}
 use Rattle.mps_reader.specs.declared.reading_state.Reading.{Reading}
 use Rattle.mps_reader.proofs.LineTells.{none-stamped}
+use Rattle.std.specs.Bool.{then_some as when}
 
 -- ---- sections open in order
 
@@ -131,8 +132,8 @@ header-first before word more = by (nat_lt 5 (length more)) refl
         let five = long-more more (omega (arith, many)) in
         let a1 : nat_lt 0 (length (take 5 more)) ≡ true = ap (nat_lt 0) five in
         let a2 : nat_lt 0 (length more) ≡ true = lt-ltb 0 (length more) (omega (arith, many)) in
-        let b1 : nat_lt 1 (length (take 5 more)) ≡ true = ap (nat_lt 1) five in
-        let b2 : nat_lt 1 (length more) ≡ true = lt-ltb 1 (length more) (omega (arith, many)) in
+        let b1 : (length (take 5 more) == 1) ≡ false = ap (λ (n : ℕ). n == 1) five in
+        let b2 : (length more == 1) ≡ false = ne_eqb (length more) 1 (λ e. omega (arith, many)) in
         rw (a1, a2, b1, b2) refl
 
 -- the fault of a data line with more fields than any has
@@ -148,8 +149,8 @@ many_fault word first =
 le-false : (a b : ℕ) → b < a → nat_le a b ≡ false
 le-false a b h = false_from_ne_true _ (λ e. let low = leb-true a b e in absurd (omega arith))
 
-objsense-many : (fields : LineFields) → 6 ≤ length fields → objsense_fault fields ≡ Some kinds.Fields
-objsense-many fields h = let n1 : (length fields == 1) ≡ false = ne_eqb (length fields) 1 (λ e. omega arith) in rw n1 refl
+sense-many : (fields : LineFields) → 6 ≤ length fields → sense_fault fields ≡ Some kinds.Fields
+sense-many fields h = let n1 : (length fields == 1) ≡ false = ne_eqb (length fields) 1 (λ e. omega arith) in rw n1 refl
 
 row-many : (before : Sections) (fields : LineFields) → 6 ≤ length fields → row_fault before.rows fields ≡ Some kinds.Fields
 row-many before fields h = let n2 : (length fields == 2) ≡ false = ne_eqb (length fields) 2 (λ e. omega arith) in rw n2 refl
@@ -175,7 +176,7 @@ bound-many before fields h =
     ∙ by (is_one_of (field 0 fields) (codes "UP" ∷ codes "LO" ∷ codes "FX" ∷ codes "BV" ∷ []))
   where
     behind : List (Option FaultKind)
-    behind = when (not (is_column before.columns (bound_column fields))) kinds.UnknownColumn ∷ (if is_binary_bound fields then None else bit_fault (bound_number fields)) ∷ []
+    behind = when (not (is_column before.columns (field 0 (bound_pair fields)))) kinds.UnknownColumn ∷ (if is_binary_bound fields then None else bit_fault (field 1 (bound_pair fields))) ∷ []
 
     and-false : (a : Bool) → (a && false) ≡ false
     and-false true = refl
@@ -198,11 +199,12 @@ ifs false false false true e p q r s t p' q' r' s' t' hp hq hr hs ht = hs
 ifs false false false false true p q r s t p' q' r' s' t' hp hq hr hs ht = ht
 ifs false false false false false p q r s t p' q' r' s' t' hp hq hr hs ht = refl
 
-many-fields : (before : Sections) (fields : LineFields) → 6 ≤ length fields → data_fault before fields ≡ many_fault before.section (field 0 fields)
+many-fields : (before : Sections) (fields : LineFields) → 6 ≤ length fields → fault before (Data fields) ≡ many_fault before.section (field 0 fields)
+unfolding fault
 many-fields before fields h =
     ifs (bytes_eq before.section (codes "OBJSENSE")) (bytes_eq before.section (codes "ROWS")) (bytes_eq before.section (codes "COLUMNS")) (bytes_eq before.section (codes "RHS")) (bytes_eq before.section (codes "BOUNDS"))
-    (objsense_fault fields) (row_fault before.rows fields) (column_fault before fields) (right_side_fault before fields) (bound_fault before.columns fields) _ _ _ _ _
-    (objsense-many fields h) (row-many before fields h) (column-many before fields h) (right-many before fields h) (bound-many before fields h)
+    (sense_fault fields) (row_fault before.rows fields) (column_fault before fields) (right_side_fault before fields) (bound_fault before.columns fields) _ _ _ _ _
+    (sense-many fields h) (row-many before fields h) (column-many before fields h) (right-many before fields h) (bound-many before fields h)
 
 is-fault : (word first : List ℕ) → many_fault word first ≢ None
 is-fault word first e = by (bytes_eq word (codes "OBJSENSE")) (bytes_eq word (codes "ROWS")) (bytes_eq word (codes "COLUMNS")) (bytes_eq word (codes "RHS")) (bytes_eq word (codes "BOUNDS")) (is_one_of first (codes "UP" ∷ codes "LO" ∷ codes "FX" ∷ codes "BV" ∷ [])) e
@@ -229,17 +231,17 @@ first-of [] = refl
 first-of (f ∷ fields) = refl
 
 -- the first fields of a data line have the fault of all
-pub data-first : (before : Sections) (shown all : LineFields) → AreFirst shown all → data_fault before shown ≡ data_fault before all
+pub data-first : (before : Sections) (shown all : LineFields) → AreFirst shown all → fault before (Data shown) ≡ fault before (Data all)
 data-first before shown all a = by (few-or-many (length all))
   where
-    by : (length all ≤ 5) ⊎ (6 ≤ length all) → data_fault before shown ≡ data_fault before all
-    by (inl few) = ap (data_fault before) (a.front ∙ take_all 6 all (omega arith))
+    by : (length all ≤ 5) ⊎ (6 ≤ length all) → fault before (Data shown) ≡ fault before (Data all)
+    by (inl few) = ap (λ fs. fault before (Data fs)) (a.front ∙ take_all 6 all (omega arith))
     by (inr many) =
         let six : length (take 6 all) ≡ 6 = length-take-le 6 all many in
-        ap (data_fault before) (a.front) ∙ many-fields before (take 6 all) (omega arith) ∙ ap (many_fault before.section) (first-of all) ∙ sym (many-fields before all many)
+        ap (λ fs. fault before (Data fs)) (a.front) ∙ many-fields before (take 6 all) (omega arith) ∙ ap (many_fault before.section) (first-of all) ∙ sym (many-fields before all many)
 
 -- where they are no fault, they are all
-pub data-whole : (before : Sections) (shown all : LineFields) → AreFirst shown all → data_fault before shown ≡ None → shown ≡ all
+pub data-whole : (before : Sections) (shown all : LineFields) → AreFirst shown all → fault before (Data shown) ≡ None → shown ≡ all
 data-whole before shown all a none = by (few-or-many (length all))
   where
     by : (length all ≤ 5) ⊎ (6 ≤ length all) → shown ≡ all

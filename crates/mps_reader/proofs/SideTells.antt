@@ -1,16 +1,16 @@
 -- Right sides are those of the lines so far.
-use Rattle.std.proofs.Common.{◌≡◌, ◌≢◌, ℕ, zero, suc, Bool, true, false, not, ◌||◌, ◌&&◌, List, [], ◌∷◌, ◌++◌, length, map, take, drop, refl, sym, ap, subst, ◌∙◌, arith, Option, Some, None, ℤ, pos}
-use Rattle.std.specs.Prelude.{◌==◌, ◌-◌, ◌%◌, nat_le, slice_get, bytes_eq, find, if◌then◌else◌}
-use Rattle.std.specs.List.{list_any, AllByRecursion, IsDistinct}
+use Rattle.std.proofs.Common.{◌≡◌, ◌≢◌, ℕ, zero, suc, Bool, true, false, not, ◌||◌, ◌&&◌, List, [], ◌∷◌, ◌++◌, length, map, take, drop, refl, sym, ap, subst, ◌∙◌, arith, Option, Some, None, ℤ}
+use Rattle.std.specs.Prelude.{◌==◌, ◌-◌, ◌%◌, nat_le, slice_get, bytes_eq, if◌then◌else◌, flat_map}
+use Rattle.std.specs.List.{AllByRecursion, IsDistinct}
 use Rattle.std.specs.Option.{option_map_or}
-use Rattle.std.proofs.lemmas.Bool.{eqb-true, both_ways}
+use Rattle.std.proofs.lemmas.Bool.{eqb-true}
 use Rattle.std.proofs.lemmas.List.{length-drop}
 use Rattle.std.proofs.Math.Seq.{take-length}
 use denote.Ref.{Bor}
 use Rattle.program_rows.specs.Lines.{LineFields, field}
 use Rattle.program_rows.specs.Sections.{Sections}
-use Rattle.program_rows.specs.Described.{pairs, row_kind_of, value, all_right_sides, line_right_sides, right_side}
-use Rattle.program_rows.specs.Faults.{earliest_fault, when, is_declared, is_objective, constant_fault, pairs_fault, right_side_fault}
+use Rattle.program_rows.specs.Described.{pairs, row_kind_of, value, line_right_sides, first_free, number_beside}
+use Rattle.program_rows.specs.Faults.{earliest_fault, is_declared, constant_fault, pairs_fault, right_side_fault}
 use Rattle.program_rows.specs.declared.fault.FaultKind.{FaultKind}
 use Rattle.program_rows.specs.declared.fault.FaultKind.TheVariants.{UnknownRow, EntryRepeated}
 use Rattle.program_rows.specs.declared.row.Row.{Row}
@@ -19,10 +19,11 @@ use Rattle.program_rows.specs.Parts.{shown_row}
 use Rattle.auction_terms.specs.Borrowed.{bytes_of}
 use Rattle.mps_reader.specs.inside.Rows.{StampsAre, declared_row_names, with_side, rows_by, side_fault}
 use Rattle.mps_reader.proofs.PairFaults.{pair_checks, begins, second}
-use Rattle.mps_reader.proofs.NameFacts.{own_name, same_name, length-bytes}
+use Rattle.mps_reader.proofs.NameFacts.{own_name, length-bytes}
 use Rattle.mps_reader.proofs.RowSteps.{names-shown}
 use Rattle.mps_reader.proofs.PairTells.{flip-name, all-at}
-use Rattle.mps_reader.proofs.EntriesTell.{stamps-same}
+use Rattle.mps_reader.proofs.EntriesTell.{stamps-same, has_row, number-one, number-two, swap-or}
+use Rattle.std.specs.Bool.{then_some as when}
 
 -- ---- one right side
 
@@ -85,63 +86,35 @@ pub record AreTwo (f : LineFields) (row number row2 number2 : List ℕ) : Type 0
 pub shown-two : (f : LineFields) (row number row2 number2 : List ℕ) → AreTwo f row number row2 number2 → pairs f ≡ (row, number) ∷ (row2, number2) ∷ []
 shown-two f row number row2 number2 a = two-pairs f a.size ∙ rw (a.row-is, a.number-is, a.row2-is, a.number2-is) refl
 
-abbrev pub has_side : List (List ℕ × List ℕ) → List ℕ → Bool
-has_side earlier row = list_any (λ other. bytes_eq row other.0) earlier
-
 pub one-stamps : (f : LineFields) (row number : List ℕ) (stamps : List ℕ) (stamp : ℕ) (ns : List (List ℕ)) (earlier : List (List ℕ × List ℕ)) → AreOne f row number
-    → StampsAre stamps stamp ns (λ n. bytes_eq n row || has_side earlier n) → StampsAre stamps stamp ns (has_side (pairs f ++ earlier))
-one-stamps f row number stamps stamp ns earlier a h = stamps-same stamps stamp ns (λ n. bytes_eq n row || has_side earlier n) (has_side (pairs f ++ earlier)) (λ n. ap (λ ps. has_side (ps ++ earlier) n) (sym (shown-one f row number a))) h
-
-swap-or : (a b c : Bool) → (a || (b || c)) ≡ (b || (a || c))
-swap-or true true c = refl
-swap-or true false c = refl
-swap-or false true c = refl
-swap-or false false c = refl
+    → StampsAre stamps stamp ns (λ n. bytes_eq n row || has_row earlier n) → StampsAre stamps stamp ns (has_row (pairs f ++ earlier))
+one-stamps f row number stamps stamp ns earlier a h = stamps-same stamps stamp ns (λ n. bytes_eq n row || has_row earlier n) (has_row (pairs f ++ earlier)) (λ n. ap (λ ps. has_row (ps ++ earlier) n) (sym (shown-one f row number a))) h
 
 pub two-stamps : (f : LineFields) (row number row2 number2 : List ℕ) (stamps : List ℕ) (stamp : ℕ) (ns : List (List ℕ)) (earlier : List (List ℕ × List ℕ)) → AreTwo f row number row2 number2
-    → StampsAre stamps stamp ns (λ n. bytes_eq n row2 || (bytes_eq n row || has_side earlier n)) → StampsAre stamps stamp ns (has_side (pairs f ++ earlier))
-two-stamps f row number row2 number2 stamps stamp ns earlier a h = stamps-same stamps stamp ns (λ n. bytes_eq n row2 || (bytes_eq n row || has_side earlier n)) (has_side (pairs f ++ earlier))
-    (λ n. swap-or (bytes_eq n row2) (bytes_eq n row) (has_side earlier n) ∙ ap (λ ps. has_side (ps ++ earlier) n) (sym (shown-two f row number row2 number2 a))) h
-
-side-one : (row number : List ℕ) (earlier : List (List ℕ × List ℕ)) (n : List ℕ) → (if bytes_eq n row then value number else right_side earlier n) ≡ right_side ((row, number) ∷ earlier) n
-side-one row number earlier n = by (bytes_eq n row)
-  where
-    by : (b : Bool) → (if b then value number else right_side earlier n) ≡ option_map_or (λ (p : List ℕ × List ℕ). value p.1) (if b then Some (row, number) else find (λ (p : List ℕ × List ℕ). bytes_eq n p.0) earlier) (pos 0)
-    by true = refl
-    by false = refl
-
-side-two : (row number row2 number2 : List ℕ) (earlier : List (List ℕ × List ℕ)) → bytes_eq row2 row ≡ false → (n : List ℕ)
-    → (if bytes_eq n row2 then value number2 else right_side ((row, number) ∷ earlier) n) ≡ right_side ((row, number) ∷ (row2, number2) ∷ earlier) n
-side-two row number row2 number2 earlier differ n = by (bytes_eq n row2) (bytes_eq n row) refl refl
-  where
-    by : (a b : Bool) → bytes_eq n row2 ≡ a → bytes_eq n row ≡ b
-        → (if a then value number2 else option_map_or (λ (p : List ℕ × List ℕ). value p.1) (if b then Some (row, number) else find (λ (p : List ℕ × List ℕ). bytes_eq n p.0) earlier) (pos 0))
-        ≡ option_map_or (λ (p : List ℕ × List ℕ). value p.1) (if b then Some (row, number) else (if a then Some (row2, number2) else find (λ (p : List ℕ × List ℕ). bytes_eq n p.0) earlier)) (pos 0)
-    by true true h k = absurd (both_ways _ differ (subst (λ x. bytes_eq x row ≡ true) (same_name n row2 h) k))
-    by true false h k = refl
-    by false true h k = refl
-    by false false h k = refl
+    → StampsAre stamps stamp ns (λ n. bytes_eq n row2 || (bytes_eq n row || has_row earlier n)) → StampsAre stamps stamp ns (has_row (pairs f ++ earlier))
+two-stamps f row number row2 number2 stamps stamp ns earlier a h = stamps-same stamps stamp ns (λ n. bytes_eq n row2 || (bytes_eq n row || has_row earlier n)) (has_row (pairs f ++ earlier))
+    (λ n. swap-or (bytes_eq n row2) (bytes_eq n row) (has_row earlier n) ∙ ap (λ ps. has_row (ps ++ earlier) n) (sym (shown-two f row number row2 number2 a))) h
 
 pub one-rows : (f : LineFields) (row number : List ℕ) (shown : List TableRow) (earlier : List (List ℕ × List ℕ)) (lines : List LineFields) → AreOne f row number
-    → shown ≡ rows_by (λ n. if bytes_eq n row then value number else right_side earlier n) lines → shown ≡ rows_by (right_side (pairs f ++ earlier)) lines
-one-rows f row number shown earlier lines a h = h ∙ rows-same (λ n. if bytes_eq n row then value number else right_side earlier n) (right_side (pairs f ++ earlier)) lines
-    (λ n. side-one row number earlier n ∙ ap (λ ps. right_side (ps ++ earlier) n) (sym (shown-one f row number a)))
+    → shown ≡ rows_by (λ n. if bytes_eq n row then value number else number_beside earlier n) lines → shown ≡ rows_by (number_beside (pairs f ++ earlier)) lines
+one-rows f row number shown earlier lines a h = h ∙ rows-same (λ n. if bytes_eq n row then value number else number_beside earlier n) (number_beside (pairs f ++ earlier)) lines
+    (λ n. number-one row number earlier n ∙ ap (λ ps. number_beside (ps ++ earlier) n) (sym (shown-one f row number a)))
 
 pub two-rows : (f : LineFields) (row number row2 number2 : List ℕ) (shown : List TableRow) (earlier : List (List ℕ × List ℕ)) (lines : List LineFields) → AreTwo f row number row2 number2 → bytes_eq row2 row ≡ false
-    → shown ≡ rows_by (λ n. if bytes_eq n row2 then value number2 else (if bytes_eq n row then value number else right_side earlier n)) lines → shown ≡ rows_by (right_side (pairs f ++ earlier)) lines
-two-rows f row number row2 number2 shown earlier lines a differ h = h ∙ rows-same (λ n. if bytes_eq n row2 then value number2 else (if bytes_eq n row then value number else right_side earlier n)) (right_side (pairs f ++ earlier)) lines
-    (λ n. ap (λ z. if bytes_eq n row2 then value number2 else z) (side-one row number earlier n) ∙ side-two row number row2 number2 earlier differ n ∙ ap (λ ps. right_side (ps ++ earlier) n) (sym (shown-two f row number row2 number2 a)))
+    → shown ≡ rows_by (λ n. if bytes_eq n row2 then value number2 else (if bytes_eq n row then value number else number_beside earlier n)) lines → shown ≡ rows_by (number_beside (pairs f ++ earlier)) lines
+two-rows f row number row2 number2 shown earlier lines a differ h = h ∙ rows-same (λ n. if bytes_eq n row2 then value number2 else (if bytes_eq n row then value number else number_beside earlier n)) (number_beside (pairs f ++ earlier)) lines
+    (λ n. ap (λ z. if bytes_eq n row2 then value number2 else z) (number-one row number earlier n) ∙ number-two row number row2 number2 earlier differ n ∙ ap (λ ps. number_beside (ps ++ earlier) n) (sym (shown-two f row number row2 number2 a)))
 
 -- ---- faults
 
 abbrev sides_fault : List LineFields → (List ℕ → Bool) → LineFields → Option FaultKind
 sides_fault lines stood f = pairs_fault lines (constant_fault lines) stood (pairs f)
 
-checks-are : (lines : List LineFields) (row number : List ℕ) (known repeated cost : Bool) (fault : Option FaultKind) → is_objective lines row ≡ cost → side_fault known repeated cost number ≡ fault → pair_checks known repeated number (constant_fault lines (row, number)) ≡ fault
+checks-are : (lines : List LineFields) (row number : List ℕ) (known repeated cost : Bool) (fault : Option FaultKind) → option_map_or (bytes_eq row) (first_free lines) false ≡ cost → side_fault known repeated cost number ≡ fault → pair_checks known repeated number (constant_fault lines (row, number)) ≡ fault
 checks-are lines row number known repeated cost fault o h = ap (λ c. side_fault known repeated c number) o ∙ h
 
 pub first-refused : (lines : List LineFields) (stood : List ℕ → Bool) (f : LineFields) (row number : List ℕ) (known cost : Bool) (kind : FaultKind) → ((length f == 2) || (length f == 4)) ≡ true → field 0 f ≡ row → field 1 f ≡ number
-    → is_declared lines row ≡ known → is_objective lines row ≡ cost → side_fault known (stood row) cost number ≡ Some kind → sides_fault lines stood f ≡ Some kind
+    → is_declared lines row ≡ known → option_map_or (bytes_eq row) (first_free lines) false ≡ cost → side_fault known (stood row) cost number ≡ Some kind → sides_fault lines stood f ≡ Some kind
 first-refused lines stood f row number known cost kind count same told d o h = by (length f == 2) refl
   where
     begun : (more : List (List ℕ × List ℕ)) → pairs f ≡ (field 0 f, field 1 f) ∷ more → sides_fault lines stood f ≡ Some kind
@@ -153,13 +126,13 @@ first-refused lines stood f row number known cost kind count same told d o h = b
     by true e = begun [] (one-pair f (eqb-true _ _ e))
     by false e = begun ((field 2 f, field 3 f) ∷ []) (two-pairs f (eqb-true _ _ (ap (λ b. b || (length f == 4)) (sym e) ∙ count)))
 
-pub one-told : (lines : List LineFields) (stood : List ℕ → Bool) (f : LineFields) (row number : List ℕ) (known cost : Bool) → AreOne f row number → is_declared lines row ≡ known → is_objective lines row ≡ cost
+pub one-told : (lines : List LineFields) (stood : List ℕ → Bool) (f : LineFields) (row number : List ℕ) (known cost : Bool) → AreOne f row number → is_declared lines row ≡ known → option_map_or (bytes_eq row) (first_free lines) false ≡ cost
     → side_fault known (stood row) cost number ≡ None → sides_fault lines stood f ≡ None
 one-told lines stood f row number known cost a d o h =
     ap (pairs_fault lines (constant_fault lines) stood) (shown-one f row number a) ∙ begins lines (constant_fault lines) stood row number [] known None d (checks-are lines row number known (stood row) cost None o h)
 
 pub second-told : (lines : List LineFields) (stood : List ℕ → Bool) (f : LineFields) (row number row2 number2 : List ℕ) (known known2 cost cost2 : Bool) → AreTwo f row number row2 number2 → is_declared lines row ≡ known → is_declared lines row2 ≡ known2
-    → is_objective lines row ≡ cost → is_objective lines row2 ≡ cost2 → side_fault known (stood row) cost number ≡ None → sides_fault lines stood f ≡ side_fault known2 (bytes_eq row2 row || stood row2) cost2 number2
+    → option_map_or (bytes_eq row) (first_free lines) false ≡ cost → option_map_or (bytes_eq row2) (first_free lines) false ≡ cost2 → side_fault known (stood row) cost number ≡ None → sides_fault lines stood f ≡ side_fault known2 (bytes_eq row2 row || stood row2) cost2 number2
 second-told lines stood f row number row2 number2 known known2 cost cost2 a d d2 o o2 h =
     ap (pairs_fault lines (constant_fault lines) stood) (shown-two f row number row2 number2 a)
     ∙ second lines (constant_fault lines) stood row number row2 number2 known known2 d d2 (checks-are lines row number known (stood row) cost None o h)
@@ -190,8 +163,8 @@ line-pairs fields =
     ap (λ n. pairs (drop (n % 2) (bytes_of fields))) (length-bytes fields) ∙ ap pairs (sym (bytes-drop (length fields % 2) fields)) ∙ ap (λ fs. pairs (bytes_of fs)) (sym whole)
 
 pub line-fault : (before : Sections) (f : LineFields) (fault : Option FaultKind) → (nat_le 2 (length f) && nat_le (length f) 5) ≡ true
-    → pairs_fault before.rows (constant_fault before.rows) (has_side (all_right_sides before.right_sides)) (line_right_sides f) ≡ fault → right_side_fault before f ≡ fault
-line-fault before f fault count h = rw count (last-of (pairs_fault before.rows (constant_fault before.rows) (has_side (all_right_sides before.right_sides)) (line_right_sides f)) h)
+    → pairs_fault before.rows (constant_fault before.rows) (has_row (flat_map line_right_sides before.right_sides)) (line_right_sides f) ≡ fault → right_side_fault before f ≡ fault
+line-fault before f fault count h = rw count (last-of (pairs_fault before.rows (constant_fault before.rows) (has_row (flat_map line_right_sides before.right_sides)) (line_right_sides f)) h)
   where
     last-of : (o : Option FaultKind) → o ≡ fault → earliest_fault (o ∷ []) ≡ fault
     last-of None e = e

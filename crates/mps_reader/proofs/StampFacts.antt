@@ -5,10 +5,11 @@ use Rattle.std.specs.List.{list_any, position_or_len}
 use Rattle.std.proofs.lemmas.Bool.{ltb-true}
 use denote.Ref.{Bor}
 use Rattle.program_rows.specs.declared.fault.FaultKind.TheVariants.{UnknownRow, EntryRepeated}
-use Rattle.program_rows.specs.Faults.{earliest_fault, when}
+use Rattle.program_rows.specs.Faults.{earliest_fault}
 use Rattle.auction_terms.specs.Borrowed.{bytes_of}
 use Rattle.mps_reader.specs.inside.Rows.{StampsAre}
 use Rattle.mps_reader.proofs.NameFacts.{same_name}
+use Rattle.std.specs.Bool.{then_some as when}
 
 some-is : (b : Bool) (x i : ℕ) → Some i ≡ cond b (Some x) None → (b ≡ true) × (x ≡ i)
 some-is true x i h = (refl, cc)

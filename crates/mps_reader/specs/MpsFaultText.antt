@@ -1,6 +1,5 @@
 -- How a fault of an MPS text tells itself.
 use Rattle.std.specs.Prelude.{◌++◌, ℕ, List, codes, decimal}
-use Rattle.mps_reader.specs.declared.mps_fault.MpsFault.{MpsFault}
 use Rattle.program_rows.specs.declared.fault.FaultKind.{FaultKind}
 use Rattle.program_rows.specs.declared.fault.FaultKind.TheVariants as kind
 
@@ -30,12 +29,9 @@ mps_kind_text kind.NoEnd = codes "21 NoEnd"
 mps_kind_text (kind.NotBinary column) = codes "22 NotBinary"
 mps_kind_text kind.OutOfMemory = codes "out of memory"
 
--- with its line, and the column where one is told
-abbrev pub mps_text_in_line : ℕ → FaultKind → List ℕ
-mps_text_in_line line kind.TooLarge = mps_kind_text kind.TooLarge
-mps_text_in_line line kind.OutOfMemory = mps_kind_text kind.OutOfMemory
-mps_text_in_line line (kind.NotBinary column) = mps_kind_text (kind.NotBinary column) ++ (codes " at line " ++ (decimal line ++ (codes ", column " ++ decimal column)))
-mps_text_in_line line k = mps_kind_text k ++ (codes " at line " ++ decimal line)
-
-abbrev pub mps_fault_text : MpsFault → List ℕ
-mps_fault_text f = mps_text_in_line f.line f.kind
+-- a fault in a line: with the line, and the column where one is told
+abbrev pub mps_fault_text : ℕ → FaultKind → List ℕ
+mps_fault_text line kind.TooLarge = mps_kind_text kind.TooLarge
+mps_fault_text line kind.OutOfMemory = mps_kind_text kind.OutOfMemory
+mps_fault_text line (kind.NotBinary column) = mps_kind_text (kind.NotBinary column) ++ (codes " at line " ++ (decimal line ++ (codes ", column " ++ decimal column)))
+mps_fault_text line k = mps_kind_text k ++ (codes " at line " ++ decimal line)

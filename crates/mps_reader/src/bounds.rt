@@ -5,12 +5,13 @@ ghost use Rattle.program_rows.specs.declared.fault.FaultKind.TheVariants.{BoundT
 ghost use Rattle.std.specs.List.{IsDistinct};
 ghost use Rattle.program_rows.specs.Lines.{LineFields, field};
 ghost use Rattle.program_rows.specs.Described.{is_one_of, is_binary_bound, value, columns_named};
-ghost use Rattle.program_rows.specs.Faults.{earliest_fault, when, bit_fault, bound_fault};
+ghost use Rattle.program_rows.specs.Faults.{earliest_fault, bound_fault};
 ghost use Rattle.auction_terms.specs.Borrowed.{bytes_of};
-ghost use Rattle.mps_reader.specs.inside.Reading.{AnswersFault};
+ghost use Rattle.mps_reader.specs.inside.Reading.{AnswersFault, bit_fault};
 ghost use Rattle.mps_reader.specs.inside.Columns.{BothFit};
 ghost use Rattle.mps_reader.specs.inside.Rows.{names_of};
 ghost use Rattle.mps_reader.specs.inside.Tracking.{ColumnsTell, bit, state_values, bounded_values};
+ghost use Rattle.std.specs.Bool.{then_some as when};
 ghost use Rattle.mps_reader.specs.declared.row_table.Rows as row_table;
 
 use crate::column_state::ColumnState;

@@ -5,12 +5,12 @@ ghost use Rattle.std.specs.List.{list_any};
 ghost use Rattle.std.specs.List.Sorted.{IsPermutation, IsNonDecreasingBy};
 ghost use Rattle.program_rows.specs.declared.fault.FaultKind.TheVariants.{ColumnSplit};
 ghost use Rattle.program_rows.specs.Lines.{LineFields};
-ghost use Rattle.program_rows.specs.Faults.{when};
 ghost use Rattle.program_rows.specs.Parts.{IsName};
 ghost use Rattle.mps_reader.specs.inside.Reading.{AnswersFault};
 ghost use Rattle.mps_reader.specs.inside.Rows.{names_of, option_now};
 ghost use Rattle.mps_reader.specs.inside.Columns.{ColumnsFit, AddsColumn, IsApart};
 ghost use Rattle.mps_reader.specs.inside.Tracking.{ColumnsTell, ColumnAdded, is_current};
+ghost use Rattle.std.specs.Bool.{then_some as when};
 
 use crate::column_state::ColumnState;
 use crate::column_table::ColumnTable;

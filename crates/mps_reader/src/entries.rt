@@ -5,8 +5,8 @@ ghost use Rattle.std.specs.List.{AllByRecursion, list_any};
 ghost use Rattle.program_rows.specs.declared.fault.FaultKind.TheVariants.{UnknownRow, EntryRepeated};
 ghost use Rattle.program_rows.specs.Lines.{field, LineFields};
 ghost use Rattle.program_rows.specs.Sections.{Sections};
-ghost use Rattle.program_rows.specs.Described.{value, pairs, Entry, names_both, line_entries, is_marker, coefficient};
-ghost use Rattle.program_rows.specs.Faults.{earliest_fault, when, number_fault, is_declared, pairs_fault, is_integer_open, marker_fault, column_fault};
+ghost use Rattle.program_rows.specs.Described.{value, pairs, is_marker, number_beside};
+ghost use Rattle.program_rows.specs.Faults.{earliest_fault, number_fault, is_declared, pairs_fault, is_integer_open, marker_fault, column_fault};
 ghost use Rattle.program_rows.specs.Parts.{IsName};
 ghost use Rattle.auction_terms.specs.Borrowed.{bytes_of};
 ghost use Rattle.mps_reader.specs.inside.Reading.{AnswersFault};
@@ -14,6 +14,8 @@ ghost use Rattle.mps_reader.specs.inside.Rows.{RowsFit, StampsAre, names_of, dec
 ghost use Rattle.mps_reader.specs.inside.Tracking.{AreStampsUpTo, OpenTells, ColumnsTell, InColumns};
 ghost use Rattle.mps_reader.specs.declared.row_table.Rows as row_table;
 ghost use Rattle.mps_reader.specs.inside.Columns.{ColumnsFit, put_entries, PairsFit, BothFit};
+ghost use Rattle.program_rows.specs.Numbers.{number};
+ghost use Rattle.std.specs.Bool.{then_some as when};
 
 use crate::column_table::ColumnTable;
 use crate::columns::{close_column, open_column};
@@ -67,7 +69,7 @@ fn take_entry<'t>(
         (names_of rows.old.names) has
         → AnswersFault result (earliest_fault
         (when (not (list_any (bytes_eq row.now) (names_of rows.old.names))) UnknownRow
-        ∷ when (has row.now) EntryRepeated ∷ number_fault token.now ∷ [])) }
+        ∷ when (has row.now) EntryRepeated ∷ number_fault (number token.now) ∷ [])) }
     ensures stamps { OnOk result ((has : List ℕ → Bool)
         → StampsAre rows.old.stamps.items stamp (names_of rows.old.names) has
         → StampsAre rows.new.stamps.items stamp (names_of rows.old.names)
@@ -134,21 +136,20 @@ fn take_entries<'t>(
         → StampsAre rows.old.stamps.items stamp (names_of rows.old.names) has
         → AnswersFault result (pairs_fault lines (λ pair. None) has
         (pairs (drop 1 (bytes_of fields.now)))) }
-    ensures stamps { OnOk result ((earlier : List Entry)
+    ensures stamps { OnOk result ((earlier : List (List ℕ × List ℕ))
         → StampsAre rows.old.stamps.items stamp (names_of rows.old.names)
-        (λ row. list_any (names_both (field 0 (bytes_of fields.now)) row) earlier)
+        (λ row. list_any (λ other. bytes_eq row other.0) earlier)
         → StampsAre rows.new.stamps.items stamp (names_of rows.old.names)
-        (λ row. list_any (names_both (field 0 (bytes_of fields.now)) row)
-        (line_entries (bytes_of fields.now) ++ earlier))) }
+        (λ row. list_any (λ other. bytes_eq row other.0)
+        (pairs (drop 1 (bytes_of fields.now)) ++ earlier))) }
     ensures low { OnOk result (AreStampsUpTo stamp rows.old → AreStampsUpTo stamp rows.new) }
-    ensures tells { OnOk result (PairsFit stamp rows.old column.old → (earlier : List Entry)
+    ensures tells { OnOk result (PairsFit stamp rows.old column.old → (earlier : List (List ℕ × List ℕ))
         → StampsAre rows.old.stamps.items stamp (names_of rows.old.names)
-        (λ row. list_any (names_both (field 0 (bytes_of fields.now)) row) earlier)
+        (λ row. list_any (λ other. bytes_eq row other.0) earlier)
         → OpenTells (option_now rows.old.objective) (declared_row_names rows.old.rows.items)
-        (coefficient earlier (field 0 (bytes_of fields.now))) column.old
+        (number_beside earlier) column.old
         → OpenTells (option_now rows.old.objective) (declared_row_names rows.old.rows.items)
-        (coefficient (line_entries (bytes_of fields.now) ++ earlier)
-        (field 0 (bytes_of fields.now))) column.new) }
+        (number_beside (pairs (drop 1 (bytes_of fields.now)) ++ earlier)) column.new) }
 {
     take_entry(rows, column, stamp, fields[1], fields[2])?;
     if fields.len() == 5 {

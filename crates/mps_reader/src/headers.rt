@@ -1,18 +1,19 @@
 //! Headers: the sections and their order.
 
-ghost use Rattle.std.specs.Prelude.{◌≡◌, ◌∷◌, [], ◌==◌, ◌<◌, ◌&&◌, not, codes, nat_lt, length, is_none, bytes_eq, true, IfOk, OnOk, None, if◌then◌else◌};
-ghost use Rattle.program_rows.specs.declared.fault.FaultKind.TheVariants.{SectionLeftOut, Section, Fields, NoObjective};
+ghost use Rattle.std.specs.Prelude.{◌≡◌, ◌∷◌, [], ◌==◌, ◌<◌, ◌&&◌, not, codes, nat_lt, length, is_none, bytes_eq, true, IfOk, OnOk, None, if◌then◌else◌, position, option_map};
+ghost use Rattle.program_rows.specs.declared.fault.FaultKind.TheVariants.{SectionLeftOut, Section, Fields, NoObjective, NotBinary};
 ghost use Rattle.program_rows.specs.Lines.{field};
 ghost use Rattle.program_rows.specs.Sections.{Sections};
-ghost use Rattle.program_rows.specs.Described.{is_one_of, first_free};
-ghost use Rattle.program_rows.specs.Faults.{sections_left_out, place_of, earliest_fault, when, sense_fault, header_fault, not_binary};
+ghost use Rattle.program_rows.specs.Described.{is_one_of, first_free, columns_named};
+ghost use Rattle.program_rows.specs.Faults.{place_of, earliest_fault, sense_fault, header_fault, is_binary, sections_left_out};
 ghost use Rattle.auction_terms.specs.Borrowed.{bytes_of};
 ghost use Rattle.mps_reader.specs.inside.Reading.{AnswersFault, AnswersUpTo};
 ghost use Rattle.mps_reader.specs.inside.Sections.{word_of};
+ghost use Rattle.std.specs.Bool.{then_some as when};
 
 use crate::refusal::Refusal;
 use crate::sections::{Section, place, section_of};
-use crate::senses::take_sense;
+use crate::senses::take_sense_line;
 use crate::words::is_word;
 use program_rows::FaultKind;
 
@@ -67,27 +68,12 @@ fn lacks_objective(word: &[u8], has_objective: bool) -> bool
 }
 
 /// The sense that a header names, if it does.
-fn take_named_sense(more: &[&[u8]]) -> Result<(), Refusal>
-    ensures { AnswersFault result (earliest_fault
-        (when (nat_lt 1 (length (bytes_of more.now))) Fields
-        ∷ (if length (bytes_of more.now) == 1 then sense_fault (field 0 (bytes_of more.now)) else
-        None) ∷ [])) }
-{
-    refuse!(more.len() > 1, Fields);
-    if more.len() == 1 {
-        return take_sense(more[0]);
-    }
-    Ok(())
-}
-
 fn take_header_sense(word: &[u8], more: &[&[u8]]) -> Result<(), Refusal>
-    ensures { AnswersFault result (if bytes_eq word.now (codes "OBJSENSE") then earliest_fault
-        (when (nat_lt 1 (length (bytes_of more.now))) Fields
-        ∷ (if length (bytes_of more.now) == 1 then sense_fault (field 0 (bytes_of more.now)) else
-        None) ∷ []) else None) }
+    ensures { AnswersFault result (if bytes_eq word.now (codes "OBJSENSE")
+        && nat_lt 0 (length (bytes_of more.now)) then sense_fault (bytes_of more.now) else None) }
 {
-    if is_word(word, b"OBJSENSE") {
-        return take_named_sense(more);
+    if is_word(word, b"OBJSENSE") && more.len() > 0 {
+        return take_sense_line(more);
     }
     Ok(())
 }
@@ -102,7 +88,7 @@ pub fn take_header(
     ensures fault { (before : Sections) → before.section ≡ word_of opened
         → is_none (first_free before.rows) ≡ not has_objective
         → AnswersUpTo result (header_fault before word.now (bytes_of more.now))
-        (if bytes_eq word.now (codes "ENDATA") then not_binary before else None) }
+        (if bytes_eq word.now (codes "ENDATA") then option_map NotBinary (position (λ column. not (is_binary before column)) (columns_named before.columns)) else None) }
     ensures objective { OnOk result (bytes_eq word.now (codes "ENDATA") ≡ true
         → has_objective ≡ true) }
     ensures opened { IfOk result (λ section. word_of section ≡ word.now) }

@@ -47,7 +47,7 @@ fn kind_text(kind: FaultKind) -> &'static str
 }
 
 impl fmt::Display for MpsFault {
-    ghost output = { λ fault. Some (mps_fault_text fault) };
+    ghost output = { λ fault. Some (mps_fault_text fault.line fault.kind) };
 
     fn fmt<W: fmt::Write>(&self, f: &mut fmt::Formatter<W>) -> fmt::Result {
         let line = self.line;

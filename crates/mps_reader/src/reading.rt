@@ -22,7 +22,7 @@ ghost use Rattle.std.specs.List.{AllByRecursion};
 ghost use Rattle.program_rows.specs.Lines as spec;
 ghost use Rattle.program_rows.specs.Lines.{Unprintable, line_of, LineFields, field};
 ghost use Rattle.program_rows.specs.Sections.{Sections, no_lines, with_line, is_end};
-ghost use Rattle.program_rows.specs.Faults.{fault, header_fault, data_fault};
+ghost use Rattle.program_rows.specs.Faults.{fault, header_fault};
 ghost use Rattle.program_rows.specs.Parts.{IsName};
 ghost use Rattle.auction_terms.specs.Borrowed.{bytes_of};
 ghost use Rattle.mps_reader.specs.inside.Reading.{AnswersFault};
@@ -87,13 +87,14 @@ fn take_header_line<'t>(reading: &mut Reading<'t>, fields: &[&'t [u8]]) -> Resul
     Ok(false)
 }
 
+#[tactic(auto, unfolding(program_rows::specs::Faults::fault))]
 fn take_data<'t>(reading: &mut Reading<'t>, fields: &[&'t [u8]]) -> Result<(), Refusal>
     requires fit { ReadingFits reading.old }
     requires some { 1 ≤ length fields.now }
     requires names { AllByRecursion IsName (bytes_of fields.now) }
     ensures fit { OnOk result (ReadingFits reading.new) }
     ensures fault { (before : Sections) → ReadingTells before reading.old
-        → AnswersFault result (data_fault before (bytes_of fields.now)) }
+        → AnswersFault result (fault before (spec.Data (bytes_of fields.now))) }
     ensures tells { OnOk result ((before : Sections) → ReadingTells before reading.old
         → ReadingTells (with_line before (spec.Data (bytes_of fields.now))) reading.new) }
 {

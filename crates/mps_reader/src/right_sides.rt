@@ -1,12 +1,12 @@
 //! Lines of RHS.
 
-ghost use Rattle.std.specs.Prelude.{◌≡◌, ◌≤◌, ◌<◌, ◌==◌, ◌&&◌, ◌||◌, ◌∷◌, ◌++◌, ℕ, ℤ, Bool, List, not, true, false, length, map, bytes_eq, nat_le, pos, if◌then◌else◌, OnOk};
+ghost use Rattle.std.specs.Prelude.{◌≡◌, ◌≤◌, ◌<◌, ◌==◌, ◌&&◌, ◌||◌, ◌∷◌, ◌++◌, ℕ, ℤ, Bool, List, not, true, false, length, map, bytes_eq, nat_le, pos, if◌then◌else◌, OnOk, flat_map};
 ghost use Rattle.std.specs.List.{list_any};
 ghost use Rattle.std.specs.Option.{option_map_or};
 ghost use Rattle.program_rows.specs.Lines.{LineFields};
 ghost use Rattle.program_rows.specs.Sections.{Sections};
-ghost use Rattle.program_rows.specs.Described.{pairs, value, all_right_sides, right_side};
-ghost use Rattle.program_rows.specs.Faults.{is_declared, is_objective, constant_fault, pairs_fault, right_side_fault};
+ghost use Rattle.program_rows.specs.Described.{pairs, value, first_free, number_beside, line_right_sides};
+ghost use Rattle.program_rows.specs.Faults.{is_declared, constant_fault, pairs_fault, right_side_fault};
 ghost use Rattle.auction_terms.specs.Borrowed.{bytes_of};
 ghost use Rattle.mps_reader.specs.inside.Reading.{AnswersFault};
 ghost use Rattle.std.specs.Ordering.{int_eq};
@@ -91,7 +91,7 @@ fn take_right_sides<'t>(rows: &mut Rows<'t>, stamp: usize, fields: &[&[u8]]) -> 
     ensures fault { (lines : List LineFields) (has : List ℕ → Bool)
         → ((name : List ℕ) → is_declared lines name
         ≡ list_any (bytes_eq name) (names_of rows.old.names))
-        → ((name : List ℕ) → is_objective lines name
+        → ((name : List ℕ) → option_map_or (bytes_eq name) (first_free lines) false
         ≡ option_map_or (λ other. bytes_eq name other.now) rows.old.objective false)
         → StampsAre rows.old.stamps.items stamp (names_of rows.old.names) has
         → AnswersFault result (pairs_fault lines (constant_fault lines) has
@@ -105,9 +105,9 @@ fn take_right_sides<'t>(rows: &mut Rows<'t>, stamp: usize, fields: &[&[u8]]) -> 
     ensures rows { OnOk result ((earlier : List (List ℕ × List ℕ)) (lines : List LineFields)
         → StampsAre rows.old.stamps.items stamp (names_of rows.old.names)
         (λ row. list_any (λ other. bytes_eq row other.0) earlier)
-        → map shown_row rows.old.rows.items ≡ rows_by (right_side earlier) lines
+        → map shown_row rows.old.rows.items ≡ rows_by (number_beside earlier) lines
         → map shown_row rows.new.rows.items
-        ≡ rows_by (right_side (pairs (bytes_of fields.now) ++ earlier)) lines) }
+        ≡ rows_by (number_beside (pairs (bytes_of fields.now) ++ earlier)) lines) }
 {
     take_right_side(rows, stamp, fields[0], fields[1])?;
     if fields.len() == 4 {
@@ -130,20 +130,20 @@ pub fn take_right_side_line<'t>(
     ensures names { rows.new.names ≡ rows.old.names }
     ensures fault { (before : Sections) → ((name : List ℕ)
         → is_declared before.rows name ≡ list_any (bytes_eq name) (names_of rows.old.names))
-        → ((name : List ℕ) → is_objective before.rows name
+        → ((name : List ℕ) → option_map_or (bytes_eq name) (first_free before.rows) false
         ≡ option_map_or (λ other. bytes_eq name other.now) rows.old.objective false)
         → StampsAre rows.old.stamps.items stamp (names_of rows.old.names)
-        (λ row. list_any (λ other. bytes_eq row other.0) (all_right_sides before.right_sides))
+        (λ row. list_any (λ other. bytes_eq row other.0) (flat_map line_right_sides before.right_sides))
         → AnswersFault result (right_side_fault before (bytes_of fields.now)) }
     ensures stamps { OnOk result ((rights : List LineFields)
         → StampsAre rows.old.stamps.items stamp (names_of rows.old.names)
-        (λ row. list_any (λ other. bytes_eq row other.0) (all_right_sides rights))
+        (λ row. list_any (λ other. bytes_eq row other.0) (flat_map line_right_sides rights))
         → StampsAre rows.new.stamps.items stamp (names_of rows.old.names)
         (λ row. list_any (λ other. bytes_eq row other.0)
-        (all_right_sides (bytes_of fields.now ∷ rights)))) }
+        (flat_map line_right_sides (bytes_of fields.now ∷ rights)))) }
     ensures tells { OnOk result ((lines rights : List LineFields)
         → StampsAre rows.old.stamps.items stamp (names_of rows.old.names)
-        (λ row. list_any (λ other. bytes_eq row other.0) (all_right_sides rights))
+        (λ row. list_any (λ other. bytes_eq row other.0) (flat_map line_right_sides rights))
         → RowsTell lines rights rows.old → RowsTell lines (bytes_of fields.now ∷ rights) rows.new) }
 {
     refuse!(!is_two_to_five(fields.len()), Fields);

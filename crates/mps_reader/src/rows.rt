@@ -6,12 +6,13 @@ ghost use Rattle.std.specs.Option.{option_map, option_map_or};
 ghost use Rattle.program_rows.specs.declared.fault.FaultKind.TheVariants.{Fields, RowType, RowRepeated, UnknownRow, EntryRepeated};
 ghost use Rattle.program_rows.specs.Lines.{field, LineFields};
 ghost use Rattle.program_rows.specs.Described.{is_one_of, row_kind_of};
-ghost use Rattle.program_rows.specs.Faults.{row_types, earliest_fault, when};
+ghost use Rattle.program_rows.specs.Faults.{earliest_fault};
 ghost use Rattle.program_rows.specs.Parts.{shown_row, IsName};
 ghost use Rattle.auction_terms.specs.Borrowed.{bytes_of};
 ghost use Rattle.mps_reader.specs.inside.Reading.{AnswersFault};
 ghost use Rattle.mps_reader.specs.inside.Rows.{names_of, RowsFit, AddsFree, AddsBound, StampsAre};
 ghost use Rattle.mps_reader.specs.inside.Tracking.{RowsTell, AreStampsUpTo};
+ghost use Rattle.std.specs.Bool.{then_some as when};
 
 use crate::names::insert_name;
 use crate::refusal::Refusal;
@@ -22,7 +23,7 @@ use std::alloc::{AllocError, Global};
 use std::cell::Cell;
 
 fn is_row_type(letter: &[u8]) -> bool
-    ensures { result ≡ is_one_of letter.now row_types }
+    ensures { result ≡ is_one_of letter.now (codes "N" ∷ codes "L" ∷ codes "G" ∷ codes "E" ∷ []) }
 {
     is_word(letter, b"N") || is_word(letter, b"L") || is_word(letter, b"G") || is_word(letter, b"E")
 }
@@ -69,7 +70,7 @@ pub fn take_row<'t>(rows: &mut Rows<'t>, fields: &[&'t [u8]]) -> Result<(), Refu
     requires names { AllByRecursion IsName (bytes_of fields.now) }
     ensures fault { AnswersFault result (earliest_fault
         (when (not (length (bytes_of fields.now) == 2)) Fields
-        ∷ when (not (is_one_of (field 0 (bytes_of fields.now)) row_types)) RowType
+        ∷ when (not (is_one_of (field 0 (bytes_of fields.now)) (codes "N" ∷ codes "L" ∷ codes "G" ∷ codes "E" ∷ []))) RowType
         ∷ when (list_any (bytes_eq (field 1 (bytes_of fields.now))) (names_of rows.old.names))
         RowRepeated ∷ [])) }
     ensures fit { OnOk result (RowsFit rows.new) }

@@ -1,10 +1,12 @@
 //! Senses: an objective is minimised.
 
-ghost use Rattle.std.specs.Prelude.{◌≡◌, ◌∷◌, [], codes};
+ghost use Rattle.std.specs.Prelude.{◌≡◌, ◌∷◌, [], codes, not};
+ghost use Rattle.program_rows.specs.declared.fault.FaultKind.TheVariants.{SenseMax, Fields};
 ghost use Rattle.program_rows.specs.Described.{is_one_of};
-ghost use Rattle.program_rows.specs.Faults.{sense_fault, objsense_fault};
+ghost use Rattle.program_rows.specs.Faults.{earliest_fault, sense_fault};
 ghost use Rattle.auction_terms.specs.Borrowed.{bytes_of};
 ghost use Rattle.mps_reader.specs.inside.Reading.{AnswersFault};
+ghost use Rattle.std.specs.Bool.{then_some as when};
 
 use crate::refusal::Refusal;
 use crate::words::is_word;
@@ -23,8 +25,10 @@ fn is_least(word: &[u8]) -> bool
 }
 
 /// A sense.
-pub fn take_sense(word: &[u8]) -> Result<(), Refusal>
-    ensures { AnswersFault result (sense_fault word.now) }
+fn take_sense(word: &[u8]) -> Result<(), Refusal>
+    ensures { AnswersFault result (earliest_fault
+        (when (is_one_of word.now (codes "MAX" ∷ codes "MAXIMIZE" ∷ [])) SenseMax
+        ∷ when (not (is_one_of word.now (codes "MIN" ∷ codes "MINIMIZE" ∷ []))) Fields ∷ [])) }
 {
     if is_greatest(word) {
         return Err(Refusal::Fault(FaultKind::SenseMax));
@@ -35,9 +39,9 @@ pub fn take_sense(word: &[u8]) -> Result<(), Refusal>
     Ok(())
 }
 
-/// A line of OBJSENSE.
+/// The one field of a line of OBJSENSE, or of its header.
 pub fn take_sense_line(fields: &[&[u8]]) -> Result<(), Refusal>
-    ensures { AnswersFault result (objsense_fault (bytes_of fields.now)) }
+    ensures { AnswersFault result (sense_fault (bytes_of fields.now)) }
 {
     if fields.len() != 1 {
         return Err(Refusal::Fault(FaultKind::Fields));

@@ -2,16 +2,17 @@
 
 ghost use Rattle.std.specs.Prelude.{◌≡◌, IfOk};
 ghost use Rattle.program_rows.specs.Described.{value};
-ghost use Rattle.program_rows.specs.Faults.{number_fault, bit_fault};
-ghost use Rattle.mps_reader.specs.inside.Reading.{AnswersFault};
+ghost use Rattle.program_rows.specs.Faults.{number_fault};
+ghost use Rattle.mps_reader.specs.inside.Reading.{AnswersFault, bit_fault};
 ghost use Rattle.mps_reader.specs.inside.Tracking.{bit};
+ghost use Rattle.program_rows.specs.Numbers.{number};
 
 use crate::refusal::Refusal;
 use program_rows::{FaultKind, NumberFault, read_number};
 
 /// A number.
 pub fn take_number(token: &[u8]) -> Result<i64, Refusal>
-    ensures fault { AnswersFault result (number_fault token.now) }
+    ensures fault { AnswersFault result (number_fault (number token.now)) }
     ensures value { IfOk result (λ n. value token.now ≡ n) }
 {
     match read_number(token) {

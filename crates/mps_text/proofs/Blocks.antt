@@ -1,9 +1,11 @@
 -- Reading line after line, and what the lines of a block leave.
-use Rattle.std.proofs.Common.{◌≡◌, ℕ, ◌+◌, false, List, [], ◌∷◌, ◌++◌, map, refl, None}
+use Rattle.std.proofs.Common.{◌≡◌, ℕ, ◌+◌, false, List, [], ◌∷◌, ◌++◌, map, refl, None, Ok}
 use Rattle.std.specs.Prelude.{codes}
 use Rattle.program_rows.specs.Lines.{LineFields, Line, Header, Data}
-use Rattle.program_rows.specs.Sections.{Sections, with_line, is_end, gathered}
-use Rattle.program_rows.specs.Faults.{fault, first_faulty}
+use Rattle.program_rows.specs.Sections.{Sections, with_line, is_end}
+use Rattle.program_rows.specs.Faults.{fault}
+use Rattle.program_rows.specs.Described.{program}
+use Rattle.program_rows.specs.Meaning.{meaning_behind}
 
 -- the lines ls, read behind others
 abbrev pub onto : List Line → Sections → Sections
@@ -19,13 +21,9 @@ abbrev pub end_line : Line
 end_line = Header (codes "ENDATA") []
 
 -- lines that are read, and then the end
-pub none-faulty : (n : ℕ) (before : Sections) (ls : List Line) → AreRead before ls → fault (onto ls before) end_line ≡ None → first_faulty n before (ls ++ end_line ∷ []) ≡ None
-none-faulty n before [] h e = rw e refl
-none-faulty n before (line ∷ ls) h e = rw (h.0, h.1) (none-faulty (n + 1) (with_line before line) ls h.2 e)
-
-pub all-gathered : (before : Sections) (ls : List Line) → AreRead before ls → gathered before (ls ++ end_line ∷ []) ≡ onto ls before
-all-gathered before [] h = refl
-all-gathered before (line ∷ ls) h = rw h.1 (all-gathered (with_line before line) ls h.2)
+pub read-through : (n : ℕ) (before : Sections) (ls : List Line) → AreRead before ls → fault (onto ls before) end_line ≡ None → meaning_behind n before (ls ++ end_line ∷ []) ≡ Ok (program (onto ls before))
+read-through n before [] h e = rw e refl
+read-through n before (line ∷ ls) h e = rw (h.0, h.1) (read-through (n + 1) (with_line before line) ls h.2 e)
 
 pub AreRead-append : (before : Sections) (xs ys : List Line) → AreRead before xs → AreRead (onto xs before) ys → AreRead before (xs ++ ys)
 AreRead-append before [] ys h k = k

@@ -9,10 +9,10 @@ use Rattle.program_rows.specs.Lines.{Data}
 use Rattle.program_rows.specs.Sections.{Sections, with_line}
 use Rattle.program_rows.specs.Faults.{fault, is_column}
 use Rattle.program_rows.specs.Numbers.{number}
-use Rattle.mps_text.specs.Text.{bound_fields, bound_type, bound_value}
+use Rattle.mps_text.specs.Text.{bound_fields, bound_words}
 use Rattle.mps_text.proofs.Blocks.{AreRead}
 
-bound-read : (before : Sections) (name : List ℕ) (b : Bounds) → before.section ≡ codes "BOUNDS" → is_column before.columns name ≡ true → fault before (Data (bound_type b ∷ codes "BND" ∷ name ∷ bound_value b ∷ [])) ≡ None
+bound-read : (before : Sections) (name : List ℕ) (b : Bounds) → before.section ≡ codes "BOUNDS" → is_column before.columns name ≡ true → fault before (Data ((bound_words b).0 ∷ codes "BND" ∷ name ∷ (bound_words b).1 ∷ [])) ≡ None
 unfolding fault number
 bound-read before name ZeroOrOne s known = rw (s, known) refl
 bound-read before name Zero s known = rw (s, known) refl

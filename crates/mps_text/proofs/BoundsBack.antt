@@ -1,31 +1,32 @@
 -- What the lines of BOUNDS say of the columns.
 use Rattle.std.proofs.Common.{◌≡◌, ℕ, Bool, true, false, cond, ◌&&◌, List, [], ◌∷◌, map, refl, ◌∙◌, Some, None}
-use Rattle.std.specs.Prelude.{bytes_eq, codes, find}
+use Rattle.std.specs.Prelude.{bytes_eq, codes, find, pos, if◌then◌else◌, unwrap_or}
 use Rattle.std.specs.List.{AllByRecursion, IsDistinct}
 use Rattle.program_rows.specs.declared.bounds.Bounds.{Bounds}
 use Rattle.program_rows.specs.declared.bounds.Bounds.TheVariants.{ZeroOrOne, Zero, One}
 use Rattle.program_rows.specs.Program.{TableColumn}
 use Rattle.program_rows.specs.Lines.{LineFields, field}
 use Rattle.program_rows.specs.Sections.{Sections}
-use Rattle.program_rows.specs.Described.{is_one_of, bound_column, table_bounds}
+use Rattle.program_rows.specs.Described.{is_one_of, lower, upper, bound_pair}
 use Rattle.program_rows.specs.Faults.{is_binary, stands_in_integers}
 use Rattle.program_rows.specs.Numbers.{number}
-use Rattle.mps_text.specs.Text.{bound_fields, bound_type, bound_value}
+use Rattle.mps_text.specs.Text.{bound_fields, bound_words}
 use Rattle.mps_text.proofs.RowPhase.{flip}
 use Rattle.mps_text.proofs.ColumnPhase.{same-name}
 use Rattle.mps_text.proofs.Pushed.{push}
+use Rattle.std.specs.Ordering.{int_eq}
 
 -- whether a line sets a bound of one of these types on a column
 abbrev pub sets : List (List ℕ) → List ℕ → LineFields → Bool
-sets types column fields = is_one_of (field 0 fields) types && bytes_eq column (bound_column fields)
+sets types column fields = is_one_of (field 0 fields) types && bytes_eq column (field 0 (bound_pair fields))
 
-named-column : (c : TableColumn) (b : Bounds) → bound_column (bound_type b ∷ codes "BND" ∷ c.name ∷ bound_value b ∷ []) ≡ c.name
+named-column : (c : TableColumn) (b : Bounds) → field 0 (bound_pair ((bound_words b).0 ∷ codes "BND" ∷ c.name ∷ (bound_words b).1 ∷ [])) ≡ c.name
 named-column c ZeroOrOne = refl
 named-column c Zero = refl
 named-column c One = refl
 
 other-bound : (types : List (List ℕ)) (name : List ℕ) (c : TableColumn) (before : List LineFields) → bytes_eq name c.name ≡ false → find (sets types name) (bound_fields c ∷ before) ≡ find (sets types name) before
-other-bound types name c before d = rw (named-column c c.bounds, d) (elim (is_one_of (bound_type c.bounds) types) as (λ b. cond (b && false) (Some (bound_fields c)) (find (sets types name) before) ≡ find (sets types name) before) [ true ↦ refl | false ↦ refl ])
+other-bound types name c before d = rw (named-column c c.bounds, d) (elim (is_one_of ((bound_words c.bounds).0) types) as (λ b. cond (b && false) (Some (bound_fields c)) (find (sets types name) before) ≡ find (sets types name) before) [ true ↦ refl | false ↦ refl ])
 
 other-bounds : (types : List (List ℕ)) (name : List ℕ) (cs : List TableColumn) (before : List LineFields) → AllByRecursion (λ other. bytes_eq name other ≡ false) (map (λ c. c.name) cs) → find (sets types name) (push (map bound_fields cs) before) ≡ find (sets types name) before
 other-bounds types name [] before d = refl
@@ -62,11 +63,11 @@ abbrev pub upper_types : List (List ℕ)
 upper_types = codes "UP" ∷ codes "FX" ∷ codes "BV" ∷ []
 
 abbrev pub line_for : List ℕ → Bounds → LineFields
-line_for name b = bound_type b ∷ codes "BND" ∷ name ∷ bound_value b ∷ []
+line_for name b = (bound_words b).0 ∷ codes "BND" ∷ name ∷ (bound_words b).1 ∷ []
 
 -- the bounds of a column come back
 pub bounds-back : (before : Sections) (name : List ℕ) (b : Bounds) → find (sets lower_types name) before.bounds ≡ find (sets lower_types name) (line_for name b ∷ [])
-    → find (sets upper_types name) before.bounds ≡ find (sets upper_types name) (line_for name b ∷ []) → table_bounds before.bounds name ≡ b
+    → find (sets upper_types name) before.bounds ≡ find (sets upper_types name) (line_for name b ∷ []) → (if int_eq (lower before.bounds name) (pos 1) then One else (if int_eq (unwrap_or (upper before.bounds name) (pos 1)) (pos 0) then Zero else ZeroOrOne)) ≡ b
 unfolding number
 bounds-back before name ZeroOrOne low high = rw (low, high, same-name name) refl
 bounds-back before name Zero low high = rw (low, high, same-name name) refl

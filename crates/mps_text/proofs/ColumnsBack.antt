@@ -1,12 +1,12 @@
 -- What the lines of COLUMNS say of the columns.
-use Rattle.std.proofs.Common.{◌≡◌, ℕ, Bool, true, false, cond, not, ◌&&◌, List, [], ◌∷◌, ◌++◌, map, refl, sym, subst, ◌∙◌, append_assoc, Option, Some, None}
+use Rattle.std.proofs.Common.{◌≡◌, ℕ, Bool, true, false, cond, not, ◌&&◌, List, [], ◌∷◌, ◌++◌, map, refl, sym, ap, subst, ◌∙◌, append_assoc, Option, Some, None}
 use Rattle.std.specs.Prelude.{⊤}
 use Rattle.std.proofs.lemmas.List.{append-nil}
-use Rattle.std.specs.Prelude.{bytes_eq, codes, filter, find, flat_map, option_map}
+use Rattle.std.specs.Prelude.{bytes_eq, codes, filter, find, flat_map, drop}
 use Rattle.std.specs.List.{list_any, AllByRecursion, IsDistinct}
 use Rattle.std.proofs.lemmas.Slice.Eq.{bytes_eq-Decides}
 use Rattle.program_rows.specs.Lines.{LineFields, field}
-use Rattle.program_rows.specs.Described.{is_marker, each_once, Entry, line_entries, names_both}
+use Rattle.program_rows.specs.Described.{is_marker, each_once, pairs}
 use Rattle.program_rows.specs.Faults.{is_integer_open, stands_in_integers}
 use Rattle.mps_text.proofs.RowPhase.{flip}
 use Rattle.mps_text.proofs.ColumnPhase.{Pair, pair_fields, same-name}
@@ -16,14 +16,8 @@ use Rattle.mps_text.proofs.Pushed.{push, push-append}
 abbrev pub Listed : Type 0
 Listed = List ℕ × List Pair
 
-abbrev pub of_column : List ℕ → Pair → Entry
-of_column name pair = record { column = name; row = pair.0; number = pair.1 }
-
 abbrev pub plain_lines : List Listed → List LineFields
 plain_lines cs = flat_map (λ c. map (pair_fields c.0) c.1) cs
-
-abbrev pub entries_of : List Listed → List Entry
-entries_of cs = flat_map (λ c. map (of_column c.0) c.1) cs
 
 abbrev plain_line : LineFields → Bool
 plain_line fields = not (is_marker fields)
@@ -42,18 +36,6 @@ keeps-lines [] before h = refl
 keeps-lines (c ∷ cs) before h =
     let chunk = map (pair_fields c.0) c.1 in
     rw (push-append chunk (plain_lines cs) before, push-append chunk (plain_lines cs) (filter plain_line before), keeps-lines cs (push chunk before) h.1, keeps-pairs c.0 c.1 before h.0) refl
-
--- ---- entries
-
-pairs-entries : (name : List ℕ) (pairs : List Pair) (before : List LineFields) → flat_map line_entries (push (map (pair_fields name) pairs) before) ≡ push (map (of_column name) pairs) (flat_map line_entries before)
-pairs-entries name [] before = refl
-pairs-entries name (pair ∷ pairs) before = pairs-entries name pairs (pair_fields name pair ∷ before)
-
-pub lines-entries : (cs : List Listed) (before : List LineFields) → flat_map line_entries (push (plain_lines cs) before) ≡ push (entries_of cs) (flat_map line_entries before)
-lines-entries [] before = refl
-lines-entries (c ∷ cs) before =
-    let chunk = map (pair_fields c.0) c.1 in
-    rw (push-append chunk (plain_lines cs) before, push-append (map (of_column c.0) c.1) (entries_of cs) (flat_map line_entries before), lines-entries cs (push chunk before), pairs-entries c.0 c.1 before) refl
 
 -- ---- names
 
@@ -101,51 +83,57 @@ names-once (c ∷ cs) before d f h =
 abbrev pub look : List ℕ → List Pair → Option Pair
 look row pairs = find (λ pair. bytes_eq row pair.0) pairs
 
-other-column : (name row other : List ℕ) (pairs : List Pair) (before : List Entry) → bytes_eq name other ≡ false → find (names_both name row) (push (map (of_column other) pairs) before) ≡ find (names_both name row) before
-other-column name row other [] before d = refl
-other-column name row other (pair ∷ pairs) before d = other-column name row other pairs (of_column other pair ∷ before) d ∙ rw d refl
+-- the pairs that lines give a column
+abbrev pub pairs_in : List LineFields → List ℕ → List Pair
+pairs_in before name = flat_map (λ fields. pairs (drop 1 fields)) (filter (λ fields. bytes_eq name (field 0 fields)) before)
 
-other-rows : (name row : List ℕ) (pairs : List Pair) (before : List Entry) → AllByRecursion (λ q. bytes_eq row q ≡ false) (map (λ pair. pair.0) pairs) → find (names_both name row) (push (map (of_column name) pairs) before) ≡ find (names_both name row) before
-other-rows name row [] before d = refl
-other-rows name row (pair ∷ pairs) before d = other-rows name row pairs (of_column name pair ∷ before) d.1 ∙ rw (same-name name, d.0) refl
+other-column : (name other : List ℕ) (ps : List Pair) (before : List LineFields) → bytes_eq name other ≡ false → pairs_in (push (map (pair_fields other) ps) before) name ≡ pairs_in before name
+other-column name other [] before d = refl
+other-column name other (pair ∷ ps) before d = other-column name other ps (pair_fields other pair ∷ before) d ∙ rw d refl
 
-own-column : (name row : List ℕ) (pairs : List Pair) (before : List Entry) → IsDistinct bytes_eq (map (λ pair. pair.0) pairs) → find (names_both name row) before ≡ None
-    → find (names_both name row) (push (map (of_column name) pairs) before) ≡ option_map (of_column name) (look row pairs)
+own-column : (name : List ℕ) (ps : List Pair) (before : List LineFields) → pairs_in (push (map (pair_fields name) ps) before) name ≡ push ps (pairs_in before name)
+own-column name [] before = refl
+own-column name (pair ∷ ps) before = own-column name ps (pair_fields name pair ∷ before) ∙ rw (same-name name) refl
+
+-- no line before is of these columns
+abbrev pub AreUnlisted : List LineFields → List Listed → Type 0
+AreUnlisted before cs = AllByRecursion (λ c. pairs_in before c.0 ≡ []) cs
+
+still_unlisted : (name : List ℕ) (ps : List Pair) (before : List LineFields) (cs : List Listed) → AllByRecursion (λ other. bytes_eq name other ≡ false) (map (λ c. c.0) cs) → AreUnlisted before cs → AreUnlisted (push (map (pair_fields name) ps) before) cs
+still_unlisted name ps before [] d h = tt
+still_unlisted name ps before (c ∷ cs) d h = (other-column c.0 name ps before (flip name c.0 d.0) ∙ h.0, still_unlisted name ps before cs d.1 h.1)
+
+other-columns : (name : List ℕ) (cs : List Listed) (before : List LineFields) → AllByRecursion (λ other. bytes_eq name other ≡ false) (map (λ c. c.0) cs) → pairs_in (push (plain_lines cs) before) name ≡ pairs_in before name
+other-columns name [] before d = refl
+other-columns name (c ∷ cs) before d =
+    rw (push-append (map (pair_fields c.0) c.1) (plain_lines cs) before) (other-columns name cs (push (map (pair_fields c.0) c.1) before) d.1 ∙ other-column name c.0 c.1 before d.0)
+
+-- the pairs of a column come back, the last one first
+pub pairs-found : (cs : List Listed) (before : List LineFields) → IsDistinct bytes_eq (map (λ c. c.0) cs) → AreUnlisted before cs → AllByRecursion (λ c. pairs_in (push (plain_lines cs) before) c.0 ≡ push c.1 []) cs
 unfolding IsDistinct
-own-column name row [] before d h = h
-own-column name row (pair ∷ pairs) before d h = by (bytes_eq row pair.0) refl (own-column name row pairs (of_column name pair ∷ before) d.1)
+pairs-found [] before d h = tt
+pairs-found (c ∷ cs) before d h =
+    let chunk = map (pair_fields c.0) c.1 in
+    subst (λ (w : List LineFields). AllByRecursion (λ q. pairs_in w q.0 ≡ push q.1 []) (c ∷ cs)) (sym (push-append chunk (plain_lines cs) before)) (
+      other-columns c.0 cs (push chunk before) d.0 ∙ own-column c.0 c.1 before ∙ ap (push c.1) h.0,
+      pairs-found cs (push chunk before) d.1 (still_unlisted c.0 c.1 before cs d.0 h.1),
+    )
+
+other-rows : (row : List ℕ) (ps before : List Pair) → AllByRecursion (λ q. bytes_eq row q ≡ false) (map (λ pair. pair.0) ps) → look row (push ps before) ≡ look row before
+other-rows row [] before d = refl
+other-rows row (pair ∷ ps) before d = other-rows row ps (pair ∷ before) d.1 ∙ rw (d.0) refl
+
+-- where no two rows are the same, a pair is found from either end
+pub looked : (row : List ℕ) (ps before : List Pair) → IsDistinct bytes_eq (map (λ pair. pair.0) ps) → look row before ≡ None → look row (push ps before) ≡ look row ps
+unfolding IsDistinct
+looked row [] before d h = h
+looked row (pair ∷ ps) before d h = by (bytes_eq row pair.0) refl (looked row ps (pair ∷ before) d.1)
   where
-    by : (b : Bool) → bytes_eq row pair.0 ≡ b → (find (names_both name row) (of_column name pair ∷ before) ≡ None → find (names_both name row) (push (map (of_column name) pairs) (of_column name pair ∷ before)) ≡ option_map (of_column name) (look row pairs))
-        → find (names_both name row) (push (map (of_column name) pairs) (of_column name pair ∷ before)) ≡ option_map (of_column name) (cond b (Some pair) (look row pairs))
+    by : (b : Bool) → bytes_eq row pair.0 ≡ b → (look row (pair ∷ before) ≡ None → look row (push ps (pair ∷ before)) ≡ look row ps) → look row (push ps (pair ∷ before)) ≡ cond b (Some pair) (look row ps)
     by true e more =
         let same : row ≡ pair.0 = (bytes_eq-Decides row pair.0).0 e in
-        rw same (other-rows name pair.0 pairs (of_column name pair ∷ before) d.0 ∙ rw (same-name name, same-name pair.0) refl)
-    by false e more = more (rw (same-name name, e) h)
-
--- no pair of these columns stood before
-abbrev pub AreUnlisted : List Entry → List Listed → Type 0
-AreUnlisted before cs = AllByRecursion (λ c. (row : List ℕ) → find (names_both c.0 row) before ≡ None) cs
-
-still_unlisted : (name : List ℕ) (pairs : List Pair) (before : List Entry) (cs : List Listed) → AllByRecursion (λ other. bytes_eq name other ≡ false) (map (λ c. c.0) cs) → AreUnlisted before cs → AreUnlisted (push (map (of_column name) pairs) before) cs
-still_unlisted name pairs before [] d h = tt
-still_unlisted name pairs before (c ∷ cs) d h = (λ row. other-column c.0 row name pairs before (flip name c.0 d.0) ∙ h.0 row, still_unlisted name pairs before cs d.1 h.1)
-
-other-columns : (name row : List ℕ) (cs : List Listed) (before : List Entry) → AllByRecursion (λ other. bytes_eq name other ≡ false) (map (λ c. c.0) cs) → find (names_both name row) (push (entries_of cs) before) ≡ find (names_both name row) before
-other-columns name row [] before d = refl
-other-columns name row (c ∷ cs) before d =
-    rw (push-append (map (of_column c.0) c.1) (entries_of cs) before) (other-columns name row cs (push (map (of_column c.0) c.1) before) d.1 ∙ other-column name row c.0 c.1 before d.0)
-
--- a pair of a column is found where its row stands in the column
-pub pairs-found : (cs : List Listed) (before : List Entry) → IsDistinct bytes_eq (map (λ c. c.0) cs) → AllByRecursion (λ c. IsDistinct bytes_eq (map (λ pair. pair.0) c.1)) cs → AreUnlisted before cs
-    → AllByRecursion (λ c. (row : List ℕ) → find (names_both c.0 row) (push (entries_of cs) before) ≡ option_map (of_column c.0) (look row c.1)) cs
-unfolding IsDistinct
-pairs-found [] before d rows h = tt
-pairs-found (c ∷ cs) before d rows h =
-    let chunk = map (of_column c.0) c.1 in
-    subst (λ (w : List Entry). AllByRecursion (λ q. (row : List ℕ) → find (names_both q.0 row) w ≡ option_map (of_column q.0) (look row q.1)) (c ∷ cs)) (sym (push-append chunk (entries_of cs) before)) (
-      λ row. other-columns c.0 row cs (push chunk before) d.0 ∙ own-column c.0 row c.1 before rows.0 (h.0 row),
-      pairs-found cs (push chunk before) d.1 rows.1 (still_unlisted c.0 c.1 before cs d.0 h.1),
-    )
+        rw same (other-rows pair.0 ps (pair ∷ before) d.0 ∙ rw (same-name pair.0) refl)
+    by false e more = more (rw e h)
 
 -- ---- integers
 

@@ -1,10 +1,10 @@
 -- Steps of known bytes.
 use Rattle.std.proofs.Common.{◌≡◌, ℕ, zero, suc, ◌+◌, ◌-◌, ◌<◌, ◌≤◌, List, [], ◌∷◌, ◌++◌, length, take, drop, refl, sym, ap, ◌∙◌, append_assoc, length-append, arith, Option, Some, None, Result, Ok, Err}
-use Rattle.std.specs.Prelude.{OnErr}
+use Rattle.std.specs.Prelude.{OnErr, ◌^◌}
 use Rattle.std.specs.Io.KnownBytes.{Appends, Keeps, append_known}
 use Rattle.std.proofs.lemmas.List.{append-nil, take-append-drop, take_all, length-drop, length-take, take-take, drop-take, take_at}
 use Rattle.std.specs.Prelude.{flat_map, get_or, min, slice_get}
-use Rattle.mps_text.specs.Sinks.{IsFront, Counts, counted, SentFront}
+use Rattle.mps_text.specs.Sinks.{IsFront, Counts, SentFront}
 
 pub Appends-nothing : (a : Option (List ℕ)) → Appends a a []
 Appends-nothing None = tt
@@ -101,7 +101,7 @@ SentFront-from (Some ts) (Some us) xs sent p q =
     let some = p.1 in
     let sizes : length ts + length xs ≡ length us + length p.0 = sym (length-append ts xs) ∙ whole ∙ length-append us p.0 in
     let front : us ≡ take (length us) (ts ++ xs) = rw p.2 (sym (take_at us p.0 (length us) refl)) in
-    (n, omega arith, front ∙ front-past ts xs (length us) q.0, q.1 (omega arith) ∙ ap counted (omega arith))
+    (n, omega arith, front ∙ front-past ts xs (length us) q.0, q.1 (omega arith) ∙ ap (λ (n : ℕ). min n (2 ^ 64 - 1)) (omega arith))
 
 -- nothing behind what was taken
 pub IsFront-empty : (u t : Option (List ℕ)) (xs : List ℕ) → IsFront u (append_known (append_known t []) xs) → IsFront u (append_known t xs)

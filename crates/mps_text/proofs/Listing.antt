@@ -8,11 +8,12 @@ use Rattle.std.proofs.lemmas.Bool.{or_right}
 use Rattle.program_rows.specs.Program.{Table, TableRow, TableColumn}
 use Rattle.program_rows.specs.Parts.{AreEntries}
 use Rattle.program_rows.specs.Lines.{Data, LineFields, field}
-use Rattle.mps_text.specs.Text.{row_name, row_fields, column_fields, entry_fields}
+use Rattle.mps_text.specs.Text.{row_fields, column_fields}
 use Rattle.mps_text.proofs.ColumnPhase.{Pair, pair_fields, same-name, columns_lines}
 use Rattle.mps_text.proofs.Pushed.{push, push-append}
 use Rattle.mps_text.proofs.ColumnsBack.{Listed, plain_lines, ArePlain, IsFilled}
 use Rattle.mps_text.proofs.EntriesBack.{PlacesDiffer, pair_of}
+use Rattle.program_rows.specs.ProgramNames.{row_name}
 
 abbrev pub row_names : List TableRow → List (List ℕ)
 row_names rows = map (λ r. r.name) rows
@@ -50,7 +51,7 @@ names-at all k (r ∷ rows) h =
 
 -- ---- the lines of the columns
 
-entry-lines : (rows : List TableRow) (name : List ℕ) (es : List (ℕ × ℤ)) → map (entry_fields rows name) es ≡ map (pair_fields name) (map (pair_of (row_name rows)) es)
+entry-lines : (rows : List TableRow) (name : List ℕ) (es : List (ℕ × ℤ)) → map (λ (e : ℕ × ℤ). name ∷ row_name rows e.0 ∷ signed_decimal e.1 ∷ []) es ≡ map (pair_fields name) (map (pair_of (row_name rows)) es)
 entry-lines rows name [] = refl
 entry-lines rows name (e ∷ es) = rw (entry-lines rows name es) refl
 

@@ -11,7 +11,7 @@ use Rattle.std.proofs.lemmas.Bool.Decides.{nat_tests}
 use Rattle.std.proofs.lemmas.Grind.{common_steps}
 use Rattle.std.proofs.lemmas.Str.Parse.{digit_from_value}
 use Rattle.std.proofs.lemmas.Fmt.{decimal_is_IsNumeral, length-decimal-le}
-use Rattle.program_rows.specs.Numbers.{number, is_point, is_exponent_mark, is_minus, without_sign, signed}
+use Rattle.program_rows.specs.Numbers.{number, is_exponent_mark, is_minus, without_sign, signed}
 pub use Rattle.program_rows.specs.Legal.{IsSmall}
 use Rattle.mps_text.proofs.Lines.{Printable, IsField}
 
@@ -28,7 +28,7 @@ digits_from (d ∷ ds) h = let in_range = digit_from_value d h.0 in ((omega arit
 no_mark : (b : ℕ) → Digit b → is_exponent_mark b ≡ false
 no_mark b h = grind (arith, common_steps, nat_tests)
 
-no_point : (b : ℕ) → Digit b → is_point b ≡ false
+no_point : (b : ℕ) → Digit b → (b == 46) ≡ false
 no_point b h = grind (arith, common_steps, nat_tests)
 
 is_digit : (b : ℕ) → Digit b → is_ascii_digit b ≡ true
@@ -63,7 +63,7 @@ number-digits token ds e marks h some short small =
     let n = digits_value 10 ds in
     let one : n * 1 / 1 ≡ n = omega arith in
     let at_most : nat_lt (10 ^ 18) n ≡ false = le-ltb _ _ small in
-    rw (e, marks) (rw (none-before is_exponent_mark no_mark ds h, none-after is_exponent_mark no_mark ds h) (rw (none-before is_point no_point ds h, none-after is_point no_point ds h) (rw (append-nil ds) (rw (lt-ltb 0 (length ds) some, all_digits ds h, le-ltb 30 (length ds) short) (rw (whole_scale n, one, at_most) refl)))))
+    rw (e, marks) (rw (none-before is_exponent_mark no_mark ds h, none-after is_exponent_mark no_mark ds h) (rw (none-before (λ (c : ℕ). c == 46) no_point ds h, none-after (λ (c : ℕ). c == 46) no_point ds h) (rw (append-nil ds) (rw (lt-ltb 0 (length ds) some, all_digits ds h, le-ltb 30 (length ds) short) (rw (whole_scale n, one, at_most) refl)))))
 
 first_digit : (ds : List ℕ) → Digits ds → 0 < length ds → Digit (slice_index ds 0)
 first_digit [] h some = absurd (omega arith)

@@ -1,22 +1,22 @@
 -- The meaning of the text of a program is the program.
-use Rattle.std.proofs.Common.{◌≡◌, ℕ, true, false, List, [], ◌∷◌, ◌++◌, length, map, refl, sym, ap, subst, ◌∙◌, Option, Some, None, Ok, Err, Result}
-use Rattle.std.specs.Prelude.{bytes_eq, codes, flat_map, ℤ}
+use Rattle.std.proofs.Common.{◌≡◌, ℕ, true, false, List, [], ◌∷◌, ◌++◌, length, map, refl, sym, ap, subst, ◌∙◌, Option, Some, None, Ok, Result}
+use Rattle.std.specs.Prelude.{bytes_eq, codes, flat_map, ℤ, position, option_map, not}
 use Rattle.std.specs.List.{list_any, AllByRecursion, IsDistinct}
 use Rattle.program_rows.specs.Program.{Table, TableRow, TableColumn}
 use Rattle.program_rows.specs.Parts.{IsProgram, AreEntries}
 use Rattle.program_rows.specs.Lines.{Line, Header, Data, LineFields, field}
-use Rattle.program_rows.specs.Sections.{Sections, no_lines, gathered}
-use Rattle.program_rows.specs.Described.{program, column_lines, first_free, all_entries}
-use Rattle.program_rows.specs.Faults.{fault, first_faulty, is_declared, is_column, is_integer_open, not_binary, stands_in_integers}
-use Rattle.program_rows.specs.Meaning.{meaning}
+use Rattle.program_rows.specs.Sections.{Sections, no_lines}
+use Rattle.program_rows.specs.Described.{program, column_lines, first_free, columns_named}
+use Rattle.program_rows.specs.Faults.{fault, is_declared, is_column, is_integer_open, stands_in_integers, is_binary}
+use Rattle.program_rows.specs.Meaning.{meaning, meaning_behind}
 use Rattle.program_rows.specs.declared.fault.FaultKind.{FaultKind}
-use Rattle.mps_text.specs.Text.{text, text_lines, row_block, column_block, block, if_any, row_fields, right_side_fields, bound_fields, column_fields, marker_fields, row_name}
+use Rattle.mps_text.specs.Text.{text, block, if_any, row_fields, right_side_fields, bound_fields, column_fields}
 use Rattle.program_rows.specs.Legal.{IsWritable, IsSmall}
 use Rattle.mps_text.specs.RoundTrip.{TextIsRead}
 use Rattle.mps_text.proofs.Small.{small_costs, small_entries}
 use Rattle.mps_text.proofs.Lines.{read_again}
 use Rattle.mps_text.proofs.Numbers.{number-signed_decimal}
-use Rattle.mps_text.proofs.Blocks.{onto, AreRead, end_line, none-faulty, all-gathered, AreRead-append, onto-append}
+use Rattle.mps_text.proofs.Blocks.{onto, AreRead, end_line, read-through, AreRead-append, onto-append}
 use Rattle.mps_text.proofs.RowPhase.{rows-read, flip}
 use Rattle.mps_text.proofs.RightSidePhase.{right_sides-read, Ready}
 use Rattle.mps_text.proofs.BoundPhase.{bounds-read}
@@ -27,13 +27,15 @@ use Rattle.mps_text.proofs.Pushed.{push, push-append, held, holds-rows, holds-co
 use Rattle.mps_text.proofs.ColumnsBack.{plain_lines, keeps-lines, open-lines, all-stand, ArePlain}
 use Rattle.mps_text.proofs.EntriesBack.{pair_of}
 use Rattle.mps_text.proofs.Listing.{row_names, all_listed, at-name, column-lines, data-lines, names-listed, all-filled, all-plain, IsPlainName, pairs-differ, any-keeps, rows-declared, columns-named}
-use Rattle.mps_text.proofs.WrittenLines.{all-written}
+use Rattle.mps_text.proofs.WrittenLines.{all-written, text_lines}
 use Rattle.mps_text.proofs.ProgramBack.{Lists, objective-back, program-back, all-binary}
+use Rattle.program_rows.specs.ProgramNames.{row_name}
+use Rattle.program_rows.specs.declared.fault.FaultKind.TheVariants.{NotBinary}
 
 -- ---- names of rows
 
 abbrev rows_of : Table → List LineFields
-rows_of p = push (row_block p) []
+rows_of p = push ((codes "N" ∷ p.objective ∷ []) ∷ map row_fields p.rows) []
 
 -- the objective and each row is declared once the lines of ROWS stand
 objective-declared : (p : Table) → list_any (λ row. bytes_eq p.objective (field 1 row)) (rows_of p) ≡ true
@@ -53,7 +55,7 @@ new-rows p before (name ∷ names) e d = (rw (e, flip p.objective name d.0) refl
 
 -- ---- the lines of COLUMNS
 
-ready-entries : (p : Table) (before : Sections) (name : List ℕ) (es : List (ℕ × ℤ)) → before.rows ≡ rows_of p → all_entries before.columns ≡ [] → AllByRecursion IsPlainName (row_names p.rows) → AreEntries (length p.rows) es → AllByRecursion (λ e. IsSmall e.1) es
+ready-entries : (p : Table) (before : Sections) (name : List ℕ) (es : List (ℕ × ℤ)) → before.rows ≡ rows_of p → column_lines before.columns ≡ [] → AllByRecursion IsPlainName (row_names p.rows) → AreEntries (length p.rows) es → AllByRecursion (λ e. IsSmall e.1) es
     → AllByRecursion (IsReady before name) (map (pair_of (row_name p.rows)) es)
 ready-entries p before name [] rs none plain legal small = tt
 ready-entries p before name (e ∷ es) rs none plain legal small = (
@@ -79,7 +81,7 @@ new-columns p before (c ∷ cs) rs none plain differ legal cost small = (
         new = rw none refl;
         read = rw (number-signed_decimal c.cost cost.0) refl;
       },
-      ready-entries p before c.name c.entries rs (rw none refl) plain.1 legal.0 small.0,
+      ready-entries p before c.name c.entries rs none plain.1 legal.0 small.0,
     );
     differ = pairs-differ p c differ legal.0;
   },
@@ -121,11 +123,11 @@ bounds-header : (before : Sections) (name : List ℕ) → before.section ≡ cod
 unfolding fault
 bounds-header before name s o = rw (s, o) refl
 
-end-behind_sides : (before : Sections) (name : List ℕ) → before.section ≡ codes "RHS" → first_free before.rows ≡ Some name → not_binary before ≡ None → fault before (Header (codes "ENDATA") []) ≡ None
+end-behind_sides : (before : Sections) (name : List ℕ) → before.section ≡ codes "RHS" → first_free before.rows ≡ Some name → option_map NotBinary (position (λ column. not (is_binary before column)) (columns_named before.columns)) ≡ None → fault before (Header (codes "ENDATA") []) ≡ None
 unfolding fault
 end-behind_sides before name s o b = rw (s, o, b) refl
 
-end-behind_bounds : (before : Sections) (name : List ℕ) → before.section ≡ codes "BOUNDS" → first_free before.rows ≡ Some name → not_binary before ≡ None → fault before (Header (codes "ENDATA") []) ≡ None
+end-behind_bounds : (before : Sections) (name : List ℕ) → before.section ≡ codes "BOUNDS" → first_free before.rows ≡ Some name → option_map NotBinary (position (λ column. not (is_binary before column)) (columns_named before.columns)) ≡ None → fault before (Header (codes "ENDATA") []) ≡ None
 unfolding fault
 end-behind_bounds before name s o b = rw (s, o, b) refl
 
@@ -135,10 +137,10 @@ abbrev name_line : Line
 name_line = Header (codes "NAME") (codes "wdp" ∷ [])
 
 abbrev rows_part : Table → List Line
-rows_part p = block (codes "ROWS") (row_block p)
+rows_part p = block (codes "ROWS") ((codes "N" ∷ p.objective ∷ []) ∷ map row_fields p.rows)
 
 abbrev columns_part : Table → List Line
-columns_part p = block (codes "COLUMNS") (column_block p)
+columns_part p = block (codes "COLUMNS") (if_any p.columns ((codes "M1" ∷ codes "'MARKER'" ∷ codes "'INTORG'" ∷ []) ∷ flat_map (column_fields p) p.columns ++ (codes "M2" ∷ codes "'MARKER'" ∷ codes "'INTEND'" ∷ []) ∷ []))
 
 abbrev sides_part : Table → List Line
 sides_part p = block (codes "RHS") (map right_side_fields p.rows)
@@ -165,7 +167,7 @@ behind-rows p legal =
     let before = held (codes "ROWS") (named ∷ []) [] [] [] in
     record {
       read = (refl, refl, (refl, refl, (refl, refl, rows-read before p.rows refl (new-rows p before (row_names p.rows) refl legal.rows_differ.0) legal.rows_differ.1)));
-      holds = holds-rows (row_block p) [] [] [] [];
+      holds = holds-rows ((codes "N" ∷ p.objective ∷ []) ∷ map row_fields p.rows) [] [] [] [];
     }
 
 -- COLUMNS without columns
@@ -176,10 +178,10 @@ behind-no_columns p ls h =
     (columns-header start p.objective refl (objective-back start p refl), refl, tt) refl
 
 abbrev first_marker : LineFields
-first_marker = marker_fields (codes "M1") (codes "'INTORG'")
+first_marker = codes "M1" ∷ codes "'MARKER'" ∷ codes "'INTORG'" ∷ []
 
 abbrev last_marker : LineFields
-last_marker = marker_fields (codes "M2") (codes "'INTEND'")
+last_marker = codes "M2" ∷ codes "'MARKER'" ∷ codes "'INTEND'" ∷ []
 
 abbrev marked : Table → List LineFields
 marked p = first_marker ∷ plain_lines (all_listed p p.columns) ++ last_marker ∷ []
@@ -285,19 +287,18 @@ lists-columns p legal told = record {
 }
 
 abbrev meaning_of_lines : List Line → Result Table (ℕ × FaultKind)
-meaning_of_lines ls = option_map_or Err (first_faulty 0 no_lines ls) (Ok (program (gathered no_lines ls)))
+meaning_of_lines ls = meaning_behind 0 no_lines ls
 
 -- the meaning of lines that are read, and then the end
 meaning-end : (p : Table) (ls : List Line) (word : List ℕ) (rs cs ss bs : List LineFields) → IsBehind ls word rs cs ss bs → fault (held word rs cs ss bs) end_line ≡ None → program (held word rs cs ss bs) ≡ p → meaning_of_lines (ls ++ end_line ∷ []) ≡ Ok p
 meaning-end p ls word rs cs ss bs h f e =
-    ap (λ o. option_map_or Err o (Ok (program (gathered no_lines (ls ++ end_line ∷ []))))) (none-faulty 0 no_lines ls h.read (ap (λ s. fault s end_line) h.holds ∙ f))
-    ∙ ap (λ s. Ok (program s)) (all-gathered no_lines ls h.read ∙ h.holds) ∙ ap (λ q. Ok q) e
+    read-through 0 no_lines ls h.read (ap (λ s. fault s end_line) h.holds ∙ f) ∙ ap (λ s. Ok (program s)) h.holds ∙ ap (λ q. Ok q) e
 
 behind-columns_part : (p : Table) (c : TableColumn) (cs : List TableColumn) (ls : List Line) → IsProgram p → IsWritable p → p.columns ≡ c ∷ cs → IsBehind ls (codes "ROWS") (rows_of p) [] [] [] → IsBehind (ls ++ columns_part p) (codes "COLUMNS") (rows_of p) (all_columns p) [] []
 behind-columns_part p c cs ls legal told e h =
     subst (λ (w : List LineFields). IsBehind (ls ++ Header (codes "COLUMNS") [] ∷ map Data w) (codes "COLUMNS") (rows_of p) (all_columns p) [] []) same (behind-columns p ls legal told h)
   where
-    same : marked p ≡ column_block p
+    same : marked p ≡ if_any p.columns ((codes "M1" ∷ codes "'MARKER'" ∷ codes "'INTORG'" ∷ []) ∷ flat_map (column_fields p) p.columns ++ (codes "M2" ∷ codes "'MARKER'" ∷ codes "'INTEND'" ∷ []) ∷ [])
     same = ap (λ (w : List LineFields). first_marker ∷ w ++ last_marker ∷ []) (sym (column-lines p p.columns)) ∙ if-some p.columns e
       where
         if-some : (ds : List TableColumn) → ds ≡ c ∷ cs → first_marker ∷ flat_map (column_fields p) p.columns ++ last_marker ∷ [] ≡ if_any ds (first_marker ∷ flat_map (column_fields p) p.columns ++ last_marker ∷ [])

@@ -11,7 +11,7 @@ use Rattle.program_rows.specs.declared.row.RowKind.TheVariants.{AtMost, AtLeast,
 use Rattle.program_rows.specs.Program.{TableRow}
 use Rattle.program_rows.specs.Lines.{LineFields, field}
 use Rattle.program_rows.specs.Sections.{Sections}
-use Rattle.program_rows.specs.Described.{row_kind_of, is_free, table_rows, right_side, all_right_sides, line_right_sides}
+use Rattle.program_rows.specs.Described.{row_kind_of, is_free, table_rows, line_right_sides, number_beside}
 use Rattle.mps_text.specs.Text.{row_fields, right_side_fields, kind_letter}
 use Rattle.mps_text.proofs.Numbers.{IsSmall, number-signed_decimal}
 use Rattle.mps_text.proofs.RowPhase.{bound_rows}
@@ -65,13 +65,13 @@ rows_by number (r ∷ ps) h = rw (kind-back r.kind, h.0, rows_by number ps h.1) 
 
 -- the right sides, once the lines of RHS are read
 right_sides_back : (before : Sections) (ps qs : List TableRow) → before.right_sides ≡ reverse (map right_side_fields qs) → AllByRecursion (λ r. find (named r.name) (reverse (map shown qs)) ≡ Some (shown r)) ps
-    → AllByRecursion (λ r. IsSmall r.right_side) ps → AllByRecursion (λ r. right_side (all_right_sides before.right_sides) r.name ≡ r.right_side) ps
+    → AllByRecursion (λ r. IsSmall r.right_side) ps → AllByRecursion (λ r. number_beside (flat_map line_right_sides before.right_sides) r.name ≡ r.right_side) ps
 right_sides_back before [] qs e h small = tt
 right_sides_back before (r ∷ ps) qs e h small =
     (rw (e, pairs-reverse qs, h.0, number-signed_decimal r.right_side small.0) refl, right_sides_back before ps qs e h.1 small.1)
 
 -- the rows, once the lines of ROWS and RHS are read
 pub rows_back : (before : Sections) (free : LineFields) (ps : List TableRow) → is_free free ≡ true → before.rows ≡ reverse (free ∷ map row_fields ps) → before.right_sides ≡ reverse (map right_side_fields ps)
-    → IsDistinct bytes_eq (map (λ r. r.name) ps) → AllByRecursion (λ r. IsSmall r.right_side) ps → table_rows before.rows (all_right_sides before.right_sides) ≡ ps
+    → IsDistinct bytes_eq (map (λ r. r.name) ps) → AllByRecursion (λ r. IsSmall r.right_side) ps → table_rows before.rows (flat_map line_right_sides before.right_sides) ≡ ps
 rows_back before free ps f declared sides differ small =
-    rw (declared, reverse-reverse (free ∷ map row_fields ps), f, bound_rows ps) (rows_by (right_side (all_right_sides before.right_sides)) ps (right_sides_back before ps ps sides (found ps differ) small))
+    rw (declared, reverse-reverse (free ∷ map row_fields ps), f, bound_rows ps) (rows_by (number_beside (flat_map line_right_sides before.right_sides)) ps (right_sides_back before ps ps sides (found ps differ) small))

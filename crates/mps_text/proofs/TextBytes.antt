@@ -1,6 +1,6 @@
 -- The bytes of the sections, one behind the other, are the text.
 use Rattle.std.proofs.Common.{◌≡◌, ℕ, List, [], ◌∷◌, ◌++◌, map, refl, sym, ap, ◌∙◌, append_assoc}
-use Rattle.std.specs.Prelude.{codes, flat_map}
+use Rattle.std.specs.Prelude.{codes, flat_map, ℤ}
 use Rattle.std.proofs.lemmas.List.{map-append}
 use Rattle.std.proofs.lemmas.Grind.{flat_map-append}
 use Rattle.program_rows.specs.declared.row.Row.{Row}
@@ -8,9 +8,11 @@ use Rattle.program_rows.specs.declared.parts.ProgramParts.{ProgramParts}
 use Rattle.program_rows.specs.Program.{Table, TableRow, TableColumn}
 use Rattle.program_rows.specs.Parts.{shown_row, table_of}
 use Rattle.program_rows.specs.Lines.{Line, Header, Data, LineFields}
-use Rattle.mps_text.specs.Text.{written, text, block, if_any, row_block, column_block, row_fields, right_side_fields, bound_fields, entry_fields, column_fields, marker_fields}
+use Rattle.mps_text.specs.Text.{written, text, block, if_any, row_fields, right_side_fields, bound_fields, column_fields}
 use Rattle.mps_text.specs.Bytes.{bound_bytes, column_bytes, cost_bytes}
 use Rattle.mps_text.specs.inside.Bytes.{columns_bytes, bounds_bytes, right_sides_bytes, rows_bytes, parts_bytes}
+use Rattle.std.specs.Fmt.{signed_decimal}
+use Rattle.program_rows.specs.ProgramNames.{row_name}
 
 abbrev flat : List LineFields → List ℕ
 flat ls = flat_map written (map Data ls)
@@ -31,7 +33,7 @@ flat-bounds [] = refl
 flat-bounds (c ∷ cs) = ap (λ (w : List ℕ). bound_bytes c ++ w) (flat-bounds cs)
 
 flat-column : (p : Table) (c : TableColumn) → flat (column_fields p c) ≡ column_bytes p.objective p.rows c
-flat-column p c = ap (λ (w : List ℕ). cost_bytes p.objective c ++ w) (flat-each (entry_fields p.rows c.name) c.entries)
+flat-column p c = ap (λ (w : List ℕ). cost_bytes p.objective c ++ w) (flat-each (λ (e : ℕ × ℤ). c.name ∷ row_name p.rows e.0 ∷ signed_decimal e.1 ∷ []) c.entries)
 
 flat-columns : (p : Table) (cs : List TableColumn) → flat (flat_map (column_fields p) cs) ≡ flat_map (column_bytes p.objective p.rows) cs
 flat-columns p [] = refl
@@ -40,12 +42,12 @@ flat-columns p (c ∷ cs) =
     ∙ ap (λ (w : List ℕ). w ++ flat (flat_map (column_fields p) cs)) (flat-column p c)
     ∙ ap (λ (w : List ℕ). column_bytes p.objective p.rows c ++ w) (flat-columns p cs)
 
-columns-part : (q : ProgramParts) (cs : List TableColumn) → q.columns ≡ cs → flat (column_block (table_of q)) ≡ columns_bytes q
+columns-part : (q : ProgramParts) (cs : List TableColumn) → q.columns ≡ cs → flat (if_any (table_of q).columns ((codes "M1" ∷ codes "'MARKER'" ∷ codes "'INTORG'" ∷ []) ∷ flat_map (column_fields (table_of q)) (table_of q).columns ++ (codes "M2" ∷ codes "'MARKER'" ∷ codes "'INTEND'" ∷ []) ∷ [])) ≡ columns_bytes q
 columns-part q [] e = rw e refl
 columns-part q (c ∷ cs) e =
     let p = table_of q in
     let L = flat_map (column_fields p) (c ∷ cs) in
-    let last = marker_fields (codes "M2") (codes "'INTEND'") in
+    let last = codes "M2" ∷ codes "'MARKER'" ∷ codes "'INTEND'" ∷ [] in
     let inner : flat (L ++ last ∷ []) ≡ flat_map (column_bytes p.objective p.rows) (c ∷ cs) ++ codes " M2 'MARKER' 'INTEND'\n" =
     flat-append L (last ∷ []) ∙ ap (λ (w : List ℕ). w ++ codes " M2 'MARKER' 'INTEND'\n") (flat-columns p (c ∷ cs)) in
     rw e (ap (λ (w : List ℕ). codes " M1 'MARKER' 'INTORG'\n" ++ w) inner)
@@ -71,10 +73,10 @@ text-parts q = sym (
     p = table_of q
 
     first : List Line
-    first = block (codes "ROWS") (row_block p)
+    first = block (codes "ROWS") ((codes "N" ∷ p.objective ∷ []) ∷ map row_fields p.rows)
 
     second : List Line
-    second = block (codes "COLUMNS") (column_block p)
+    second = block (codes "COLUMNS") (if_any p.columns ((codes "M1" ∷ codes "'MARKER'" ∷ codes "'INTORG'" ∷ []) ∷ flat_map (column_fields p) p.columns ++ (codes "M2" ∷ codes "'MARKER'" ∷ codes "'INTEND'" ∷ []) ∷ []))
 
     third : List Line
     third = block (codes "RHS") (map right_side_fields p.rows)

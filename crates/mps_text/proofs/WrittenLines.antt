@@ -10,12 +10,14 @@ use Rattle.program_rows.specs.declared.bounds.Bounds.TheVariants.{ZeroOrOne, Zer
 use Rattle.program_rows.specs.Program.{Table, TableRow, TableColumn}
 use Rattle.program_rows.specs.Parts.{IsProgram, AreEntries, IsName}
 use Rattle.program_rows.specs.Lines.{Line, Header, Data, LineFields}
-use Rattle.mps_text.specs.Text.{text_lines, row_block, column_block, block, if_any, row_fields, right_side_fields, bound_fields, kind_letter, bound_type, bound_value, column_fields, entry_fields, marker_fields}
+use Rattle.mps_text.specs.Text.{block, if_any, row_fields, right_side_fields, bound_fields, kind_letter, column_fields, bound_words}
 use Rattle.program_rows.specs.Legal.{IsWritable, IsSmall}
 use Rattle.mps_text.proofs.Small.{small_costs, small_entries}
 use Rattle.mps_text.proofs.Lines.{IsField, Printable, IsWritten}
 use Rattle.mps_text.proofs.Numbers.{IsField-signed_decimal}
 use Rattle.mps_text.proofs.Listing.{row_names, at-name}
+use Rattle.std.specs.Fmt.{signed_decimal}
+use Rattle.program_rows.specs.ProgramNames.{row_name}
 
 printables : (bytes : List ℕ) → list_all (λ b. nat_le 33 b && nat_le b 126) bytes ≡ true → AllByRecursion Printable bytes
 printables [] h = tt
@@ -48,12 +50,12 @@ letter AtMost = known (codes "L") refl refl
 letter AtLeast = known (codes "G") refl refl
 letter Equal = known (codes "E") refl refl
 
-type-field : (b : Bounds) → IsField (bound_type b)
+type-field : (b : Bounds) → IsField ((bound_words b).0)
 type-field ZeroOrOne = known (codes "UP") refl refl
 type-field Zero = known (codes "FX") refl refl
 type-field One = known (codes "FX") refl refl
 
-value-field : (b : Bounds) → IsField (bound_value b)
+value-field : (b : Bounds) → IsField ((bound_words b).1)
 value-field ZeroOrOne = known (codes "1") refl refl
 value-field Zero = known (codes "0") refl refl
 value-field One = known (codes "1") refl refl
@@ -70,7 +72,7 @@ bound-lines : (cs : List TableColumn) → AllByRecursion IsName (map (λ c. c.na
 bound-lines [] h = tt
 bound-lines (c ∷ cs) h = ((type-field c.bounds, (known (codes "BND") refl refl, (h.0, (value-field c.bounds, tt)))), bound-lines cs h.1)
 
-entry-lines : (rows : List TableRow) (name : List ℕ) (es : List (ℕ × ℤ)) → IsName name → AllByRecursion IsName (row_names rows) → AreEntries (length rows) es → AllByRecursion (λ e. IsSmall e.1) es → AllByRecursion IsDataLine (map (entry_fields rows name) es)
+entry-lines : (rows : List TableRow) (name : List ℕ) (es : List (ℕ × ℤ)) → IsName name → AllByRecursion IsName (row_names rows) → AreEntries (length rows) es → AllByRecursion (λ e. IsSmall e.1) es → AllByRecursion IsDataLine (map (λ (e : ℕ × ℤ). name ∷ row_name rows e.0 ∷ signed_decimal e.1 ∷ []) es)
 entry-lines rows name [] n h legal s = tt
 entry-lines rows name (e ∷ es) n h legal s = ((n, (at-name IsName rows e.0 h legal.0, (IsField-signed_decimal e.1 s.0, tt))), entry-lines rows name es n h legal.3 s.1)
 
@@ -88,14 +90,14 @@ header word star f = (star, (f, tt))
 headed : (word : List ℕ) (ls : List LineFields) → slice_index word 0 ≢ 42 → IsField word → AllByRecursion IsDataLine ls → AllByRecursion IsWritten (block word ls)
 headed word ls star f h = (header word star f, all-data ls h)
 
-marker-line : (name word : List ℕ) → IsField name → IsField word → IsDataLine (marker_fields name word)
+marker-line : (name word : List ℕ) → IsField name → IsField word → IsDataLine (name ∷ codes "'MARKER'" ∷ word ∷ [])
 marker-line name word n w = (n, (known (codes "'MARKER'") refl refl, (w, tt)))
 
-column-part : (p : Table) (cs : List TableColumn) → AllByRecursion IsDataLine (flat_map (column_fields p) cs) → AllByRecursion IsDataLine (if_any cs (marker_fields (codes "M1") (codes "'INTORG'") ∷ flat_map (column_fields p) cs ++ marker_fields (codes "M2") (codes "'INTEND'") ∷ []))
+column-part : (p : Table) (cs : List TableColumn) → AllByRecursion IsDataLine (flat_map (column_fields p) cs) → AllByRecursion IsDataLine (if_any cs ((codes "M1" ∷ codes "'MARKER'" ∷ codes "'INTORG'" ∷ []) ∷ flat_map (column_fields p) cs ++ (codes "M2" ∷ codes "'MARKER'" ∷ codes "'INTEND'" ∷ []) ∷ []))
 column-part p [] h = tt
 column-part p (c ∷ cs) h = (
   marker-line (codes "M1") (codes "'INTORG'") (known (codes "M1") refl refl) (known (codes "'INTORG'") refl refl),
-  then-data (flat_map (column_fields p) (c ∷ cs)) (marker_fields (codes "M2") (codes "'INTEND'") ∷ []) h
+  then-data (flat_map (column_fields p) (c ∷ cs)) ((codes "M2" ∷ codes "'MARKER'" ∷ codes "'INTEND'" ∷ []) ∷ []) h
       (marker-line (codes "M2") (codes "'INTEND'") (known (codes "M2") refl refl) (known (codes "'INTEND'") refl refl), tt),
 )
 
@@ -103,22 +105,32 @@ bound-part : (cs : List TableColumn) → AllByRecursion IsDataLine (map bound_fi
 bound-part [] h = tt
 bound-part (c ∷ cs) h = headed (codes "BOUNDS") (map bound_fields (c ∷ cs)) (λ e. absurd (omega (arith, e))) (known (codes "BOUNDS") refl refl) h
 
+-- the lines of a text
+abbrev pub text_lines : Table → List Line
+text_lines p =
+    Header (codes "NAME") (codes "wdp" ∷ []) ∷ block (codes "ROWS") ((codes "N" ∷ p.objective ∷ []) ∷ map row_fields p.rows)
+    ++ block (codes "COLUMNS") (if_any p.columns (
+    (codes "M1" ∷ codes "'MARKER'" ∷ codes "'INTORG'" ∷ []) ∷ flat_map (column_fields p) p.columns ++ (codes "M2" ∷ codes "'MARKER'" ∷ codes "'INTEND'" ∷ []) ∷ []))
+    ++ block (codes "RHS") (map right_side_fields p.rows)
+    ++ if_any p.columns (block (codes "BOUNDS") (map bound_fields p.columns))
+    ++ Header (codes "ENDATA") [] ∷ []
+
 pub all-written : (p : Table) → IsProgram p → IsWritable p → AllByRecursion IsWritten (text_lines p)
 all-written p legal told =
     let rest4 : AllByRecursion IsWritten (Header (codes "ENDATA") [] ∷ []) = (header (codes "ENDATA") (λ e. absurd (omega (arith, e))) (known (codes "ENDATA") refl refl), tt) in
     let bounds = bound-part p.columns (bound-lines p.columns legal.column_names) in
     let sides = headed (codes "RHS") (map right_side_fields p.rows) (λ e. absurd (omega (arith, e))) (known (codes "RHS") refl refl) (side-lines p.rows legal.row_names.1 told.right_sides) in
-    let columns = headed (codes "COLUMNS") (column_block p) (λ e. absurd (omega (arith, e))) (known (codes "COLUMNS") refl refl) (column-part p p.columns (column-lines p p.columns legal.row_names legal.column_names legal.entries (small_costs p.columns told.numbers) (small_entries p.columns told.numbers))) in
-    let rows = headed (codes "ROWS") (row_block p) (λ e. absurd (omega (arith, e))) (known (codes "ROWS") refl refl) ((known (codes "N") refl refl, (legal.row_names.0, tt)), row-lines p.rows legal.row_names.1) in (
+    let columns = headed (codes "COLUMNS") (if_any p.columns ((codes "M1" ∷ codes "'MARKER'" ∷ codes "'INTORG'" ∷ []) ∷ flat_map (column_fields p) p.columns ++ (codes "M2" ∷ codes "'MARKER'" ∷ codes "'INTEND'" ∷ []) ∷ [])) (λ e. absurd (omega (arith, e))) (known (codes "COLUMNS") refl refl) (column-part p p.columns (column-lines p p.columns legal.row_names legal.column_names legal.entries (small_costs p.columns told.numbers) (small_entries p.columns told.numbers))) in
+    let rows = headed (codes "ROWS") ((codes "N" ∷ p.objective ∷ []) ∷ map row_fields p.rows) (λ e. absurd (omega (arith, e))) (known (codes "ROWS") refl refl) ((known (codes "N") refl refl, (legal.row_names.0, tt)), row-lines p.rows legal.row_names.1) in (
       ((λ e. absurd (omega (arith, e))), (known (codes "NAME") refl refl, (known (codes "wdp") refl refl, tt))),
       then (first ++ second ++ third ++ fourth) last (then (first ++ second ++ third) fourth (then (first ++ second) third (then first second rows columns) sides) bounds) rest4,
     )
   where
     first : List Line
-    first = block (codes "ROWS") (row_block p)
+    first = block (codes "ROWS") ((codes "N" ∷ p.objective ∷ []) ∷ map row_fields p.rows)
 
     second : List Line
-    second = block (codes "COLUMNS") (column_block p)
+    second = block (codes "COLUMNS") (if_any p.columns ((codes "M1" ∷ codes "'MARKER'" ∷ codes "'INTORG'" ∷ []) ∷ flat_map (column_fields p) p.columns ++ (codes "M2" ∷ codes "'MARKER'" ∷ codes "'INTEND'" ∷ []) ∷ []))
 
     third : List Line
     third = block (codes "RHS") (map right_side_fields p.rows)

@@ -3,7 +3,8 @@ use Rattle.std.specs.Prelude.{ℕ, List, [], ◌∷◌, ◌++◌, flat_map, ℤ}
 use Rattle.std.specs.Fmt.{signed_decimal}
 use Rattle.program_rows.specs.Program.{TableRow, TableColumn}
 use Rattle.program_rows.specs.Lines.{Data}
-use Rattle.mps_text.specs.Text.{written, row_fields, right_side_fields, bound_fields, entry_fields}
+use Rattle.mps_text.specs.Text.{written, row_fields, right_side_fields, bound_fields}
+use Rattle.program_rows.specs.ProgramNames.{row_name}
 
 abbrev pub row_bytes : TableRow → List ℕ
 row_bytes r = written (Data (row_fields r))
@@ -15,7 +16,7 @@ abbrev pub bound_bytes : TableColumn → List ℕ
 bound_bytes c = written (Data (bound_fields c))
 
 abbrev pub entry_bytes : List TableRow → List ℕ → ℕ × ℤ → List ℕ
-entry_bytes rows name e = written (Data (entry_fields rows name e))
+entry_bytes rows name e = written (Data (name ∷ row_name rows e.0 ∷ signed_decimal e.1 ∷ []))
 
 abbrev pub cost_bytes : List ℕ → TableColumn → List ℕ
 cost_bytes objective c = written (Data (c.name ∷ objective ∷ signed_decimal c.cost ∷ []))

@@ -4,9 +4,10 @@ ghost use Rattle.std.specs.Prelude.{IfSome, ◌≡◌, ◌≤◌, ◌≤ℤ◌, 
 ghost use Rattle.std.specs.Fmt.{signed_decimal};
 ghost use Rattle.program_rows.specs.Lines.{Data};
 ghost use Rattle.program_rows.specs.Parts.{shown_row, shown_column};
-ghost use Rattle.mps_text.specs.Text.{written, row_fields, right_side_fields, bound_fields, entry_fields, kind_letter, bound_type, bound_value, row_name};
+ghost use Rattle.mps_text.specs.Text.{written, row_fields, right_side_fields, bound_fields, kind_letter, bound_words};
 ghost use Rattle.mps_text.specs.Adds.{Adds};
 ghost use Rattle.mps_text.specs.Bytes.{row_bytes, right_side_bytes, bound_bytes, entry_bytes, cost_bytes, column_bytes};
+ghost use Rattle.program_rows.specs.ProgramNames.{row_name};
 
 use crate::data_lines::{add_three, add_two};
 use crate::line::{FRONT_LEN, FRONT_NAME_LEN, LINE_ROOM, LINES_LEN, write_front, write_line};
@@ -27,7 +28,7 @@ fn letter(kind: RowKind) -> &'static [u8]
 
 /// What stands before the name of a column in the line of its bounds.
 fn before_bound(bounds: Bounds) -> &'static [u8]
-    ensures { result.now ≡ 32 ∷ (bound_type bounds ++ codes " BND ") }
+    ensures { result.now ≡ 32 ∷ ((bound_words bounds).0 ++ codes " BND ") }
 {
     match bounds {
         Bounds::ZeroOrOne => b" UP BND ",
@@ -37,7 +38,7 @@ fn before_bound(bounds: Bounds) -> &'static [u8]
 
 /// What stands behind the name of a column in the line of its bounds.
 fn behind_bound(bounds: Bounds) -> &'static [u8]
-    ensures { result.now ≡ 32 ∷ (bound_value bounds ++ 10 ∷ []) }
+    ensures { result.now ≡ 32 ∷ ((bound_words bounds).1 ++ 10 ∷ []) }
 {
     match bounds {
         Bounds::Zero => b" 0\n",

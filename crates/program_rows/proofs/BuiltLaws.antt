@@ -20,7 +20,7 @@ use Rattle.program_rows.specs.declared.subject.Subject.TheVariants.{Bidder, Cate
 use Rattle.program_rows.specs.Parts.{IsProgram}
 use Rattle.program_rows.specs.Legal.{IsLegalProgram}
 use Rattle.program_rows.specs.Program.{Table, TableRow, TableColumn}
-use Rattle.program_rows.specs.Rows.{bidder_subjects, lot_subjects, subjects, weight, row_of, entries_from, column_of, worth_column, program_of}
+use Rattle.program_rows.specs.Rows.{bidder_subjects, subjects, weight, row_of, entries_from, column_of, worth_column, program_of}
 use Rattle.program_rows.specs.inside.Building.{IsThere, built_column}
 use Rattle.program_rows.proofs.LegalLaws.{Rises, all_dedup, bidders_few, bidders_never_fall, dedup_rises}
 
@@ -71,7 +71,7 @@ lots_there lots c (suc n) rest l h = (omega arith, lots_there lots (c + 1) n res
 all_there : (lots : Lots) (offers : List Offer) → All (IsThere lots) (subjects lots offers)
 all_there lots offers =
     All-from_recursion (IsThere lots) (subjects lots offers)
-    (bidders_there lots (dedup nat_eq (bidders offers)) (lot_subjects lots)
+    (bidders_there lots (dedup nat_eq (bidders offers)) (subjects lots [])
     (lots_there lots 0 (length lots.supply) (map Pool (range_with_len 0 (length lots.pools))) (omega arith) (pools_there lots 0 (length lots.pools) (omega arith))))
 
 -- ---------- the entries ----------
@@ -170,7 +170,7 @@ module _ (lots : Lots) (kept : List KeptBid) (ss : List Subject) (all : ss ≡ s
   last_bidder place i l stands =
       let front = some_front kept i l in
       let s : Stands bs place (offer_of front.0 ∷ offers (drop (i + 1) kept)) = subst (λ (ks : List KeptBid). Stands bs place (offers ks)) front.1 stands in
-      let t = last_there bs (lot_subjects lots) place s.0 (next_bidders s.0 (offer_of front.0 ∷ offers (drop (i + 1) kept))) s.1 in
+      let t = last_there bs (subjects lots []) place s.0 (next_bidders s.0 (offer_of front.0 ∷ offers (drop (i + 1) kept))) s.1 in
       (s.0, subst (λ (xs : List Subject). place < length xs) (sym all) t.0, subst (λ (xs : List Subject). slice_get xs place ≡ Some (Bidder s.0)) (sym all) t.1)
 
   pub last_within : (place i : ℕ) → i < length kept → Stands bs place (offers (drop i kept)) → place < length ss
@@ -186,7 +186,7 @@ module _ (lots : Lots) (kept : List KeptBid) (ss : List Subject) (all : ss ≡ s
   place_found place next i k last l is stands at n =
       let front : drop i kept ≡ k ∷ drop (i + 1) kept = drop_more kept i k l ∙ ap (λ (x : KeptBid). x ∷ drop (i + 1) kept) (sym is) in
       let s : Stands bs place (offer_of k ∷ offers (drop (i + 1) kept)) = subst (λ (ks : List KeptBid). Stands bs place (offers ks)) front stands in
-      let t = last_there bs (lot_subjects lots) place s.0 (next_bidders s.0 (offer_of k ∷ offers (drop (i + 1) kept))) s.1 in
+      let t = last_there bs (subjects lots []) place s.0 (next_bidders s.0 (offer_of k ∷ offers (drop (i + 1) kept))) s.1 in
       let same : last ≡ Bidder s.0 = one_subject (slice_get ss place) last (Bidder s.0) at (ap (λ (xs : List Subject). slice_get xs place) all ∙ t.1) in
       found bs place next s.0 (offer_of k) (offers (drop (i + 1) kept)) (k.bidder == s.0) refl s.1 (n ∙ ap (λ (t : Subject). cond (weight lots t (offer_of k) == 0) (place + 1) place) same)
 
@@ -194,7 +194,7 @@ module _ (lots : Lots) (kept : List KeptBid) (ss : List Subject) (all : ss ≡ s
   column_is next first o others h count at =
       let rises = dedup_rises (bidders (offers kept)) (bidders_never_fall lots (offers kept) h) in
       let n : first ≡ length bs = count ∙ length-map bs Bidder in
-      let rest = lot_subjects lots in
+      let rest = subjects lots [] in
       let entries : (next, pos 1) ∷ entries_from lots first rest o ≡ entries_from lots 0 ss o =
       ap (λ (k : ℕ). (next, pos 1) ∷ entries_from lots k rest o) n
       ∙ sym (one_there lots 0 next (length bs) next bs rest o (omega arith) (omega arith) rises (get_dropped bs next o.bidder others at).0)

@@ -26,9 +26,23 @@ use Rattle.program_rows.specs.Spelling.{is_bid, column_bid}
 use Rattle.auction_terms.specs.declared.limits.TheConstants.{MOST_BIDDERS, MOST_BIDS}
 use Rattle.program_rows.specs.declared.subject.Subject.{Subject}
 use Rattle.program_rows.specs.declared.subject.Subject.TheVariants.{Bidder, Category, Pool}
-use Rattle.program_rows.specs.Rows.{weight, most, subjects, row_of, entries_from, column_of, constant_column, worth_column, program_of}
+use Rattle.program_rows.specs.Rows.{weight, subjects, row_of, entries_from, column_of, worth_column, program_of}
 use Rattle.program_rows.specs.Faithful.{back, Matched, PresolvedIsFaithful, LeastIsGreatest}
 use Rattle.program_rows.proofs.SpellingLaws.{reads_back}
+use Rattle.program_rows.specs.declared.bounds.Bounds.TheVariants.{One}
+
+-- ---------- the rows of subjects ----------
+
+-- how much may count in the row
+abbrev most : Lots → Subject → ℕ
+most lots (Bidder b) = 1
+most lots (Category c) = slice_index lots.supply c
+most lots (Pool p) = (pool_at lots p).cap
+
+row_meets : (lots : Lots) (s : Subject) (sum : ℤ) → meets (row_of lots s).kind sum (row_of lots s).right_side ≡ int_le sum (pos (most lots s))
+row_meets lots (Bidder b) sum = refl
+row_meets lots (Category c) sum = refl
+row_meets lots (Pool p) sum = refl
 
 -- ---------- lists ----------
 
@@ -107,7 +121,7 @@ names_none : column_bid (codes "K") ≡ None
 unfolding column_bid
 names_none = refl
 
-column_names_none : (lots : Lots) (b : Bool) (p : List Bool) → back (cond b [] (constant_column lots ∷ [])) p ≡ []
+column_names_none : (lots : Lots) (b : Bool) (p : List Bool) → back (cond b [] (record { name = codes "K"; bounds = One; cost = neg_ℤ (pos (worth_of_all lots)); entries = [] } ∷ [])) p ≡ []
 column_names_none lots true p = refl
 column_names_none lots false [] = refl
 column_names_none lots false (true ∷ p) = ap (λ (x : Option Choice). option_to_list x ++ []) names_none
@@ -130,14 +144,14 @@ sum_is f g lots rows last (o ∷ kept) (true ∷ p) h z =
 sum_is f g lots rows last (o ∷ kept) (false ∷ p) h z = sum_is f g lots rows last kept p h z
 
 -- the column of what all lots are worth stands in no row
-in_no_row : (lots : Lots) (row : ℕ) (b : Bool) (q : List Bool) → sum_at_one (coefficient_at row) (cond b [] (constant_column lots ∷ [])) q ≡ pos 0
+in_no_row : (lots : Lots) (row : ℕ) (b : Bool) (q : List Bool) → sum_at_one (coefficient_at row) (cond b [] (record { name = codes "K"; bounds = One; cost = neg_ℤ (pos (worth_of_all lots)); entries = [] } ∷ [])) q ≡ pos 0
 in_no_row lots row true q = refl
 in_no_row lots row false [] = refl
 in_no_row lots row false (true ∷ q) = refl
 in_no_row lots row false (false ∷ q) = refl
 
 -- and is always 1
-always_one : (lots : Lots) (b : Bool) (q : List Bool) → (worth_of_all lots == 0) ≡ b → AreAllowed (cond b [] (constant_column lots ∷ [])) q → sum_at_one (λ c. c.cost) (cond b [] (constant_column lots ∷ [])) q ≡ neg_ℤ (pos (worth_of_all lots))
+always_one : (lots : Lots) (b : Bool) (q : List Bool) → (worth_of_all lots == 0) ≡ b → AreAllowed (cond b [] (record { name = codes "K"; bounds = One; cost = neg_ℤ (pos (worth_of_all lots)); entries = [] } ∷ [])) q → sum_at_one (λ c. c.cost) (cond b [] (record { name = codes "K"; bounds = One; cost = neg_ℤ (pos (worth_of_all lots)); entries = [] } ∷ [])) q ≡ neg_ℤ (pos (worth_of_all lots))
 always_one lots true q e a = ap (λ (n : ℕ). neg_ℤ (pos n)) (sym (eqb-true (worth_of_all lots) 0 e))
 always_one lots false [] e a = absurd a
 always_one lots false (true ∷ []) e a = let z : ℤ = neg_ℤ (pos (worth_of_all lots)) in let s : z +ℤ pos 0 ≡ z = omega (arith, ints) in s
@@ -237,7 +251,7 @@ module _ (lots : Lots) (offers : List Offer) where
   met : (p : List Bool) → IsPoint built p → (r : ℕ) (s : Subject) → slice_get (subjects lots offers) r ≡ Some s → sum_by (weight lots s) (chosen offers p) ≤ most lots s
   met p is_point r s at =
       let m = row_at (λ q. meets q.1.kind (row_sum built p q.0) q.1.right_side ≡ true) 0 r r built.rows (row_of lots s) is_point.met (get_map (row_of lots) (subjects lots offers) r s at) (sym (zero-add r)) in
-      leb-true (sum_by (weight lots s) (chosen offers p)) (most lots s) (ap (λ (z : ℤ). int_le z (pos (most lots s))) (sym (row_is r s p at)) ∙ m)
+      leb-true (sum_by (weight lots s) (chosen offers p)) (most lots s) (ap (λ (z : ℤ). int_le z (pos (most lots s))) (sym (row_is r s p at)) ∙ sym (row_meets lots s (row_sum built p r)) ∙ m)
 
   one_each : (p : List Bool) → IsPoint built p → (b : ℕ) → sum_by (weight lots (Bidder b)) (chosen offers p) ≤ 1
   one_each p is_point b = ⊎_elim
@@ -297,7 +311,7 @@ module _ (lots : Lots) (offers : List Offer) where
         let here : m ≡ r = omega arith in
         let n : meets AtMost (row_sum built p m) (pos (most lots w.0)) ≡ true =
         ap (λ (i : ℕ). int_le (row_sum built p i) (pos (most lots w.0))) here ∙ ap (λ (z : ℤ). int_le z (pos (most lots w.0))) (row_is r w.0 p w.1) ∙ le-leb (sum_by (weight lots w.0) (chosen offers p)) (most lots w.0) fit in
-        subst (λ (x : TableRow). meets x.kind (row_sum built p m) x.right_side ≡ true) (sym w.2) n);
+        subst (λ (x : TableRow). meets x.kind (row_sum built p m) x.right_side ≡ true) (sym w.2) (row_meets lots w.0 (row_sum built p m) ∙ n));
   }
 
 -- a point of the program of a list of offers is one of another's, where the same offers are at 1
@@ -408,7 +422,7 @@ chosen_marks q g (o ∷ xs) vs = marked q g o xs vs (q o) (chosen_marks q g xs v
 abbrev last_values : Lots → List Bool
 last_values lots = cond (worth_of_all lots == 0) [] (true ∷ [])
 
-last_allowed : (lots : Lots) (b : Bool) → AreAllowed (cond b [] (constant_column lots ∷ [])) (cond b [] (true ∷ []))
+last_allowed : (lots : Lots) (b : Bool) → AreAllowed (cond b [] (record { name = codes "K"; bounds = One; cost = neg_ℤ (pos (worth_of_all lots)); entries = [] } ∷ [])) (cond b [] (true ∷ []))
 last_allowed lots true = tt
 last_allowed lots false = (refl, tt)
 

@@ -1,6 +1,6 @@
 -- The program of some of the offers, and that of all of them, where no other offer is at 1.
 use Rattle.std.proofs.Common.{◌≡◌, ℕ, Bool, true, false, ◌||◌, ◌==◌, cond, List, [], ◌∷◌, ◌++◌, map, sym, refl, ap, ap₂, ◌∙◌}
-use Rattle.std.specs.Prelude.{bytes_eq, filter}
+use Rattle.std.specs.Prelude.{bytes_eq, filter, codes, neg_ℤ, pos}
 use Rattle.std.specs.List.{AllByRecursion, list_any}
 use Rattle.std.proofs.lemmas.Bool.{both_ways, false_from_ne_true}
 use Rattle.std.proofs.lemmas.Slice.Eq.{bytes_eq-Decides}
@@ -11,11 +11,12 @@ use Rattle.auction_terms.proofs.LimitLaws.{all_left}
 use Rattle.program_rows.specs.Faithful.{back}
 use Rattle.program_rows.specs.Points.{AreAllowed, IsPoint}
 use Rattle.program_rows.specs.Program.{TableColumn}
-use Rattle.program_rows.specs.Rows.{column_of, constant_column, program_of, subjects, worth_column}
+use Rattle.program_rows.specs.Rows.{column_of, program_of, subjects, worth_column}
 use Rattle.program_rows.specs.Spelling.{bid_name, is_bid}
 use Rattle.program_rows.specs.declared.subject.Subject.{Subject}
 use Rattle.program_rows.proofs.FaithfulLaws.{IsNumbered, back_is, chosen, point_of_others}
 use Rattle.program_rows.proofs.SpellingLaws.{names_differ}
+use Rattle.program_rows.specs.declared.bounds.Bounds.TheVariants.{One}
 
 true_right : (a b : Bool) → b ≡ true → (a || b) ≡ true
 true_right true b h = refl
@@ -50,7 +51,7 @@ module _ (lots : Lots) (is_named : ℕ → ℕ → Bool) where
   pub names_among : (offers : List Offer) (name : List ℕ) → list_any (bytes_eq name) (names_of (program_of lots (named_of offers)).columns) ≡ true → list_any (bytes_eq name) (names_of (program_of lots offers).columns) ≡ true
   names_among offers name = more_names name (subjects lots offers) (subjects lots (named_of offers)) offers
 
-  not_constant : (bidder bid : ℕ) (b : Bool) → list_any (bytes_eq (bid_name bidder bid)) (names_of (cond b [] (constant_column lots ∷ []))) ≡ false
+  not_constant : (bidder bid : ℕ) (b : Bool) → list_any (bytes_eq (bid_name bidder bid)) (names_of (cond b [] (record { name = codes "K"; bounds = One; cost = neg_ℤ (pos (worth_of_all lots)); entries = [] } ∷ []))) ≡ false
   not_constant bidder bid true = refl
   not_constant bidder bid false = refl
 

@@ -5,8 +5,8 @@ use Rattle.std.specs.Char.{digit_value, is_ascii_digit}
 use Rattle.std.proofs.lemmas.Bool.{and_parts}
 use Rattle.std.proofs.lemmas.Bool.Decides.{nat_tests}
 use Rattle.std.proofs.lemmas.Grind.{common_steps}
-use Rattle.program_rows.specs.Numbers.{are_digits}
 use Rattle.program_rows.proofs.Powers.{pow_above}
+use Rattle.std.specs.List.{list_all}
 
 pub after-more : (n : ℕ) (bs : List ℕ) (i : ℕ) → i < length bs → digits_value_after 10 n (take (suc i) bs) ≡ digits_value_after 10 n (take i bs) * 10 + digit_value (get_or bs i 0)
 after-more n [] i h = absurd (omega arith)
@@ -16,10 +16,10 @@ after-more n (b ∷ bs) (suc i) h = after-more (n * 10 + digit_value b) bs i (om
 pub ascii-range : (b : ℕ) → is_ascii_digit b ≡ true → (48 ≤ b) × (b ≤ 57) × (digit_value b ≡ b - 48)
 ascii-range b h = (grind (arith, common_steps, nat_tests, h), grind (arith, common_steps, nat_tests, h), grind (arith, common_steps, nat_tests, h))
 
-pub digit-at : (bs : List ℕ) (i : ℕ) → are_digits bs ≡ true → i < length bs → (48 ≤ get_or bs i 0) × (get_or bs i 0 ≤ 57) × (digit_value (get_or bs i 0) ≡ get_or bs i 0 - 48)
+pub digit-at : (bs : List ℕ) (i : ℕ) → list_all is_ascii_digit bs ≡ true → i < length bs → (48 ≤ get_or bs i 0) × (get_or bs i 0 ≤ 57) × (digit_value (get_or bs i 0) ≡ get_or bs i 0 - 48)
 digit-at [] i h lt = absurd (omega arith)
-digit-at (b ∷ bs) zero h lt = ascii-range b (and_parts (is_ascii_digit b) (are_digits bs) h).0
-digit-at (b ∷ bs) (suc i) h lt = digit-at bs i (and_parts (is_ascii_digit b) (are_digits bs) h).1 (omega arith)
+digit-at (b ∷ bs) zero h lt = ascii-range b (and_parts (is_ascii_digit b) (list_all is_ascii_digit bs) h).0
+digit-at (b ∷ bs) (suc i) h lt = digit-at bs i (and_parts (is_ascii_digit b) (list_all is_ascii_digit bs) h).1 (omega arith)
 
 pub one-more : (v d k : ℕ) → v < 10 ^ k → d ≤ 9 → v * 10 + d < 10 ^ (suc k)
 one-more v d k h le = omega (arith, h)

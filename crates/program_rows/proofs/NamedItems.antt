@@ -13,7 +13,8 @@ use Rattle.program_rows.specs.declared.bounds.Bounds.TheVariants.{ZeroOrOne, Zer
 use Rattle.program_rows.specs.Program.{TableRow, TableColumn}
 use Rattle.program_rows.specs.Points.{coefficient_at}
 use Rattle.program_rows.specs.Same.{row_named, coefficient_in}
-use Rattle.program_rows.specs.inside.Comparing.{same_kind, same_bounds, name_at}
+use Rattle.program_rows.specs.inside.Comparing.{same_kind, same_bounds}
+use Rattle.program_rows.specs.ProgramNames.{row_name}
 
 -- ---------- tests ----------
 
@@ -138,7 +139,7 @@ no_place rows name e =
     let there : slice_get rows n ≡ None = sym (find_at (is_row name) rows) ∙ e in
     cond-false (nat_lt n (length rows)) (Some n) None (le-ltb n (length rows) (beyond rows n there))
 
-pub name_there : (rows : List TableRow) (name : List ℕ) (place : ℕ) (r : TableRow) → Place rows name place r → name_at rows place ≡ name
+pub name_there : (rows : List TableRow) (name : List ℕ) (place : ℕ) (r : TableRow) → Place rows name place r → row_name rows place ≡ name
 name_there rows name place r h =
     let same : name ≡ r.name = (bytes_eq-Decides name r.name).0 (found_passes (is_row name) rows r h.found) in
     ap (λ (o : Option TableRow). option_map_or (λ r. r.name) o []) h.there ∙ sym same

@@ -1,7 +1,7 @@
 -- Numbers that digits without a leading zero spell, and the bid that a name spells.
 use Rattle.std.proofs.Common.{◌≡◌, ◌≢◌, ℕ, ◌+◌, ◌-◌, ◌^◌, ◌<◌, ◌≤◌, Bool, true, false, cond, ◌&&◌, List, [], ◌∷◌, ◌++◌, Option, Some, None, length, length-append, get_or, refl, sym, ap, ap₂, ◌∙◌, subst, arith, take, drop}
 use Rattle.std.specs.Prelude.{◌==◌, decimal, bytes_eq}
-use Rattle.std.specs.List.{AllByRecursion, before_first, after_first, position_or_len}
+use Rattle.std.specs.List.{AllByRecursion, before_first, after_first, position_or_len, list_all}
 use Rattle.std.specs.Char.{is_ascii_digit, digit_value}
 use Rattle.std.specs.Str.Parse.{AllDigits, digits_value}
 use Rattle.std.proofs.lemmas.Bool.{and_parts}
@@ -11,17 +11,16 @@ use Rattle.std.proofs.lemmas.List.Sums.{split_at_first, passes_at_first}
 use Rattle.std.proofs.lemmas.Str.Parse.{IsNumeralModel, digit_from_value}
 use Rattle.std.proofs.lemmas.Fmt.{decimal_is_IsNumeral, decimal-digits_value, first_decimal, length-decimal-le}
 use Rattle.auction_terms.specs.declared.choices.Choice.{Choice}
-use Rattle.program_rows.specs.Numbers.{are_digits}
-use Rattle.program_rows.specs.Spelling.{bid_name, is_bid, is_bar, spelled_bidder, spelled_bid, column_bid}
+use Rattle.program_rows.specs.Spelling.{bid_name, is_bid, column_bid}
 use Rattle.program_rows.proofs.Powers.{pow_above}
 use Rattle.program_rows.proofs.Folding.{ascii-range}
 use Rattle.program_rows.proofs.SpellingLaws.{no_bar, bar_at, before_at, after_at, bidder_range, bid_range, bid_name-injective, reads_back, reads_names_alone}
 
 -- digits, in both words
-to_digits : (ds : List ℕ) → are_digits ds ≡ true → AllDigits 10 ds
+to_digits : (ds : List ℕ) → list_all is_ascii_digit ds ≡ true → AllDigits 10 ds
 to_digits [] h = tt
 to_digits (d ∷ ds) h =
-    let both = and_parts (is_ascii_digit d) (are_digits ds) h in
+    let both = and_parts (is_ascii_digit d) (list_all is_ascii_digit ds) h in
     let r = ascii-range d both.0 in
     let value : digit_value d ≡ d - 48 = r.2 in
     let least : 48 ≤ d = r.0 in
@@ -31,7 +30,7 @@ to_digits (d ∷ ds) h =
 own : IsNumeralModel (AllDigits 10) (digits_value 10)
 own = record { to = λ ds h. h; from = λ ds h. h; same = λ ds h. refl }
 
-pub spelled : (text : List ℕ) → 0 < length text → length text ≤ 4 → get_or text 0 0 ≢ 48 → are_digits text ≡ true → digits_value 10 text < 10 ^ 4 → decimal (digits_value 10 text) ≡ text
+pub spelled : (text : List ℕ) → 0 < length text → length text ≤ 4 → get_or text 0 0 ≢ 48 → list_all is_ascii_digit text ≡ true → digits_value 10 text < 10 ^ 4 → decimal (digits_value 10 text) ≡ text
 spelled text some few first digits low = decimal-digits_value own text (to_digits text digits) some (λ e. absurd (first e)) (omega arith)
 
 pub below_four : (v k : ℕ) → v < 10 ^ (0 + k) → k ≤ 4 → v < 10 ^ 4
@@ -56,14 +55,14 @@ not_long n text low h e = let few = length-decimal-le 4 n (omega arith) low (ome
 pub no_zero_first : (n : ℕ) (text : List ℕ) → 1 ≤ n → n < 10 ^ 4 → get_or text 0 0 ≡ 48 → decimal n ≢ text
 no_zero_first n text some low h e = let first = first_decimal n (omega arith) (omega arith) in let same = ap (λ (ds : List ℕ). get_or ds 0 0) e in omega arith
 
-are_ascii : (ds : List ℕ) → AllDigits 10 ds → are_digits ds ≡ true
+are_ascii : (ds : List ℕ) → AllDigits 10 ds → list_all is_ascii_digit ds ≡ true
 are_ascii [] h = refl
 are_ascii (d ∷ ds) h =
     let in_range = digit_from_value d h.0 in
     let digit : is_ascii_digit d ≡ true = grind (arith, common_steps, nat_tests, in_range) in
     rw (digit, are_ascii ds h.1) refl
 
-pub only_digits : (n : ℕ) (text : List ℕ) → n < 10 ^ 4 → are_digits text ≡ false → decimal n ≢ text
+pub only_digits : (n : ℕ) (text : List ℕ) → n < 10 ^ 4 → list_all is_ascii_digit text ≡ false → decimal n ≢ text
 only_digits n text low h e = let d = are_ascii text (digits_of_decimal n text low e) in cc
 
 -- ---------- the bid that a name spells ----------
@@ -76,7 +75,9 @@ no_choice false b j name h never = refl
 pub none_named : (name : List ℕ) → ((b j : ℕ) → is_bid b j ≡ true → name ≢ bid_name b j) → column_bid name ≡ None
 unfolding column_bid
 none_named name never =
-    no_choice (is_bid (spelled_bidder name) (spelled_bid name) && bytes_eq name (bid_name (spelled_bidder name) (spelled_bid name))) (spelled_bidder name) (spelled_bid name) name refl
+    let b = digits_value 10 (before_first (λ (c : ℕ). c == 95) (drop 1 name)) in
+    let j = digits_value 10 (after_first (λ (c : ℕ). c == 95) (drop 1 name)) in
+    no_choice (is_bid b j && bytes_eq name (bid_name b j)) b j name refl
     (λ c e. let r = reads_names_alone name c e in never c.bidder c.bid r.0 r.1)
 
 empty_name : (name : List ℕ) → length name ≡ 0 → column_bid name ≡ None
@@ -92,33 +93,33 @@ other_letter name h = sym (none_named name (λ b j i e. h (ap (λ (xs : List ℕ
 behind_letter : (name : List ℕ) (b j : ℕ) → name ≡ bid_name b j → drop 1 name ≡ decimal b ++ 95 ∷ decimal j
 behind_letter name b j e = ap (λ (xs : List ℕ). drop 1 xs) e
 
-bidder_digits : (b j : ℕ) → is_bid b j ≡ true → AllByRecursion (λ d. is_bar d ≡ false) (decimal b)
+bidder_digits : (b j : ℕ) → is_bid b j ≡ true → AllByRecursion (λ d. (d == 95) ≡ false) (decimal b)
 bidder_digits b j h = let most = (bidder_range b j h).1 in no_bar (decimal b) (decimal_is_IsNumeral b (omega arith)).0.1
 
-pub without_bar : (name : List ℕ) → position_or_len is_bar (drop 1 name) ≡ length (drop 1 name) → None ≡ column_bid name
+pub without_bar : (name : List ℕ) → position_or_len (λ (c : ℕ). c == 95) (drop 1 name) ≡ length (drop 1 name) → None ≡ column_bid name
 without_bar name h = sym (none_named name (λ b j i e.
     let numbers = behind_letter name b j e in
-    let place = ap (λ (xs : List ℕ). position_or_len is_bar xs) numbers ∙ bar_at (decimal b) (decimal j) (bidder_digits b j i) in
+    let place = ap (λ (xs : List ℕ). position_or_len (λ (c : ℕ). c == 95) xs) numbers ∙ bar_at (decimal b) (decimal j) (bidder_digits b j i) in
     let count = ap (λ (xs : List ℕ). length xs) numbers ∙ length-append (decimal b) (95 ∷ decimal j) in
     absurd (omega arith)))
 
-pub other_bidder : (name front : List ℕ) → front ≡ before_first is_bar (drop 1 name) → ((n : ℕ) → 1 ≤ n → n < 10 ^ 4 → decimal n ≢ front) → None ≡ column_bid name
+pub other_bidder : (name front : List ℕ) → front ≡ before_first (λ (c : ℕ). c == 95) (drop 1 name) → ((n : ℕ) → 1 ≤ n → n < 10 ^ 4 → decimal n ≢ front) → None ≡ column_bid name
 other_bidder name front f never = sym (none_named name (λ b j i e.
     let range = bidder_range b j i in
     let some = range.0 in
     let most = range.1 in
-    let same = f ∙ ap (λ (xs : List ℕ). before_first is_bar xs) (behind_letter name b j e) ∙ before_at (decimal b) (decimal j) (bidder_digits b j i) in
+    let same = f ∙ ap (λ (xs : List ℕ). before_first (λ (c : ℕ). c == 95) xs) (behind_letter name b j e) ∙ before_at (decimal b) (decimal j) (bidder_digits b j i) in
     never b some (omega arith) (sym same)))
 
-pub other_bid : (name back : List ℕ) → back ≡ after_first is_bar (drop 1 name) → ((n : ℕ) → 1 ≤ n → n < 10 ^ 4 → decimal n ≢ back) → None ≡ column_bid name
+pub other_bid : (name back : List ℕ) → back ≡ after_first (λ (c : ℕ). c == 95) (drop 1 name) → ((n : ℕ) → 1 ≤ n → n < 10 ^ 4 → decimal n ≢ back) → None ≡ column_bid name
 other_bid name back f never = sym (none_named name (λ b j i e.
     let range = bid_range b j i in
     let some = range.0 in
     let most = range.1 in
-    let same = f ∙ ap (λ (xs : List ℕ). after_first is_bar xs) (behind_letter name b j e) ∙ after_at (decimal b) (decimal j) (bidder_digits b j i) in
+    let same = f ∙ ap (λ (xs : List ℕ). after_first (λ (c : ℕ). c == 95) xs) (behind_letter name b j e) ∙ after_at (decimal b) (decimal j) (bidder_digits b j i) in
     never j some (omega arith) (sym same)))
 
-is_95 : (b : ℕ) → is_bar b ≡ true → b ≡ 95
+is_95 : (b : ℕ) → (b == 95) ≡ true → b ≡ 95
 is_95 b h = grind (arith, nat_tests)
 
 lettered : (name : List ℕ) → 0 < length name → get_or name 0 0 ≡ 88 → name ≡ 88 ∷ drop 1 name
@@ -126,14 +127,14 @@ lettered [] some first = absurd (omega arith)
 lettered (x ∷ name) some first = ap (λ (b : ℕ). b ∷ name) first
 
 -- a name of these parts is that of the bid
-pub is_named : (name : List ℕ) (b j : ℕ) → 0 < length name → get_or name 0 0 ≡ 88 → position_or_len is_bar (drop 1 name) < length (drop 1 name)
-    → decimal b ≡ before_first is_bar (drop 1 name) → decimal j ≡ after_first is_bar (drop 1 name) → name ≡ bid_name b j
+pub is_named : (name : List ℕ) (b j : ℕ) → 0 < length name → get_or name 0 0 ≡ 88 → position_or_len (λ (c : ℕ). c == 95) (drop 1 name) < length (drop 1 name)
+    → decimal b ≡ before_first (λ (c : ℕ). c == 95) (drop 1 name) → decimal j ≡ after_first (λ (c : ℕ). c == 95) (drop 1 name) → name ≡ bid_name b j
 is_named name b j some first place front back =
-    let parts = split_at_first is_bar (drop 1 name) 0 place in
-    let bar = is_95 (get_or (drop 1 name) (position_or_len is_bar (drop 1 name)) 0) (passes_at_first is_bar (drop 1 name) 0 place) in
+    let parts = split_at_first (λ (c : ℕ). c == 95) (drop 1 name) 0 place in
+    let bar = is_95 (get_or (drop 1 name) (position_or_len (λ (c : ℕ). c == 95) (drop 1 name)) 0) (passes_at_first (λ (c : ℕ). c == 95) (drop 1 name) 0 place) in
     lettered name some first
     ∙ ap (λ (xs : List ℕ). 88 ∷ xs) (parts
-    ∙ ap (λ (x : ℕ). before_first is_bar (drop 1 name) ++ x ∷ after_first is_bar (drop 1 name)) bar
+    ∙ ap (λ (x : ℕ). before_first (λ (c : ℕ). c == 95) (drop 1 name) ++ x ∷ after_first (λ (c : ℕ). c == 95) (drop 1 name)) bar
     ∙ ap₂ (λ (xs ys : List ℕ). xs ++ 95 ∷ ys) (sym front) (sym back))
 
 pub read_as : (name : List ℕ) (b j : ℕ) → name ≡ bid_name b j → is_bid b j ≡ true → Some record { bidder = b; bid = j } ≡ column_bid name
@@ -148,18 +149,18 @@ out_of_range name b j lb lj e h = sym (none_named name (λ c k i f.
     cc))
 
 -- the parts of a name, as they are cut
-module _ (name numbers : List ℕ) (bar : ℕ) (behind : numbers ≡ drop 1 name) (at : bar ≡ position_or_len is_bar numbers) where
-  pub front_is : (front : List ℕ) → front ≡ take bar numbers → front ≡ before_first is_bar (drop 1 name)
-  front_is front f = f ∙ ap (λ (n : ℕ). take n numbers) at ∙ ap (λ (xs : List ℕ). before_first is_bar xs) behind
+module _ (name numbers : List ℕ) (bar : ℕ) (behind : numbers ≡ drop 1 name) (at : bar ≡ position_or_len (λ (c : ℕ). c == 95) numbers) where
+  pub front_is : (front : List ℕ) → front ≡ take bar numbers → front ≡ before_first (λ (c : ℕ). c == 95) (drop 1 name)
+  front_is front f = f ∙ ap (λ (n : ℕ). take n numbers) at ∙ ap (λ (xs : List ℕ). before_first (λ (c : ℕ). c == 95) xs) behind
 
-  pub back_is : (back : List ℕ) → back ≡ drop (bar + 1) numbers → back ≡ after_first is_bar (drop 1 name)
-  back_is back f = f ∙ ap (λ (n : ℕ). drop (n + 1) numbers) at ∙ ap (λ (xs : List ℕ). after_first is_bar xs) behind
+  pub back_is : (back : List ℕ) → back ≡ drop (bar + 1) numbers → back ≡ after_first (λ (c : ℕ). c == 95) (drop 1 name)
+  back_is back f = f ∙ ap (λ (n : ℕ). drop (n + 1) numbers) at ∙ ap (λ (xs : List ℕ). after_first (λ (c : ℕ). c == 95) xs) behind
 
-  pub bar_at_end : bar ≡ length numbers → position_or_len is_bar (drop 1 name) ≡ length (drop 1 name)
-  bar_at_end e = sym (ap (λ (xs : List ℕ). position_or_len is_bar xs) behind) ∙ sym at ∙ e ∙ ap (λ (xs : List ℕ). length xs) behind
+  pub bar_at_end : bar ≡ length numbers → position_or_len (λ (c : ℕ). c == 95) (drop 1 name) ≡ length (drop 1 name)
+  bar_at_end e = sym (ap (λ (xs : List ℕ). position_or_len (λ (c : ℕ). c == 95) xs) behind) ∙ sym at ∙ e ∙ ap (λ (xs : List ℕ). length xs) behind
 
-  pub bar_within : bar ≤ length numbers → bar ≢ length numbers → position_or_len is_bar (drop 1 name) < length (drop 1 name)
+  pub bar_within : bar ≤ length numbers → bar ≢ length numbers → position_or_len (λ (c : ℕ). c == 95) (drop 1 name) < length (drop 1 name)
   bar_within le ne =
-      let place = at ∙ ap (λ (xs : List ℕ). position_or_len is_bar xs) behind in
+      let place = at ∙ ap (λ (xs : List ℕ). position_or_len (λ (c : ℕ). c == 95) xs) behind in
       let count = ap (λ (xs : List ℕ). length xs) behind in
       omega arith

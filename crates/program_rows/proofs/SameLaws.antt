@@ -14,9 +14,10 @@ use Rattle.program_rows.specs.Program.{Table, TableRow, TableColumn}
 use Rattle.program_rows.specs.Parts.{IsProgram, AreEntries}
 use Rattle.program_rows.specs.Points.{coefficient_at}
 use Rattle.program_rows.specs.Same.{row_named, column_named, coefficient_in, coefficient_by_names, bounds_and_cost, IsSameProgram}
-use Rattle.program_rows.specs.inside.Comparing.{same_kind, same_bounds, row_agrees, row_stands, name_at, entry_stands, column_agrees, column_stands, stands_in, is_same_program}
+use Rattle.program_rows.specs.inside.Comparing.{same_kind, same_bounds, row_agrees, row_stands, entry_stands, column_agrees, column_stands, stands_in, is_same_program}
 use Rattle.program_rows.proofs.LookupLaws.{guessed}
 use Rattle.program_rows.proofs.NamedItems.{Place, all_pass, all_true, bounds_equal, bounds_itself, found_in, found_passes, in_no_row, in_row, is_row, kind_itself, kinds_equal, name_there, own, place_by, rows_equal, same_some, stands}
+use Rattle.program_rows.specs.ProgramNames.{row_name}
 
 -- ---------- what stands in another program ----------
 
@@ -73,8 +74,8 @@ entry_over : (rows others : List TableRow) (c d : TableColumn) (name : List ℕ)
 entry_over rows others c d name i r e place h f =
     let at : e.0 ≡ i = same_place e.0 i (found_passes (in_row_at i) c.entries e f) in
     let s : entry_stands rows others d e ≡ true = found_in (λ x. entry_stands rows others d x ≡ true) (in_row_at i) c.entries e (all_true (entry_stands rows others d) c.entries h) f in
-    let same = (Decides-int_eq (coefficient_in others d (name_at rows e.0)) e.1).0 s in
-    let named : name_at rows e.0 ≡ name = ap (name_at rows) at ∙ name_there rows name i r place in
+    let same = (Decides-int_eq (coefficient_in others d (row_name rows e.0)) e.1).0 s in
+    let named : row_name rows e.0 ≡ name = ap (row_name rows) at ∙ name_there rows name i r place in
     ap (coefficient_in others d) (sym named) ∙ same
 
 by_entries : (rows others : List TableRow) (c d : TableColumn) (name : List ℕ) (i j : ℕ) (r s : TableRow) → Place rows name i r → Place others name j s
@@ -180,10 +181,10 @@ some_at (r ∷ rows) zero l = (r, refl)
 some_at (r ∷ rows) (suc k) l = some_at rows k (omega arith)
 
 -- the row at a place is found by its name
-own_place : (rows : List TableRow) (k : ℕ) → IsDistinct bytes_eq (map (λ r. r.name) rows) → k < length rows → (r : TableRow) × Place rows (name_at rows k) k r
+own_place : (rows : List TableRow) (k : ℕ) → IsDistinct bytes_eq (map (λ r. r.name) rows) → k < length rows → (r : TableRow) × Place rows (row_name rows k) k r
 own_place rows k d l =
     let r = some_at rows k l in
-    let n = name_at rows k in
+    let n = row_name rows k in
     let named : n ≡ r.0.name = ap (λ (o : Option TableRow). option_map_or (λ r. r.name) o []) r.1 in
     let here : k ≡ position_or_len (is_row n) rows = guessed (λ (r : TableRow). r.name) n rows k r.0.name d (ap (option_map (λ (r : TableRow). r.name)) r.1) ((bytes_eq-Decides n r.0.name).1 named) in
     let found : row_named rows n ≡ Some r.0 = find_at (is_row n) rows ∙ ap (slice_get rows) (sym here) ∙ r.1 in
@@ -211,7 +212,7 @@ entries_stand : (rows others : List TableRow) (c d : TableColumn) (es : List (�
 entries_stand rows others c d [] differ same h = tt
 entries_stand rows others c d (e ∷ es) differ same h =
     let place = own_place rows e.0 differ h.0.0 in
-    let name = name_at rows e.0 in
+    let name = row_name rows e.0 in
     let mine : coefficient_at e.0 c ≡ e.1 = ap (λ (x : Option (ℕ × ℤ)). option_map_or (λ e. e.1) x (pos 0)) h.0.1 in
     let equal : coefficient_in others d name ≡ e.1 = sym (same name) ∙ in_row rows name e.0 place.0 c place.1 ∙ mine in
     ((Decides-int_eq (coefficient_in others d name) e.1).1 equal, entries_stand rows others c d es differ same h.1)

@@ -1,6 +1,6 @@
 -- Different bids have different names, and a name is read back.
 use Rattle.std.proofs.Common.{◌≡◌, ℕ, suc, ◌+◌, ◌^◌, ◌<◌, ◌≤◌, Bool, true, false, cond, ◌&&◌, nat_le, List, [], ◌∷◌, ◌++◌, Some, None, length, refl, sym, ap, ap₂, ◌∙◌, arith, leb-true, take, drop}
-use Rattle.std.specs.Prelude.{decimal, bytes_eq}
+use Rattle.std.specs.Prelude.{decimal, bytes_eq, ◌==◌}
 use Rattle.std.specs.List.{slice_split, AllByRecursion, before_first, after_first, position_or_len}
 use Rattle.std.specs.Str.Parse.{AllDigits, digits_value}
 use Rattle.std.proofs.lemmas.Bool.{and_parts}
@@ -11,21 +11,21 @@ use Rattle.auction_terms.specs.declared.limits.TheConstants.{MOST_BIDDERS, MOST_
 use Rattle.program_rows.specs.Named.{ReadsBack, ReadsNamesAlone, NamesDiffer}
 use Rattle.std.proofs.lemmas.Str.Parse.{digit_from_value}
 use Rattle.std.proofs.lemmas.Fmt.{decimal_is_IsNumeral, decimal_injective}
-use Rattle.program_rows.specs.Spelling.{bid_name, is_bid, is_bar, spelled_bidder, spelled_bid, column_bid}
+use Rattle.program_rows.specs.Spelling.{bid_name, is_bid, column_bid}
 
-pub no_bar : (ds : List ℕ) → AllDigits 10 ds → AllByRecursion (λ b. is_bar b ≡ false) ds
+pub no_bar : (ds : List ℕ) → AllDigits 10 ds → AllByRecursion (λ b. (b == 95) ≡ false) ds
 no_bar [] h = tt
 no_bar (d ∷ ds) h = let in_range = digit_from_value d h.0 in (grind (arith, nat_tests), no_bar ds h.1)
 
-split_none : (xs : List ℕ) → AllByRecursion (λ b. is_bar b ≡ false) xs → slice_split is_bar xs ≡ xs ∷ []
+split_none : (xs : List ℕ) → AllByRecursion (λ b. (b == 95) ≡ false) xs → slice_split (λ (c : ℕ). c == 95) xs ≡ xs ∷ []
 split_none [] h = refl
 split_none (x ∷ xs) h = rw (h.0, split_none xs h.1) refl
 
-split_at : (xs ys : List ℕ) → AllByRecursion (λ b. is_bar b ≡ false) xs → slice_split is_bar (xs ++ 95 ∷ ys) ≡ xs ∷ slice_split is_bar ys
+split_at : (xs ys : List ℕ) → AllByRecursion (λ b. (b == 95) ≡ false) xs → slice_split (λ (c : ℕ). c == 95) (xs ++ 95 ∷ ys) ≡ xs ∷ slice_split (λ (c : ℕ). c == 95) ys
 split_at [] ys h = refl
 split_at (x ∷ xs) ys h = rw (h.0, split_at xs ys h.1) refl
 
-parts : (b j : ℕ) → b < 2 ^ 64 → j < 2 ^ 64 → slice_split is_bar (decimal b ++ 95 ∷ decimal j) ≡ decimal b ∷ decimal j ∷ []
+parts : (b j : ℕ) → b < 2 ^ 64 → j < 2 ^ 64 → slice_split (λ (c : ℕ). c == 95) (decimal b ++ 95 ∷ decimal j) ≡ decimal b ∷ decimal j ∷ []
 parts b j hb hj =
     let db = no_bar (decimal b) (decimal_is_IsNumeral b hb).0.1 in
     let dj = no_bar (decimal j) (decimal_is_IsNumeral j hj).0.1 in
@@ -34,7 +34,7 @@ parts b j hb hj =
 pub bid_name-injective : (b j c k : ℕ) → b < 2 ^ 64 → j < 2 ^ 64 → c < 2 ^ 64 → k < 2 ^ 64 → bid_name b j ≡ bid_name c k → (b ≡ c) × (j ≡ k)
 bid_name-injective b j c k hb hj hc hk e =
     let tails : decimal b ++ 95 ∷ decimal j ≡ decimal c ++ 95 ∷ decimal k = cc in
-    let lists : decimal b ∷ decimal j ∷ [] ≡ decimal c ∷ decimal k ∷ [] = sym (parts b j hb hj) ∙ ap (slice_split is_bar) tails ∙ parts c k hc hk in
+    let lists : decimal b ∷ decimal j ∷ [] ≡ decimal c ∷ decimal k ∷ [] = sym (parts b j hb hj) ∙ ap (slice_split (λ (c : ℕ). c == 95)) tails ∙ parts c k hc hk in
     let left : decimal b ≡ decimal c = cc in
     let right : decimal j ≡ decimal k = cc in
     (decimal_injective b c hb hc left, decimal_injective j k hj hk right)
@@ -57,7 +57,7 @@ pub names_differ : NamesDiffer
 names_differ b j c k h i e = bid_name-injective b j c k (bidder_small b j h) (bid_small b j h) (bidder_small c k i) (bid_small c k i) e
 
 -- what stands before and behind the bar
-pub bar_at : (xs ys : List ℕ) → AllByRecursion (λ b. is_bar b ≡ false) xs → position_or_len is_bar (xs ++ 95 ∷ ys) ≡ length xs
+pub bar_at : (xs ys : List ℕ) → AllByRecursion (λ b. (b == 95) ≡ false) xs → position_or_len (λ (c : ℕ). c == 95) (xs ++ 95 ∷ ys) ≡ length xs
 bar_at [] ys h = refl
 bar_at (x ∷ xs) ys h = let r = bar_at xs ys h.1 in rw h.0 (omega arith)
 
@@ -69,16 +69,16 @@ left_behind : (xs ys : List ℕ) (y n : ℕ) → n ≡ suc (length xs) → drop 
 left_behind [] ys y n e = rw e refl
 left_behind (x ∷ xs) ys y n e = rw e (left_behind xs ys y (suc (length xs)) refl)
 
-pub before_at : (xs ys : List ℕ) → AllByRecursion (λ b. is_bar b ≡ false) xs → before_first is_bar (xs ++ 95 ∷ ys) ≡ xs
+pub before_at : (xs ys : List ℕ) → AllByRecursion (λ b. (b == 95) ≡ false) xs → before_first (λ (c : ℕ). c == 95) (xs ++ 95 ∷ ys) ≡ xs
 before_at xs ys h = ap (λ (n : ℕ). take n (xs ++ 95 ∷ ys)) (bar_at xs ys h) ∙ taken xs (95 ∷ ys)
 
-pub after_at : (xs ys : List ℕ) → AllByRecursion (λ b. is_bar b ≡ false) xs → after_first is_bar (xs ++ 95 ∷ ys) ≡ ys
-after_at xs ys h = left_behind xs ys 95 (position_or_len is_bar (xs ++ 95 ∷ ys) + 1) (let p = bar_at xs ys h in omega arith)
+pub after_at : (xs ys : List ℕ) → AllByRecursion (λ b. (b == 95) ≡ false) xs → after_first (λ (c : ℕ). c == 95) (xs ++ 95 ∷ ys) ≡ ys
+after_at xs ys h = left_behind xs ys 95 (position_or_len (λ (c : ℕ). c == 95) (xs ++ 95 ∷ ys) + 1) (let p = bar_at xs ys h in omega arith)
 
-read_bidder : (b j : ℕ) → b < 2 ^ 64 → spelled_bidder (bid_name b j) ≡ b
+read_bidder : (b j : ℕ) → b < 2 ^ 64 → digits_value 10 (before_first (λ (c : ℕ). c == 95) (drop 1 (bid_name b j))) ≡ b
 read_bidder b j hb = let d = decimal_is_IsNumeral b hb in ap (digits_value 10) (before_at (decimal b) (decimal j) (no_bar (decimal b) d.0.1)) ∙ d.1
 
-read_bid : (b j : ℕ) → b < 2 ^ 64 → j < 2 ^ 64 → spelled_bid (bid_name b j) ≡ j
+read_bid : (b j : ℕ) → b < 2 ^ 64 → j < 2 ^ 64 → digits_value 10 (after_first (λ (c : ℕ). c == 95) (drop 1 (bid_name b j))) ≡ j
 read_bid b j hb hj = let d = decimal_is_IsNumeral b hb in ap (digits_value 10) (after_at (decimal b) (decimal j) (no_bar (decimal b) d.0.1)) ∙ (decimal_is_IsNumeral j hj).1
 
 pub reads_back : ReadsBack
@@ -102,4 +102,7 @@ read_only name b j c false t e = cc
 
 pub reads_names_alone : ReadsNamesAlone
 unfolding column_bid
-reads_names_alone name c e = read_only name (spelled_bidder name) (spelled_bid name) c (is_bid (spelled_bidder name) (spelled_bid name) && bytes_eq name (bid_name (spelled_bidder name) (spelled_bid name))) refl e
+reads_names_alone name c e =
+    let b = digits_value 10 (before_first (λ (c : ℕ). c == 95) (drop 1 name)) in
+    let j = digits_value 10 (after_first (λ (c : ℕ). c == 95) (drop 1 name)) in
+    read_only name b j c (is_bid b j && bytes_eq name (bid_name b j)) refl e

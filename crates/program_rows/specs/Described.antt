@@ -1,12 +1,11 @@
 -- The program that a sound text describes: what its gathered lines say, section by section.
-use Rattle.std.specs.Prelude.{ℕ, ◌+◌, ◌%◌, drop, Bool, not, ◌&&◌, List, [], ◌∷◌, ◌++◌, length, map, reverse, ◌==◌, if◌then◌else◌, ℤ, pos, Option, codes, bytes_eq, filter, flat_map, find, unwrap_or, option_map}
+use Rattle.std.specs.Prelude.{ℕ, ◌%◌, drop, Bool, not, ◌&&◌, List, [], ◌∷◌, ◌++◌, length, map, reverse, ◌==◌, if◌then◌else◌, ℤ, pos, Option, codes, bytes_eq, filter, flat_map, find, unwrap_or, option_map}
 use Rattle.std.specs.List.{list_any, enumerate_from}
 use Rattle.std.specs.Option.{option_map_or}
 use Rattle.std.specs.Result.{result_unwrap_or}
 use Rattle.std.specs.Ordering.{int_eq}
 use Rattle.program_rows.specs.declared.row.RowKind.{RowKind}
 use Rattle.program_rows.specs.declared.row.RowKind.TheVariants.{AtMost, AtLeast, Equal}
-use Rattle.program_rows.specs.declared.bounds.Bounds.{Bounds}
 use Rattle.program_rows.specs.declared.bounds.Bounds.TheVariants.{ZeroOrOne, Zero, One}
 use Rattle.program_rows.specs.Program.{Table, TableRow, TableColumn}
 use Rattle.program_rows.specs.Lines.{LineFields, field}
@@ -25,23 +24,18 @@ value token = result_unwrap_or (number token) (pos 0)
 
 -- fields two by two: the name of a row and a number
 abbrev pub pairs : LineFields → List (List ℕ × List ℕ)
-pairs [] = []
-pairs (a ∷ []) = []
 pairs (a ∷ b ∷ fields) = (a, b) ∷ pairs fields
+pairs fields = []
+
+-- the number of the first of these pairs that names the row, else 0
+abbrev pub number_beside : List (List ℕ × List ℕ) → List ℕ → ℤ
+number_beside numbers row = option_map_or (λ pair. value pair.1) (find (λ pair. bytes_eq row pair.0) numbers) (pos 0)
 
 -- ---- RHS: pairs of a row and its right side
 
 -- where the number of fields is odd, the first is the name of the set
 abbrev pub line_right_sides : LineFields → List (List ℕ × List ℕ)
 line_right_sides fields = pairs (drop (length fields % 2) fields)
-
--- those of all lines, the last line first
-abbrev pub all_right_sides : List LineFields → List (List ℕ × List ℕ)
-all_right_sides lines = flat_map line_right_sides lines
-
--- the number of the pair that names the row, else 0
-abbrev pub right_side : List (List ℕ × List ℕ) → List ℕ → ℤ
-right_side sides row = option_map_or (λ pair. value pair.1) (find (λ pair. bytes_eq row pair.0) sides) (pos 0)
 
 -- ---- ROWS: a type and a name
 
@@ -59,7 +53,7 @@ row_kind_of letter = if bytes_eq letter (codes "L") then AtMost else (if bytes_e
 
 -- the rows that are not free, in the order of the text, with their right sides
 abbrev pub table_rows : List LineFields → List (List ℕ × List ℕ) → List TableRow
-table_rows rows sides = map (λ row. record { name = field 1 row; kind = row_kind_of (field 0 row); right_side = right_side sides (field 1 row) }) (filter (λ row. not (is_free row)) (reverse rows))
+table_rows rows sides = map (λ row. record { name = field 1 row; kind = row_kind_of (field 0 row); right_side = number_beside sides (field 1 row) }) (filter (λ row. not (is_free row)) (reverse rows))
 
 -- ---- COLUMNS: the name of a column and pairs of a row and a number, between lines that are markers
 
@@ -80,31 +74,9 @@ each_once (fields ∷ before) = if list_any (λ other. bytes_eq (field 0 fields)
 abbrev pub columns_named : List LineFields → List (List ℕ)
 columns_named lines = each_once (column_lines lines)
 
--- a row and a number that a line gives its column
-pub record Entry : Type 0 where
-  pub column : List ℕ
-  pub row : List ℕ
-  pub number : List ℕ
-
--- the entries of a line
-abbrev pub line_entries : LineFields → List Entry
-line_entries fields = map (λ p. record { column = field 0 fields; row = p.0; number = p.1 }) (pairs (drop 1 fields))
-
--- those of all lines, the last line first
-abbrev pub all_entries : List LineFields → List Entry
-all_entries lines = flat_map line_entries (column_lines lines)
-
--- whether an entry is of this column and row
-abbrev pub names_both : List ℕ → List ℕ → Entry → Bool
-names_both column row e = bytes_eq column e.column && bytes_eq row e.row
-
--- the number of the entry that names the column and the row, else 0
-abbrev pub coefficient : List Entry → List ℕ → List ℕ → ℤ
-coefficient entries column row = option_map_or (λ e. value e.number) (find (names_both column row) entries) (pos 0)
-
--- the coefficients of a column that are not 0, by the places of the rows
-abbrev pub column_entries : List Entry → List TableRow → List ℕ → List (ℕ × ℤ)
-column_entries entries rows column = filter (λ e. not (int_eq e.1 (pos 0))) (map (λ r. (r.0, coefficient entries column r.1.name)) (enumerate_from 0 rows))
+-- the pairs that the lines give a column, the last line first
+abbrev pub column_pairs : List LineFields → List ℕ → List (List ℕ × List ℕ)
+column_pairs lines column = flat_map (λ fields. pairs (drop 1 fields)) (filter (λ fields. bytes_eq column (field 0 fields)) (column_lines lines))
 
 -- ---- BOUNDS: a type, the name of the set if there is one, a column, and a number unless the type is BV
 
@@ -112,49 +84,37 @@ column_entries entries rows column = filter (λ e. not (int_eq e.1 (pos 0))) (ma
 abbrev pub is_binary_bound : LineFields → Bool
 is_binary_bound fields = bytes_eq (field 0 fields) (codes "BV")
 
--- where the column stands: behind the name of the set, if there is one
-abbrev pub bound_place : LineFields → ℕ
-bound_place fields = if length fields == (if is_binary_bound fields then 2 else 3) then 1 else 2
-
--- the column that a bound is on
-abbrev pub bound_column : LineFields → List ℕ
-bound_column fields = field (bound_place fields) fields
-
--- its number
-abbrev pub bound_number : LineFields → List ℕ
-bound_number fields = field (bound_place fields + 1) fields
+-- a column, and a number unless the type is BV: what stands behind the name of the set, if there is one
+abbrev pub bound_pair : LineFields → LineFields
+bound_pair fields = drop (if length fields == (if is_binary_bound fields then 2 else 3) then 1 else 2) fields
 
 -- the last bound of one of these types on a column
 abbrev pub last_bound : List (List ℕ) → List LineFields → List ℕ → Option LineFields
-last_bound types bounds column = find (λ fields. is_one_of (field 0 fields) types && bytes_eq column (bound_column fields)) bounds
+last_bound types bounds column = find (λ fields. is_one_of (field 0 fields) types && bytes_eq column (field 0 (bound_pair fields))) bounds
 
 -- by the last LO, FX or BV; 0 where there is none
 abbrev pub lower : List LineFields → List ℕ → ℤ
-lower bounds column = option_map_or (λ fields. if is_binary_bound fields then pos 0 else value (bound_number fields)) (last_bound (codes "LO" ∷ codes "FX" ∷ codes "BV" ∷ []) bounds column) (pos 0)
+lower bounds column = option_map_or (λ fields. if is_binary_bound fields then pos 0 else value (field 1 (bound_pair fields))) (last_bound (codes "LO" ∷ codes "FX" ∷ codes "BV" ∷ []) bounds column) (pos 0)
 
 -- by the last UP, FX or BV
 abbrev pub upper : List LineFields → List ℕ → Option ℤ
-upper bounds column = option_map (λ fields. if is_binary_bound fields then pos 1 else value (bound_number fields)) (last_bound (codes "UP" ∷ codes "FX" ∷ codes "BV" ∷ []) bounds column)
-
--- which of 0 and 1 the bounds leave a column
-abbrev pub table_bounds : List LineFields → List ℕ → Bounds
-table_bounds bounds column = if int_eq (lower bounds column) (pos 1) then One else (if int_eq (unwrap_or (upper bounds column) (pos 1)) (pos 0) then Zero else ZeroOrOne)
+upper bounds column = option_map (λ fields. if is_binary_bound fields then pos 1 else value (field 1 (bound_pair fields))) (last_bound (codes "UP" ∷ codes "FX" ∷ codes "BV" ∷ []) bounds column)
 
 -- ---- the whole
 
--- a column with its bounds, its cost and its entries
+-- a column: which of 0 and 1 its bounds leave, its cost, and its coefficients that are not 0, by the places of the rows
 abbrev pub table_column : Sections → List ℕ → TableColumn
 table_column s name = record {
   name = name;
-  bounds = table_bounds s.bounds name;
-  cost = coefficient (all_entries s.columns) name (unwrap_or (first_free s.rows) []);
-  entries = column_entries (all_entries s.columns) (table_rows s.rows (all_right_sides s.right_sides)) name;
+  bounds = if int_eq (lower s.bounds name) (pos 1) then One else (if int_eq (unwrap_or (upper s.bounds name) (pos 1)) (pos 0) then Zero else ZeroOrOne);
+  cost = number_beside (column_pairs s.columns name) (unwrap_or (first_free s.rows) []);
+  entries = filter (λ e. not (int_eq e.1 (pos 0))) (map (λ r. (r.0, number_beside (column_pairs s.columns name) r.1.name)) (enumerate_from 0 (table_rows s.rows (flat_map line_right_sides s.right_sides))));
 }
 
 -- the objective, the rows and the columns
 unfoldable pub program : Sections → Table
 program s = record {
   objective = unwrap_or (first_free s.rows) [];
-  rows = table_rows s.rows (all_right_sides s.right_sides);
+  rows = table_rows s.rows (flat_map line_right_sides s.right_sides);
   columns = map (table_column s) (columns_named s.columns);
 }

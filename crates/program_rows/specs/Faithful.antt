@@ -13,10 +13,9 @@ use Rattle.program_rows.specs.Rows.{program_of}
 
 -- the bids whose columns are 1; a column spelled otherwise names no bid
 abbrev pub back : List TableColumn → List Bool → List Choice
-back [] values = []
-back (c ∷ columns) [] = []
 back (c ∷ columns) (true ∷ values) = option_to_list (column_bid c.name) ++ back columns values
 back (c ∷ columns) (false ∷ values) = back columns values
+back columns values = []
 
 -- the point maps back to a feasible allocation of the same total
 pub record MapsBack (lots : Lots) (book : Book) (group : ℕ → Bool) (program : Table) (values : List Bool) : Type 0 where

@@ -1,60 +1,47 @@
 -- The faults of an MPS text: what a line may not say, given the lines before it. Checks stand in the order in which they are told.
-use Rattle.std.specs.Prelude.{ℕ, ◌+◌, drop, Bool, false, not, ◌||◌, ◌&&◌, nat_lt, nat_le, List, [], ◌∷◌, length, ◌==◌, if◌then◌else◌, pos, Option, Some, None, codes, bytes_eq, position, find, is_none, unwrap_or, slice_get, option_map, int_lt}
+use Rattle.std.specs.Prelude.{ℕ, ◌+◌, drop, Bool, false, not, ◌||◌, ◌&&◌, nat_lt, nat_le, List, [], ◌∷◌, length, ◌==◌, if◌then◌else◌, pos, Option, Some, None, codes, bytes_eq, position, find, flat_map, is_none, slice_get, option_map, int_lt, ℤ, Result, Ok, Err}
 use Rattle.std.specs.List.{list_any}
 use Rattle.std.specs.Option.{option_map_or, option_or}
-use Rattle.std.specs.Result.{result_err}
 use Rattle.std.specs.Ordering.{int_eq}
 use Rattle.program_rows.specs.Lines.{LineFields, field, Line, Skipped, Unprintable, Header, Data}
 use Rattle.program_rows.specs.declared.number.NumberFault.{NumberFault}
 use Rattle.program_rows.specs.declared.number.NumberFault.TheVariants as numbers
 use Rattle.program_rows.specs.Numbers.{number}
-use Rattle.program_rows.specs.Sections.{Sections, with_line, is_end}
-use Rattle.program_rows.specs.Described.{is_one_of, value, pairs, line_right_sides, all_right_sides, first_free, is_marker, column_lines, columns_named, all_entries, names_both, is_binary_bound, bound_column, bound_number, lower, upper}
+use Rattle.program_rows.specs.Sections.{Sections}
+use Rattle.program_rows.specs.Described.{is_one_of, value, pairs, line_right_sides, first_free, is_marker, column_lines, columns_named, column_pairs, is_binary_bound, bound_pair, lower, upper}
 use Rattle.program_rows.specs.declared.fault.FaultKind.{FaultKind}
-use Rattle.program_rows.specs.declared.fault.FaultKind.TheVariants.{NotText, Section, SectionLeftOut, Fields, RowType, RowRepeated, NoObjective, UnknownRow, ColumnSplit, EntryRepeated, NumberText, NotWhole, NumberRange, Marker, UnknownColumn, BoundType, BoundValue, ObjectiveConstant, SenseMax, NoEnd, NotBinary}
+use Rattle.program_rows.specs.declared.fault.FaultKind.TheVariants.{NotText, Section, SectionLeftOut, Fields, RowType, RowRepeated, NoObjective, UnknownRow, ColumnSplit, EntryRepeated, NumberText, NotWhole, NumberRange, Marker, UnknownColumn, BoundType, BoundValue, ObjectiveConstant, SenseMax, NotBinary}
+use Rattle.std.specs.Bool.{then_some as when}
 
 -- the first fault of a list of checks
 abbrev pub earliest_fault : List (Option FaultKind) → Option FaultKind
 earliest_fault [] = None
-earliest_fault (Some fault ∷ checks) = Some fault
-earliest_fault (None ∷ checks) = earliest_fault checks
+earliest_fault (check ∷ checks) = option_or check (earliest_fault checks)
 
--- a fault where a test holds
-abbrev pub when : Bool → FaultKind → Option FaultKind
-when test fault = if test then Some fault else None
-
--- ---- numbers
-
--- the fault of a line that a number's fault makes
-abbrev pub as_fault : NumberFault → FaultKind
-as_fault numbers.NumberText = NumberText
-as_fault numbers.NumberRange = NumberRange
-as_fault numbers.NotWhole = NotWhole
-
--- that of a token
-abbrev pub number_fault : List ℕ → Option FaultKind
-number_fault token = option_map as_fault (result_err (number token))
+-- the fault of a token that is no number
+abbrev pub number_fault : Result ℤ NumberFault → Option FaultKind
+number_fault (Ok n) = None
+number_fault (Err numbers.NumberText) = Some NumberText
+number_fault (Err numbers.NumberRange) = Some NumberRange
+number_fault (Err numbers.NotWhole) = Some NotWhole
 
 -- ---- headers
-
--- the sections, in the only order that they may stand in
-abbrev pub sections_in_order : List (List ℕ)
-sections_in_order = codes "NAME" ∷ codes "OBJSENSE" ∷ codes "ROWS" ∷ codes "COLUMNS" ∷ codes "RHS" ∷ codes "BOUNDS" ∷ codes "ENDATA" ∷ []
 
 -- sections of other MPS texts, which are not read
 abbrev pub sections_left_out : List (List ℕ)
 sections_left_out = codes "RANGES" ∷ codes "SOS" ∷ codes "SOS1" ∷ codes "SOS2" ∷ codes "QUADOBJ" ∷ codes "QMATRIX" ∷ codes "QSECTION" ∷ codes "QCMATRIX" ∷ codes "INDICATORS" ∷ []
 
--- the place of a section in the order, from 1; 0 where it is none of them
+-- the place of a section in the only order that they may stand in, from 1; 0 where it is none of them
 abbrev pub place_of : List ℕ → ℕ
-place_of word = option_map_or (λ i. i + 1) (position (bytes_eq word) sections_in_order) 0
+place_of word = option_map_or (λ i. i + 1) (position (bytes_eq word) (
+    codes "NAME" ∷ codes "OBJSENSE" ∷ codes "ROWS" ∷ codes "COLUMNS" ∷ codes "RHS" ∷ codes "BOUNDS" ∷ codes "ENDATA" ∷ [])) 0
 
 -- an objective is minimised
-abbrev pub sense_fault : List ℕ → Option FaultKind
-sense_fault word = earliest_fault (
-    when (is_one_of word (codes "MAX" ∷ codes "MAXIMIZE" ∷ [])) SenseMax
-    ∷ when (not (is_one_of word (codes "MIN" ∷ codes "MINIMIZE" ∷ []))) Fields
-    ∷ [])
+abbrev pub sense_fault : LineFields → Option FaultKind
+sense_fault fields = earliest_fault (
+    when (not (length fields == 1)) Fields
+    ∷ when (is_one_of (field 0 fields) (codes "MAX" ∷ codes "MAXIMIZE" ∷ [])) SenseMax
+    ∷ when (not (is_one_of (field 0 fields) (codes "MIN" ∷ codes "MINIMIZE" ∷ []))) Fields ∷ [])
 
 -- whether the nearest marker is 'INTORG'
 abbrev pub is_integer_open : List LineFields → Bool
@@ -65,37 +52,23 @@ abbrev pub stands_in_integers : List ℕ → List LineFields → Bool
 stands_in_integers column [] = false
 stands_in_integers column (fields ∷ before) = if not (is_marker fields) && bytes_eq column (field 0 fields) then is_integer_open before else stands_in_integers column before
 
--- by markers, or by a bound BV
-abbrev pub is_integer : List LineFields → List LineFields → List ℕ → Bool
-is_integer columns bounds column =
-    stands_in_integers column columns
-    || list_any (λ fields. is_binary_bound fields && bytes_eq column (bound_column fields)) bounds
-
--- an integer with an upper bound that is not below the lower one
+-- an integer, by markers or by a bound BV, with an upper bound that is not below the lower one
 abbrev pub is_binary : Sections → List ℕ → Bool
-is_binary s column = is_integer s.columns s.bounds column && option_map_or (λ high. not (int_lt high (lower s.bounds column))) (upper s.bounds column) false
+is_binary s column =
+    (stands_in_integers column s.columns || list_any (λ fields. is_binary_bound fields && bytes_eq column (field 0 (bound_pair fields))) s.bounds)
+    && option_map_or (λ high. not (int_lt high (lower s.bounds column))) (upper s.bounds column) false
 
--- the first column that is not binary
-abbrev pub not_binary : Sections → Option FaultKind
-not_binary s = option_map NotBinary (position (λ column. not (is_binary s column)) (columns_named s.columns))
-
+-- a header, where the last one checks that each column is binary
 abbrev pub header_fault : Sections → List ℕ → LineFields → Option FaultKind
 header_fault s word more = earliest_fault (
     when (is_one_of word sections_left_out) SectionLeftOut
     ∷ when (not (nat_lt (place_of s.section) (place_of word))) Section
     ∷ when (is_one_of word (codes "ROWS" ∷ codes "COLUMNS" ∷ codes "RHS" ∷ codes "BOUNDS" ∷ []) && nat_lt 0 (length more)) Fields
-    ∷ (if bytes_eq word (codes "OBJSENSE") then earliest_fault (when (nat_lt 1 (length more)) Fields ∷ (if length more == 1 then sense_fault (field 0 more) else None) ∷ []) else None)
+    ∷ (if bytes_eq word (codes "OBJSENSE") && nat_lt 0 (length more) then sense_fault more else None)
     ∷ when (is_one_of word (codes "COLUMNS" ∷ codes "RHS" ∷ codes "BOUNDS" ∷ codes "ENDATA" ∷ []) && is_none (first_free s.rows)) NoObjective
-    ∷ (if bytes_eq word (codes "ENDATA") then not_binary s else None)
-    ∷ [])
+    ∷ (if bytes_eq word (codes "ENDATA") then option_map NotBinary (position (λ column. not (is_binary s column)) (columns_named s.columns)) else None) ∷ [])
 
 -- ---- data lines, section by section
-
-abbrev pub objsense_fault : LineFields → Option FaultKind
-objsense_fault fields = earliest_fault (when (not (length fields == 1)) Fields ∷ sense_fault (field 0 fields) ∷ [])
-
-abbrev pub row_types : List (List ℕ)
-row_types = codes "N" ∷ codes "L" ∷ codes "G" ∷ codes "E" ∷ []
 
 -- whether a line of ROWS has the name
 abbrev pub is_declared : List LineFields → List ℕ → Bool
@@ -104,9 +77,8 @@ is_declared rows name = list_any (λ row. bytes_eq name (field 1 row)) rows
 abbrev pub row_fault : List LineFields → LineFields → Option FaultKind
 row_fault rows fields = earliest_fault (
     when (not (length fields == 2)) Fields
-    ∷ when (not (is_one_of (field 0 fields) row_types)) RowType
-    ∷ when (is_declared rows (field 1 fields)) RowRepeated
-    ∷ [])
+    ∷ when (not (is_one_of (field 0 fields) (codes "N" ∷ codes "L" ∷ codes "G" ∷ codes "E" ∷ []))) RowType
+    ∷ when (is_declared rows (field 1 fields)) RowRepeated ∷ [])
 
 -- 'INTORG' and 'INTEND' take turns
 abbrev pub marker_fault : List LineFields → LineFields → Option FaultKind
@@ -118,9 +90,7 @@ is_column columns name = list_any (λ fields. bytes_eq name (field 0 fields)) (c
 
 -- the column was named before, and the line before this one names another or is a marker
 abbrev pub is_split : List LineFields → List ℕ → Bool
-is_split columns name =
-    let nearest = unwrap_or (slice_get columns 0) [] in
-    is_column columns name && (is_marker nearest || not (bytes_eq name (field 0 nearest)))
+is_split columns name = is_column columns name && option_map_or (λ nearest. is_marker nearest || not (bytes_eq name (field 0 nearest))) (slice_get columns 0) false
 
 -- the pairs of a line, where some rows stood before; a check of the section's own comes last
 abbrev pub pairs_fault : List LineFields → (List ℕ × List ℕ → Option FaultKind) → (List ℕ → Bool) → List (List ℕ × List ℕ) → Option FaultKind
@@ -128,64 +98,45 @@ pairs_fault rows own stood [] = None
 pairs_fault rows own stood (pair ∷ more) = earliest_fault (
     when (not (is_declared rows pair.0)) UnknownRow
     ∷ when (stood pair.0) EntryRepeated
-    ∷ number_fault pair.1
+    ∷ number_fault (number pair.1)
     ∷ own pair
-    ∷ pairs_fault rows own (λ row. bytes_eq row pair.0 || stood row) more
-    ∷ [])
+    ∷ pairs_fault rows own (λ row. bytes_eq row pair.0 || stood row) more ∷ [])
 
 abbrev pub column_fault : Sections → LineFields → Option FaultKind
 column_fault s fields = earliest_fault (
     when (not ((length fields == 3) || (length fields == 5))) Fields
     ∷ (if is_marker fields then marker_fault s.columns fields else earliest_fault (
     when (is_split s.columns (field 0 fields)) ColumnSplit
-    ∷ pairs_fault s.rows (λ pair. None) (λ row. list_any (names_both (field 0 fields) row) (all_entries s.columns)) (pairs (drop 1 fields))
-    ∷ []))
-    ∷ [])
-
--- whether the name is that of the objective
-abbrev pub is_objective : List LineFields → List ℕ → Bool
-is_objective rows name = option_map_or (bytes_eq name) (first_free rows) false
+    ∷ pairs_fault s.rows (λ pair. None) (λ row. list_any (λ other. bytes_eq row other.0) (column_pairs s.columns (field 0 fields))) (pairs (drop 1 fields)) ∷ [])) ∷ [])
 
 -- the objective has no right side but 0
 abbrev pub constant_fault : List LineFields → List ℕ × List ℕ → Option FaultKind
-constant_fault rows pair = when (is_objective rows pair.0 && not (int_eq (value pair.1) (pos 0))) ObjectiveConstant
+constant_fault rows pair = when (option_map_or (bytes_eq pair.0) (first_free rows) false && not (int_eq (value pair.1) (pos 0))) ObjectiveConstant
 
 abbrev pub right_side_fault : Sections → LineFields → Option FaultKind
 right_side_fault s fields = earliest_fault (
     when (not (nat_le 2 (length fields) && nat_le (length fields) 5)) Fields
-    ∷ pairs_fault s.rows (constant_fault s.rows) (λ row. list_any (λ other. bytes_eq row other.0) (all_right_sides s.right_sides)) (line_right_sides fields)
-    ∷ [])
+    ∷ pairs_fault s.rows (constant_fault s.rows) (λ row. list_any (λ other. bytes_eq row other.0) (flat_map line_right_sides s.right_sides)) (line_right_sides fields) ∷ [])
 
 -- a bound is 0 or 1
-abbrev pub bit_fault : List ℕ → Option FaultKind
-bit_fault token = earliest_fault (number_fault token ∷ when (not (int_eq (value token) (pos 0) || int_eq (value token) (pos 1))) BoundValue ∷ [])
-
 abbrev pub bound_fault : List LineFields → LineFields → Option FaultKind
 bound_fault columns fields = earliest_fault (
     when (not (is_one_of (field 0 fields) (codes "UP" ∷ codes "LO" ∷ codes "FX" ∷ codes "BV" ∷ []))) BoundType
     ∷ when (not (if is_binary_bound fields then nat_le 2 (length fields) && nat_le (length fields) 4 else nat_le 3 (length fields) && nat_le (length fields) 4)) Fields
-    ∷ when (not (is_column columns (bound_column fields))) UnknownColumn
-    ∷ (if is_binary_bound fields then None else bit_fault (bound_number fields))
-    ∷ [])
+    ∷ when (not (is_column columns (field 0 (bound_pair fields)))) UnknownColumn
+    ∷ (if is_binary_bound fields then None else earliest_fault (
+    number_fault (number (field 1 (bound_pair fields)))
+    ∷ when (not (int_eq (value (field 1 (bound_pair fields))) (pos 0) || int_eq (value (field 1 (bound_pair fields))) (pos 1))) BoundValue ∷ [])) ∷ [])
 
--- a data line, by the section that is open
-abbrev pub data_fault : Sections → LineFields → Option FaultKind
-data_fault s fields =
-    if bytes_eq s.section (codes "OBJSENSE") then objsense_fault fields
+-- the fault of a line, given the lines gathered before it: a data line's by the section that is open
+unfoldable pub fault : Sections → Line → Option FaultKind
+fault s Skipped = None
+fault s Unprintable = Some NotText
+fault s (Header word more) = header_fault s word more
+fault s (Data fields) =
+    if bytes_eq s.section (codes "OBJSENSE") then sense_fault fields
     else (if bytes_eq s.section (codes "ROWS") then row_fault s.rows fields
     else (if bytes_eq s.section (codes "COLUMNS") then column_fault s fields
     else (if bytes_eq s.section (codes "RHS") then right_side_fault s fields
     else (if bytes_eq s.section (codes "BOUNDS") then bound_fault s.columns fields
     else Some Section))))
-
--- the fault of a line, given the lines gathered before it
-unfoldable pub fault : Sections → Line → Option FaultKind
-fault s Skipped = None
-fault s Unprintable = Some NotText
-fault s (Header word more) = header_fault s word more
-fault s (Data fields) = data_fault s fields
-
--- the first faulty line up to the end, counted from 1 behind those before, and its fault
-abbrev pub first_faulty : ℕ → Sections → List Line → Option (ℕ × FaultKind)
-first_faulty before s [] = Some (before, NoEnd)
-first_faulty before s (line ∷ after) = option_or (option_map (λ kind. (before + 1, kind)) (fault s line)) (if is_end line then None else first_faulty (before + 1) (with_line s line) after)

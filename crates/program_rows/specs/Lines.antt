@@ -1,5 +1,5 @@
 -- The fields of a line, and what a line of an MPS text is.
-use Rattle.std.specs.Prelude.{ℕ, Bool, not, ◌||◌, ◌&&◌, nat_le, List, [], ◌∷◌, length, ◌==◌, if◌then◌else◌, slice_index, slice_get, unwrap_or}
+use Rattle.std.specs.Prelude.{ℕ, Bool, not, ◌||◌, ◌&&◌, nat_le, List, [], length, drop, ◌==◌, if◌then◌else◌, slice_index, slice_get, unwrap_or}
 use Rattle.std.specs.List.{slice_split, filter, list_all}
 
 abbrev pub is_space : ℕ → Bool
@@ -32,14 +32,9 @@ pub data Line : Type 0 where
   -- the fields of a data line
   Data : (fields : List (List ℕ)) → Line
 
-abbrev pub header_of : List (List ℕ) → Line
-header_of [] = Skipped
-header_of (word ∷ more) = Header word more
-
 unfoldable pub line_of : List ℕ → Line
 line_of bytes =
-    if slice_index bytes 0 == 42 then Skipped
-    else (if length (fields bytes) == 0 then Skipped
+    if (slice_index bytes 0 == 42) || (length (fields bytes) == 0) then Skipped
     else (if not (list_all is_text_byte bytes) then Unprintable
     else (if is_space (slice_index bytes 0) then Data (fields bytes)
-    else header_of (fields bytes))))
+    else Header (field 0 (fields bytes)) (drop 1 (fields bytes))))

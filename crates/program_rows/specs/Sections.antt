@@ -17,8 +17,7 @@ no_lines = record { section = []; rows = []; columns = []; right_sides = []; bou
 -- with a line more: a header opens its section, and a data line goes to the section that is open
 abbrev pub with_line : Sections → Line → Sections
 with_line s (Header word more) = record s { section = word }
-with_line s (Data fields) = record {
-  section = s.section;
+with_line s (Data fields) = record s {
   rows = if bytes_eq s.section (codes "ROWS") then fields ∷ s.rows else s.rows;
   columns = if bytes_eq s.section (codes "COLUMNS") then fields ∷ s.columns else s.columns;
   right_sides = if bytes_eq s.section (codes "RHS") then fields ∷ s.right_sides else s.right_sides;
@@ -30,8 +29,3 @@ with_line s line = s
 abbrev pub is_end : Line → Bool
 is_end (Header word more) = bytes_eq word (codes "ENDATA")
 is_end line = false
-
--- with all lines up to the end
-abbrev pub gathered : Sections → List Line → Sections
-gathered s [] = s
-gathered s (line ∷ after) = if is_end line then s else gathered (with_line s line) after

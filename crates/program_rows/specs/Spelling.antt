@@ -13,20 +13,9 @@ bid_name bidder bid = 88 ∷ (decimal bidder ++ 95 ∷ decimal bid)
 abbrev pub is_bid : ℕ → ℕ → Bool
 is_bid bidder bid = (nat_le 1 bidder && nat_le bidder MOST_BIDDERS) && (nat_le 1 bid && nat_le bid MOST_BIDS)
 
-abbrev pub is_bar : ℕ → Bool
-is_bar b = b == 95
-
--- the number between the first letter and the bar
-abbrev pub spelled_bidder : List ℕ → ℕ
-spelled_bidder name = digits_value 10 (before_first is_bar (drop 1 name))
-
--- the number behind the bar
-abbrev pub spelled_bid : List ℕ → ℕ
-spelled_bid name = digits_value 10 (after_first is_bar (drop 1 name))
-
--- the bid whose column has this name, if there is one
+-- the bid whose column has this name, if there is one: its bidder's number stands between the first letter and the bar, 95, and its own behind it
 unfoldable pub column_bid : List ℕ → Option Choice
 column_bid name =
-    if is_bid (spelled_bidder name) (spelled_bid name) && bytes_eq name (bid_name (spelled_bidder name) (spelled_bid name))
-    then Some record { bidder = spelled_bidder name; bid = spelled_bid name }
-    else None
+    let bidder = digits_value 10 (before_first (λ b. b == 95) (drop 1 name)) in
+    let bid = digits_value 10 (after_first (λ b. b == 95) (drop 1 name)) in
+    if is_bid bidder bid && bytes_eq name (bid_name bidder bid) then Some record { bidder = bidder; bid = bid } else None

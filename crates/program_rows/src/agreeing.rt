@@ -3,6 +3,7 @@ ghost use Rattle.std.specs.Prelude.{◌≡◌, ◌<◌, Some, bytes_eq, length, 
 ghost use Rattle.std.specs.List.{IsDistinct, list_all};
 ghost use Rattle.program_rows.specs.inside.Comparing as comparing;
 ghost use Rattle.program_rows.specs.Parts.{shown_column, shown_row};
+ghost use Rattle.program_rows.specs.ProgramNames.{row_name};
 ghost use Rattle.program_rows.specs.Same as same;
 
 use crate::bounds::Bounds;
@@ -54,7 +55,7 @@ pub(crate) fn is_among_rows(row: &Row, guess: usize, others: &[Row]) -> bool
 }
 
 fn name_or_none(rows: &[Row], place: usize) -> &[u8]
-    ensures { result.now ≡ comparing.name_at (map shown_row rows.now) place }
+    ensures { result.now ≡ row_name (map shown_row rows.now) place }
 {
     match rows.get(place) {
         Some(row) => row.name.as_slice(),

@@ -1,8 +1,8 @@
 //! The bid that the name of a column spells.
 
-ghost use Rattle.std.specs.Prelude.{◌≡◌, ◌≢◌, ℕ, ◌^◌, ◌<◌, ◌≤◌, decimal, drop, length, take, MatchOption};
+ghost use Rattle.std.specs.Prelude.{◌≡◌, ◌≢◌, ℕ, ◌^◌, ◌<◌, ◌≤◌, decimal, drop, length, take, MatchOption, ◌==◌};
 ghost use Rattle.std.specs.List.{position_or_len};
-ghost use Rattle.program_rows.specs.Spelling.{column_bid, is_bar, is_bid};
+ghost use Rattle.program_rows.specs.Spelling.{column_bid, is_bid};
 
 use crate::digits::digits_behind;
 use crate::token::{are_all_digits, behind};
@@ -29,14 +29,14 @@ fn number_spelled(text: &[u8]) -> Option<u16>
 }
 
 fn is_bar_byte(b: u8) -> bool
-    ensures { result ≡ is_bar b }
+    ensures { result ≡ (b == 95) }
 {
     b == b'_'
 }
 
 /// The place of the first bar, or the length where there is none.
 fn bar_in(bytes: &[u8]) -> usize
-    ensures value { result ≡ position_or_len is_bar bytes.now }
+    ensures value { result ≡ position_or_len (λ b. b == 95) bytes.now }
     ensures within { result ≤ length bytes.now }
 {
     let mut i = 0;

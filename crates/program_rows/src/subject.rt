@@ -17,17 +17,18 @@ pub enum Subject {
 }
 
 impl Subject {
-    ghost use Rattle.std.specs.Prelude.{◌≡◌, ◌≤◌, ◌^◌, IfOk, length};
+    ghost use Rattle.std.specs.Prelude.{◌≡◌, ◌≤◌, ◌^◌, IfOk, length, pos};
     ghost use Rattle.auction_terms.specs.declared.limits.TheConstants.{GREATEST_AMOUNT};
     ghost use Rattle.auction_terms.specs.Offers.{offer_of};
+    ghost use Rattle.auction_terms.specs.Packages.{Lots};
     ghost use Rattle.auction_terms.specs.Terms.{lots_in};
     ghost use Rattle.program_rows.specs.inside.Building.{IsThere};
     ghost use Rattle.program_rows.specs.Parts.{shown_row};
-    ghost use Rattle.program_rows.specs.Rows.{most, row_of, subject_name, weight};
+    ghost use Rattle.program_rows.specs.Rows.{row_of, weight};
 
     /// `Bb`, and `Cc` and `Pp` counted from 1.
     fn name(self, alloc: Global) -> Result<Vec<u8>, AllocError>
-        ensures { IfOk result (λ name. name.items ≡ subject_name self) }
+        ensures { IfOk result (λ name. (lots : Lots) → name.items ≡ (row_of lots self).name) }
     {
         match self {
             Subject::Bidder(number) => numbered(alloc, b'B', number),
@@ -39,7 +40,7 @@ impl Subject {
     /// The greatest sum of its row.
     fn most(self, rules: &Rules) -> u64
         requires { IsThere (lots_in rules.now) self }
-        ensures most { result ≡ most (lots_in rules.now) self }
+        ensures most { pos result ≡ (row_of (lots_in rules.now) self).right_side }
         ensures limit { result ≤ GREATEST_AMOUNT }
     {
         match self {

@@ -1,10 +1,11 @@
 //! The parts of a number token.
 
-ghost use Rattle.std.specs.Prelude.{◌≡◌, ◌≤◌, ◌<◌, ◌+◌, ◌^◌, ◌++◌, ◌&&◌, ◌||◌, not, true, nat_lt, length, drop, if◌then◌else◌, IfOk};
-ghost use Rattle.std.specs.List.{position_or_len, list_all, list_any};
+ghost use Rattle.std.specs.Prelude.{◌≡◌, ◌≤◌, ◌<◌, ◌+◌, ◌^◌, ◌++◌, ◌&&◌, ◌||◌, not, true, nat_lt, length, drop, if◌then◌else◌, IfOk, ◌==◌, slice_index, ℕ};
+ghost use Rattle.std.specs.List.{position_or_len, list_all, list_any, before_first};
 ghost use Rattle.std.specs.Str.Parse.{digits_value};
-ghost use Rattle.program_rows.specs.Numbers.{is_point, is_exponent_mark, is_minus, is_signed, without_sign, whole_digits, fraction_digits, exponent_text, exponent_digits, are_digits, is_number_token, is_too_long};
+ghost use Rattle.program_rows.specs.Numbers.{is_exponent_mark, is_minus, without_sign, fraction_digits, exponent_text, exponent_digits, is_number_token, is_too_long, mantissa};
 ghost use Rattle.program_rows.specs.Tokens.{token_of};
+ghost use Rattle.std.specs.Char.{is_ascii_digit};
 
 use crate::digits::digits_behind;
 use crate::token_fault::TokenFault;
@@ -20,7 +21,7 @@ pub fn is_minus_at(token: &[u8]) -> bool
 }
 
 fn is_signed_at(token: &[u8]) -> bool
-    ensures { result ≡ is_signed token.now }
+    ensures { result ≡ (is_minus token.now || (slice_index token.now 0 == 43)) }
 {
     if token.is_empty() {
         return false;
@@ -38,7 +39,7 @@ pub fn after_sign(token: &[u8]) -> &[u8]
 }
 
 fn is_point_byte(b: u8) -> bool
-    ensures { result ≡ is_point b }
+    ensures { result ≡ (b == 46) }
 {
     b == b'.'
 }
@@ -50,7 +51,7 @@ fn is_mark_byte(b: u8) -> bool
 }
 
 fn point_in(bytes: &[u8]) -> usize
-    ensures value { result ≡ position_or_len is_point bytes.now }
+    ensures value { result ≡ position_or_len (λ b. b == 46) bytes.now }
     ensures within { result ≤ length bytes.now }
 {
     let mut i = 0;
@@ -78,7 +79,7 @@ fn mark_in(bytes: &[u8]) -> usize
 }
 
 pub fn are_all_digits(bytes: &[u8]) -> bool
-    ensures { result ≡ are_digits bytes.now }
+    ensures { result ≡ list_all is_ascii_digit bytes.now }
 {
     bytes.iter().all(|b| b.is_ascii_digit())
 }
@@ -108,7 +109,7 @@ struct Pieces<'t> {
 }
 
 fn pieces_of(token: &[u8]) -> Pieces<'_>
-    ensures whole { result.whole.now ≡ whole_digits token.now }
+    ensures whole { result.whole.now ≡ before_first (λ b. b == 46) (mantissa token.now) }
     ensures fraction { result.fraction.now ≡ fraction_digits token.now }
     ensures exponent { result.exponent.now ≡ exponent_text token.now }
 {
@@ -126,7 +127,7 @@ fn pieces_of(token: &[u8]) -> Pieces<'_>
 /// Whether there is a digit, and all are.
 fn are_some_digits(front: &[u8], back: &[u8]) -> bool
     ensures { result ≡ (nat_lt 0 (length (front.now ++ back.now))
-        && are_digits (front.now ++ back.now)) }
+        && list_all is_ascii_digit (front.now ++ back.now)) }
 {
     if front.is_empty() && back.is_empty() {
         return false;
@@ -136,8 +137,8 @@ fn are_some_digits(front: &[u8], back: &[u8]) -> bool
 
 /// The value of digits, and of others behind them.
 fn value_of(front: &[u8], back: &[u8]) -> u128
-    requires front { are_digits front.now ≡ true }
-    requires back { are_digits back.now ≡ true }
+    requires front { list_all is_ascii_digit front.now ≡ true }
+    requires back { list_all is_ascii_digit back.now ≡ true }
     requires few { length front.now + length back.now ≤ 30 }
     ensures value { result ≡ digits_value 10 (front.now ++ back.now) }
     ensures low { result < 10 ^ 30 }
@@ -147,7 +148,7 @@ fn value_of(front: &[u8], back: &[u8]) -> u128
 }
 
 fn is_exponent(is_marked: bool, digits: &[u8]) -> bool
-    ensures { result ≡ (not is_marked || (nat_lt 0 (length digits.now) && are_digits digits.now)) }
+    ensures { result ≡ (not is_marked || (nat_lt 0 (length digits.now) && list_all is_ascii_digit digits.now)) }
 {
     if !is_marked {
         return true;
@@ -167,7 +168,7 @@ fn are_many(front: &[u8], back: &[u8]) -> bool
 
 /// The value of an exponent of at most three digits.
 fn exponent_value(digits: &[u8]) -> u32
-    requires digits { are_digits digits.now ≡ true }
+    requires digits { list_all is_ascii_digit digits.now ≡ true }
     requires few { length digits.now ≤ 3 }
     ensures { result ≡ digits_value 10 digits.now }
 {

@@ -1,5 +1,5 @@
 -- What the reader answers.
-use Rattle.std.specs.Prelude.{◌≡◌, ◌⊎◌, ℕ, Result, Ok, Err}
+use Rattle.std.specs.Prelude.{◌≡◌, ℕ}
 use Rattle.program_rows.specs.declared.fault.FaultKind.TheVariants.{OutOfMemory}
 use Rattle.mps_reader.specs.declared.mps_fault.MpsFault.{MpsFault}
 use Rattle.mps_reader.specs.declared.refusal.Refusal.{Refusal}

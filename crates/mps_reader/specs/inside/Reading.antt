@@ -1,16 +1,21 @@
 -- What the code holds and answers, as lines and faults of the definitions.
-use Rattle.std.specs.Prelude.{◌≡◌, ℕ, ◌≤◌, Bool, not, ◌&&◌, nat_le, List, length, map, take, Option, Some, None, Result, Ok, Err}
+use Rattle.std.specs.Prelude.{◌≡◌, ℕ, ◌≤◌, Bool, not, ◌||◌, ◌&&◌, nat_le, List, [], ◌∷◌, length, take, Option, Some, None, Result, Ok, Err, pos, drop}
 use Rattle.std.specs.List.{AllByRecursion}
-use denote.Ref.{Bor}
+use Rattle.std.specs.Ordering.{int_eq}
 use Rattle.program_rows.specs.Lines as spec
 use Rattle.program_rows.specs.Lines.{fields, is_space, line_of}
+use Rattle.program_rows.specs.Numbers.{number}
+use Rattle.program_rows.specs.Described.{value}
+use Rattle.program_rows.specs.Faults.{earliest_fault, number_fault}
 use Rattle.program_rows.specs.Parts.{IsName}
 use Rattle.program_rows.specs.declared.fault.FaultKind.{FaultKind}
+use Rattle.program_rows.specs.declared.fault.FaultKind.TheVariants.{BoundValue}
 use Rattle.mps_reader.specs.declared.lines.Line.{Line}
 use Rattle.mps_reader.specs.declared.lines.Line.TheVariants.{Skipped, Unprintable, Header, Data}
 use Rattle.mps_reader.specs.declared.refusal.Refusal.{Refusal}
 use Rattle.mps_reader.specs.declared.refusal.Refusal.TheVariants.{Memory, Fault}
 use Rattle.auction_terms.specs.Borrowed.{bytes_of}
+use Rattle.std.specs.Bool.{then_some as when}
 
 -- a byte that is no white space
 abbrev pub is_other : ℕ → Bool
@@ -30,7 +35,7 @@ pub record AreFirst (first : List (List ℕ)) (all : List (List ℕ)) : Type 0 w
 abbrev pub IsLine : Line → List ℕ → Type 0
 IsLine Skipped bytes = line_of bytes ≡ spec.Skipped
 IsLine Unprintable bytes = line_of bytes ≡ spec.Unprintable
-IsLine (Header first) bytes = (line_of bytes ≡ spec.header_of (fields bytes)) × AreFirst (bytes_of first.items) (fields bytes)
+IsLine (Header first) bytes = (line_of bytes ≡ spec.Header (spec.field 0 (fields bytes)) (drop 1 (fields bytes))) × AreFirst (bytes_of first.items) (fields bytes)
 IsLine (Data first) bytes = (line_of bytes ≡ spec.Data (fields bytes)) × AreFirst (bytes_of first.items) (fields bytes)
 
 -- Ok where there is no fault, else the fault, unless memory ran out
@@ -44,3 +49,7 @@ abbrev pub AnswersUpTo : {X : Type 0} → Result X Refusal → Option FaultKind 
 AnswersUpTo (Ok x) fault last = fault ≡ last
 AnswersUpTo (Err Memory) fault last = Unit {0}
 AnswersUpTo (Err (Fault kind)) fault last = fault ≡ Some kind
+
+-- a number that is 0 or 1
+abbrev pub bit_fault : List ℕ → Option FaultKind
+bit_fault token = earliest_fault (number_fault (number token) ∷ when (not (int_eq (value token) (pos 0) || int_eq (value token) (pos 1))) BoundValue ∷ [])

@@ -11,11 +11,13 @@ use Rattle.program_rows.specs.Program.{TableRow}
 use Rattle.program_rows.specs.Parts.{IsName, shown_row}
 use Rattle.program_rows.specs.Lines.{LineFields, field}
 use Rattle.program_rows.specs.Described.{is_free, row_kind_of, value}
-use Rattle.program_rows.specs.Faults.{earliest_fault, when, number_fault}
+use Rattle.program_rows.specs.Faults.{earliest_fault, number_fault}
 use Rattle.program_rows.specs.declared.fault.FaultKind.{FaultKind}
 use Rattle.program_rows.specs.declared.fault.FaultKind.TheVariants.{UnknownRow, EntryRepeated, ObjectiveConstant}
 use Rattle.auction_terms.specs.Borrowed.{bytes_of}
 use Rattle.mps_reader.specs.declared.row_table.Rows.{Rows}
+use Rattle.program_rows.specs.Numbers.{number as token_number}
+use Rattle.std.specs.Bool.{then_some as when}
 
 abbrev pub NameSet : Type 0
 NameSet = IndexSet (Bor (List ℕ)) Seeded
@@ -98,4 +100,4 @@ rows_by side lines = map (λ fields. record { name = field 1 fields; kind = row_
 
 -- the checks of a pair, whose row is known or not, repeated or not, and the objective or not
 abbrev pub side_fault : Bool → Bool → Bool → List ℕ → Option FaultKind
-side_fault known repeated cost number = earliest_fault (when (not known) UnknownRow ∷ when repeated EntryRepeated ∷ number_fault number ∷ when (cost && not (int_eq (value number) (pos 0))) ObjectiveConstant ∷ [])
+side_fault known repeated cost number = earliest_fault (when (not known) UnknownRow ∷ when repeated EntryRepeated ∷ number_fault (token_number number) ∷ when (cost && not (int_eq (value number) (pos 0))) ObjectiveConstant ∷ [])

@@ -1,12 +1,12 @@
 -- What a reading holds of the lines before.
-use Rattle.std.specs.Prelude.{◌≡◌, ℕ, ◌+◌, ◌++◌, ◌≤◌, ◌==◌, Bool, true, false, List, [], ◌∷◌, length, map, slice_get, if◌then◌else◌, ℤ, pos, Option, Some, None, IfSome, is_some, codes, bytes_eq, option_map, unwrap_or}
+use Rattle.std.specs.Prelude.{◌≡◌, ℕ, ◌+◌, ◌++◌, ◌≤◌, ◌==◌, ◌||◌, ◌&&◌, Bool, true, false, List, [], ◌∷◌, length, map, slice_get, if◌then◌else◌, ℤ, pos, Option, Some, None, IfSome, is_some, codes, bytes_eq, option_map, unwrap_or, flat_map}
 use Rattle.std.specs.List.{list_any, AllByRecursion}
 use Rattle.std.specs.Option.{option_map_or}
 use denote.Ref.{Bor}
-use Rattle.program_rows.specs.Lines.{LineFields}
+use Rattle.program_rows.specs.Lines.{LineFields, field}
 use Rattle.program_rows.specs.Sections.{Sections}
-use Rattle.program_rows.specs.Described.{names_both, first_free, all_right_sides, table_rows, columns_named, all_entries, coefficient, lower, upper}
-use Rattle.program_rows.specs.Faults.{is_integer_open, is_integer}
+use Rattle.program_rows.specs.Described.{first_free, table_rows, columns_named, lower, upper, is_binary_bound, column_pairs, number_beside, line_right_sides, bound_pair}
+use Rattle.program_rows.specs.Faults.{is_integer_open, stands_in_integers}
 use Rattle.program_rows.specs.declared.bounds.Bounds.TheVariants.{ZeroOrOne}
 use Rattle.program_rows.specs.Program.{TableColumn}
 use Rattle.program_rows.specs.Parts.{shown_row}
@@ -23,7 +23,7 @@ use Rattle.mps_reader.specs.declared.reading_state.Reading.{Reading}
 
 pub record RowsTell (rows rights : List LineFields) (r : Rows) : Type 0 where
   pub names : names_of r.names ≡ declared_names rows
-  pub shown : map shown_row r.rows.items ≡ table_rows rows (all_right_sides rights)
+  pub shown : map shown_row r.rows.items ≡ table_rows rows (flat_map line_right_sides rights)
   pub objective : option_now r.objective ≡ first_free rows
 
 -- no stamp is above this one
@@ -53,18 +53,22 @@ abbrev pub bounded_values : List ℕ → ℤ → Bool × ℤ × Option ℤ → B
 bounded_values word number v = (v.0, if bytes_eq word (codes "UP") then v.1 else number, if bytes_eq word (codes "LO") then v.2 else Some number)
 
 abbrev pub told_values : List LineFields → List LineFields → List ℕ → Bool × ℤ × Option ℤ
-told_values lines bounds column = (is_integer lines bounds column, lower bounds column, upper bounds column)
+told_values lines bounds column = (
+  stands_in_integers column lines || list_any (λ fields. is_binary_bound fields && bytes_eq column (field 0 (bound_pair fields))) bounds,
+  lower bounds column,
+  upper bounds column,
+)
 
 -- a column whose lines are all read, but for its bounds
 abbrev pub told_column : Option (List ℕ) → List (List ℕ) → List LineFields → List ℕ → TableColumn
-told_column objective rows lines name = record { name = name; bounds = ZeroOrOne; cost = coefficient (all_entries lines) name (unwrap_or objective []); entries = entries_at 0 (coefficient (all_entries lines) name) rows }
+told_column objective rows lines name = record { name = name; bounds = ZeroOrOne; cost = number_beside (column_pairs lines name) (unwrap_or objective []); entries = entries_at 0 (number_beside (column_pairs lines name)) rows }
 
 pub record ColumnsTell (objective : Option (List ℕ)) (rows : List (List ℕ)) (lines bounds : List LineFields) (c : ColumnTable) : Type 0 where
   pub names : names_of c.names ≡ columns_named lines
   pub begun : c.is_begun ≡ is_integer_open lines
   pub states : map state_values c.states.items ≡ map (told_values lines bounds) (columns_named lines)
   pub done : AllByRecursion (λ k. k ≡ told_column objective rows lines k.name) c.done
-  pub opened : IfSome c.current (λ name. OpenTells objective rows (coefficient (all_entries lines) name.now) c.current_column)
+  pub opened : IfSome c.current (λ name. OpenTells objective rows (number_beside (column_pairs lines name.now)) c.current_column)
   pub closed : is_some c.current ≡ false → c.current_column.cost ≡ pos 0
 
 -- whether the name is that of the current column
@@ -87,7 +91,7 @@ pub record InColumns (lines rights bounds : List LineFields) (r : Rows) (c : Col
   pub no_bounds : bounds ≡ []
   pub low : AreStampsUpTo (length (names_of c.names)) r
   pub current : option_now c.current ≡ nearest_column lines
-  pub stamps : IfSome c.current (λ name. StampsAre r.stamps.items (length (names_of c.names)) (names_of r.names) (λ row. list_any (names_both name.now row) (all_entries lines)))
+  pub stamps : IfSome c.current (λ name. StampsAre r.stamps.items (length (names_of c.names)) (names_of r.names) (λ row. list_any (λ other. bytes_eq row other.0) (column_pairs lines name.now)))
 
 pub record InRows (lines rights bounds : List LineFields) (r : Rows) (c : ColumnTable) : Type 0 where
   pub no_lines : lines ≡ []
@@ -102,7 +106,7 @@ pub record BeforeRows (rows lines rights bounds : List LineFields) (r : Rows) (c
 -- those of a line of RHS are those of the rows that a right side has named
 pub record InRightSides (rights bounds : List LineFields) (r : Rows) (c : ColumnTable) : Type 0 where
   pub no_bounds : bounds ≡ []
-  pub stamps : StampsAre r.stamps.items (length (names_of c.names) + 1) (names_of r.names) (λ row. list_any (λ other. bytes_eq row other.0) (all_right_sides rights))
+  pub stamps : StampsAre r.stamps.items (length (names_of c.names) + 1) (names_of r.names) (λ row. list_any (λ other. bytes_eq row other.0) (flat_map line_right_sides rights))
 
 abbrev pub SectionTells : Section → List LineFields → List LineFields → List LineFields → List LineFields → Rows → ColumnTable → Type 0
 SectionTells sections.Start rows lines rights bounds r c = BeforeRows rows lines rights bounds r c

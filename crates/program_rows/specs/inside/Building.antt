@@ -5,7 +5,7 @@ use Rattle.auction_terms.specs.Keeping.{Offer}
 use Rattle.program_rows.specs.declared.subject.Subject.{Subject}
 use Rattle.program_rows.specs.declared.subject.Subject.TheVariants.{Bidder, Category, Pool}
 use Rattle.program_rows.specs.Program.{TableColumn}
-use Rattle.program_rows.specs.Rows.{column_of, entries_from, lot_subjects}
+use Rattle.program_rows.specs.Rows.{column_of, entries_from, subjects}
 
 -- there is such a category, or such a pool
 abbrev pub IsThere : Lots → Subject → Type 0
@@ -15,4 +15,4 @@ IsThere lots (Pool p) = p < length lots.pools
 
 -- the column of an offer, whose bidder has its row at this place, where the rows of categories and pools begin at `first`
 abbrev pub built_column : Lots → ℕ → ℕ → Offer → TableColumn
-built_column lots first place o = record (column_of lots [] o) { entries = (place, pos 1) ∷ entries_from lots first (lot_subjects lots) o }
+built_column lots first place o = record (column_of lots [] o) { entries = (place, pos 1) ∷ entries_from lots first (subjects lots []) o }

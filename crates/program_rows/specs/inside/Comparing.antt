@@ -1,5 +1,5 @@
 -- Comparing two programs name by name: each row and column of one stands in the other.
-use Rattle.std.specs.Prelude.{ℕ, Bool, true, false, ◌&&◌, List, [], ℤ, bytes_eq, slice_get}
+use Rattle.std.specs.Prelude.{ℕ, Bool, true, false, ◌&&◌, List, ℤ, bytes_eq}
 use Rattle.std.specs.Option.{option_map_or}
 use Rattle.std.specs.List.{list_all}
 use Rattle.std.specs.Ordering.{int_eq}
@@ -8,6 +8,7 @@ use Rattle.program_rows.specs.declared.row.RowKind.TheVariants.{AtMost, AtLeast,
 use Rattle.program_rows.specs.declared.bounds.Bounds.{Bounds}
 use Rattle.program_rows.specs.declared.bounds.Bounds.TheVariants.{ZeroOrOne, Zero, One}
 use Rattle.program_rows.specs.Program.{Table, TableRow, TableColumn}
+use Rattle.program_rows.specs.ProgramNames.{row_name}
 use Rattle.program_rows.specs.Same.{row_named, column_named, coefficient_in}
 
 abbrev pub same_kind : RowKind → RowKind → Bool
@@ -29,12 +30,9 @@ row_agrees r s = same_kind r.kind s.kind && int_eq r.right_side s.right_side
 abbrev pub row_stands : List TableRow → TableRow → Bool
 row_stands rows r = option_map_or (row_agrees r) (row_named rows r.name) false
 
-abbrev pub name_at : List TableRow → ℕ → List ℕ
-name_at rows place = option_map_or (λ r. r.name) (slice_get rows place) []
-
 -- an entry, whose row goes by its place among `rows`, is one of the other column
 abbrev pub entry_stands : List TableRow → List TableRow → TableColumn → ℕ × ℤ → Bool
-entry_stands rows others d e = int_eq (coefficient_in others d (name_at rows e.0)) e.1
+entry_stands rows others d e = int_eq (coefficient_in others d (row_name rows e.0)) e.1
 
 abbrev pub column_agrees : List TableRow → List TableRow → TableColumn → TableColumn → Bool
 column_agrees rows others c d = (same_bounds c.bounds d.bounds && int_eq c.cost d.cost) && list_all (entry_stands rows others d) c.entries

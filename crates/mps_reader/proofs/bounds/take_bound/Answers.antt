@@ -1,10 +1,10 @@
 use Rattle.std.proofs.Common.{rules, ◌≡◌, ◌+◌, ◌∙◌, ap, sym, refl, arith, Bool, Some, None, true, false, map, get_or}
-use Rattle.std.specs.Prelude.{bytes_eq, codes, Err, slice_get}
+use Rattle.std.specs.Prelude.{bytes_eq, codes, Err, slice_get, length, if◌then◌else◌, ◌==◌}
 use Rattle.std.specs.List.{list_any}
 use Rattle.program_rows.specs.declared.fault.FaultKind.TheVariants.{UnknownColumn}
 use Rattle.program_rows.specs.Lines.{field}
-use Rattle.program_rows.specs.Described.{value, is_binary_bound, bound_place, bound_column, bound_number}
-use Rattle.program_rows.specs.Faults.{is_column, bit_fault}
+use Rattle.program_rows.specs.Described.{value, is_binary_bound, bound_pair}
+use Rattle.program_rows.specs.Faults.{is_column}
 use Rattle.auction_terms.specs.Borrowed.{bytes_of}
 use Rattle.mps_reader.specs.inside.Rows.{names_of}
 use Rattle.mps_reader.specs.inside.Tracking.{state_values, told_values, bounded_values}
@@ -14,7 +14,8 @@ use Rattle.mps_reader.proofs.StampFacts.{found-row}
 use Rattle.mps_reader.proofs.PairSteps.{get-below, get-from}
 use Rattle.mps_reader.specs.declared.column_state.ColumnState.{ColumnState}
 use Rattle.mps_reader.proofs.AnswerFacts.{handed-on}
-use Rattle.mps_reader.proofs.BoundTells.{type-refused, type-taken, column-any, last-one, values-binary, values-of, told-at, bound-tells}
+use Rattle.mps_reader.proofs.BoundTells.{type-refused, type-taken, column-any, last-one, values-binary, values-of, told-at, bound-tells, first-behind, second-behind}
+use Rattle.mps_reader.specs.inside.Reading.{bit_fault}
 use Rattle.mps_reader.proofs.bounds.take_bound.Goals as goal
 
 pub returns-in_err-is_binary-clause-fault : goal.returns-in_err-is_binary-clause-fault
@@ -26,9 +27,9 @@ pub returns-in_default-clause-fault : goal.returns-in_default-clause-fault
 returns-in_default-clause-fault c = λ before names.
     let fields = bytes_of c.args.fields.now in
     let binary : is_binary_bound fields ≡ c.in_ok-is_binary.is_binary = sym c.in_ok-is_binary.ensures.binary in
-    let place : bound_place fields ≡ c.place_of_column-at.result = rw (length-bytes c.args.fields.now, binary) (sym c.place_of_column-at.ensures.value) in
-    let column : bound_column fields ≡ (get_or c.args.fields.now c.place_of_column-at.result no_name).now = ap (λ n. field n fields) place ∙ field-at c.args.fields.now c.place_of_column-at.result c.place_of_column-at.ensures.within in
-    let known : is_column before (bound_column fields) ≡ false = column-any before (names_of c.args.columns.now.names) (bound_column fields) names ∙ ap (λ n. list_any (bytes_eq n) (names_of c.args.columns.now.names)) column
+    let place : (if length fields == (if is_binary_bound fields then 2 else 3) then 1 else 2) ≡ c.place_of_column-at.result = rw (length-bytes c.args.fields.now, binary) (sym c.place_of_column-at.ensures.value) in
+    let column : field 0 (bound_pair fields) ≡ (get_or c.args.fields.now c.place_of_column-at.result no_name).now = first-behind _ fields ∙ ap (λ n. field n fields) place ∙ field-at c.args.fields.now c.place_of_column-at.result c.place_of_column-at.ensures.within in
+    let known : is_column before (field 0 (bound_pair fields)) ≡ false = column-any before (names_of c.args.columns.now.names) (field 0 (bound_pair fields)) names ∙ ap (λ n. list_any (bytes_eq n) (names_of c.args.columns.now.names)) column
     ∙ sym (any-names (get_or c.args.fields.now c.place_of_column-at.result no_name).now c.args.columns.now.names.keys) ∙ sym c.in_default.ensures.found in
     type-taken before fields false (is_binary_bound fields) (Some UnknownColumn) c.in_ok-is_binary.ensures.fault known refl refl
 
@@ -36,9 +37,9 @@ pub returns-then-is_binary-clause-fault : goal.returns-then-is_binary-clause-fau
 returns-then-is_binary-clause-fault c = λ before names.
     let fields = bytes_of c.args.fields.now in
     let binary : is_binary_bound fields ≡ c.in_ok-is_binary.is_binary = sym c.in_ok-is_binary.ensures.binary in
-    let place : bound_place fields ≡ c.place_of_column-at.result = rw (length-bytes c.args.fields.now, binary) (sym c.place_of_column-at.ensures.value) in
-    let column : bound_column fields ≡ (get_or c.args.fields.now c.place_of_column-at.result no_name).now = ap (λ n. field n fields) place ∙ field-at c.args.fields.now c.place_of_column-at.result c.place_of_column-at.ensures.within in
-    let known : is_column before (bound_column fields) ≡ true = column-any before (names_of c.args.columns.now.names) (bound_column fields) names ∙ ap (λ n. list_any (bytes_eq n) (names_of c.args.columns.now.names)) column
+    let place : (if length fields == (if is_binary_bound fields then 2 else 3) then 1 else 2) ≡ c.place_of_column-at.result = rw (length-bytes c.args.fields.now, binary) (sym c.place_of_column-at.ensures.value) in
+    let column : field 0 (bound_pair fields) ≡ (get_or c.args.fields.now c.place_of_column-at.result no_name).now = first-behind _ fields ∙ ap (λ n. field n fields) place ∙ field-at c.args.fields.now c.place_of_column-at.result c.place_of_column-at.ensures.within in
+    let known : is_column before (field 0 (bound_pair fields)) ≡ true = column-any before (names_of c.args.columns.now.names) (field 0 (bound_pair fields)) names ∙ ap (λ n. list_any (bytes_eq n) (names_of c.args.columns.now.names)) column
     ∙ sym (any-names (get_or c.args.fields.now c.place_of_column-at.result no_name).now c.args.columns.now.names.keys) ∙ sym c.in-Some.ensures.found in
     let is : is_binary_bound fields ≡ true = binary ∙ c.if-is_binary.true in
     type-taken before fields true true None c.in_ok-is_binary.ensures.fault known is refl
@@ -47,55 +48,55 @@ pub returns-then-is_binary-clause-tells : goal.returns-then-is_binary-clause-tel
 returns-then-is_binary-clause-tells c = λ objective rows lines bounds distinct h.
     let fields = bytes_of c.args.fields.now in
     let binary : is_binary_bound fields ≡ c.in_ok-is_binary.is_binary = sym c.in_ok-is_binary.ensures.binary in
-    let place : bound_place fields ≡ c.place_of_column-at.result = rw (length-bytes c.args.fields.now, binary) (sym c.place_of_column-at.ensures.value) in
-    let column : bound_column fields ≡ (get_or c.args.fields.now c.place_of_column-at.result no_name).now = ap (λ n. field n fields) place ∙ field-at c.args.fields.now c.place_of_column-at.result c.place_of_column-at.ensures.within in
-    let at : slice_get (names_of c.args.columns.now.names) c.in-Some.index ≡ Some (bound_column fields) = found-row (get_or c.args.fields.now c.place_of_column-at.result no_name).now c.args.columns.now.names.keys c.in-Some.index c.in-Some.ensures.index ∙ ap (λ n. Some n) (sym column) in
+    let place : (if length fields == (if is_binary_bound fields then 2 else 3) then 1 else 2) ≡ c.place_of_column-at.result = rw (length-bytes c.args.fields.now, binary) (sym c.place_of_column-at.ensures.value) in
+    let column : field 0 (bound_pair fields) ≡ (get_or c.args.fields.now c.place_of_column-at.result no_name).now = first-behind _ fields ∙ ap (λ n. field n fields) place ∙ field-at c.args.fields.now c.place_of_column-at.result c.place_of_column-at.ensures.within in
+    let at : slice_get (names_of c.args.columns.now.names) c.in-Some.index ≡ Some (field 0 (bound_pair fields)) = found-row (get_or c.args.fields.now c.place_of_column-at.result no_name).now c.args.columns.now.names.keys c.in-Some.index c.in-Some.ensures.index ∙ ap (λ n. Some n) (sym column) in
     let word : field 0 fields ≡ codes "BV" = same_name _ _ (binary ∙ c.if-is_binary.true) in
-    bound-tells fields objective rows lines bounds c.args.columns.now _ c.in-Some.index _ refl refl distinct at (sym (values-binary fields lines bounds (bound_column fields) (own_name (bound_column fields)) word)) h
+    bound-tells fields objective rows lines bounds c.args.columns.now _ c.in-Some.index _ refl refl distinct at (sym (values-binary fields lines bounds (field 0 (bound_pair fields)) (own_name (field 0 (bound_pair fields))) word)) h
 
 pub returns-in_err-state-clause-fault : goal.returns-in_err-state-clause-fault
 returns-in_err-state-clause-fault c = λ before names.
     let fields = bytes_of c.args.fields.now in
     let binary : is_binary_bound fields ≡ c.in_ok-is_binary.is_binary = sym c.in_ok-is_binary.ensures.binary in
-    let place : bound_place fields ≡ c.place_of_column-at.result = rw (length-bytes c.args.fields.now, binary) (sym c.place_of_column-at.ensures.value) in
-    let column : bound_column fields ≡ (get_or c.args.fields.now c.place_of_column-at.result no_name).now = ap (λ n. field n fields) place ∙ field-at c.args.fields.now c.place_of_column-at.result c.place_of_column-at.ensures.within in
-    let known : is_column before (bound_column fields) ≡ true = column-any before (names_of c.args.columns.now.names) (bound_column fields) names ∙ ap (λ n. list_any (bytes_eq n) (names_of c.args.columns.now.names)) column
+    let place : (if length fields == (if is_binary_bound fields then 2 else 3) then 1 else 2) ≡ c.place_of_column-at.result = rw (length-bytes c.args.fields.now, binary) (sym c.place_of_column-at.ensures.value) in
+    let column : field 0 (bound_pair fields) ≡ (get_or c.args.fields.now c.place_of_column-at.result no_name).now = first-behind _ fields ∙ ap (λ n. field n fields) place ∙ field-at c.args.fields.now c.place_of_column-at.result c.place_of_column-at.ensures.within in
+    let known : is_column before (field 0 (bound_pair fields)) ≡ true = column-any before (names_of c.args.columns.now.names) (field 0 (bound_pair fields)) names ∙ ap (λ n. list_any (bytes_eq n) (names_of c.args.columns.now.names)) column
     ∙ sym (any-names (get_or c.args.fields.now c.place_of_column-at.result no_name).now c.args.columns.now.names.keys) ∙ sym c.in-Some.ensures.found in
-    let number : bound_number fields ≡ (get_or c.args.fields.now (c.place_of_column-at.result + 1) no_name).now = ap (λ n. field (n + 1) fields) place ∙ field-at c.args.fields.now (c.place_of_column-at.result + 1) (c.place_of_column-at.ensures.number c.if-is_binary.false) in
+    let number : field 1 (bound_pair fields) ≡ (get_or c.args.fields.now (c.place_of_column-at.result + 1) no_name).now = second-behind _ fields ∙ ap (λ n. field (n + 1) fields) place ∙ field-at c.args.fields.now (c.place_of_column-at.result + 1) (c.place_of_column-at.ensures.number c.if-is_binary.false) in
     let plain : is_binary_bound fields ≡ false = binary ∙ c.if-is_binary.false in
     let r : c.from_residual-in_err-state.result ≡ Err c.in_err-state.field-0.0 = search rules in
     handed-on ColumnState c.from_residual-in_err-state.result c.in_err-state.field-0.0 _ _ r
-    (λ kind k. type-taken before fields true false (Some kind) c.in_ok-is_binary.ensures.fault known plain (last-one (bit_fault (bound_number fields)) ∙ ap bit_fault number ∙ k)) c.in_err-state.ensures.fault
+    (λ kind k. type-taken before fields true false (Some kind) c.in_ok-is_binary.ensures.fault known plain (last-one (bit_fault (field 1 (bound_pair fields))) ∙ ap bit_fault number ∙ k)) c.in_err-state.ensures.fault
 
 pub returns-clause-fault : goal.returns-clause-fault
 returns-clause-fault c = λ before names.
     let fields = bytes_of c.args.fields.now in
     let binary : is_binary_bound fields ≡ c.in_ok-is_binary.is_binary = sym c.in_ok-is_binary.ensures.binary in
-    let place : bound_place fields ≡ c.place_of_column-at.result = rw (length-bytes c.args.fields.now, binary) (sym c.place_of_column-at.ensures.value) in
-    let column : bound_column fields ≡ (get_or c.args.fields.now c.place_of_column-at.result no_name).now = ap (λ n. field n fields) place ∙ field-at c.args.fields.now c.place_of_column-at.result c.place_of_column-at.ensures.within in
-    let known : is_column before (bound_column fields) ≡ true = column-any before (names_of c.args.columns.now.names) (bound_column fields) names ∙ ap (λ n. list_any (bytes_eq n) (names_of c.args.columns.now.names)) column
+    let place : (if length fields == (if is_binary_bound fields then 2 else 3) then 1 else 2) ≡ c.place_of_column-at.result = rw (length-bytes c.args.fields.now, binary) (sym c.place_of_column-at.ensures.value) in
+    let column : field 0 (bound_pair fields) ≡ (get_or c.args.fields.now c.place_of_column-at.result no_name).now = first-behind _ fields ∙ ap (λ n. field n fields) place ∙ field-at c.args.fields.now c.place_of_column-at.result c.place_of_column-at.ensures.within in
+    let known : is_column before (field 0 (bound_pair fields)) ≡ true = column-any before (names_of c.args.columns.now.names) (field 0 (bound_pair fields)) names ∙ ap (λ n. list_any (bytes_eq n) (names_of c.args.columns.now.names)) column
     ∙ sym (any-names (get_or c.args.fields.now c.place_of_column-at.result no_name).now c.args.columns.now.names.keys) ∙ sym c.in-Some.ensures.found in
-    let number : bound_number fields ≡ (get_or c.args.fields.now (c.place_of_column-at.result + 1) no_name).now = ap (λ n. field (n + 1) fields) place ∙ field-at c.args.fields.now (c.place_of_column-at.result + 1) (c.place_of_column-at.ensures.number c.if-is_binary.false) in
+    let number : field 1 (bound_pair fields) ≡ (get_or c.args.fields.now (c.place_of_column-at.result + 1) no_name).now = second-behind _ fields ∙ ap (λ n. field (n + 1) fields) place ∙ field-at c.args.fields.now (c.place_of_column-at.result + 1) (c.place_of_column-at.ensures.number c.if-is_binary.false) in
     let plain : is_binary_bound fields ≡ false = binary ∙ c.if-is_binary.false in
-    type-taken before fields true false None c.in_ok-is_binary.ensures.fault known plain (last-one (bit_fault (bound_number fields)) ∙ ap bit_fault number ∙ c.in_ok-state.ensures.fault)
+    type-taken before fields true false None c.in_ok-is_binary.ensures.fault known plain (last-one (bit_fault (field 1 (bound_pair fields))) ∙ ap bit_fault number ∙ c.in_ok-state.ensures.fault)
 
 pub returns-clause-tells : goal.returns-clause-tells
 returns-clause-tells c = λ objective rows lines bounds distinct h.
     let fields = bytes_of c.args.fields.now in
     let binary : is_binary_bound fields ≡ c.in_ok-is_binary.is_binary = sym c.in_ok-is_binary.ensures.binary in
-    let place : bound_place fields ≡ c.place_of_column-at.result = rw (length-bytes c.args.fields.now, binary) (sym c.place_of_column-at.ensures.value) in
-    let column : bound_column fields ≡ (get_or c.args.fields.now c.place_of_column-at.result no_name).now = ap (λ n. field n fields) place ∙ field-at c.args.fields.now c.place_of_column-at.result c.place_of_column-at.ensures.within in
-    let number : bound_number fields ≡ (get_or c.args.fields.now (c.place_of_column-at.result + 1) no_name).now = ap (λ n. field (n + 1) fields) place ∙ field-at c.args.fields.now (c.place_of_column-at.result + 1) (c.place_of_column-at.ensures.number c.if-is_binary.false) in
+    let place : (if length fields == (if is_binary_bound fields then 2 else 3) then 1 else 2) ≡ c.place_of_column-at.result = rw (length-bytes c.args.fields.now, binary) (sym c.place_of_column-at.ensures.value) in
+    let column : field 0 (bound_pair fields) ≡ (get_or c.args.fields.now c.place_of_column-at.result no_name).now = first-behind _ fields ∙ ap (λ n. field n fields) place ∙ field-at c.args.fields.now c.place_of_column-at.result c.place_of_column-at.ensures.within in
+    let number : field 1 (bound_pair fields) ≡ (get_or c.args.fields.now (c.place_of_column-at.result + 1) no_name).now = second-behind _ fields ∙ ap (λ n. field (n + 1) fields) place ∙ field-at c.args.fields.now (c.place_of_column-at.result + 1) (c.place_of_column-at.ensures.number c.if-is_binary.false) in
     let plain : is_binary_bound fields ≡ false = binary ∙ c.if-is_binary.false in
-    let at : slice_get (names_of c.args.columns.now.names) c.in-Some.index ≡ Some (bound_column fields) = found-row (get_or c.args.fields.now c.place_of_column-at.result no_name).now c.args.columns.now.names.keys c.in-Some.index c.in-Some.ensures.index ∙ ap (λ n. Some n) (sym column) in
+    let at : slice_get (names_of c.args.columns.now.names) c.in-Some.index ≡ Some (field 0 (bound_pair fields)) = found-row (get_or c.args.fields.now c.place_of_column-at.result no_name).now c.args.columns.now.names.keys c.in-Some.index c.in-Some.ensures.index ∙ ap (λ n. Some n) (sym column) in
     let some = c.in_ok-is_binary.ensures.number c.if-is_binary.false in
     let states = c.requires.states in
     let size = length-bytes c.args.columns.now.names.keys in
-    let low = get-below (names_of c.args.columns.now.names) c.in-Some.index (bound_column fields) at in
+    let low = get-below (names_of c.args.columns.now.names) c.in-Some.index (field 0 (bound_pair fields)) at in
     let here : slice_get c.args.columns.now.states.items c.in-Some.index ≡ Some c.index.result.now = get-from c.args.columns.now.states.items c.in-Some.index c.index.result.now (omega arith) c.index.ensures in
-    let before = told-at lines bounds c.args.columns.now.states.items (names_of c.args.columns.now.names) c.in-Some.index c.index.result.now (bound_column fields) here at (h.states ∙ ap (map (told_values lines bounds)) (sym h.names)) in
+    let before = told-at lines bounds c.args.columns.now.states.items (names_of c.args.columns.now.names) c.in-Some.index c.index.result.now (field 0 (bound_pair fields)) here at (h.states ∙ ap (map (told_values lines bounds)) (sym h.names)) in
     let word : (get_or c.args.fields.now 0 no_name).now ≡ field 0 fields = sym (field-at c.args.fields.now 0 (omega (arith, c.requires.some))) in
     let told = c.in_ok-state.ensures.values ∙ ap (λ w. bounded_values w (value (get_or c.args.fields.now (c.place_of_column-at.result + 1) no_name).now) (state_values c.index.result.now)) word
-    ∙ ap (λ n. bounded_values (field 0 fields) (value n) (state_values c.index.result.now)) (sym number) ∙ ap (bounded_values (field 0 fields) (value (bound_number fields))) before
-    ∙ sym (values-of fields lines bounds (bound_column fields) (own_name (bound_column fields)) some) in
+    ∙ ap (λ n. bounded_values (field 0 fields) (value n) (state_values c.index.result.now)) (sym number) ∙ ap (bounded_values (field 0 fields) (value (field 1 (bound_pair fields)))) before
+    ∙ sym (values-of fields lines bounds (field 0 (bound_pair fields)) (own_name (field 0 (bound_pair fields))) some) in
     bound-tells fields objective rows lines bounds c.args.columns.now _ c.in-Some.index c.in_ok-state.state refl refl distinct at told h

@@ -1,8 +1,7 @@
 use Rattle.std.proofs.Common.{rules, ◌≡◌, ◌||◌, ◌==◌, ◌∙◌, ap, sym, subst, ◌++◌, arith, ℕ, length, get_or}
-use Rattle.std.specs.Prelude.{bytes_eq, Err, if◌then◌else◌}
+use Rattle.std.specs.Prelude.{bytes_eq, Err, if◌then◌else◌, drop}
 use Rattle.std.specs.List.{list_any}
-use Rattle.program_rows.specs.Lines.{field}
-use Rattle.program_rows.specs.Described.{names_both, value, line_entries, coefficient}
+use Rattle.program_rows.specs.Described.{value, pairs, number_beside}
 use Rattle.auction_terms.specs.Borrowed.{bytes_of}
 use Rattle.mps_reader.specs.inside.Rows.{names_of, option_now, declared_row_names, StampsAre}
 use Rattle.mps_reader.specs.declared.row_table.Rows.{Rows}
@@ -33,14 +32,14 @@ pub returns-clause-stamps : goal.returns-clause-stamps
 returns-clause-stamps c = λ earlier h.
     let fields = bytes_of c.args.fields.now in
     let size : length fields ≡ 3 = length-bytes c.args.fields.now ∙ three (length c.args.fields.now) c.requires.count c.if-fields-eq5.false in
-    one-stamps fields (get_or c.args.fields.now 1 no_name).now _ c.args.stamp (names_of c.args.rows.now.names) earlier size (field-at c.args.fields.now 1 (omega arith)) (c.in_ok-take_entry.ensures.stamps (λ r. list_any (names_both (field 0 fields) r) earlier) h)
+    one-stamps fields (get_or c.args.fields.now 1 no_name).now _ c.args.stamp (names_of c.args.rows.now.names) earlier size (field-at c.args.fields.now 1 (omega arith)) (c.in_ok-take_entry.ensures.stamps (λ r. list_any (λ other. bytes_eq r other.0) earlier) h)
 
 pub returns-clause-tells : goal.returns-clause-tells
 returns-clause-tells c = λ fits earlier s h.
     let fields = bytes_of c.args.fields.now in
     let size : length fields ≡ 3 = length-bytes c.args.fields.now ∙ three (length c.args.fields.now) c.requires.count c.if-fields-eq5.false in
     one-tells fields (get_or c.args.fields.now 1 no_name).now (get_or c.args.fields.now 2 no_name).now (option_now c.args.rows.now.objective) (declared_row_names c.args.rows.now.rows.items) earlier c.take_entry.new.column size
-    (field-at c.args.fields.now 1 (omega arith)) (field-at c.args.fields.now 2 (omega arith)) (c.in_ok-take_entry.ensures.tells fits (coefficient earlier (field 0 fields)) h)
+    (field-at c.args.fields.now 1 (omega arith)) (field-at c.args.fields.now 2 (omega arith)) (c.in_ok-take_entry.ensures.tells fits (number_beside earlier) h)
 
 pub returns-in_err-take_entry-2-clause-fault : goal.returns-in_err-take_entry-2-clause-fault
 returns-in_err-take_entry-2-clause-fault c = λ lines has d s.
@@ -87,8 +86,8 @@ returns-then-fields-eq5-clause-stamps c = λ earlier h.
       row2-is = field-at c.args.fields.now 3 (omega (arith, c.if-fields-eq5.true));
       number2-is = field-at c.args.fields.now 4 (omega (arith, c.if-fields-eq5.true));
     } in
-    subst (λ ns. StampsAre c.take_entry-then-fields-eq5.new.rows.stamps.items c.args.stamp ns (λ r. list_any (names_both (field 0 fields) r) (line_entries fields ++ earlier))) kept (two-stamps fields (get_or c.args.fields.now 1 no_name).now (get_or c.args.fields.now 2 no_name).now (get_or c.args.fields.now 3 no_name).now (get_or c.args.fields.now 4 no_name).now _ c.args.stamp (names_of c.take_entry.new.rows.names) earlier two
-    (c.in_ok-take_entry-2.ensures.stamps (λ r. bytes_eq r (get_or c.args.fields.now 1 no_name).now || list_any (names_both (field 0 fields) r) earlier) (subst (λ ns. StampsAre c.take_entry.new.rows.stamps.items c.args.stamp ns (λ r. bytes_eq r (get_or c.args.fields.now 1 no_name).now || list_any (names_both (field 0 fields) r) earlier)) (sym kept) (c.in_ok-take_entry.ensures.stamps (λ r. list_any (names_both (field 0 fields) r) earlier) h))))
+    subst (λ ns. StampsAre c.take_entry-then-fields-eq5.new.rows.stamps.items c.args.stamp ns (λ r. list_any (λ other. bytes_eq r other.0) (pairs (drop 1 fields) ++ earlier))) kept (two-stamps fields (get_or c.args.fields.now 1 no_name).now (get_or c.args.fields.now 2 no_name).now (get_or c.args.fields.now 3 no_name).now (get_or c.args.fields.now 4 no_name).now _ c.args.stamp (names_of c.take_entry.new.rows.names) earlier two
+    (c.in_ok-take_entry-2.ensures.stamps (λ r. bytes_eq r (get_or c.args.fields.now 1 no_name).now || list_any (λ other. bytes_eq r other.0) earlier) (subst (λ ns. StampsAre c.take_entry.new.rows.stamps.items c.args.stamp ns (λ r. bytes_eq r (get_or c.args.fields.now 1 no_name).now || list_any (λ other. bytes_eq r other.0) earlier)) (sym kept) (c.in_ok-take_entry.ensures.stamps (λ r. list_any (λ other. bytes_eq r other.0) earlier) h))))
 
 pub returns-then-fields-eq5-clause-tells : goal.returns-then-fields-eq5-clause-tells
 returns-then-fields-eq5-clause-tells c = λ fits earlier s h.
@@ -101,11 +100,11 @@ returns-then-fields-eq5-clause-tells c = λ fits earlier s h.
       row2-is = field-at c.args.fields.now 3 (omega (arith, c.if-fields-eq5.true));
       number2-is = field-at c.args.fields.now 4 (omega (arith, c.if-fields-eq5.true));
     } in
-    let none = c.in_ok-take_entry-2.ensures.fault (λ r. bytes_eq r (get_or c.args.fields.now 1 no_name).now || list_any (names_both (field 0 fields) r) earlier) (subst (λ ns. StampsAre c.take_entry.new.rows.stamps.items c.args.stamp ns (λ r. bytes_eq r (get_or c.args.fields.now 1 no_name).now || list_any (names_both (field 0 fields) r) earlier)) (sym kept) (c.in_ok-take_entry.ensures.stamps (λ r. list_any (names_both (field 0 fields) r) earlier) s)) in
+    let none = c.in_ok-take_entry-2.ensures.fault (λ r. bytes_eq r (get_or c.args.fields.now 1 no_name).now || list_any (λ other. bytes_eq r other.0) earlier) (subst (λ ns. StampsAre c.take_entry.new.rows.stamps.items c.args.stamp ns (λ r. bytes_eq r (get_or c.args.fields.now 1 no_name).now || list_any (λ other. bytes_eq r other.0) earlier)) (sym kept) (c.in_ok-take_entry.ensures.stamps (λ r. list_any (λ other. bytes_eq r other.0) earlier) s)) in
     let differ = or-false _ _ (not-repeated _ _ _ none) in
     two-tells fields (get_or c.args.fields.now 1 no_name).now (get_or c.args.fields.now 2 no_name).now (get_or c.args.fields.now 3 no_name).now (get_or c.args.fields.now 4 no_name).now (option_now c.args.rows.now.objective) (declared_row_names c.args.rows.now.rows.items) earlier
     c.take_entry-then-fields-eq5.new.column two differ.0
-    (subst (λ (q : Rows). OpenTells (option_now q.objective) (declared_row_names q.rows.items) (λ n. if bytes_eq n (get_or c.args.fields.now 3 no_name).now then value (get_or c.args.fields.now 4 no_name).now else (if bytes_eq n (get_or c.args.fields.now 1 no_name).now then value (get_or c.args.fields.now 2 no_name).now else coefficient earlier (field 0 fields) n)) c.take_entry-then-fields-eq5.new.column) c.in_ok-take_entry.ensures.frame
-    (c.in_ok-take_entry-2.ensures.tells (c.in_ok-take_entry.ensures.entries fits) (λ n. if bytes_eq n (get_or c.args.fields.now 1 no_name).now then value (get_or c.args.fields.now 2 no_name).now else coefficient earlier (field 0 fields) n)
-    (subst (λ (q : Rows). OpenTells (option_now q.objective) (declared_row_names q.rows.items) (λ n. if bytes_eq n (get_or c.args.fields.now 1 no_name).now then value (get_or c.args.fields.now 2 no_name).now else coefficient earlier (field 0 fields) n) c.take_entry.new.column) (sym c.in_ok-take_entry.ensures.frame)
-    (c.in_ok-take_entry.ensures.tells fits (coefficient earlier (field 0 fields)) h))))
+    (subst (λ (q : Rows). OpenTells (option_now q.objective) (declared_row_names q.rows.items) (λ n. if bytes_eq n (get_or c.args.fields.now 3 no_name).now then value (get_or c.args.fields.now 4 no_name).now else (if bytes_eq n (get_or c.args.fields.now 1 no_name).now then value (get_or c.args.fields.now 2 no_name).now else number_beside earlier n)) c.take_entry-then-fields-eq5.new.column) c.in_ok-take_entry.ensures.frame
+    (c.in_ok-take_entry-2.ensures.tells (c.in_ok-take_entry.ensures.entries fits) (λ n. if bytes_eq n (get_or c.args.fields.now 1 no_name).now then value (get_or c.args.fields.now 2 no_name).now else number_beside earlier n)
+    (subst (λ (q : Rows). OpenTells (option_now q.objective) (declared_row_names q.rows.items) (λ n. if bytes_eq n (get_or c.args.fields.now 1 no_name).now then value (get_or c.args.fields.now 2 no_name).now else number_beside earlier n) c.take_entry.new.column) (sym c.in_ok-take_entry.ensures.frame)
+    (c.in_ok-take_entry.ensures.tells fits (number_beside earlier) h))))

@@ -5,7 +5,8 @@ use Rattle.mps_reader.proofs.EndFacts.{passed-push, moved}
 use Rattle.std.specs.Prelude.{Ok}
 use Rattle.program_rows.specs.Lines.{line_of}
 use Rattle.program_rows.specs.Sections.{no_lines, with_line}
-use Rattle.mps_reader.proofs.LineAnswers.{meaning_behind, meaning-starts, meaning-goes-on, meaning-ends, program-ended}
+use Rattle.mps_reader.proofs.LineAnswers.{meaning-starts, meaning-goes-on, meaning-ends, program-ended}
+use Rattle.program_rows.specs.Meaning.{meaning_behind}
 use Rattle.mps_reader.proofs.reader.read_lines.Goals as goal
 
 pub overflow_add-place : goal.overflow_add-place

@@ -1,13 +1,12 @@
 use Rattle.std.proofs.Common.{◌≡◌, ℕ, List, ◌++◌, length, map}
 use Rattle.program_rows.specs.Lines.{line_of}
 use Rattle.program_rows.specs.Sections.{Sections}
-use Rattle.program_rows.specs.Meaning.{meaning}
+use Rattle.program_rows.specs.Meaning.{meaning, meaning_behind}
 use Rattle.mps_reader.specs.inside.Tracking.{ReadingTells}
 use Rattle.std.specs.List.{AllByRecursion}
 use Rattle.auction_terms.specs.Lines.{lines_of}
 use Rattle.mps_reader.specs.inside.Agreeing.{ReadingFits}
 use Rattle.mps_reader.specs.Ending.{IsPassed}
-use Rattle.mps_reader.proofs.LineAnswers.{meaning_behind}
 use Rattle.mps_reader.proofs.reader.read_lines.Given as goal
 
 -- the reading fits, the lines so far are passed, and the reading is that of them

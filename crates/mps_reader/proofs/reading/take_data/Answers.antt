@@ -1,7 +1,7 @@
 use Rattle.std.proofs.Common.{rules, ◌≡◌, ◌∙◌, ap, sym, subst, length, ◌+◌, ℕ}
-use Rattle.std.specs.Prelude.{Err, bytes_eq, ◌∷◌}
+use Rattle.std.specs.Prelude.{Err, bytes_eq, ◌∷◌, flat_map}
 use Rattle.std.specs.List.{list_any}
-use Rattle.program_rows.specs.Described.{all_right_sides}
+use Rattle.program_rows.specs.Described.{line_right_sides}
 use Rattle.auction_terms.specs.Borrowed.{bytes_of}
 use Rattle.mps_reader.specs.inside.Rows.{names_of, option_now, declared_row_names, StampsAre}
 use Rattle.mps_reader.specs.inside.Sections.{word_of}
@@ -61,5 +61,5 @@ returns-in_ok-take_right_side_line-in-RightSides-clause-tells c = λ before h.
     let size : c.len.result + 1 ≡ length (names_of c.args.reading.now.columns.names) + 1 = ap (λ (n : ℕ). n + 1) (c.len.ensures.len ∙ sym (length-bytes c.args.reading.now.columns.names.keys)) in
     right-step before (bytes_of c.args.fields.now) c.args.reading.now c.take_right_side_line.new.rows c.in-RightSides.is c.in_ok-take_right_side_line-in-RightSides.ensures.names c.in_ok-take_right_side_line-in-RightSides.ensures.objective
     (c.in_ok-take_right_side_line-in-RightSides.ensures.tells before.rows before.right_sides stamps h.lines.of_rows)
-    (subst (λ n. StampsAre c.take_right_side_line.new.rows.stamps.items n (names_of c.args.reading.now.rows.names) (λ row. list_any (λ other. bytes_eq row other.0) (all_right_sides (bytes_of c.args.fields.now ∷ before.right_sides)))) size
+    (subst (λ n. StampsAre c.take_right_side_line.new.rows.stamps.items n (names_of c.args.reading.now.rows.names) (λ row. list_any (λ other. bytes_eq row other.0) (flat_map line_right_sides (bytes_of c.args.fields.now ∷ before.right_sides)))) size
     (c.in_ok-take_right_side_line-in-RightSides.ensures.stamps before.right_sides stamps)) h

@@ -3,14 +3,15 @@ use Rattle.std.specs.Prelude.{bytes_eq, Err, if◌then◌else◌}
 use Rattle.std.specs.List.{list_any}
 use Rattle.std.specs.Option.{option_map_or}
 use Rattle.program_rows.specs.Parts.{shown_row}
-use Rattle.program_rows.specs.Described.{pairs, value, right_side}
+use Rattle.program_rows.specs.Described.{pairs, value, number_beside}
 use Rattle.auction_terms.specs.Borrowed.{bytes_of}
 use Rattle.mps_reader.specs.inside.Rows.{names_of, StampsAre}
 use Rattle.mps_reader.proofs.NameFacts.{length-bytes, or-false}
 use Rattle.mps_reader.proofs.RowSteps.{no_name, field-at}
 use Rattle.mps_reader.proofs.AnswerFacts.{handed-on}
-use Rattle.mps_reader.proofs.SideTells.{AreOne, AreTwo, has_side, two-stamps, one-rows, two-rows, first-refused, one-told, second-told, two}
+use Rattle.mps_reader.proofs.SideTells.{AreOne, AreTwo, two-stamps, one-rows, two-rows, first-refused, one-told, second-told, two}
 use Rattle.mps_reader.proofs.PairFaults.{not-repeated}
+use Rattle.mps_reader.proofs.EntriesTell.{has_row}
 use Rattle.mps_reader.proofs.right_sides.take_right_sides.Goals as goal
 
 pub returns-in_err-take_right_side-clause-fault : goal.returns-in_err-take_right_side-clause-fault
@@ -67,9 +68,9 @@ returns-then-fields-eq4-clause-stamps c = λ earlier s.
       row2-is = field-at c.args.fields.now 2 (omega (arith, c.if-fields-eq4.true));
       number2-is = field-at c.args.fields.now 3 (omega (arith, c.if-fields-eq4.true));
     } in
-    let stamped = subst (λ ns. StampsAre c.take_right_side.new.rows.stamps.items c.args.stamp ns (λ n. bytes_eq n (get_or c.args.fields.now 0 no_name).now || has_side earlier n)) (sym kept) (c.in_ok-take_right_side.ensures.stamps (has_side earlier) s) in
-    subst (λ ns. StampsAre c.take_right_side-then-fields-eq4.new.rows.stamps.items c.args.stamp ns (has_side (pairs fields ++ earlier))) kept
-    (two-stamps fields (get_or c.args.fields.now 0 no_name).now (get_or c.args.fields.now 1 no_name).now (get_or c.args.fields.now 2 no_name).now (get_or c.args.fields.now 3 no_name).now _ c.args.stamp (names_of c.take_right_side.new.rows.names) earlier two (c.in_ok-take_right_side-2.ensures.stamps (λ n. bytes_eq n (get_or c.args.fields.now 0 no_name).now || has_side earlier n) stamped))
+    let stamped = subst (λ ns. StampsAre c.take_right_side.new.rows.stamps.items c.args.stamp ns (λ n. bytes_eq n (get_or c.args.fields.now 0 no_name).now || has_row earlier n)) (sym kept) (c.in_ok-take_right_side.ensures.stamps (has_row earlier) s) in
+    subst (λ ns. StampsAre c.take_right_side-then-fields-eq4.new.rows.stamps.items c.args.stamp ns (has_row (pairs fields ++ earlier))) kept
+    (two-stamps fields (get_or c.args.fields.now 0 no_name).now (get_or c.args.fields.now 1 no_name).now (get_or c.args.fields.now 2 no_name).now (get_or c.args.fields.now 3 no_name).now _ c.args.stamp (names_of c.take_right_side.new.rows.names) earlier two (c.in_ok-take_right_side-2.ensures.stamps (λ n. bytes_eq n (get_or c.args.fields.now 0 no_name).now || has_row earlier n) stamped))
 
 pub returns-then-fields-eq4-clause-rows : goal.returns-then-fields-eq4-clause-rows
 returns-then-fields-eq4-clause-rows c = λ earlier lines s h.
@@ -82,10 +83,10 @@ returns-then-fields-eq4-clause-rows c = λ earlier lines s h.
       row2-is = field-at c.args.fields.now 2 (omega (arith, c.if-fields-eq4.true));
       number2-is = field-at c.args.fields.now 3 (omega (arith, c.if-fields-eq4.true));
     } in
-    let stamped = subst (λ ns. StampsAre c.take_right_side.new.rows.stamps.items c.args.stamp ns (λ n. bytes_eq n (get_or c.args.fields.now 0 no_name).now || has_side earlier n)) (sym kept) (c.in_ok-take_right_side.ensures.stamps (has_side earlier) s) in
-    let differ = or-false _ _ (not-repeated _ _ _ (c.in_ok-take_right_side-2.ensures.fault (λ n. bytes_eq n (get_or c.args.fields.now 0 no_name).now || has_side earlier n) stamped)) in
+    let stamped = subst (λ ns. StampsAre c.take_right_side.new.rows.stamps.items c.args.stamp ns (λ n. bytes_eq n (get_or c.args.fields.now 0 no_name).now || has_row earlier n)) (sym kept) (c.in_ok-take_right_side.ensures.stamps (has_row earlier) s) in
+    let differ = or-false _ _ (not-repeated _ _ _ (c.in_ok-take_right_side-2.ensures.fault (λ n. bytes_eq n (get_or c.args.fields.now 0 no_name).now || has_row earlier n) stamped)) in
     two-rows fields (get_or c.args.fields.now 0 no_name).now (get_or c.args.fields.now 1 no_name).now (get_or c.args.fields.now 2 no_name).now (get_or c.args.fields.now 3 no_name).now (map shown_row c.take_right_side-then-fields-eq4.new.rows.rows.items) earlier lines two differ.0
-    (c.in_ok-take_right_side-2.ensures.rows (λ n. if bytes_eq n (get_or c.args.fields.now 0 no_name).now then value (get_or c.args.fields.now 1 no_name).now else right_side earlier n) lines (c.in_ok-take_right_side.ensures.rows (right_side earlier) lines h))
+    (c.in_ok-take_right_side-2.ensures.rows (λ n. if bytes_eq n (get_or c.args.fields.now 0 no_name).now then value (get_or c.args.fields.now 1 no_name).now else number_beside earlier n) lines (c.in_ok-take_right_side.ensures.rows (number_beside earlier) lines h))
 
 pub returns-clause-fault : goal.returns-clause-fault
 returns-clause-fault c = λ lines has d o s.
@@ -105,4 +106,4 @@ returns-clause-rows c = λ earlier lines s h.
       row-is = field-at c.args.fields.now 0 (omega arith);
       number-is = field-at c.args.fields.now 1 (omega arith);
     } in
-    one-rows fields (get_or c.args.fields.now 0 no_name).now (get_or c.args.fields.now 1 no_name).now (map shown_row c.take_right_side.new.rows.rows.items) earlier lines one (c.in_ok-take_right_side.ensures.rows (right_side earlier) lines h)
+    one-rows fields (get_or c.args.fields.now 0 no_name).now (get_or c.args.fields.now 1 no_name).now (map shown_row c.take_right_side.new.rows.rows.items) earlier lines one (c.in_ok-take_right_side.ensures.rows (number_beside earlier) lines h)

@@ -1,4 +1,4 @@
-use Rattle.std.proofs.Common.{◌≡◌, ◌+◌, ◌++◌, ◌∙◌, List, Bool, false, ℕ, drop, refl, slice_index_or, sym, ap, append-nil}
+use Rattle.std.proofs.Common.{◌+◌, ◌++◌, ◌∙◌, List, Bool, false, ℕ, drop, refl, slice_index_or, sym, ap, append-nil}
 use Rattle.std.proofs.lemmas.List.{drop_all}
 use Rattle.program_rows.specs.inside.Ones.{ones_from}
 use Rattle.program_rows.proofs.OneLaws.{ones-step}
