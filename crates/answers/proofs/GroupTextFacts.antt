@@ -10,7 +10,8 @@ use Rattle.mps_text.proofs.Adding.{Adds-then, counts-new, fails-new, front-behin
 use Rattle.mps_text.proofs.Known.{Counts-then, IsFront-piece, SentFront-from}
 use Rattle.bid_desk.specs.Closing.{Closing}
 use Rattle.group_compiler.specs.Compiled.{GroupProgram}
-use Rattle.answers.specs.GroupTexts.{EndsIn, in_turn, programs_bytes}
+use Rattle.outcome.specs.Report.{in_turn}
+use Rattle.answers.specs.GroupTexts.{EndsIn, programs_bytes}
 
 pub in_turn-append : {X : Type 0} (f : ℕ → X → List ℕ) (k : ℕ) (xs ys : List X) → in_turn f k (xs ++ ys) ≡ in_turn f k xs ++ in_turn f (k + length xs) ys
 in_turn-append f k [] ys = (let same : k ≡ k + 0 = omega arith in ap (λ n. in_turn f n ys) same)

@@ -1,7 +1,7 @@
 -- A solution that is taken against the program of some of the kept bids is taken against that of all.
 use Rattle.std.proofs.Common.{◌≡◌, ℕ, ◌+◌, Bool, true, false, not, ◌||◌, ◌==◌, List, [], ◌∷◌, ◌++◌, Option, None, Ok, length, map, refl, sym, ap, ap₂, subst, ◌∙◌, arith}
 use Rattle.std.specs.Prelude.{bytes_eq, nat_lt, position}
-use Rattle.std.specs.List.{AllByRecursion, enumerate_from, list_any, position_or_len}
+use Rattle.std.specs.List.{AllByRecursion, enumerate_from, list_any, position_or_len, range_with_len}
 use Rattle.std.specs.Option.{option_map}
 use Rattle.std.proofs.lemmas.Bool.{and_parts, both_ways, false_from_ne_true}
 use Rattle.std.proofs.lemmas.Bool.Decides.{nat_tests}
@@ -13,6 +13,7 @@ use Rattle.auction_terms.specs.Limits.{IsBook}
 use Rattle.auction_terms.specs.Lines.{lines_of}
 use Rattle.auction_terms.specs.Packages.{Lots}
 use Rattle.auction_terms.specs.declared.choices.Choice.{Choice}
+use Rattle.auction_terms.specs.declared.limits.TheConstants.{MOST_BIDDERS}
 use Rattle.auction_terms.proofs.LimitLaws.{kept_are_offers}
 use Rattle.auction_terms.proofs.OfferLaws.{all_agree}
 use Rattle.program_rows.specs.Faithful.{back}
@@ -25,7 +26,7 @@ use Rattle.program_rows.specs.Spelling.{bid_name}
 use Rattle.program_rows.proofs.FaithfulLaws.{IsNumbered, numbered}
 use Rattle.program_rows.proofs.FewerBidLaws.{IsSilent, named_of, names_among, point_of_all, same_back, unnamed}
 use Rattle.outcome.specs.Coming.{SomeBidsSuffice}
-use Rattle.outcome.specs.PointAllocation.{all_bidders, by_bidder}
+use Rattle.outcome.specs.inside.Winning.{by_bidder}
 use Rattle.outcome.specs.Solution.{broken_bound_from, column_in, fields_fault, is_one, is_skipped, names_column, pair_fault, point_fault, solution, solution_line_fault, text_fault, values_of}
 use Rattle.outcome.specs.declared.fault.SolutionFault.TheVariants as fault
 use Rattle.outcome.specs.declared.limits.TheConstants.{SOLUTION_LIMIT}
@@ -178,5 +179,5 @@ pub some_bids_suffice : SomeBidsSuffice
 some_bids_suffice lots book group is_among solved values within told = record {
   others = all_values lots book group is_among solved values within told;
   told = whole_told lots book group is_among solved values within told;
-  same_allocation = ap (λ (choices : List Choice). by_bidder all_bidders choices) (whole_back lots book group is_among solved values within told);
+  same_allocation = ap (λ (choices : List Choice). by_bidder (range_with_len 1 MOST_BIDDERS) choices) (whole_back lots book group is_among solved values within told);
 }
