@@ -17,7 +17,7 @@ use Rattle.outcome.specs.declared.fault.SolutionFault.{SolutionFault}
 use Rattle.outcome.specs.declared.fault.SolutionFault.TheVariants as fault
 use Rattle.program_rows.specs.Program.{Table}
 use Rattle.program_rows.specs.ProgramNames.{column_names}
-use Rattle.outcome.specs.Solution.{is_solution_memory, solution_line_fault, values_of, point_fault, text_fault, solution}
+use Rattle.outcome.specs.Solution.{is_solution_memory, solution_line_fault, values_of, point_fault, solution}
 
 module _ {T : Type 0} where
   pub told_none : (f : Option SolutionFault) (x y : T) → Ok x ≡ unless f (Ok y) → f ≡ None
@@ -72,25 +72,25 @@ module _ (p : Table) (text : List ℕ) where
   unfolding solution
   too_long h = let t : nat_lt SOLUTION_LIMIT (length text) ≡ true = lt-ltb _ _ h in rw t refl
 
-  short : length text ≤ SOLUTION_LIMIT → solution p text ≡ unless (text_fault p (lines_of text)) (Ok values)
+  short : length text ≤ SOLUTION_LIMIT → solution p text ≡ unless (option_or line_faults (point_fault p values)) (Ok values)
   unfolding solution
   short h = let t : nat_lt SOLUTION_LIMIT (length text) ≡ false = grind (arith, nat_tests) in rw t refl
 
   pub faulty_line : (f : SolutionFault) → length text ≤ SOLUTION_LIMIT → Answers is_solution_memory (Err f) (unless line_faults (Ok values)) → Answers is_solution_memory (Err f) (solution p text)
   faulty_line f small h = answers-more is_solution_memory f (unless line_faults (Ok values)) (solution p text) h (λ e.
       let some = told_some line_faults f values e in
-      told_of (text_fault p (lines_of text)) f values (option_first line_faults (point_fault p values) f some) ∙ sym (short small))
+      told_of (option_or line_faults (point_fault p values)) f values (option_first line_faults (point_fault p values) f some) ∙ sym (short small))
 
   pub no_point : (f : SolutionFault) (read : List Bool) → length text ≤ SOLUTION_LIMIT → Ok read ≡ unless line_faults (Ok values) → Err f ≡ unless {A = Unit {0}} (point_fault p read) (Ok tt) → Answers is_solution_memory (Err f) (solution p text)
   no_point f read small e h =
       let none = told_none line_faults read values e in
       let same : read ≡ values = told_same line_faults read values e in
       let some : point_fault p values ≡ Some f = rw same at (told_some (point_fault p read) f tt h) in
-      answers-told is_solution_memory (Err f) (solution p text) (told_of (text_fault p (lines_of text)) f values (option_second line_faults (point_fault p values) none ∙ some) ∙ sym (short small))
+      answers-told is_solution_memory (Err f) (solution p text) (told_of (option_or line_faults (point_fault p values)) f values (option_second line_faults (point_fault p values) none ∙ some) ∙ sym (short small))
 
   pub point_told : (read : List Bool) → length text ≤ SOLUTION_LIMIT → Ok read ≡ unless line_faults (Ok values) → Ok tt ≡ unless {A = Unit {0}} (point_fault p read) (Ok tt) → Ok read ≡ solution p text
   point_told read small e h =
       let none = told_none line_faults read values e in
       let same : read ≡ values = told_same line_faults read values e in
       let fine : point_fault p values ≡ None = rw same at (told_none (point_fault p read) tt tt h) in
-      ap (λ (vs : List Bool). Ok vs) same ∙ told_fine (text_fault p (lines_of text)) values (option_second line_faults (point_fault p values) none ∙ fine) ∙ sym (short small)
+      ap (λ (vs : List Bool). Ok vs) same ∙ told_fine (option_or line_faults (point_fault p values)) values (option_second line_faults (point_fault p values) none ∙ fine) ∙ sym (short small)
