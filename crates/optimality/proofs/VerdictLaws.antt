@@ -18,7 +18,7 @@ use Rattle.optimality.specs.Lines.{telling_lines}
 use Rattle.auction_terms.specs.Stages.{and_then}
 use Rattle.program_rows.specs.Numbers.{number}
 use Rattle.program_rows.specs.ProgramNames.{row_names, column_names}
-use Rattle.optimality.specs.LineMeaning.{Told, BoundLine, SplitLine, natural_told, naturals_told, number_told, named_numbers, rows_told, bound_told, split_told, line_told}
+use Rattle.optimality.specs.LineMeaning.{Told, BoundLine, SplitLine, natural_told, naturals_told, integer_told, named_numbers, rows_told, bound_told, split_told, line_told}
 use Rattle.optimality.specs.Telling.{TellsCertificate, IsShownBy}
 use Rattle.optimality.specs.Branches.{Branch, At, cuts_above, closed}
 use Rattle.optimality.specs.Verdict.{taken, after_telling, fault_from, certificate_fault}
@@ -124,7 +124,7 @@ bound-signed p depth (token ∷ fs) scale ys rows e =
 split-apart : (p : Table) (fs : List (List ℕ)) (scale : ℕ) (ys : List ℕ) (rows : Form) → split_told p fs ≡ Ok (BoundLine scale ys rows) → ⊥
 split-apart p [] scale ys rows e = cc
 split-apart p (token ∷ fs) scale ys rows e =
-    let a = passed (number_told (number token)) (λ most. and_then (named_numbers (column_names p) _ fs) (λ form. Ok (SplitLine form most))) (BoundLine scale ys rows) e in
+    let a = passed (integer_told (number token)) (λ most. and_then (named_numbers (column_names p) _ fs) (λ form. Ok (SplitLine form most))) (BoundLine scale ys rows) e in
     let b = passed (named_numbers (column_names p) _ fs) (λ form. Ok (SplitLine form a.0)) (BoundLine scale ys rows) a.1 in
     let other = b.1 in cc
 

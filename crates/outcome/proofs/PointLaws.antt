@@ -13,9 +13,9 @@ use Rattle.auction_terms.specs.Lines.{lines_of}
 use Rattle.outcome.specs.declared.limits.TheConstants.{SOLUTION_LIMIT}
 use Rattle.outcome.specs.declared.fault.SolutionFault.{SolutionFault}
 use Rattle.outcome.specs.declared.fault.SolutionFault.TheVariants as fault
-use Rattle.auction_terms.specs.Stages.{unless}
+use Rattle.auction_terms.specs.Stages.{and_then, unless}
 use Rattle.program_rows.specs.ProgramNames.{column_names}
-use Rattle.outcome.specs.Solution.{solution, point_fault, values_of, is_one, solution_line_fault}
+use Rattle.outcome.specs.Solution.{solution, point_fault, is_one, solution_line_fault}
 use Rattle.outcome.specs.Coming.{SolutionsArePoints}
 
 pub both_none : {F : Type 0} (a b : Option F) → option_or a b ≡ None → (a ≡ None) × (b ≡ None)
@@ -38,9 +38,14 @@ module _ {X : Type 0} (test : X → Bool) where
       by true t more = let u : nat_lt 0 (suc (length xs)) ≡ true = grind (arith, nat_tests) in let f = rw (t, u) at e in cc f
       by false t more = (t, more (later (position_or_len test xs) (length xs) (rw t at e)))
 
-pub told_ok : (f : Option SolutionFault) (mine values : List Bool) → unless f (Ok mine) ≡ Ok values → (f ≡ None) × (mine ≡ values)
+told_ok : (f : Option SolutionFault) (mine values : List Bool) → unless f (Ok mine) ≡ Ok values → (f ≡ None) × (mine ≡ values)
 told_ok None mine values e = (refl, cc e)
 told_ok (Some x) mine values e = cc e
+
+-- what is told where no line has a fault, and the point has none
+pub told_parts : (p : Table) (f : Option SolutionFault) (mine values : List Bool) → and_then (unless f (Ok mine)) (λ vs. unless (point_fault p vs) (Ok vs)) ≡ Ok values → (f ≡ None) × (point_fault p mine ≡ None) × (mine ≡ values)
+told_parts p None mine values e = let rest = told_ok (point_fault p mine) mine values e in (refl, rest.0, rest.1)
+told_parts p (Some x) mine values e = cc e
 
 bound_fault_none : (o : Option ℕ) → option_map fault.BoundBroken o ≡ None → o ≡ None
 bound_fault_none None e = refl
@@ -78,15 +83,13 @@ pub solutions_are_points : SolutionsArePoints
 unfolding solution
 solutions_are_points p text values e = by (nat_lt SOLUTION_LIMIT (length text)) refl
   where
-    is_point_of : point_fault p (values_of (column_names p) (lines_of text)) ≡ None → IsPoint p (values_of (column_names p) (lines_of text))
+    is_point_of : point_fault p (map (is_one (lines_of text)) (column_names p)) ≡ None → IsPoint p (map (is_one (lines_of text)) (column_names p))
     is_point_of none =
-        let same : values_of (column_names p) (lines_of text) ≡ map (λ c. is_one (lines_of text) c.name) p.columns = map_map (λ (c : TableColumn). c.name) (is_one (lines_of text)) p.columns in
+        let same : map (is_one (lines_of text)) (column_names p) ≡ map (λ c. is_one (lines_of text) c.name) p.columns = map_map (λ (c : TableColumn). c.name) (is_one (lines_of text)) p.columns in
         rw same (is_point p (λ c. is_one (lines_of text) c.name) (rw same at none))
 
     by : (b : Bool) → nat_lt SOLUTION_LIMIT (length text) ≡ b → IsPoint p values
     by true t = let f = rw t at e in cc f
     by false t =
-        let f = rw t at e in
-        let mine = told_ok (option_or (first_fault (solution_line_fault (column_names p)) [] (lines_of text)) (point_fault p (values_of (column_names p) (lines_of text)))) (values_of (column_names p) (lines_of text)) values f in
-        let both = both_none (first_fault (solution_line_fault (column_names p)) [] (lines_of text)) (point_fault p (values_of (column_names p) (lines_of text))) mine.0 in
-        subst (IsPoint p) mine.1 (is_point_of both.1)
+        let told = told_parts p (first_fault (solution_line_fault (column_names p)) [] (lines_of text)) (map (is_one (lines_of text)) (column_names p)) values (rw t at e) in
+        subst (IsPoint p) told.2 (is_point_of told.1)

@@ -18,7 +18,7 @@ use Rattle.outcome.specs.declared.fault.ValueFault.{ValueFault}
 use Rattle.outcome.specs.declared.fault.SolutionFault.{SolutionFault}
 use Rattle.outcome.specs.declared.fault.SolutionFault.TheVariants as fault
 use Rattle.auction_terms.specs.Stages.{unless}
-use Rattle.outcome.specs.Solution.{names_column, is_one, values_of}
+use Rattle.outcome.specs.Solution.{names_column, is_one}
 use Rattle.auction_terms.specs.Borrowed.{bytes_of}
 use Rattle.outcome.specs.inside.Reading.{pair_checks, said_of, said_by}
 use Rattle.outcome.proofs.NearLaws.{value_checks, value_is}
@@ -207,6 +207,6 @@ said_value text column = by (list_any (names_column column) text) refl
     by true h = rw h refl
     by false h = rw h (sym (none_one text column h))
 
-pub read_off : (columns text : List (List ℕ)) → map (λ s. unwrap_or s false) (said_by columns text) ≡ values_of columns text
+pub read_off : (columns text : List (List ℕ)) → map (λ s. unwrap_or s false) (said_by columns text) ≡ map (is_one text) columns
 read_off [] text = refl
 read_off (c ∷ columns) text = ap₂ (λ (b : Bool) (bs : List Bool). b ∷ bs) (said_value text c) (read_off columns text)

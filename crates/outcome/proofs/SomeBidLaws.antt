@@ -28,10 +28,10 @@ use Rattle.program_rows.proofs.FewerBidLaws.{IsSilent, named_of, names_among, po
 use Rattle.outcome.specs.Coming.{SomeBidsSuffice}
 use Rattle.outcome.specs.inside.Reading.{pair_checks}
 use Rattle.outcome.specs.inside.Winning.{by_bidder}
-use Rattle.outcome.specs.Solution.{is_one, names_column, point_fault, solution, solution_line_fault, values_of}
+use Rattle.outcome.specs.Solution.{is_one, names_column, point_fault, solution, solution_line_fault}
 use Rattle.outcome.specs.declared.fault.SolutionFault.TheVariants as fault
 use Rattle.outcome.specs.declared.limits.TheConstants.{SOLUTION_LIMIT}
-use Rattle.outcome.proofs.PointLaws.{both_none, map_map, solutions_are_points, told_ok}
+use Rattle.outcome.proofs.PointLaws.{both_none, map_map, solutions_are_points, told_parts}
 use Rattle.outcome.proofs.SaidLaws.{none_one}
 
 -- ---- lines without a fault, by the names of columns
@@ -116,20 +116,24 @@ fine_point p values point =
 
 -- ---- what is told
 
-values_by_name : (p : Table) (lines : List (List ℕ)) → values_of (column_names p) lines ≡ map (λ c. is_one lines c.name) p.columns
+values_by_name : (p : Table) (lines : List (List ℕ)) → map (is_one lines) (column_names p) ≡ map (λ c. is_one lines c.name) p.columns
 values_by_name p lines = map_map (λ (c : TableColumn). c.name) (is_one lines) p.columns
 
 -- what a text tells that is taken
-taken : (p : Table) (text : List ℕ) (values : List Bool) → solution p text ≡ Ok values → (nat_lt SOLUTION_LIMIT (length text) ≡ false) × (option_or (first_fault (solution_line_fault (column_names p)) [] (lines_of text)) (point_fault p (values_of (column_names p) (lines_of text))) ≡ None) × (values_of (column_names p) (lines_of text) ≡ values)
+taken : (p : Table) (text : List ℕ) (values : List Bool) → solution p text ≡ Ok values
+    → (nat_lt SOLUTION_LIMIT (length text) ≡ false) × (first_fault (solution_line_fault (column_names p)) [] (lines_of text) ≡ None) × (map (is_one (lines_of text)) (column_names p) ≡ values)
 unfolding solution
 taken p text values e = by (nat_lt SOLUTION_LIMIT (length text)) refl
   where
-    by : (b : Bool) → nat_lt SOLUTION_LIMIT (length text) ≡ b → (nat_lt SOLUTION_LIMIT (length text) ≡ false) × (option_or (first_fault (solution_line_fault (column_names p)) [] (lines_of text)) (point_fault p (values_of (column_names p) (lines_of text))) ≡ None) × (values_of (column_names p) (lines_of text) ≡ values)
+    by : (b : Bool) → nat_lt SOLUTION_LIMIT (length text) ≡ b
+        → (nat_lt SOLUTION_LIMIT (length text) ≡ false) × (first_fault (solution_line_fault (column_names p)) [] (lines_of text) ≡ None) × (map (is_one (lines_of text)) (column_names p) ≡ values)
     by true t = let f = rw t at e in cc f
-    by false t = let rest = told_ok (option_or (first_fault (solution_line_fault (column_names p)) [] (lines_of text)) (point_fault p (values_of (column_names p) (lines_of text)))) (values_of (column_names p) (lines_of text)) values (rw t at e) in (t, rest.0, rest.1)
+    by false t =
+        let told = told_parts p (first_fault (solution_line_fault (column_names p)) [] (lines_of text)) (map (is_one (lines_of text)) (column_names p)) values (rw t at e) in
+        (t, told.0, told.2)
 
-tells : (p : Table) (text : List ℕ) → nat_lt SOLUTION_LIMIT (length text) ≡ false → first_fault (solution_line_fault (column_names p)) [] (lines_of text) ≡ None → point_fault p (values_of (column_names p) (lines_of text)) ≡ None
-    → solution p text ≡ Ok (values_of (column_names p) (lines_of text))
+tells : (p : Table) (text : List ℕ) → nat_lt SOLUTION_LIMIT (length text) ≡ false → first_fault (solution_line_fault (column_names p)) [] (lines_of text) ≡ None → point_fault p (map (is_one (lines_of text)) (column_names p)) ≡ None
+    → solution p text ≡ Ok (map (is_one (lines_of text)) (column_names p))
 unfolding solution
 tells p text short fine point = rw (short, fine, point) refl
 
@@ -151,7 +155,7 @@ module _ (lots : Lots) (book : Book) (group : ℕ → Bool) (is_among : ℕ → 
   in_range = numbered lots kept (kept_are_offers lots book group within)
 
   line_faults : first_fault (solution_line_fault (column_names some)) [] (lines_of text) ≡ None
-  line_faults = (both_none _ _ (taken some text values told).1).0
+  line_faults = (taken some text values told).1
 
   silent : AllByRecursion (IsSilent lots is_among value) kept
   silent = all_agree IsNumbered (IsSilent lots is_among value) kept (λ o mine other.
@@ -162,7 +166,7 @@ module _ (lots : Lots) (book : Book) (group : ℕ → Bool) (is_among : ℕ → 
   values_are = sym (taken some text values told).2 ∙ values_by_name some (lines_of text)
 
   abbrev pub all_values : List Bool
-  all_values = values_of (column_names whole) (lines_of text)
+  all_values = map (is_one (lines_of text)) (column_names whole)
 
   whole_point : IsPoint whole all_values
   whole_point =

@@ -1,7 +1,7 @@
 -- The texts of an allocation and of a report.
 use Rattle.std.specs.Prelude.{ℕ, ◌+◌, List, [], ◌∷◌, ◌++◌, flat_map, filter, sum_by, slice_index_or, ℤ, pos, ◌-ℤ◌, decimal, codes}
 use Rattle.std.specs.Fmt.{signed_decimal}
-use Rattle.std.specs.List.{zip}
+use Rattle.std.specs.List.{enumerate_from, zip}
 use Rattle.auction_terms.specs.Groups.{has}
 use Rattle.auction_terms.specs.declared.choices.Choice.{Choice}
 use Rattle.auction_terms.specs.Packages.{Lots}
@@ -41,8 +41,7 @@ group_report sale first k item =
 
 -- the bytes of each item, numbered from k on, one after the other
 abbrev pub in_turn : {X : Type 0} → (ℕ → X → List ℕ) → ℕ → List X → List ℕ
-in_turn bytes k [] = []
-in_turn bytes k (x ∷ xs) = bytes k x ++ in_turn bytes (k + 1) xs
+in_turn bytes k xs = flat_map (λ e. bytes e.0 e.1) (enumerate_from k xs)
 
 -- the report on an allocation for each group, the first of them for the empty group
 abbrev pub report_text : Sale → List (List ℕ) → List (List Choice) → List ℕ

@@ -4,7 +4,7 @@ use Rattle.std.specs.List.{list_any, zip}
 use Rattle.std.specs.Option.{option_map}
 use Rattle.auction_terms.specs.FirstFault.{option_or, first_failed, first_fault}
 use Rattle.auction_terms.specs.Lines.{lines_of}
-use Rattle.auction_terms.specs.Stages.{unless}
+use Rattle.auction_terms.specs.Stages.{and_then, unless}
 use Rattle.program_rows.specs.Program.{Table}
 use Rattle.program_rows.specs.ProgramNames.{column_names}
 use Rattle.program_rows.specs.Points.{allows, broken_row}
@@ -37,9 +37,6 @@ solution_line_fault columns before line =
 abbrev pub is_one : List (List ℕ) → List ℕ → Bool
 is_one text column = list_any (λ line. names_column column line && is_near 1 (field 1 (fields line))) text
 
-abbrev pub values_of : List (List ℕ) → List (List ℕ) → List Bool
-values_of columns text = map (is_one text) columns
-
 -- the first bound that the values break, and then the first row
 abbrev pub point_fault : Table → List Bool → Option SolutionFault
 point_fault p values = option_or
@@ -52,8 +49,8 @@ point_fault p values = option_or
 unfoldable pub solution : Table → List ℕ → Result (List Bool) SolutionFault
 solution p text =
     if nat_lt SOLUTION_LIMIT (length text) then Err fault.TooLarge
-    else unless (option_or (first_fault (solution_line_fault (column_names p)) [] (lines_of text)) (point_fault p (values_of (column_names p) (lines_of text))))
-    (Ok (values_of (column_names p) (lines_of text)))
+    else and_then (unless (first_fault (solution_line_fault (column_names p)) [] (lines_of text)) (Ok (map (is_one (lines_of text)) (column_names p))))
+    (λ values. unless (point_fault p values) (Ok values))
 
 -- out of memory is no fault of the text
 abbrev pub is_solution_memory : SolutionFault → Bool
