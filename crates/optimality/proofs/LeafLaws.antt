@@ -1,5 +1,5 @@
 -- The value of a leaf, by numbers that stand column by column.
-use Rattle.std.proofs.Common.{◌≡◌, ℕ, zero, suc, ◌+◌, ◌<◌, ◌≤◌, Bool, true, false, cond, List, [], ◌∷◌, Option, Some, length, slice_get, refl, subst, sym, ap, ◌∙◌, arith, get_or-set_other, length-set, ℤ, pos, ◌+ℤ◌, ◌≢◌}
+use Rattle.std.proofs.Common.{◌≡◌, ℕ, zero, suc, ◌+◌, ◌<◌, Bool, true, false, cond, List, [], ◌∷◌, Some, length, slice_get, refl, subst, sym, ap, ◌∙◌, arith, get_or-set_other, length-set, ℤ, pos, ◌+ℤ◌, ◌≢◌}
 use Rattle.std.specs.Prelude.{◌*ℤ◌, ◌==◌}
 use Rattle.std.proofs.lemmas.Grind.{get_or-set_at}
 use Rattle.std.proofs.lemmas.Int.{ints}

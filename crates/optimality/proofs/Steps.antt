@@ -10,7 +10,7 @@ use Rattle.program_rows.specs.Program.{TableRow, TableColumn}
 use Rattle.optimality.specs.Certificates.{Form, side}
 use Rattle.optimality.specs.Reduced.{right_side_at, least_part}
 use Rattle.optimality.proofs.ColumnSums.{least_sum, rows_right}
-use Rattle.optimality.specs.inside.Adding.{number_at, with_more, with_form, with_cuts, scaled_costs}
+use Rattle.optimality.specs.inside.Adding.{number_at, with_more, with_form, scaled_costs}
 
 -- what is left at a place is its element and what is left behind it
 rest : {A : Type 0} → (xs : List A) (i : ℕ) (d : A) → i < length xs → drop i xs ≡ get_or xs i d ∷ drop (i + 1) xs

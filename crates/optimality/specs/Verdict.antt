@@ -22,7 +22,7 @@ abbrev pub after_telling : Table → ℤ → Option (List Branch) → List ℕ �
 after_telling p least None line = Err Beyond
 after_telling p least (Some branches) line = and_then (line_told p (length branches) (fields line)) (taken p least branches)
 
--- the fault of the line before these, which has this place, or the first one of these; the text ends early where a subtree is still to come
+-- the fault of the line at this place, or the first one of the lines behind it; the text ends early where a subtree is still to come
 abbrev pub fault_from : Table → ℤ → Result (Option (List Branch)) FaultKind → ℕ → List (List ℕ) → Option (ℕ × FaultKind)
 fault_from p least (Err kind) place lines = Some (place, kind)
 fault_from p least (Ok branches) place [] = option_map (λ b. (place, NoEnd)) branches

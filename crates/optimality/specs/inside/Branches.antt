@@ -1,5 +1,5 @@
 -- The open splits above a line, nearest first.
-use Rattle.std.specs.Prelude.{Bool, true, false, List, [], ◌∷◌, ◌++◌, map, reverse, ℤ, Option, Some, None, if◌then◌else◌}
+use Rattle.std.specs.Prelude.{Bool, List, map, reverse, Option, Some, None, if◌then◌else◌}
 use Rattle.optimality.specs.declared.open_split.OpenSplit.{OpenSplit}
 use Rattle.optimality.specs.Branches.{Branch, At}
 

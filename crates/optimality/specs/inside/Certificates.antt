@@ -1,5 +1,5 @@
 -- Certificates: trees of splits, whose leaves show a bound.
-use Rattle.std.specs.Prelude.{ℕ, Bool, true, false, ◌==◌, cond, List, [], ◌∷◌, map, slice_index_or, ℤ, pos, neg_ℤ, ◌+ℤ◌}
+use Rattle.std.specs.Prelude.{Bool, false, cond, List, slice_index_or, ℤ, pos}
 use Rattle.optimality.specs.Certificates.{Form, sum_of}
 
 -- the sum of a form over the columns at 1

@@ -1,4 +1,4 @@
-use Rattle.std.proofs.Common.{◌≡◌, ◌∙◌, List, ap, pos, ℤ}
+use Rattle.std.proofs.Common.{◌≡◌, ◌∙◌, List, ap, ℤ}
 use Rattle.std.proofs.lemmas.Result.{IfOk-weaker}
 use Rattle.optimality.specs.inside.Adding.{leaf_numbers, number_at}
 use Rattle.optimality.specs.inside.Holding.{cuts_of}
