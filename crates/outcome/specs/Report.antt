@@ -1,5 +1,5 @@
 -- The texts of an allocation and of a report.
-use Rattle.std.specs.Prelude.{ℕ, ◌+◌, List, [], ◌∷◌, ◌++◌, flat_map, filter, sum_by, slice_index_or, ℤ, pos, ◌-ℤ◌, decimal, codes}
+use Rattle.std.specs.Prelude.{ℕ, List, [], ◌∷◌, ◌++◌, flat_map, filter, sum_by, slice_index_or, ℤ, pos, ◌-ℤ◌, decimal, codes}
 use Rattle.std.specs.Fmt.{signed_decimal}
 use Rattle.std.specs.List.{enumerate_from, zip}
 use Rattle.auction_terms.specs.Groups.{has}

@@ -1,7 +1,6 @@
 -- What the reader of a solution holds while it goes over the lines.
 use Rattle.std.specs.Prelude.{ℕ, Bool, not, ◌&&◌, ◌||◌, List, [], ◌∷◌, map, Option, None, Some, if◌then◌else◌, bytes_eq}
 use Rattle.std.specs.List.{list_any}
-use denote.Ref.{Bor}
 use Rattle.program_rows.specs.Numbers.{is_number_token, is_too_long}
 use Rattle.outcome.specs.declared.fault.SolutionFault.{SolutionFault}
 use Rattle.outcome.specs.declared.fault.SolutionFault.TheVariants as fault
