@@ -18,7 +18,7 @@ use Rattle.optimality.specs.Lines.{telling_lines}
 use Rattle.auction_terms.specs.Stages.{and_then}
 use Rattle.program_rows.specs.Numbers.{number}
 use Rattle.program_rows.specs.ProgramNames.{row_names, column_names}
-use Rattle.optimality.specs.LineMeaning.{Told, BoundLine, SplitLine, natural_told, naturals_told, integer_told, named_numbers, rows_told, bound_told, split_told, line_told}
+use Rattle.optimality.specs.LineMeaning.{Told, BoundLine, SplitLine, natural_told, naturals_told, integer_told, named_numbers, bound_told, split_told, line_told}
 use Rattle.optimality.specs.Telling.{TellsCertificate, IsShownBy}
 use Rattle.optimality.specs.Branches.{Branch, At, cuts_above, closed}
 use Rattle.optimality.specs.Verdict.{taken, after_telling, fault_from, certificate_fault}
@@ -97,29 +97,21 @@ passed : {X Y : Type 0} (r : Result X FaultKind) (next : X → Result Y FaultKin
 passed (Ok x) next y e = (x, e)
 passed (Err kind) next y e = absurd cc
 
-signed : (p : Table) (rows found : Form) → (if list_all (may_have p.rows) rows then Ok rows else Err Sign) ≡ Ok found → list_all (may_have p.rows) found ≡ true
-signed p rows found e = by (list_all (may_have p.rows) rows) refl e
+-- a bound is told of rows that may have their multipliers
+signed : (p : Table) (found rows : Form) (s scale : ℕ) (y ys : List ℕ) → (if list_all (may_have p.rows) found then Ok (BoundLine s y found) else Err Sign) ≡ Ok (BoundLine scale ys rows) → list_all (may_have p.rows) rows ≡ true
+signed p found rows s scale y ys e = by (list_all (may_have p.rows) found) refl e
   where
-    by : (b : Bool) → list_all (may_have p.rows) rows ≡ b → (if b then Ok rows else Err Sign) ≡ Ok found → list_all (may_have p.rows) found ≡ true
-    by true t e = let same : rows ≡ found = cc in subst (λ (f : Form). list_all (may_have p.rows) f ≡ true) same t
+    by : (b : Bool) → list_all (may_have p.rows) found ≡ b → (if b then Ok (BoundLine s y found) else Err Sign) ≡ Ok (BoundLine scale ys rows) → list_all (may_have p.rows) rows ≡ true
+    by true t e = let same : found ≡ rows = cc in subst (λ (f : Form). list_all (may_have p.rows) f ≡ true) same t
     by false t e = absurd cc
 
 bound-signed : (p : Table) (depth : ℕ) (fs : List (List ℕ)) (scale : ℕ) (ys : List ℕ) (rows : Form) → bound_told p depth fs ≡ Ok (BoundLine scale ys rows) → list_all (may_have p.rows) rows ≡ true
 bound-signed p depth [] scale ys rows e = absurd cc
 bound-signed p depth (token ∷ fs) scale ys rows e =
-    let a = passed (natural_told token) (λ s. and_then (naturals_told depth fs) (λ m. and_then (rows_told p m.1) (λ r. Ok (BoundLine s m.0 r)))) (BoundLine scale ys rows) e in
-    let b = passed (naturals_told depth fs) (λ m. and_then (rows_told p m.1) (λ r. Ok (BoundLine a.0 m.0 r))) (BoundLine scale ys rows) a.1 in
-    let d = read (rows_told p b.0.1) a.0 b.0.0 b.1 in
-    let t = terms (named_numbers (row_names p) _ b.0.1) d in
-    signed p t.0 rows t.1
-  where
-    read : (r : Result Form FaultKind) (s : ℕ) (y : List ℕ) → and_then r (λ f. Ok (BoundLine s y f)) ≡ Ok (BoundLine scale ys rows) → r ≡ Ok rows
-    read (Ok f) s y e = let same : f ≡ rows = cc in ap (λ (g : Form). Ok g) same
-    read (Err kind) s y e = absurd cc
-
-    terms : (r : Result Form FaultKind) → and_then r (λ found. if list_all (may_have p.rows) found then Ok found else Err Sign) ≡ Ok rows → (f : Form) × ((if list_all (may_have p.rows) f then Ok f else Err Sign) ≡ Ok rows)
-    terms (Ok f) e = (f, e)
-    terms (Err kind) e = absurd cc
+    let a = passed (natural_told token) (λ s. and_then (naturals_told depth fs) (λ m. and_then (named_numbers (row_names p) _ m.1) (λ r. if list_all (may_have p.rows) r then Ok (BoundLine s m.0 r) else Err Sign))) (BoundLine scale ys rows) e in
+    let b = passed (naturals_told depth fs) (λ m. and_then (named_numbers (row_names p) _ m.1) (λ r. if list_all (may_have p.rows) r then Ok (BoundLine a.0 m.0 r) else Err Sign)) (BoundLine scale ys rows) a.1 in
+    let d = passed (named_numbers (row_names p) _ b.0.1) (λ r. if list_all (may_have p.rows) r then Ok (BoundLine a.0 b.0.0 r) else Err Sign) (BoundLine scale ys rows) b.1 in
+    signed p d.0 rows a.0 scale b.0.0 ys d.1
 
 split-apart : (p : Table) (fs : List (List ℕ)) (scale : ℕ) (ys : List ℕ) (rows : Form) → split_told p fs ≡ Ok (BoundLine scale ys rows) → ⊥
 split-apart p [] scale ys rows e = cc
