@@ -3,13 +3,14 @@ use Rattle.std.proofs.Common.{◌≡◌, ℕ, suc, Bool, true, false, cond, List
 use Rattle.std.proofs.Common.{inl, inr}
 use Rattle.std.specs.Prelude.{OnOk, IfErr, not, ◌↔◌, ◌⊎◌, ◌<ℤ◌, ◌*ℤ◌, ◌-ℤ◌, int_lt, if◌then◌else◌, bytes_eq, codes}
 use Rattle.std.specs.List.{list_all}
+use Rattle.std.specs.Option.{ok_or}
 use Rattle.std.proofs.lemmas.Int.{ints}
 use Rattle.auction_terms.specs.Lines.{lines_of}
 use Rattle.program_rows.specs.Program.{Table}
 use Rattle.program_rows.specs.Lines.{fields, is_skipped}
 use Rattle.program_rows.proofs.NamedItems.{all_true}
 use Rattle.optimality.specs.declared.fault.FaultKind.{FaultKind}
-use Rattle.optimality.specs.declared.fault.FaultKind.TheVariants.{Fields, NotShown, Sign}
+use Rattle.optimality.specs.declared.fault.FaultKind.TheVariants.{Beyond, Fields, NotShown, Sign}
 use Rattle.optimality.specs.declared.fault.CertificateFault.{CertificateFault}
 use Rattle.optimality.specs.Answers.{IsLimit, IsVerdict}
 use Rattle.optimality.specs.Certificates.{Form, Certificate, Bound, Split, side}
@@ -21,7 +22,7 @@ use Rattle.program_rows.specs.ProgramNames.{row_names, column_names}
 use Rattle.optimality.specs.LineMeaning.{Told, BoundLine, SplitLine, natural_told, naturals_told, integer_told, named_numbers, bound_told, split_told, line_told}
 use Rattle.optimality.specs.Telling.{TellsCertificate, IsShownBy}
 use Rattle.optimality.specs.Branches.{Branch, At, cuts_above, closed}
-use Rattle.optimality.specs.Verdict.{taken, after_telling, fault_from, certificate_fault}
+use Rattle.optimality.specs.Verdict.{taken, fault_from, certificate_fault}
 
 -- ---------- what lines still have to tell ----------
 
@@ -168,7 +169,7 @@ line-stands p least lines later branches place line (Ok (SplitLine form most)) e
 line-stands p least lines later branches place line (Ok (BoundLine scale ys rows)) e = bound-stands p least lines later branches place line scale ys rows e (int_lt (pos scale *ℤ (least -ℤ pos 1)) (leaf_value p (cuts_above branches) scale ys rows)) refl
 
 any-stands : (p : Table) (least : ℤ) (line : List ℕ) (lines : List (List ℕ)) → Stands p least lines → (branches : Option (List Branch)) (place : ℕ) (b : Bool)
-    → (fault_from p least (if b then Ok branches else after_telling p least branches line) (suc place) lines ≡ None) ↔ Holds p least branches (cond (not b) (line ∷ telling_lines lines) (telling_lines lines))
+    → (fault_from p least (if b then Ok branches else and_then (ok_or branches Beyond) (λ open_splits. and_then (line_told p (length open_splits) (fields line)) (taken p least open_splits))) (suc place) lines ≡ None) ↔ Holds p least branches (cond (not b) (line ∷ telling_lines lines) (telling_lines lines))
 any-stands p least line lines later branches place true = later branches (suc place)
 any-stands p least line lines later None place false = ((λ h. absurd cc), (λ h. absurd cc))
 any-stands p least line lines later (Some branches) place false = line-stands p least lines later branches place line (line_told p (length branches) (fields line)) refl

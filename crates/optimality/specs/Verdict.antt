@@ -1,6 +1,6 @@
 -- The first faulty line of a certificate.
 use Rattle.std.specs.Prelude.{ℕ, suc, false, List, [], ◌∷◌, length, ℤ, pos, ◌-ℤ◌, ◌*ℤ◌, int_lt, Option, Some, None, Result, Ok, Err, if◌then◌else◌}
-use Rattle.std.specs.Option.{option_map}
+use Rattle.std.specs.Option.{ok_or, option_map}
 use Rattle.auction_terms.specs.Lines.{lines_of}
 use Rattle.program_rows.specs.Program.{Table}
 use Rattle.program_rows.specs.Lines.{fields, is_skipped}
@@ -17,17 +17,13 @@ taken p least branches (SplitLine form most) = Ok (Some (At false form most ∷ 
 taken p least branches (BoundLine scale ys rows) =
     if int_lt (pos scale *ℤ (least -ℤ pos 1)) (leaf_value p (cuts_above branches) scale ys rows) then Ok (closed branches) else Err NotShown
 
--- what is open behind a line that tells something; none may follow the last subtree
-abbrev pub after_telling : Table → ℤ → Option (List Branch) → List ℕ → Result (Option (List Branch)) FaultKind
-after_telling p least None line = Err Beyond
-after_telling p least (Some branches) line = and_then (line_told p (length branches) (fields line)) (taken p least branches)
-
--- the fault of the line at this place, or the first one of the lines behind it; the text ends early where a subtree is still to come
+-- the fault of the line at this place, or else the first one behind it; nothing may be told behind the last subtree, and the text may not end before it
 abbrev pub fault_from : Table → ℤ → Result (Option (List Branch)) FaultKind → ℕ → List (List ℕ) → Option (ℕ × FaultKind)
 fault_from p least (Err kind) place lines = Some (place, kind)
 fault_from p least (Ok branches) place [] = option_map (λ b. (place, NoEnd)) branches
-fault_from p least (Ok branches) place (line ∷ lines) =
-    fault_from p least (if is_skipped line then Ok branches else after_telling p least branches line) (suc place) lines
+fault_from p least (Ok branches) place (line ∷ lines) = fault_from p least
+    (if is_skipped line then Ok branches else and_then (ok_or branches Beyond) (λ above. and_then (line_told p (length above) (fields line)) (taken p least above)))
+    (suc place) lines
 
 -- the first fault of a text that is to show `least`
 abbrev pub certificate_fault : Table → ℤ → List ℕ → Option (ℕ × FaultKind)

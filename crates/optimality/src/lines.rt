@@ -1,6 +1,8 @@
 //! One line of a certificate.
 
 ghost use Rattle.std.specs.Prelude.{◌≡◌, ◌==◌, ◌-ℤ◌, ◌*ℤ◌, IfOk, Ok, bytes_eq, if◌then◌else◌, int_lt, length, not, pos, slice_index};
+ghost use Rattle.std.specs.Option.{ok_or};
+ghost use Rattle.optimality.specs.declared.fault.FaultKind.TheVariants.{Beyond};
 ghost use Rattle.program_rows.specs.Lines.{fields, is_skipped};
 ghost use Rattle.optimality.specs.inside.Answers.{AnswersSeen};
 ghost use Rattle.optimality.specs.inside.Branches.{branches_of, opened};
@@ -9,7 +11,7 @@ ghost use Rattle.optimality.specs.inside.Checking.{IsPrepared};
 ghost use Rattle.auction_terms.specs.Stages.{and_then};
 ghost use Rattle.optimality.specs.LineMeaning.{bound_told, line_told, split_told};
 ghost use Rattle.optimality.specs.Shows.{leaf_value};
-ghost use Rattle.optimality.specs.Verdict.{after_telling, taken};
+ghost use Rattle.optimality.specs.Verdict.{taken};
 
 use crate::checker::Checker;
 use crate::closing::close;
@@ -135,8 +137,10 @@ pub fn take_any(
 ) -> Result<bool, Refusal>
     requires { IsPrepared checker.now }
     ensures { AnswersSeen (λ is_last_then. opened is_last_then splits.new.items) result
-        (if is_skipped line.now then Ok (opened is_last splits.old.items) else after_telling
-        checker.now.program.now checker.now.least (opened is_last splits.old.items) line.now) }
+        (if is_skipped line.now then Ok (opened is_last splits.old.items) else and_then
+        (ok_or (opened is_last splits.old.items) Beyond) (λ above. and_then
+        (line_told checker.now.program.now (length above) (fields line.now))
+        (taken checker.now.program.now checker.now.least above))) }
 {
     if !is_telling(line) {
         return Ok(is_last);
