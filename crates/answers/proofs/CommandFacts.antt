@@ -24,7 +24,8 @@ use Rattle.answers.specs.commands.Report.{winners_of_groups}
 use Rattle.auction_input.specs.Refused.{Refuses, Refusal, Refused}
 use Rattle.auction_input.specs.Settled.{RefusesAuction, held}
 use Rattle.answers.specs.Exact.{Ends, IsLeftOpen, Writes, by_put, by_refusal}
-use Rattle.answers.specs.GroupTexts.{EndsIn, in_turn, program_bytes, programs_bytes}
+use Rattle.outcome.specs.Report.{in_turn}
+use Rattle.answers.specs.GroupTexts.{EndsIn, program_bytes, programs_bytes}
 use Rattle.auction_terms.specs.Borrowed.{bytes_of}
 use Rattle.auction_input.specs.PartsTold.{only_text}
 use Rattle.auction_terms.specs.Stages.{and_then, each_in_turn}

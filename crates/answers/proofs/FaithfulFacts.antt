@@ -13,7 +13,7 @@ use Rattle.mps_text.specs.Text.{text}
 use Rattle.mps_text.proofs.FaithfulTexts.{presolved_text_is_faithful}
 use Rattle.outcome.specs.Sale.{Sale}
 use Rattle.answers.specs.FaithfulAnswers.{CompiledIsFaithful, IsFaithfulToSale, TextIsFaithful}
-use Rattle.answers.specs.GroupTexts.{in_turn}
+use Rattle.outcome.specs.Report.{in_turn}
 use Rattle.answers.specs.commands.Compile.{program_text, texts_of_groups}
 use Rattle.answers.specs.commands.Text.{text_of_all}
 

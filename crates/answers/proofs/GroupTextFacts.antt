@@ -12,6 +12,7 @@ use Rattle.bid_desk.specs.Closing.{Closing}
 use Rattle.group_compiler.specs.Compiled.{GroupProgram}
 use Rattle.answers.specs.GroupTexts.{EndsIn, in_turn, programs_bytes}
 use Rattle.std.specs.Prelude.{min, ◌^◌}
+use Rattle.outcome.specs.Report.{in_turn}
 
 pub in_turn-append : {X : Type 0} (f : ℕ → X → List ℕ) (k : ℕ) (xs ys : List X) → in_turn f k (xs ++ ys) ≡ in_turn f k xs ++ in_turn f (k + length xs) ys
 in_turn-append f k [] ys = (let same : k ≡ k + 0 = omega arith in ap (λ n. in_turn f n ys) same)

@@ -2,7 +2,9 @@
 use Rattle.std.proofs.Common.{◌≡◌, ◌∙◌, ◌≤◌, ℕ, Bool, true, false, List, [], ◌∷◌, Option, None, Some, length, refl, ap, sym, subst, zero, suc, arith}
 use Rattle.std.specs.Prelude.{not, ◌&&◌, is_some, slice_get, slice_index_or, IfOk, OnErr, Result, Ok, Err}
 use Rattle.std.specs.Option.{option_map, option_map_or}
+use Rattle.std.specs.List.{range_with_len}
 use Rattle.auction_terms.specs.declared.choices.Choice.{Choice}
+use Rattle.auction_terms.specs.declared.limits.TheConstants.{MOST_BIDDERS}
 use Rattle.auction_terms.specs.Allocations.{Book, IsFeasible, bid_of, is_eligible}
 use Rattle.auction_terms.specs.Packages.{Lots}
 use Rattle.program_rows.specs.Points.{AreAllowed}
@@ -18,7 +20,8 @@ use Rattle.outcome.proofs.BackLaws.{solutions_come_back}
 use Rattle.outcome.proofs.SomeBidLaws.{all_values, whole_back, whole_told}
 use Rattle.outcome.specs.Coming.{ComesBack}
 use Rattle.outcome.specs.Solution.{solution}
-use Rattle.outcome.specs.PointAllocation.{IsMap, all_bidders, allocation_of, by_bidder}
+use Rattle.outcome.specs.PointAllocation.{IsMap, allocation_of}
+use Rattle.outcome.specs.inside.Winning.{by_bidder}
 use Rattle.outcome.specs.declared.fault.SolutionFault.{SolutionFault}
 use Rattle.auction_terms.specs.Stages.{refused_as}
 use Rattle.answers.specs.SolutionWinners.{solution_refused, winners_by}
@@ -91,7 +94,7 @@ module _ (book : Closing) (group : List ℕ) (choices : List Choice) (text : Lis
   same-back = whole_back lots (book_of book) (has group) (has_choice choices) text values within told
 
   same-allocation : allocation_of (program_without book group) others ≡ allocation_of (program_among book group choices) values
-  same-allocation = ap (λ (bids : List Choice). by_bidder all_bidders bids) same-back
+  same-allocation = ap (λ (bids : List Choice). by_bidder (range_with_len 1 MOST_BIDDERS) bids) same-back
 
   back-again : ComesBack lots (book_of book) (has group) (program_without book group) others
   back-again = solutions_come_back lots (book_of book) (has group) text others within whole-told

@@ -4,27 +4,14 @@ use Rattle.bid_desk.specs.Closing.{Closing}
 use Rattle.group_compiler.specs.Compiled.{GroupProgram}
 use Rattle.mps_text.specs.Sinks.{HasFailed}
 use Rattle.mps_text.specs.Text.{text}
-use Rattle.outcome.specs.Report.{group_names}
+use Rattle.outcome.specs.Report.{heading, in_turn}
 use Rattle.outcome.specs.Sale.{sale_of}
 use Rattle.answers.specs.declared.run_fault.RunFault.TheVariants as fault
 use Rattle.answers.specs.declared.run_fault.RunFault.{RunFault}
 
--- the bytes of each item, numbered from k on, one after the other
-abbrev pub in_turn : {X : Type 0} → (ℕ → X → List ℕ) → ℕ → List X → List ℕ
-in_turn bytes k [] = []
-in_turn bytes k (x ∷ xs) = bytes k x ++ in_turn bytes (k + 1) xs
-
--- what stands before the names in the line of group k
-abbrev pub program_number : ℕ → List ℕ
-program_number k = codes "* program " ++ (decimal k ++ 32 ∷ [])
-
--- the line before the program of group k
-abbrev pub program_line : Closing → ℕ → List ℕ → List ℕ
-program_line book k group = program_number k ++ (group_names (sale_of book).names group ++ 10 ∷ [])
-
 -- the line and the text of group k
 abbrev pub program_bytes : Closing → ℕ → GroupProgram → List ℕ
-program_bytes book k c = program_line book k c.group ++ text c.program
+program_bytes book k c = heading (codes "* program ") (sale_of book).names k c.group ++ text c.program
 
 -- those of all groups
 abbrev pub programs_bytes : Closing → List GroupProgram → List ℕ

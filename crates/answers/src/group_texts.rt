@@ -1,6 +1,6 @@
 //! The programs of all groups as one output.
 
-ghost use Rattle.std.specs.Prelude.{◌≡◌, IfErr, OnErr, OnOk, map};
+ghost use Rattle.std.specs.Prelude.{◌≡◌, ◌∷◌, ◌++◌, [], IfErr, OnErr, OnOk, codes, decimal, map};
 ghost use Rattle.std.specs.Io.KnownBytes.{Appends};
 ghost use Rattle.auction_terms.specs.Terms.{lots_in};
 ghost use Rattle.bid_desk.specs.Closing.{book_of};
@@ -10,8 +10,10 @@ ghost use Rattle.mps_text.specs.Adds.{Adds};
 ghost use Rattle.mps_text.specs.Sinks.{HasFailed, SentFront};
 ghost use Rattle.mps_text.specs.Text.{text};
 ghost use Rattle.mps_text.specs.Written.{written_of};
+ghost use Rattle.outcome.specs.Report.{heading};
+ghost use Rattle.outcome.specs.Sale.{sale_of};
 ghost use Rattle.answers.specs.declared.run_fault.RunFault.TheVariants.{Sink as FaultOfSink};
-ghost use Rattle.answers.specs.GroupTexts.{FailsAsTold, StopsAsTold, program_bytes, program_line, program_number, programs_bytes};
+ghost use Rattle.answers.specs.GroupTexts.{FailsAsTold, StopsAsTold, program_bytes, programs_bytes};
 
 use crate::run_fault::RunFault;
 use auction_terms::{Group, Groups};
@@ -23,7 +25,7 @@ use outcome::add_names_line;
 
 // Adds what stands before the names in the line of group k.
 fn add_number<S: Sink>(writer: &mut Writer<'_, S>, k: usize)
-    ensures { Adds S.taken S.failures writer.old writer.new (program_number k) }
+    ensures { Adds S.taken S.failures writer.old writer.new (codes "* program " ++ (decimal k ++ 32 ∷ [])) }
 {
     let mut digits = Buffer::new();
     let pieces: [&[u8]; 3] = [b"* program ", digits.format(k).as_bytes(), b" "];
@@ -32,7 +34,8 @@ fn add_number<S: Sink>(writer: &mut Writer<'_, S>, k: usize)
 
 // Adds the line of group k.
 fn add_line<S: Sink>(writer: &mut Writer<'_, S>, book: &ClosedBook, k: usize, group: &Group)
-    ensures { Adds S.taken S.failures writer.old writer.new (program_line book.now k group.now) }
+    ensures { Adds S.taken S.failures writer.old writer.new
+        (heading (codes "* program ") (sale_of book.now).names k group.now) }
 {
     add_number(writer, k);
     add_names_line(writer, book, group.numbers());

@@ -37,7 +37,7 @@ told (refusal.Program f) = codes "program: " ++ mps_fault_text f.line f.kind
 told (refusal.Solution n f) = codes "solution " ++ (decimal n ++ (codes ": " ++ solution_fault_text f))
 told (refusal.BoundBroken n name) = codes "solution " ++ (decimal n ++ codes ": 7 BoundBroken at column ")
 told (refusal.RowBroken n name) = codes "solution " ++ (decimal n ++ codes ": 8 RowBroken at row ")
-told (refusal.Certificate n f) = codes "certificate " ++ (decimal n ++ (codes ": " ++ certificate_fault_text f))
+told (refusal.Certificate n f) = codes "certificate " ++ (decimal n ++ (codes ": " ++ certificate_fault_text f.line f.kind))
 told (refusal.Write (write.Sink written)) = codes "write failed after " ++ (decimal written ++ codes " bytes")
 told r = codes "out of memory"
 

@@ -13,11 +13,11 @@ use Rattle.program_rows.specs.Program.{Table, TableRow, TableColumn}
 use Rattle.program_rows.specs.Points.{IsPoint, AreAllowed, allows, objective, row_sum, coefficient_at, meets}
 use Rattle.optimality.specs.Certificates.{Form, Cut, Certificate, Bound, Split, number_in, side}
 use Rattle.optimality.specs.inside.Certificates.{form_sum}
-use Rattle.optimality.specs.Reduced.{cuts_number, rows_number, reduced, least_part, least_sum, cuts_right, rows_right, right_side_at}
+use Rattle.optimality.specs.Reduced.{reduced, least_part, right_side_at}
 use Rattle.optimality.specs.Shows.{has_sign, may_have, leaf_value, LeafShows, ShowsWithin}
 use Rattle.optimality.specs.Laws.{ShownIsBound}
 use Rattle.optimality.proofs.Products.{times-natural, times-up, times-down, times-cancel, at_most}
-use Rattle.optimality.proofs.ColumnSums.{sum_over, over-sum, over-times, over-none, over-columns, over-form, allowed-length}
+use Rattle.optimality.proofs.ColumnSums.{cuts_number, cuts_right, least_sum, rows_number, rows_right, sum_over, over-sum, over-times, over-none, over-columns, over-form, allowed-length}
 
 -- ---------- columns ----------
 
@@ -40,7 +40,7 @@ least-below f p [] (v ∷ vs) h = absurd h
 least-below f p (c ∷ cs) [] h = absurd h
 least-below f p (c ∷ cs) (v ∷ vs) h =
     let here : least_part c.bounds (f p c) ≤ℤ cond v (f p c) (pos 0) = below c.bounds v (f p c) h.0 in
-    let rest : least_sum f (suc p) cs ≤ℤ sum_over f (suc p) cs vs = least-below f (suc p) cs vs h.1 in
+    let rest : least_sum f (p + 1) cs ≤ℤ sum_over f (p + 1) cs vs = least-below f (p + 1) cs vs h.1 in
     omega (arith, ints)
 
 -- ---------- cuts ----------

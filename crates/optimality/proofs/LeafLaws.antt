@@ -1,5 +1,5 @@
 -- The value of a leaf, by numbers that stand column by column.
-use Rattle.std.proofs.Common.{◌≡◌, ℕ, zero, suc, ◌+◌, ◌<◌, ◌≤◌, Bool, true, false, cond, List, [], ◌∷◌, Option, Some, length, slice_get, refl, subst, sym, ap, ◌∙◌, arith, get_or-set_other, length-set, ℤ, pos, ◌+ℤ◌, ◌≢◌}
+use Rattle.std.proofs.Common.{◌≡◌, ℕ, zero, suc, ◌+◌, ◌<◌, Bool, true, false, cond, List, [], ◌∷◌, Some, length, slice_get, refl, subst, sym, ap, ◌∙◌, arith, get_or-set_other, length-set, ℤ, pos, ◌+ℤ◌, ◌≢◌}
 use Rattle.std.specs.Prelude.{◌*ℤ◌, ◌==◌}
 use Rattle.std.proofs.lemmas.Grind.{get_or-set_at}
 use Rattle.std.proofs.lemmas.Int.{ints}
@@ -9,9 +9,10 @@ use Rattle.program_rows.specs.Program.{Table, TableColumn}
 use Rattle.program_rows.specs.Points.{coefficient_at}
 use Rattle.program_rows.specs.Parts.{IsProgram}
 use Rattle.optimality.specs.Certificates.{Form, Cut, number_in}
-use Rattle.optimality.specs.Reduced.{cuts_number, rows_number, reduced, least_part, least_sum}
+use Rattle.optimality.specs.Reduced.{reduced, least_part}
 use Rattle.optimality.specs.inside.Adding.{number_at, with_more, with_form, with_cuts, form_at, with_rows, scaled_costs, leaf_numbers}
 use Rattle.optimality.specs.inside.RowForms.{row_forms}
+use Rattle.optimality.proofs.ColumnSums.{cuts_number, least_sum, rows_number}
 use Rattle.optimality.proofs.Products.{times-sum}
 use Rattle.optimality.proofs.RowLaws.{row-form-at}
 
@@ -93,8 +94,8 @@ there (d ∷ cs) (suc i) c h = let later = there cs i c h in omega arith
 least-same : (f g : ℕ → TableColumn → ℤ) (p : ℕ) (cs : List TableColumn) → ((i j : ℕ) (c : TableColumn) → i ≡ p + j → slice_get cs j ≡ Some c → f i c ≡ g i c) → least_sum f p cs ≡ least_sum g p cs
 least-same f g p [] same = refl
 least-same f g p (c ∷ cs) same =
-    ap (λ (k : ℤ). least_part c.bounds k +ℤ least_sum f (suc p) cs) (same p 0 c (omega arith) refl)
-    ∙ ap (λ (k : ℤ). least_part c.bounds (g p c) +ℤ k) (least-same f g (suc p) cs (λ i j d e h. same i (suc j) d (omega arith) h))
+    ap (λ (k : ℤ). least_part c.bounds k +ℤ least_sum f (p + 1) cs) (same p 0 c (omega arith) refl)
+    ∙ ap (λ (k : ℤ). least_part c.bounds (g p c) +ℤ k) (least-same f g (p + 1) cs (λ i j d e h. same i (suc j) d (omega arith) h))
 
 pub least-is : (p : Table) (scale : ℕ) (ys : List ℕ) (cuts : List Cut) (rows : Form) → IsProgram p
     → least_sum (λ place _. number_at (leaf_numbers p.columns (row_forms p) scale ys cuts rows) place) 0 p.columns ≡ least_sum (reduced scale ys cuts rows) 0 p.columns

@@ -1,5 +1,5 @@
 -- The rows of a program as forms: what each gives a column is its coefficient there.
-use Rattle.std.proofs.Common.{◌≡◌, ℕ, zero, suc, ◌+◌, ◌<◌, ◌≤◌, Bool, true, false, cond, drop, map, List, [], ◌∷◌, ◌++◌, Option, Some, length, slice_get, refl, subst, sym, ap, ◌∙◌, arith, get_or, get_or-set_other, length-set, ℤ, pos, ◌+ℤ◌, ◌≢◌}
+use Rattle.std.proofs.Common.{◌≡◌, ℕ, zero, suc, ◌+◌, ◌<◌, ◌≤◌, Bool, true, false, cond, drop, List, [], ◌∷◌, ◌++◌, Some, length, slice_get, refl, subst, sym, ap, ◌∙◌, arith, get_or, get_or-set_other, length-set, ℤ, pos, ◌+ℤ◌, ◌≢◌}
 use Rattle.std.specs.Prelude.{◌==◌, find, replicate, slice_set}
 use Rattle.std.specs.Option.{option_map, option_map_or}
 use Rattle.std.specs.List.{AllByRecursion}

@@ -7,9 +7,10 @@ use Rattle.std.proofs.lemmas.List.{set-get_or}
 use borrow.Author.Differences.{product_is, neg_is, same_in}
 use Rattle.std.proofs.lemmas.Int.{ints}
 use Rattle.program_rows.specs.Program.{TableRow, TableColumn}
-use Rattle.optimality.specs.Certificates.{Form, negated, side}
-use Rattle.optimality.specs.Reduced.{rows_right, right_side_at, least_part, least_sum}
-use Rattle.optimality.specs.inside.Adding.{number_at, with_more, with_form, with_cuts, scaled_costs}
+use Rattle.optimality.specs.Certificates.{Form, side}
+use Rattle.optimality.specs.Reduced.{right_side_at, least_part}
+use Rattle.optimality.proofs.ColumnSums.{least_sum, rows_right}
+use Rattle.optimality.specs.inside.Adding.{number_at, with_more, with_form, scaled_costs}
 
 -- what is left at a place is its element and what is left behind it
 rest : {A : Type 0} → (xs : List A) (i : ℕ) (d : A) → i < length xs → drop i xs ≡ get_or xs i d ∷ drop (i + 1) xs
@@ -22,17 +23,18 @@ right-step table rows i d sum next all l s h =
     omega (arith, ints)
 
 least_there : (number : ℕ → TableColumn → ℤ) (p i : ℕ) (q : ℕ) (cs : List TableColumn) (n : ℤ) → q ≡ p + i → option_map (λ d. least_part d.bounds (number q d)) (slice_get cs i) ≡ Some n
-    → least_sum number q (drop i cs) ≡ n +ℤ least_sum number (suc q) (drop (suc i) cs)
+    → least_sum number q (drop i cs) ≡ n +ℤ least_sum number (q + 1) (drop (suc i) cs)
 least_there number p i q [] n e h = absurd cc
-least_there number p zero q (c ∷ cs) n e h = let here : least_part c.bounds (number q c) ≡ n = cc in ap (λ (m : ℤ). m +ℤ least_sum number (suc q) cs) here
-least_there number p (suc i) q (c ∷ cs) n e h = least_there number (suc p) i q cs n (omega arith) h
+least_there number p zero q (c ∷ cs) n e h = let here : least_part c.bounds (number q c) ≡ n = cc in ap (λ (m : ℤ). m +ℤ least_sum number (q + 1) cs) here
+least_there number p (suc i) q (c ∷ cs) n e h = least_there number (p + 1) i q cs n (omega arith) h
 
 pub least-step : (number : ℕ → TableColumn → ℤ) (i : ℕ) (cs : List TableColumn) (sum next n all : ℤ) → option_map (λ d. least_part d.bounds (number i d)) (slice_get cs i) ≡ Some n → next ≡ sum +ℤ n
     → sum +ℤ least_sum number i (drop i cs) ≡ all → next +ℤ least_sum number (i + 1) (drop (i + 1) cs) ≡ all
 least-step number i cs sum next n all e s h =
-    let after : i + 1 ≡ suc i = omega arith in
-    let there : least_sum number i (drop i cs) ≡ n +ℤ least_sum number (suc i) (drop (suc i) cs) = least_there number 0 i i cs n (omega arith) e in
-    let moved : next +ℤ least_sum number (suc i) (drop (suc i) cs) ≡ all = omega (arith, ints) in
+    let place : i + 1 ≡ suc i = omega arith in
+    let after : drop (i + 1) cs ≡ drop (suc i) cs = ap (λ (k : ℕ). drop k cs) place in
+    let there : least_sum number i (drop i cs) ≡ n +ℤ least_sum number (i + 1) (drop (suc i) cs) = least_there number 0 i i cs n (omega arith) e in
+    let moved : next +ℤ least_sum number (i + 1) (drop (suc i) cs) ≡ all = omega (arith, ints) in
     rw after moved
 
 turned : (k a : ℤ) → neg_ℤ k *ℤ a ≡ k *ℤ neg_ℤ a
@@ -44,7 +46,7 @@ turned k a =
     same_in (neg_ℤ k *ℤ a) (k *ℤ neg_ℤ a) (rw (left.0, left.1, right.0, right.1, factor.0, factor.1, other.0, other.1) (omega arith))
 
 -- the negated multiple of a form
-pub form-turned : (k : ℤ) (form : Form) (numbers : List ℤ) → with_form (neg_ℤ k) form numbers ≡ with_form k (negated form) numbers
+pub form-turned : (k : ℤ) (form : Form) (numbers : List ℤ) → with_form (neg_ℤ k) form numbers ≡ with_form k (side true form (pos 0)).form numbers
 form-turned k [] numbers = refl
 form-turned k (t ∷ form) numbers = ap (λ (n : ℤ). with_form (neg_ℤ k) form (with_more t.0 n numbers)) (turned k t.1) ∙ form-turned k form (with_more t.0 (k *ℤ neg_ℤ t.1) numbers)
 

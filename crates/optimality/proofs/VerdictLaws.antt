@@ -1,34 +1,36 @@
 -- A text has no fault exactly where it tells a certificate that shows least.
 use Rattle.std.proofs.Common.{◌≡◌, ℕ, suc, Bool, true, false, cond, List, [], ◌∷◌, ◌++◌, Option, Some, None, Result, Ok, Err, length, refl, sym, subst, ap, ◌∙◌, arith, ℤ, pos}
 use Rattle.std.proofs.Common.{inl, inr}
-use Rattle.std.specs.Prelude.{OnOk, IfErr, ◌↔◌, ◌⊎◌, ◌<ℤ◌, ◌*ℤ◌, ◌-ℤ◌, filter, int_lt, if◌then◌else◌, bytes_eq, codes}
+use Rattle.std.specs.Prelude.{OnOk, IfErr, not, ◌↔◌, ◌⊎◌, ◌<ℤ◌, ◌*ℤ◌, ◌-ℤ◌, int_lt, if◌then◌else◌, bytes_eq, codes}
 use Rattle.std.specs.List.{list_all}
+use Rattle.std.specs.Option.{ok_or}
 use Rattle.std.proofs.lemmas.Int.{ints}
 use Rattle.auction_terms.specs.Lines.{lines_of}
 use Rattle.program_rows.specs.Program.{Table}
-use Rattle.program_rows.specs.Lines.{fields}
+use Rattle.program_rows.specs.Lines.{fields, is_skipped}
 use Rattle.program_rows.proofs.NamedItems.{all_true}
 use Rattle.optimality.specs.declared.fault.FaultKind.{FaultKind}
-use Rattle.optimality.specs.declared.fault.FaultKind.TheVariants.{Fields, NotShown, Sign}
+use Rattle.optimality.specs.declared.fault.FaultKind.TheVariants.{Beyond, Fields, NotShown, Sign}
 use Rattle.optimality.specs.declared.fault.CertificateFault.{CertificateFault}
 use Rattle.optimality.specs.Answers.{IsLimit, IsVerdict}
 use Rattle.optimality.specs.Certificates.{Form, Certificate, Bound, Split, side}
 use Rattle.optimality.specs.Shows.{may_have, leaf_value, LeafShows, ShowsWithin}
-use Rattle.optimality.specs.Lines.{is_telling}
+use Rattle.optimality.specs.Lines.{telling_lines}
 use Rattle.auction_terms.specs.Stages.{and_then}
+use Rattle.program_rows.specs.Numbers.{number}
 use Rattle.program_rows.specs.ProgramNames.{row_names, column_names}
-use Rattle.optimality.specs.LineMeaning.{Told, BoundLine, SplitLine, natural_told, naturals_told, token_told, named_numbers, rows_told, signed_rows, bound_told, split_told, line_told}
+use Rattle.optimality.specs.LineMeaning.{Told, BoundLine, SplitLine, natural_told, naturals_told, integer_told, named_numbers, bound_told, split_told, line_told}
 use Rattle.optimality.specs.Telling.{TellsCertificate, IsShownBy}
-use Rattle.optimality.specs.Branches.{Branch, Low, High, cuts_above, closed}
-use Rattle.optimality.specs.Verdict.{is_above, taken, after_telling, fault_at, fault_from, certificate_fault}
+use Rattle.optimality.specs.Branches.{Branch, At, cuts_above, closed}
+use Rattle.optimality.specs.Verdict.{taken, fault_from, certificate_fault}
 
 -- ---------- what lines still have to tell ----------
 
 -- behind a subtree: the second sides that are to come
 abbrev Completes : Table → ℤ → List Branch → List (List ℕ) → Type 0
 Completes p least [] lines = lines ≡ []
-Completes p least (High form most ∷ above) lines = Completes p least above lines
-Completes p least (Low form most ∷ above) lines =
+Completes p least (At true form most ∷ above) lines = Completes p least above lines
+Completes p least (At false form most ∷ above) lines =
     (t : Certificate) × (left : List (List ℕ)) × TellsCertificate p (suc (length above)) t lines left × ShowsWithin p least (cuts_above above ++ side true form most ∷ []) t × Completes p least above left
 
 -- within open splits: a subtree, and what is to come behind it
@@ -42,8 +44,8 @@ Holds p least (Some branches) lines = Awaits p least branches lines
 
 closes : (p : Table) (least : ℤ) (branches : List Branch) (lines : List (List ℕ)) → Completes p least branches lines ↔ Holds p least (closed branches) lines
 closes p least [] lines = (λ h. h, λ h. h)
-closes p least (High form most ∷ above) lines = closes p least above lines
-closes p least (Low form most ∷ above) lines = (λ h. h, λ h. h)
+closes p least (At true form most ∷ above) lines = closes p least above lines
+closes p least (At false form most ∷ above) lines = (λ h. h, λ h. h)
 
 nothing-told : (p : Table) (depth : ℕ) (t : Certificate) (left : List (List ℕ)) → TellsCertificate p depth t [] left → ⊥
 nothing-told p depth (Bound scale ys rows) left h = h
@@ -58,16 +60,16 @@ abbrev told_err : FaultKind → Result Told FaultKind
 told_err kind = Err kind
 
 to-first-side : (p : Table) (least : ℤ) (branches : List Branch) (line : List ℕ) (lines : List (List ℕ)) (form : Form) (most : ℤ) → line_told p (length branches) (fields line) ≡ Ok (SplitLine form most)
-    → (t : Certificate) (left : List (List ℕ)) → TellsCertificate p (length branches) t (line ∷ lines) left → ShowsWithin p least (cuts_above branches) t → Completes p least branches left → Awaits p least (Low form most ∷ branches) lines
+    → (t : Certificate) (left : List (List ℕ)) → TellsCertificate p (length branches) t (line ∷ lines) left → ShowsWithin p least (cuts_above branches) t → Completes p least branches left → Awaits p least (At false form most ∷ branches) lines
 to-first-side p least branches line lines form most e (Bound scale ys rows) left h shows after = let other : told_ok (SplitLine form most) ≡ told_ok (BoundLine scale ys rows) = sym e ∙ h.0 in absurd cc
 to-first-side p least branches line lines form most e (Split f m low high) left h shows after =
     let same : told_ok (SplitLine form most) ≡ told_ok (SplitLine f m) = sym e ∙ h.0 in
     let form_is : f ≡ form = cc in
     let most_is : m ≡ most = cc in
-    subst (λ (k : ℤ). Awaits p least (Low form k ∷ branches) lines) most_is (subst (λ (g : Form). Awaits p least (Low g m ∷ branches) lines) form_is (low, h.1.0, h.1.1, shows.0, (high, left, h.1.2, shows.1, after)))
+    subst (λ (k : ℤ). Awaits p least (At false form k ∷ branches) lines) most_is (subst (λ (g : Form). Awaits p least (At false g m ∷ branches) lines) form_is (low, h.1.0, h.1.1, shows.0, (high, left, h.1.2, shows.1, after)))
 
 splits : (p : Table) (least : ℤ) (branches : List Branch) (line : List ℕ) (lines : List (List ℕ)) (form : Form) (most : ℤ) → line_told p (length branches) (fields line) ≡ Ok (SplitLine form most)
-    → Awaits p least (Low form most ∷ branches) lines ↔ Awaits p least branches (line ∷ lines)
+    → Awaits p least (At false form most ∷ branches) lines ↔ Awaits p least branches (line ∷ lines)
 splits p least branches line lines form most e = (
   (λ h. (Split form most h.0 h.4.0, h.4.1, (e, (h.1, h.2, h.4.2)), (h.3, h.4.3), h.4.4)),
   (λ h. to-first-side p least branches line lines form most e h.0 h.1 h.2 h.3 h.4),
@@ -96,34 +98,26 @@ passed : {X Y : Type 0} (r : Result X FaultKind) (next : X → Result Y FaultKin
 passed (Ok x) next y e = (x, e)
 passed (Err kind) next y e = absurd cc
 
-signed : (p : Table) (rows found : Form) → signed_rows p rows ≡ Ok found → list_all (may_have p.rows) found ≡ true
-signed p rows found e = by (list_all (may_have p.rows) rows) refl e
+-- a bound is told of rows that may have their multipliers
+signed : (p : Table) (found rows : Form) (s scale : ℕ) (y ys : List ℕ) → (if list_all (may_have p.rows) found then Ok (BoundLine s y found) else Err Sign) ≡ Ok (BoundLine scale ys rows) → list_all (may_have p.rows) rows ≡ true
+signed p found rows s scale y ys e = by (list_all (may_have p.rows) found) refl e
   where
-    by : (b : Bool) → list_all (may_have p.rows) rows ≡ b → (if b then Ok rows else Err Sign) ≡ Ok found → list_all (may_have p.rows) found ≡ true
-    by true t e = let same : rows ≡ found = cc in subst (λ (f : Form). list_all (may_have p.rows) f ≡ true) same t
+    by : (b : Bool) → list_all (may_have p.rows) found ≡ b → (if b then Ok (BoundLine s y found) else Err Sign) ≡ Ok (BoundLine scale ys rows) → list_all (may_have p.rows) rows ≡ true
+    by true t e = let same : found ≡ rows = cc in subst (λ (f : Form). list_all (may_have p.rows) f ≡ true) same t
     by false t e = absurd cc
 
 bound-signed : (p : Table) (depth : ℕ) (fs : List (List ℕ)) (scale : ℕ) (ys : List ℕ) (rows : Form) → bound_told p depth fs ≡ Ok (BoundLine scale ys rows) → list_all (may_have p.rows) rows ≡ true
 bound-signed p depth [] scale ys rows e = absurd cc
 bound-signed p depth (token ∷ fs) scale ys rows e =
-    let a = passed (natural_told token) (λ s. and_then (naturals_told depth fs) (λ m. and_then (rows_told p m.1) (λ r. Ok (BoundLine s m.0 r)))) (BoundLine scale ys rows) e in
-    let b = passed (naturals_told depth fs) (λ m. and_then (rows_told p m.1) (λ r. Ok (BoundLine a.0 m.0 r))) (BoundLine scale ys rows) a.1 in
-    let d = read (rows_told p b.0.1) a.0 b.0.0 b.1 in
-    let t = terms (named_numbers (row_names p) _ b.0.1) d in
-    signed p t.0 rows t.1
-  where
-    read : (r : Result Form FaultKind) (s : ℕ) (y : List ℕ) → and_then r (λ f. Ok (BoundLine s y f)) ≡ Ok (BoundLine scale ys rows) → r ≡ Ok rows
-    read (Ok f) s y e = let same : f ≡ rows = cc in ap (λ (g : Form). Ok g) same
-    read (Err kind) s y e = absurd cc
-
-    terms : (r : Result Form FaultKind) → and_then r (signed_rows p) ≡ Ok rows → (f : Form) × (signed_rows p f ≡ Ok rows)
-    terms (Ok f) e = (f, e)
-    terms (Err kind) e = absurd cc
+    let a = passed (natural_told token) (λ s. and_then (naturals_told depth fs) (λ m. and_then (named_numbers (row_names p) _ m.1) (λ r. if list_all (may_have p.rows) r then Ok (BoundLine s m.0 r) else Err Sign))) (BoundLine scale ys rows) e in
+    let b = passed (naturals_told depth fs) (λ m. and_then (named_numbers (row_names p) _ m.1) (λ r. if list_all (may_have p.rows) r then Ok (BoundLine a.0 m.0 r) else Err Sign)) (BoundLine scale ys rows) a.1 in
+    let d = passed (named_numbers (row_names p) _ b.0.1) (λ r. if list_all (may_have p.rows) r then Ok (BoundLine a.0 b.0.0 r) else Err Sign) (BoundLine scale ys rows) b.1 in
+    signed p d.0 rows a.0 scale b.0.0 ys d.1
 
 split-apart : (p : Table) (fs : List (List ℕ)) (scale : ℕ) (ys : List ℕ) (rows : Form) → split_told p fs ≡ Ok (BoundLine scale ys rows) → ⊥
 split-apart p [] scale ys rows e = cc
 split-apart p (token ∷ fs) scale ys rows e =
-    let a = passed (token_told token) (λ most. and_then (named_numbers (column_names p) _ fs) (λ form. Ok (SplitLine form most))) (BoundLine scale ys rows) e in
+    let a = passed (integer_told (number token)) (λ most. and_then (named_numbers (column_names p) _ fs) (λ form. Ok (SplitLine form most))) (BoundLine scale ys rows) e in
     let b = passed (named_numbers (column_names p) _ fs) (λ form. Ok (SplitLine form a.0)) (BoundLine scale ys rows) a.1 in
     let other = b.1 in cc
 
@@ -139,9 +133,9 @@ line-signed p depth (word ∷ fs) scale ys rows e = by (bytes_eq word (codes "sp
 -- ---------- all lines ----------
 
 abbrev Stands : Table → ℤ → List (List ℕ) → Type 0
-Stands p least lines = (branches : Option (List Branch)) (place : ℕ) → (fault_from p least branches place lines ≡ None) ↔ Holds p least branches (filter is_telling lines)
+Stands p least lines = (branches : Option (List Branch)) (place : ℕ) → (fault_from p least (Ok branches) place lines ≡ None) ↔ Holds p least branches (telling_lines lines)
 
-end-of-text : (p : Table) (least : ℤ) → (branches : Option (List Branch)) (place : ℕ) → (fault_from p least branches place [] ≡ None) ↔ Holds p least branches []
+end-of-text : (p : Table) (least : ℤ) → (branches : Option (List Branch)) (place : ℕ) → (fault_from p least (Ok branches) place [] ≡ None) ↔ Holds p least branches []
 end-of-text p least None place = (λ h. refl, λ h. refl)
 end-of-text p least (Some branches) place = (λ h. absurd cc, λ h. absurd (nothing-told p (length branches) h.0 h.1 h.2))
 
@@ -152,42 +146,42 @@ not-above : (a b : ℤ) → int_lt a b ≡ false → a <ℤ b → ⊥
 not-above a b h k = omega (arith, ints)
 
 bound-stands : (p : Table) (least : ℤ) (lines : List (List ℕ)) → Stands p least lines → (branches : List Branch) (place : ℕ) (line : List ℕ) (scale : ℕ) (ys : List ℕ) (rows : Form) → line_told p (length branches) (fields line) ≡ Ok (BoundLine scale ys rows)
-    → (b : Bool) → is_above p least (cuts_above branches) scale ys rows ≡ b
-    → (fault_at (if b then Ok (closed branches) else Err NotShown) (suc place) (λ next. fault_from p least next (suc place) lines) ≡ None) ↔ Awaits p least branches (line ∷ filter is_telling lines)
+    → (b : Bool) → int_lt (pos scale *ℤ (least -ℤ pos 1)) (leaf_value p (cuts_above branches) scale ys rows) ≡ b
+    → (fault_from p least (if b then Ok (closed branches) else Err NotShown) (suc place) lines ≡ None) ↔ Awaits p least branches (line ∷ telling_lines lines)
 bound-stands p least lines later branches place line scale ys rows e true a =
-    let rest = filter is_telling lines in
+    let rest = telling_lines lines in
     let shows : LeafShows p least (cuts_above branches) scale ys rows = record { signs = all_true (may_have p.rows) rows (line-signed p (length branches) (fields line) scale ys rows e); above = above (pos scale *ℤ (least -ℤ pos 1)) (leaf_value p (cuts_above branches) scale ys rows) a } in (
       (λ h. (Bound scale ys rows, rest, (e, refl), shows, (closes p least branches rest).1 ((later (closed branches) (suc place)).0 h))),
       (λ h. (later (closed branches) (suc place)).1 ((closes p least branches rest).0 (to-end p least branches line rest scale ys rows e h.0 h.1 h.2 h.3 h.4).1)),
     )
 bound-stands p least lines later branches place line scale ys rows e false a = (
   (λ h. absurd cc),
-  (λ h. absurd (not-above (pos scale *ℤ (least -ℤ pos 1)) (leaf_value p (cuts_above branches) scale ys rows) a (to-end p least branches line (filter is_telling lines) scale ys rows e h.0 h.1 h.2 h.3 h.4).0.above)),
+  (λ h. absurd (not-above (pos scale *ℤ (least -ℤ pos 1)) (leaf_value p (cuts_above branches) scale ys rows) a (to-end p least branches line (telling_lines lines) scale ys rows e h.0 h.1 h.2 h.3 h.4).0.above)),
 )
 
 line-stands : (p : Table) (least : ℤ) (lines : List (List ℕ)) → Stands p least lines → (branches : List Branch) (place : ℕ) (line : List ℕ) (r : Result Told FaultKind) → line_told p (length branches) (fields line) ≡ r
-    → (fault_at (and_then r (taken p least branches)) (suc place) (λ next. fault_from p least next (suc place) lines) ≡ None) ↔ Awaits p least branches (line ∷ filter is_telling lines)
-line-stands p least lines later branches place line (Err kind) e = ((λ h. absurd cc), (λ h. absurd (refused p least branches line (filter is_telling lines) kind e h.0 h.1 h.2)))
+    → (fault_from p least (and_then r (taken p least branches)) (suc place) lines ≡ None) ↔ Awaits p least branches (line ∷ telling_lines lines)
+line-stands p least lines later branches place line (Err kind) e = ((λ h. absurd cc), (λ h. absurd (refused p least branches line (telling_lines lines) kind e h.0 h.1 h.2)))
 line-stands p least lines later branches place line (Ok (SplitLine form most)) e =
-    let next = later (Some (Low form most ∷ branches)) (suc place) in
-    let same = splits p least branches line (filter is_telling lines) form most e in
+    let next = later (Some (At false form most ∷ branches)) (suc place) in
+    let same = splits p least branches line (telling_lines lines) form most e in
     ((λ h. same.0 (next.0 h)), (λ h. next.1 (same.1 h)))
-line-stands p least lines later branches place line (Ok (BoundLine scale ys rows)) e = bound-stands p least lines later branches place line scale ys rows e (is_above p least (cuts_above branches) scale ys rows) refl
+line-stands p least lines later branches place line (Ok (BoundLine scale ys rows)) e = bound-stands p least lines later branches place line scale ys rows e (int_lt (pos scale *ℤ (least -ℤ pos 1)) (leaf_value p (cuts_above branches) scale ys rows)) refl
 
 any-stands : (p : Table) (least : ℤ) (line : List ℕ) (lines : List (List ℕ)) → Stands p least lines → (branches : Option (List Branch)) (place : ℕ) (b : Bool)
-    → (fault_at (if b then after_telling p least branches line else Ok branches) (suc place) (λ next. fault_from p least next (suc place) lines) ≡ None) ↔ Holds p least branches (cond b (line ∷ filter is_telling lines) (filter is_telling lines))
-any-stands p least line lines later branches place false = later branches (suc place)
-any-stands p least line lines later None place true = ((λ h. absurd cc), (λ h. absurd cc))
-any-stands p least line lines later (Some branches) place true = line-stands p least lines later branches place line (line_told p (length branches) (fields line)) refl
+    → (fault_from p least (if b then Ok branches else and_then (ok_or branches Beyond) (λ open_splits. and_then (line_told p (length open_splits) (fields line)) (taken p least open_splits))) (suc place) lines ≡ None) ↔ Holds p least branches (cond (not b) (line ∷ telling_lines lines) (telling_lines lines))
+any-stands p least line lines later branches place true = later branches (suc place)
+any-stands p least line lines later None place false = ((λ h. absurd cc), (λ h. absurd cc))
+any-stands p least line lines later (Some branches) place false = line-stands p least lines later branches place line (line_told p (length branches) (fields line)) refl
 
 stands : (p : Table) (least : ℤ) (lines : List (List ℕ)) → Stands p least lines
 stands p least [] = end-of-text p least
-stands p least (line ∷ lines) = λ branches place. any-stands p least line lines (stands p least lines) branches place (is_telling line)
+stands p least (line ∷ lines) = λ branches place. any-stands p least line lines (stands p least lines) branches place (is_skipped line)
 
 pub verdict : (p : Table) (least : ℤ) (text : List ℕ) → (certificate_fault p least text ≡ None) ↔ IsShownBy p least text
 verdict p least text =
     let all = stands p least (lines_of text) (Some []) 0 in (
-      (λ h. let a = all.0 h in (a.0, subst (λ (left : List (List ℕ)). TellsCertificate p 0 a.0 (filter is_telling (lines_of text)) left) a.4 a.2, a.3)),
+      (λ h. let a = all.0 h in (a.0, subst (λ (left : List (List ℕ)). TellsCertificate p 0 a.0 (telling_lines (lines_of text)) left) a.4 a.2, a.3)),
       (λ h. all.1 (h.0, [], h.1, h.2, refl)),
     )
 

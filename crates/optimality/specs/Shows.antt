@@ -1,12 +1,12 @@
 -- What a certificate shows: no point of a program has an objective below `least`.
 use Rattle.std.specs.Prelude.{◌≡◌, ℕ, Bool, true, false, List, [], ◌∷◌, ◌++◌, slice_get, ℤ, pos, ◌+ℤ◌, ◌-ℤ◌, ◌*ℤ◌, ◌<ℤ◌, int_le}
 use Rattle.std.specs.Option.{option_map_or}
-use Rattle.std.specs.List.{AllByRecursion}
+use Rattle.std.specs.List.{AllByRecursion, enumerate_from, zip}
 use Rattle.program_rows.specs.declared.row.RowKind.{RowKind}
 use Rattle.program_rows.specs.declared.row.RowKind.TheVariants.{AtMost, AtLeast, Equal}
 use Rattle.program_rows.specs.Program.{Table, TableRow}
-use Rattle.optimality.specs.Certificates.{Form, Cut, Certificate, Bound, Split, side}
-use Rattle.optimality.specs.Reduced.{reduced, least_sum, cuts_right, rows_right}
+use Rattle.optimality.specs.Certificates.{Form, Cut, Certificate, Bound, Split, side, sum_of}
+use Rattle.optimality.specs.Reduced.{reduced, least_part, right_side_at}
 
 abbrev pub has_sign : RowKind → ℤ → Bool
 has_sign AtMost y = int_le (pos 0) y
@@ -17,9 +17,11 @@ has_sign Equal y = true
 abbrev pub may_have : List TableRow → ℕ × ℤ → Bool
 may_have rows t = option_map_or (λ r. has_sign r.kind t.1) (slice_get rows t.0) false
 
--- the least that the reduced costs come to, less the right sides
+-- the least that the reduced costs come to, less the right sides of cuts and rows, each times its multiplier
 abbrev pub leaf_value : Table → List Cut → ℕ → List ℕ → Form → ℤ
-leaf_value p cuts scale ys rows = least_sum (reduced scale ys cuts rows) 0 p.columns -ℤ (cuts_right ys cuts +ℤ rows_right p.rows rows)
+leaf_value p cuts scale ys rows =
+    sum_of (λ e. least_part e.1.bounds (reduced scale ys cuts rows e.0 e.1)) (enumerate_from 0 p.columns)
+    -ℤ (sum_of (λ e. pos e.0 *ℤ e.1.most) (zip ys cuts) +ℤ sum_of (λ t. t.1 *ℤ right_side_at p.rows t.0) rows)
 
 -- a leaf shows `least` for the points within the cuts: its value is above `scale` times `least` - 1
 pub record LeafShows (p : Table) (least : ℤ) (cuts : List Cut) (scale : ℕ) (ys : List ℕ) (rows : Form) : Type 0 where

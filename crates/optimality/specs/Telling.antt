@@ -1,5 +1,6 @@
 -- The certificate that a text tells: its lines in preorder.
 use Rattle.std.specs.Prelude.{◌≡◌, ℕ, suc, List, [], ◌∷◌, ℤ, Ok}
+use Rattle.auction_terms.specs.Lines.{lines_of}
 use Rattle.program_rows.specs.Program.{Table}
 use Rattle.program_rows.specs.Lines.{fields}
 use Rattle.optimality.specs.Certificates.{Certificate, Bound, Split}
@@ -16,4 +17,4 @@ TellsCertificate p depth (Split form most low high) (line ∷ lines) left =
 
 -- the text tells a certificate that shows `least`
 abbrev pub IsShownBy : Table → ℤ → List ℕ → Type 0
-IsShownBy p least text = (certificate : Certificate) × TellsCertificate p 0 certificate (telling_lines text) [] × Shows p least certificate
+IsShownBy p least text = (certificate : Certificate) × TellsCertificate p 0 certificate (telling_lines (lines_of text)) [] × Shows p least certificate

@@ -1,9 +1,10 @@
 //! The sides of open splits, as cuts.
 
 ghost use Rattle.std.specs.Prelude.{◌≡◌, OnOk, IfOk, length, pos, ◌+ℤ◌, ◌*ℤ◌};
+ghost use Rattle.std.specs.List.{zip};
 ghost use Rattle.optimality.specs.inside.Adding.{with_cuts, with_form};
 ghost use Rattle.optimality.specs.inside.Holding.{cut_of, cuts_of};
-ghost use Rattle.optimality.specs.Reduced as reduced;
+ghost use Rattle.optimality.specs.Certificates.{sum_of};
 
 use crate::arithmetic::{plus, signed, times};
 use crate::forms::add_form;
@@ -54,7 +55,8 @@ fn add_most(sum: i128, multiplier: u64, split: &OpenSplit) -> Result<i128, Limit
 /// The sum of the right sides of the cuts, each times its multiplier.
 pub fn cuts_right(multipliers: &[u64], splits: &[OpenSplit]) -> Result<i128, Limit>
     requires { length multipliers.now ≡ length splits.now }
-    ensures { IfOk result (λ n. n ≡ reduced.cuts_right multipliers.now (cuts_of splits.now)) }
+    ensures { IfOk result (λ n. n ≡ sum_of (λ e. pos e.0 *ℤ e.1.most)
+        (zip multipliers.now (cuts_of splits.now))) }
 {
     let mut sum: i128 = 0;
     for i in 0..splits.len() {

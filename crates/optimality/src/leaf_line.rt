@@ -6,7 +6,7 @@ ghost use Rattle.program_rows.specs.Lines.{fields};
 ghost use Rattle.optimality.specs.inside.Answers.{AnswersSeen};
 ghost use Rattle.optimality.specs.inside.Checking.{IsPrepared};
 ghost use Rattle.optimality.specs.Shows as shows;
-ghost use Rattle.optimality.specs.LineMeaning.{BoundLine, bound_told, rows_told};
+ghost use Rattle.optimality.specs.LineMeaning.{BoundLine, bound_told};
 
 use crate::checker::Checker;
 use crate::fault::FaultKind;
@@ -37,18 +37,6 @@ fn are_signed(program: &Program, rows: &[(usize, i64)]) -> bool
     rows.iter().all(|t| may_have(program, t.0, t.1))
 }
 
-fn take_rows(checker: &Checker, text: &[u8]) -> Result<Vec<(usize, i64)>, Refusal>
-    requires { IsPrepared checker.now }
-    ensures { AnswersSeen (λ rows. rows.items) result
-        (rows_told checker.now.program.now (fields text.now)) }
-{
-    let rows = take_row_terms(checker, text)?;
-    if !are_signed(checker.program, rows.as_slice()) {
-        return Err(Refusal::Fault(FaultKind::Sign));
-    }
-    Ok(rows)
-}
-
 /// The leaf that a text tells, below as many splits as `depth`.
 pub fn take_leaf(checker: &Checker, depth: usize, text: &[u8]) -> Result<Leaf, Refusal>
     requires { IsPrepared checker.now }
@@ -61,7 +49,10 @@ pub fn take_leaf(checker: &Checker, depth: usize, text: &[u8]) -> Result<Leaf, R
     };
     let scale = take_natural(token.text)?;
     let naturals = take_naturals(checker.alloc, depth, token.rest)?;
-    let rows = take_rows(checker, naturals.rest)?;
+    let rows = take_row_terms(checker, naturals.rest)?;
+    if !are_signed(checker.program, rows.as_slice()) {
+        return Err(Refusal::Fault(FaultKind::Sign));
+    }
     Ok(Leaf {
         scale,
         multipliers: naturals.numbers,

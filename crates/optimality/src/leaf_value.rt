@@ -1,13 +1,14 @@
 //! What a leaf comes to.
 
-ghost use Rattle.std.specs.Prelude.{◌≡◌, ◌-ℤ◌, ◌*ℤ◌, ◌+ℤ◌, IfOk, OnOk, length, pos};
+ghost use Rattle.std.specs.Prelude.{◌≡◌, ◌-ℤ◌, ◌*ℤ◌, ◌+ℤ◌, IfOk, OnOk, int_lt, length, pos};
+ghost use Rattle.std.specs.List.{enumerate_from, zip};
 ghost use Rattle.optimality.specs.inside.Adding.{leaf_numbers};
 ghost use Rattle.optimality.specs.inside.Checking.{IsPrepared};
 ghost use Rattle.optimality.specs.inside.Holding.{cuts_of};
+ghost use Rattle.optimality.specs.Certificates.{sum_of};
 ghost use Rattle.optimality.specs.Reduced as reduced;
 ghost use Rattle.optimality.specs.inside.RowForms.{row_forms};
 ghost use Rattle.optimality.specs.Shows as shows;
-ghost use Rattle.optimality.specs.Verdict as verdict;
 
 use crate::arithmetic::{minus, plus, times};
 use crate::checker::Checker;
@@ -50,9 +51,9 @@ fn least_of(
 ) -> Result<i128, Limit>
     requires prepared { IsPrepared checker.now }
     requires count { length leaf.now.multipliers.items ≡ length splits.now }
-    ensures { IfOk result (λ n. n ≡ reduced.least_sum
+    ensures { IfOk result (λ n. n ≡ sum_of (λ e. reduced.least_part e.1.bounds
         (reduced.reduced leaf.now.scale leaf.now.multipliers.items (cuts_of splits.now)
-        leaf.now.rows.items) 0 checker.now.program.now.columns) }
+        leaf.now.rows.items e.0 e.1)) (enumerate_from 0 checker.now.program.now.columns)) }
 {
     // The places of entries lie within the rows.
     checker.program.well_formed();
@@ -63,8 +64,9 @@ fn least_of(
 /// The right sides of cuts and rows, each times its multiplier.
 fn right_of(program: &Program, splits: &[OpenSplit], leaf: &Leaf) -> Result<i128, Limit>
     requires { length leaf.now.multipliers.items ≡ length splits.now }
-    ensures { IfOk result (λ n. n ≡ reduced.cuts_right leaf.now.multipliers.items
-        (cuts_of splits.now) +ℤ reduced.rows_right program.now.rows leaf.now.rows.items) }
+    ensures { IfOk result (λ n. n ≡ sum_of (λ e. pos e.0 *ℤ e.1.most)
+        (zip leaf.now.multipliers.items (cuts_of splits.now)) +ℤ sum_of (λ t. t.1
+        *ℤ reduced.right_side_at program.now.rows t.0) leaf.now.rows.items) }
 {
     let cuts = cuts_right(leaf.multipliers.as_slice(), splits)?;
     let rows = rows_right(program, leaf.rows.as_slice())?;
@@ -104,8 +106,9 @@ pub fn is_above(
     requires prepared { IsPrepared checker.now }
     requires count { length leaf.now.multipliers.items ≡ length splits.now }
     ensures { IfOk result (λ above. above
-        ≡ verdict.is_above checker.now.program.now checker.now.least (cuts_of splits.now)
-        leaf.now.scale leaf.now.multipliers.items leaf.now.rows.items) }
+        ≡ int_lt (pos leaf.now.scale *ℤ (checker.now.least -ℤ pos 1))
+        (shows.leaf_value checker.now.program.now (cuts_of splits.now) leaf.now.scale
+        leaf.now.multipliers.items leaf.now.rows.items)) }
 {
     let value = leaf_value(checker, numbers, splits, leaf)?;
     let before = scaled_before(leaf.scale, checker.least)?;

@@ -1,16 +1,17 @@
 //! One line of a certificate.
 
-ghost use Rattle.std.specs.Prelude.{◌≡◌, ◌==◌, not, bytes_eq, length, IfOk};
-ghost use Rattle.program_rows.specs.Lines.{fields};
+ghost use Rattle.std.specs.Prelude.{◌≡◌, ◌==◌, ◌-ℤ◌, ◌*ℤ◌, IfOk, Ok, bytes_eq, if◌then◌else◌, int_lt, length, not, pos, slice_index};
+ghost use Rattle.std.specs.Option.{ok_or};
+ghost use Rattle.optimality.specs.declared.fault.FaultKind.TheVariants.{Beyond};
+ghost use Rattle.program_rows.specs.Lines.{fields, is_skipped};
 ghost use Rattle.optimality.specs.inside.Answers.{AnswersSeen};
 ghost use Rattle.optimality.specs.inside.Branches.{branches_of, opened};
 ghost use Rattle.optimality.specs.Branches.{cuts_above};
 ghost use Rattle.optimality.specs.inside.Checking.{IsPrepared};
-ghost use Rattle.optimality.specs.Lines as lines;
 ghost use Rattle.auction_terms.specs.Stages.{and_then};
-ghost use Rattle.optimality.specs.LineMeaning.{bound_told, split_told};
-ghost use Rattle.optimality.specs.Verdict as verdict;
-ghost use Rattle.optimality.specs.Verdict.{after_line, after_open, taken};
+ghost use Rattle.optimality.specs.LineMeaning.{bound_told, line_told, split_told};
+ghost use Rattle.optimality.specs.Shows.{leaf_value};
+ghost use Rattle.optimality.specs.Verdict.{taken};
 
 use crate::checker::Checker;
 use crate::closing::close;
@@ -55,9 +56,9 @@ fn leaf_shows(
     requires prepared { IsPrepared checker.now }
     requires count { length leaf.now.multipliers.items ≡ length splits.now }
     ensures { IfOk result (λ shows. shows
-        ≡ verdict.is_above checker.now.program.now checker.now.least
-        (cuts_above (branches_of splits.now)) leaf.now.scale leaf.now.multipliers.items
-        leaf.now.rows.items) }
+        ≡ int_lt (pos leaf.now.scale *ℤ (checker.now.least -ℤ pos 1))
+        (leaf_value checker.now.program.now (cuts_above (branches_of splits.now)) leaf.now.scale
+        leaf.now.multipliers.items leaf.now.rows.items)) }
 {
     is_above(checker, numbers, splits, leaf)
 }
@@ -89,8 +90,9 @@ fn take_line(
 ) -> Result<bool, Refusal>
     requires { IsPrepared checker.now }
     ensures { AnswersSeen (λ is_last. opened is_last splits.new.items) result
-        (after_open checker.now.program.now checker.now.least (branches_of splits.old.items)
-        line.now) }
+        (and_then (line_told checker.now.program.now (length (branches_of splits.old.items))
+        (fields line.now)) (taken checker.now.program.now checker.now.least
+        (branches_of splits.old.items))) }
 {
     let Some(word) = next_field(line) else {
         return Err(Refusal::Fault(FaultKind::Fields));
@@ -105,7 +107,7 @@ fn take_line(
 }
 
 fn is_comment(line: &[u8]) -> bool
-    ensures { result ≡ lines.is_comment line.now }
+    ensures { result ≡ (slice_index line.now 0 == 35) }
 {
     if line.is_empty() {
         return false;
@@ -120,7 +122,7 @@ fn has_fields(line: &[u8]) -> bool
 }
 
 fn is_telling(line: &[u8]) -> bool
-    ensures { result ≡ lines.is_telling line.now }
+    ensures { result ≡ not (is_skipped line.now) }
 {
     !is_comment(line) && has_fields(line)
 }
@@ -135,8 +137,10 @@ pub fn take_any(
 ) -> Result<bool, Refusal>
     requires { IsPrepared checker.now }
     ensures { AnswersSeen (λ is_last_then. opened is_last_then splits.new.items) result
-        (after_line checker.now.program.now checker.now.least (opened is_last splits.old.items)
-        line.now) }
+        (if is_skipped line.now then Ok (opened is_last splits.old.items) else and_then
+        (ok_or (opened is_last splits.old.items) Beyond) (λ above. and_then
+        (line_told checker.now.program.now (length above) (fields line.now))
+        (taken checker.now.program.now checker.now.least above))) }
 {
     if !is_telling(line) {
         return Ok(is_last);

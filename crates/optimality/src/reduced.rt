@@ -1,8 +1,10 @@
 //! The reduced costs of a leaf, and the least that they come to.
 
 ghost use Rattle.std.specs.Prelude.{◌≡◌, ◌<◌, Some, IfOk, OnOk, length, slice_get};
+ghost use Rattle.std.specs.List.{enumerate_from};
 ghost use Rattle.std.specs.Option.{option_map};
 ghost use Rattle.optimality.specs.inside.Adding as adding;
+ghost use Rattle.optimality.specs.Certificates.{sum_of};
 ghost use Rattle.optimality.specs.Reduced as reduced;
 
 use crate::arithmetic::{plus, product, signed};
@@ -42,8 +44,9 @@ fn least_at(program: &Program, numbers: &[i128], column: usize) -> i128
 
 /// The least that the columns contribute, each by its number.
 pub fn least_total(program: &Program, numbers: &[i128]) -> Result<i128, Limit>
-    ensures { IfOk result (λ n. n ≡ reduced.least_sum
-        (λ place _. adding.number_at numbers.now place) 0 program.now.columns) }
+    ensures { IfOk result (λ n. n ≡ sum_of
+        (λ e. reduced.least_part e.1.bounds (adding.number_at numbers.now e.0))
+        (enumerate_from 0 program.now.columns)) }
 {
     let mut sum: i128 = 0;
     for column in 0..program.column_count() {

@@ -2,6 +2,7 @@
 
 ghost use Rattle.std.specs.Prelude.{◌≡◌, IfOk, OnOk, ◌+ℤ◌, ◌*ℤ◌};
 ghost use Rattle.optimality.specs.inside.Adding.{form_at, with_form, with_rows};
+ghost use Rattle.optimality.specs.Certificates.{sum_of};
 ghost use Rattle.optimality.specs.Reduced as reduced;
 ghost use Rattle.optimality.specs.inside.RowForms.{forms_held};
 
@@ -52,7 +53,8 @@ fn add_right_side(sum: i128, program: &Program, row: usize, multiplier: i64) -> 
 
 /// The sum of the right sides of rows, each times its multiplier.
 pub fn rows_right(program: &Program, rows: &[(usize, i64)]) -> Result<i128, Limit>
-    ensures { IfOk result (λ n. n ≡ reduced.rows_right program.now.rows rows.now) }
+    ensures { IfOk result (λ n. n ≡ sum_of (λ t. t.1 *ℤ reduced.right_side_at program.now.rows
+        t.0) rows.now) }
 {
     let mut sum: i128 = 0;
     for i in 0..rows.len() {

@@ -1,13 +1,16 @@
 //! Names, each with a number.
 
-ghost use Rattle.std.specs.Prelude.{◌≡◌};
+ghost use Rattle.std.specs.Prelude.{◌≡◌, Ok, bytes_eq, position};
+ghost use Rattle.std.specs.Option.{ok_or};
 ghost use Rattle.program_rows.specs.Lines.{fields};
 ghost use Rattle.optimality.specs.inside.Answers.{AnswersSeen};
 ghost use Rattle.optimality.specs.inside.Checking.{IsPrepared};
 ghost use Rattle.optimality.specs.declared.fault.FaultKind.TheVariants.{UnknownColumn, UnknownRow};
 ghost use Rattle.auction_terms.specs.Borrowed.{bytes_of};
+ghost use Rattle.auction_terms.specs.Stages.{and_then};
+ghost use Rattle.program_rows.specs.Numbers.{number};
 ghost use Rattle.program_rows.specs.ProgramNames.{column_names, row_names};
-ghost use Rattle.optimality.specs.LineMeaning.{place_told, term_told, named_numbers};
+ghost use Rattle.optimality.specs.LineMeaning.{integer_told, named_numbers};
 
 use crate::checker::Checker;
 use crate::fault::FaultKind;
@@ -24,7 +27,7 @@ fn take_place(
     name: &[u8],
 ) -> Result<usize, Refusal>
     ensures { AnswersSeen (λ place. place) result
-        (place_told (bytes_of names.now.keys) unknown name.now) }
+        (ok_or (position (bytes_eq name.now) (bytes_of names.now.keys)) unknown) }
 {
     match place_of(names, next, name) {
         Some(place) => Ok(place),
@@ -40,7 +43,8 @@ fn take_term(
     token: &[u8],
 ) -> Result<(usize, i64), Refusal>
     ensures { AnswersSeen (λ term. term) result
-        (term_told (bytes_of names.now.keys) unknown name.now token.now) }
+        (and_then (ok_or (position (bytes_eq name.now) (bytes_of names.now.keys)) unknown) (λ place.
+        and_then (integer_told (number token.now)) (λ n. Ok (place, n)))) }
 {
     let place = take_place(names, next, unknown, name)?;
     let number = take_number(token)?;

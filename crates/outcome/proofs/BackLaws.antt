@@ -25,7 +25,8 @@ use Rattle.program_rows.proofs.FaithfulLaws.{presolved_is_faithful}
 use Rattle.mps_text.specs.FaithfulText.{presolved_text}
 use Rattle.mps_text.proofs.FaithfulTexts.{presolved_text_is_faithful}
 use Rattle.program_rows.proofs.SpellingLaws.{reads_names_alone}
-use Rattle.outcome.specs.PointAllocation.{by_bidder, all_bidders, allocation_of, IsMap, HasRisingBidders}
+use Rattle.outcome.specs.PointAllocation.{allocation_of, IsMap, HasRisingBidders}
+use Rattle.outcome.specs.inside.Winning.{by_bidder}
 use Rattle.outcome.specs.Coming.{ComesBack, PointsComeBack, SolutionsComeBack, AnswersOfSolversComeBack}
 use Rattle.outcome.proofs.PointLaws.{solutions_are_points}
 
@@ -73,7 +74,7 @@ sum_between f choices s (suc n) =
     let whole = sum_plus (λ c. cond (is_between s (suc n) c.bidder) (f c) 0) (λ c. cond (c.bidder == s) (f c) 0) (λ c. cond (is_between (s + 1) n c.bidder) (f c) 0) choices (λ c. one_more_between s n c.bidder (f c)) in
     omega arith
 
-pub same_sum : (f : Choice → ℕ) (choices : List Choice) → AllByRecursion IsBidder choices → sum_by f (by_bidder all_bidders choices) ≡ sum_by f choices
+pub same_sum : (f : Choice → ℕ) (choices : List Choice) → AllByRecursion IsBidder choices → sum_by f (by_bidder (range_with_len 1 MOST_BIDDERS) choices) ≡ sum_by f choices
 same_sum f choices h = sum_between f choices 1 MOST_BIDDERS
     ∙ sum_agree (λ c. cond (is_between 1 MOST_BIDDERS c.bidder) (f c) 0) f choices (all_agree IsBidder (λ c. cond (is_between 1 MOST_BIDDERS c.bidder) (f c) 0 ≡ f c) choices (λ c b. all_between c.bidder (f c) b.0 b.1) h)
 
@@ -81,8 +82,8 @@ same_each : (f g : ℕ → ℕ) → ((n : ℕ) → f n ≡ g n) → (ns : List �
 same_each f g each [] = refl
 same_each f g each (n ∷ ns) = ap₂ (λ (x : ℕ) (xs : List ℕ). x ∷ xs) (each n) (same_each f g each ns)
 
-pub same_loads : (lots : Lots) (book : Book) (choices : List Choice) → AllByRecursion IsBidder choices → loads lots book (by_bidder all_bidders choices) ≡ loads lots book choices
-same_loads lots book choices h = same_each (λ category. sum_by (quantity_of book category) (by_bidder all_bidders choices)) (λ category. sum_by (quantity_of book category) choices) (λ category. same_sum (quantity_of book category) choices h) (range_with_len 0 (length lots.supply))
+pub same_loads : (lots : Lots) (book : Book) (choices : List Choice) → AllByRecursion IsBidder choices → loads lots book (by_bidder (range_with_len 1 MOST_BIDDERS) choices) ≡ loads lots book choices
+same_loads lots book choices h = same_each (λ category. sum_by (quantity_of book category) (by_bidder (range_with_len 1 MOST_BIDDERS) choices)) (λ category. sum_by (quantity_of book category) choices) (λ category. same_sum (quantity_of book category) choices h) (range_with_len 0 (length lots.supply))
 
 -- ---- what holds of all choices
 
@@ -136,7 +137,7 @@ points_come_back lots book group p values faithful point =
       map = f.one_bid_each;
       feasible = record {
         one_bid_each = λ b. let h = f.one_bid_each b in let e = same_sum (λ c. cond (c.bidder == b) 1 0) taken inside in omega arith;
-        eligible = All-from_recursion _ (allocation_of p values) (all_by_bidder (λ c. is_eligible book group c ≡ true) all_bidders taken (recursion_from_All _ taken f.eligible));
+        eligible = All-from_recursion _ (allocation_of p values) (all_by_bidder (λ c. is_eligible book group c ≡ true) (range_with_len 1 MOST_BIDDERS) taken (recursion_from_All _ taken f.eligible));
         fit = ap (fits lots) loaded ∙ f.fit;
       };
       same_total = ap pos (ap₂ (λ (amounts : ℕ) (q : List ℕ). amounts + worth lots (left lots.supply q)) (same_sum (amount_of book) taken inside) loaded) ∙ told.same_total;
@@ -173,7 +174,7 @@ by_bidder-more choices s (suc n) =
     rw (next, same) (ap (λ (w : List Choice). filter (λ c. c.bidder == s) choices ++ w) (by_bidder-more choices (s + 1) n)
     ∙ sym (append_assoc (filter (λ c. c.bidder == s) choices) (by_bidder (range_with_len (s + 1) n) choices) (filter (λ c. c.bidder == (s + 1) + n) choices)))
 
-pub rises_all : (choices : List Choice) → IsMap choices → HasRisingBidders (by_bidder all_bidders choices)
+pub rises_all : (choices : List Choice) → IsMap choices → HasRisingBidders (by_bidder (range_with_len 1 MOST_BIDDERS) choices)
 rises_all choices map = rises choices map 1 MOST_BIDDERS
 
 -- ---- one column more

@@ -14,7 +14,8 @@ use Rattle.program_rows.specs.Program.{Table}
 use Rattle.program_rows.specs.Rows.{program_of}
 use Rattle.outcome.specs.declared.fault.ValueFault.TheVariants as value
 use Rattle.outcome.specs.declared.fault.SolutionFault.TheVariants as fault
-use Rattle.outcome.specs.Values.{token_value}
+use Rattle.outcome.specs.Values.{is_near}
+use Rattle.outcome.specs.inside.Values.{token_value}
 use Rattle.outcome.specs.Solution.{solution}
 use Rattle.outcome.specs.PointAllocation.{allocation_of}
 use Rattle.outcome.specs.Sale.{Sale}
@@ -74,7 +75,7 @@ word = refl
 -- ---- solutions against the program of three bidders
 
 won : solution three (codes "X1_1 0.999999\nX2_1 1\nX3_1 1\n") ≡ Ok winners
-unfolding solution fields first_fault token_value
+unfolding solution fields first_fault is_near
 won = refl
 
 objective_won : objective three winners ≡ negsuc 61
@@ -85,51 +86,51 @@ unfolding column_bid digits
 comes_back = refl
 
 two_bids : solution three (codes "X1_1 1\nX1_2 1\n") ≡ Err (fault.RowBroken 0)
-unfolding solution fields first_fault token_value
+unfolding solution fields first_fault is_near
 two_bids = refl
 
 not_zero_one : solution three (codes "X1_1 0.9\n") ≡ Err (fault.NotZeroOne 1)
-unfolding solution fields first_fault token_value
+unfolding solution fields first_fault is_near
 not_zero_one = refl
 
 end_of_tolerance : solution three (codes "X1_1 0.99999\n") ≡ Ok (true ∷ false ∷ false ∷ false ∷ [])
-unfolding solution fields first_fault token_value
+unfolding solution fields first_fault is_near
 end_of_tolerance = refl
 
 unknown : solution three (codes "X1_3 1\n") ≡ Err (fault.UnknownColumn 1)
-unfolding solution fields first_fault token_value
+unfolding solution fields first_fault is_near
 unknown = refl
 
 no_bytes : solution three [] ≡ Ok (false ∷ false ∷ false ∷ false ∷ [])
-unfolding solution fields first_fault token_value
+unfolding solution fields first_fault is_near
 no_bytes = refl
 
 repeated : solution three (codes "X1_1 1\nX1_1 1") ≡ Err (fault.RepeatedColumn 2)
-unfolding solution fields first_fault token_value
+unfolding solution fields first_fault is_near
 repeated = refl
 
 three_fields : solution three (codes "X1_1 1 2") ≡ Err (fault.Fields 1)
-unfolding solution fields first_fault token_value
+unfolding solution fields first_fault is_near
 three_fields = refl
 
 no_number : solution three (codes "X1_1 one") ≡ Err (fault.ValueText 1)
-unfolding solution fields first_fault token_value
+unfolding solution fields first_fault is_near
 no_number = refl
 
 first_line : solution three (codes "X1_1 0.9\nQ 1\n") ≡ Err (fault.NotZeroOne 1)
-unfolding solution fields first_fault token_value
+unfolding solution fields first_fault is_near
 first_line = refl
 
 two_returns : solution three (codes "X1_1 1\r\r\n") ≡ Err (fault.ValueText 1)
-unfolding solution fields first_fault token_value
+unfolding solution fields first_fault is_near
 two_returns = refl
 
 skipped_lines : solution three (codes "# status optimal\n\n \t\r\nX1_1\t1\r\n") ≡ Ok (true ∷ false ∷ false ∷ false ∷ [])
-unfolding solution fields first_fault token_value
+unfolding solution fields first_fault is_near
 skipped_lines = refl
 
 bound_broken : solution fixed [] ≡ Err (fault.BoundBroken 0)
-unfolding solution fields first_fault token_value
+unfolding solution fields first_fault is_near
 bound_broken = refl
 
 -- ---- reports
@@ -195,11 +196,11 @@ alpha_and_beta = record { bidder = 1; bid = 1 } ∷ record { bidder = 2; bid = 1
 
 -- the fixed column has to be named
 constant_missing : solution (program (valued 40)) (codes "X3_1 1\n") ≡ Err (fault.BoundBroken 1)
-unfolding solution fields first_fault token_value digits
+unfolding solution fields first_fault is_near digits
 constant_missing = refl
 
 constant_named : solution (program (valued 40)) (codes "X3_1 1\nK 1\n") ≡ Ok (true ∷ true ∷ [])
-unfolding solution fields first_fault token_value digits
+unfolding solution fields first_fault is_near digits
 constant_named = refl
 
 -- and wins nothing
@@ -228,7 +229,7 @@ too_many_sold = refl
 -- ---- pools
 
 pool_broken : solution (program (pooled 2 1)) (codes "X1_1 0.999999\nX2_1 1\nX3_1 1\n") ≡ Err (fault.RowBroken 5)
-unfolding solution fields first_fault token_value digits
+unfolding solution fields first_fault is_near digits
 pool_broken = refl
 
 row_of_the_pool : map (λ r. r.name) (program (pooled 2 1)).rows ≡ codes "B1" ∷ codes "B2" ∷ codes "B3" ∷ codes "C1" ∷ codes "C2" ∷ codes "P1" ∷ []
@@ -236,7 +237,7 @@ unfolding digits
 row_of_the_pool = refl
 
 pool_met : solution (program (pooled 2 1)) (codes "X1_1 1\nX2_1 1\n") ≡ Ok (true ∷ true ∷ false ∷ [])
-unfolding solution fields first_fault token_value digits
+unfolding solution fields first_fault is_near digits
 pool_met = refl
 
 pooled_allocation : allocation_text (sale_of_lots (pooled 2 1)) alpha_and_beta ≡ codes "Alpha 1 30\nBeta 1 20\ntotal 50\n"
@@ -244,7 +245,7 @@ unfolding digits
 pooled_allocation = refl
 
 heavy_pool_broken : solution (program (pooled 3 2)) (codes "X1_1 1\nX2_1 1\n") ≡ Err (fault.RowBroken 5)
-unfolding solution fields first_fault token_value digits
+unfolding solution fields first_fault is_near digits
 heavy_pool_broken = refl
 
 heavy_allocation : allocation_text (sale_of_lots (pooled 3 2)) alpha_and_gamma ≡ codes "Alpha 1 30\nGamma 1 12\ntotal 42\n"

@@ -2,7 +2,6 @@
 use Rattle.std.proofs.Common.{◌≡◌, ℕ, zero, suc, ◌+◌, ◌≤◌, Bool, true, false, not, cond, ◌&&◌, ◌||◌, List, [], ◌∷◌, ◌++◌, Option, Some, None, Ok, Err, Result, length, map, slice_get, is_some, get_or, refl, sym, ap, ap₂, ◌∙◌, arith}
 use Rattle.std.specs.Prelude.{bytes_eq, position, nat_lt, unwrap_or, replicate}
 use Rattle.std.specs.List.{AllByRecursion, IsDistinct, list_any, position_or_len}
-use Rattle.std.specs.Result.{result_unwrap_or}
 use Rattle.std.proofs.Math.ListN.{set}
 use Rattle.std.proofs.lemmas.Bool.{both_ways, false_from_ne_true, ltb-true, ltb-false}
 use Rattle.std.proofs.lemmas.List.Folds.{list_any-append}
@@ -11,15 +10,18 @@ use Rattle.std.proofs.lemmas.Map.Keys.{IsDistinct-head, IsDistinct-tail}
 use Rattle.std.proofs.lemmas.Option.{slice_get-get_or, slice_get-map, get_or_from_slice_get}
 use Rattle.std.proofs.lemmas.Slice.Eq.{bytes_eq-Decides}
 use denote.Ref.{Bor}
-use Rattle.program_rows.specs.Lines.{fields}
-use Rattle.outcome.specs.Values.{token_value}
+use Rattle.auction_terms.specs.FirstFault.{first_failed}
+use Rattle.program_rows.specs.Lines.{field, fields, is_skipped}
+use Rattle.outcome.specs.Values.{is_near}
+use Rattle.outcome.specs.inside.Values.{token_value, value_fault}
 use Rattle.outcome.specs.declared.fault.ValueFault.{ValueFault}
 use Rattle.outcome.specs.declared.fault.SolutionFault.{SolutionFault}
 use Rattle.outcome.specs.declared.fault.SolutionFault.TheVariants as fault
 use Rattle.auction_terms.specs.Stages.{unless}
-use Rattle.outcome.specs.Solution.{is_skipped, value_in, names_column, is_one, values_of, value_fault, pair_fault}
+use Rattle.outcome.specs.Solution.{names_column, is_one}
 use Rattle.auction_terms.specs.Borrowed.{bytes_of}
-use Rattle.outcome.specs.inside.Reading.{said_of, said_by}
+use Rattle.outcome.specs.inside.Reading.{pair_checks, said_of, said_by}
+use Rattle.outcome.proofs.NearLaws.{value_checks, value_is}
 
 -- ---- one more line
 
@@ -36,25 +38,25 @@ either_false true b h = cc h
 either_false false b h = (refl, h)
 
 abbrev sets : List ℕ → List ℕ → Bool
-sets column line = names_column column line && result_unwrap_or (token_value (value_in line)) false
+sets column line = names_column column line && is_near 1 (field 1 (fields line))
 
 pub none_one : (text : List (List ℕ)) (column : List ℕ) → list_any (names_column column) text ≡ false → is_one text column ≡ false
 none_one [] column h = refl
 none_one (line ∷ text) column h =
     let parts = either_false (names_column column line) (list_any (names_column column) text) h in
-    let first : sets column line ≡ false = ap (λ b. b && result_unwrap_or (token_value (value_in line)) false) parts.0 in
+    let first : sets column line ≡ false = ap (λ b. b && is_near 1 (field 1 (fields line))) parts.0 in
     ap₂ (λ a b. a || b) first (none_one text column parts.1)
 
 -- a line says nothing of a column that it doesn't name
 unsaid : (text : List (List ℕ)) (line column : List ℕ) → names_column column line ≡ false → said_of (text ++ line ∷ []) column ≡ said_of text column
 unsaid text line column h =
-    let sets_not : sets column line ≡ false = ap (λ b. b && result_unwrap_or (token_value (value_in line)) false) h in
+    let sets_not : sets column line ≡ false = ap (λ b. b && is_near 1 (field 1 (fields line))) h in
     ap₂ (λ (a b : Bool). cond a (Some b) None)
     (list_any-append (names_column column) text (line ∷ []) ∙ or_left (list_any (names_column column) text) (names_column column line) h)
     (list_any-append (sets column) text (line ∷ []) ∙ or_left (list_any (sets column) text) (sets column line) sets_not)
 
 -- the first line that names a column says its value
-said_now : (text : List (List ℕ)) (line column : List ℕ) (v : Bool) → names_column column line ≡ true → list_any (names_column column) text ≡ false → token_value (value_in line) ≡ Ok v → said_of (text ++ line ∷ []) column ≡ Some v
+said_now : (text : List (List ℕ)) (line column : List ℕ) (v : Bool) → names_column column line ≡ true → list_any (names_column column) text ≡ false → is_near 1 (field 1 (fields line)) ≡ v → said_of (text ++ line ∷ []) column ≡ Some v
 said_now text line column v h none is =
     let sets_it : sets column line ≡ v = rw (h, is) refl in
     ap₂ (λ (a b : Bool). cond a (Some b) None)
@@ -75,7 +77,7 @@ module _ (text : List (List ℕ)) (line name : List ℕ) (v : Bool) (only : (col
   differs_at c (d ∷ columns) zero h e = let same : d ≡ name = cc in rw (← same) h.0
   differs_at c (d ∷ columns) (suc i) h e = differs_at c columns i h.1 e
 
-  pub said_set : (columns : List (List ℕ)) (i : ℕ) → IsDistinct bytes_eq columns → slice_get columns i ≡ Some name → list_any (names_column name) text ≡ false → token_value (value_in line) ≡ Ok v
+  pub said_set : (columns : List (List ℕ)) (i : ℕ) → IsDistinct bytes_eq columns → slice_get columns i ≡ Some name → list_any (names_column name) text ≡ false → is_near 1 (field 1 (fields line)) ≡ v
       → set (said_by columns text) i (Some v) ≡ said_by columns (text ++ line ∷ [])
   said_set [] i d e none is = cc e
   said_set (c ∷ columns) zero d e none is =
@@ -90,7 +92,7 @@ module _ (text : List (List ℕ)) (line name : List ℕ) (v : Bool) (only : (col
 pub names_only : (line name token : List ℕ) → is_skipped line ≡ false → fields line ≡ name ∷ token ∷ [] → (column : List ℕ) → names_column column line ≡ bytes_eq column name
 names_only line name token full two column = ap₂ (λ (s : Bool) (fs : List (List ℕ)). not s && bytes_eq column (unwrap_or (slice_get fs 0) [])) full two
 
-pub value_of_pair : (line name token : List ℕ) → fields line ≡ name ∷ token ∷ [] → value_in line ≡ token
+pub value_of_pair : (line name token : List ℕ) → fields line ≡ name ∷ token ∷ [] → field 1 (fields line) ≡ token
 value_of_pair line name token two = ap (λ (fs : List (List ℕ)). unwrap_or (slice_get fs 1) []) two
 
 -- ---- the place of a name
@@ -155,7 +157,7 @@ is_said text name = by (list_any (names_column name) text)
 
 module _ (keys : List (Bor (List ℕ))) (before : List (List ℕ)) (place : ℕ) (name token : List ℕ) where
   abbrev fault_is : Option SolutionFault
-  fault_is = pair_fault (bytes_of keys) before place name token
+  fault_is = first_failed (pair_checks (bytes_of keys) before place name token)
 
   abbrev answer_is : Result (Unit {0}) SolutionFault
   answer_is = unless fault_is (Ok tt)
@@ -176,7 +178,7 @@ module _ (keys : List (Bor (List ℕ))) (before : List (List ℕ)) (place : ℕ)
   is_new said i is h none = sym (is_said before name) ∙ sym (ap (λ (o : Option Bool). is_some o) (said_at said i is h)) ∙ none
 
   by_value : (said : List (Option Bool)) (i : ℕ) → said ≡ said_by (bytes_of keys) before → Some i ≡ position (λ k. bytes_eq name k.now) keys → is_some (get_or said i None) ≡ false → fault_is ≡ value_fault place (token_value token)
-  by_value said i is h none = rw (is_known keys name i (sym h), is_new said i is h none) refl
+  by_value said i is h none = rw (is_known keys name i (sym h), is_new said i is h none) (value_checks place token)
 
   pub valued : (said : List (Option Bool)) (i : ℕ) (v : Bool) → said ≡ said_by (bytes_of keys) before → Some i ≡ position (λ k. bytes_eq name k.now) keys → is_some (get_or said i None) ≡ false → Ok v ≡ token_value token → Ok tt ≡ answer_is
   valued said i v is h none value = ap (λ (f : Option SolutionFault). unless {A = Unit {0}} f (Ok tt)) (sym (by_value said i is h none ∙ ap (value_fault place) (sym value)))
@@ -190,7 +192,7 @@ module _ (keys : List (Bor (List ℕ))) (before : List (List ℕ)) (place : ℕ)
       → Some i ≡ position (λ k. bytes_eq name k.now) keys → is_some (get_or said i None) ≡ false → Ok v ≡ token_value token
       → set said i (Some v) ≡ said_by (bytes_of keys) (before ++ line ∷ [])
   noted i v said line distinct is full two h none value =
-      rw is (said_set before line name v (names_only line name token full two) (bytes_of keys) i distinct (found keys name i (sym h)) (is_new said i is h none) (ap token_value (value_of_pair line name token two) ∙ sym value))
+      rw is (said_set before line name v (names_only line name token full two) (bytes_of keys) i distinct (found keys name i (sym h)) (is_new said i is h none) (ap (is_near 1) (value_of_pair line name token two) ∙ value_is token v (sym value)))
 
 -- ---- the beginning and the end
 
@@ -205,6 +207,6 @@ said_value text column = by (list_any (names_column column) text) refl
     by true h = rw h refl
     by false h = rw h (sym (none_one text column h))
 
-pub read_off : (columns text : List (List ℕ)) → map (λ s. unwrap_or s false) (said_by columns text) ≡ values_of columns text
+pub read_off : (columns text : List (List ℕ)) → map (λ s. unwrap_or s false) (said_by columns text) ≡ map (is_one text) columns
 read_off [] text = refl
 read_off (c ∷ columns) text = ap₂ (λ (b : Bool) (bs : List Bool). b ∷ bs) (said_value text c) (read_off columns text)

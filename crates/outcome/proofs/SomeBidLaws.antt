@@ -1,23 +1,24 @@
 -- A solution that is taken against the program of some of the kept bids is taken against that of all.
 use Rattle.std.proofs.Common.{◌≡◌, ℕ, ◌+◌, Bool, true, false, not, ◌||◌, ◌==◌, List, [], ◌∷◌, ◌++◌, Option, None, Ok, length, map, refl, sym, ap, ap₂, subst, ◌∙◌, arith}
 use Rattle.std.specs.Prelude.{bytes_eq, nat_lt, position}
-use Rattle.std.specs.List.{AllByRecursion, enumerate_from, list_any, position_or_len}
+use Rattle.std.specs.List.{AllByRecursion, enumerate_from, list_any, position_or_len, range_with_len, zip}
 use Rattle.std.specs.Option.{option_map, option_or}
 use Rattle.std.proofs.lemmas.Bool.{and_parts, both_ways, false_from_ne_true}
 use Rattle.std.proofs.lemmas.Bool.Decides.{nat_tests}
 use Rattle.std.proofs.lemmas.Slice.Eq.{bytes_eq-Decides}
 use Rattle.auction_terms.specs.Allocations.{Book}
-use Rattle.auction_terms.specs.FirstFault.{first_fault}
+use Rattle.auction_terms.specs.FirstFault.{first_fault, first_failed}
 use Rattle.auction_terms.specs.Keeping.{Offer, kept_of}
 use Rattle.auction_terms.specs.Limits.{IsBook}
 use Rattle.auction_terms.specs.Lines.{lines_of}
 use Rattle.auction_terms.specs.Packages.{Lots}
 use Rattle.auction_terms.specs.declared.choices.Choice.{Choice}
+use Rattle.auction_terms.specs.declared.limits.TheConstants.{MOST_BIDDERS}
 use Rattle.auction_terms.proofs.LimitLaws.{kept_are_offers}
 use Rattle.auction_terms.proofs.OfferLaws.{all_agree}
 use Rattle.program_rows.specs.Faithful.{back}
-use Rattle.program_rows.specs.Lines.{field, fields}
-use Rattle.program_rows.specs.Points.{meets, row_sum, AreAllowed, IsPoint}
+use Rattle.program_rows.specs.Lines.{field, fields, is_skipped}
+use Rattle.program_rows.specs.Points.{allows, meets, row_sum, AreAllowed, IsPoint}
 use Rattle.program_rows.specs.Program.{Table, TableColumn}
 use Rattle.program_rows.specs.ProgramNames.{column_names}
 use Rattle.program_rows.specs.Rows.{program_of}
@@ -25,32 +26,33 @@ use Rattle.program_rows.specs.Spelling.{bid_name}
 use Rattle.program_rows.proofs.FaithfulLaws.{IsNumbered, numbered}
 use Rattle.program_rows.proofs.FewerBidLaws.{IsSilent, named_of, names_among, point_of_all, same_back, unnamed}
 use Rattle.outcome.specs.Coming.{SomeBidsSuffice}
-use Rattle.outcome.specs.PointAllocation.{all_bidders, by_bidder}
-use Rattle.outcome.specs.Solution.{broken_bound_from, column_in, fields_fault, is_one, is_skipped, names_column, pair_fault, point_fault, solution, solution_line_fault, text_fault, values_of}
+use Rattle.outcome.specs.inside.Reading.{pair_checks}
+use Rattle.outcome.specs.inside.Winning.{by_bidder}
+use Rattle.outcome.specs.Solution.{is_one, names_column, point_fault, solution, solution_line_fault}
 use Rattle.outcome.specs.declared.fault.SolutionFault.TheVariants as fault
 use Rattle.outcome.specs.declared.limits.TheConstants.{SOLUTION_LIMIT}
-use Rattle.outcome.proofs.PointLaws.{both_none, map_map, solutions_are_points, told_ok}
+use Rattle.outcome.proofs.PointLaws.{both_none, map_map, solutions_are_points, told_parts}
 use Rattle.outcome.proofs.SaidLaws.{none_one}
 
 -- ---- lines without a fault, by the names of columns
 
 module _ (few all : List (List ℕ)) (among : (name : List ℕ) → list_any (bytes_eq name) few ≡ true → list_any (bytes_eq name) all ≡ true) where
-  pair_known : (before : List (List ℕ)) (place : ℕ) (name token : List ℕ) → pair_fault few before place name token ≡ None → list_any (bytes_eq name) few ≡ true
+  pair_known : (before : List (List ℕ)) (place : ℕ) (name token : List ℕ) → first_failed (pair_checks few before place name token) ≡ None → list_any (bytes_eq name) few ≡ true
   pair_known before place name token h = by (list_any (bytes_eq name) few) refl
     where
       by : (b : Bool) → list_any (bytes_eq name) few ≡ b → list_any (bytes_eq name) few ≡ true
       by true e = e
       by false e = let f = rw e at h in cc f
 
-  pair_fine : (before : List (List ℕ)) (place : ℕ) (name token : List ℕ) → pair_fault few before place name token ≡ None → pair_fault all before place name token ≡ None
+  pair_fine : (before : List (List ℕ)) (place : ℕ) (name token : List ℕ) → first_failed (pair_checks few before place name token) ≡ None → first_failed (pair_checks all before place name token) ≡ None
   pair_fine before place name token h =
       let known = pair_known before place name token h in
       rw (among name known) (rw known at h)
 
-  two_fields : (before : List (List ℕ)) (line : List ℕ) → fields_fault few before line ≡ None → ((length (fields line) == 2) ≡ true) × (pair_fault few before (length before + 1) (column_in line) (field 1 (fields line)) ≡ None)
+  two_fields : (before : List (List ℕ)) (line : List ℕ) → first_failed ((length (fields line) == 2, fault.Fields (length before + 1)) ∷ pair_checks few before (length before + 1) (field 0 (fields line)) (field 1 (fields line))) ≡ None → ((length (fields line) == 2) ≡ true) × (first_failed (pair_checks few before (length before + 1) (field 0 (fields line)) (field 1 (fields line))) ≡ None)
   two_fields before line h = by (length (fields line) == 2) refl
     where
-      by : (b : Bool) → (length (fields line) == 2) ≡ b → ((length (fields line) == 2) ≡ true) × (pair_fault few before (length before + 1) (column_in line) (field 1 (fields line)) ≡ None)
+      by : (b : Bool) → (length (fields line) == 2) ≡ b → ((length (fields line) == 2) ≡ true) × (first_failed (pair_checks few before (length before + 1) (field 0 (fields line)) (field 1 (fields line))) ≡ None)
       by true e = (e, rw e at h)
       by false e = let f = rw e at h in cc f
 
@@ -61,7 +63,7 @@ module _ (few all : List (List ℕ)) (among : (name : List ℕ) → list_any (by
       by true e = rw e refl
       by false e =
           let two = two_fields before line (rw e at h) in
-          rw (e, two.0) (pair_fine before (length before + 1) (column_in line) (field 1 (fields line)) two.1)
+          rw (e, two.0) (pair_fine before (length before + 1) (field 0 (fields line)) (field 1 (fields line)) two.1)
 
   lines_fine : (before lines : List (List ℕ)) → first_fault (solution_line_fault few) before lines ≡ None → first_fault (solution_line_fault all) before lines ≡ None
   unfolding first_fault
@@ -73,11 +75,11 @@ module _ (few all : List (List ℕ)) (among : (name : List ℕ) → list_any (by
   -- a line without a fault names no other column
   line_names_none : (before : List (List ℕ)) (line column : List ℕ) → solution_line_fault few before line ≡ None → list_any (bytes_eq column) few ≡ false → names_column column line ≡ false
   line_names_none before line column h other = false_from_ne_true (names_column column line) (λ names.
-      let parts = and_parts (not (is_skipped line)) (bytes_eq column (column_in line)) names in
-      let same : column ≡ column_in line = (bytes_eq-Decides column (column_in line)).0 parts.1 in
+      let parts = and_parts (not (is_skipped line)) (bytes_eq column (field 0 (fields line))) names in
+      let same : column ≡ field 0 (fields line) = (bytes_eq-Decides column (field 0 (fields line))).0 parts.1 in
       let full : is_skipped line ≡ false = false_from_ne_true (is_skipped line) (λ skipped. both_ways (not (is_skipped line)) (ap not skipped) parts.0) in
       let two = two_fields before line (rw full at h) in
-      let known = pair_known before (length before + 1) (column_in line) (field 1 (fields line)) two.1 in
+      let known = pair_known before (length before + 1) (field 0 (fields line)) (field 1 (fields line)) two.1 in
       both_ways (list_any (bytes_eq column) few) other (ap (λ (name : List ℕ). list_any (bytes_eq name) few) same ∙ known))
 
   lines_name_none : (column : List ℕ) (before lines : List (List ℕ)) → list_any (bytes_eq column) few ≡ false → first_fault (solution_line_fault few) before lines ≡ None → list_any (names_column column) lines ≡ false
@@ -89,11 +91,11 @@ module _ (few all : List (List ℕ)) (among : (name : List ℕ) → list_any (by
 
 -- ---- a point has no fault
 
-none_broken : (place : ℕ) (columns : List TableColumn) (values : List Bool) → AreAllowed columns values → broken_bound_from place columns values ≡ None
-none_broken place [] [] h = refl
-none_broken place [] (v ∷ values) h = absurd h
-none_broken place (c ∷ columns) [] h = absurd h
-none_broken place (c ∷ columns) (v ∷ values) h = rw h.0 (none_broken (place + 1) columns values h.1)
+each_allowed : (columns : List TableColumn) (values : List Bool) → AreAllowed columns values → AllByRecursion (λ e. allows e.0.bounds e.1 ≡ true) (zip columns values)
+each_allowed [] [] h = tt
+each_allowed [] (v ∷ values) h = absurd h
+each_allowed (c ∷ columns) [] h = absurd h
+each_allowed (c ∷ columns) (v ∷ values) h = (h.0, each_allowed columns values h.1)
 
 module _ {X : Type 0} (test : X → Bool) where
   all_passed : (xs : List X) → AllByRecursion (λ x. test x ≡ true) xs → position_or_len (λ x. not (test x)) xs ≡ length xs
@@ -109,25 +111,29 @@ module _ {X : Type 0} (test : X → Bool) where
 fine_point : (p : Table) (values : List Bool) → IsPoint p values → point_fault p values ≡ None
 fine_point p values point =
     ap₂ (λ (bound row : Option ℕ). option_or (option_map fault.BoundBroken bound) (option_map fault.RowBroken row))
-    (none_broken 0 p.columns values point.allowed)
+    (no_position (λ e. allows e.0.bounds e.1) (zip p.columns values) (each_allowed p.columns values point.allowed))
     (no_position (λ r. meets r.1.kind (row_sum p values r.0) r.1.right_side) (enumerate_from 0 p.rows) point.met)
 
 -- ---- what is told
 
-values_by_name : (p : Table) (lines : List (List ℕ)) → values_of (column_names p) lines ≡ map (λ c. is_one lines c.name) p.columns
+values_by_name : (p : Table) (lines : List (List ℕ)) → map (is_one lines) (column_names p) ≡ map (λ c. is_one lines c.name) p.columns
 values_by_name p lines = map_map (λ (c : TableColumn). c.name) (is_one lines) p.columns
 
 -- what a text tells that is taken
-taken : (p : Table) (text : List ℕ) (values : List Bool) → solution p text ≡ Ok values → (nat_lt SOLUTION_LIMIT (length text) ≡ false) × (text_fault p (lines_of text) ≡ None) × (values_of (column_names p) (lines_of text) ≡ values)
+taken : (p : Table) (text : List ℕ) (values : List Bool) → solution p text ≡ Ok values
+    → (nat_lt SOLUTION_LIMIT (length text) ≡ false) × (first_fault (solution_line_fault (column_names p)) [] (lines_of text) ≡ None) × (map (is_one (lines_of text)) (column_names p) ≡ values)
 unfolding solution
 taken p text values e = by (nat_lt SOLUTION_LIMIT (length text)) refl
   where
-    by : (b : Bool) → nat_lt SOLUTION_LIMIT (length text) ≡ b → (nat_lt SOLUTION_LIMIT (length text) ≡ false) × (text_fault p (lines_of text) ≡ None) × (values_of (column_names p) (lines_of text) ≡ values)
+    by : (b : Bool) → nat_lt SOLUTION_LIMIT (length text) ≡ b
+        → (nat_lt SOLUTION_LIMIT (length text) ≡ false) × (first_fault (solution_line_fault (column_names p)) [] (lines_of text) ≡ None) × (map (is_one (lines_of text)) (column_names p) ≡ values)
     by true t = let f = rw t at e in cc f
-    by false t = let rest = told_ok (text_fault p (lines_of text)) (values_of (column_names p) (lines_of text)) values (rw t at e) in (t, rest.0, rest.1)
+    by false t =
+        let told = told_parts p (first_fault (solution_line_fault (column_names p)) [] (lines_of text)) (map (is_one (lines_of text)) (column_names p)) values (rw t at e) in
+        (t, told.0, told.2)
 
-tells : (p : Table) (text : List ℕ) → nat_lt SOLUTION_LIMIT (length text) ≡ false → first_fault (solution_line_fault (column_names p)) [] (lines_of text) ≡ None → point_fault p (values_of (column_names p) (lines_of text)) ≡ None
-    → solution p text ≡ Ok (values_of (column_names p) (lines_of text))
+tells : (p : Table) (text : List ℕ) → nat_lt SOLUTION_LIMIT (length text) ≡ false → first_fault (solution_line_fault (column_names p)) [] (lines_of text) ≡ None → point_fault p (map (is_one (lines_of text)) (column_names p)) ≡ None
+    → solution p text ≡ Ok (map (is_one (lines_of text)) (column_names p))
 unfolding solution
 tells p text short fine point = rw (short, fine, point) refl
 
@@ -149,7 +155,7 @@ module _ (lots : Lots) (book : Book) (group : ℕ → Bool) (is_among : ℕ → 
   in_range = numbered lots kept (kept_are_offers lots book group within)
 
   line_faults : first_fault (solution_line_fault (column_names some)) [] (lines_of text) ≡ None
-  line_faults = (both_none _ _ (taken some text values told).1).0
+  line_faults = (taken some text values told).1
 
   silent : AllByRecursion (IsSilent lots is_among value) kept
   silent = all_agree IsNumbered (IsSilent lots is_among value) kept (λ o mine other.
@@ -160,7 +166,7 @@ module _ (lots : Lots) (book : Book) (group : ℕ → Bool) (is_among : ℕ → 
   values_are = sym (taken some text values told).2 ∙ values_by_name some (lines_of text)
 
   abbrev pub all_values : List Bool
-  all_values = values_of (column_names whole) (lines_of text)
+  all_values = map (is_one (lines_of text)) (column_names whole)
 
   whole_point : IsPoint whole all_values
   whole_point =
@@ -178,5 +184,5 @@ pub some_bids_suffice : SomeBidsSuffice
 some_bids_suffice lots book group is_among solved values within told = record {
   others = all_values lots book group is_among solved values within told;
   told = whole_told lots book group is_among solved values within told;
-  same_allocation = ap (λ (choices : List Choice). by_bidder all_bidders choices) (whole_back lots book group is_among solved values within told);
+  same_allocation = ap (λ (choices : List Choice). by_bidder (range_with_len 1 MOST_BIDDERS) choices) (whole_back lots book group is_among solved values within told);
 }

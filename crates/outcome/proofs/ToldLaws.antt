@@ -1,5 +1,5 @@
 -- Refusals of a solution, and the answer that they make.
-use Rattle.std.proofs.Common.{◌≡◌, ℕ, ◌+◌, ◌<◌, ◌≤◌, Bool, true, false, List, [], ◌∷◌, Option, Some, None, Result, Ok, Err, length, refl, sym, ap, ◌∙◌, arith}
+use Rattle.std.proofs.Common.{◌≡◌, ℕ, ◌+◌, ◌<◌, ◌≤◌, Bool, true, false, List, [], ◌∷◌, Option, Some, None, Result, Ok, Err, length, map, refl, sym, ap, ◌∙◌, arith}
 use Rattle.std.specs.Prelude.{nat_lt}
 use Rattle.std.specs.List.{slice_split}
 use Rattle.std.proofs.lemmas.Bool.{lt-ltb}
@@ -10,7 +10,7 @@ use Rattle.std.proofs.lemmas.List.Sums.{count_by-le-length}
 use Rattle.std.proofs.lemmas.List.Splits.{length-slice_split}
 use Rattle.auction_terms.specs.FirstFault.{first_fault}
 use Rattle.std.specs.Option.{option_or}
-use Rattle.auction_terms.specs.Stages.{Answers, unless}
+use Rattle.auction_terms.specs.Stages.{Answers, unless, and_then}
 use Rattle.auction_terms.proofs.FirstFaultFacts.{answers-more, answers-told}
 use Rattle.auction_terms.specs.Lines.{is_line_feed, lines_of, without_empty_last}
 use Rattle.outcome.specs.declared.limits.TheConstants.{SOLUTION_LIMIT}
@@ -18,7 +18,7 @@ use Rattle.outcome.specs.declared.fault.SolutionFault.{SolutionFault}
 use Rattle.outcome.specs.declared.fault.SolutionFault.TheVariants as fault
 use Rattle.program_rows.specs.Program.{Table}
 use Rattle.program_rows.specs.ProgramNames.{column_names}
-use Rattle.outcome.specs.Solution.{is_solution_memory, solution_line_fault, values_of, point_fault, text_fault, solution}
+use Rattle.outcome.specs.Solution.{is_one, is_solution_memory, solution_line_fault, point_fault, solution}
 
 module _ {T : Type 0} where
   pub told_none : (f : Option SolutionFault) (x y : T) → Ok x ≡ unless f (Ok y) → f ≡ None
@@ -54,44 +54,37 @@ line_count text = omega (arith, length-map (without_empty_last (slice_split is_l
 
 -- ---- the answer to a text
 
-option_second : (f g : Option SolutionFault) → f ≡ None → option_or f g ≡ g
-option_second None g h = refl
-option_second (Some x) g h = cc h
-
-option_first : (f g : Option SolutionFault) (x : SolutionFault) → f ≡ Some x → option_or f g ≡ Some x
-option_first None g x h = cc h
-option_first (Some y) g x h = h
+-- the values of a text, or the first fault that they have
+abbrev checked : Table → Result (List Bool) SolutionFault → Result (List Bool) SolutionFault
+checked p told = and_then told (λ values. unless (point_fault p values) (Ok values))
 
 module _ (p : Table) (text : List ℕ) where
   abbrev line_faults : Option SolutionFault
   line_faults = first_fault (solution_line_fault (column_names p)) [] (lines_of text)
 
   abbrev values : List Bool
-  values = values_of (column_names p) (lines_of text)
+  values = map (is_one (lines_of text)) (column_names p)
 
   pub too_long : SOLUTION_LIMIT < length text → Err fault.TooLarge ≡ solution p text
   unfolding solution
   too_long h = let t : nat_lt SOLUTION_LIMIT (length text) ≡ true = lt-ltb _ _ h in rw t refl
 
-  short : length text ≤ SOLUTION_LIMIT → solution p text ≡ unless (text_fault p (lines_of text)) (Ok values)
+  short : length text ≤ SOLUTION_LIMIT → solution p text ≡ checked p (unless line_faults (Ok values))
   unfolding solution
   short h = let t : nat_lt SOLUTION_LIMIT (length text) ≡ false = grind (arith, nat_tests) in rw t refl
 
   pub faulty_line : (f : SolutionFault) → length text ≤ SOLUTION_LIMIT → Answers is_solution_memory (Err f) (unless line_faults (Ok values)) → Answers is_solution_memory (Err f) (solution p text)
-  faulty_line f small h = answers-more is_solution_memory f (unless line_faults (Ok values)) (solution p text) h (λ e.
-      let some = told_some line_faults f values e in
-      told_of (text_fault p (lines_of text)) f values (option_first line_faults (point_fault p values) f some) ∙ sym (short small))
+  faulty_line f small h = answers-more is_solution_memory f (unless line_faults (Ok values)) (solution p text) h (λ e. ap (checked p) e ∙ sym (short small))
+
+  of_point : (r : Result (Unit {0}) SolutionFault) (read : List Bool) → r ≡ unless {A = Unit {0}} (point_fault p read) (Ok tt) → and_then r (λ u. Ok read) ≡ checked p (Ok read)
+  of_point r read h = ap (λ (s : Result (Unit {0}) SolutionFault). and_then s (λ u. Ok read)) h ∙ by (point_fault p read)
+    where
+      by : (f : Option SolutionFault) → and_then (unless {A = Unit {0}} f (Ok tt)) (λ u. Ok read) ≡ unless f (Ok read)
+      by None = refl
+      by (Some f) = refl
 
   pub no_point : (f : SolutionFault) (read : List Bool) → length text ≤ SOLUTION_LIMIT → Ok read ≡ unless line_faults (Ok values) → Err f ≡ unless {A = Unit {0}} (point_fault p read) (Ok tt) → Answers is_solution_memory (Err f) (solution p text)
-  no_point f read small e h =
-      let none = told_none line_faults read values e in
-      let same : read ≡ values = told_same line_faults read values e in
-      let some : point_fault p values ≡ Some f = rw same at (told_some (point_fault p read) f tt h) in
-      answers-told is_solution_memory (Err f) (solution p text) (told_of (text_fault p (lines_of text)) f values (option_second line_faults (point_fault p values) none ∙ some) ∙ sym (short small))
+  no_point f read small e h = answers-told is_solution_memory (Err f) (solution p text) (of_point (Err f) read h ∙ ap (checked p) e ∙ sym (short small))
 
   pub point_told : (read : List Bool) → length text ≤ SOLUTION_LIMIT → Ok read ≡ unless line_faults (Ok values) → Ok tt ≡ unless {A = Unit {0}} (point_fault p read) (Ok tt) → Ok read ≡ solution p text
-  point_told read small e h =
-      let none = told_none line_faults read values e in
-      let same : read ≡ values = told_same line_faults read values e in
-      let fine : point_fault p values ≡ None = rw same at (told_none (point_fault p read) tt tt h) in
-      ap (λ (vs : List Bool). Ok vs) same ∙ told_fine (text_fault p (lines_of text)) values (option_second line_faults (point_fault p values) none ∙ fine) ∙ sym (short small)
+  point_told read small e h = of_point (Ok tt) read h ∙ ap (checked p) e ∙ sym (short small)

@@ -7,17 +7,9 @@ use Rattle.program_rows.specs.Program.{Table, TableColumn}
 use Rattle.program_rows.specs.Spelling.{bid_name, is_bid}
 use Rattle.program_rows.specs.Faithful.{back}
 
--- the choices of these bidders, one bidder after the other
-abbrev pub by_bidder : List ℕ → List Choice → List Choice
-by_bidder bidders choices = flat_map (λ b. filter (λ c. c.bidder == b) choices) bidders
-
--- the bidders that the name of a column can spell
-abbrev pub all_bidders : List ℕ
-all_bidders = range_with_len 1 MOST_BIDDERS
-
--- the bids whose columns are 1, by rising bidder
+-- the bids whose columns are 1, one bidder after the other
 abbrev pub allocation_of : Table → List Bool → List Choice
-allocation_of p values = by_bidder all_bidders (back p.columns values)
+allocation_of p values = flat_map (λ b. filter (λ c. c.bidder == b) (back p.columns values)) (range_with_len 1 MOST_BIDDERS)
 
 -- no bidder has two bids
 abbrev pub IsMap : List Choice → Type 0

@@ -1,9 +1,9 @@
 //! The headings of a report on their way to a sink.
 
-ghost use Rattle.std.specs.Prelude.{◌≡◌, ◌∷◌, ◌++◌, [], flat_map};
+ghost use Rattle.std.specs.Prelude.{◌≡◌, ◌∷◌, ◌++◌, [], codes, decimal, flat_map};
 ghost use Rattle.mps_text.specs.Adds.{Adds};
-ghost use Rattle.outcome.specs.Sale.{sale_of};
-ghost use Rattle.outcome.specs.Report.{further_name, group_names, heading, number_text};
+ghost use Rattle.outcome.specs.Sale.{bidder_name, sale_of};
+ghost use Rattle.outcome.specs.Report.{group_names, heading};
 
 use crate::sale::name_of;
 use bid_desk::ClosedBook;
@@ -13,7 +13,7 @@ use mps_text::{Sink, Writer};
 /// Adds the name of a further bidder.
 fn add_further<S: Sink>(writer: &mut Writer<'_, S>, book: &ClosedBook, bidder: u16)
     ensures { Adds S.taken S.failures writer.old writer.new
-        (further_name (sale_of book.now).names bidder) }
+        (43 ∷ bidder_name (sale_of book.now).names bidder) }
 {
     let pieces: [&[u8]; 2] = [b"+", name_of(book, bidder)];
     writer.add_pieces(&pieces);
@@ -22,7 +22,7 @@ fn add_further<S: Sink>(writer: &mut Writer<'_, S>, book: &ClosedBook, bidder: u
 /// Adds the names of further bidders.
 fn add_more_names<S: Sink>(writer: &mut Writer<'_, S>, book: &ClosedBook, bidders: &[u16])
     ensures { Adds S.taken S.failures writer.old writer.new
-        (flat_map (further_name (sale_of book.now).names) bidders.now) }
+        (flat_map (λ further. 43 ∷ bidder_name (sale_of book.now).names further) bidders.now) }
 {
     for bidder in bidders {
         add_further(writer, book, *bidder);
@@ -60,7 +60,8 @@ pub fn add_names_line<S: Sink>(writer: &mut Writer<'_, S>, book: &ClosedBook, gr
 
 /// Adds what stands before the names.
 fn add_number<S: Sink>(writer: &mut Writer<'_, S>, k: usize)
-    ensures { Adds S.taken S.failures writer.old writer.new (number_text k) }
+    ensures { Adds S.taken S.failures writer.old writer.new
+        (codes "group " ++ (decimal k ++ 32 ∷ [])) }
 {
     let mut buffer = Buffer::new();
     let pieces: [&[u8]; 3] = [b"group ", buffer.format(k).as_bytes(), b" "];
@@ -70,7 +71,7 @@ fn add_number<S: Sink>(writer: &mut Writer<'_, S>, k: usize)
 /// Adds the heading of group k.
 pub fn add_heading<S: Sink>(writer: &mut Writer<'_, S>, book: &ClosedBook, k: usize, group: &[u16])
     ensures { Adds S.taken S.failures writer.old writer.new
-        (heading (sale_of book.now).names k group.now) }
+        (heading (codes "group ") (sale_of book.now).names k group.now) }
 {
     add_number(writer, k);
     add_names_line(writer, book, group);

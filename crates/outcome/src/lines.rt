@@ -2,14 +2,14 @@
 
 ghost use Rattle.std.specs.Prelude.{◌≡◌, ◌∷◌, ◌++◌, ◌<◌, ◌≤◌, ◌+◌, ◌==◌, [], ℕ, List, length, OnOk, slice_index, true, false, bytes_eq};
 ghost use Rattle.std.specs.List.{IsDistinct};
-ghost use Rattle.auction_terms.specs.FirstFault.{first_fault};
+ghost use Rattle.auction_terms.specs.FirstFault.{first_failed, first_fault};
 ghost use Rattle.auction_terms.specs.Lines.{lines_of};
-ghost use Rattle.program_rows.specs.Lines.{fields};
+ghost use Rattle.program_rows.specs.Lines.{fields, is_skipped};
 ghost use Rattle.outcome.specs.declared.limits.TheConstants.{SOLUTION_LIMIT};
 ghost use Rattle.auction_terms.specs.Stages.{unless};
-ghost use Rattle.outcome.specs.Solution.{pair_fault, solution_line_fault, is_skipped};
+ghost use Rattle.outcome.specs.Solution.{solution_line_fault};
 ghost use Rattle.auction_terms.specs.Borrowed.{bytes_of};
-ghost use Rattle.outcome.specs.inside.Reading.{said_by};
+ghost use Rattle.outcome.specs.inside.Reading.{pair_checks, said_by};
 
 use crate::columns::ColumnFinder;
 use crate::fault::SolutionFault;
@@ -28,8 +28,8 @@ fn take_pair(
     requires { length said.old ≡ length columns.now.names.keys }
     ensures answer { (before : List (List ℕ)) → said.old
         ≡ said_by (bytes_of columns.now.names.keys) before
-        → result ≡ unless (pair_fault (bytes_of columns.now.names.keys) before place name.now
-        token.now) (Ok tt) }
+        → result ≡ unless (first_failed (pair_checks (bytes_of columns.now.names.keys) before
+        place name.now token.now)) (Ok tt) }
     ensures kept { OnOk result ((before : List (List ℕ)) (line : List ℕ)
         → IsDistinct bytes_eq (bytes_of columns.now.names.keys)
         → said.old ≡ said_by (bytes_of columns.now.names.keys) before → is_skipped line ≡ false

@@ -1,9 +1,10 @@
 //! Whether values are a point of a program.
 
-ghost use Rattle.std.specs.Prelude.{◌≡◌, length};
+ghost use Rattle.std.specs.Prelude.{◌≡◌, length, not, position};
+ghost use Rattle.std.specs.List.{zip};
 ghost use Rattle.program_rows.specs.Points.{allows};
 ghost use Rattle.auction_terms.specs.Stages.{unless};
-ghost use Rattle.outcome.specs.Solution.{broken_bound_from, point_fault};
+ghost use Rattle.outcome.specs.Solution.{point_fault};
 
 use crate::fault::SolutionFault;
 use program_rows::{Bounds, Point, Program};
@@ -22,7 +23,8 @@ fn allows(bounds: Bounds, value: bool) -> bool
 /// The place of the first column whose bounds don't allow its value.
 fn broken_bound(program: &Program, values: &[bool]) -> Option<usize>
     requires { length values.now ≡ length program.now.columns }
-    ensures { result ≡ broken_bound_from 0 program.now.columns values.now }
+    ensures { result ≡ position (λ e. not (allows e.0.bounds e.1))
+        (zip program.now.columns values.now) }
 {
     for column in 0..values.len() {
         if !allows(program.bounds(column), values[column]) {

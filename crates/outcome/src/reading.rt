@@ -9,7 +9,7 @@ ghost use Rattle.program_rows.specs.Points.{IsPoint};
 ghost use Rattle.outcome.specs.declared.fault.SolutionFault.TheVariants as fault;
 ghost use Rattle.outcome.specs.declared.limits.TheConstants.{SOLUTION_LIMIT};
 ghost use Rattle.program_rows.specs.ProgramNames.{column_names};
-ghost use Rattle.outcome.specs.Solution.{is_solution_memory, solution_line_fault, solution, values_of};
+ghost use Rattle.outcome.specs.Solution.{is_solution_memory, is_one, solution_line_fault, solution};
 
 use crate::columns::finder_of;
 use crate::fault::SolutionFault;
@@ -39,7 +39,7 @@ fn read_values(alloc: Global, bytes: &[u8], program: &Program) -> Result<Point, 
     requires small { length bytes.now ≤ SOLUTION_LIMIT }
     ensures { Answers is_solution_memory result
         (unless (first_fault (solution_line_fault (column_names program.now)) []
-        (lines_of bytes.now)) (Ok (values_of (column_names program.now) (lines_of bytes.now)))) }
+        (lines_of bytes.now)) (Ok (map (is_one (lines_of bytes.now)) (column_names program.now)))) }
 {
     let columns = finder_of(alloc, program)?;
     let mut said = nothing_said(alloc, program.column_count())?;

@@ -1,9 +1,11 @@
 //! The groups of a report on their way to a sink.
 
-ghost use Rattle.std.specs.Prelude.{◌≡◌, length};
+ghost use Rattle.std.specs.Prelude.{◌≡◌, ◌∷◌, ◌++◌, [], codes, length};
+ghost use Rattle.std.specs.Fmt.{signed_decimal};
+ghost use Rattle.std.specs.List.{zip};
 ghost use Rattle.mps_text.specs.Adds.{Adds};
 ghost use Rattle.outcome.specs.Sale.{sale_of};
-ghost use Rattle.outcome.specs.Report.{cost_line, group_report, groups_text};
+ghost use Rattle.outcome.specs.Report.{group_report, in_turn};
 
 use crate::allocation::Allocation;
 use crate::costs::cost_of;
@@ -16,7 +18,8 @@ use mps_text::{Sink, Writer};
 
 /// Adds the line of a cost.
 fn add_cost<S: Sink>(writer: &mut Writer<'_, S>, amount: i128)
-    ensures { Adds S.taken S.failures writer.old writer.new (cost_line amount) }
+    ensures { Adds S.taken S.failures writer.old writer.new
+        (codes "cost " ++ (signed_decimal amount ++ 10 ∷ [])) }
 {
     let mut buffer = Buffer::new();
     let pieces: [&[u8]; 3] = [b"cost ", buffer.format(amount).as_bytes(), b"\n"];
@@ -33,7 +36,7 @@ fn add_group<S: Sink>(
     choices: &[Choice],
 )
     ensures { Adds S.taken S.failures writer.old writer.new
-        (group_report (sale_of book.now) first.now k group.now choices.now) }
+        (group_report (sale_of book.now) first.now k (group.now, choices.now)) }
 {
     add_heading(writer, book, k, group.numbers());
     add_allocation(writer, book, choices);
@@ -50,7 +53,8 @@ pub fn add_groups<S: Sink>(
 )
     requires { length groups.now ≡ length allocations.now }
     ensures { Adds S.taken S.failures writer.old writer.new
-        (groups_text (sale_of book.now) first.now 1 groups.now allocations.now) }
+        (in_turn (group_report (sale_of book.now) first.now) 1
+        (zip groups.now allocations.now)) }
 {
     for i in 0..allocations.len() {
         add_group(

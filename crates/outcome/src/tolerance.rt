@@ -2,7 +2,7 @@
 
 ghost use Rattle.std.specs.Prelude.{◌≡◌, ◌<◌, ◌≤◌, ◌^◌, ◌*◌, if◌then◌else◌, ℤ, pos};
 ghost use Rattle.program_rows.specs.Numbers.{signed};
-ghost use Rattle.outcome.specs.Values.{near_of};
+ghost use Rattle.outcome.specs.inside.Values.{near_of};
 
 use crate::fault::ValueFault;
 use crate::limits::TOLERANCE_PARTS;

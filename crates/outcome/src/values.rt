@@ -1,15 +1,14 @@
 //! The values of number tokens.
 
 ghost use Rattle.std.specs.Prelude.{◌≡◌};
-ghost use Rattle.outcome.specs.Values.{token_value};
-ghost use Rattle.outcome.specs.Solution.{value_fault};
+ghost use Rattle.outcome.specs.inside.Values.{token_value, value_fault};
 
 use crate::fault::{SolutionFault, ValueFault};
 use crate::tolerance::near;
 use program_rows::read_token;
 
 /// What a token counts as: 0 or 1.
-#[tactic(auto, unfolding(crate::specs::Values::token_value))]
+#[tactic(auto, unfolding(crate::specs::inside::Values::token_value))]
 pub fn value_of(token: &[u8]) -> Result<bool, ValueFault>
     ensures { result ≡ token_value token.now }
 {

@@ -1,9 +1,9 @@
 //! The lines of an allocation on their way to a sink.
 
-ghost use Rattle.std.specs.Prelude.{◌≡◌, flat_map};
+ghost use Rattle.std.specs.Prelude.{◌≡◌, ◌∷◌, ◌++◌, [], codes, decimal, flat_map};
 ghost use Rattle.mps_text.specs.Adds.{Adds};
 ghost use Rattle.outcome.specs.Sale.{sale_of};
-ghost use Rattle.outcome.specs.Report.{allocation_text, total_line, winner_line};
+ghost use Rattle.outcome.specs.Report.{allocation_text, winner_line};
 
 use crate::costs::total_of;
 use crate::sale::{amount_of, name_of};
@@ -42,7 +42,8 @@ fn add_winners<S: Sink>(writer: &mut Writer<'_, S>, book: &ClosedBook, choices: 
 
 /// Adds the line of a total.
 fn add_total<S: Sink>(writer: &mut Writer<'_, S>, amount: u128)
-    ensures { Adds S.taken S.failures writer.old writer.new (total_line amount) }
+    ensures { Adds S.taken S.failures writer.old writer.new
+        (codes "total " ++ (decimal amount ++ 10 ∷ [])) }
 {
     let mut buffer = Buffer::new();
     let pieces: [&[u8]; 3] = [b"total ", buffer.format(amount).as_bytes(), b"\n"];

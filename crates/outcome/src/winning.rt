@@ -1,8 +1,11 @@
 //! The allocation that a point wins.
 
 ghost use Rattle.std.specs.Prelude.{◌≡◌, ◌<◌, ◌+◌, ◌==◌, ◌++◌, drop, filter, length, IfOk, OnOk};
+ghost use Rattle.std.specs.List.{range_with_len};
+ghost use Rattle.auction_terms.specs.declared.limits.TheConstants.{MOST_BIDDERS};
 ghost use Rattle.program_rows.specs.Faithful.{back};
-ghost use Rattle.outcome.specs.PointAllocation.{all_bidders, allocation_of, by_bidder, IsMap};
+ghost use Rattle.outcome.specs.PointAllocation.{allocation_of, IsMap};
+ghost use Rattle.outcome.specs.inside.Winning.{by_bidder};
 
 use crate::allocation::Allocation;
 use auction_terms::{Choice, MOST_BIDDERS};
@@ -25,7 +28,7 @@ fn add_choices_of(list: &mut Vec<Choice>, choices: &[Choice], bidder: u16) -> Re
 /// Choices of which no bidder has two, by rising bidder.
 fn by_rising_bidder(alloc: Global, choices: &[Choice]) -> Result<Allocation, AllocError>
     requires map { IsMap choices.now }
-    ensures { IfOk result (λ a. a ≡ by_bidder all_bidders choices.now) }
+    ensures { IfOk result (λ a. a ≡ by_bidder (range_with_len 1 MOST_BIDDERS) choices.now) }
 {
     let mut list = Vec::new(alloc);
     for k in 0..MOST_BIDDERS as u16 {

@@ -13,6 +13,10 @@ fields line = filter (λ part. not (length part == 0)) (slice_split is_space lin
 abbrev pub LineFields : Type 0
 LineFields = List (List ℕ)
 
+-- a line of a solution or of a certificate that tells nothing: one that begins with #, or white space alone
+abbrev pub is_skipped : List ℕ → Bool
+is_skipped line = (slice_index line 0 == 35) || (length (fields line) == 0)
+
 -- the field at a place, counted from 0; no bytes where there is none
 abbrev pub field : ℕ → LineFields → List ℕ
 field n fields = unwrap_or (slice_get fields n) []

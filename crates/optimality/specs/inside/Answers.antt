@@ -1,5 +1,5 @@
 -- What the code answers, as the definitions say it.
-use Rattle.std.specs.Prelude.{◌≡◌, ◌⊎◌, ℕ, Option, Some, None, Result, Ok, Err}
+use Rattle.std.specs.Prelude.{◌≡◌, ℕ, Result, Ok, Err}
 use Rattle.optimality.specs.declared.fault.FaultKind.{FaultKind}
 use Rattle.optimality.specs.declared.fault.FaultKind.TheVariants.{OutOfMemory, TooLarge}
 use Rattle.optimality.specs.declared.fault.CertificateFault.{CertificateFault}

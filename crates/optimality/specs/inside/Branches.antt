@@ -1,15 +1,10 @@
 -- The open splits above a line, nearest first.
-use Rattle.std.specs.Prelude.{Bool, true, false, List, [], ◌∷◌, ◌++◌, map, reverse, ℤ, Option, Some, None, if◌then◌else◌}
+use Rattle.std.specs.Prelude.{Bool, List, map, reverse, Option, Some, None, if◌then◌else◌}
 use Rattle.optimality.specs.declared.open_split.OpenSplit.{OpenSplit}
-use Rattle.optimality.specs.Certificates.{Form}
-use Rattle.optimality.specs.Branches.{Branch, High, Low}
-
-abbrev pub branch_at : Bool → Form → ℤ → Branch
-branch_at false form most = Low form most
-branch_at true form most = High form most
+use Rattle.optimality.specs.Branches.{Branch, At}
 
 abbrev pub branch_of : OpenSplit → Branch
-branch_of s = branch_at s.is_high s.form.items s.most
+branch_of s = At s.is_high s.form.items s.most
 
 -- the code holds the nearest last
 abbrev pub branches_of : List OpenSplit → List Branch

@@ -1,8 +1,19 @@
 -- What the reader of a solution holds while it goes over the lines.
-use Rattle.std.specs.Prelude.{ℕ, Bool, List, map, Option, None, Some, if◌then◌else◌}
+use Rattle.std.specs.Prelude.{ℕ, Bool, not, ◌&&◌, ◌||◌, List, [], ◌∷◌, map, Option, None, Some, if◌then◌else◌, bytes_eq}
 use Rattle.std.specs.List.{list_any}
-use denote.Ref.{Bor}
+use Rattle.program_rows.specs.Numbers.{is_number_token, is_too_long}
+use Rattle.outcome.specs.declared.fault.SolutionFault.{SolutionFault}
+use Rattle.outcome.specs.declared.fault.SolutionFault.TheVariants as fault
 use Rattle.outcome.specs.Solution.{names_column, is_one}
+use Rattle.outcome.specs.Values.{is_near}
+
+-- the checks of a name and a value in the line at a place, behind these lines
+abbrev pub pair_checks : List (List ℕ) → List (List ℕ) → ℕ → List ℕ → List ℕ → List (Bool × SolutionFault)
+pair_checks columns before place name token =
+    (list_any (bytes_eq name) columns, fault.UnknownColumn place) ∷
+    (not (list_any (names_column name) before), fault.RepeatedColumn place) ∷
+    (is_number_token token && not (is_too_long token), fault.ValueText place) ∷
+    (is_near 0 token || is_near 1 token, fault.NotZeroOne place) ∷ []
 
 -- what the lines say of a column: nothing, or whether it is 1
 abbrev pub said_of : List (List ℕ) → List ℕ → Option Bool

@@ -2,7 +2,8 @@ use Rattle.std.proofs.Common.{rules, ◌≡◌, ◌<◌, ◌+◌, ◌-◌, ◌++
 use Rattle.std.proofs.lemmas.List.{append-nil, get_or-map, length-map}
 use Rattle.group_compiler.specs.Compiled.{GroupProgram, compiled}
 use Rattle.mps_text.proofs.Adding.{Adds-then, Adds-to}
-use Rattle.answers.specs.GroupTexts.{in_turn, program_bytes}
+use Rattle.outcome.specs.Report.{in_turn}
+use Rattle.answers.specs.GroupTexts.{program_bytes}
 use Rattle.answers.proofs.GroupTextFacts.{ends-in, ends-told, fails-told, in_turn-more, in_turn-rest}
 use Rattle.answers.proofs.group_texts.write_programs.Goals as goal
 

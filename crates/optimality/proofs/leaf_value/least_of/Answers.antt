@@ -1,8 +1,8 @@
-use Rattle.std.proofs.Common.{◌≡◌, ◌∙◌, List, ap, pos, ℤ}
+use Rattle.std.proofs.Common.{◌≡◌, ◌∙◌, List, ap, ℤ}
 use Rattle.std.proofs.lemmas.Result.{IfOk-weaker}
 use Rattle.optimality.specs.inside.Adding.{leaf_numbers, number_at}
 use Rattle.optimality.specs.inside.Holding.{cuts_of}
-use Rattle.optimality.specs.Reduced.{least_sum}
+use Rattle.optimality.proofs.ColumnSums.{least_sum}
 use Rattle.optimality.specs.inside.RowForms.{row_forms}
 use Rattle.optimality.proofs.LeafLaws.{least-is}
 use Rattle.optimality.proofs.leaf_value.least_of.Goals as goal

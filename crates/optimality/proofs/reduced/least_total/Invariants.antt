@@ -1,6 +1,6 @@
 use Rattle.std.proofs.Common.{◌≡◌, drop, ◌+ℤ◌}
 use Rattle.optimality.specs.inside.Adding.{number_at}
-use Rattle.optimality.specs.Reduced.{least_sum}
+use Rattle.optimality.proofs.ColumnSums.{least_sum}
 use Rattle.optimality.proofs.reduced.least_total.Given as goal
 
 -- the sum so far, and that of the columns that are left

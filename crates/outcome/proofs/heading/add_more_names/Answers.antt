@@ -1,8 +1,7 @@
-use Rattle.std.proofs.Common.{◌<◌, length, arith}
+use Rattle.std.proofs.Common.{◌<◌, ◌∷◌, length, arith}
 use Rattle.mps_text.proofs.Adding.{Adds-then, Adds-to}
 use Rattle.mps_text.proofs.Known.{flat_map-next_or}
-use Rattle.outcome.specs.Sale.{sale_of}
-use Rattle.outcome.specs.Report.{further_name}
+use Rattle.outcome.specs.Sale.{bidder_name, sale_of}
 use Rattle.outcome.proofs.heading.add_more_names.Goals as goal
 
 pub loop-bidder-preserved : goal.loop-bidder-preserved
@@ -10,4 +9,4 @@ loop-bidder-preserved g c =
     let at = c.loop-bidder.bidder-index in
     let all = c.args.bidders.now in
     let lt : at < length all = omega arith in
-    Adds-to (Adds-then c.loop-bidder.invariant c.add_further.ensures) (flat_map-next_or (further_name (sale_of c.args.book.now).names) all at 0 lt)
+    Adds-to (Adds-then c.loop-bidder.invariant c.add_further.ensures) (flat_map-next_or (λ further. 43 ∷ bidder_name (sale_of c.args.book.now).names further) all at 0 lt)

@@ -1,10 +1,9 @@
-use Rattle.std.proofs.Common.{take}
+use Rattle.std.proofs.Common.{◌∷◌, take}
 use Rattle.std.specs.Prelude.{flat_map}
 use Rattle.mps_text.specs.Adds.{Adds}
-use Rattle.outcome.specs.Sale.{sale_of}
-use Rattle.outcome.specs.Report.{further_name}
+use Rattle.outcome.specs.Sale.{bidder_name, sale_of}
 use Rattle.outcome.proofs.heading.add_more_names.Given as goal
 
 -- the names so far are added
 abbrev pub invariant-loop-bidder : goal.invariant-loop-bidder
-invariant-loop-bidder g l = Adds g.S.Sink.taken g.S.Sink.failures l.initial.writer l.writer (flat_map (further_name (sale_of l.book).names) (take l.bidder-index l.bidders))
+invariant-loop-bidder g l = Adds g.S.Sink.taken g.S.Sink.failures l.initial.writer l.writer (flat_map (λ further. 43 ∷ bidder_name (sale_of l.book).names further) (take l.bidder-index l.bidders))

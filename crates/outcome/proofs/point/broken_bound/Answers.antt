@@ -1,7 +1,12 @@
 use Rattle.std.proofs.Common.{◌∙◌, get_or, true, false, sym, add-one}
 use Rattle.std.proofs.lemmas.Option.{slice_get-get_or}
-use Rattle.outcome.proofs.BoundLaws.{bound_at}
+use Rattle.std.proofs.lemmas.Iterator.Adapters.{position_from-zero}
+use Rattle.std.specs.List.{zip}
+use Rattle.outcome.proofs.BoundLaws.{bound_at, breaks}
 use Rattle.outcome.proofs.point.broken_bound.Goals as goal
+
+pub loop-column-init : goal.loop-column-init
+loop-column-init c = sym (position_from-zero breaks (zip c.args.program.now.columns c.args.values.now))
 
 pub returns-then-not-allows : goal.returns-then-not-allows
 returns-then-not-allows c =

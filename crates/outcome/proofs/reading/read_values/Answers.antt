@@ -4,7 +4,7 @@ use Rattle.auction_terms.specs.FirstFault.{first_fault}
 use Rattle.auction_terms.specs.Lines.{lines_of}
 use Rattle.program_rows.specs.Program.{TableColumn}
 use Rattle.program_rows.specs.ProgramNames.{column_names}
-use Rattle.outcome.specs.Solution.{solution_line_fault, values_of}
+use Rattle.outcome.specs.Solution.{is_one, solution_line_fault}
 use Rattle.auction_terms.specs.Borrowed.{bytes_of}
 use Rattle.outcome.specs.inside.Reading.{said_by}
 use Rattle.outcome.proofs.SaidLaws.{nothing_said, read_off}
@@ -25,6 +25,6 @@ returns c =
     let fine : first_fault (solution_line_fault (column_names c.args.program.now)) [] lines ≡ None = rw c.in_ok-columns.ensures at none in
     let size : length c.take_lines.new.said ≡ c.in_ok-said.said.len = omega (arith, c.take_lines.auto.said, c.deref_mut.ensures.len) in
     let said : c.deref.result.now ≡ said_by names lines = c.deref.ensures.value ∙ take_at c.take_lines.new.said _ c.in_ok-said.said.len size ∙ c.in_ok-take_lines.ensures.said in
-    let read : c.new.result ≡ values_of (column_names c.args.program.now) lines =
-    c.new.ensures ∙ c.in_ok-values_from.ensures ∙ ap (map (λ (o : Option Bool). unwrap_or o false)) said ∙ read_off names lines ∙ ap (λ (ns : List (List ℕ)). values_of ns lines) c.in_ok-columns.ensures in
+    let read : c.new.result ≡ map (is_one lines) (column_names c.args.program.now) =
+    c.new.ensures ∙ c.in_ok-values_from.ensures ∙ ap (map (λ (o : Option Bool). unwrap_or o false)) said ∙ read_off names lines ∙ ap (λ (ns : List (List ℕ)). map (is_one lines) ns) c.in_ok-columns.ensures in
     ap (λ (vs : List Bool). Ok vs) read ∙ told_fine _ _ fine

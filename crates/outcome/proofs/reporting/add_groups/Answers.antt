@@ -1,8 +1,9 @@
 use Rattle.std.proofs.Common.{◌≡◌, ◌+◌, ◌-◌, ◌<◌, ℕ, [], take, length, ap, ◌∙◌, arith}
 use Rattle.std.specs.Prelude.{get_or}
+use Rattle.std.specs.List.{zip}
 use Rattle.mps_text.proofs.Adding.{Adds-then, Adds-to}
 use Rattle.outcome.specs.Sale.{sale_of}
-use Rattle.outcome.specs.Report.{groups_text}
+use Rattle.outcome.specs.Report.{group_report, in_turn}
 use Rattle.outcome.proofs.ReportLaws.{more_at, same_at}
 use Rattle.outcome.proofs.reporting.add_groups.Goals as goal
 
@@ -19,4 +20,4 @@ loop-i-preserved g c =
     let group : c.group.result.now ≡ get_or groups at [] = c.group.ensures ∙ ap (λ (n : ℕ). get_or groups n []) place in
     let choices : c.choices.result.now ≡ get_or allocations at [] = c.choices.ensures.choices ∙ c.index-allocations-i.is ∙ same_at allocations at c.index-allocations-i.result [] listed in
     let more = more_at book first 1 at (at + 1) groups allocations c.group.result.now c.choices.result.now c.requires lt (omega arith) group choices in
-    Adds-to (Adds-then {xs = groups_text book first 1 (take at groups) (take at allocations)} c.loop-i.invariant c.add_group.ensures) more
+    Adds-to (Adds-then {xs = in_turn (group_report book first) 1 (zip (take at groups) (take at allocations))} c.loop-i.invariant c.add_group.ensures) more
