@@ -61,6 +61,7 @@ fn is_cost(place: Option<usize>, objective: Option<&[u8]>, row: &[u8]) -> bool
 }
 
 /// A pair of row and number, of the column with the stamp.
+#[inline(always)]
 fn take_entry<'t>(
     rows: &mut Rows<'t>,
     column: &mut OpenColumn,
