@@ -1,13 +1,14 @@
 -- Names, and the places of rows among them.
-use Rattle.std.proofs.Common.{◌≡◌, ℕ, zero, suc, ◌+◌, ◌<◌, ◌≤◌, Bool, true, false, not, ◌||◌, List, [], ◌∷◌, ◌++◌, length, refl, sym, ap, subst, arith, Option, Some, None}
-use Rattle.std.specs.Prelude.{bytes_eq, slice_get, if◌then◌else◌}
+use Rattle.std.proofs.Common.{◌≡◌, ◌∙◌, ℕ, zero, suc, ◌+◌, ◌<◌, ◌≤◌, Bool, true, false, not, ◌||◌, List, [], ◌∷◌, ◌++◌, length, refl, sym, ap, subst, arith, Option, Some, None}
+use Rattle.std.specs.Prelude.{bytes_eq, slice_get, is_some, IfSome, if◌then◌else◌}
+use Rattle.std.specs.Option.{option_map_or}
 use Rattle.std.specs.List.{list_any, AllByRecursion, IsDistinct}
 use Rattle.std.proofs.lemmas.Slice.Eq.{bytes_eq-Decides}
 use Rattle.std.proofs.lemmas.List.Folds.{list_any-append}
 use Rattle.std.proofs.lemmas.Bool.{false_from_ne_true, both_ways}
 use denote.Ref.{Bor}
 use Rattle.auction_terms.specs.Borrowed.{bytes_of}
-use Rattle.mps_reader.specs.inside.Rows.{AreAt}
+use Rattle.mps_reader.specs.inside.Rows.{AreAt, IsObjective}
 
 pub same_name : (a b : List ℕ) → bytes_eq a b ≡ true → a ≡ b
 same_name a b h = (bytes_eq-Decides a b).0 h
@@ -124,6 +125,26 @@ placed p (m ∷ ns) (None ∷ ps) rows (suc i) q h e = placed p ns ps rows i q h
 placed p (m ∷ ns) (Some k ∷ ps) [] i q h e = absurd h
 placed p (m ∷ ns) (Some k ∷ ps) (r ∷ rows) zero q h e = let here : k ≡ q = cc in let at = h.0 in (omega arith, omega arith)
 placed p (m ∷ ns) (Some k ∷ ps) (r ∷ rows) (suc i) q h e = let more = placed (suc p) ns ps rows i q h.2 e in (omega arith, omega arith)
+
+-- a row with a place isn't the objective
+pub not-cost : (objective : List ℕ) (p : ℕ) (ns : List (List ℕ)) (ps : List (Option ℕ)) (rows : List (List ℕ)) (i q : ℕ) (name : List ℕ) → AreAt p ns ps rows → AllByRecursion (λ r. bytes_eq objective r ≡ false) rows → slice_get ns i ≡ Some name → slice_get ps i ≡ Some (Some q) → bytes_eq name objective ≡ false
+not-cost o p [] [] [] i q name h a e f = absurd cc
+not-cost o p [] [] (r ∷ rows) i q name h a e f = absurd h
+not-cost o p [] (x ∷ ps) rows i q name h a e f = absurd h
+not-cost o p (m ∷ ns) [] rows i q name h a e f = absurd h
+not-cost o p (m ∷ ns) (None ∷ ps) rows zero q name h a e f = absurd cc
+not-cost o p (m ∷ ns) (None ∷ ps) rows (suc i) q name h a e f = not-cost o p ns ps rows i q name h a e f
+not-cost o p (m ∷ ns) (Some k ∷ ps) [] i q name h a e f = absurd h
+not-cost o p (m ∷ ns) (Some k ∷ ps) (r ∷ rows) zero q name h a e f =
+    let here : m ≡ name = cc in
+    false_from_ne_true _ (λ t. both_ways _ a.0 (subst (λ n. bytes_eq o n ≡ true) (sym (h.1 ∙ here)) (subst (λ n. bytes_eq o n ≡ true) (sym (same_name name o t)) (own_name o))))
+not-cost o p (m ∷ ns) (Some k ∷ ps) (r ∷ rows) (suc i) q name h a e f = not-cost o (suc p) ns ps rows i q name h.2 a.1 e f
+
+pub no-cost : (objective : Option (Bor (List ℕ))) (ns : List (List ℕ)) (ps : List (Option ℕ)) (rows : List (List ℕ)) (i : ℕ) (name : List ℕ) (place : Option ℕ) → AreAt 0 ns ps rows → IfSome objective (λ o. IsObjective ns rows o.now)
+    → slice_get ns i ≡ Some name → slice_get ps i ≡ Some place → is_some place ≡ true → option_map_or (λ o. bytes_eq name o.now) objective false ≡ false
+no-cost None ns ps rows i name place h o e f some = refl
+no-cost (Some o) ns ps rows i name None h known e f some = absurd cc
+no-cost (Some o) ns ps rows i name (Some q) h known e f some = not-cost o.now 0 ns ps rows i q name h known.apart e f
 
 -- places of different names differ
 pub apart : (p : ℕ) (ns : List (List ℕ)) (ps : List (Option ℕ)) (rows : List (List ℕ)) (i j q r : ℕ) → AreAt p ns ps rows → slice_get ps i ≡ Some (Some q) → slice_get ps j ≡ Some (Some r) → i < j → q < r

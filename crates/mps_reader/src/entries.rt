@@ -2,6 +2,7 @@
 
 ghost use Rattle.std.specs.Prelude.{◌≡◌, ◌≤◌, ◌==◌, ◌||◌, ◌∷◌, [], ◌++◌, ℕ, ℤ, Bool, List, not, true, false, is_some, length, bytes_eq, drop, Option, None, OnOk, if◌then◌else◌};
 ghost use Rattle.std.specs.List.{AllByRecursion, list_any};
+ghost use Rattle.std.specs.Option.{option_map_or};
 ghost use Rattle.program_rows.specs.declared.fault.FaultKind.TheVariants.{UnknownRow, EntryRepeated};
 ghost use Rattle.program_rows.specs.Lines.{field, LineFields};
 ghost use Rattle.program_rows.specs.Sections.{Sections};
@@ -52,7 +53,17 @@ fn put(
     Ok(())
 }
 
+// Whether a row is the objective. One with a place among the rows that aren't `N` is none: its name needn't be compared.
+fn is_cost(place: Option<usize>, objective: Option<&[u8]>, row: &[u8]) -> bool
+    requires { is_some place ≡ true
+        → option_map_or (λ name. bytes_eq row.now name.now) objective false ≡ false }
+    ensures { result ≡ option_map_or (λ name. bytes_eq row.now name.now) objective.entry false }
+{
+    place.is_none() && is_objective(objective, row)
+}
+
 /// A pair of row and number, of the column with the stamp.
+#[inline(always)]
 fn take_entry<'t>(
     rows: &mut Rows<'t>,
     column: &mut OpenColumn,
@@ -83,12 +94,8 @@ fn take_entry<'t>(
 {
     let index = stamp_row(&rows.names, &rows.next, &mut rows.stamps, row, stamp)?;
     let value = take_number(token)?;
-    put(
-        column,
-        is_objective(rows.objective, row),
-        rows.places[index],
-        value,
-    )?;
+    let place = rows.places[index];
+    put(column, is_cost(place, rows.objective, row), place, value)?;
     Ok(())
 }
 

@@ -1,6 +1,6 @@
 //! The fields of a line.
 
-ghost use Rattle.std.specs.Prelude.{◌≡◌, ◌≤◌, ◌∷◌, [], true, false, take, drop, length, position, MatchOption, IfOk, OnErr};
+ghost use Rattle.std.specs.Prelude.{◌≡◌, ◌≤◌, ◌<◌, ◌∷◌, [], true, false, take, drop, length, position, MatchOption, IfSome, IfOk, OnErr};
 ghost use Rattle.std.specs.List.{list_all};
 ghost use Rattle.program_rows.specs.Lines.{fields, is_space, is_text_byte};
 ghost use Rattle.auction_terms.specs.Borrowed.{bytes_of};
@@ -50,13 +50,6 @@ fn field_end(text: &[u8]) -> Option<usize>
     None
 }
 
-fn is_text(line: &[u8]) -> bool
-    ensures { result ≡ list_all is_text_byte line.now }
-{
-    line.iter()
-        .all(|b| *b == b'\t' || (b' ' <= *b && *b <= b'~'))
-}
-
 // The rest of a text, as a value of its own: the loop over fields states what is left by it.
 fn behind(text: &[u8], start: usize) -> &[u8]
     requires { start ≤ length text.now }
@@ -75,6 +68,8 @@ fn next_field(rest: &[u8]) -> Result<Option<(&[u8], &[u8])>, NotText>
         (λ found. fields rest.now ≡ found.0.now ∷ fields found.1.now)) }
     ensures text { IfOk result (λ found. MatchOption found (list_all is_text_byte rest.now ≡ true)
         (λ found. list_all is_text_byte rest.now ≡ list_all is_text_byte found.1.now)) }
+    ensures shorter { IfOk result (λ found. IfSome found
+        (λ found. length found.1.now < length rest.now)) }
     ensures other { OnErr result (list_all is_text_byte rest.now ≡ false) }
 {
     let Some(start) = field_start(rest) else {
@@ -98,15 +93,11 @@ pub fn first_fields(line: &[u8]) -> Result<Fields<'_>, NotText>
 {
     let mut fields = ArrayVec::new();
     let mut rest = line;
-    while !fields.is_full() {
-        let Some((field, behind)) = next_field(rest)? else {
-            return Ok(fields);
-        };
-        fields.push(field);
+    while let Some((field, behind)) = next_field(rest)? {
+        if !fields.is_full() {
+            fields.push(field);
+        }
         rest = behind;
-    }
-    if !is_text(rest) {
-        return Err(NotText);
     }
     Ok(fields)
 }

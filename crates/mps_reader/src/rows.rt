@@ -93,6 +93,7 @@ pub fn take_row<'t>(rows: &mut Rows<'t>, fields: &[&'t [u8]]) -> Result<(), Refu
 }
 
 /// Stamps the row that a pair names, and gives its place among all. `next` holds where it is looked for first.
+#[inline(always)]
 pub fn stamp_row(
     names: &NameSet,
     next: &Cell<usize>,

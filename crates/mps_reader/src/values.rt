@@ -11,6 +11,7 @@ use crate::refusal::Refusal;
 use program_rows::{FaultKind, NumberFault, read_number};
 
 /// A number.
+#[inline(always)]
 pub fn take_number(token: &[u8]) -> Result<i64, Refusal>
     ensures fault { AnswersFault result (number_fault (number token.now)) }
     ensures value { IfOk result (λ n. value token.now ≡ n) }

@@ -79,6 +79,7 @@ impl BuildHasher for Seeded {
     }
 }
 
+#[inline(always)]
 fn is_at(names: &[&[u8]], place: usize, name: &[u8]) -> bool
     ensures { result ≡ option_map_or (λ other. bytes_eq name.now other.now)
         (slice_get names.now place) false }
@@ -89,6 +90,18 @@ fn is_at(names: &[&[u8]], place: usize, name: &[u8]) -> bool
     }
 }
 
+// The place of a name by its hash, apart from the places that are tried first.
+#[inline(never)]
+fn place_by_hash(names: &NameSet, name: &[u8]) -> Option<usize>
+    ensures index { result ≡ position (λ other. bytes_eq name.now other.now) names.now.keys }
+    ensures found { is_some result ≡ list_any (λ other. bytes_eq name.now other.now)
+        names.now.keys }
+    ensures within { IfSome result (λ place. place < length names.now.keys) }
+{
+    names.get_index_of(name)
+}
+
+#[inline(always)]
 fn place_beside(names: &NameSet, next: usize, name: &[u8]) -> Option<usize>
     ensures index { result ≡ position (λ other. bytes_eq name.now other.now) names.now.keys }
     ensures found { is_some result ≡ list_any (λ other. bytes_eq name.now other.now)
@@ -106,12 +119,13 @@ fn place_beside(names: &NameSet, next: usize, name: &[u8]) -> Option<usize>
     if is_at(names.as_slice(), earlier, name) {
         return Some(earlier);
     }
-    names.get_index_of(name)
+    place_by_hash(names, name)
 }
 
 /// The place of a name among the names, if it is one of them. It is looked for without a hash first: behind the name that was
 /// found last, where `next` stands; one place further, since a column names its rows in order and mostly leaves out one at a
 /// time; and before it, so that names in falling order are found at once, too.
+#[inline(always)]
 pub fn place_of(names: &NameSet, next: &Cell<usize>, name: &[u8]) -> Option<usize>
     ensures index { result ≡ position (λ other. bytes_eq name.now other.now) names.now.keys }
     ensures found { is_some result ≡ list_any (λ other. bytes_eq name.now other.now)

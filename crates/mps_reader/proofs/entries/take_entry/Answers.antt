@@ -1,6 +1,6 @@
 use Rattle.std.proofs.Common.{refl, arith}
 use Rattle.mps_reader.specs.inside.Rows.{names_of, declared_row_names}
-use Rattle.mps_reader.proofs.NameFacts.{length-places, length-bytes}
+use Rattle.mps_reader.proofs.NameFacts.{length-places, length-bytes, no-cost}
 use Rattle.mps_reader.proofs.PairSteps.{get-below, get-from, get-some, pair-fits}
 use Rattle.std.proofs.Common.{◌≡◌, ◌∙◌, ap, sym, subst, Some}
 use Rattle.std.specs.Prelude.{bytes_eq, slice_get, ◌||◌, if◌then◌else◌}
@@ -14,8 +14,8 @@ use Rattle.mps_reader.specs.inside.Tracking.{OpenTells}
 use Rattle.mps_reader.proofs.PairTells.{stamped-are, open-put, all-at}
 use Rattle.mps_reader.proofs.entries.take_entry.Goals as goal
 
-pub index-requires : goal.index-requires
-index-requires c =
+pub index-place-requires : goal.index-place-requires
+index-place-requires c =
     let low = get-below (names_of c.args.rows.now.names) c.in_ok-index.index c.args.row.now c.in_ok-index.ensures.index in
     let size = length-places 0 (names_of c.args.rows.now.names) c.args.rows.now.places.items (declared_row_names c.args.rows.now.rows.items) c.requires.fit.places in
     let ok = c.args.rows.now.places.ok in
@@ -25,8 +25,8 @@ pub returns-clause-entries : goal.returns-clause-entries
 returns-clause-entries c = λ fits.
     let low = get-below (names_of c.args.rows.now.names) c.in_ok-index.index c.args.row.now c.in_ok-index.ensures.index in
     let size = length-places 0 (names_of c.args.rows.now.names) c.args.rows.now.places.items (declared_row_names c.args.rows.now.rows.items) c.requires.fit.places in
-    pair-fits c.args.rows.now _ c.args.column.now c.put.new.column c.args.stamp c.in_ok-index.index c.args.row.now c.is_objective.result c.index.result.now _ c.requires.fit c.in_ok-index.ensures.index
-    (get-from c.args.rows.now.places.items c.in_ok-index.index c.index.result.now (omega arith) c.index.ensures) c.in_ok-index.ensures.fresh refl refl c.in_ok-index.ensures.stamped c.in_ok-put.ensures.entries fits
+    pair-fits c.args.rows.now _ c.args.column.now c.put.new.column c.args.stamp c.in_ok-index.index c.args.row.now c.is_cost.result c.index-place.result.now _ c.requires.fit c.in_ok-index.ensures.index
+    (get-from c.args.rows.now.places.items c.in_ok-index.index c.index-place.result.now (omega arith) c.index-place.ensures) c.in_ok-index.ensures.fresh refl refl c.in_ok-index.ensures.stamped c.in_ok-put.ensures.entries fits
 
 pub returns-clause-stamps : goal.returns-clause-stamps
 returns-clause-stamps c = λ has h.
@@ -37,15 +37,22 @@ pub returns-clause-tells : goal.returns-clause-tells
 returns-clause-tells c = λ fits number h.
     let low = get-below (names_of c.args.rows.now.names) c.in_ok-index.index c.args.row.now c.in_ok-index.ensures.index in
     let size = length-places 0 (names_of c.args.rows.now.names) c.args.rows.now.places.items (declared_row_names c.args.rows.now.rows.items) c.requires.fit.places in
-    let here : slice_get c.args.rows.now.places.items c.in_ok-index.index ≡ Some c.index.result.now = get-from c.args.rows.now.places.items c.in_ok-index.index c.index.result.now (omega arith) c.index.ensures in
+    let here : slice_get c.args.rows.now.places.items c.in_ok-index.index ≡ Some c.index-place.result.now = get-from c.args.rows.now.places.items c.in_ok-index.index c.index-place.result.now (omega arith) c.index-place.ensures in
     let stamps = c.requires.fit.stamps in
     let fits_number : SFits w64 c.in_ok-value.value = search rules in
     let same : to_z w64 (of_z w64 c.in_ok-value.value) ≡ c.in_ok-value.value = to_z-of_z w64 c.in_ok-value.value fits_number in
     let names = length-bytes c.args.rows.now.names.keys in
     let stamped = get-some c.args.rows.now.stamps.items c.in_ok-index.index (omega arith) in
     subst (λ v. OpenTells (option_now c.args.rows.now.objective) (declared_row_names c.args.rows.now.rows.items) (λ name. if bytes_eq name c.args.row.now then v else number name) c.put.new.column) (sym c.in_ok-value.ensures.value)
-    (open-put c.args.rows.now.objective (names_of c.args.rows.now.names) c.args.rows.now.places.items (declared_row_names c.args.rows.now.rows.items) number c.args.column.now c.put.new.column c.in_ok-index.index c.args.row.now c.is_objective.result c.index.result.now c.in_ok-value.value
+    (open-put c.args.rows.now.objective (names_of c.args.rows.now.names) c.args.rows.now.places.items (declared_row_names c.args.rows.now.rows.items) number c.args.column.now c.put.new.column c.in_ok-index.index c.args.row.now c.is_cost.result c.index-place.result.now c.in_ok-value.value
     c.requires.fit.distinct (all-at IsName (names_of c.args.rows.now.names) c.in_ok-index.index c.args.row.now c.in_ok-index.ensures.index c.requires.fit.plain) c.requires.fit.places c.requires.fit.objective c.in_ok-index.ensures.index here
     (λ p e. fits.apart c.in_ok-index.index p _ (here ∙ ap (λ o. Some o) e) stamped (c.in_ok-index.ensures.fresh _ stamped))
-    c.is_objective.ensures (c.in_ok-put.ensures.cost ∙ ap (λ z. if c.is_objective.result then z else c.args.column.now.cost) same)
-    (c.in_ok-put.ensures.entries ∙ ap (λ z. put_entries c.is_objective.result c.index.result.now z c.args.column.now.entries.items) same) h)
+    c.is_cost.ensures (c.in_ok-put.ensures.cost ∙ ap (λ z. if c.is_cost.result then z else c.args.column.now.cost) same)
+    (c.in_ok-put.ensures.entries ∙ ap (λ z. put_entries c.is_cost.result c.index-place.result.now z c.args.column.now.entries.items) same) h)
+
+pub is_cost-requires : goal.is_cost-requires
+is_cost-requires c = λ some.
+    let low = get-below (names_of c.args.rows.now.names) c.in_ok-index.index c.args.row.now c.in_ok-index.ensures.index in
+    let size = length-places 0 (names_of c.args.rows.now.names) c.args.rows.now.places.items (declared_row_names c.args.rows.now.rows.items) c.requires.fit.places in
+    no-cost c.args.rows.now.objective (names_of c.args.rows.now.names) c.args.rows.now.places.items (declared_row_names c.args.rows.now.rows.items) c.in_ok-index.index c.args.row.now c.index-place.result.now c.requires.fit.places c.requires.fit.objective
+    c.in_ok-index.ensures.index (get-from c.args.rows.now.places.items c.in_ok-index.index c.index-place.result.now (omega arith) c.index-place.ensures) some
