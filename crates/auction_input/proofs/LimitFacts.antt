@@ -11,7 +11,8 @@ use Rattle.auction_terms.specs.Limits.{IsBid, IsBook}
 use Rattle.auction_terms.specs.Packages.{Lots}
 use Rattle.auction_terms.specs.Records.{Record}
 use Rattle.auction_terms.specs.RulesText as rules_text
-use Rattle.auction_terms.specs.RulesText.{bidder_of, entries_of, entry_fault, record_field, is_kind, record_kind, field_number, of_kind, version_of}
+use Rattle.auction_terms.specs.RulesText.{entries_of, entry_fault, record_field, is_kind, record_kind, field_number, of_kind, version_of}
+use Rattle.auction_terms.specs.inside.RulesText.{bidder_of}
 use Rattle.auction_terms.specs.Terms.{Terms, lots_in}
 use Rattle.auction_terms.specs.declared.bids.Bid.{Bid}
 use Rattle.auction_terms.specs.declared.limits.TheConstants.{GREATEST_QUANTITY, MOST_BIDDERS, MOST_BIDS}

@@ -10,7 +10,8 @@ use Rattle.auction_terms.specs.FirstFault.{first_failed, first_fault}
 use Rattle.auction_terms.specs.Limits.{IsLots, IsWeightedCap}
 use Rattle.auction_terms.specs.Records.{Record}
 use Rattle.auction_terms.specs.RulesText as rules_text
-use Rattle.auction_terms.specs.RulesText.{category_of, entries_of, entry_fault, field_number, is_between, member_of, number_told, entry_numbers, of_kind, pool_of, record_kind, value_text}
+use Rattle.auction_terms.specs.RulesText.{category_of, entries_of, entry_fault, field_number, is_between, number_told, entry_numbers, of_kind, record_kind, value_text}
+use Rattle.auction_terms.specs.inside.RulesText.{member_of, pool_of}
 use Rattle.auction_terms.specs.Terms.{Terms, lots_in}
 use Rattle.auction_terms.specs.inside.Terms.{cap_of}
 use Rattle.auction_terms.specs.declared.limits.TheConstants.{GREATEST_AMOUNT, GREATEST_QUANTITY, GREATEST_VALUE, GREATEST_WEIGHT, MOST_CATEGORIES, MOST_POOLS}

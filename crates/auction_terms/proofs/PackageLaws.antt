@@ -7,7 +7,7 @@ use Rattle.auction_terms.specs.declared.bids.Bid.{Bid}
 use Rattle.std.proofs.lemmas.Int.{ints}
 use Rattle.auction_terms.specs.Packages.{Lots, fits, size, is_within}
 use Rattle.auction_terms.specs.inside.Packages.{is_within_cap}
-use Rattle.auction_terms.specs.Domination.{SmallerSizesSuffice, net, pays, dominates}
+use Rattle.auction_terms.specs.Domination.{SmallerSizesSuffice, net, dominates}
 use Rattle.auction_terms.specs.Allocations.{bid_at}
 use Rattle.auction_terms.specs.Keeping.{KeptInstead, KeepsTheBest}
 use Rattle.auction_terms.proofs.WeighedLaws.{caps_smaller, int_le_trans, le_test, lt_from}
@@ -75,7 +75,7 @@ fits_smaller lots p q h k =
     and_from (is_within p lots.supply) (list_all (is_within_cap p) lots.pools) (within_trans p q lots.supply h e.0) (caps_smaller p q lots.pools h e.1)
 
 -- by falling size of the package
-keeper : (lots : Lots) (form : List Bid) (n : ℕ) (j : ℕ) (x : Bid) → size x.package < n → bid_at form j ≡ Some x → fits lots x.package ≡ true → pays lots x ≡ true → KeptInstead lots form x
+keeper : (lots : Lots) (form : List Bid) (n : ℕ) (j : ℕ) (x : Bid) → size x.package < n → bid_at form j ≡ Some x → fits lots x.package ≡ true → int_le (pos 0) (net lots x) ≡ true → KeptInstead lots form x
 keeper lots form zero j x less at fit worth = absurd (omega arith)
 keeper lots form (suc n) j x less at fit worth = ⊎_elim
     (λ some.
@@ -106,7 +106,7 @@ pub keeps_the_best : KeepsTheBest
 keeps_the_best lots form j x at fit = ⊎_elim
     (λ worth. inr (keeper lots form (suc (size x.package)) j x (omega arith) at fit worth))
     (λ less. inl (lt_from (pos 0) (net lots x) less))
-    (cases_Bool (pays lots x))
+    (cases_Bool (int_le (pos 0) (net lots x)))
 
 smaller_size : (lots : Lots) (x y : Bid) (b : Bool) → dominates lots y x ≡ b → (nat_lt (size y.package) (size x.package) && dominates lots y x) ≡ b
 smaller_size lots x y true d =

@@ -12,13 +12,9 @@ net lots x = pos x.amount -ℤ pos (worth lots x.package)
 abbrev pub dominates : Lots → Bid → Bid → Bool
 dominates lots x y = (is_within x.package y.package && not (is_within y.package x.package)) && int_le (net lots y) (net lots x)
 
--- the bid's net isn't below 0: it brings at least what its package is worth where it is left
-abbrev pub pays : Lots → Bid → Bool
-pays lots x = int_le (pos 0) (net lots x)
-
--- the bid fits, it pays, and no bid of its form dominates it
+-- the bid fits, its net isn't below 0, so that it brings at least what its package is worth where it is left, and no bid of its form dominates it
 abbrev pub is_kept : Lots → List Bid → Bid → Bool
-is_kept lots form x = (fits lots x.package && pays lots x) && not (list_any (λ y. dominates lots y x) form)
+is_kept lots form x = (fits lots x.package && int_le (pos 0) (net lots x)) && not (list_any (λ y. dominates lots y x) form)
 
 -- a bid is kept by comparing it with the bids of smaller size alone
 abbrev pub SmallerSizesSuffice : Type 0

@@ -6,5 +6,6 @@ pub mod Keeping
 pub mod Packages
 pub mod PlainRecords
 pub mod Records
+pub mod RulesText
 pub mod Sources
 pub mod Terms

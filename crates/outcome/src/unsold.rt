@@ -1,6 +1,6 @@
 //! What the lots are worth that an allocation leaves.
 
-ghost use Rattle.std.specs.Prelude.{◌≡◌, ◌<◌, ◌≤◌, ◌*◌, ◌-◌, ◌^◌, length, map, slice_index};
+ghost use Rattle.std.specs.Prelude.{◌≡◌, ◌<◌, ◌≤◌, ◌*◌, ◌-◌, ◌^◌, length, map, slice_index, sum_by};
 ghost use Rattle.auction_terms.specs.Packages.{left, worth};
 ghost use Rattle.auction_terms.specs.Terms.{lots_in};
 ghost use Rattle.auction_terms.specs.declared.limits.TheConstants.{GREATEST_QUANTITY, GREATEST_VALUE, MOST_CATEGORIES};
@@ -27,8 +27,8 @@ fn lots_taken(book: &ClosedBook, category: usize, choices: &[Choice]) -> u128
 fn worth_left_of(book: &ClosedBook, category: usize, choices: &[Choice]) -> u128
     requires { category < length book.now.rules.categories }
     ensures worth { result ≡ slice_index (map (λ c. c.value) book.now.rules.categories) category
-        * (slice_index (map (λ c. c.supply) book.now.rules.categories) category - load
-        (book_of book.now) category choices.now) }
+        * (slice_index (map (λ c. c.supply) book.now.rules.categories) category
+        - sum_by (quantity_of (book_of book.now) category) choices.now) }
     ensures small { result ≤ GREATEST_VALUE * GREATEST_QUANTITY }
 {
     let kind = &book.rules().categories()[category];

@@ -1,13 +1,13 @@
 -- Laws of the flags: comparing a bid with the fitting bids of smaller size is comparing it with all.
 use Rattle.std.proofs.Common.{◌≡◌, ◌+◌, ◌≤◌, ◌&&◌, ◌||◌, ⊎_elim, ℕ, Bool, true, false, not, nat_lt, List, [], ◌∷◌, length, map, arith, refl, sym, ap, ap₂, ◌∙◌, subst, lt-ltb, le-ltb, ℤ}
-use Rattle.std.specs.Prelude.{All, int_le}
+use Rattle.std.specs.Prelude.{All, int_le, pos}
 use Rattle.std.specs.List.{AllByRecursion, list_any}
 use Rattle.std.proofs.lemmas.Bool.{and_parts, cases_Bool, both_ways, cond-true, cond-false, cond_both}
 use Rattle.std.proofs.lemmas.List.Elements.{recursion_from_All, All-from_recursion}
 use Rattle.std.proofs.lemmas.List.Sorted.{All-permutation, list_any-IsPermutation}
 use Rattle.auction_terms.specs.declared.bids.Bid.{Bid}
 use Rattle.auction_terms.specs.Packages.{Lots, is_within, fits, size}
-use Rattle.auction_terms.specs.Domination.{net, dominates, pays, is_kept}
+use Rattle.auction_terms.specs.Domination.{net, dominates, is_kept}
 use Rattle.auction_terms.proofs.PackageLaws.{fits_smaller, size_le, size_lt}
 use Rattle.presolve.specs.declared.order.SizedBid.{SizedBid}
 use Rattle.presolve.specs.Sizes.{IsUpTo}
@@ -85,9 +85,9 @@ rivals_suffice lots form rivals x o told mine fit =
     ∙ sym (list_any-IsPermutation (λ (s : SizedBid). test (sized_of s)) o.fitting rivals o.moved)
     ∙ any_of_map test o.fitting ∙ ap (λ (rs : List Sized). list_any test rs) o.same ∙ fitting_suffice lots x.bid.now 1 form fit
 
--- the bid pays, and no bid of its form dominates it
+-- the net of the bid isn't below 0, and no bid of its form dominates it
 abbrev pub stands : Lots → List Bid → Bid → Bool
-stands lots form x = pays lots x && not (list_any (λ (z : Bid). dominates lots z x) form)
+stands lots form x = int_le (pos 0) (net lots x) && not (list_any (λ (z : Bid). dominates lots z x) form)
 
 grouped : (a b c : Bool) → (a && (b && c)) ≡ ((a && b) && c)
 grouped true b c = refl
@@ -95,7 +95,7 @@ grouped false b c = refl
 
 pub all_kept : (lots : Lots) (form xs : List Bid) → map (λ (x : Bid). fits lots x.package && stands lots form x) xs ≡ map (is_kept lots form) xs
 all_kept lots form [] = refl
-all_kept lots form (x ∷ xs) = ap₂ (λ (b : Bool) (bs : List Bool). b ∷ bs) (grouped (fits lots x.package) (pays lots x) (not (list_any (λ (z : Bid). dominates lots z x) form))) (all_kept lots form xs)
+all_kept lots form (x ∷ xs) = ap₂ (λ (b : Bool) (bs : List Bool). b ∷ bs) (grouped (fits lots x.package) (int_le (pos 0) (net lots x)) (not (list_any (λ (z : Bid). dominates lots z x) form))) (all_kept lots form xs)
 
 -- the bids that fit are as long as the form's
 fitting_sized : (lots : Lots) (n j : ℕ) (form : List Bid) → AllByRecursion (λ (x : Bid). length x.package ≡ n) form → AllByRecursion (λ (s : Sized). length s.bid.package ≡ n) (fitting_from lots j form)

@@ -79,7 +79,7 @@ impl Subject {
     }
 }
 
-ghost use Rattle.std.specs.Prelude.{◌≡◌, ◌≤◌, ◌<◌, ◌^◌, All, length, map, slice_index, slice_index_or};
+ghost use Rattle.std.specs.Prelude.{◌≡◌, ◌≤◌, ◌<◌, ◌^◌, [], All, length, map, slice_index, slice_index_or};
 ghost use Rattle.auction_terms.specs.declared.limits.TheConstants.{GREATEST_AMOUNT, GREATEST_QUANTITY};
 ghost use Rattle.auction_terms.specs.Packages.{IsPackage, weighed};
 ghost use Rattle.auction_terms.specs.Terms.{IsCategory, IsPool};

@@ -10,6 +10,6 @@ use Rattle.auction_terms.specs.Packages.{Lots}
 abbrev pub choice_of : Offer → Choice
 choice_of o = record { bidder = o.bidder; bid = o.number }
 
--- a bid of a bidder outside the group that fits and pays, and that no bid of its form dominates
+-- a bid of a bidder outside the group that is kept of its form
 abbrev pub is_kept_offer : Lots → Book → (ℕ → Bool) → Offer → Bool
 is_kept_offer lots book group o = not (group o.bidder) && is_kept lots (form_of book o.bidder) o.bid

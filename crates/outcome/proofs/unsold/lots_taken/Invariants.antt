@@ -1,4 +1,5 @@
 use Rattle.std.proofs.Common.{◌≡◌, ◌≤◌, ◌*◌, ◌^◌, take}
+use Rattle.std.specs.Prelude.{sum_by}
 use Rattle.auction_terms.specs.Allocations.{quantity_of}
 use Rattle.bid_desk.specs.Closing.{book_of}
 use Rattle.outcome.proofs.unsold.lots_taken.Given as goal

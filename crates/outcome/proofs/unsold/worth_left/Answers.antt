@@ -1,5 +1,6 @@
 use Rattle.std.proofs.Common.{◌≡◌, ◌+◌, ◌<◌, ◌≤◌, ◌∙◌, ℕ, List, length, refl, ap, arith}
 use Rattle.auction_terms.specs.declared.rules.Category.{Category}
+use Rattle.std.specs.Prelude.{sum_by}
 use Rattle.auction_terms.specs.Allocations.{quantity_of}
 use Rattle.auction_terms.specs.Terms.{Terms}
 use Rattle.bid_desk.specs.Closing.{book_of}
