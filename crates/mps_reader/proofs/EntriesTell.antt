@@ -1,7 +1,6 @@
 -- The pairs of a line of COLUMNS, one after the other.
 use Rattle.std.proofs.Common.{◌≡◌, ℕ, Bool, true, false, not, ◌||◌, List, [], ◌∷◌, ◌++◌, length, map, drop, refl, sym, ap, subst, ◌∙◌, arith, Option, Some, None, ℤ, pos}
 use Rattle.std.specs.Prelude.{◌==◌, ◌≢◌, bytes_eq, find, if◌then◌else◌}
-use Rattle.std.specs.List.{list_any}
 use Rattle.std.specs.Option.{option_map_or}
 use Rattle.std.proofs.lemmas.Bool.{both_ways, eqb-true}
 use Rattle.program_rows.specs.Lines.{LineFields, field}
@@ -13,7 +12,7 @@ use Rattle.mps_reader.specs.inside.Rows.{StampsAre}
 use Rattle.mps_reader.specs.inside.Tracking.{OpenTells}
 use Rattle.mps_reader.specs.declared.open_column.OpenColumn.{OpenColumn}
 use Rattle.mps_reader.proofs.NameFacts.{same_name}
-use Rattle.mps_reader.proofs.PairFaults.{begins, second, without-own}
+use Rattle.mps_reader.proofs.PairFaults.{begins, second, without-own, has_row}
 use Rattle.program_rows.specs.Numbers.{number as token_number}
 use Rattle.std.specs.Bool.{then_some as when}
 
@@ -44,10 +43,6 @@ stamps-same stamps stamp ns has other e h = h ∙ go ns
 
 pub open-same : (o : Option (List ℕ)) (rows : List (List ℕ)) (number other : List ℕ → ℤ) (column : OpenColumn) → ((n : List ℕ) → number n ≡ other n) → OpenTells o rows number column → OpenTells o rows other column
 open-same o rows number other column e h = record { cost = h.cost ∙ e _; entries = λ p n at. h.entries p n at ∙ e n }
-
--- whether a pair names the row
-abbrev pub has_row : List (List ℕ × List ℕ) → List ℕ → Bool
-has_row earlier n = list_any (λ other. bytes_eq n other.0) earlier
 
 pub number-one : (row number : List ℕ) (earlier : List (List ℕ × List ℕ)) (n : List ℕ) → (if bytes_eq n row then value number else number_beside earlier n) ≡ number_beside ((row, number) ∷ earlier) n
 number-one row number earlier n = by (bytes_eq n row)
@@ -116,33 +111,33 @@ two-tells f row number row2 number2 o rows earlier column a differ h = open-same
 abbrev pair_fault : Bool → Bool → List ℕ → Option FaultKind
 pair_fault known repeated number = earliest_fault (when (not known) UnknownRow ∷ when repeated EntryRepeated ∷ number_fault (token_number number) ∷ [])
 
-abbrev entries_fault : List LineFields → (List ℕ → Bool) → LineFields → Option FaultKind
-entries_fault lines stood f = pairs_fault lines (λ pair. None) stood (pairs (drop 1 f))
+abbrev entries_fault : List LineFields → List (List ℕ × List ℕ) → LineFields → Option FaultKind
+entries_fault lines earlier f = pairs_fault lines None earlier (pairs (drop 1 f))
 
-pub first-refused : (lines : List LineFields) (stood : List ℕ → Bool) (f : LineFields) (row number : List ℕ) (known : Bool) (kind : FaultKind) → ((length f == 3) || (length f == 5)) ≡ true → field 1 f ≡ row → field 2 f ≡ number → is_declared lines row ≡ known
-    → pair_fault known (stood row) number ≡ Some kind → entries_fault lines stood f ≡ Some kind
-first-refused lines stood f row number known kind count same told d h = by (length f == 3) refl
+pub first-refused : (lines : List LineFields) (earlier : List (List ℕ × List ℕ)) (f : LineFields) (row number : List ℕ) (known : Bool) (kind : FaultKind) → ((length f == 3) || (length f == 5)) ≡ true → field 1 f ≡ row → field 2 f ≡ number → is_declared lines row ≡ known
+    → pair_fault known (has_row earlier row) number ≡ Some kind → entries_fault lines earlier f ≡ Some kind
+first-refused lines earlier f row number known kind count same told d h = by (length f == 3) refl
   where
-    begun : (more : List (List ℕ × List ℕ)) → pairs (drop 1 f) ≡ (field 1 f, field 2 f) ∷ more → entries_fault lines stood f ≡ Some kind
+    begun : (more : List (List ℕ × List ℕ)) → pairs (drop 1 f) ≡ (field 1 f, field 2 f) ∷ more → entries_fault lines earlier f ≡ Some kind
     begun more e =
         let shown : pairs (drop 1 f) ≡ (row, number) ∷ more = e ∙ rw (same, told) refl in
-        ap (pairs_fault lines (λ pair. None) stood) shown ∙ begins lines (λ pair. None) stood row number more known (Some kind) d (without-own known (stood row) number (Some kind) h)
+        ap (pairs_fault lines None earlier) shown ∙ begins lines None earlier row number more known (Some kind) d (without-own known (has_row earlier row) number (Some kind) h)
 
-    by : (b : Bool) → (length f == 3) ≡ b → entries_fault lines stood f ≡ Some kind
+    by : (b : Bool) → (length f == 3) ≡ b → entries_fault lines earlier f ≡ Some kind
     by true e = begun [] (one-of f (eqb-true _ _ e))
     by false e = begun ((field 3 f, field 4 f) ∷ []) (two-of f (eqb-true _ _ (ap (λ b. b || (length f == 5)) (sym e) ∙ count)))
 
-pub one-told : (lines : List LineFields) (stood : List ℕ → Bool) (f : LineFields) (row number : List ℕ) (known : Bool) → length f ≡ 3 → field 1 f ≡ row → field 2 f ≡ number → is_declared lines row ≡ known → pair_fault known (stood row) number ≡ None → entries_fault lines stood f ≡ None
-one-told lines stood f row number known size same told d h =
+pub one-told : (lines : List LineFields) (earlier : List (List ℕ × List ℕ)) (f : LineFields) (row number : List ℕ) (known : Bool) → length f ≡ 3 → field 1 f ≡ row → field 2 f ≡ number → is_declared lines row ≡ known → pair_fault known (has_row earlier row) number ≡ None → entries_fault lines earlier f ≡ None
+one-told lines earlier f row number known size same told d h =
     let shown : pairs (drop 1 f) ≡ (row, number) ∷ [] = one-of f size ∙ rw (same, told) refl in
-    ap (pairs_fault lines (λ pair. None) stood) shown ∙ begins lines (λ pair. None) stood row number [] known None d (without-own known (stood row) number None h)
+    ap (pairs_fault lines None earlier) shown ∙ begins lines None earlier row number [] known None d (without-own known (has_row earlier row) number None h)
 
-pub second-told : (lines : List LineFields) (stood : List ℕ → Bool) (f : LineFields) (row number row2 number2 : List ℕ) (known known2 : Bool) → AreTwo f row number row2 number2 → is_declared lines row ≡ known → is_declared lines row2 ≡ known2
-    → pair_fault known (stood row) number ≡ None → entries_fault lines stood f ≡ pair_fault known2 (bytes_eq row2 row || stood row2) number2
-second-told lines stood f row number row2 number2 known known2 a d d2 h =
+pub second-told : (lines : List LineFields) (earlier : List (List ℕ × List ℕ)) (f : LineFields) (row number row2 number2 : List ℕ) (known known2 : Bool) → AreTwo f row number row2 number2 → is_declared lines row ≡ known → is_declared lines row2 ≡ known2
+    → pair_fault known (has_row earlier row) number ≡ None → entries_fault lines earlier f ≡ pair_fault known2 (bytes_eq row2 row || has_row earlier row2) number2
+second-told lines earlier f row number row2 number2 known known2 a d d2 h =
     let shown : pairs (drop 1 f) ≡ (row, number) ∷ (row2, number2) ∷ [] = two-of f a.size ∙ rw (a.row-is, a.number-is, a.row2-is, a.number2-is) refl in
-    ap (pairs_fault lines (λ pair. None) stood) shown
-    ∙ second lines (λ pair. None) stood row number row2 number2 known known2 d d2 (without-own known (stood row) number None h) ∙ without-own known2 (bytes_eq row2 row || stood row2) number2 _ refl
+    ap (pairs_fault lines None earlier) shown
+    ∙ second lines None earlier row number row2 number2 known known2 d d2 (without-own known (has_row earlier row) number None h) ∙ without-own known2 (bytes_eq row2 row || has_row earlier row2) number2 _ refl
 
 pub three : (n : ℕ) → ((n == 3) || (n == 5)) ≡ true → n ≢ 5 → n ≡ 3
 three n h ne = by (n == 3) refl

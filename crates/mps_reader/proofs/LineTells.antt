@@ -315,10 +315,10 @@ marker-refused before f fault count m h = rw (count, m) (last-of (marker_fault b
     last-of None e = e
     last-of (Some k) e = e
 
-pub pairs-fault : (before : Sections) (f : LineFields) → ((length f == 3) || (length f == 5)) ≡ true → is_marker f ≡ false → is_split before.columns (field 0 f) ≡ false → column_fault before f ≡ pairs_fault before.rows (λ pair. None) (λ row. list_any (λ other. bytes_eq row other.0) (column_pairs before.columns (field 0 f))) (pairs (drop 1 f))
-pairs-fault before f count m split = rw (count, m, split) (twice (pairs_fault before.rows (λ pair. None) (λ row. list_any (λ other. bytes_eq row other.0) (column_pairs before.columns (field 0 f))) (pairs (drop 1 f))))
+pub pairs-fault : (before : Sections) (f : LineFields) → ((length f == 3) || (length f == 5)) ≡ true → is_marker f ≡ false → is_split before.columns (field 0 f) ≡ false → column_fault before f ≡ pairs_fault before.rows None (column_pairs before.columns (field 0 f)) (pairs (drop 1 f))
+pairs-fault before f count m split = rw (count, m, split) (twice (pairs_fault before.rows None (column_pairs before.columns (field 0 f)) (pairs (drop 1 f))))
   where
-    twice : (o : Option FaultKind) → earliest_fault (earliest_fault (None ∷ o ∷ []) ∷ []) ≡ o
+    twice : (o : Option FaultKind) → earliest_fault (o ∷ []) ≡ o
     twice None = refl
     twice (Some k) = refl
 

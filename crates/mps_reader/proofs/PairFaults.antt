@@ -1,15 +1,19 @@
 -- The checks of the pairs of a line, one after the other.
 use Rattle.std.proofs.Common.{◌≡◌, ℕ, Bool, true, false, not, ◌||◌, List, [], ◌∷◌, refl, sym, ◌∙◌, Option, Some, None}
-use Rattle.std.specs.Prelude.{bytes_eq, is_none, if◌then◌else◌}
+use Rattle.std.specs.Prelude.{◌&&◌, bytes_eq, is_none, if◌then◌else◌, pos}
+use Rattle.std.specs.List.{list_any}
+use Rattle.std.specs.Option.{option_map_or}
+use Rattle.std.specs.Ordering.{int_eq}
+use Rattle.program_rows.specs.Described.{value}
 use Rattle.program_rows.specs.Lines.{LineFields}
 use Rattle.program_rows.specs.Faults.{earliest_fault, number_fault, is_declared, pairs_fault}
 use Rattle.program_rows.specs.declared.fault.FaultKind.{FaultKind}
-use Rattle.program_rows.specs.declared.fault.FaultKind.TheVariants.{UnknownRow, EntryRepeated}
+use Rattle.program_rows.specs.declared.fault.FaultKind.TheVariants.{UnknownRow, EntryRepeated, ObjectiveConstant}
 use Rattle.program_rows.specs.Numbers.{number as token_number}
 use Rattle.std.specs.Bool.{then_some as when}
 use Rattle.std.specs.Option.{option_or}
 
--- those of a pair, whose row is known or not, and repeated or not, and the section's own
+-- those of a pair, whose row is known or not, and repeated or not, and one more
 abbrev pub pair_checks : Bool → Bool → List ℕ → Option FaultKind → Option FaultKind
 pair_checks known repeated number own = earliest_fault (when (not known) UnknownRow ∷ when repeated EntryRepeated ∷ number_fault (token_number number) ∷ own ∷ [])
 
@@ -23,21 +27,28 @@ goes-on true false None (Some kind) more fault h = rw (sym h) refl
 goes-on true false None None None fault h = rw (sym h) refl
 goes-on true false None None (Some kind) fault h = rw (sym h) refl
 
-pub begins : (lines : List LineFields) (own : List ℕ × List ℕ → Option FaultKind) (stood : List ℕ → Bool) (row number : List ℕ) (more : List (List ℕ × List ℕ)) (known : Bool) (fault : Option FaultKind) → is_declared lines row ≡ known
-    → pair_checks known (stood row) number (own (row, number)) ≡ fault → pairs_fault lines own stood ((row, number) ∷ more) ≡ (if is_none fault then pairs_fault lines own (λ n. bytes_eq n row || stood n) more else fault)
-begins lines own stood row number more known fault d h = rw d (goes-on known (stood row) (number_fault (token_number number)) (own (row, number)) (pairs_fault lines own (λ n. bytes_eq n row || stood n) more) fault h)
+-- whether a pair names the row
+abbrev pub has_row : List (List ℕ × List ℕ) → List ℕ → Bool
+has_row earlier n = list_any (λ other. bytes_eq n other.0) earlier
+
+abbrev pub constant_check : Option (List ℕ) → List ℕ → List ℕ → Option FaultKind
+constant_check objective row number = when (option_map_or (bytes_eq row) objective false && not (int_eq (value number) (pos 0))) ObjectiveConstant
+
+pub begins : (lines : List LineFields) (objective : Option (List ℕ)) (earlier : List (List ℕ × List ℕ)) (row number : List ℕ) (more : List (List ℕ × List ℕ)) (known : Bool) (fault : Option FaultKind) → is_declared lines row ≡ known
+    → pair_checks known (has_row earlier row) number (constant_check objective row number) ≡ fault → pairs_fault lines objective earlier ((row, number) ∷ more) ≡ (if is_none fault then pairs_fault lines objective ((row, number) ∷ earlier) more else fault)
+begins lines objective earlier row number more known fault d h = rw d (goes-on known (has_row earlier row) (number_fault (token_number number)) (constant_check objective row number) (pairs_fault lines objective ((row, number) ∷ earlier) more) fault h)
 
 if-none : (fault : Option FaultKind) → (if is_none fault then None else fault) ≡ fault
 if-none None = refl
 if-none (Some kind) = refl
 
 -- the fault of the second of two pairs, where the first has none
-pub second : (lines : List LineFields) (own : List ℕ × List ℕ → Option FaultKind) (stood : List ℕ → Bool) (row number row2 number2 : List ℕ) (known known2 : Bool) → is_declared lines row ≡ known → is_declared lines row2 ≡ known2
-    → pair_checks known (stood row) number (own (row, number)) ≡ None
-    → pairs_fault lines own stood ((row, number) ∷ (row2, number2) ∷ []) ≡ pair_checks known2 (bytes_eq row2 row || stood row2) number2 (own (row2, number2))
-second lines own stood row number row2 number2 known known2 d d2 h =
-    begins lines own stood row number ((row2, number2) ∷ []) known None d h
-    ∙ begins lines own (λ n. bytes_eq n row || stood n) row2 number2 [] known2 (pair_checks known2 (bytes_eq row2 row || stood row2) number2 (own (row2, number2))) d2 refl ∙ if-none _
+pub second : (lines : List LineFields) (objective : Option (List ℕ)) (earlier : List (List ℕ × List ℕ)) (row number row2 number2 : List ℕ) (known known2 : Bool) → is_declared lines row ≡ known → is_declared lines row2 ≡ known2
+    → pair_checks known (has_row earlier row) number (constant_check objective row number) ≡ None
+    → pairs_fault lines objective earlier ((row, number) ∷ (row2, number2) ∷ []) ≡ pair_checks known2 (bytes_eq row2 row || has_row earlier row2) number2 (constant_check objective row2 number2)
+second lines objective earlier row number row2 number2 known known2 d d2 h =
+    begins lines objective earlier row number ((row2, number2) ∷ []) known None d h
+    ∙ begins lines objective ((row, number) ∷ earlier) row2 number2 [] known2 (pair_checks known2 (bytes_eq row2 row || has_row earlier row2) number2 (constant_check objective row2 number2)) d2 refl ∙ if-none _
 
 -- a pair without a check of its section's own
 pub without-own : (known repeated : Bool) (number : List ℕ) (fault : Option FaultKind) → earliest_fault (when (not known) UnknownRow ∷ when repeated EntryRepeated ∷ number_fault (token_number number) ∷ []) ≡ fault → pair_checks known repeated number None ≡ fault

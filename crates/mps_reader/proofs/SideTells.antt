@@ -10,7 +10,7 @@ use denote.Ref.{Bor}
 use Rattle.program_rows.specs.Lines.{LineFields, field}
 use Rattle.program_rows.specs.Sections.{Sections}
 use Rattle.program_rows.specs.Described.{pairs, row_kind_of, value, line_right_sides, first_free, number_beside}
-use Rattle.program_rows.specs.Faults.{earliest_fault, is_declared, constant_fault, pairs_fault, right_side_fault}
+use Rattle.program_rows.specs.Faults.{earliest_fault, is_declared, pairs_fault, right_side_fault}
 use Rattle.program_rows.specs.declared.fault.FaultKind.{FaultKind}
 use Rattle.program_rows.specs.declared.fault.FaultKind.TheVariants.{UnknownRow, EntryRepeated}
 use Rattle.program_rows.specs.declared.row.Row.{Row}
@@ -18,11 +18,11 @@ use Rattle.program_rows.specs.Program.{TableRow}
 use Rattle.program_rows.specs.Parts.{shown_row}
 use Rattle.auction_terms.specs.Borrowed.{bytes_of}
 use Rattle.mps_reader.specs.inside.Rows.{StampsAre, declared_row_names, with_side, rows_by, side_fault}
-use Rattle.mps_reader.proofs.PairFaults.{pair_checks, begins, second}
+use Rattle.mps_reader.proofs.PairFaults.{pair_checks, begins, second, has_row, constant_check}
 use Rattle.mps_reader.proofs.NameFacts.{own_name, length-bytes}
 use Rattle.mps_reader.proofs.RowSteps.{names-shown}
 use Rattle.mps_reader.proofs.PairTells.{flip-name, all-at}
-use Rattle.mps_reader.proofs.EntriesTell.{stamps-same, has_row, number-one, number-two, swap-or}
+use Rattle.mps_reader.proofs.EntriesTell.{stamps-same, number-one, number-two, swap-or}
 use Rattle.std.specs.Bool.{then_some as when}
 
 -- ---- one right side
@@ -107,36 +107,36 @@ two-rows f row number row2 number2 shown earlier lines a differ h = h ∙ rows-s
 
 -- ---- faults
 
-abbrev sides_fault : List LineFields → (List ℕ → Bool) → LineFields → Option FaultKind
-sides_fault lines stood f = pairs_fault lines (constant_fault lines) stood (pairs f)
+abbrev sides_fault : List LineFields → List (List ℕ × List ℕ) → LineFields → Option FaultKind
+sides_fault lines earlier f = pairs_fault lines (first_free lines) earlier (pairs f)
 
-checks-are : (lines : List LineFields) (row number : List ℕ) (known repeated cost : Bool) (fault : Option FaultKind) → option_map_or (bytes_eq row) (first_free lines) false ≡ cost → side_fault known repeated cost number ≡ fault → pair_checks known repeated number (constant_fault lines (row, number)) ≡ fault
+checks-are : (lines : List LineFields) (row number : List ℕ) (known repeated cost : Bool) (fault : Option FaultKind) → option_map_or (bytes_eq row) (first_free lines) false ≡ cost → side_fault known repeated cost number ≡ fault → pair_checks known repeated number (constant_check (first_free lines) row number) ≡ fault
 checks-are lines row number known repeated cost fault o h = ap (λ c. side_fault known repeated c number) o ∙ h
 
-pub first-refused : (lines : List LineFields) (stood : List ℕ → Bool) (f : LineFields) (row number : List ℕ) (known cost : Bool) (kind : FaultKind) → ((length f == 2) || (length f == 4)) ≡ true → field 0 f ≡ row → field 1 f ≡ number
-    → is_declared lines row ≡ known → option_map_or (bytes_eq row) (first_free lines) false ≡ cost → side_fault known (stood row) cost number ≡ Some kind → sides_fault lines stood f ≡ Some kind
-first-refused lines stood f row number known cost kind count same told d o h = by (length f == 2) refl
+pub first-refused : (lines : List LineFields) (earlier : List (List ℕ × List ℕ)) (f : LineFields) (row number : List ℕ) (known cost : Bool) (kind : FaultKind) → ((length f == 2) || (length f == 4)) ≡ true → field 0 f ≡ row → field 1 f ≡ number
+    → is_declared lines row ≡ known → option_map_or (bytes_eq row) (first_free lines) false ≡ cost → side_fault known (has_row earlier row) cost number ≡ Some kind → sides_fault lines earlier f ≡ Some kind
+first-refused lines earlier f row number known cost kind count same told d o h = by (length f == 2) refl
   where
-    begun : (more : List (List ℕ × List ℕ)) → pairs f ≡ (field 0 f, field 1 f) ∷ more → sides_fault lines stood f ≡ Some kind
+    begun : (more : List (List ℕ × List ℕ)) → pairs f ≡ (field 0 f, field 1 f) ∷ more → sides_fault lines earlier f ≡ Some kind
     begun more e =
         let shown : pairs f ≡ (row, number) ∷ more = e ∙ rw (same, told) refl in
-        ap (pairs_fault lines (constant_fault lines) stood) shown ∙ begins lines (constant_fault lines) stood row number more known (Some kind) d (checks-are lines row number known (stood row) cost (Some kind) o h)
+        ap (pairs_fault lines (first_free lines) earlier) shown ∙ begins lines (first_free lines) earlier row number more known (Some kind) d (checks-are lines row number known (has_row earlier row) cost (Some kind) o h)
 
-    by : (b : Bool) → (length f == 2) ≡ b → sides_fault lines stood f ≡ Some kind
+    by : (b : Bool) → (length f == 2) ≡ b → sides_fault lines earlier f ≡ Some kind
     by true e = begun [] (one-pair f (eqb-true _ _ e))
     by false e = begun ((field 2 f, field 3 f) ∷ []) (two-pairs f (eqb-true _ _ (ap (λ b. b || (length f == 4)) (sym e) ∙ count)))
 
-pub one-told : (lines : List LineFields) (stood : List ℕ → Bool) (f : LineFields) (row number : List ℕ) (known cost : Bool) → AreOne f row number → is_declared lines row ≡ known → option_map_or (bytes_eq row) (first_free lines) false ≡ cost
-    → side_fault known (stood row) cost number ≡ None → sides_fault lines stood f ≡ None
-one-told lines stood f row number known cost a d o h =
-    ap (pairs_fault lines (constant_fault lines) stood) (shown-one f row number a) ∙ begins lines (constant_fault lines) stood row number [] known None d (checks-are lines row number known (stood row) cost None o h)
+pub one-told : (lines : List LineFields) (earlier : List (List ℕ × List ℕ)) (f : LineFields) (row number : List ℕ) (known cost : Bool) → AreOne f row number → is_declared lines row ≡ known → option_map_or (bytes_eq row) (first_free lines) false ≡ cost
+    → side_fault known (has_row earlier row) cost number ≡ None → sides_fault lines earlier f ≡ None
+one-told lines earlier f row number known cost a d o h =
+    ap (pairs_fault lines (first_free lines) earlier) (shown-one f row number a) ∙ begins lines (first_free lines) earlier row number [] known None d (checks-are lines row number known (has_row earlier row) cost None o h)
 
-pub second-told : (lines : List LineFields) (stood : List ℕ → Bool) (f : LineFields) (row number row2 number2 : List ℕ) (known known2 cost cost2 : Bool) → AreTwo f row number row2 number2 → is_declared lines row ≡ known → is_declared lines row2 ≡ known2
-    → option_map_or (bytes_eq row) (first_free lines) false ≡ cost → option_map_or (bytes_eq row2) (first_free lines) false ≡ cost2 → side_fault known (stood row) cost number ≡ None → sides_fault lines stood f ≡ side_fault known2 (bytes_eq row2 row || stood row2) cost2 number2
-second-told lines stood f row number row2 number2 known known2 cost cost2 a d d2 o o2 h =
-    ap (pairs_fault lines (constant_fault lines) stood) (shown-two f row number row2 number2 a)
-    ∙ second lines (constant_fault lines) stood row number row2 number2 known known2 d d2 (checks-are lines row number known (stood row) cost None o h)
-    ∙ checks-are lines row2 number2 known2 (bytes_eq row2 row || stood row2) cost2 _ o2 refl
+pub second-told : (lines : List LineFields) (earlier : List (List ℕ × List ℕ)) (f : LineFields) (row number row2 number2 : List ℕ) (known known2 cost cost2 : Bool) → AreTwo f row number row2 number2 → is_declared lines row ≡ known → is_declared lines row2 ≡ known2
+    → option_map_or (bytes_eq row) (first_free lines) false ≡ cost → option_map_or (bytes_eq row2) (first_free lines) false ≡ cost2 → side_fault known (has_row earlier row) cost number ≡ None → sides_fault lines earlier f ≡ side_fault known2 (bytes_eq row2 row || has_row earlier row2) cost2 number2
+second-told lines earlier f row number row2 number2 known known2 cost cost2 a d d2 o o2 h =
+    ap (pairs_fault lines (first_free lines) earlier) (shown-two f row number row2 number2 a)
+    ∙ second lines (first_free lines) earlier row number row2 number2 known known2 d d2 (checks-are lines row number known (has_row earlier row) cost None o h)
+    ∙ checks-are lines row2 number2 known2 (bytes_eq row2 row || has_row earlier row2) cost2 _ o2 refl
 
 pub two : (n : ℕ) → ((n == 2) || (n == 4)) ≡ true → n ≢ 4 → n ≡ 2
 two n h ne = by (n == 2) refl
@@ -163,8 +163,8 @@ line-pairs fields =
     ap (λ n. pairs (drop (n % 2) (bytes_of fields))) (length-bytes fields) ∙ ap pairs (sym (bytes-drop (length fields % 2) fields)) ∙ ap (λ fs. pairs (bytes_of fs)) (sym whole)
 
 pub line-fault : (before : Sections) (f : LineFields) (fault : Option FaultKind) → (nat_le 2 (length f) && nat_le (length f) 5) ≡ true
-    → pairs_fault before.rows (constant_fault before.rows) (has_row (flat_map line_right_sides before.right_sides)) (line_right_sides f) ≡ fault → right_side_fault before f ≡ fault
-line-fault before f fault count h = rw count (last-of (pairs_fault before.rows (constant_fault before.rows) (has_row (flat_map line_right_sides before.right_sides)) (line_right_sides f)) h)
+    → pairs_fault before.rows (first_free before.rows) (flat_map line_right_sides before.right_sides) (line_right_sides f) ≡ fault → right_side_fault before f ≡ fault
+line-fault before f fault count h = rw count (last-of (pairs_fault before.rows (first_free before.rows) (flat_map line_right_sides before.right_sides) (line_right_sides f)) h)
   where
     last-of : (o : Option FaultKind) → o ≡ fault → earliest_fault (o ∷ []) ≡ fault
     last-of None e = e

@@ -137,11 +137,12 @@ fn take_entries<'t>(
     ensures frame { rows.new ≡ record rows.old { stamps = rows.new.stamps } }
     ensures entries { OnOk result (PairsFit stamp rows.old column.old
         → PairsFit stamp rows.new column.new) }
-    ensures fault { (lines : List LineFields) (has : List ℕ → Bool)
+    ensures fault { (lines : List LineFields) (earlier : List (List ℕ × List ℕ))
         → ((name : List ℕ) → is_declared lines name
         ≡ list_any (bytes_eq name) (names_of rows.old.names))
-        → StampsAre rows.old.stamps.items stamp (names_of rows.old.names) has
-        → AnswersFault result (pairs_fault lines (λ pair. None) has
+        → StampsAre rows.old.stamps.items stamp (names_of rows.old.names)
+        (λ row. list_any (λ other. bytes_eq row other.0) earlier)
+        → AnswersFault result (pairs_fault lines None earlier
         (pairs (drop 1 (bytes_of fields.now)))) }
     ensures stamps { OnOk result ((earlier : List (List ℕ × List ℕ))
         → StampsAre rows.old.stamps.items stamp (names_of rows.old.names)

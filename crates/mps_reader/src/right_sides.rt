@@ -6,7 +6,7 @@ ghost use Rattle.std.specs.Option.{option_map_or};
 ghost use Rattle.program_rows.specs.Lines.{LineFields};
 ghost use Rattle.program_rows.specs.Sections.{Sections};
 ghost use Rattle.program_rows.specs.Described.{pairs, value, first_free, number_beside, line_right_sides};
-ghost use Rattle.program_rows.specs.Faults.{is_declared, constant_fault, pairs_fault, right_side_fault};
+ghost use Rattle.program_rows.specs.Faults.{is_declared, pairs_fault, right_side_fault};
 ghost use Rattle.auction_terms.specs.Borrowed.{bytes_of};
 ghost use Rattle.mps_reader.specs.inside.Reading.{AnswersFault};
 ghost use Rattle.std.specs.Ordering.{int_eq};
@@ -88,13 +88,14 @@ fn take_right_sides<'t>(rows: &mut Rows<'t>, stamp: usize, fields: &[&[u8]]) -> 
     ensures count { OnOk result (length rows.new.rows.items ≡ length rows.old.rows.items) }
     ensures objective { rows.new.objective ≡ rows.old.objective }
     ensures names { rows.new.names ≡ rows.old.names }
-    ensures fault { (lines : List LineFields) (has : List ℕ → Bool)
+    ensures fault { (lines : List LineFields) (earlier : List (List ℕ × List ℕ))
         → ((name : List ℕ) → is_declared lines name
         ≡ list_any (bytes_eq name) (names_of rows.old.names))
         → ((name : List ℕ) → option_map_or (bytes_eq name) (first_free lines) false
         ≡ option_map_or (λ other. bytes_eq name other.now) rows.old.objective false)
-        → StampsAre rows.old.stamps.items stamp (names_of rows.old.names) has
-        → AnswersFault result (pairs_fault lines (constant_fault lines) has
+        → StampsAre rows.old.stamps.items stamp (names_of rows.old.names)
+        (λ row. list_any (λ other. bytes_eq row other.0) earlier)
+        → AnswersFault result (pairs_fault lines (first_free lines) earlier
         (pairs (bytes_of fields.now))) }
     ensures stamps { OnOk result ((earlier : List (List ℕ × List ℕ))
         → StampsAre rows.old.stamps.items stamp (names_of rows.old.names)

@@ -10,11 +10,12 @@ use Rattle.program_rows.specs.Sections.{Sections}
 use Rattle.program_rows.specs.Described.{is_one_of, lower, upper, bound_pair}
 use Rattle.program_rows.specs.Faults.{is_binary, stands_in_integers}
 use Rattle.program_rows.specs.Numbers.{number}
-use Rattle.mps_text.specs.Text.{bound_fields, bound_words}
+use Rattle.mps_text.specs.Text.{bound_words}
 use Rattle.mps_text.proofs.RowPhase.{flip}
 use Rattle.mps_text.proofs.ColumnPhase.{same-name}
 use Rattle.mps_text.proofs.Pushed.{push}
 use Rattle.std.specs.Ordering.{int_eq}
+use Rattle.mps_text.proofs.Fields.{bound_fields}
 
 -- whether a line sets a bound of one of these types on a column
 abbrev pub sets : List (List ℕ) → List ℕ → LineFields → Bool

@@ -1,3 +1,4 @@
+pub mod Fields
 pub mod Small
 pub mod Lines
 pub mod Numbers

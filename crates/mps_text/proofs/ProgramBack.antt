@@ -13,7 +13,6 @@ use Rattle.program_rows.specs.Lines.{LineFields}
 use Rattle.program_rows.specs.Sections.{Sections}
 use Rattle.program_rows.specs.Described.{column_lines, first_free, columns_named, table_column, table_rows, program, lower, upper, column_pairs, number_beside, line_right_sides}
 use Rattle.program_rows.specs.Faults.{is_binary, stands_in_integers}
-use Rattle.mps_text.specs.Text.{right_side_fields, bound_fields, row_fields}
 use Rattle.program_rows.specs.Legal.{IsWritable, IsSmall}
 use Rattle.mps_text.proofs.Small.{small_costs, small_entries}
 use Rattle.mps_text.proofs.Numbers.{number-signed_decimal}
@@ -29,6 +28,7 @@ use Rattle.program_rows.specs.ProgramNames.{row_name}
 use Rattle.program_rows.specs.declared.fault.FaultKind.TheVariants.{NotBinary}
 use Rattle.program_rows.specs.declared.bounds.Bounds.TheVariants.{One, Zero, ZeroOrOne}
 use Rattle.std.specs.Ordering.{int_eq}
+use Rattle.mps_text.proofs.Fields.{row_fields, right_side_fields, bound_fields}
 
 abbrev rows_in : Sections → List TableRow
 rows_in before = table_rows before.rows (flat_map line_right_sides before.right_sides)

@@ -11,8 +11,9 @@ use Rattle.program_rows.specs.Lines.{Data}
 use Rattle.program_rows.specs.Sections.{Sections, with_line}
 use Rattle.program_rows.specs.Described.{is_one_of, is_free, row_kind_of}
 use Rattle.program_rows.specs.Faults.{fault, is_declared}
-use Rattle.mps_text.specs.Text.{row_fields, kind_letter}
+use Rattle.mps_text.specs.Text.{kind_letter}
 use Rattle.mps_text.proofs.Blocks.{AreRead}
+use Rattle.mps_text.proofs.Fields.{row_fields}
 
 is_type : (k : RowKind) → is_one_of (kind_letter k) (codes "N" ∷ codes "L" ∷ codes "G" ∷ codes "E" ∷ []) ≡ true
 is_type AtMost = refl

@@ -12,10 +12,11 @@ use Rattle.program_rows.specs.Program.{TableRow}
 use Rattle.program_rows.specs.Lines.{LineFields, field}
 use Rattle.program_rows.specs.Sections.{Sections}
 use Rattle.program_rows.specs.Described.{row_kind_of, is_free, table_rows, line_right_sides, number_beside}
-use Rattle.mps_text.specs.Text.{row_fields, right_side_fields, kind_letter}
+use Rattle.mps_text.specs.Text.{kind_letter}
 use Rattle.mps_text.proofs.Numbers.{IsSmall, number-signed_decimal}
 use Rattle.mps_text.proofs.RowPhase.{bound_rows}
 use Rattle.mps_text.proofs.RightSidePhase.{find-last, find-first}
+use Rattle.mps_text.proofs.Fields.{row_fields, right_side_fields}
 
 abbrev shown : TableRow → List ℕ × List ℕ
 shown r = (r.name, signed_decimal r.right_side)

@@ -1,19 +1,19 @@
 -- The bytes of the lines of each row and column, and of each section.
-use Rattle.std.specs.Prelude.{ℕ, List, [], ◌∷◌, ◌++◌, flat_map, ℤ}
+use Rattle.std.specs.Prelude.{ℕ, List, [], ◌∷◌, ◌++◌, codes, flat_map, ℤ}
 use Rattle.std.specs.Fmt.{signed_decimal}
 use Rattle.program_rows.specs.Program.{TableRow, TableColumn}
 use Rattle.program_rows.specs.Lines.{Data}
-use Rattle.mps_text.specs.Text.{written, row_fields, right_side_fields, bound_fields}
+use Rattle.mps_text.specs.Text.{written, kind_letter, bound_words}
 use Rattle.program_rows.specs.ProgramNames.{row_name}
 
 abbrev pub row_bytes : TableRow → List ℕ
-row_bytes r = written (Data (row_fields r))
+row_bytes r = written (Data (kind_letter r.kind ∷ r.name ∷ []))
 
 abbrev pub right_side_bytes : TableRow → List ℕ
-right_side_bytes r = written (Data (right_side_fields r))
+right_side_bytes r = written (Data (codes "RHS" ∷ r.name ∷ signed_decimal r.right_side ∷ []))
 
 abbrev pub bound_bytes : TableColumn → List ℕ
-bound_bytes c = written (Data (bound_fields c))
+bound_bytes c = written (Data ((bound_words c.bounds).0 ∷ codes "BND" ∷ c.name ∷ (bound_words c.bounds).1 ∷ []))
 
 abbrev pub entry_bytes : List TableRow → List ℕ → ℕ × ℤ → List ℕ
 entry_bytes rows name e = written (Data (name ∷ row_name rows e.0 ∷ signed_decimal e.1 ∷ []))

@@ -6,7 +6,7 @@ use Rattle.program_rows.specs.declared.row.RowKind.{RowKind}
 use Rattle.program_rows.specs.declared.row.RowKind.TheVariants.{AtMost, AtLeast, Equal}
 use Rattle.program_rows.specs.declared.bounds.Bounds.{Bounds}
 use Rattle.program_rows.specs.declared.bounds.Bounds.TheVariants.{ZeroOrOne, Zero, One}
-use Rattle.program_rows.specs.Program.{Table, TableRow, TableColumn}
+use Rattle.program_rows.specs.Program.{Table, TableColumn}
 use Rattle.program_rows.specs.Lines.{Line, Header, Data, LineFields}
 use Rattle.program_rows.specs.ProgramNames.{row_name}
 
@@ -21,24 +21,15 @@ kind_letter AtMost = codes "L"
 kind_letter AtLeast = codes "G"
 kind_letter Equal = codes "E"
 
-abbrev pub row_fields : TableRow → LineFields
-row_fields r = kind_letter r.kind ∷ r.name ∷ []
-
 -- the cost, also if it is 0, and the entries
 abbrev pub column_fields : Table → TableColumn → List LineFields
 column_fields p c = (c.name ∷ p.objective ∷ signed_decimal c.cost ∷ []) ∷ map (λ e. c.name ∷ row_name p.rows e.0 ∷ signed_decimal e.1 ∷ []) c.entries
-
-abbrev pub right_side_fields : TableRow → LineFields
-right_side_fields r = codes "RHS" ∷ r.name ∷ signed_decimal r.right_side ∷ []
 
 -- the type of a bound and its number
 abbrev pub bound_words : Bounds → List ℕ × List ℕ
 bound_words ZeroOrOne = (codes "UP", codes "1")
 bound_words Zero = (codes "FX", codes "0")
 bound_words One = (codes "FX", codes "1")
-
-abbrev pub bound_fields : TableColumn → LineFields
-bound_fields c = (bound_words c.bounds).0 ∷ codes "BND" ∷ c.name ∷ (bound_words c.bounds).1 ∷ []
 
 -- a header and the data lines below it
 abbrev pub block : List ℕ → List LineFields → List Line
@@ -52,9 +43,9 @@ if_any (c ∷ columns) lines = lines
 -- its lines in their order, with the columns between markers
 unfoldable pub text : Table → List ℕ
 text p = flat_map written (
-    Header (codes "NAME") (codes "wdp" ∷ []) ∷ block (codes "ROWS") ((codes "N" ∷ p.objective ∷ []) ∷ map row_fields p.rows)
+    Header (codes "NAME") (codes "wdp" ∷ []) ∷ block (codes "ROWS") ((codes "N" ∷ p.objective ∷ []) ∷ map (λ r. kind_letter r.kind ∷ r.name ∷ []) p.rows)
     ++ block (codes "COLUMNS") (if_any p.columns (
     (codes "M1" ∷ codes "'MARKER'" ∷ codes "'INTORG'" ∷ []) ∷ flat_map (column_fields p) p.columns ++ (codes "M2" ∷ codes "'MARKER'" ∷ codes "'INTEND'" ∷ []) ∷ []))
-    ++ block (codes "RHS") (map right_side_fields p.rows)
-    ++ if_any p.columns (block (codes "BOUNDS") (map bound_fields p.columns))
+    ++ block (codes "RHS") (map (λ r. codes "RHS" ∷ r.name ∷ signed_decimal r.right_side ∷ []) p.rows)
+    ++ if_any p.columns (block (codes "BOUNDS") (map (λ c. (bound_words c.bounds).0 ∷ codes "BND" ∷ c.name ∷ (bound_words c.bounds).1 ∷ []) p.columns))
     ++ Header (codes "ENDATA") [] ∷ [])

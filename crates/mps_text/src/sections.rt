@@ -4,7 +4,7 @@ ghost use Rattle.std.specs.Prelude.{IfSome, ◌≡◌, ◌≤◌, ◌≤ℤ◌, 
 ghost use Rattle.std.specs.Fmt.{signed_decimal};
 ghost use Rattle.program_rows.specs.Lines.{Data};
 ghost use Rattle.program_rows.specs.Parts.{shown_row, shown_column};
-ghost use Rattle.mps_text.specs.Text.{written, row_fields, right_side_fields, bound_fields, kind_letter, bound_words};
+ghost use Rattle.mps_text.specs.Text.{written, kind_letter, bound_words};
 ghost use Rattle.mps_text.specs.Adds.{Adds};
 ghost use Rattle.mps_text.specs.Bytes.{row_bytes, right_side_bytes, bound_bytes, entry_bytes, cost_bytes, column_bytes};
 ghost use Rattle.program_rows.specs.ProgramNames.{row_name};

@@ -92,31 +92,26 @@ is_column columns name = list_any (λ fields. bytes_eq name (field 0 fields)) (c
 abbrev pub is_split : List LineFields → List ℕ → Bool
 is_split columns name = is_column columns name && option_map_or (λ nearest. is_marker nearest || not (bytes_eq name (field 0 nearest))) (slice_get columns 0) false
 
--- the pairs of a line, where some rows stood before; a check of the section's own comes last
-abbrev pub pairs_fault : List LineFields → (List ℕ × List ℕ → Option FaultKind) → (List ℕ → Bool) → List (List ℕ × List ℕ) → Option FaultKind
-pairs_fault rows own stood [] = None
-pairs_fault rows own stood (pair ∷ more) = earliest_fault (
+-- the pairs of a line behind earlier ones, where the objective has no number but 0 if it is told
+abbrev pub pairs_fault : List LineFields → Option (List ℕ) → List (List ℕ × List ℕ) → List (List ℕ × List ℕ) → Option FaultKind
+pairs_fault rows objective earlier [] = None
+pairs_fault rows objective earlier (pair ∷ more) = earliest_fault (
     when (not (is_declared rows pair.0)) UnknownRow
-    ∷ when (stood pair.0) EntryRepeated
+    ∷ when (list_any (λ other. bytes_eq pair.0 other.0) earlier) EntryRepeated
     ∷ number_fault (number pair.1)
-    ∷ own pair
-    ∷ pairs_fault rows own (λ row. bytes_eq row pair.0 || stood row) more ∷ [])
+    ∷ when (option_map_or (bytes_eq pair.0) objective false && not (int_eq (value pair.1) (pos 0))) ObjectiveConstant
+    ∷ pairs_fault rows objective (pair ∷ earlier) more ∷ [])
 
 abbrev pub column_fault : Sections → LineFields → Option FaultKind
 column_fault s fields = earliest_fault (
     when (not ((length fields == 3) || (length fields == 5))) Fields
-    ∷ (if is_marker fields then marker_fault s.columns fields else earliest_fault (
-    when (is_split s.columns (field 0 fields)) ColumnSplit
-    ∷ pairs_fault s.rows (λ pair. None) (λ row. list_any (λ other. bytes_eq row other.0) (column_pairs s.columns (field 0 fields))) (pairs (drop 1 fields)) ∷ [])) ∷ [])
-
--- the objective has no right side but 0
-abbrev pub constant_fault : List LineFields → List ℕ × List ℕ → Option FaultKind
-constant_fault rows pair = when (option_map_or (bytes_eq pair.0) (first_free rows) false && not (int_eq (value pair.1) (pos 0))) ObjectiveConstant
+    ∷ (if is_marker fields then marker_fault s.columns fields else option_or (when (is_split s.columns (field 0 fields)) ColumnSplit)
+    (pairs_fault s.rows None (column_pairs s.columns (field 0 fields)) (pairs (drop 1 fields)))) ∷ [])
 
 abbrev pub right_side_fault : Sections → LineFields → Option FaultKind
 right_side_fault s fields = earliest_fault (
     when (not (nat_le 2 (length fields) && nat_le (length fields) 5)) Fields
-    ∷ pairs_fault s.rows (constant_fault s.rows) (λ row. list_any (λ other. bytes_eq row other.0) (flat_map line_right_sides s.right_sides)) (line_right_sides fields) ∷ [])
+    ∷ pairs_fault s.rows (first_free s.rows) (flat_map line_right_sides s.right_sides) (line_right_sides fields) ∷ [])
 
 -- a bound is 0 or 1
 abbrev pub bound_fault : List LineFields → LineFields → Option FaultKind
@@ -124,9 +119,8 @@ bound_fault columns fields = earliest_fault (
     when (not (is_one_of (field 0 fields) (codes "UP" ∷ codes "LO" ∷ codes "FX" ∷ codes "BV" ∷ []))) BoundType
     ∷ when (not (if is_binary_bound fields then nat_le 2 (length fields) && nat_le (length fields) 4 else nat_le 3 (length fields) && nat_le (length fields) 4)) Fields
     ∷ when (not (is_column columns (field 0 (bound_pair fields)))) UnknownColumn
-    ∷ (if is_binary_bound fields then None else earliest_fault (
-    number_fault (number (field 1 (bound_pair fields)))
-    ∷ when (not (int_eq (value (field 1 (bound_pair fields))) (pos 0) || int_eq (value (field 1 (bound_pair fields))) (pos 1))) BoundValue ∷ [])) ∷ [])
+    ∷ (if is_binary_bound fields then None else option_or (number_fault (number (field 1 (bound_pair fields))))
+    (when (not (int_eq (value (field 1 (bound_pair fields))) (pos 0) || int_eq (value (field 1 (bound_pair fields))) (pos 1))) BoundValue)) ∷ [])
 
 -- the fault of a line, given the lines gathered before it: a data line's by the section that is open
 unfoldable pub fault : Sections → Line → Option FaultKind

@@ -1,12 +1,12 @@
 -- What the code holds and answers, as lines and faults of the definitions.
-use Rattle.std.specs.Prelude.{◌≡◌, ℕ, ◌≤◌, Bool, not, ◌||◌, ◌&&◌, nat_le, List, [], ◌∷◌, length, take, Option, Some, None, Result, Ok, Err, pos, drop}
+use Rattle.std.specs.Prelude.{◌≡◌, ℕ, ◌≤◌, Bool, not, ◌||◌, ◌&&◌, nat_le, List, length, take, Option, Some, None, Result, Ok, Err, pos, drop}
 use Rattle.std.specs.List.{AllByRecursion}
 use Rattle.std.specs.Ordering.{int_eq}
 use Rattle.program_rows.specs.Lines as spec
 use Rattle.program_rows.specs.Lines.{fields, is_space, line_of}
 use Rattle.program_rows.specs.Numbers.{number}
 use Rattle.program_rows.specs.Described.{value}
-use Rattle.program_rows.specs.Faults.{earliest_fault, number_fault}
+use Rattle.program_rows.specs.Faults.{number_fault}
 use Rattle.program_rows.specs.Parts.{IsName}
 use Rattle.program_rows.specs.declared.fault.FaultKind.{FaultKind}
 use Rattle.program_rows.specs.declared.fault.FaultKind.TheVariants.{BoundValue}
@@ -16,6 +16,7 @@ use Rattle.mps_reader.specs.declared.refusal.Refusal.{Refusal}
 use Rattle.mps_reader.specs.declared.refusal.Refusal.TheVariants.{Memory, Fault}
 use Rattle.auction_terms.specs.Borrowed.{bytes_of}
 use Rattle.std.specs.Bool.{then_some as when}
+use Rattle.std.specs.Option.{option_or}
 
 -- a byte that is no white space
 abbrev pub is_other : ℕ → Bool
@@ -52,4 +53,4 @@ AnswersUpTo (Err (Fault kind)) fault last = fault ≡ Some kind
 
 -- a number that is 0 or 1
 abbrev pub bit_fault : List ℕ → Option FaultKind
-bit_fault token = earliest_fault (number_fault (number token) ∷ when (not (int_eq (value token) (pos 0) || int_eq (value token) (pos 1))) BoundValue ∷ [])
+bit_fault token = option_or (number_fault (number token)) (when (not (int_eq (value token) (pos 0) || int_eq (value token) (pos 1))) BoundValue)

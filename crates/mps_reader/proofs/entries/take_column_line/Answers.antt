@@ -50,7 +50,7 @@ returns-in_err-take_entries-clause-fault c = λ before d both h at.
     let r : c.from_residual-in_err-take_entries.result ≡ Err c.in_err-take_entries.field-0.0 = search rules in
     handed-on (Unit {0}) c.from_residual-in_err-take_entries.result c.in_err-take_entries.field-0.0 _ _ r
     (λ kind k. pairs-fault before fields count marker (not-split before fields c.args.columns.now (get_or c.args.fields.now 0 no_name).now named at.current h.names c.in_ok-open_column.ensures.fault) ∙ k)
-    (c.in_err-take_entries.ensures.fault before.rows (λ row. list_any (λ other. bytes_eq row other.0) (column_pairs before.columns (field 0 fields))) d stamps)
+    (c.in_err-take_entries.ensures.fault before.rows (column_pairs before.columns (field 0 fields)) d stamps)
 
 pub returns-clause-fault : goal.returns-clause-fault
 returns-clause-fault c = λ before d both h at.
@@ -64,7 +64,7 @@ returns-clause-fault c = λ before d both h at.
     let stamp : c.len.result ≡ length (names_of c.open_column.new.columns.names) = c.len.ensures.len ∙ sym (length-bytes c.open_column.new.columns.names.keys) in
     let stamps = subst (λ n. StampsAre c.args.rows.now.stamps.items n (names_of c.args.rows.now.names) (λ row. list_any (λ other. bytes_eq row other.0) (column_pairs before.columns (field 0 fields)))) (sym stamp) ready.stamps in
     pairs-fault before fields count marker (not-split before fields c.args.columns.now (get_or c.args.fields.now 0 no_name).now named at.current h.names c.in_ok-open_column.ensures.fault)
-    ∙ c.in_ok-take_entries.ensures.fault before.rows (λ row. list_any (λ other. bytes_eq row other.0) (column_pairs before.columns (field 0 fields))) d stamps
+    ∙ c.in_ok-take_entries.ensures.fault before.rows (column_pairs before.columns (field 0 fields)) d stamps
 
 pub returns-clause-tells : goal.returns-clause-tells
 returns-clause-tells c = λ lines both h at.

@@ -10,23 +10,23 @@ use Rattle.mps_reader.proofs.NameFacts.{length-bytes, or-false}
 use Rattle.mps_reader.proofs.RowSteps.{no_name, field-at}
 use Rattle.mps_reader.proofs.AnswerFacts.{handed-on}
 use Rattle.mps_reader.proofs.EntriesTell.{one-stamps, one-tells, two-stamps, two-tells, first-refused, one-told, second-told, AreTwo, three}
-use Rattle.mps_reader.proofs.PairFaults.{not-repeated}
+use Rattle.mps_reader.proofs.PairFaults.{not-repeated, has_row}
 use Rattle.mps_reader.proofs.entries.take_entries.Goals as goal
 
 pub returns-in_err-take_entry-clause-fault : goal.returns-in_err-take_entry-clause-fault
-returns-in_err-take_entry-clause-fault c = λ lines has d s.
+returns-in_err-take_entry-clause-fault c = λ lines earlier d s.
     let fields = bytes_of c.args.fields.now in
     let count = ap (λ (n : ℕ). (n == 3) || (n == 5)) (length-bytes c.args.fields.now) ∙ c.requires.count in
     let r : c.from_residual.result ≡ Err c.in_err-take_entry.field-0.0 = search rules in
     handed-on (Unit {0}) c.from_residual.result c.in_err-take_entry.field-0.0 _ _ r
-    (λ kind. first-refused lines has fields (get_or c.args.fields.now 1 no_name).now (get_or c.args.fields.now 2 no_name).now (list_any (bytes_eq (get_or c.args.fields.now 1 no_name).now) (names_of c.args.rows.now.names)) kind count (field-at c.args.fields.now 1 (omega arith)) (field-at c.args.fields.now 2 (omega arith)) (d _))
-    (c.in_err-take_entry.ensures.fault has s)
+    (λ kind. first-refused lines earlier fields (get_or c.args.fields.now 1 no_name).now (get_or c.args.fields.now 2 no_name).now (list_any (bytes_eq (get_or c.args.fields.now 1 no_name).now) (names_of c.args.rows.now.names)) kind count (field-at c.args.fields.now 1 (omega arith)) (field-at c.args.fields.now 2 (omega arith)) (d _))
+    (c.in_err-take_entry.ensures.fault (has_row earlier) s)
 
 pub returns-clause-fault : goal.returns-clause-fault
-returns-clause-fault c = λ lines has d s.
+returns-clause-fault c = λ lines earlier d s.
     let fields = bytes_of c.args.fields.now in
     let size : length fields ≡ 3 = length-bytes c.args.fields.now ∙ three (length c.args.fields.now) c.requires.count c.if-fields-eq5.false in
-    one-told lines has fields (get_or c.args.fields.now 1 no_name).now (get_or c.args.fields.now 2 no_name).now (list_any (bytes_eq (get_or c.args.fields.now 1 no_name).now) (names_of c.args.rows.now.names)) size (field-at c.args.fields.now 1 (omega arith)) (field-at c.args.fields.now 2 (omega arith)) (d _) (c.in_ok-take_entry.ensures.fault has s)
+    one-told lines earlier fields (get_or c.args.fields.now 1 no_name).now (get_or c.args.fields.now 2 no_name).now (list_any (bytes_eq (get_or c.args.fields.now 1 no_name).now) (names_of c.args.rows.now.names)) size (field-at c.args.fields.now 1 (omega arith)) (field-at c.args.fields.now 2 (omega arith)) (d _) (c.in_ok-take_entry.ensures.fault (has_row earlier) s)
 
 pub returns-clause-stamps : goal.returns-clause-stamps
 returns-clause-stamps c = λ earlier h.
@@ -42,7 +42,7 @@ returns-clause-tells c = λ fits earlier s h.
     (field-at c.args.fields.now 1 (omega arith)) (field-at c.args.fields.now 2 (omega arith)) (c.in_ok-take_entry.ensures.tells fits (number_beside earlier) h)
 
 pub returns-in_err-take_entry-2-clause-fault : goal.returns-in_err-take_entry-2-clause-fault
-returns-in_err-take_entry-2-clause-fault c = λ lines has d s.
+returns-in_err-take_entry-2-clause-fault c = λ lines earlier d s.
     let fields = bytes_of c.args.fields.now in
     let kept : names_of c.take_entry.new.rows.names ≡ names_of c.args.rows.now.names = ap (λ q. names_of q.names) c.in_ok-take_entry.ensures.frame in
     let two : AreTwo fields (get_or c.args.fields.now 1 no_name).now (get_or c.args.fields.now 2 no_name).now (get_or c.args.fields.now 3 no_name).now (get_or c.args.fields.now 4 no_name).now = record {
@@ -54,13 +54,13 @@ returns-in_err-take_entry-2-clause-fault c = λ lines has d s.
     } in
     let r : c.from_residual-in_err-take_entry-2.result ≡ Err c.in_err-take_entry-2.field-0.0 = search rules in
     handed-on (Unit {0}) c.from_residual-in_err-take_entry-2.result c.in_err-take_entry-2.field-0.0 _ _ r
-    (λ kind h. second-told lines has fields (get_or c.args.fields.now 1 no_name).now (get_or c.args.fields.now 2 no_name).now (get_or c.args.fields.now 3 no_name).now (get_or c.args.fields.now 4 no_name).now
+    (λ kind h. second-told lines earlier fields (get_or c.args.fields.now 1 no_name).now (get_or c.args.fields.now 2 no_name).now (get_or c.args.fields.now 3 no_name).now (get_or c.args.fields.now 4 no_name).now
     (list_any (bytes_eq (get_or c.args.fields.now 1 no_name).now) (names_of c.args.rows.now.names)) (list_any (bytes_eq (get_or c.args.fields.now 3 no_name).now) (names_of c.take_entry.new.rows.names)) two (d _) (d _ ∙ ap (list_any (bytes_eq (get_or c.args.fields.now 3 no_name).now)) (sym kept))
-    (c.in_ok-take_entry.ensures.fault has s) ∙ h)
-    (c.in_err-take_entry-2.ensures.fault (λ r. bytes_eq r (get_or c.args.fields.now 1 no_name).now || has r) (subst (λ ns. StampsAre c.take_entry.new.rows.stamps.items c.args.stamp ns (λ r. bytes_eq r (get_or c.args.fields.now 1 no_name).now || has r)) (sym kept) (c.in_ok-take_entry.ensures.stamps has s)))
+    (c.in_ok-take_entry.ensures.fault (has_row earlier) s) ∙ h)
+    (c.in_err-take_entry-2.ensures.fault (λ r. bytes_eq r (get_or c.args.fields.now 1 no_name).now || has_row earlier r) (subst (λ ns. StampsAre c.take_entry.new.rows.stamps.items c.args.stamp ns (λ r. bytes_eq r (get_or c.args.fields.now 1 no_name).now || has_row earlier r)) (sym kept) (c.in_ok-take_entry.ensures.stamps (has_row earlier) s)))
 
 pub returns-then-fields-eq5-clause-fault : goal.returns-then-fields-eq5-clause-fault
-returns-then-fields-eq5-clause-fault c = λ lines has d s.
+returns-then-fields-eq5-clause-fault c = λ lines earlier d s.
     let fields = bytes_of c.args.fields.now in
     let kept : names_of c.take_entry.new.rows.names ≡ names_of c.args.rows.now.names = ap (λ q. names_of q.names) c.in_ok-take_entry.ensures.frame in
     let two : AreTwo fields (get_or c.args.fields.now 1 no_name).now (get_or c.args.fields.now 2 no_name).now (get_or c.args.fields.now 3 no_name).now (get_or c.args.fields.now 4 no_name).now = record {
@@ -70,10 +70,10 @@ returns-then-fields-eq5-clause-fault c = λ lines has d s.
       row2-is = field-at c.args.fields.now 3 (omega (arith, c.if-fields-eq5.true));
       number2-is = field-at c.args.fields.now 4 (omega (arith, c.if-fields-eq5.true));
     } in
-    second-told lines has fields (get_or c.args.fields.now 1 no_name).now (get_or c.args.fields.now 2 no_name).now (get_or c.args.fields.now 3 no_name).now (get_or c.args.fields.now 4 no_name).now
+    second-told lines earlier fields (get_or c.args.fields.now 1 no_name).now (get_or c.args.fields.now 2 no_name).now (get_or c.args.fields.now 3 no_name).now (get_or c.args.fields.now 4 no_name).now
     (list_any (bytes_eq (get_or c.args.fields.now 1 no_name).now) (names_of c.args.rows.now.names)) (list_any (bytes_eq (get_or c.args.fields.now 3 no_name).now) (names_of c.take_entry.new.rows.names)) two (d _) (d _ ∙ ap (list_any (bytes_eq (get_or c.args.fields.now 3 no_name).now)) (sym kept))
-    (c.in_ok-take_entry.ensures.fault has s)
-    ∙ c.in_ok-take_entry-2.ensures.fault (λ r. bytes_eq r (get_or c.args.fields.now 1 no_name).now || has r) (subst (λ ns. StampsAre c.take_entry.new.rows.stamps.items c.args.stamp ns (λ r. bytes_eq r (get_or c.args.fields.now 1 no_name).now || has r)) (sym kept) (c.in_ok-take_entry.ensures.stamps has s))
+    (c.in_ok-take_entry.ensures.fault (has_row earlier) s)
+    ∙ c.in_ok-take_entry-2.ensures.fault (λ r. bytes_eq r (get_or c.args.fields.now 1 no_name).now || has_row earlier r) (subst (λ ns. StampsAre c.take_entry.new.rows.stamps.items c.args.stamp ns (λ r. bytes_eq r (get_or c.args.fields.now 1 no_name).now || has_row earlier r)) (sym kept) (c.in_ok-take_entry.ensures.stamps (has_row earlier) s))
 
 pub returns-then-fields-eq5-clause-stamps : goal.returns-then-fields-eq5-clause-stamps
 returns-then-fields-eq5-clause-stamps c = λ earlier h.

@@ -1,13 +1,13 @@
 use Rattle.std.proofs.Common.{rules, ◌≡◌, ◌&&◌, ◌++◌, ◌∙◌, ap, sym, subst, ℕ, Some, None}
 use Rattle.std.specs.Prelude.{Err, nat_le, flat_map}
-use Rattle.program_rows.specs.Described.{number_beside, line_right_sides}
-use Rattle.program_rows.specs.Faults.{constant_fault, pairs_fault}
+use Rattle.program_rows.specs.Described.{number_beside, line_right_sides, first_free}
+use Rattle.program_rows.specs.Faults.{pairs_fault}
 use Rattle.auction_terms.specs.Borrowed.{bytes_of}
 use Rattle.mps_reader.specs.inside.Rows.{names_of, option_now, StampsAre, rows_by, bound_lines_of}
 use Rattle.mps_reader.proofs.NameFacts.{length-bytes}
 use Rattle.mps_reader.proofs.AnswerFacts.{handed-on}
 use Rattle.mps_reader.proofs.SideTells.{line-pairs, line-fault}
-use Rattle.mps_reader.proofs.EntriesTell.{has_row}
+use Rattle.mps_reader.proofs.PairFaults.{has_row}
 use Rattle.mps_reader.proofs.right_sides.take_right_side_line.Goals as goal
 
 pub returns-in_err-take_right_sides-clause-fault : goal.returns-in_err-take_right_sides-clause-fault
@@ -17,15 +17,15 @@ returns-in_err-take_right_sides-clause-fault c = λ before d o s.
     let count = ap (λ (n : ℕ). nat_le 2 n && nat_le n 5) (length-bytes c.args.fields.now) ∙ sym c.is_two_to_five.ensures.value ∙ c.if-not-is_two_to_five.false in
     let r : c.from_residual.result ≡ Err c.in_err-take_right_sides.field-0.0 = search rules in
     handed-on (Unit {0}) c.from_residual.result c.in_err-take_right_sides.field-0.0 _ _ r
-    (λ kind h. line-fault before fields (Some kind) count (ap (pairs_fault before.rows (constant_fault before.rows) (has_row (flat_map line_right_sides before.right_sides))) shown ∙ h))
-    (c.in_err-take_right_sides.ensures.fault before.rows (has_row (flat_map line_right_sides before.right_sides)) d o s)
+    (λ kind h. line-fault before fields (Some kind) count (ap (pairs_fault before.rows (first_free before.rows) (flat_map line_right_sides before.right_sides)) shown ∙ h))
+    (c.in_err-take_right_sides.ensures.fault before.rows (flat_map line_right_sides before.right_sides) d o s)
 
 pub returns-clause-fault : goal.returns-clause-fault
 returns-clause-fault c = λ before d o s.
     let fields = bytes_of c.args.fields.now in
     let shown = line-pairs c.args.fields.now in
     let count = ap (λ (n : ℕ). nat_le 2 n && nat_le n 5) (length-bytes c.args.fields.now) ∙ sym c.is_two_to_five.ensures.value ∙ c.if-not-is_two_to_five.false in
-    line-fault before fields None count (ap (pairs_fault before.rows (constant_fault before.rows) (has_row (flat_map line_right_sides before.right_sides))) shown ∙ c.in_ok-take_right_sides.ensures.fault before.rows (has_row (flat_map line_right_sides before.right_sides)) d o s)
+    line-fault before fields None count (ap (pairs_fault before.rows (first_free before.rows) (flat_map line_right_sides before.right_sides)) shown ∙ c.in_ok-take_right_sides.ensures.fault before.rows (flat_map line_right_sides before.right_sides) d o s)
 
 pub returns-clause-stamps : goal.returns-clause-stamps
 returns-clause-stamps c = λ rights s.
