@@ -1,5 +1,5 @@
 -- What the records of the rules after the header tell, one kind beside the other, and the rules that they make.
-use Rattle.std.specs.Prelude.{◌≤◌, Bool, ◌&&◌, ℕ, List, ◌++◌, length, map, find, All}
+use Rattle.std.specs.Prelude.{Bool, ◌&&◌, ℕ, List, map, find}
 use Rattle.std.specs.Option.{option_map_or}
 use Rattle.std.specs.Str.{bytes_eq}
 use Rattle.auction_terms.specs.Terms.{Terms}

@@ -1,5 +1,5 @@
 -- What presolve keeps of a book, and what stands in for a bid that it drops.
-use Rattle.std.specs.Prelude.{◌≡◌, ◌⊎◌, ℕ, ◌+◌, ◌≤◌, pos, ◌<ℤ◌, int_le, Bool, true, false, not, ◌&&◌, List, [], ◌∷◌, ◌++◌, Some, filter, flat_map, map, All}
+use Rattle.std.specs.Prelude.{◌≡◌, ◌⊎◌, ℕ, ◌≤◌, pos, ◌<ℤ◌, int_le, Bool, true, false, not, ◌&&◌, List, Some, filter, flat_map, map, All}
 use Rattle.std.specs.List.{enumerate_from}
 use Rattle.std.specs.Option.{option_map_or}
 use Rattle.auction_terms.specs.declared.bids.Bid.{Bid}

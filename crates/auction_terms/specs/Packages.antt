@@ -1,5 +1,5 @@
 -- Packages as lists of quantities, their order, and what is for sale.
-use Rattle.std.specs.Prelude.{◌≡◌, ◌≤◌, ◌+◌, ◌*◌, ◌-◌, ℕ, Bool, true, not, ◌&&◌, nat_le, List, [], ◌∷◌, length, slice_index_or, All}
+use Rattle.std.specs.Prelude.{◌≡◌, ◌≤◌, ◌+◌, ◌*◌, ◌-◌, ℕ, Bool, true, ◌&&◌, nat_le, List, [], ◌∷◌, length, slice_index_or, All}
 use Rattle.std.specs.List.{list_all}
 use Rattle.auction_terms.specs.declared.limits.TheConstants.{GREATEST_QUANTITY, MOST_CATEGORIES}
 

@@ -1,7 +1,6 @@
 -- What the rules of an auction say, and their limits.
-use Rattle.std.specs.Prelude.{◌≡◌, ◌≢◌, ◌≤◌, ℕ, Bool, List, length, map, nat_lt, sum_by, All, AllPairs}
-use Rattle.std.specs.List.{list_any}
-use Rattle.auction_terms.specs.Packages.{Lots, WeightedCap}
+use Rattle.std.specs.Prelude.{◌≡◌, ◌≢◌, ◌≤◌, ℕ, List, length, map, sum_by, All, AllPairs}
+use Rattle.auction_terms.specs.Packages.{Lots}
 use Rattle.auction_terms.specs.declared.rules.Category.{Category}
 use Rattle.auction_terms.specs.declared.rules.Bidder.{Bidder}
 use Rattle.auction_terms.specs.declared.rules.Pool.{Pool}

@@ -1,5 +1,5 @@
 -- What a form says: a bidder and its bids; and when bids meet rules.
-use Rattle.std.specs.Prelude.{◌≢◌, ◌≤◌, ◌+◌, ◌-◌, ◌*◌, ◌%◌, ◌==◌, ◌&&◌, Bool, not, ℕ, List, [], ◌∷◌, Option, None, Some, if◌then◌else◌, All, AllPairs, IsTrue, length, map, nat_eq, nat_le, slice_index}
+use Rattle.std.specs.Prelude.{◌≢◌, ◌≤◌, ◌-◌, ◌%◌, ◌==◌, ◌&&◌, Bool, not, ℕ, List, Option, All, AllPairs, IsTrue, length, map, nat_eq, nat_le, slice_index}
 use Rattle.std.specs.List.{list_all, position_from}
 use Rattle.std.specs.Cmp.Lexicographic.{pointwise}
 use Rattle.auction_terms.specs.Packages.{IsPackage, weighed}

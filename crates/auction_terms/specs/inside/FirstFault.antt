@@ -1,5 +1,5 @@
 -- The first fault of a list whose items are checked one after the other, each given those before it.
-use Rattle.std.specs.Prelude.{◌≡◌, Bool, List, [], ◌∷◌, ◌++◌, Option, Some, None, Result, Ok, Err, ⊤, if◌then◌else◌}
+use Rattle.std.specs.Prelude.{◌≡◌, Bool, Option, Some, None, Result, Ok, Err, ⊤}
 use Rattle.std.specs.Bool.{MatchBool}
 
 -- the result is the value where no check found a fault, and else that fault, or memory was short

@@ -1,5 +1,5 @@
 -- The text of the bidder groups, line by line.
-use Rattle.std.specs.Prelude.{◌+◌, not, ◌==◌, ℕ, List, [], ◌∷◌, Option, filter, length, map, nat_le}
+use Rattle.std.specs.Prelude.{not, ◌==◌, ℕ, List, [], ◌∷◌, Option, filter, length, map, nat_le}
 use Rattle.std.specs.Option.{option_or}
 use Rattle.std.specs.List.{enumerate_from, list_any}
 use Rattle.std.specs.Str.{bytes_eq}

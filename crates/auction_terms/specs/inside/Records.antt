@@ -1,6 +1,6 @@
 -- The records of a text, as `csv` gives them: commas, double quotes, records of any length, no header row.
 use Rattle.std.specs.Prelude.{◌≡◌, ◌+◌, true, false, ℕ, List, [], Option, Some, None, length}
-use Rattle.csv.specs.Reading.{Ready, default_config, has_failed, is_flexible, reader_config, reader_state, reader_trim, records, records_from, source_of, strip_bom}
+use Rattle.csv.specs.Reading.{Ready, default_config, has_failed, is_flexible, reader_config, reader_state, reader_trim, records_from, source_of}
 use Rattle.csv.specs.declared.parser.State.{State}
 use Rattle.csv.specs.declared.reader.Reader.{Reader}
 use Rattle.csv.specs.declared.reader.Trim.TheVariants as trim

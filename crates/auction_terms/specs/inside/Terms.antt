@@ -1,5 +1,5 @@
 -- What the rules of an auction say, and their limits.
-use Rattle.std.specs.Prelude.{◌≡◌, ◌≢◌, ◌≤◌, ℕ, Bool, List, length, map, nat_lt, sum_by, All, AllPairs}
+use Rattle.std.specs.Prelude.{Bool, List, nat_lt}
 use Rattle.std.specs.List.{list_any}
 use Rattle.auction_terms.specs.Packages.{WeightedCap}
 use Rattle.auction_terms.specs.declared.rules.Category.{Category}

@@ -1,4 +1,4 @@
-use Rattle.std.proofs.Common.{◌≡◌, ◌∷◌, [], map, refl}
+use Rattle.std.proofs.Common.{◌∷◌, [], refl}
 use Rattle.std.proofs.lemmas.List.{map-append}
 use Rattle.auction_terms.specs.Entries.{pool_with}
 use Rattle.auction_terms.proofs.draft.weighed_pools.Goals as goal

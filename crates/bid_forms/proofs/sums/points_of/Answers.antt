@@ -1,5 +1,4 @@
-use Rattle.std.proofs.Common.{◌≡◌, rules, refl, slice_index_or}
-use Rattle.std.specs.Prelude.{slice_index}
+use Rattle.std.proofs.Common.{rules}
 use Rattle.auction_terms.specs.declared.rules.Category.{Category}
 use Rattle.bid_forms.proofs.PackageFacts.{weighed-more}
 use Rattle.bid_forms.proofs.sums.points_of.Goals as goal
