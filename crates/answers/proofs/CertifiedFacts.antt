@@ -14,8 +14,9 @@ use Rattle.optimality.specs.Verdict.{certificate_fault}
 use Rattle.optimality.specs.declared.fault.CertificateFault.{CertificateFault}
 use Rattle.optimality.specs.declared.fault.FaultKind.{FaultKind}
 use Rattle.optimality.specs.declared.fault.FaultKind.TheVariants as kind
-use Rattle.answers.specs.Certified.{ClaimedBound, bounds_of, certificate_refused, certified, shown}
-use Rattle.auction_input.specs.Refused.{Refuses, Refusal, Refused}
+use Rattle.answers.specs.Certified.{ClaimedBound, bounds_of, certified, shown}
+use Rattle.auction_input.specs.Refused.{Refuses}
+use Rattle.auction_input.specs.declared.refusal.Refusal.{Refusal}
 use Rattle.auction_input.specs.Settled.{held}
 use Rattle.answers.specs.Exact.{IsTooWide}
 use Rattle.answers.specs.inside.Judging.{AllShown, IsFirstFaulty, IsJudged, bounds_by, bound_held}
@@ -35,7 +36,7 @@ ok = Ok tt
 
 -- a certificate whose verdict is Ok shows what it is to
 shown-ok : (book : Closing) (n : ℕ) (b : code.ClaimedBound) → IsJudged book b ok → shown n (bound_held book b) ≡ Ok tt
-shown-ok book n b judged = ap (λ (f : Option (ℕ × FaultKind)). unless (option_map (certificate_refused n) f) (Ok tt)) judged.is
+shown-ok book n b judged = ap (λ (f : Option (ℕ × FaultKind)). unless (option_map (λ (f : ℕ × FaultKind). refusal.Certificate n (record { line = f.0; kind = f.1 })) f) (Ok tt)) judged.is
 
 -- as many as there are
 pub all-shown : (book : Closing) (n : ℕ) (bounds : List code.ClaimedBound) (count : ℕ) → AllZip (IsJudged book) bounds (replicate count ok)
@@ -56,7 +57,7 @@ first-stops : (book : Closing) (n : ℕ) (b : code.ClaimedBound) (bounds : List 
 first-stops book n b bounds f (inl (inl memory)) = by_memory memory
 first-stops book n b bounds f (inl (inr large)) = by_width large (omega arith) refl
 first-stops book n b bounds f (inr found) =
-    let told : shown n (bound_held book b) ≡ Err (refusal.Certificate n f) = ap (λ (o : Option (ℕ × FaultKind)). unless (option_map (certificate_refused n) o) (Ok tt)) found in
+    let told : shown n (bound_held book b) ≡ Err (refusal.Certificate n f) = ap (λ (o : Option (ℕ × FaultKind)). unless (option_map (λ (f : ℕ × FaultKind). refusal.Certificate n (record { line = f.0; kind = f.1 })) o) (Ok tt)) found in
     let here : n + 0 ≡ n = omega arith in
     by_fault (rw (told, here) refl)
 
@@ -87,7 +88,7 @@ refusal-at bounds before line k (by_fault told) =
 pub ends-checks : (book : Closing) (bounds : List code.ClaimedBound) (verdicts : List Verdict) (r : Refusal) → AllZip (IsJudged book) bounds verdicts → IsFirstFaulty verdicts r → EndsChecks (map (bound_held book) bounds) r
 ends-checks book bounds verdicts (refusal.Certificate n f) each (before, after, are, number) =
     let stopped = stops book 1 bounds before f after (rw are at each) in
-    rw number (refusal-at (map (bound_held book) bounds) before f.line f.kind stopped)
+    subst (λ (m : ℕ). EndsChecks (map (bound_held book) bounds) (refusal.Certificate m f)) (sym number) (refusal-at (map (bound_held book) bounds) before f.line f.kind stopped)
 ends-checks book bounds verdicts r each is = absurd is
 
 -- where no verdict is a fault, all certificates show what they are to
@@ -124,11 +125,11 @@ module _ (auction : declared.Auction) (won : List (List Choice)) where
     goes-over = (let equal : (length texts == length auction.groups) ≡ true = eq-eqb _ _ counted-so in rw equal refl)
 
     pub are-certified : (bounds : List ClaimedBound) → bounds ≡ bounds_of (held auction) won → AllShown bounds → certified (held auction) won ≡ Ok won
-    are-certified bounds same (all, told) = goes-over ∙ ap (λ (r : Result (List (Unit {0})) Refused). and_then r (λ units. Ok won)) (rw same at told)
+    are-certified bounds same (all, told) = goes-over ∙ ap (λ (r : Result (List (Unit {0})) Refusal). and_then r (λ units. Ok won)) (rw same at told)
 
     pub are-refused : (bounds : List ClaimedBound) (r : Refusal) → bounds ≡ bounds_of (held auction) won → EndsChecks bounds r
         → Refuses (certified (held auction) won) r ⊎ ((length (held auction).certificates ≡ length auction.groups) × IsTooWide (bounds_of (held auction) won) r)
-    are-refused bounds r same (inl refused) = inl (subst (λ (told : Result (List (List Choice)) Refused). Refuses told r) (sym goes-over) (stop _ _ r (subst (λ (bs : List ClaimedBound). Refuses (each_in_turn shown 1 bs) r) same refused)))
+    are-refused bounds r same (inl refused) = inl (subst (λ (told : Result (List (List Choice)) Refusal). Refuses told r) (sym goes-over) (stop _ _ r (subst (λ (bs : List ClaimedBound). Refuses (each_in_turn shown 1 bs) r) same refused)))
     are-refused bounds r same (inr wide) = inr (counted-so, subst (λ (bs : List ClaimedBound). IsTooWide bs r) same wide)
 
     pub are-certified-by : (bounds : List ClaimedBound) (r : Result (Unit {0}) Refusal) → bounds ≡ bounds_of (held auction) won → OnOk r (AllShown bounds) → OnOk r (certified (held auction) won ≡ Ok won)

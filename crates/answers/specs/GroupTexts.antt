@@ -5,7 +5,8 @@ use Rattle.group_compiler.specs.Compiled.{GroupProgram}
 use Rattle.mps_text.specs.Sinks.{HasFailed, counted}
 use Rattle.mps_text.specs.Text.{text}
 use Rattle.outcome.specs.Report.{group_names}
-use Rattle.outcome.specs.Sale.{sale_of}
+use Rattle.auction_input.specs.BookLeft.{program_for}
+use Rattle.outcome.specs.Sale.{Sale, sale_of}
 use Rattle.answers.specs.declared.run_fault.RunFault.TheVariants as fault
 use Rattle.answers.specs.declared.run_fault.RunFault.{RunFault}
 
@@ -17,6 +18,10 @@ in_turn bytes k (x ∷ xs) = bytes k x ++ in_turn bytes (k + 1) xs
 -- what stands before the names in the line of group k
 abbrev pub program_number : ℕ → List ℕ
 program_number k = codes "* program " ++ (decimal k ++ 32 ∷ [])
+
+-- the line and the program of group k of a sale
+abbrev pub program_text : Sale → ℕ → List ℕ → List ℕ
+program_text sale k group = ((codes "* program " ++ (decimal k ++ 32 ∷ [])) ++ (group_names sale.names group ++ 10 ∷ [])) ++ text (program_for sale group)
 
 -- the line before the program of group k
 abbrev pub program_line : Closing → ℕ → List ℕ → List ℕ

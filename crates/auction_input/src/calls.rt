@@ -2,7 +2,6 @@
 
 ghost use Rattle.std.specs.Prelude.{◌≡◌, Err, IfErr, Ok, OnOk};
 ghost use Rattle.auction_input.specs.Calls.{calls_told};
-ghost use Rattle.auction_input.specs.Refused.{refused};
 
 use crate::refusal::Refusal;
 use bid_book::CALL_LIMIT;
@@ -14,7 +13,7 @@ const COUNTS_LEN: usize = 257;
 /// Tests that each form finds a call left of its bidder, as every form is one recorded call.
 pub fn check_calls(forms: &[Form]) -> Result<(), Refusal>
     ensures accepted { OnOk result (calls_told forms.now ≡ Ok forms.now) }
-    ensures refused { IfErr result (λ r. calls_told forms.now ≡ Err (refused r)) }
+    ensures refused { IfErr result (λ r. calls_told forms.now ≡ Err r) }
 {
     let mut counts = [0u32; COUNTS_LEN];
     for place in 0..forms.len() {

@@ -1,7 +1,7 @@
 -- What the code holds of certificates while it judges them.
-use Rattle.std.specs.Prelude.{◌≡◌, ◌+◌, ◌++◌, ℕ, List, ◌∷◌, Result, Ok, Err, map, replicate}
+use Rattle.std.specs.Prelude.{◌≡◌, ◌+◌, ◌++◌, ℕ, List, ◌∷◌, Result, Ok, Err, length, map, replicate}
 use Rattle.std.specs.List.{zip}
-use Rattle.auction_input.specs.Refused.{Refusal}
+use Rattle.auction_input.specs.declared.refusal.Refusal.{Refusal}
 use Rattle.auction_terms.specs.Stages.{each_in_turn}
 use Rattle.auction_input.specs.declared.refusal.Refusal.TheVariants as refusal
 use Rattle.auction_terms.specs.declared.choices.Choice.{Choice}
@@ -11,7 +11,10 @@ use Rattle.group_compiler.specs.Compiled.{program_without}
 use Rattle.optimality.specs.Answers.{IsVerdict}
 use Rattle.optimality.specs.Verdict.{certificate_fault}
 use Rattle.optimality.specs.declared.fault.CertificateFault.{CertificateFault}
-use Rattle.answers.specs.Certified.{ClaimedBound, bound_of, shown}
+use Rattle.answers.specs.Certified.{ClaimedBound, bound_of, bounds_of, shown}
+use Rattle.answers.specs.Exact.{IsTooWide}
+use Rattle.answers.specs.SolutionWinners.{winners_of_groups}
+use Rattle.auction_input.specs.Auction.{Auction}
 use Rattle.answers.specs.declared.certified.ClaimedBound as declared
 
 -- the value of a bound that the code holds
@@ -34,3 +37,7 @@ AllShown bounds = (all : List (Unit {0})) × (each_in_turn shown 1 bounds ≡ Ok
 abbrev pub IsFirstFaulty : List (Result (Unit {0}) CertificateFault) → Refusal → Type 0
 IsFirstFaulty verdicts (refusal.Certificate n f) = (before : ℕ) × (after : List (Result (Unit {0}) CertificateFault)) × (verdicts ≡ replicate before (Ok tt) ++ Err f ∷ after) × (n ≡ before + 1)
 IsFirstFaulty verdicts r = ⊥
+
+-- certificates of which one can't be judged, behind solutions that are taken
+abbrev pub IsBeyondSums : Auction → Refusal → Type 0
+IsBeyondSums auction r = (won : List (List Choice)) × (winners_of_groups auction ≡ Ok won) × (length auction.certificates ≡ length auction.groups) × IsTooWide (bounds_of auction won) r
