@@ -27,7 +27,8 @@ use Rattle.answers.specs.GroupTexts.{EndsIn, in_turn, program_bytes, programs_by
 use Rattle.auction_terms.specs.Borrowed.{bytes_of}
 use Rattle.auction_input.specs.PartsTold.{only_text}
 use Rattle.auction_terms.specs.Stages.{and_then, each_in_turn}
-use Rattle.answers.specs.SolutionWinners.{winners, winners_by, winners_of_groups}
+use Rattle.answers.specs.SolutionWinners.{winners_by, winners_of_groups}
+use Rattle.answers.specs.inside.SolutionWinners.{winners}
 use Rattle.auction_input.specs.declared.auction.Auction as declared
 use Rattle.auction_input.specs.declared.refusal.CountedPart.TheVariants as counted
 use Rattle.auction_input.specs.declared.refusal.Refusal.TheVariants as refusal

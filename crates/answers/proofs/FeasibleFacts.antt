@@ -23,7 +23,8 @@ use Rattle.outcome.specs.Solution.{solution}
 use Rattle.outcome.proofs.BackLaws.{solutions_come_back}
 use Rattle.program_rows.specs.Program.{Table}
 use Rattle.answers.specs.FeasibleAnswers.{IsFeasibleWithout, MappedIsFeasible, ReportedIsFeasible}
-use Rattle.answers.specs.SolutionWinners.{solution_refused, winners, report_of, winners_of_groups}
+use Rattle.answers.specs.SolutionWinners.{report_of, solution_refused, winners_of_groups}
+use Rattle.answers.specs.inside.SolutionWinners.{winners}
 use Rattle.answers.specs.Answer.{output_of}
 
 pub when-counted : {A : Type 0} (test : Bool) (r : Result A Refusal) (e : Refusal) (x : A) → cond test r (Err e) ≡ Ok x → (test ≡ true) × (r ≡ Ok x)

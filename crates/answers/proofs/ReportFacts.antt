@@ -15,8 +15,8 @@ use Rattle.auction_input.specs.Refused.{Refuses}
 use Rattle.auction_input.specs.declared.refusal.Refusal.{Refusal}
 use Rattle.auction_terms.specs.Stages.{each_in_turn}
 use Rattle.auction_input.proofs.StageFacts.{behind, next, stop}
-use Rattle.answers.specs.SolutionWinners.{winners, winners_by}
-use Rattle.answers.specs.inside.SolutionWinners.{IsFirstRefusal, IsToldAnswer, winners_at}
+use Rattle.answers.specs.SolutionWinners.{winners_by}
+use Rattle.answers.specs.inside.SolutionWinners.{IsFirstRefusal, IsToldAnswer, winners_at, winners}
 
 abbrev Answer : Type 0
 Answer = Result (List Choice) Refusal

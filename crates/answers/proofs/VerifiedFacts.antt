@@ -1,6 +1,6 @@
 -- What certificates show of what groups win.
 use Rattle.std.proofs.Common.{◌≡◌, ◌+◌, ◌==◌, ◌∷◌, ◌∙◌, [], ℕ, true, false, List, Option, None, Some, Result, Ok, Err, ap, arith, eqb-true, length, map, refl, subst, sym}
-use Rattle.std.specs.Prelude.{OnOk, slice_index_or}
+use Rattle.std.specs.Prelude.{OnOk, ℤ, slice_index_or}
 use Rattle.std.specs.List.{AllZip, zip}
 use Rattle.std.specs.Option.{option_map}
 use Rattle.std.proofs.lemmas.Int.{ints}
@@ -20,12 +20,13 @@ use Rattle.program_rows.specs.Faithful.{IsGreatest}
 use Rattle.program_rows.specs.Program.{Table}
 use Rattle.auction_input.specs.Auction.{Auction, auction_told}
 use Rattle.auction_input.specs.BookLeft.{program_for}
-use Rattle.answers.specs.Certified.{ClaimedBound, bound_of, bounds_of, certified, shown}
+use Rattle.answers.specs.Certified.{bound_of, bounds_of, certified, shown}
 use Rattle.answers.specs.Answer.{answer, output_of}
 use Rattle.auction_terms.specs.Stages.{and_then, each_in_turn}
 use Rattle.answers.specs.Exact.{Writes}
 use Rattle.answers.specs.Verified.{IsGreatestWithout, IsOwnCost, IsTrueReport, VerifiedIsTrue, WritesTrueReport}
-use Rattle.answers.specs.SolutionWinners.{winners, report_of, winners_of_groups}
+use Rattle.answers.specs.SolutionWinners.{report_of, winners_of_groups}
+use Rattle.answers.specs.inside.SolutionWinners.{winners}
 use Rattle.auction_input.specs.declared.refusal.CountedPart.TheVariants as counted
 use Rattle.auction_input.specs.declared.refusal.Refusal.TheVariants as refusal
 use Rattle.auction_input.specs.declared.request.Request.TheVariants as request
@@ -36,12 +37,12 @@ use Rattle.answers.proofs.FeasibleFacts.{feasible-of, when-counted}
 -- ---- one group
 
 -- a bound that is shown is one
-shown-bound : (number : ℕ) (bound : ClaimedBound) (u : Unit {0}) → shown number bound ≡ Ok u → IsBound bound.program bound.least
+shown-bound : (number : ℕ) (bound : Table × ℤ × List ℕ) (u : Unit {0}) → shown number bound ≡ Ok u → IsBound bound.0 bound.1
 shown-bound number bound u told =
-    let none = (unless-ok (option_map (λ (f : ℕ × FaultKind). refusal.Certificate number (record { line = f.0; kind = f.1 })) (certificate_fault bound.program bound.least bound.certificate)) tt u told).0 in
-    let faultless : certificate_fault bound.program bound.least bound.certificate ≡ None = no-fault (certificate_fault bound.program bound.least bound.certificate) none in
-    let (certificate, tells, shows) = (verdict bound.program bound.least bound.certificate).0 faultless in
-    shown-is-bound bound.program bound.least certificate shows
+    let none = (unless-ok (option_map (λ (f : ℕ × FaultKind). refusal.Certificate number (record { line = f.0; kind = f.1 })) (certificate_fault bound.0 bound.1 bound.2)) tt u told).0 in
+    let faultless : certificate_fault bound.0 bound.1 bound.2 ≡ None = no-fault (certificate_fault bound.0 bound.1 bound.2) none in
+    let (certificate, tells, shows) = (verdict bound.0 bound.1 bound.2).0 faultless in
+    shown-is-bound bound.0 bound.1 certificate shows
   where
     no-fault : (o : Option (ℕ × FaultKind)) → option_map (λ (f : ℕ × FaultKind). refusal.Certificate number (record { line = f.0; kind = f.1 })) o ≡ None → o ≡ None
     no-fault None e = refl

@@ -18,14 +18,15 @@ use Rattle.program_rows.specs.declared.fault.FaultKind.{FaultKind}
 use Rattle.answers.specs.Certified.{certified}
 use Rattle.answers.specs.GroupTexts.{in_turn, program_text}
 use Rattle.answers.specs.Sizes.{sizes_text}
-use Rattle.answers.specs.SolutionWinners.{winners, report_of, winners_of_groups}
+use Rattle.answers.specs.SolutionWinners.{report_of, winners_by, winners_of_groups}
 
--- what is written of an auction: the programs of all groups, what the one solution wins without group k, the report on what the solutions win, that report where certificates show that nobody wins more; and else the program with nobody left out
+-- what a command writes of an auction; where none is named, the program with nobody left out
 abbrev pub output_of : Request → Auction → Result (List ℕ) Refusal
 output_of (Compile workers) auction = Ok (in_turn (program_text auction.sale) 1 auction.groups)
 output_of (Map k) auction =
     if nat_le k (length auction.groups) then
-    and_then (winners auction.sale 1 (slice_index_or auction.groups (k - 1) [], only_text auction.solutions)) (λ won. Ok (allocation_text auction.sale won))
+    and_then (winners_by (program_for auction.sale (slice_index_or auction.groups (k - 1) [])) 1 (only_text auction.solutions)) (λ won.
+    Ok (allocation_text auction.sale won))
     else Err (refusal.NoGroup k)
 output_of (Report workers) auction = and_then (winners_of_groups auction) (report_of auction)
 output_of (Verify workers) auction = and_then (and_then (winners_of_groups auction) (certified auction)) (report_of auction)

@@ -1,5 +1,5 @@
 -- What a command leaves, by what is told: the whole output, or the first refusal.
-use Rattle.std.specs.Prelude.{◌≡◌, ◌⊎◌, ◌+◌, ◌<◌, ℕ, List, Option, Result, Ok, length, take}
+use Rattle.std.specs.Prelude.{◌≡◌, ◌⊎◌, ◌+◌, ◌<◌, ℕ, List, ℤ, Option, Result, Ok, length, take}
 use Rattle.std.specs.Io.KnownBytes.{Appends}
 use Rattle.auction_input.specs.Auction.{Auction, auction_told}
 use Rattle.auction_input.specs.Refused.{Refuses}
@@ -13,21 +13,22 @@ use Rattle.auction_terms.specs.declared.choices.Choice.{Choice}
 use Rattle.mps_text.specs.Sinks.{HasFailed, SentFront}
 use Rattle.mps_text.specs.declared.write_fault.WriteFault.TheVariants as write
 use Rattle.optimality.specs.declared.fault.FaultKind.TheVariants as certificate
+use Rattle.program_rows.specs.Program.{Table}
 use Rattle.answers.specs.Answer.{answer}
-use Rattle.answers.specs.Certified.{ClaimedBound, bounds_of, shown}
+use Rattle.answers.specs.Certified.{bounds_of, shown}
 use Rattle.answers.specs.SolutionWinners.{winners_of_groups}
 
 -- the output that is told was written, and nothing else
 abbrev pub Writes : Result (List ℕ) Refusal → Option (List ℕ) → Option (List ℕ) → Type 0
 Writes told taken taken' = (out : List ℕ) × (told ≡ Ok out) × Appends taken taken' out
 
--- how a command ends without its output: it is refused, and nothing is written; or a put failed, and what went out is the first bytes of the output that is told, as many as the refusal tells
+-- how a command ends without its output: it is refused; or a put failed, behind the first bytes of the output, as many as the refusal tells
 pub data Ends (told : Result (List ℕ) Refusal) (taken taken' : Option (List ℕ)) (failures failures' : ℕ) : Refusal → Type 0 where
   by_refusal : {r : Refusal} → Refuses told r → taken' ≡ taken → Ends told taken taken' failures failures' r
   by_put : {written : ℕ} → (out : List ℕ) → told ≡ Ok out → SentFront taken taken' out written → HasFailed failures failures' → Ends told taken taken' failures failures' (refusal.Write (write.Sink written))
 
 -- behind some certificates that show what they are to comes one that can't be judged, since a sum may leave 128 bits
-pub record IsTooWide (bounds : List ClaimedBound) (r : Refusal) : Type 0 where
+pub record IsTooWide (bounds : List (Table × ℤ × List ℕ)) (r : Refusal) : Type 0 where
   pub before : ℕ
   pub line : ℕ
   pub all : List (Unit {0})

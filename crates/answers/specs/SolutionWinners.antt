@@ -11,7 +11,6 @@ use Rattle.auction_terms.specs.Stages.{and_then, each_in_turn, refused_as}
 use Rattle.outcome.specs.Report.{report_text}
 use Rattle.auction_input.specs.declared.refusal.Refusal.TheVariants as refusal
 use Rattle.auction_terms.specs.declared.choices.Choice.{Choice}
-use Rattle.outcome.specs.Sale.{Sale}
 use Rattle.outcome.specs.Solution.{solution}
 use Rattle.outcome.specs.PointAllocation.{allocation_of}
 use Rattle.outcome.specs.declared.fault.SolutionFault.TheVariants as fault
@@ -28,15 +27,12 @@ solution_refused p number f = refusal.Solution number f
 abbrev pub winners_by : Table → ℕ → List ℕ → Result (List Choice) Refusal
 winners_by p number text = and_then (refused_as (solution_refused p number) (solution p text)) (λ point. Ok (allocation_of p point))
 
--- the winners without a group, by its solution
-abbrev pub winners : Sale → ℕ → List ℕ × List ℕ → Result (List Choice) Refusal
-winners sale number group_and_text = winners_by (program_for sale group_and_text.0) number group_and_text.1
-
 -- what the solutions win, group by group
 abbrev pub winners_of_groups : Auction → Result (List (List Choice)) Refusal
 winners_of_groups auction =
     if starts_empty auction.groups then
-    if length auction.solutions == length auction.groups then each_in_turn (winners auction.sale) 1 (zip auction.groups auction.solutions)
+    if length auction.solutions == length auction.groups then
+    each_in_turn (λ number (item : List ℕ × List ℕ). winners_by (program_for auction.sale item.0) number item.1) 1 (zip auction.groups auction.solutions)
     else Err (refusal.PartCount counted.Solutions)
     else Err refusal.FirstGroupNotEmpty
 

@@ -9,8 +9,8 @@ ghost use Rattle.auction_input.specs.Refused.{Refuses};
 ghost use Rattle.auction_input.specs.Settled.{held};
 ghost use Rattle.auction_terms.specs.Borrowed.{bytes_of};
 ghost use Rattle.auction_terms.specs.Stages.{each_in_turn};
-ghost use Rattle.answers.specs.SolutionWinners.{winners, winners_of_groups};
-ghost use Rattle.answers.specs.inside.SolutionWinners.{IsFirstRefusal};
+ghost use Rattle.answers.specs.SolutionWinners.{winners_of_groups};
+ghost use Rattle.answers.specs.inside.SolutionWinners.{IsFirstRefusal, winners};
 
 use crate::winning::won_without;
 use auction_input::{Auction, CountedPart, Refusal};

@@ -1,7 +1,7 @@
 //! The line that tells why a run ended.
 
 ghost use Rattle.std.specs.Prelude.{◌≡◌, ◌++◌, ◌∷◌, [], IfSome, codes};
-ghost use Rattle.auction_input.specs.Line.{IsTold, Puts, refusal_text};
+ghost use Rattle.auction_input.specs.Line.{IsTold, Puts, refusal_text, without_name};
 
 use crate::pieces::write_pieces;
 use arrayvec::ArrayString;
@@ -25,7 +25,7 @@ pub fn tell<F: Sink>(refusal: &Refusal, faults: &mut F)
 
 // What is told of a refusal, but for a name, where there is room.
 fn text_of(refusal: &Refusal) -> Option<ArrayString<TEXT_ROOM>>
-    ensures { IfSome result (λ text. text.bytes ≡ refusal_text refusal.now) }
+    ensures { IfSome result (λ text. text.bytes ≡ refusal_text (without_name refusal.now)) }
 {
     let mut text = ArrayString::new();
     match write!(text, "{refusal}") {

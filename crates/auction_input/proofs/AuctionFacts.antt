@@ -1,5 +1,5 @@
 -- What the stages of an auction tell.
-use Rattle.std.proofs.Common.{◌≡◌, ◌≤◌, ◌<◌, ◌+◌, ◌∷◌, ◌∙◌, ℕ, zero, suc, List, Option, None, Some, Result, Ok, Err, ap, ap₂, arith, length, map, refl, subst, sym, inl, inr}
+use Rattle.std.proofs.Common.{◌≡◌, ◌≤◌, ◌<◌, ◌+◌, ◌∷◌, ◌∙◌, [], ℕ, zero, suc, List, Option, None, Some, Result, Ok, Err, ap, ap₂, arith, length, map, refl, subst, sym, inl, inr}
 use Rattle.std.proofs.lemmas.List.{length-map}
 use Rattle.std.specs.Prelude.{◌≢◌, codes}
 use Rattle.std.specs.List.{last_or, range_with_len}
@@ -11,7 +11,8 @@ use Rattle.bid_forms.specs.Offers.{Offers}
 use Rattle.outcome.specs.Sale.{Sale, sale_of}
 use Rattle.auction_input.specs.Auction.{Auction, auction_told}
 use Rattle.auction_input.specs.BookLeft.{sale_left}
-use Rattle.auction_input.specs.Calls.{calls_told}
+use Rattle.auction_input.specs.Calls.{one_too_many}
+use Rattle.auction_terms.specs.FirstFault.{first_fault}
 use Rattle.auction_input.specs.Refused.{Refuses}
 use Rattle.auction_input.specs.declared.refusal.Refusal.{Refusal}
 use Rattle.auction_input.specs.Settled.{RefusesAuction}
@@ -112,16 +113,24 @@ module _ (asked : Request) (input : List ℕ) (held : Parts) (cut : IsCut asked 
         groups-are : groups_told t (only_text (parts_named (codes "%groups") cut.0)) ≡ Ok groups
         groups-are = subst (λ (xs : List (List ℕ)). groups_told t (only_text xs) ≡ Ok groups) cut.2.groups known
 
-        pub calls-refused : (r : Refusal) → Refuses (calls_told forms) r → Refuses (auction_told asked input) r
-        calls-refused r refused = behind _ cut.0 _ r cut.1 (behind _ t _ r rules-are (behind _ forms _ r forms-are (behind _ groups _ r groups-are (stop _ _ r refused))))
+        abbrev told-by : Option ℕ → Result Auction Refusal
+        told-by found = refused_as refusal.CallLimit (unless found (Ok (auction_of t forms groups (parts_named (codes "%solution") cut.0) (parts_named (codes "%certificate") cut.0))))
 
-        pub auction-is : calls_told forms ≡ Ok forms → auction_told asked input ≡ Ok (auction_of t forms groups (bytes_of held.solutions.items) (bytes_of held.certificates.items))
+        abbrev no-auction : Refusal → Result Auction Refusal
+        no-auction r = Err r
+
+        pub calls-refused : (number : ℕ) (r : Refusal) → first_fault one_too_many [] forms ≡ Some number → r ≡ refusal.CallLimit number → Refuses (auction_told asked input) r
+        calls-refused number r found is =
+            let limit : told-by (first_fault one_too_many [] forms) ≡ Err r = ap told-by found ∙ ap no-auction (sym is) in
+            behind _ cut.0 _ r cut.1 (behind _ t _ r rules-are (behind _ forms _ r forms-are (behind _ groups _ r groups-are (inl limit))))
+
+        pub auction-is : first_fault one_too_many [] forms ≡ None → auction_told asked input ≡ Ok (auction_of t forms groups (bytes_of held.solutions.items) (bytes_of held.certificates.items))
         auction-is accepted =
-            next _ _ _ _ cut.1 (next _ _ _ _ rules-are (next _ _ _ _ forms-are (next _ _ _ _ groups-are (next _ _ _ _ accepted refl))))
+            next _ _ _ _ cut.1 (next _ _ _ _ rules-are (next _ _ _ _ forms-are (next _ _ _ _ groups-are (ap told-by accepted))))
             ∙ ap₂ (λ (s c : List (List ℕ)). Ok (auction_of t forms groups s c)) (sym cut.2.solutions) (sym cut.2.certificates)
 
         -- what the round leaves is a matter of the desk, or of memory
-        pub round-refused : calls_told forms ≡ Ok forms → asked ≢ request.Check → (f : RoundFault) → RefusesAuction asked input (refusal.Round f)
+        pub round-refused : first_fault one_too_many [] forms ≡ None → asked ≢ request.Check → (f : RoundFault) → RefusesAuction asked input (refusal.Round f)
         round-refused accepted reads round.OutOfMemory = inl (inr refl)
         round-refused accepted reads round.WrongAnswer = inr (reads, auction_of t forms groups (bytes_of held.solutions.items) (bytes_of held.certificates.items), auction-is accepted, refl)
 

@@ -2,7 +2,6 @@
 use Rattle.std.proofs.Common.{◌≡◌, ℕ, List, Ok, refl, subst}
 use Rattle.auction_terms.specs.Limits.{IsBook, IsLots}
 use Rattle.auction_input.specs.Auction.{Auction, auction_told}
-use Rattle.auction_input.specs.Calls.{calls_told}
 use Rattle.auction_input.specs.BookLeft.{sale_left}
 use Rattle.auction_input.specs.Parts.{parts_named}
 use Rattle.auction_input.specs.PartsTold.{only_text, parts_told}
@@ -11,7 +10,7 @@ use Rattle.auction_terms.specs.Stages.{each_in_turn}
 use Rattle.std.specs.Prelude.{codes}
 use Rattle.auction_input.specs.declared.refusal.Refusal.TheVariants as refusal
 use Rattle.auction_input.specs.declared.request.Request.{Request}
-use Rattle.auction_input.proofs.AnswerFacts.{ok-behind, ok-is, ok-refused_as, unless-ok}
+use Rattle.auction_input.proofs.AnswerFacts.{ok-behind, ok-refused_as, unless-ok}
 use Rattle.auction_input.proofs.LimitFacts.{book-within, forms-within, terms-few}
 use Rattle.auction_input.proofs.LotFacts.{lots-within}
 
@@ -23,9 +22,7 @@ auction-within asked input auction told =
     let (t, t_is, more_forms) = ok-behind (terms_told rules) _ auction more in
     let (forms, forms_are, more_groups) = ok-behind (each_in_turn (form_told t) 1 (parts_named (codes "%form") parts)) _ auction more_forms in
     let (groups, groups_are, more_calls) = ok-behind (groups_told t (only_text (parts_named (codes "%groups") parts))) _ auction more_groups in
-    let (accepted, accepted_is, made) = ok-behind (calls_told forms) _ auction more_calls in
-    let same = (unless-ok _ forms accepted (ok-refused_as refusal.CallLimit _ accepted accepted_is)).1 in
-    let whole : Auction = record { sale = sale_left t accepted; groups = groups; solutions = parts_named (codes "%solution") parts; certificates = parts_named (codes "%certificate") parts } in
-    let is : whole ≡ auction = ok-is _ whole auction refl made in
+    let whole : Auction = record { sale = sale_left t forms; groups = groups; solutions = parts_named (codes "%solution") parts; certificates = parts_named (codes "%certificate") parts } in
+    let is : whole ≡ auction = (unless-ok _ whole auction (ok-refused_as refusal.CallLimit _ auction more_calls)).1 in
     let within = book-within t forms (terms-few rules t t_is) (forms-within t 1 (parts_named (codes "%form") parts) forms forms_are) in
-    subst (λ (a : Auction). IsLots a.sale.lots × IsBook a.sale.lots a.sale.book) is (lots-within rules t t_is, rw (← same) within)
+    subst (λ (a : Auction). IsLots a.sale.lots × IsBook a.sale.lots a.sale.book) is (lots-within rules t t_is, within)

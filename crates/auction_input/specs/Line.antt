@@ -22,7 +22,7 @@ use Rattle.optimality.specs.declared.fault.FaultKind.TheVariants as certificate
 use Rattle.outcome.specs.declared.fault.SolutionFault.TheVariants as solution
 use Rattle.program_rows.specs.declared.fault.FaultKind.TheVariants as kind
 
--- what is told of a refusal, but for the name of a column or row: wherever memory was short, just that
+-- what is told of a refusal: wherever memory was short, just that
 abbrev pub refusal_text : Refusal → List ℕ
 refusal_text (refusal.Rules rules.OutOfMemory) = codes "out of memory"
 refusal_text (refusal.Form n form.OutOfMemory) = codes "out of memory"
@@ -45,20 +45,27 @@ refusal_text (refusal.NoGroup k) = codes "groups: no group " ++ decimal k
 refusal_text refusal.FirstGroupNotEmpty = codes "groups: group 1 is not empty"
 refusal_text (refusal.Program f) = elim (f.kind) [ kind.OutOfMemory ↦ codes "out of memory" | k ↦ codes "program: " ++ mps_fault_text f ]
 refusal_text (refusal.Solution n f) = codes "solution " ++ (decimal n ++ (codes ": " ++ solution_fault_text f))
-refusal_text (refusal.BoundBroken n name) = codes "solution " ++ (decimal n ++ codes ": 7 BoundBroken at column ")
-refusal_text (refusal.RowBroken n name) = codes "solution " ++ (decimal n ++ codes ": 8 RowBroken at row ")
-refusal_text (refusal.Certificate n f) = elim (f.kind) [ certificate.OutOfMemory ↦ codes "out of memory" | k ↦ codes "certificate " ++ (decimal n ++ (codes ": " ++ certificate_fault_text f)) ]
+refusal_text (refusal.BoundBroken n name) = codes "solution " ++ (decimal n ++ (codes ": 7 BoundBroken at column " ++ name))
+refusal_text (refusal.RowBroken n name) = codes "solution " ++ (decimal n ++ (codes ": 8 RowBroken at row " ++ name))
+refusal_text (refusal.Certificate n f) =
+    elim (f.kind) [ certificate.OutOfMemory ↦ codes "out of memory" | k ↦ codes "certificate " ++ (decimal n ++ (codes ": " ++ certificate_fault_text f)) ]
 refusal_text (refusal.Write (write.Sink written)) = codes "write failed after " ++ (decimal written ++ codes " bytes")
 refusal_text r = codes "out of memory"
 
--- the name of the column or row that a refusal tells
+-- a refusal without the name of the column or row that it tells
+abbrev pub without_name : Refusal → Refusal
+without_name (refusal.BoundBroken n name) = refusal.BoundBroken n []
+without_name (refusal.RowBroken n name) = refusal.RowBroken n []
+without_name r = r
+
+-- and that name
 abbrev pub name_told : Refusal → List ℕ
 name_told (refusal.BoundBroken n name) = name
 name_told (refusal.RowBroken n name) = name
 name_told r = []
 
 abbrev pub line : Refusal → List ℕ
-line r = codes "wdp: " ++ (refusal_text r ++ (name_told r ++ 10 ∷ []))
+line r = codes "wdp: " ++ (refusal_text r ++ 10 ∷ [])
 
 -- bytes went out, or the first of them and a put failed
 abbrev pub Puts : List ℕ → Option (List ℕ) → Option (List ℕ) → ℕ → ℕ → Type 0

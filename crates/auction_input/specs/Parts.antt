@@ -8,7 +8,7 @@ use Rattle.auction_input.specs.declared.parts.Parts.{Parts}
 use Rattle.auction_input.specs.declared.request.Request.TheVariants as request
 use Rattle.auction_input.specs.declared.request.Request.{Request}
 use Rattle.auction_terms.specs.Borrowed.{bytes_of}
-use Rattle.auction_terms.specs.FirstFault.{first_failed, first_fault, option_or}
+use Rattle.auction_terms.specs.FirstFault.{first_fault, option_or}
 use Rattle.auction_terms.specs.Lines.{is_line_feed, lines_of}
 
 abbrev pub onto_first_line : ℕ → List (List ℕ) → List (List ℕ)
@@ -52,7 +52,7 @@ part_fault asked before p = if list_any (bytes_eq p.name) (part_names asked) the
 -- the first fault of the input
 abbrev pub input_fault : Request → List ℕ → Option PartFault
 input_fault asked text =
-    option_or (first_failed ((length (bytes_before (cut_lines text)) == 0, fault.BeforeFirst) ∷ []))
+    option_or (if length (bytes_before (cut_lines text)) == 0 then None else Some fault.BeforeFirst)
     (first_fault (part_fault asked) [] (parts_in (cut_lines text)))
 
 -- the bytes of the parts of a name, in the order of the input

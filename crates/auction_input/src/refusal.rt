@@ -1,7 +1,7 @@
 //! Why a run ends without its output.
 
 ghost use Rattle.std.specs.Prelude.{◌≡◌, Some};
-ghost use Rattle.auction_input.specs.Line.{name_told, refusal_text};
+ghost use Rattle.auction_input.specs.Line.{name_told, refusal_text, without_name};
 
 use crate::input::InputFault;
 use crate::name::Name;
@@ -91,7 +91,7 @@ impl Refusal {
 
 /// What is told of a refusal, but for the name of a column or row, which are bytes.
 impl fmt::Display for Refusal {
-    ghost output = { λ refusal. Some (refusal_text refusal) };
+    ghost output = { λ refusal. Some (refusal_text (without_name refusal)) };
 
     fn fmt<W: fmt::Write>(&self, f: &mut fmt::Formatter<W>) -> fmt::Result {
         match self {

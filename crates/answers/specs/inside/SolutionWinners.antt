@@ -5,7 +5,12 @@ use Rattle.auction_input.specs.declared.refusal.Refusal.{Refusal}
 use Rattle.auction_input.specs.declared.refusal.Refusal.TheVariants as refusal
 use Rattle.auction_terms.specs.declared.choices.Choice.{Choice}
 use Rattle.outcome.specs.Sale.{Sale}
-use Rattle.answers.specs.SolutionWinners.{winners}
+use Rattle.auction_input.specs.BookLeft.{program_for}
+use Rattle.answers.specs.SolutionWinners.{winners_by}
+
+-- the winners without a group, by its solution
+abbrev pub winners : Sale → ℕ → List ℕ × List ℕ → Result (List Choice) Refusal
+winners sale number group_and_text = winners_by (program_for sale group_and_text.0) number group_and_text.1
 
 -- the winners without the group at this place, from 0, by its solution
 abbrev pub winners_at : Sale → List (List ℕ) → List (List ℕ) → ℕ → Result (List Choice) Refusal

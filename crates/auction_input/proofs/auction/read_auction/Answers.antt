@@ -6,7 +6,8 @@ use Rattle.bid_desk.specs.Closing.{book_of}
 use Rattle.bid_forms.specs.Offers.{Offers}
 use Rattle.mps_text.proofs.FaithfulTexts.{presolved_text_is_faithful}
 use Rattle.auction_input.specs.Auction.{Auction}
-use Rattle.auction_input.specs.Calls.{calls_told}
+use Rattle.auction_input.specs.Calls.{one_too_many}
+use Rattle.auction_terms.specs.FirstFault.{first_fault}
 use Rattle.auction_input.specs.Refused.{Refuses}
 use Rattle.auction_input.specs.Settled.{RefusesAuction}
 use Rattle.auction_terms.specs.Borrowed.{bytes_of}
@@ -14,7 +15,7 @@ use Rattle.auction_input.specs.Parts.{parts_named}
 use Rattle.auction_input.specs.PartsTold.{only_text}
 use Rattle.auction_input.specs.TextsTold.{form_told, groups_told, terms_told}
 use Rattle.auction_terms.specs.Stages.{each_in_turn}
-use Rattle.std.specs.Prelude.{codes}
+use Rattle.std.specs.Prelude.{[], None, Some, codes}
 use Rattle.auction_input.specs.declared.refusal.Refusal.TheVariants as refusal
 use Rattle.auction_input.proofs.AuctionFacts.{auction-held, auction-is, calls-refused, forms-are, forms-refused, groups-refused, round-refused, rules-are, terms-refused}
 use Rattle.auction_input.proofs.RefusalFacts.{if-err-of}
@@ -75,9 +76,10 @@ returns-in_err-check_calls-clause-refuses g c =
     let rules = subst (λ (xs : Texts). terms_told (only_text (bytes_of xs)) ≡ Ok t) c.as_slice.ensures.value c.in_ok-rules.ensures.told in
     let each = subst (λ (xs : Texts). each_in_turn (form_told t) 1 (bytes_of xs) ≡ Ok forms) c.as_slice-2.ensures.value c.in_ok-forms.ensures.told in
     let known = subst (λ (xs : Texts). groups_told t (only_text (bytes_of xs)) ≡ Ok groups) c.as_slice-3.ensures.value c.in_ok-groups.ensures.told in
-    let refused = subst (λ (xs : List Offers). Refuses (calls_told xs) r) c.as_slice-4.ensures.value (inl c.in_err-check_calls.ensures.refused) in
+    let found = c.in_err-check_calls.ensures.refused in
+    let limit = subst (λ (xs : List Offers). first_fault one_too_many [] xs ≡ Some found.0) c.as_slice-4.ensures.value found.1 in
     if-err-of (RefusesAuction asked input) c.from_residual-in_err-check_calls.result r c.from_residual-in_err-check_calls.ensures.1
-    (inl (calls-refused asked input c.in_ok-parts.parts c.in_ok-parts.ensures.told t rules forms each groups known r refused))
+    (inl (calls-refused asked input c.in_ok-parts.parts c.in_ok-parts.ensures.told t rules forms each groups known found.0 r limit found.2))
 
 pub returns-in_err-book-clause-refuses : goal.returns-in_err-book-clause-refuses
 returns-in_err-book-clause-refuses g c =
@@ -90,7 +92,7 @@ returns-in_err-book-clause-refuses g c =
     let rules = subst (λ (xs : Texts). terms_told (only_text (bytes_of xs)) ≡ Ok t) c.as_slice.ensures.value c.in_ok-rules.ensures.told in
     let each = subst (λ (xs : Texts). each_in_turn (form_told t) 1 (bytes_of xs) ≡ Ok forms) c.as_slice-2.ensures.value c.in_ok-forms.ensures.told in
     let known = subst (λ (xs : Texts). groups_told t (only_text (bytes_of xs)) ≡ Ok groups) c.as_slice-3.ensures.value c.in_ok-groups.ensures.told in
-    let accepted = subst (λ (xs : List Offers). calls_told xs ≡ Ok xs) c.as_slice-4.ensures.value c.in_ok-check_calls.ensures.accepted in
+    let accepted = subst (λ (xs : List Offers). first_fault one_too_many [] xs ≡ None) c.as_slice-4.ensures.value c.in_ok-check_calls.ensures.accepted in
     if-err-of (RefusesAuction asked input) c.from_residual-in_err-book.result (refusal.Round f) c.from_residual-in_err-book.ensures.1
     (round-refused asked input c.in_ok-parts.parts c.in_ok-parts.ensures.told t rules forms each groups known accepted c.requires f)
 
@@ -105,7 +107,7 @@ returns-clause-told g c =
     let rules = subst (λ (xs : Texts). terms_told (only_text (bytes_of xs)) ≡ Ok t) c.as_slice.ensures.value c.in_ok-rules.ensures.told in
     let each = subst (λ (xs : Texts). each_in_turn (form_told t) 1 (bytes_of xs) ≡ Ok forms) c.as_slice-2.ensures.value c.in_ok-forms.ensures.told in
     let known = subst (λ (xs : Texts). groups_told t (only_text (bytes_of xs)) ≡ Ok groups) c.as_slice-3.ensures.value c.in_ok-groups.ensures.told in
-    let accepted = subst (λ (xs : List Offers). calls_told xs ≡ Ok xs) c.as_slice-4.ensures.value c.in_ok-check_calls.ensures.accepted in
+    let accepted = subst (λ (xs : List Offers). first_fault one_too_many [] xs ≡ None) c.as_slice-4.ensures.value c.in_ok-check_calls.ensures.accepted in
     auction-is asked input c.in_ok-parts.parts c.in_ok-parts.ensures.told t rules forms each groups known accepted
     ∙ ap (λ (a : Auction). Ok a) (auction-held book t forms groups (bytes_of c.in_ok-parts.parts.solutions.items) (bytes_of c.in_ok-parts.parts.certificates.items) c.in_ok-book.ensures.rules c.in_ok-book.ensures.submitted)
 
