@@ -1,11 +1,11 @@
 -- The book that forms leave: of each bidder its last form.
-use Rattle.std.specs.Prelude.{ℕ, List, None, length, map}
+use Rattle.std.specs.Prelude.{ℕ, List, [], None, length, map}
+use Rattle.std.specs.Option.{option_map_or}
 use Rattle.std.specs.List.{last_or, range_with_len}
 use Rattle.auction_input.specs.Submissions.{forms_of}
 use Rattle.auction_terms.specs.Groups.{has}
 use Rattle.auction_terms.specs.Keeping.{kept_of}
 use Rattle.auction_terms.specs.Terms.{Terms, lots_in}
-use Rattle.bid_desk.specs.Closing.{bids_in}
 use Rattle.bid_forms.specs.Offers.{Offers}
 use Rattle.outcome.specs.Sale.{Sale}
 use Rattle.program_rows.specs.Program.{Table}
@@ -16,7 +16,7 @@ abbrev pub sale_left : Terms → List Offers → Sale
 sale_left t forms = record {
   names = map (λ bidder. bidder.name) t.bidders;
   lots = lots_in t;
-  book = map (λ bidder. bids_in (last_or None (forms_of bidder forms))) (range_with_len 1 (length t.bidders));
+  book = map (λ bidder. option_map_or (λ (form : Offers). form.bids) (last_or None (forms_of bidder forms)) []) (range_with_len 1 (length t.bidders));
 }
 
 -- the program of what is kept without a group
