@@ -1,6 +1,6 @@
 -- What certificates come to, one after the other.
 use Rattle.std.proofs.Common.{◌≡◌, ◌≢◌, ◌<◌, ◌+◌, ◌++◌, ◌∷◌, ◌∙◌, [], ℕ, zero, suc, true, false, List, Option, Some, Result, Ok, Err, ap, arith, length, map, refl, replicate, subst, sym, take, inl, inr}
-use Rattle.std.specs.Prelude.{◌==◌, ◌⊎◌, IfErr, OnOk}
+use Rattle.std.specs.Prelude.{◌==◌, ◌⊎◌, IfErr, OnOk, ℤ}
 use Rattle.std.specs.List.{AllZip}
 use Rattle.std.specs.Option.{option_map}
 use Rattle.std.proofs.lemmas.Bool.{eq-eqb, ne_eqb}
@@ -11,11 +11,13 @@ use Rattle.bid_desk.specs.Closing.{Closing}
 use Rattle.group_compiler.specs.Compiled.{program_without}
 use Rattle.optimality.specs.Answers.{IsLimit}
 use Rattle.optimality.specs.Verdict.{certificate_fault}
+use Rattle.program_rows.specs.Program.{Table}
 use Rattle.optimality.specs.declared.fault.CertificateFault.{CertificateFault}
 use Rattle.optimality.specs.declared.fault.FaultKind.{FaultKind}
 use Rattle.optimality.specs.declared.fault.FaultKind.TheVariants as kind
-use Rattle.answers.specs.Certified.{ClaimedBound, bounds_of, certificate_refused, certified, shown}
-use Rattle.auction_input.specs.Refused.{Refuses, Refusal, Refused}
+use Rattle.answers.specs.Certified.{bounds_of, certified, shown}
+use Rattle.auction_input.specs.Refused.{Refuses}
+use Rattle.auction_input.specs.declared.refusal.Refusal.{Refusal}
 use Rattle.auction_input.specs.Settled.{held}
 use Rattle.answers.specs.Exact.{IsTooWide}
 use Rattle.answers.specs.inside.Judging.{AllShown, IsFirstFaulty, IsJudged, bounds_by, bound_held}
@@ -27,6 +29,9 @@ use Rattle.auction_input.specs.declared.refusal.CountedPart.TheVariants as count
 use Rattle.auction_input.specs.declared.refusal.Refusal.TheVariants as refusal
 use Rattle.auction_input.proofs.StageFacts.{stop}
 
+abbrev Bound : Type 0
+Bound = Table × ℤ × List ℕ
+
 abbrev Verdict : Type 0
 Verdict = Result (Unit {0}) CertificateFault
 
@@ -35,7 +40,7 @@ ok = Ok tt
 
 -- a certificate whose verdict is Ok shows what it is to
 shown-ok : (book : Closing) (n : ℕ) (b : code.ClaimedBound) → IsJudged book b ok → shown n (bound_held book b) ≡ Ok tt
-shown-ok book n b judged = ap (λ (f : Option (ℕ × FaultKind)). unless (option_map (certificate_refused n) f) (Ok tt)) judged.is
+shown-ok book n b judged = ap (λ (f : Option (ℕ × FaultKind)). unless (option_map (λ (f : ℕ × FaultKind). refusal.Certificate n (record { line = f.0; kind = f.1 })) f) (Ok tt)) judged.is
 
 -- as many as there are
 pub all-shown : (book : Closing) (n : ℕ) (bounds : List code.ClaimedBound) (count : ℕ) → AllZip (IsJudged book) bounds (replicate count ok)
@@ -46,21 +51,21 @@ all-shown book n (b ∷ bounds) zero each = absurd each
 all-shown book n (b ∷ bounds) (suc count) each = rw (shown-ok book n b each.0, all-shown book (n + 1) bounds count each.1) refl
 
 -- how a list of bounds ends at the first fault, which has number m
-data Stops (n : ℕ) (bounds : List ClaimedBound) (before : ℕ) (f : CertificateFault) : Type 0 where
+data Stops (n : ℕ) (bounds : List Bound) (before : ℕ) (f : CertificateFault) : Type 0 where
   by_memory : f.kind ≡ kind.OutOfMemory → Stops n bounds before f
   by_width : f.kind ≡ kind.TooLarge → before < length bounds → each_in_turn shown n (take before bounds) ≡ Ok (replicate before tt) → Stops n bounds before f
   by_fault : each_in_turn shown n bounds ≡ Err (refusal.Certificate (n + before) f) → Stops n bounds before f
 
-first-stops : (book : Closing) (n : ℕ) (b : code.ClaimedBound) (bounds : List ClaimedBound) (f : CertificateFault) → IsLimit f.kind ⊎ (certificate_fault (program_without book b.group.now) b.least b.certificate.now ≡ Some (f.line, f.kind))
+first-stops : (book : Closing) (n : ℕ) (b : code.ClaimedBound) (bounds : List Bound) (f : CertificateFault) → IsLimit f.kind ⊎ (certificate_fault (program_without book b.group.now) b.least b.certificate.now ≡ Some (f.line, f.kind))
     → Stops n (bound_held book b ∷ bounds) 0 f
 first-stops book n b bounds f (inl (inl memory)) = by_memory memory
 first-stops book n b bounds f (inl (inr large)) = by_width large (omega arith) refl
 first-stops book n b bounds f (inr found) =
-    let told : shown n (bound_held book b) ≡ Err (refusal.Certificate n f) = ap (λ (o : Option (ℕ × FaultKind)). unless (option_map (certificate_refused n) o) (Ok tt)) found in
+    let told : shown n (bound_held book b) ≡ Err (refusal.Certificate n f) = ap (λ (o : Option (ℕ × FaultKind)). unless (option_map (λ (f : ℕ × FaultKind). refusal.Certificate n (record { line = f.0; kind = f.1 })) o) (Ok tt)) found in
     let here : n + 0 ≡ n = omega arith in
     by_fault (rw (told, here) refl)
 
-later-stops : (book : Closing) (n : ℕ) (b : code.ClaimedBound) (bounds : List ClaimedBound) (before : ℕ) (f : CertificateFault) → IsJudged book b ok → Stops (n + 1) bounds before f → Stops n (bound_held book b ∷ bounds) (suc before) f
+later-stops : (book : Closing) (n : ℕ) (b : code.ClaimedBound) (bounds : List Bound) (before : ℕ) (f : CertificateFault) → IsJudged book b ok → Stops (n + 1) bounds before f → Stops n (bound_held book b ∷ bounds) (suc before) f
 later-stops book n b bounds before f first (by_memory memory) = by_memory memory
 later-stops book n b bounds before f first (by_width large few all) = by_width large (omega arith) (rw (shown-ok book n b first, all) refl)
 later-stops book n b bounds before f first (by_fault told) =
@@ -73,10 +78,10 @@ stops book n [] (suc before) f after each = absurd each
 stops book n (b ∷ bounds) zero f after each = first-stops book n b (map (bound_held book) bounds) f each.0.is
 stops book n (b ∷ bounds) (suc before) f after each = later-stops book n b (map (bound_held book) bounds) before f each.0 (stops book (n + 1) bounds before f after each.1)
 
-abbrev pub EndsChecks : List ClaimedBound → Refusal → Type 0
+abbrev pub EndsChecks : List Bound → Refusal → Type 0
 EndsChecks bounds r = Refuses (each_in_turn shown 1 bounds) r ⊎ IsTooWide bounds r
 
-refusal-at : (bounds : List ClaimedBound) (before : ℕ) (line : ℕ) (k : FaultKind) → Stops 1 bounds before (record { line = line; kind = k }) → EndsChecks bounds (refusal.Certificate (before + 1) (record { line = line; kind = k }))
+refusal-at : (bounds : List Bound) (before : ℕ) (line : ℕ) (k : FaultKind) → Stops 1 bounds before (record { line = line; kind = k }) → EndsChecks bounds (refusal.Certificate (before + 1) (record { line = line; kind = k }))
 refusal-at bounds before line k (by_memory memory) = inl (inr (rw memory refl))
 refusal-at bounds before line k (by_width large few all) = inr (record { before = before; line = line; all = replicate before tt; few = few; shown_are = all; refusal_is = rw large refl })
 refusal-at bounds before line k (by_fault told) =
@@ -87,7 +92,7 @@ refusal-at bounds before line k (by_fault told) =
 pub ends-checks : (book : Closing) (bounds : List code.ClaimedBound) (verdicts : List Verdict) (r : Refusal) → AllZip (IsJudged book) bounds verdicts → IsFirstFaulty verdicts r → EndsChecks (map (bound_held book) bounds) r
 ends-checks book bounds verdicts (refusal.Certificate n f) each (before, after, are, number) =
     let stopped = stops book 1 bounds before f after (rw are at each) in
-    rw number (refusal-at (map (bound_held book) bounds) before f.line f.kind stopped)
+    subst (λ (m : ℕ). EndsChecks (map (bound_held book) bounds) (refusal.Certificate m f)) (sym number) (refusal-at (map (bound_held book) bounds) before f.line f.kind stopped)
 ends-checks book bounds verdicts r each is = absurd is
 
 -- where no verdict is a fault, all certificates show what they are to
@@ -123,19 +128,19 @@ module _ (auction : declared.Auction) (won : List (List Choice)) where
     goes-over : certified (held auction) won ≡ and_then (each_in_turn shown 1 (bounds_of (held auction) won)) (λ all. Ok won)
     goes-over = (let equal : (length texts == length auction.groups) ≡ true = eq-eqb _ _ counted-so in rw equal refl)
 
-    pub are-certified : (bounds : List ClaimedBound) → bounds ≡ bounds_of (held auction) won → AllShown bounds → certified (held auction) won ≡ Ok won
-    are-certified bounds same (all, told) = goes-over ∙ ap (λ (r : Result (List (Unit {0})) Refused). and_then r (λ units. Ok won)) (rw same at told)
+    pub are-certified : (bounds : List Bound) → bounds ≡ bounds_of (held auction) won → AllShown bounds → certified (held auction) won ≡ Ok won
+    are-certified bounds same (all, told) = goes-over ∙ ap (λ (r : Result (List (Unit {0})) Refusal). and_then r (λ units. Ok won)) (rw same at told)
 
-    pub are-refused : (bounds : List ClaimedBound) (r : Refusal) → bounds ≡ bounds_of (held auction) won → EndsChecks bounds r
+    pub are-refused : (bounds : List Bound) (r : Refusal) → bounds ≡ bounds_of (held auction) won → EndsChecks bounds r
         → Refuses (certified (held auction) won) r ⊎ ((length (held auction).certificates ≡ length auction.groups) × IsTooWide (bounds_of (held auction) won) r)
-    are-refused bounds r same (inl refused) = inl (subst (λ (told : Result (List (List Choice)) Refused). Refuses told r) (sym goes-over) (stop _ _ r (subst (λ (bs : List ClaimedBound). Refuses (each_in_turn shown 1 bs) r) same refused)))
-    are-refused bounds r same (inr wide) = inr (counted-so, subst (λ (bs : List ClaimedBound). IsTooWide bs r) same wide)
+    are-refused bounds r same (inl refused) = inl (subst (λ (told : Result (List (List Choice)) Refusal). Refuses told r) (sym goes-over) (stop _ _ r (subst (λ (bs : List Bound). Refuses (each_in_turn shown 1 bs) r) same refused)))
+    are-refused bounds r same (inr wide) = inr (counted-so, subst (λ (bs : List Bound). IsTooWide bs r) same wide)
 
-    pub are-certified-by : (bounds : List ClaimedBound) (r : Result (Unit {0}) Refusal) → bounds ≡ bounds_of (held auction) won → OnOk r (AllShown bounds) → OnOk r (certified (held auction) won ≡ Ok won)
+    pub are-certified-by : (bounds : List Bound) (r : Result (Unit {0}) Refusal) → bounds ≡ bounds_of (held auction) won → OnOk r (AllShown bounds) → OnOk r (certified (held auction) won ≡ Ok won)
     are-certified-by bounds (Ok u) same all = are-certified bounds same all
     are-certified-by bounds (Err e) same all = tt
 
-    pub are-refused-by : (bounds : List ClaimedBound) (r : Result (Unit {0}) Refusal) → bounds ≡ bounds_of (held auction) won → IfErr r (EndsChecks bounds)
+    pub are-refused-by : (bounds : List Bound) (r : Result (Unit {0}) Refusal) → bounds ≡ bounds_of (held auction) won → IfErr r (EndsChecks bounds)
         → IfErr r (λ e. Refuses (certified (held auction) won) e ⊎ ((length (held auction).certificates ≡ length auction.groups) × IsTooWide (bounds_of (held auction) won) e))
     are-refused-by bounds (Ok u) same ends = tt
     are-refused-by bounds (Err e) same ends = are-refused bounds e same ends

@@ -14,25 +14,25 @@ use Rattle.mps_text.specs.Sinks.{HasFailed, SentFront}
 use Rattle.mps_text.specs.Written.{written_of}
 use Rattle.mps_text.specs.declared.write_fault.WriteFault.{WriteFault}
 use Rattle.mps_text.specs.declared.write_fault.WriteFault.TheVariants as write
-use Rattle.outcome.specs.Report.{allocation_text}
+use Rattle.outcome.specs.Report.{allocation_text, in_turn}
 use Rattle.outcome.specs.Sale.{sale_of}
 use Rattle.program_rows.specs.Program.{Table}
 use Rattle.auction_input.specs.Auction.{Auction, auction_told}
-use Rattle.answers.specs.commands.Compile.{program_text}
-use Rattle.answers.specs.commands.Map.{winners_text}
-use Rattle.answers.specs.commands.Report.{winners_of_groups}
 use Rattle.auction_input.specs.Refused.{Refuses, Refusal, Refused}
-use Rattle.auction_input.specs.Settled.{RefusesAuction, held}
-use Rattle.answers.specs.Exact.{Ends, IsLeftOpen, Writes, by_put, by_refusal}
-use Rattle.outcome.specs.Report.{in_turn}
-use Rattle.answers.specs.GroupTexts.{EndsIn, program_bytes, programs_bytes}
+use Rattle.auction_input.specs.Settled.{RefusesAuction, held, IsUnsettled}
+use Rattle.answers.specs.Exact.{Ends, IsLeftOpen, Writes, by_put, by_refusal, MeetsLimit}
+use Rattle.answers.specs.GroupTexts.{EndsIn, program_bytes, programs_bytes, program_text}
+use Rattle.answers.specs.Answer.{output_of}
+use Rattle.auction_input.specs.declared.refusal.Refusal.{Refusal}
 use Rattle.auction_terms.specs.Borrowed.{bytes_of}
 use Rattle.auction_input.specs.PartsTold.{only_text}
 use Rattle.auction_terms.specs.Stages.{and_then, each_in_turn}
-use Rattle.answers.specs.SolutionWinners.{winners, winners_by}
+use Rattle.answers.specs.SolutionWinners.{winners_by, winners_of_groups}
+use Rattle.answers.specs.inside.SolutionWinners.{winners}
 use Rattle.auction_input.specs.declared.auction.Auction as declared
 use Rattle.auction_input.specs.declared.refusal.CountedPart.TheVariants as counted
 use Rattle.auction_input.specs.declared.refusal.Refusal.TheVariants as refusal
+use Rattle.auction_input.specs.declared.request.Request.TheVariants as request
 use Rattle.auction_input.specs.declared.request.Request.{Request}
 use Rattle.auction_input.proofs.StageFacts.{next, refuses-as, stop}
 
@@ -40,7 +40,7 @@ abbrev Text : Type 0
 Text = Bor (List ℕ)
 
 -- what is written of an auction is what is written of the input that tells it
-module _ {A T : Type 0} (told : Result A Refused) (a : A) (k : A → Result (List ℕ) Refused) (is : told ≡ Ok a) where
+module _ {A T : Type 0} (told : Result A Refusal) (a : A) (k : A → Result (List ℕ) Refusal) (is : told ≡ Ok a) where
   pub writes-behind : {E : Type 0} (result : Result T E) (taken taken' : Option (List ℕ)) → OnOk result (Writes (k a) taken taken') → OnOk result (Writes (and_then told k) taken taken')
   writes-behind result taken taken' writes = subst (λ x. OnOk result (Writes x taken taken')) (sym (ap (λ r. and_then r k) is)) writes
 
@@ -49,21 +49,21 @@ module _ {A T : Type 0} (told : Result A Refused) (a : A) (k : A → Result (Lis
   ends-behind result taken taken' failures failures' ends = subst (λ x. IfErr result (λ r. Ends x taken taken' failures failures' r)) (sym (ap (λ r. and_then r k) is)) ends
 
 -- a request whose auction isn't there
-pub no-auction : (asked : Request) (input : List ℕ) (k : Auction → Result (List ℕ) Refused) (taken : Option (List ℕ)) (failures : ℕ) (r : Refusal) → RefusesAuction asked input r
-    → Ends (and_then (auction_told asked input) k) taken taken failures failures r ⊎ (IsLeftOpen asked input r × (taken ≡ taken))
+pub no-auction : (asked : Request) (input : List ℕ) (k : Auction → Result (List ℕ) Refusal) (taken : Option (List ℕ)) (failures : ℕ) (r : Refusal) → RefusesAuction asked input r
+    → Ends (and_then (auction_told asked input) k) taken taken failures failures r ⊎ ((IsUnsettled asked input r ⊎ MeetsLimit asked input r) × (taken ≡ taken))
 no-auction asked input k taken failures r (inl refused) = inl (by_refusal (stop (auction_told asked input) k r refused) refl)
 no-auction asked input k taken failures r (inr unsettled) = inr (inl unsettled, refl)
 
 -- how a command ends, in one of two ways
-pub ends-so : {T : Type 0} (told : Result (List ℕ) Refused) (Other : Refusal → Type 0) (result : Result T Refusal) (taken taken' : Option (List ℕ)) (failures failures' : ℕ)
+pub ends-so : {T : Type 0} (told : Result (List ℕ) Refusal) (Other : Refusal → Type 0) (result : Result T Refusal) (taken taken' : Option (List ℕ)) (failures failures' : ℕ)
     → IfErr result (λ r. Ends told taken taken' failures failures' r) → IfErr result (λ r. Ends told taken taken' failures failures' r ⊎ Other r)
 ends-so told Other (Ok x) taken taken' failures failures' ends = tt
 ends-so told Other (Err r) taken taken' failures failures' ends = inl ends
 
 -- a put failed
-pub cut-short : (told : Result (List ℕ) Refused) (out : List ℕ) (taken taken' : Option (List ℕ)) (failures failures' : ℕ) (f : WriteFault) → told ≡ Ok out
+pub cut-short : (told : Result (List ℕ) Refusal) (out : List ℕ) (taken taken' : Option (List ℕ)) (failures failures' : ℕ) (f : WriteFault) → told ≡ Ok out
     → SentFront taken taken' out (written_of f) → HasFailed failures failures' → Ends told taken taken' failures failures' (refusal.Write f)
-cut-short told out taken taken' failures failures' (write.Sink written) whole sent failed = by_put (record { out = out; whole = whole; sent = sent; failed = failed })
+cut-short told out taken taken' failures failures' (write.Sink written) whole sent failed = by_put out whole sent failed
 
 -- the programs of groups are made of their groups
 pub of-groups : (book : Closing) (k : ℕ) (groups : List (List ℕ)) → in_turn (program_text (sale_of book)) k groups ≡ in_turn (program_bytes book) k (map (compiled book) groups)
@@ -95,19 +95,19 @@ module _ (auction : declared.Auction) (k : ℕ) (solution : List ℕ) (within : 
   abbrev program : Table
   program = program_without auction.book (slice_index_or auction.groups (k - 1) [])
 
-  goes-on : winners_text k (held auction) ≡ and_then (winners_by program 1 solution) (λ won. Ok (allocation_text (sale_of auction.book) won))
+  goes-on : output_of (request.Map k) (held auction) ≡ and_then (winners_by program 1 solution) (λ won. Ok (allocation_text (sale_of auction.book) won))
   goes-on = elim (leb_tells k (length auction.groups)) [
     | inl (is, _) ↦ (rw is (ap (λ (text : List ℕ). and_then (winners_by program 1 text) (λ won. Ok (allocation_text (sale_of auction.book) won))) (sym only)))
     | inr (_, more) ↦ absurd (omega arith)
   ]
 
-  pub winners-written : (a : List Choice) → winners_by program 1 solution ≡ Ok a → winners_text k (held auction) ≡ Ok (allocation_text (sale_of auction.book) a)
+  pub winners-written : (a : List Choice) → winners_by program 1 solution ≡ Ok a → output_of (request.Map k) (held auction) ≡ Ok (allocation_text (sale_of auction.book) a)
   winners-written a won = goes-on ∙ next _ _ _ _ won refl
 
-  pub winners-refused : (r : Refusal) → Refuses (winners_by program 1 solution) r → Refuses (winners_text k (held auction)) r
+  pub winners-refused : (r : Refusal) → Refuses (winners_by program 1 solution) r → Refuses (output_of (request.Map k) (held auction)) r
   winners-refused r refused = refuses-as _ _ r goes-on (stop _ _ r refused)
 
-pub no-group : (auction : declared.Auction) (k : ℕ) → length auction.groups < k → Refuses (winners_text k (held auction)) (refusal.NoGroup k)
+pub no-group : (auction : declared.Auction) (k : ℕ) → length auction.groups < k → Refuses (output_of (request.Map k) (held auction)) (refusal.NoGroup k)
 no-group auction k few = elim (leb_tells k (length auction.groups)) [ inl (_, most) ↦ absurd (omega arith) | inr (is, _) ↦ inl (rw is refl) ]
 
 -- ---- what the solutions win, group by group

@@ -14,8 +14,8 @@ use Rattle.mps_text.proofs.FaithfulTexts.{presolved_text_is_faithful}
 use Rattle.outcome.specs.Sale.{Sale}
 use Rattle.answers.specs.FaithfulAnswers.{CompiledIsFaithful, IsFaithfulToSale, TextIsFaithful}
 use Rattle.outcome.specs.Report.{in_turn}
-use Rattle.answers.specs.commands.Compile.{program_text, texts_of_groups}
-use Rattle.answers.specs.commands.Text.{text_of_all}
+use Rattle.answers.specs.GroupTexts.{program_text}
+use Rattle.answers.specs.Answer.{output_of}
 
 faithful-without : (asked : Request) (input : List ℕ) (auction : Auction) → auction_told asked input ≡ Ok auction → (group : List ℕ) → IsFaithfulToSale auction.sale group
 faithful-without asked input auction told group =
@@ -28,12 +28,12 @@ each-faithful sale faithful (group ∷ groups) = (faithful group, each-faithful 
 
 pub text-is-faithful : TextIsFaithful
 text-is-faithful input out told =
-    let (auction, auction_is, made) = ok-behind (auction_told request.Text input) text_of_all out told in
+    let (auction, auction_is, made) = ok-behind (auction_told request.Text input) (output_of request.Text) out told in
     let is : text (program_for auction.sale []) ≡ out = ok-is _ (text (program_for auction.sale [])) out refl made in
     (auction, auction_is, subst (λ (bytes : List ℕ). IsFaithfulText auction.sale.lots auction.sale.book (λ b. false) bytes) is (faithful-without request.Text input auction auction_is []))
 
 pub compiled-is-faithful : CompiledIsFaithful
 compiled-is-faithful workers input out told =
-    let (auction, auction_is, made) = ok-behind (auction_told (request.Compile workers) input) texts_of_groups out told in
+    let (auction, auction_is, made) = ok-behind (auction_told (request.Compile workers) input) (output_of (request.Compile workers)) out told in
     let is : in_turn (program_text auction.sale) 1 auction.groups ≡ out = ok-is _ (in_turn (program_text auction.sale) 1 auction.groups) out refl made in
     (auction, auction_is, record { texts = sym is; faithful = each-faithful auction.sale (faithful-without (request.Compile workers) input auction auction_is) auction.groups })

@@ -10,7 +10,7 @@ use Rattle.auction_terms.specs.declared.choices.Choice.{Choice}
 use Rattle.auction_input.specs.Auction.{auction_told}
 use Rattle.auction_input.specs.BookLeft.{program_for}
 use Rattle.auction_input.specs.PartsTold.{only_text}
-use Rattle.auction_input.specs.Refused.{Refused}
+use Rattle.auction_input.specs.declared.refusal.Refusal.{Refusal}
 use Rattle.auction_input.specs.declared.refusal.CountedPart.TheVariants as counted
 use Rattle.auction_input.specs.declared.refusal.Refusal.TheVariants as refusal
 use Rattle.auction_input.specs.declared.request.Request.TheVariants as request
@@ -23,11 +23,11 @@ use Rattle.outcome.specs.Solution.{solution}
 use Rattle.outcome.proofs.BackLaws.{solutions_come_back}
 use Rattle.program_rows.specs.Program.{Table}
 use Rattle.answers.specs.FeasibleAnswers.{IsFeasibleWithout, MappedIsFeasible, ReportedIsFeasible}
-use Rattle.answers.specs.SolutionWinners.{solution_refused, winners}
-use Rattle.answers.specs.commands.Map.{winners_text}
-use Rattle.answers.specs.commands.Report.{costs_text, report_of, winners_of_groups}
+use Rattle.answers.specs.SolutionWinners.{report_of, solution_refused, winners_of_groups}
+use Rattle.answers.specs.inside.SolutionWinners.{winners}
+use Rattle.answers.specs.Answer.{output_of}
 
-pub when-counted : {A : Type 0} (test : Bool) (r : Result A Refused) (e : Refused) (x : A) → cond test r (Err e) ≡ Ok x → (test ≡ true) × (r ≡ Ok x)
+pub when-counted : {A : Type 0} (test : Bool) (r : Result A Refusal) (e : Refusal) (x : A) → cond test r (Err e) ≡ Ok x → (test ≡ true) × (r ≡ Ok x)
 when-counted true r e x told = (refl, told)
 when-counted false r e x told = cc
 
@@ -54,7 +54,7 @@ each-feasible sale n (group ∷ groups) (text ∷ texts) won within count wins =
 
 pub reported-is-feasible : ReportedIsFeasible
 reported-is-feasible workers input out told =
-    let (auction, auction_is, made) = ok-behind (auction_told (request.Report workers) input) costs_text out told in
+    let (auction, auction_is, made) = ok-behind (auction_told (request.Report workers) input) (output_of (request.Report workers)) out told in
     let within = (auction-within (request.Report workers) input auction auction_is).1 in
     let (won, wins, written) = ok-behind (winners_of_groups auction) (report_of auction) out made in
     let (starts, counted_wins) = when-counted (starts_empty auction.groups) _ refusal.FirstGroupNotEmpty won wins in
@@ -64,7 +64,7 @@ reported-is-feasible workers input out told =
 
 pub mapped-is-feasible : MappedIsFeasible
 mapped-is-feasible k input out told =
-    let (auction, auction_is, made) = ok-behind (auction_told (request.Map k) input) (winners_text k) out told in
+    let (auction, auction_is, made) = ok-behind (auction_told (request.Map k) input) (output_of (request.Map k)) out told in
     let within = (auction-within (request.Map k) input auction auction_is).1 in
     let group = slice_index_or auction.groups (k - 1) [] in
     let (known, written) = when-counted (nat_le k (length auction.groups)) _ (refusal.NoGroup k) out made in

@@ -10,7 +10,7 @@ use Rattle.mps_text.proofs.Adding.{Adds-then, counts-new, fails-new, front-behin
 use Rattle.mps_text.proofs.Known.{Counts-then, IsFront-piece, SentFront-from}
 use Rattle.bid_desk.specs.Closing.{Closing}
 use Rattle.group_compiler.specs.Compiled.{GroupProgram}
-use Rattle.answers.specs.GroupTexts.{EndsIn, in_turn, programs_bytes}
+use Rattle.answers.specs.GroupTexts.{EndsIn, programs_bytes}
 use Rattle.std.specs.Prelude.{min, ◌^◌}
 use Rattle.outcome.specs.Report.{in_turn}
 

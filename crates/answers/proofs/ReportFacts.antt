@@ -11,11 +11,12 @@ use Rattle.group_compiler.specs.Compiled.{Compiling, compiling, program_without}
 use Rattle.std.proofs.lemmas.List.FromFn.{length-range_with_len}
 use Rattle.auction_terms.specs.Borrowed.{bytes_of}
 use Rattle.outcome.specs.Sale.{Sale, sale_of}
-use Rattle.auction_input.specs.Refused.{Refusal, Refused, Refuses}
+use Rattle.auction_input.specs.Refused.{Refuses}
+use Rattle.auction_input.specs.declared.refusal.Refusal.{Refusal}
 use Rattle.auction_terms.specs.Stages.{each_in_turn}
 use Rattle.auction_input.proofs.StageFacts.{behind, next, stop}
-use Rattle.answers.specs.SolutionWinners.{winners, winners_by}
-use Rattle.answers.specs.inside.SolutionWinners.{IsFirstRefusal, IsToldAnswer, winners_at}
+use Rattle.answers.specs.SolutionWinners.{winners_by}
+use Rattle.answers.specs.inside.SolutionWinners.{IsFirstRefusal, IsToldAnswer, winners_at, winners}
 
 abbrev Answer : Type 0
 Answer = Result (List Choice) Refusal
@@ -103,4 +104,4 @@ told-by c texts n group text answer is at won refused =
     let place : n + 1 - 1 ≡ n = omega arith in
     let same : winners_by (program_without c.book group) (n + 1) text ≡ winners_by (program_without c.book (slice_index_or c.groups n [])) (n + 1) (slice_index_or texts n []) =
     ap₂ (λ (g t : List ℕ). winners_by (program_without c.book g) (n + 1) t) (is ∙ ap (λ (k : ℕ). slice_index_or c.groups k []) place) at in
-    (subst (λ (told : Result (List Choice) Refused). IfOk answer (λ a. told ≡ Ok a)) same won, subst (λ (told : Result (List Choice) Refused). IfErr answer (Refuses told)) same refused)
+    (subst (λ (told : Result (List Choice) Refusal). IfOk answer (λ a. told ≡ Ok a)) same won, subst (λ (told : Result (List Choice) Refusal). IfErr answer (Refuses told)) same refused)

@@ -4,7 +4,10 @@ use Rattle.std.specs.Prelude.{min, slice_get, sum_by, ℤ}
 use Rattle.std.proofs.lemmas.List.Sums.{sum_by-append}
 use Rattle.std.specs.Option.{option_map}
 use Rattle.program_rows.specs.Program.{TableColumn}
-use Rattle.answers.specs.Sizes.{entry_count}
+
+-- how many entries these columns have, up to the greatest number of 64 bits
+abbrev pub entry_count : List TableColumn → ℕ
+entry_count columns = min (sum_by (λ (c : TableColumn). length c.entries) columns) (2 ^ 64 - 1)
 
 found : (o : Option TableColumn) (entries : List (ℕ × ℤ)) → option_map (λ (c : TableColumn). c.entries) o ≡ Some entries → (c : TableColumn) × (o ≡ Some c) × (c.entries ≡ entries)
 found None entries is = cc

@@ -1,6 +1,6 @@
 -- What certificates show of what groups win.
 use Rattle.std.proofs.Common.{◌≡◌, ◌+◌, ◌==◌, ◌∷◌, ◌∙◌, [], ℕ, true, false, List, Option, None, Some, Result, Ok, Err, ap, arith, eqb-true, length, map, refl, subst, sym}
-use Rattle.std.specs.Prelude.{OnOk, slice_index_or}
+use Rattle.std.specs.Prelude.{OnOk, ℤ, slice_index_or}
 use Rattle.std.specs.List.{AllZip, zip}
 use Rattle.std.specs.Option.{option_map}
 use Rattle.std.proofs.lemmas.Int.{ints}
@@ -20,13 +20,13 @@ use Rattle.program_rows.specs.Faithful.{IsGreatest}
 use Rattle.program_rows.specs.Program.{Table}
 use Rattle.auction_input.specs.Auction.{Auction, auction_told}
 use Rattle.auction_input.specs.BookLeft.{program_for}
-use Rattle.answers.specs.Certified.{ClaimedBound, bound_of, bounds_of, certificate_refused, certified, shown}
-use Rattle.answers.specs.commands.Report.{report_of, winners_of_groups}
-use Rattle.answers.specs.commands.Verify.{verified_text}
+use Rattle.answers.specs.Certified.{bound_of, bounds_of, certified, shown}
+use Rattle.answers.specs.Answer.{answer, output_of}
 use Rattle.auction_terms.specs.Stages.{and_then, each_in_turn}
-use Rattle.answers.specs.Exact.{IsWritten}
+use Rattle.answers.specs.Exact.{Writes}
 use Rattle.answers.specs.Verified.{IsGreatestWithout, IsOwnCost, IsTrueReport, VerifiedIsTrue, WritesTrueReport}
-use Rattle.answers.specs.SolutionWinners.{winners}
+use Rattle.answers.specs.SolutionWinners.{report_of, winners_of_groups}
+use Rattle.answers.specs.inside.SolutionWinners.{winners}
 use Rattle.auction_input.specs.declared.refusal.CountedPart.TheVariants as counted
 use Rattle.auction_input.specs.declared.refusal.Refusal.TheVariants as refusal
 use Rattle.auction_input.specs.declared.request.Request.TheVariants as request
@@ -37,14 +37,14 @@ use Rattle.answers.proofs.FeasibleFacts.{feasible-of, when-counted}
 -- ---- one group
 
 -- a bound that is shown is one
-shown-bound : (number : ℕ) (bound : ClaimedBound) (u : Unit {0}) → shown number bound ≡ Ok u → IsBound bound.program bound.least
+shown-bound : (number : ℕ) (bound : Table × ℤ × List ℕ) (u : Unit {0}) → shown number bound ≡ Ok u → IsBound bound.0 bound.1
 shown-bound number bound u told =
-    let none = (unless-ok (option_map (certificate_refused number) (certificate_fault bound.program bound.least bound.certificate)) tt u told).0 in
-    let faultless : certificate_fault bound.program bound.least bound.certificate ≡ None = no-fault (certificate_fault bound.program bound.least bound.certificate) none in
-    let (certificate, tells, shows) = (verdict bound.program bound.least bound.certificate).0 faultless in
-    shown-is-bound bound.program bound.least certificate shows
+    let none = (unless-ok (option_map (λ (f : ℕ × FaultKind). refusal.Certificate number (record { line = f.0; kind = f.1 })) (certificate_fault bound.0 bound.1 bound.2)) tt u told).0 in
+    let faultless : certificate_fault bound.0 bound.1 bound.2 ≡ None = no-fault (certificate_fault bound.0 bound.1 bound.2) none in
+    let (certificate, tells, shows) = (verdict bound.0 bound.1 bound.2).0 faultless in
+    shown-is-bound bound.0 bound.1 certificate shows
   where
-    no-fault : (o : Option (ℕ × FaultKind)) → option_map (certificate_refused number) o ≡ None → o ≡ None
+    no-fault : (o : Option (ℕ × FaultKind)) → option_map (λ (f : ℕ × FaultKind). refusal.Certificate number (record { line = f.0; kind = f.1 })) o ≡ None → o ≡ None
     no-fault None e = refl
     no-fault (Some f) e = cc
 
@@ -108,8 +108,8 @@ first-greatest sale ((b ∷ group) ∷ groups) (a ∷ won) starts each = (let no
 
 -- ---- an auction
 
-true-report : (auction : Auction) (out : List ℕ) → IsBook auction.sale.lots auction.sale.book → verified_text auction ≡ Ok out → IsTrueReport auction out
-true-report auction out within told =
+true-report : (workers : ℕ) (auction : Auction) (out : List ℕ) → IsBook auction.sale.lots auction.sale.book → output_of (request.Verify workers) auction ≡ Ok out → IsTrueReport auction out
+true-report workers auction out within told =
     let (won, won_is, written) = ok-behind (and_then (winners_of_groups auction) (certified auction)) (report_of auction) out told in
     let (allocations, wins, certifies) = ok-behind (winners_of_groups auction) (certified auction) won won_is in
     let (starts, counted_wins) = when-counted (starts_empty auction.groups) _ refusal.FirstGroupNotEmpty allocations wins in
@@ -131,11 +131,11 @@ true-report auction out within told =
 
 pub verified-is-true : VerifiedIsTrue
 verified-is-true workers input out told =
-    let (auction, auction_is, text) = ok-behind (auction_told (request.Verify workers) input) verified_text out told in
-    (auction, auction_is, true-report auction out (auction-within (request.Verify workers) input auction auction_is).1 text)
+    let (auction, auction_is, text) = ok-behind (auction_told (request.Verify workers) input) (output_of (request.Verify workers)) out told in
+    (auction, auction_is, true-report workers auction out (auction-within (request.Verify workers) input auction auction_is).1 text)
 
 -- what is written at Ok is a true report
-pub writes-true : {T E : Type 0} (workers : ℕ) (input : List ℕ) (result : Result T E) (taken taken' : Option (List ℕ)) → OnOk result (IsWritten (request.Verify workers) input taken taken') → OnOk result (WritesTrueReport workers input taken taken')
+pub writes-true : {T E : Type 0} (workers : ℕ) (input : List ℕ) (result : Result T E) (taken taken' : Option (List ℕ)) → OnOk result (Writes (answer (request.Verify workers) input) taken taken') → OnOk result (WritesTrueReport workers input taken taken')
 writes-true workers input (Ok x) taken taken' (out, told, sent) =
     let (auction, auction_is, report) = verified-is-true workers input out told in
     record { auction = auction; out = out; told = auction_is; is_true = report; sent = sent }

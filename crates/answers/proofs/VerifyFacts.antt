@@ -4,10 +4,12 @@ use Rattle.std.specs.Prelude.{IfErr, ◌⊎◌}
 use Rattle.auction_terms.specs.declared.choices.Choice.{Choice}
 use Rattle.auction_input.specs.Auction.{Auction, auction_told}
 use Rattle.answers.specs.Certified.{bounds_of, certified}
-use Rattle.answers.specs.commands.Report.{winners_of_groups}
-use Rattle.answers.specs.commands.Verify.{verified_text}
-use Rattle.auction_input.specs.Refused.{Refuses, Refusal, Refused}
-use Rattle.answers.specs.Exact.{Ends, IsBeyondSums, IsTooWide, IsUnwritten, by_refusal}
+use Rattle.answers.specs.SolutionWinners.{winners_of_groups}
+use Rattle.answers.specs.Answer.{output_of}
+use Rattle.auction_input.specs.Refused.{Refuses}
+use Rattle.auction_input.specs.declared.refusal.Refusal.{Refusal}
+use Rattle.answers.specs.Exact.{Ends, IsTooWide, IsUnwritten, by_refusal}
+use Rattle.answers.specs.inside.Judging.{IsBeyondSums}
 use Rattle.auction_terms.specs.Stages.{and_then}
 use Rattle.auction_input.specs.declared.request.Request.TheVariants as request
 use Rattle.auction_input.proofs.StageFacts.{behind, stop}
@@ -15,16 +17,16 @@ use Rattle.auction_input.proofs.StageFacts.{behind, stop}
 -- an auction of which nothing is written
 pub unwritten : {T : Type 0} (workers : ℕ) (input : List ℕ) (auction : Auction) → auction_told (request.Verify workers) input ≡ Ok auction
     → (result : Result T Refusal) (taken taken' : Option (List ℕ)) (failures failures' : ℕ)
-    → IfErr result (λ r. Ends (verified_text auction) taken taken' failures failures' r ⊎ (IsBeyondSums auction r × (taken' ≡ taken)))
+    → IfErr result (λ r. Ends (output_of (request.Verify workers) auction) taken taken' failures failures' r ⊎ (IsBeyondSums auction r × (taken' ≡ taken)))
     → IfErr result (IsUnwritten (request.Verify workers) input taken taken' failures failures')
 unwritten workers input auction told (Ok x) taken taken' failures failures' ends = tt
 unwritten workers input auction told (Err r) taken taken' failures failures' (inl ends) =
-    inl (subst (λ x. Ends x taken taken' failures failures' r) (sym (ap (λ (t : Result Auction Refused). and_then t verified_text) told)) ends)
+    inl (subst (λ x. Ends x taken taken' failures failures' r) (sym (ap (λ (t : Result Auction Refusal). and_then t (output_of (request.Verify workers))) told)) ends)
 unwritten workers input auction told (Err r) taken taken' failures failures' (inr (beyond, none)) = inr (inr (auction, told, beyond), none)
 
 -- solutions that are taken, and a certificate that isn't
-pub unshown : (auction : Auction) (won : List (List Choice)) (taken : Option (List ℕ)) (failures : ℕ) (r : Refusal) → winners_of_groups auction ≡ Ok won
+pub unshown : (workers : ℕ) (auction : Auction) (won : List (List Choice)) (taken : Option (List ℕ)) (failures : ℕ) (r : Refusal) → winners_of_groups auction ≡ Ok won
     → Refuses (certified auction won) r ⊎ ((length auction.certificates ≡ length auction.groups) × IsTooWide (bounds_of auction won) r)
-    → Ends (verified_text auction) taken taken failures failures r ⊎ (IsBeyondSums auction r × (taken ≡ taken))
-unshown auction won taken failures r told (inl refused) = inl (by_refusal (stop _ _ r (behind _ won _ r told refused)) refl)
-unshown auction won taken failures r told (inr (each, wide)) = inr (record { won = won; won_are = told; each = each; too_wide = wide }, refl)
+    → Ends (output_of (request.Verify workers) auction) taken taken failures failures r ⊎ (IsBeyondSums auction r × (taken ≡ taken))
+unshown workers auction won taken failures r told (inl refused) = inl (by_refusal (stop _ _ r (behind _ won _ r told refused)) refl)
+unshown workers auction won taken failures r told (inr (each, wide)) = inr ((won, told, each, wide), refl)

@@ -1,5 +1,5 @@
 -- What the words on the command line ask for.
-use Rattle.std.specs.Prelude.{◌≡◌, ◌⊎◌, ℕ, List, [], ◌∷◌, Option, None, Some, Result, Ok, Err, true, codes, if◌then◌else◌}
+use Rattle.std.specs.Prelude.{◌≡◌, ◌⊎◌, ℕ, List, [], ◌∷◌, Option, None, Some, true, codes, fold, if◌then◌else◌}
 use Rattle.std.specs.Option.{option_map_or}
 use Rattle.std.specs.Str.{bytes_eq}
 use Rattle.std.specs.Str.Parse.{digits_value, without_leading_plus}
@@ -8,7 +8,7 @@ use Rattle.auction_input.specs.declared.request.Request.{Request}
 use Rattle.auction_terms.specs.declared.limits.TheConstants.{MOST_GROUPS}
 use Rattle.clap.specs.Simple.{on_top}
 use Rattle.clap.specs.ValueTests.{is_unsigned_in}
-use Rattle.clap.specs.Words.{App, IsAmong, Kinds, Row, Rule, Text, fault_of, first_of, new_app, new_rule, subcommand_of, with_rule, with_subcommand}
+use Rattle.clap.specs.Words.{App, IsAmong, Row, Rule, Text, fault_of, first_of, new_app, new_rule, subcommand_of, with_rule, with_subcommand}
 use Rattle.clap.specs.declared.builder.value_parser.ValueParser.TheVariants as parser
 use Rattle.clap.specs.declared.error.kind.ErrorKind.TheVariants as kind
 use Rattle.clap.specs.declared.error.kind.ErrorKind.{ErrorKind}
@@ -22,47 +22,19 @@ workers = record (new_rule (codes "workers")) { long = Some (codes "workers"); v
 abbrev pub group : Rule
 group = record (new_rule (codes "group")) { long = Some (codes "group"); value_names = 1; parser = Some (parser.Unsigned 1 MOST_GROUPS); required = true }
 
--- the commands
-abbrev pub text_app : App
-text_app = new_app (codes "text")
-
-abbrev pub compile_app : App
-compile_app = with_rule (new_app (codes "compile")) workers
-
-abbrev pub check_app : App
-check_app = new_app (codes "check")
-
-abbrev pub map_app : App
-map_app = with_rule (new_app (codes "map")) group
-
-abbrev pub report_app : App
-report_app = with_rule (new_app (codes "report")) workers
-
-abbrev pub verify_app : App
-verify_app = with_rule (new_app (codes "verify")) workers
-
--- the commands that need no solution
-abbrev pub with_programs : App → App
-with_programs app = with_subcommand (with_subcommand (with_subcommand app text_app.top) compile_app.top) check_app.top
-
--- the commands that take solutions
-abbrev pub with_solutions : App → App
-with_solutions app = with_subcommand (with_subcommand (with_subcommand app map_app.top) report_app.top) verify_app.top
-
 -- the program's own words: a version, and the commands
-abbrev pub plain : App
-plain = on_top (λ s. record s { has_version = true }) (new_app (codes "wdp"))
-
 abbrev pub wdp : App
-wdp = with_solutions (with_programs plain)
+wdp = fold (λ (app command : App). with_subcommand app command.top) (on_top (λ s. record s { has_version = true }) (new_app (codes "wdp"))) (
+    new_app (codes "text") ∷
+    with_rule (new_app (codes "compile")) workers ∷
+    new_app (codes "check") ∷
+    with_rule (new_app (codes "map")) group ∷
+    with_rule (new_app (codes "report")) workers ∷
+    with_rule (new_app (codes "verify")) workers ∷ [])
 
--- the number that a text writes, from 1 to the most; of any other text 1
-abbrev pub number_up_to : ℕ → List ℕ → ℕ
-number_up_to most text = if is_unsigned_in 1 most text then digits_value 10 (without_leading_plus text) else 1
-
--- the number that an option has
+-- the number that an option writes, from 1 to the most; where it writes none, 1
 abbrev pub option_number : Text → ℕ → List Row → ℕ
-option_number id most rows = option_map_or (number_up_to most) (first_of id rows) 1
+option_number id most rows = option_map_or (λ text. if is_unsigned_in 1 most text then digits_value 10 (without_leading_plus text) else 1) (first_of id rows) 1
 
 -- the request of the command that is named, with its options
 abbrev pub named : Option (Text × List Row) → Request
@@ -75,13 +47,9 @@ named (Some (name, rows)) =
     else if bytes_eq name (codes "verify") then request.Verify (option_number (codes "workers") MOST_WORKERS rows)
     else request.Text
 
--- the request, unless the words have faults
-abbrev pub asked_unless : Kinds → Request → Result Request Kinds
-asked_unless [] asked = Ok asked
-asked_unless (first ∷ more) asked = Err (first ∷ more)
-
-abbrev pub asked : List Text → Result Request Kinds
-asked words = asked_unless (fault_of wdp words) (named (subcommand_of wdp words))
+-- words without a fault that ask for this
+abbrev pub AskFor : List Text → Request → Type 0
+AskFor words request = (fault_of wdp words ≡ []) × (request ≡ named (subcommand_of wdp words))
 
 -- words with a fault that is shown on the output: help, or the version
 abbrev pub IsShown : ErrorKind → Type 0
@@ -89,7 +57,3 @@ IsShown k = (k ≡ kind.DisplayHelp) ⊎ (k ≡ kind.DisplayVersion)
 
 abbrev pub AskForHelp : List Text → Type 0
 AskForHelp words = (k : ErrorKind) × IsAmong k (fault_of wdp words) × IsShown k
-
--- words with any other fault
-abbrev pub AskForNothing : List Text → Type 0
-AskForNothing words = (k : ErrorKind) × IsAmong k (fault_of wdp words) × ¬ (IsShown k)

@@ -4,7 +4,7 @@ use Rattle.std.specs.List.{zip}
 use Rattle.std.specs.Option.{option_map}
 use Rattle.auction_input.specs.Auction.{Auction}
 use Rattle.auction_input.specs.BookLeft.{program_for}
-use Rattle.auction_input.specs.Refused.{Refused}
+use Rattle.auction_input.specs.declared.refusal.Refusal.{Refusal}
 use Rattle.auction_terms.specs.Stages.{and_then, each_in_turn, unless}
 use Rattle.auction_input.specs.declared.refusal.CountedPart.TheVariants as counted
 use Rattle.auction_input.specs.declared.refusal.Refusal.TheVariants as refusal
@@ -15,29 +15,21 @@ use Rattle.optimality.specs.declared.fault.FaultKind.{FaultKind}
 use Rattle.outcome.specs.Sale.{Sale}
 use Rattle.program_rows.specs.Program.{Table}
 
--- a certificate, and the objective below which it is to show no point of a program
-pub record ClaimedBound : Type 0 where
-  pub program : Table
-  pub least : ℤ
-  pub certificate : List ℕ
+-- what the certificate of a group is to show of what is won without the group: a program, the objective below which it has no point, and the certificate
+abbrev pub bound_of : Sale → (List ℕ × List Choice) × List ℕ → Table × ℤ × List ℕ
+bound_of sale item = (program_for sale item.0.0, neg_ℤ (pos (total sale.lots sale.book item.0.1)), item.1)
 
--- what the certificate of a group is to show of what is won without the group
-abbrev pub bound_of : Sale → (List ℕ × List Choice) × List ℕ → ClaimedBound
-bound_of sale item = record { program = program_for sale item.0.0; least = neg_ℤ (pos (total sale.lots sale.book item.0.1)); certificate = item.1 }
-
-abbrev pub bounds_of : Auction → List (List Choice) → List ClaimedBound
+abbrev pub bounds_of : Auction → List (List Choice) → List (Table × ℤ × List ℕ)
 bounds_of auction won = map (bound_of auction.sale) (zip (zip auction.groups won) auction.certificates)
 
--- a fault of the certificate of this number
-abbrev pub certificate_refused : ℕ → ℕ × FaultKind → Refused
-certificate_refused number f = refusal.Certificate number (record { line = f.0; kind = f.1 })
-
 -- the certificate of this number shows what it is to, or has a first fault
-abbrev pub shown : ℕ → ClaimedBound → Result (Unit {0}) Refused
-shown number bound = unless (option_map (certificate_refused number) (certificate_fault bound.program bound.least bound.certificate)) (Ok tt)
+abbrev pub shown : ℕ → Table × ℤ × List ℕ → Result (Unit {0}) Refusal
+shown number bound =
+    let refused : ℕ × FaultKind → Refusal = λ f. refusal.Certificate number (record { line = f.0; kind = f.1 }) in
+    unless (option_map refused (certificate_fault bound.0 bound.1 bound.2)) (Ok tt)
 
 -- what the groups win, where there is a certificate for each, and each shows what it is to
-abbrev pub certified : Auction → List (List Choice) → Result (List (List Choice)) Refused
+abbrev pub certified : Auction → List (List Choice) → Result (List (List Choice)) Refusal
 certified auction won =
     if length auction.certificates == length auction.groups then and_then (each_in_turn shown 1 (bounds_of auction won)) (λ all. Ok won)
     else Err (refusal.PartCount counted.Certificates)

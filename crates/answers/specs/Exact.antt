@@ -1,8 +1,9 @@
 -- What a command leaves, by what is told: the whole output, or the first refusal.
-use Rattle.std.specs.Prelude.{◌≡◌, ◌⊎◌, ◌+◌, ◌<◌, ℕ, List, Option, Result, Ok, length, take}
+use Rattle.std.specs.Prelude.{◌≡◌, ◌⊎◌, ◌+◌, ◌<◌, ℕ, List, ℤ, Option, Result, Ok, length, take}
 use Rattle.std.specs.Io.KnownBytes.{Appends}
 use Rattle.auction_input.specs.Auction.{Auction, auction_told}
-use Rattle.auction_input.specs.Refused.{Refusal, Refused, Refuses}
+use Rattle.auction_input.specs.Refused.{Refuses}
+use Rattle.auction_input.specs.declared.refusal.Refusal.{Refusal}
 use Rattle.auction_input.specs.Settled.{IsUnsettled}
 use Rattle.auction_terms.specs.Stages.{each_in_turn}
 use Rattle.auction_input.specs.declared.refusal.Refusal.TheVariants as refusal
@@ -12,32 +13,22 @@ use Rattle.auction_terms.specs.declared.choices.Choice.{Choice}
 use Rattle.mps_text.specs.Sinks.{HasFailed, SentFront}
 use Rattle.mps_text.specs.declared.write_fault.WriteFault.TheVariants as write
 use Rattle.optimality.specs.declared.fault.FaultKind.TheVariants as certificate
+use Rattle.program_rows.specs.Program.{Table}
 use Rattle.answers.specs.Answer.{answer}
-use Rattle.answers.specs.Certified.{ClaimedBound, bounds_of, shown}
-use Rattle.answers.specs.commands.Report.{winners_of_groups}
+use Rattle.answers.specs.Certified.{bounds_of, shown}
+use Rattle.answers.specs.SolutionWinners.{winners_of_groups}
 
 -- the output that is told was written, and nothing else
-abbrev pub Writes : Result (List ℕ) Refused → Option (List ℕ) → Option (List ℕ) → Type 0
+abbrev pub Writes : Result (List ℕ) Refusal → Option (List ℕ) → Option (List ℕ) → Type 0
 Writes told taken taken' = (out : List ℕ) × (told ≡ Ok out) × Appends taken taken' out
 
--- a put failed: what went out is the first bytes of the output that is told, as many as the refusal tells
-pub record IsCutShort (told : Result (List ℕ) Refused) (taken taken' : Option (List ℕ)) (failures failures' : ℕ) (written : ℕ) : Type 0 where
-  pub out : List ℕ
-  pub whole : told ≡ Ok out
-  pub sent : SentFront taken taken' out written
-  pub failed : HasFailed failures failures'
-
--- how a command ends without its output
-pub data Ends (told : Result (List ℕ) Refused) (taken taken' : Option (List ℕ)) (failures failures' : ℕ) : Refusal → Type 0 where
+-- how a command ends without its output: it is refused; or a put failed, behind the first bytes of the output, as many as the refusal tells
+pub data Ends (told : Result (List ℕ) Refusal) (taken taken' : Option (List ℕ)) (failures failures' : ℕ) : Refusal → Type 0 where
   by_refusal : {r : Refusal} → Refuses told r → taken' ≡ taken → Ends told taken taken' failures failures' r
-  by_put : {written : ℕ} → IsCutShort told taken taken' failures failures' written → Ends told taken taken' failures failures' (refusal.Write (write.Sink written))
-
--- what a request asks for was written
-abbrev pub IsWritten : Request → List ℕ → Option (List ℕ) → Option (List ℕ) → Type 0
-IsWritten asked input taken taken' = Writes (answer asked input) taken taken'
+  by_put : {written : ℕ} → (out : List ℕ) → told ≡ Ok out → SentFront taken taken' out written → HasFailed failures failures' → Ends told taken taken' failures failures' (refusal.Write (write.Sink written))
 
 -- behind some certificates that show what they are to comes one that can't be judged, since a sum may leave 128 bits
-pub record IsTooWide (bounds : List ClaimedBound) (r : Refusal) : Type 0 where
+pub record IsTooWide (bounds : List (Table × ℤ × List ℕ)) (r : Refusal) : Type 0 where
   pub before : ℕ
   pub line : ℕ
   pub all : List (Unit {0})
@@ -45,23 +36,14 @@ pub record IsTooWide (bounds : List ClaimedBound) (r : Refusal) : Type 0 where
   pub shown_are : each_in_turn shown 1 (take before bounds) ≡ Ok all
   pub refusal_is : r ≡ refusal.Certificate (before + 1) (record { line = line; kind = certificate.TooLarge })
 
--- the same of the certificates of an auction, behind solutions that are taken
-pub record IsBeyondSums (auction : Auction) (r : Refusal) : Type 0 where
-  pub won : List (List Choice)
-  pub won_are : winners_of_groups auction ≡ Ok won
-  pub each : length auction.certificates ≡ length auction.groups
-  pub too_wide : IsTooWide (bounds_of auction won) r
-
--- `verify` alone adds up in 128 bits
+-- `verify` alone adds up in 128 bits: the same of the certificates of an auction that the input tells, behind solutions that are taken
 abbrev pub MeetsLimit : Request → List ℕ → Refusal → Type 0
-MeetsLimit (request.Verify workers) input r = (auction : Auction) × (auction_told (request.Verify workers) input ≡ Ok auction) × IsBeyondSums auction r
+MeetsLimit (request.Verify workers) input r =
+    (auction : Auction) × (auction_told (request.Verify workers) input ≡ Ok auction)
+    × ((won : List (List Choice)) × (winners_of_groups auction ≡ Ok won) × (length auction.certificates ≡ length auction.groups) × IsTooWide (bounds_of auction won) r)
 MeetsLimit asked input r = ⊥
 
--- what the input doesn't settle: a wrong answer of the desk, and the limit of sums
-abbrev pub IsLeftOpen : Request → List ℕ → Refusal → Type 0
-IsLeftOpen asked input r = IsUnsettled asked input r ⊎ MeetsLimit asked input r
-
--- why a request is refused, or its output cut short
+-- why a request is refused, or its output cut short; what the input doesn't settle is a wrong answer of the desk, and the limit of sums
 abbrev pub IsUnwritten : Request → List ℕ → Option (List ℕ) → Option (List ℕ) → ℕ → ℕ → Refusal → Type 0
 IsUnwritten asked input taken taken' failures failures' r =
-    Ends (answer asked input) taken taken' failures failures' r ⊎ (IsLeftOpen asked input r × (taken' ≡ taken))
+    Ends (answer asked input) taken taken' failures failures' r ⊎ ((IsUnsettled asked input r ⊎ MeetsLimit asked input r) × (taken' ≡ taken))

@@ -10,7 +10,7 @@ use Rattle.mps_text.specs.Text.{text}
 use Rattle.outcome.specs.Report.{in_turn}
 use Rattle.outcome.specs.Sale.{Sale}
 use Rattle.answers.specs.Answer.{answer}
-use Rattle.answers.specs.commands.Compile.{program_text}
+use Rattle.answers.specs.GroupTexts.{program_text}
 
 -- the text of a group's program says of the auction, and of the group left out, what the allocations say
 abbrev pub IsFaithfulToSale : Sale → List ℕ → Type 0

@@ -5,9 +5,14 @@ use Rattle.group_compiler.specs.Compiled.{GroupProgram}
 use Rattle.mps_text.specs.Sinks.{HasFailed}
 use Rattle.mps_text.specs.Text.{text}
 use Rattle.outcome.specs.Report.{heading, in_turn}
-use Rattle.outcome.specs.Sale.{sale_of}
+use Rattle.auction_input.specs.BookLeft.{program_for}
+use Rattle.outcome.specs.Sale.{Sale, sale_of}
 use Rattle.answers.specs.declared.run_fault.RunFault.TheVariants as fault
 use Rattle.answers.specs.declared.run_fault.RunFault.{RunFault}
+
+-- the line and the program of group k of a sale
+abbrev pub program_text : Sale → ℕ → List ℕ → List ℕ
+program_text sale k group = heading (codes "* program ") sale.names k group ++ text (program_for sale group)
 
 -- the line and the text of group k
 abbrev pub program_bytes : Closing → ℕ → GroupProgram → List ℕ

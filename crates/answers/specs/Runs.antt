@@ -2,17 +2,19 @@
 use Rattle.std.specs.Prelude.{◌≡◌, ◌⊎◌, ℕ, List, Option, Ok}
 use Rattle.std.specs.Io.KnownBytes.{Appends}
 use Rattle.auction_input.specs.ReadInput.{IsUntaken, IsWhole}
-use Rattle.auction_input.specs.Refused.{Refusal}
+use Rattle.auction_input.specs.declared.refusal.Refusal.{Refusal}
 use Rattle.auction_input.specs.declared.input.InputFault.{InputFault}
 use Rattle.auction_input.specs.declared.refusal.Refusal.TheVariants as refusal
 use Rattle.auction_input.specs.declared.request.Request.{Request}
-use Rattle.clap.specs.Words.{Text}
-use Rattle.answers.specs.Asked.{AskForHelp, AskForNothing, asked}
-use Rattle.answers.specs.Exact.{Ends, IsUnwritten, IsWritten}
+use Rattle.clap.specs.Words.{IsAmong, Text, fault_of}
+use Rattle.clap.specs.declared.error.kind.ErrorKind.{ErrorKind}
+use Rattle.answers.specs.Answer.{answer}
+use Rattle.answers.specs.Asked.{AskFor, AskForHelp, IsShown, wdp}
+use Rattle.answers.specs.Exact.{Ends, IsUnwritten, Writes}
 
 -- from what a reader had left and a sink had taken before to those after: the input was read, and what was asked for is written
 abbrev pub IsAnswered : Request → Option (List ℕ) → Option (List ℕ) → Option (List ℕ) → Option (List ℕ) → Type 0
-IsAnswered asked left left' taken taken' = (input : List ℕ) × IsWhole left left' input × IsWritten asked input taken taken'
+IsAnswered asked left left' taken taken' = (input : List ℕ) × IsWhole left left' input × Writes (answer asked input) taken taken'
 
 -- the input isn't taken, and nothing is written; or it was read, and what it tells isn't written
 pub data IsRefused (asked : Request) (left left' : Option (List ℕ)) (reads reads' : ℕ) (taken taken' : Option (List ℕ)) (failures failures' : ℕ) : Refusal → Type 0 where
@@ -22,19 +24,15 @@ pub data IsRefused (asked : Request) (left left' : Option (List ℕ)) (reads rea
 -- what the words ask for is answered; or help went out, which they ask for, and nothing was read
 abbrev pub IsDone : List Text → Option (List ℕ) → Option (List ℕ) → Option (List ℕ) → Option (List ℕ) → Type 0
 IsDone words left left' taken taken' =
-    ((request : Request) × (asked words ≡ Ok request) × IsAnswered request left left' taken taken')
+    ((request : Request) × AskFor words request × IsAnswered request left left' taken taken')
     ⊎ (AskForHelp words × (left' ≡ left) × ((help : List ℕ) × Appends taken taken' help))
-
--- a text of help could not be written
-abbrev pub IsUnshown : Option (List ℕ) → Option (List ℕ) → ℕ → ℕ → Refusal → Type 0
-IsUnshown taken taken' failures failures' r = (help : List ℕ) × Ends (Ok help) taken taken' failures failures' r
 
 -- why a run is refused: what the words ask for is; or help, which they ask for, could not be written; or memory was short before anything was read
 pub data IsUndone (words : List Text) (left left' : Option (List ℕ)) (reads reads' : ℕ) (taken taken' : Option (List ℕ)) (failures failures' : ℕ) : Refusal → Type 0 where
-  by_request : {r : Refusal} → (request : Request) → asked words ≡ Ok request → IsRefused request left left' reads reads' taken taken' failures failures' r → IsUndone words left left' reads reads' taken taken' failures failures' r
-  by_help : {r : Refusal} → AskForHelp words → left' ≡ left → IsUnshown taken taken' failures failures' r → IsUndone words left left' reads reads' taken taken' failures failures' r
+  by_request : {r : Refusal} → (request : Request) → AskFor words request → IsRefused request left left' reads reads' taken taken' failures failures' r → IsUndone words left left' reads reads' taken taken' failures failures' r
+  by_help : {r : Refusal} → (help : List ℕ) → AskForHelp words → left' ≡ left → Ends (Ok help) taken taken' failures failures' r → IsUndone words left left' reads reads' taken taken' failures failures' r
   by_memory : left' ≡ left → taken' ≡ taken → IsUndone words left left' reads reads' taken taken' failures failures' refusal.OutOfMemory
 
--- the words ask for nothing, and nothing is read or written
+-- the words have a fault other than asking for help, and nothing is read or written
 abbrev pub IsUnasked : List Text → Option (List ℕ) → Option (List ℕ) → Option (List ℕ) → Option (List ℕ) → Type 0
-IsUnasked words left left' taken taken' = AskForNothing words × (left' ≡ left) × (taken' ≡ taken)
+IsUnasked words left left' taken taken' = ((k : ErrorKind) × IsAmong k (fault_of wdp words) × ¬ (IsShown k)) × (left' ≡ left) × (taken' ≡ taken)

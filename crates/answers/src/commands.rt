@@ -1,7 +1,8 @@
 //! The commands: the input is read, and the command that is asked for answers.
 
 ghost use Rattle.std.specs.Prelude.{IfErr, OnOk};
-ghost use Rattle.answers.specs.Exact.{IsUnwritten, IsWritten};
+ghost use Rattle.answers.specs.Answer.{answer};
+ghost use Rattle.answers.specs.Exact.{IsUnwritten, Writes};
 ghost use Rattle.answers.specs.Requests.{IsRequestWithinLimits};
 ghost use Rattle.answers.specs.Runs.{IsAnswered, IsRefused};
 ghost use Rattle.auction_input.specs.Sold.{HasReadSold, HasSold};
@@ -53,7 +54,8 @@ fn answer_text<R: Threads + Wait + Sync + AllocGlobal, S: Sink>(
     out: &mut S,
 ) -> Result<(), Refusal>
     requires { IsRequestWithinLimits request }
-    ensures written { OnOk result (IsWritten request text.now (S.taken out.old) (S.taken out.new)) }
+    ensures written { OnOk result (Writes (answer request text.now) (S.taken out.old)
+        (S.taken out.new)) }
     ensures sold { OnOk result (HasSold request text.now) }
     ensures refused { IfErr result (IsUnwritten request text.now (S.taken out.old) (S.taken out.new)
         (S.failures out.old) (S.failures out.new)) }

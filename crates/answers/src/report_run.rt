@@ -5,13 +5,12 @@ ghost use Rattle.group_compiler.specs.declared.limits.TheConstants.{MOST_WORKERS
 ghost use Rattle.std.specs.List.{zip};
 ghost use Rattle.auction_terms.specs.Groups.{starts_empty};
 ghost use Rattle.outcome.specs.Sale.{sale_of};
-ghost use Rattle.answers.specs.commands.Report.{winners_of_groups};
 ghost use Rattle.auction_input.specs.Refused.{Refuses};
 ghost use Rattle.auction_input.specs.Settled.{held};
 ghost use Rattle.auction_terms.specs.Borrowed.{bytes_of};
 ghost use Rattle.auction_terms.specs.Stages.{each_in_turn};
-ghost use Rattle.answers.specs.SolutionWinners.{winners};
-ghost use Rattle.answers.specs.inside.SolutionWinners.{IsFirstRefusal};
+ghost use Rattle.answers.specs.SolutionWinners.{winners_of_groups};
+ghost use Rattle.answers.specs.inside.SolutionWinners.{IsFirstRefusal, winners};
 
 use crate::winning::won_without;
 use auction_input::{Auction, CountedPart, Refusal};

@@ -1,8 +1,11 @@
 //! What the words ask for.
 
-ghost use Rattle.std.specs.Prelude.{◌≡◌, ◌≤◌, IfOk, Ok, false, map};
-ghost use Rattle.clap.specs.Words.{FailsBy, IsPlainArg, app_of, fault_of, found_of, rows_of, rule_of, subcommand_of, subcommand_rows_of};
-ghost use Rattle.answers.specs.Asked.{asked, check_app, compile_app, group, map_app, named, option_number, number_up_to, plain, report_app, text_app, verify_app, wdp, with_programs, with_solutions, workers};
+ghost use Rattle.std.specs.Prelude.{◌≡◌, ◌≤◌, IfOk, codes, false, if◌then◌else◌, map, true};
+ghost use Rattle.std.specs.Str.Parse.{digits_value, without_leading_plus};
+ghost use Rattle.clap.specs.Simple.{on_top};
+ghost use Rattle.clap.specs.ValueTests.{is_unsigned_in};
+ghost use Rattle.clap.specs.Words.{FailsBy, IsPlainArg, app_of, fault_of, found_of, new_app, rows_of, rule_of, subcommand_of, subcommand_rows_of, with_rule};
+ghost use Rattle.answers.specs.Asked.{AskFor, group, named, option_number, wdp, workers};
 ghost use Rattle.answers.specs.Requests.{IsRequestWithinLimits};
 
 use auction_input::Request;
@@ -38,7 +41,7 @@ fn workers_option<'a>(alloc: Global) -> Arg<'a>
 }
 
 fn text_command<'a>(alloc: Global) -> Command<'a>
-    ensures { app_of result ≡ text_app }
+    ensures { app_of result ≡ new_app (codes "text") }
 {
     Command::new(alloc, "text").about(
         "Prints the program of the empty group, as no command does too",
@@ -46,13 +49,14 @@ fn text_command<'a>(alloc: Global) -> Command<'a>
 }
 
 fn check_command<'a>(alloc: Global) -> Command<'a>
-    ensures { app_of result ≡ check_app }
+    ensures { app_of result ≡ new_app (codes "check") }
 {
     Command::new(alloc, "check").about("Prints the sizes of an MPS text")
 }
 
 fn compile_command<'a>(alloc: Global) -> Result<Command<'a>, AllocError>
-    ensures { IfOk result (λ command. app_of command ≡ compile_app) }
+    ensures { IfOk result (λ command. app_of command
+        ≡ with_rule (new_app (codes "compile")) workers) }
 {
     Command::new(alloc, "compile")
         .about("Prints the programs of all groups")
@@ -60,7 +64,8 @@ fn compile_command<'a>(alloc: Global) -> Result<Command<'a>, AllocError>
 }
 
 fn map_command<'a>(alloc: Global) -> Result<Command<'a>, AllocError>
-    ensures { IfOk result (λ command. app_of command ≡ map_app) }
+    ensures { IfOk result (λ command. app_of command
+        ≡ with_rule (new_app (codes "map")) group) }
 {
     Command::new(alloc, "map")
         .about("Prints what a solution wins")
@@ -68,7 +73,8 @@ fn map_command<'a>(alloc: Global) -> Result<Command<'a>, AllocError>
 }
 
 fn report_command<'a>(alloc: Global) -> Result<Command<'a>, AllocError>
-    ensures { IfOk result (λ command. app_of command ≡ report_app) }
+    ensures { IfOk result (λ command. app_of command
+        ≡ with_rule (new_app (codes "report")) workers) }
 {
     Command::new(alloc, "report")
         .about("Prints what the solutions of all groups win, and the groups' opportunity costs")
@@ -76,29 +82,12 @@ fn report_command<'a>(alloc: Global) -> Result<Command<'a>, AllocError>
 }
 
 fn verify_command<'a>(alloc: Global) -> Result<Command<'a>, AllocError>
-    ensures { IfOk result (λ command. app_of command ≡ verify_app) }
+    ensures { IfOk result (λ command. app_of command
+        ≡ with_rule (new_app (codes "verify")) workers) }
 {
     Command::new(alloc, "verify")
         .about("Prints the report of solutions that certificates show to be optimal")
         .arg(workers_option(alloc))
-}
-
-// The commands that need no solution.
-fn with_programs<'a>(alloc: Global, wdp: Command<'a>) -> Result<Command<'a>, AllocError>
-    ensures { IfOk result (λ command. app_of command ≡ with_programs (app_of wdp.entry)) }
-{
-    wdp.subcommand(text_command(alloc))?
-        .subcommand(compile_command(alloc)?)?
-        .subcommand(check_command(alloc))
-}
-
-// The commands that take solutions.
-fn with_solutions<'a>(alloc: Global, wdp: Command<'a>) -> Result<Command<'a>, AllocError>
-    ensures { IfOk result (λ command. app_of command ≡ with_solutions (app_of wdp.entry)) }
-{
-    wdp.subcommand(map_command(alloc)?)?
-        .subcommand(report_command(alloc)?)?
-        .subcommand(verify_command(alloc)?)
 }
 
 // What stands below the options in the help.
@@ -106,7 +95,8 @@ const EXAMPLE: &str =
     "Example: wdp compile --workers 4 < examples/worked.txt\n\nThe manual: man docs/wdp.1; the formats: docs/FORMATS.md; each refusal: docs/FAULTS.md";
 
 fn plain_command<'a>(alloc: Global) -> Command<'a>
-    ensures { app_of result ≡ plain }
+    ensures { app_of result
+        ≡ on_top (λ s. record s { has_version = true }) (new_app (codes "wdp")) }
 {
     Command::new(alloc, "wdp")
         .about("Compiles the winner determination of a combinatorial clock auction")
@@ -117,12 +107,19 @@ fn plain_command<'a>(alloc: Global) -> Command<'a>
 fn command<'a>(alloc: Global) -> Result<Command<'a>, AllocError>
     ensures { IfOk result (λ command. app_of command ≡ wdp) }
 {
-    with_solutions(alloc, with_programs(alloc, plain_command(alloc))?)
+    plain_command(alloc)
+        .subcommand(text_command(alloc))?
+        .subcommand(compile_command(alloc)?)?
+        .subcommand(check_command(alloc))?
+        .subcommand(map_command(alloc)?)?
+        .subcommand(report_command(alloc)?)?
+        .subcommand(verify_command(alloc)?)
 }
 
 // The number that a text writes, from 1 to the most; of any other text 1. The parser has tested it to be within.
 fn number_up_to(most: usize, text: &str) -> usize
-    ensures number { result ≡ number_up_to most text.now }
+    ensures number { result ≡ (if is_unsigned_in 1 most text.now
+        then digits_value 10 (without_leading_plus text.now) else 1) }
     ensures least { 1 ≤ result }
     ensures most { 1 ≤ most → result ≤ most }
 {
@@ -178,8 +175,7 @@ fn matches_of<'a>(alloc: Global, words: &'a [&'a str]) -> Result<ArgMatches<'a>,
 
 /// The request of the words, the program's own name first.
 pub fn request_of<'a>(alloc: Global, words: &'a [&'a str]) -> Result<Request, Error>
-    ensures request { IfOk result (λ request. asked (map (λ word. word.now) words.entry.now)
-        ≡ Ok request) }
+    ensures request { IfOk result (AskFor (map (λ word. word.now) words.entry.now)) }
     ensures faults { FailsBy (fault_of wdp (map (λ word. word.now) words.entry.now)) result }
     ensures limits { IfOk result IsRequestWithinLimits }
 {

@@ -8,8 +8,8 @@ ghost use Rattle.answers.specs.Asked.{IsShown};
 ghost use Rattle.auction_input.specs.Line.{IsToldWhy};
 ghost use Rattle.auction_terms.specs.Borrowed.{bytes_of};
 ghost use Rattle.answers.specs.Requests.{IsRequestWithinLimits};
-ghost use Rattle.answers.specs.Runs.{IsAnswered, IsDone, IsRefused, IsUnasked, IsUndone, IsUnshown};
-ghost use Rattle.answers.specs.inside.Runs.{IsUntold};
+ghost use Rattle.answers.specs.Runs.{IsAnswered, IsDone, IsRefused, IsUnasked, IsUndone};
+ghost use Rattle.answers.specs.inside.Runs.{IsUnshown, IsUntold};
 
 use crate::commands::answer;
 use crate::pieces::write_pieces;

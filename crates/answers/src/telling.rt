@@ -1,8 +1,7 @@
 //! The line that tells why a run ended.
 
-ghost use Rattle.std.specs.Prelude.{◌≡◌, IfSome};
-ghost use Rattle.auction_input.specs.Line.{IsTold, Puts, refusal_line, refusal_text};
-ghost use Rattle.auction_input.specs.Refused.{refused};
+ghost use Rattle.std.specs.Prelude.{◌≡◌, ◌++◌, ◌∷◌, [], IfSome, codes};
+ghost use Rattle.auction_input.specs.Line.{IsTold, Puts, refusal_text, without_name};
 
 use crate::pieces::write_pieces;
 use arrayvec::ArrayString;
@@ -15,7 +14,7 @@ const TEXT_ROOM: usize = 128;
 
 /// Puts the line of a refusal. It takes no memory. What a sink of such lines doesn't take changes nothing.
 pub fn tell<F: Sink>(refusal: &Refusal, faults: &mut F)
-    ensures { IsTold (refused refusal.now) (F.taken faults.old) (F.taken faults.new)
+    ensures { IsTold refusal.now (F.taken faults.old) (F.taken faults.new)
         (F.failures faults.old) (F.failures faults.new) }
 {
     match text_of(refusal) {
@@ -26,7 +25,7 @@ pub fn tell<F: Sink>(refusal: &Refusal, faults: &mut F)
 
 // What is told of a refusal, but for a name, where there is room.
 fn text_of(refusal: &Refusal) -> Option<ArrayString<TEXT_ROOM>>
-    ensures { IfSome result (λ text. text.bytes ≡ refusal_text (refused refusal.now)) }
+    ensures { IfSome result (λ text. text.bytes ≡ refusal_text (without_name refusal.now)) }
 {
     let mut text = ArrayString::new();
     match write!(text, "{refusal}") {
@@ -38,8 +37,8 @@ fn text_of(refusal: &Refusal) -> Option<ArrayString<TEXT_ROOM>>
 // Puts a line: a text, and a name behind it.
 #[tactic(auto, using(crate::proofs::LineFacts::puts))]
 fn put_line<F: Sink>(text: &str, name: &[u8], faults: &mut F)
-    ensures { Puts (refusal_line text.now name.now) (F.taken faults.old) (F.taken faults.new)
-        (F.failures faults.old) (F.failures faults.new) }
+    ensures { Puts (codes "wdp: " ++ (text.now ++ (name.now ++ 10 ∷ []))) (F.taken faults.old)
+        (F.taken faults.new) (F.failures faults.old) (F.failures faults.new) }
 {
     let pieces: [&[u8]; 4] = [b"wdp: ", text.as_bytes(), name, b"\n"];
     let _ = write_pieces(&pieces, faults);

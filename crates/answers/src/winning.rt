@@ -1,6 +1,7 @@
 //! What a solution wins.
 
-ghost use Rattle.std.specs.Prelude.{◌≡◌, ℕ, IfErr, IfOk, IfSome, Ok};
+ghost use Rattle.std.specs.Prelude.{◌≡◌, ℕ, [], IfErr, IfOk, IfSome, Ok, slice_get};
+ghost use Rattle.std.specs.Option.{option_map_or};
 ghost use Rattle.auction_terms.specs.Allocations.{IsFeasible};
 ghost use Rattle.auction_terms.specs.Groups.{has};
 ghost use Rattle.auction_terms.specs.Terms.{lots_in};
@@ -8,11 +9,11 @@ ghost use Rattle.bid_desk.specs.Closing.{book_of};
 ghost use Rattle.group_compiler.specs.Compiled.{program_without};
 ghost use Rattle.program_rows.specs.Faithful.{IsFaithful};
 ghost use Rattle.auction_input.specs.Refused.{Refuses, refused};
-ghost use Rattle.answers.specs.SolutionWinners.{column_name, solution_refused, winners_by};
+ghost use Rattle.answers.specs.SolutionWinners.{solution_refused, winners_by};
 ghost use Rattle.program_rows.specs.ProgramNames.{row_name};
 
 use crate::named_bids::named_bids;
-use auction_input::Refusal;
+use auction_input::{Name, Refusal};
 use auction_terms::Group;
 use bid_desk::ClosedBook;
 use group_compiler::Compiler;
@@ -99,15 +100,15 @@ fn refused(
     solution: usize,
     fault: SolutionFault,
 ) -> Result<Refusal, AllocError>
-    ensures { IfOk result (λ r. refused r ≡ solution_refused program.now solution fault) }
+    ensures { IfOk result (λ r. r ≡ solution_refused program.now solution fault) }
 {
     match fault {
         SolutionFault::BoundBroken { column } => {
-            let column = Vec::from_slice(alloc, column_name(program, column))?;
+            let column = Name::copied(alloc, column_name(program, column))?;
             Ok(Refusal::BoundBroken { solution, column })
         }
         SolutionFault::RowBroken { row } => {
-            let row = Vec::from_slice(alloc, row_name(program, row))?;
+            let row = Name::copied(alloc, row_name(program, row))?;
             Ok(Refusal::RowBroken { solution, row })
         }
         _ => Ok(Refusal::Solution { solution, fault }),
@@ -116,7 +117,7 @@ fn refused(
 
 // The name of a column; where there is none, no name.
 fn column_name(program: &Program, column: usize) -> &[u8]
-    ensures { result.now ≡ column_name program.now column }
+    ensures { result.now ≡ option_map_or (λ c. c.name) (slice_get program.now.columns column) [] }
 {
     if column < program.column_count() {
         program.column_name(column)

@@ -1,30 +1,34 @@
 -- What the stages of an auction tell.
-use Rattle.std.proofs.Common.{◌≡◌, ◌≤◌, ◌<◌, ◌+◌, ◌∷◌, ◌∙◌, ℕ, zero, suc, true, List, Option, None, Some, Result, Ok, Err, ap, ap₂, arith, length, map, refl, sym, inl, inr}
+use Rattle.std.proofs.Common.{◌≡◌, ◌≤◌, ◌<◌, ◌+◌, ◌∷◌, ◌∙◌, [], ℕ, zero, suc, List, Option, None, Some, Result, Ok, Err, ap, ap₂, arith, length, map, refl, subst, sym, inl, inr}
 use Rattle.std.proofs.lemmas.List.{length-map}
-use Rattle.std.specs.List.{range_with_len}
+use Rattle.std.specs.Prelude.{◌≢◌, codes}
+use Rattle.std.specs.List.{last_or, range_with_len}
 use denote.Ref.{Bor}
 use Rattle.auction_terms.specs.Allocations.{Book}
 use Rattle.auction_terms.specs.Terms.{Terms, lots_in}
 use Rattle.bid_desk.specs.Closing.{Closing, bids_in, book_of, form_standing}
 use Rattle.bid_forms.specs.Offers.{Offers}
 use Rattle.outcome.specs.Sale.{Sale, sale_of}
-use Rattle.auction_input.specs.Auction.{Auction, auction_of, auction_told}
-use Rattle.auction_input.specs.BookLeft.{book_left, sale_left}
-use Rattle.auction_input.specs.Calls.{calls_told}
-use Rattle.auction_input.specs.Refused.{Refuses, Refusal}
+use Rattle.auction_input.specs.Auction.{Auction, auction_told}
+use Rattle.auction_input.specs.BookLeft.{sale_left}
+use Rattle.auction_input.specs.Calls.{one_too_many}
+use Rattle.auction_terms.specs.FirstFault.{first_fault}
+use Rattle.auction_input.specs.Refused.{Refuses}
+use Rattle.auction_input.specs.declared.refusal.Refusal.{Refusal}
 use Rattle.auction_input.specs.Settled.{RefusesAuction}
 use Rattle.auction_terms.specs.Borrowed.{bytes_of}
-use Rattle.auction_input.specs.Parts.{SplitInput, TellsParts, cut_lines, parts_in, split, values}
-use Rattle.auction_input.specs.PartsTold.{count_fault, counted_parts, parts_told, split_input}
-use Rattle.auction_input.specs.Plan.{miscounted, reads_auction}
-use Rattle.auction_terms.specs.Stages.{and_then, refused_as, unless}
-use Rattle.auction_input.specs.Submissions.{AreSubmitted, last_of}
-use Rattle.auction_input.specs.TextsTold.{forms_told, groups_told, terms_told}
+use Rattle.auction_input.specs.Parts.{Hold, Part, TellsParts, cut_lines, input_fault, parts_in, parts_named}
+use Rattle.auction_input.specs.PartsTold.{only_text, parts_told}
+use Rattle.auction_input.specs.Plan.{miscounted}
+use Rattle.auction_terms.specs.Stages.{and_then, each_in_turn, refused_as, unless}
+use Rattle.auction_input.specs.Submissions.{AreSubmitted, forms_of}
+use Rattle.auction_input.specs.TextsTold.{form_told, groups_told, terms_told}
 use Rattle.auction_input.specs.declared.parts.PartFault.{PartFault}
 use Rattle.auction_input.specs.declared.parts.PartFault.TheVariants as fault
 use Rattle.auction_input.specs.declared.parts.Parts.{Parts}
 use Rattle.auction_input.specs.declared.refusal.CountedPart.{CountedPart}
 use Rattle.auction_input.specs.declared.refusal.Refusal.TheVariants as refusal
+use Rattle.auction_input.specs.declared.request.Request.TheVariants as request
 use Rattle.auction_input.specs.declared.request.Request.{Request}
 use Rattle.auction_input.specs.declared.round.RoundFault.{RoundFault}
 use Rattle.auction_input.specs.declared.round.RoundFault.TheVariants as round
@@ -35,65 +39,100 @@ Text = Bor (List ℕ)
 
 -- ---- parts
 
-module _ (asked : Request) (input : List ℕ) (parts : Parts) where
-  -- parts are counted as their values are
-  counts : count_fault asked (values parts) ≡ miscounted asked (length parts.rules.items) (length parts.groups.items) (length parts.solutions.items)
-  counts =
+-- the parts of an input, whose bytes are held by their names
+abbrev pub IsCut : Request → List ℕ → Parts → Type 0
+IsCut asked input held = (parts : List Part) × (parts_told asked input ≡ Ok parts) × Hold held parts
+
+abbrev count-of : Request → List Part → Option CountedPart
+count-of asked parts = miscounted asked (length (parts_named (codes "%rules") parts)) (length (parts_named (codes "%groups") parts)) (length (parts_named (codes "%solution") parts))
+
+abbrev count-stage : Request → List Part → Result (List Part) Refusal
+count-stage asked parts = refused_as refusal.PartCount (unless (count-of asked parts) (Ok parts))
+
+module _ (asked : Request) (input : List ℕ) (held : Parts) where
+  -- parts are counted as the bytes that are held
+  counts : (parts : List Part) → Hold held parts → count-of asked parts ≡ miscounted asked (length held.rules.items) (length held.groups.items) (length held.solutions.items)
+  counts parts hold =
       let now = λ (text : Text). text.now in
-      ap₂ (λ (rules groups : ℕ). miscounted asked rules groups (length (bytes_of parts.solutions.items))) (length-map parts.rules.items now) (length-map parts.groups.items now)
-      ∙ ap (λ (solutions : ℕ). miscounted asked (length parts.rules.items) (length parts.groups.items) solutions) (length-map parts.solutions.items now)
+      let rules = ap length (sym hold.rules) ∙ length-map held.rules.items now in
+      let groups = ap length (sym hold.groups) ∙ length-map held.groups.items now in
+      let solutions = ap length (sym hold.solutions) ∙ length-map held.solutions.items now in
+      ap₂ (λ (r g : ℕ). miscounted asked r g (length (parts_named (codes "%solution") parts))) rules groups
+      ∙ ap (λ (s : ℕ). miscounted asked (length held.rules.items) (length held.groups.items) s) solutions
 
-  counted : (found : Option CountedPart) → TellsParts asked (Ok parts) input → miscounted asked (length parts.rules.items) (length parts.groups.items) (length parts.solutions.items) ≡ found
-      → parts_told asked input ≡ refused_as refusal.PartCount (unless found (Ok (values parts)))
+  counted : (found : Option CountedPart) → TellsParts asked (Ok held) input → miscounted asked (length held.rules.items) (length held.groups.items) (length held.solutions.items) ≡ found
+      → parts_told asked input ≡ refused_as refusal.PartCount (unless found (Ok (parts_in (cut_lines input))))
   counted found told is =
-      let cut : split_input asked input ≡ Ok (values parts) = ap (λ (f : Option PartFault). unless f (Ok (split asked (parts_in (cut_lines input))))) told.0 ∙ ap (λ (s : SplitInput). Ok s) (sym told.1) in
-      ap (λ (r : Result SplitInput PartFault). and_then (refused_as refusal.Parts r) (counted_parts asked)) cut
-      ∙ ap (λ (f : Option CountedPart). refused_as refusal.PartCount (unless f (Ok (values parts)))) (counts ∙ is)
+      let parts = parts_in (cut_lines input) in
+      ap (λ (f : Option PartFault). and_then (refused_as refusal.Parts (unless f (Ok parts))) (count-stage asked)) told.0
+      ∙ ap (λ (f : Option CountedPart). refused_as refusal.PartCount (unless f (Ok parts))) (counts parts told.1 ∙ is)
 
-  pub parts-are : TellsParts asked (Ok parts) input → miscounted asked (length parts.rules.items) (length parts.groups.items) (length parts.solutions.items) ≡ None → parts_told asked input ≡ Ok (values parts)
-  parts-are told is = counted None told is
+  pub parts-are : TellsParts asked (Ok held) input → miscounted asked (length held.rules.items) (length held.groups.items) (length held.solutions.items) ≡ None → IsCut asked input held
+  parts-are told is = (parts_in (cut_lines input), counted None told is, told.1)
 
-  pub parts-miscounted : (part : CountedPart) → TellsParts asked (Ok parts) input → miscounted asked (length parts.rules.items) (length parts.groups.items) (length parts.solutions.items) ≡ Some part
+  pub parts-miscounted : (part : CountedPart) → TellsParts asked (Ok held) input → miscounted asked (length held.rules.items) (length held.groups.items) (length held.solutions.items) ≡ Some part
       → Refuses (parts_told asked input) (refusal.PartCount part)
   parts-miscounted part told is = inl (counted (Some part) told is)
 
 abbrev no_parts : PartFault → Result Parts PartFault
 no_parts f = Err f
 
-told-parts : (asked : Request) (input : List ℕ) (f : PartFault) → split_input asked input ≡ Err f → Refuses (parts_told asked input) (refusal.Parts f)
-told-parts asked input f is = inl (ap (λ (r : Result SplitInput PartFault). and_then (refused_as refusal.Parts r) (counted_parts asked)) is)
+told-parts : (asked : Request) (input : List ℕ) (f : PartFault) → input_fault asked input ≡ Some f → Refuses (parts_told asked input) (refusal.Parts f)
+told-parts asked input f is = inl (ap (λ (found : Option PartFault). and_then (refused_as refusal.Parts (unless found (Ok (parts_in (cut_lines input))))) (count-stage asked)) is)
 
 pub parts-refused : (asked : Request) (input : List ℕ) (f : PartFault) → TellsParts asked (no_parts f) input → Refuses (parts_told asked input) (refusal.Parts f)
 parts-refused asked input fault.OutOfMemory told = inr refl
-parts-refused asked input f told = told-parts asked input f (ap (λ (found : Option PartFault). unless found (Ok (split asked (parts_in (cut_lines input))))) told)
+parts-refused asked input f told = told-parts asked input f told
 
 -- ---- the stages behind the parts
 
-module _ (asked : Request) (input : List ℕ) (parts : SplitInput) (cut : parts_told asked input ≡ Ok parts) where
-  pub terms-refused : (r : Refusal) → Refuses (terms_told parts.rules) r → Refuses (auction_told asked input) r
-  terms-refused r refused = behind _ parts _ r cut (stop _ _ r refused)
+-- the auction that forms leave, with groups and the texts of solutions and certificates
+abbrev auction_of : Terms → List Offers → List (List ℕ) → List (List ℕ) → List (List ℕ) → Auction
+auction_of t forms groups solutions certificates = record { sale = sale_left t forms; groups = groups; solutions = solutions; certificates = certificates }
 
-  module _ (t : Terms) (rules : terms_told parts.rules ≡ Ok t) where
-    pub forms-refused : (r : Refusal) → Refuses (forms_told t parts.forms) r → Refuses (auction_told asked input) r
-    forms-refused r refused = behind _ parts _ r cut (behind _ t _ r rules (stop _ _ r refused))
+module _ (asked : Request) (input : List ℕ) (held : Parts) (cut : IsCut asked input held) where
+  pub terms-refused : (r : Refusal) → Refuses (terms_told (only_text (bytes_of held.rules.items))) r → Refuses (auction_told asked input) r
+  terms-refused r refused = behind _ cut.0 _ r cut.1 (stop _ _ r (subst (λ (xs : List (List ℕ)). Refuses (terms_told (only_text xs)) r) cut.2.rules refused))
 
-    module _ (forms : List Offers) (each : forms_told t parts.forms ≡ Ok forms) where
-      pub groups-refused : (r : Refusal) → Refuses (groups_told t parts.groups) r → Refuses (auction_told asked input) r
-      groups-refused r refused = behind _ parts _ r cut (behind _ t _ r rules (behind _ forms _ r each (stop _ _ r refused)))
+  module _ (t : Terms) (rules : terms_told (only_text (bytes_of held.rules.items)) ≡ Ok t) where
+    pub rules-are : terms_told (only_text (parts_named (codes "%rules") cut.0)) ≡ Ok t
+    rules-are = subst (λ (xs : List (List ℕ)). terms_told (only_text xs) ≡ Ok t) cut.2.rules rules
 
-      module _ (groups : List (List ℕ)) (known : groups_told t parts.groups ≡ Ok groups) where
-        pub calls-refused : (r : Refusal) → Refuses (calls_told forms) r → Refuses (auction_told asked input) r
-        calls-refused r refused = behind _ parts _ r cut (behind _ t _ r rules (behind _ forms _ r each (behind _ groups _ r known (stop _ _ r refused))))
+    pub forms-refused : (r : Refusal) → Refuses (each_in_turn (form_told t) 1 (bytes_of held.forms.items)) r → Refuses (auction_told asked input) r
+    forms-refused r refused = behind _ cut.0 _ r cut.1 (behind _ t _ r rules-are (stop _ _ r (subst (λ (xs : List (List ℕ)). Refuses (each_in_turn (form_told t) 1 xs) r) cut.2.forms refused)))
 
-        pub auction-is : calls_told forms ≡ Ok forms → auction_told asked input ≡ Ok (auction_of t forms groups parts)
-        auction-is accepted = next _ _ _ _ cut (next _ _ _ _ rules (next _ _ _ _ each (next _ _ _ _ known (next _ _ _ _ accepted refl))))
+    module _ (forms : List Offers) (each : each_in_turn (form_told t) 1 (bytes_of held.forms.items) ≡ Ok forms) where
+      pub forms-are : each_in_turn (form_told t) 1 (parts_named (codes "%form") cut.0) ≡ Ok forms
+      forms-are = subst (λ (xs : List (List ℕ)). each_in_turn (form_told t) 1 xs ≡ Ok forms) cut.2.forms each
 
--- what the round leaves is a matter of the desk, or of memory
-pub round-refused : (asked : Request) (input : List ℕ) (parts : SplitInput) → parts_told asked input ≡ Ok parts → (t : Terms) → terms_told parts.rules ≡ Ok t → (forms : List Offers) → forms_told t parts.forms ≡ Ok forms
-    → (groups : List (List ℕ)) → groups_told t parts.groups ≡ Ok groups → calls_told forms ≡ Ok forms → reads_auction asked ≡ true → (f : RoundFault) → RefusesAuction asked input (refusal.Round f)
-round-refused asked input parts cut t rules forms each groups known accepted reads round.OutOfMemory = inl (inr refl)
-round-refused asked input parts cut t rules forms each groups known accepted reads round.WrongAnswer =
-    inr (reads, auction_of t forms groups parts, auction-is asked input parts cut t rules forms each groups known accepted, refl)
+      pub groups-refused : (r : Refusal) → Refuses (groups_told t (only_text (bytes_of held.groups.items))) r → Refuses (auction_told asked input) r
+      groups-refused r refused =
+          behind _ cut.0 _ r cut.1 (behind _ t _ r rules-are (behind _ forms _ r forms-are (stop _ _ r (subst (λ (xs : List (List ℕ)). Refuses (groups_told t (only_text xs)) r) cut.2.groups refused))))
+
+      module _ (groups : List (List ℕ)) (known : groups_told t (only_text (bytes_of held.groups.items)) ≡ Ok groups) where
+        groups-are : groups_told t (only_text (parts_named (codes "%groups") cut.0)) ≡ Ok groups
+        groups-are = subst (λ (xs : List (List ℕ)). groups_told t (only_text xs) ≡ Ok groups) cut.2.groups known
+
+        abbrev told-by : Option ℕ → Result Auction Refusal
+        told-by found = refused_as refusal.CallLimit (unless found (Ok (auction_of t forms groups (parts_named (codes "%solution") cut.0) (parts_named (codes "%certificate") cut.0))))
+
+        abbrev no-auction : Refusal → Result Auction Refusal
+        no-auction r = Err r
+
+        pub calls-refused : (number : ℕ) (r : Refusal) → first_fault one_too_many [] forms ≡ Some number → r ≡ refusal.CallLimit number → Refuses (auction_told asked input) r
+        calls-refused number r found is =
+            let limit : told-by (first_fault one_too_many [] forms) ≡ Err r = ap told-by found ∙ ap no-auction (sym is) in
+            behind _ cut.0 _ r cut.1 (behind _ t _ r rules-are (behind _ forms _ r forms-are (behind _ groups _ r groups-are (inl limit))))
+
+        pub auction-is : first_fault one_too_many [] forms ≡ None → auction_told asked input ≡ Ok (auction_of t forms groups (bytes_of held.solutions.items) (bytes_of held.certificates.items))
+        auction-is accepted =
+            next _ _ _ _ cut.1 (next _ _ _ _ rules-are (next _ _ _ _ forms-are (next _ _ _ _ groups-are (ap told-by accepted))))
+            ∙ ap₂ (λ (s c : List (List ℕ)). Ok (auction_of t forms groups s c)) (sym cut.2.solutions) (sym cut.2.certificates)
+
+        -- what the round leaves is a matter of the desk, or of memory
+        pub round-refused : first_fault one_too_many [] forms ≡ None → asked ≢ request.Check → (f : RoundFault) → RefusesAuction asked input (refusal.Round f)
+        round-refused accepted reads round.OutOfMemory = inl (inr refl)
+        round-refused accepted reads round.WrongAnswer = inr (reads, auction_of t forms groups (bytes_of held.solutions.items) (bytes_of held.certificates.items), auction-is accepted, refl)
 
 -- ---- the book
 
@@ -108,16 +147,16 @@ sale_with t book = record { names = map (λ bidder. bidder.name) t.bidders; lots
 -- a book in which the forms are submitted is the one that they leave
 pub sale-is : (book : Closing) (forms : List Offers) → AreSubmitted forms book → sale_of book ≡ sale_left book.rules forms
 sale-is book forms submitted =
-    let same : book_of book ≡ book_left book.rules forms =
-    same-on (λ b. bids_in (form_standing book.history b)) (λ b. bids_in (last_of b forms)) (length book.rules.bidders) 1
+    let same : book_of book ≡ (sale_left book.rules forms).book =
+    same-on (λ b. bids_in (form_standing book.history b)) (λ b. bids_in (last_or None (forms_of b forms))) (length book.rules.bidders) 1
     (λ b least most. ap (λ (form : Option Offers). bids_in form) (submitted.standing b least (omega arith))) in
     ap (sale_with book.rules) same
 
-abbrev sold : Sale → List (List ℕ) → SplitInput → Auction
-sold sale groups parts = record { sale = sale; groups = groups; solutions = parts.solutions; certificates = parts.certificates }
+abbrev sold : Sale → List (List ℕ) → List (List ℕ) → List (List ℕ) → Auction
+sold sale groups solutions certificates = record { sale = sale; groups = groups; solutions = solutions; certificates = certificates }
 
 -- the auction that a settled book and groups are, with the texts of solutions and certificates
-pub auction-held : (book : Closing) (t : Terms) (forms : List Offers) (groups : List (List ℕ)) (parts : SplitInput) → book.rules ≡ t → AreSubmitted forms book
-    → auction_of t forms groups parts ≡ record { sale = sale_of book; groups = groups; solutions = parts.solutions; certificates = parts.certificates }
-auction-held book t forms groups parts rules submitted =
-    ap (λ (u : Terms). auction_of u forms groups parts) (sym rules) ∙ ap (λ (sale : Sale). sold sale groups parts) (sym (sale-is book forms submitted))
+pub auction-held : (book : Closing) (t : Terms) (forms : List Offers) (groups solutions certificates : List (List ℕ)) → book.rules ≡ t → AreSubmitted forms book
+    → auction_of t forms groups solutions certificates ≡ sold (sale_of book) groups solutions certificates
+auction-held book t forms groups solutions certificates rules submitted =
+    ap (λ (u : Terms). auction_of u forms groups solutions certificates) (sym rules) ∙ ap (λ (sale : Sale). sold sale groups solutions certificates) (sym (sale-is book forms submitted))

@@ -4,12 +4,9 @@ use Rattle.std.proofs.lemmas.Bool.{cases_Bool, eqb-false, eqb-true}
 use Rattle.std.proofs.lemmas.Bool.Decides.{leb_tells}
 use Rattle.std.proofs.lemmas.List.{get_or-set_other, get_or-set_same}
 use Rattle.std.specs.Prelude.{slice_set}
-use Rattle.auction_terms.specs.FirstFault.{first_fault}
 use Rattle.bid_forms.specs.Offers.{Offers}
-use Rattle.auction_input.specs.Calls.{calls_told, one_too_many}
-use Rattle.auction_terms.specs.Stages.{refused_as, unless}
+use Rattle.auction_input.specs.Calls.{one_too_many}
 use Rattle.auction_input.specs.Submissions.{forms_of}
-use Rattle.auction_input.specs.declared.refusal.Refusal.TheVariants as refusal
 
 pub forms-append : (b : ℕ) (xs ys : List Offers) → forms_of b (xs ++ ys) ≡ forms_of b xs ++ forms_of b ys
 forms-append b [] ys = refl
@@ -48,7 +45,3 @@ call-left before form few = elim (leb_tells 1000 (length (forms_of form.bidder b
 -- a bidder that has none
 pub no-call-left : (before : List Offers) (form : Offers) → 1000 ≤ length (forms_of form.bidder before) → one_too_many before form ≡ Some (length before + 1)
 no-call-left before form many = elim (leb_tells 1000 (length (forms_of form.bidder before))) [ inl (is, _) ↦ rw is refl | inr (_, few) ↦ absurd (omega arith) ]
-
--- what is told of the calls, by the first form that is one too many
-pub calls-by : (forms : List Offers) (found : Option ℕ) → first_fault one_too_many [] forms ≡ found → calls_told forms ≡ refused_as refusal.CallLimit (unless found (Ok forms))
-calls-by forms found is = ap (λ (f : Option ℕ). refused_as refusal.CallLimit (unless f (Ok forms))) is

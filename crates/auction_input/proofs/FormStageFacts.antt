@@ -8,10 +8,11 @@ use Rattle.std.proofs.lemmas.List.Folds.{drop_split}
 use Rattle.auction_terms.specs.Terms.{Terms}
 use Rattle.bid_forms.specs.Offers.{Meets, Offers}
 use Rattle.auction_terms.specs.Borrowed.{bytes_of}
-use Rattle.auction_input.specs.Refused.{Refusal, Refuses}
+use Rattle.auction_input.specs.Refused.{Refuses}
+use Rattle.auction_input.specs.declared.refusal.Refusal.{Refusal}
 use Rattle.auction_terms.specs.Stages.{each_in_turn}
 use Rattle.auction_input.specs.inside.TextsTold.{HaveMore, more_told}
-use Rattle.auction_input.specs.TextsTold.{form_told, forms_told}
+use Rattle.auction_input.specs.TextsTold.{form_told}
 use Rattle.auction_input.proofs.InputTextFacts.{Text}
 use Rattle.auction_input.proofs.StageFacts.{IsLeft, each-count, left-first, left-none, left-stage, left-stage-refused}
 
@@ -51,14 +52,14 @@ stage-read t texts start end old new order within (few, count, left, meet) (more
     subst (AreRead t texts end) (sym added) (within, omega arith, all, All-append (Meets t) old more meet meets)
 
 pub stage-refused : (t : Terms) (texts : List Text) (start end : ℕ) (forms : List Offers) (r : Refusal) → start ≤ end → AreRead t texts start forms → Refuses (more_told t (length forms) (bytes_of (slice_range texts start end))) r
-    → Refuses (forms_told t (bytes_of texts)) r
+    → Refuses (each_in_turn (form_told t) 1 (bytes_of texts)) r
 stage-refused t texts start end forms r order (few, count, left, meet) refuses =
     let stage = bytes_of (slice_range texts start end) in
     let here = subst (λ (n : ℕ). Refuses (each_in_turn (form_told t) (n + 1) stage) r) count refuses in
     left-stage-refused (form_told t) (start + 1) (bytes_of texts) forms stage (bytes_of (drop end texts)) r (left-of t texts start end forms order left) here
 
 -- all are read
-pub all-read : (t : Terms) (texts : List Text) (count : ℕ) (forms : List Offers) → length texts ≤ count → AreRead t texts count forms → forms_told t (bytes_of texts) ≡ Ok forms
+pub all-read : (t : Terms) (texts : List Text) (count : ℕ) (forms : List Offers) → length texts ≤ count → AreRead t texts count forms → each_in_turn (form_told t) 1 (bytes_of texts) ≡ Ok forms
 all-read t texts count forms all (few, is, left, meet) =
     let none = drop_of_length-le texts all in
     left-none (form_told t) (count + 1) (bytes_of texts) forms (subst (λ (rest : List Text). IsLeft (form_told t) (count + 1) (bytes_of texts) forms (bytes_of rest)) none left)

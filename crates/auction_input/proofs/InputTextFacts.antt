@@ -1,6 +1,6 @@
 -- What is read of texts is what they tell, their sizes included.
 use Rattle.std.proofs.Common.{◌≡◌, ◌+◌, ◌++◌, ◌∷◌, ◌<◌, ◌≤◌, [], ℕ, List, Result, Ok, Err, ap, arith, length, map, refl, subst, sym, inl, inr}
-use Rattle.std.specs.Prelude.{All, IfErr, OnOk}
+use Rattle.std.specs.Prelude.{All, IfErr, OnOk, if◌then◌else◌, nat_lt}
 use Rattle.std.specs.List.{AllZip}
 use Rattle.std.proofs.lemmas.List.Elements.{All-cons, All-nil}
 use Rattle.std.proofs.lemmas.Bool.Decides.{leb_tells}
@@ -23,9 +23,9 @@ use Rattle.mps_reader.specs.declared.limits.TheConstants.{PROGRAM_LIMIT}
 use Rattle.program_rows.specs.Meaning.{meaning}
 use Rattle.program_rows.specs.Program.{Table}
 use Rattle.program_rows.specs.declared.fault.FaultKind.TheVariants as kind
-use Rattle.auction_input.specs.Refused.{Refuses, Refusal}
-use Rattle.auction_input.specs.inside.InputTexts.{AreAdded, IsAnswer, IsFirstErr}
-use Rattle.auction_input.specs.InputTexts.{form_in, groups_in, program_in, rules_in}
+use Rattle.auction_input.specs.Refused.{Refuses}
+use Rattle.auction_input.specs.declared.refusal.Refusal.{Refusal}
+use Rattle.auction_input.specs.inside.InputTexts.{AreAdded, IsAnswer, IsFirstErr, form_in}
 use Rattle.auction_terms.specs.Borrowed.{bytes_of}
 use Rattle.auction_terms.specs.Stages.{Answers, each_in_turn, refused_as}
 use Rattle.auction_input.specs.inside.TextsTold.{HaveMore, more_told}
@@ -90,30 +90,34 @@ if-refused t count texts answers (Err e) each first = all-refused t count texts 
 ok-or-fault : {T E : Type 0} {P : Type 0} (x : T) (e : E) → Ok x ≡ Err e → P
 ok-or-fault x e is = cc
 
+-- what a text tells that is within a limit
+abbrev pub sized : {A F : Type 0} → ℕ → F → (List ℕ → Result A F) → List ℕ → Result A F
+sized limit too_large tell text = if nat_lt limit (length text) then Err too_large else tell text
+
 -- the fault of rules that are refused is what their text tells
 pub rules-faulted : (text : List ℕ) (f : RulesFault) → (TEXT_LIMIT < length text → no_rules f ≡ no_rules rules_fault.TooLarge)
-    → (length text ≤ TEXT_LIMIT → Answers rules_text.is_rules_memory (no_rules f) (rules_text.rules_of (records_of text))) → Answers rules_text.is_rules_memory (no_rules f) (rules_in text)
+    → (length text ≤ TEXT_LIMIT → Answers rules_text.is_rules_memory (no_rules f) (rules_text.rules_of (records_of text))) → Answers rules_text.is_rules_memory (no_rules f) (sized TEXT_LIMIT rules_fault.TooLarge (λ rules. rules_text.rules_of (records_of rules)) text)
 rules-faulted text f large told = elim (leb_tells 4194305 (length text)) [
   | inl (is, more) ↦ (
       let e = large (omega arith) in
       let same : f ≡ rules_fault.TooLarge = cc in
-      subst (λ x. Answers rules_text.is_rules_memory (no_rules x) (rules_in text)) (sym same) (rw is refl))
+      subst (λ x. Answers rules_text.is_rules_memory (no_rules x) (sized TEXT_LIMIT rules_fault.TooLarge (λ rules. rules_text.rules_of (records_of rules)) text)) (sym same) (rw is refl))
   | inr (is, few) ↦ rw is (told (omega arith))
 ]
 
 -- the same of groups
 pub groups-faulted : (bidders : List Bidder) (text : List ℕ) (f : GroupFault) → (TEXT_LIMIT < length text → no_groups f ≡ no_groups group_fault.TooLarge)
-    → (length text ≤ TEXT_LIMIT → Answers groups_text.is_groups_memory (no_groups f) (groups_text.groups_of bidders text)) → Answers groups_text.is_groups_memory (no_groups f) (groups_in bidders text)
+    → (length text ≤ TEXT_LIMIT → Answers groups_text.is_groups_memory (no_groups f) (groups_text.groups_of bidders text)) → Answers groups_text.is_groups_memory (no_groups f) (sized TEXT_LIMIT group_fault.TooLarge (groups_text.groups_of bidders) text)
 groups-faulted bidders text f large told = elim (leb_tells 4194305 (length text)) [
   | inl (is, more) ↦ (
       let e = large (omega arith) in
       let same : f ≡ group_fault.TooLarge = cc in
-      subst (λ x. Answers groups_text.is_groups_memory (no_groups x) (groups_in bidders text)) (sym same) (rw is refl))
+      subst (λ x. Answers groups_text.is_groups_memory (no_groups x) (sized TEXT_LIMIT group_fault.TooLarge (groups_text.groups_of bidders) text)) (sym same) (rw is refl))
   | inr (is, few) ↦ rw is (told (omega arith))
 ]
 
 -- rules that are read are what their text tells
-pub rules-tell : (text : List ℕ) (t : Terms) → (TEXT_LIMIT < length text → Ok t ≡ no_rules rules_fault.TooLarge) → (length text ≤ TEXT_LIMIT → Ok t ≡ rules_text.rules_of (records_of text)) → rules_in text ≡ Ok t
+pub rules-tell : (text : List ℕ) (t : Terms) → (TEXT_LIMIT < length text → Ok t ≡ no_rules rules_fault.TooLarge) → (length text ≤ TEXT_LIMIT → Ok t ≡ rules_text.rules_of (records_of text)) → sized TEXT_LIMIT rules_fault.TooLarge (λ rules. rules_text.rules_of (records_of rules)) text ≡ Ok t
 rules-tell text t large told = elim (leb_tells 4194305 (length text)) [
   | inl (_, more) ↦ (let e = large (omega arith) in cc)
   | inr (is, few) ↦ rw is (sym (told (omega arith)))
@@ -121,7 +125,7 @@ rules-tell text t large told = elim (leb_tells 4194305 (length text)) [
 
 -- the same of groups
 pub groups-tell : (bidders : List Bidder) (text : List ℕ) (groups : List (List ℕ)) → (TEXT_LIMIT < length text → Ok groups ≡ no_groups group_fault.TooLarge)
-    → (length text ≤ TEXT_LIMIT → Ok groups ≡ groups_text.groups_of bidders text) → groups_in bidders text ≡ Ok groups
+    → (length text ≤ TEXT_LIMIT → Ok groups ≡ groups_text.groups_of bidders text) → sized TEXT_LIMIT group_fault.TooLarge (groups_text.groups_of bidders) text ≡ Ok groups
 groups-tell bidders text groups large told = elim (leb_tells 4194305 (length text)) [
   | inl (_, more) ↦ ok-or-fault groups group_fault.TooLarge (large (omega arith))
   | inr (is, few) ↦ rw is (sym (told (omega arith)))
@@ -132,17 +136,17 @@ no_program f = Err f
 
 -- a text that is refused is no program
 pub program-refused : (text : List ℕ) (f : MpsFault) → (PROGRAM_LIMIT < length text → no_program f ≡ no_program (record { line = 0; kind = kind.TooLarge }))
-    → (length text ≤ PROGRAM_LIMIT → IsRead (no_program f) (meaning text)) → IsRead (no_program f) (program_in text)
+    → (length text ≤ PROGRAM_LIMIT → IsRead (no_program f) (meaning text)) → IsRead (no_program f) (sized PROGRAM_LIMIT (0, kind.TooLarge) meaning text)
 program-refused text f large told = elim (leb_tells 67108865 (length text)) [
   | inl (is, more) ↦ (
       let e = large (omega arith) in
       let same : f ≡ record { line = 0; kind = kind.TooLarge } = cc in
-      subst (λ x. IsRead (no_program x) (program_in text)) (sym same) (inr (rw is refl)))
+      subst (λ x. IsRead (no_program x) (sized PROGRAM_LIMIT (0, kind.TooLarge) meaning text)) (sym same) (inr (rw is refl)))
   | inr (is, few) ↦ rw is (told (omega arith))
 ]
 
 -- a text that is read is a program
-pub program-told : (text : List ℕ) (p : Table) → (PROGRAM_LIMIT < length text → Ok p ≡ no_program (record { line = 0; kind = kind.TooLarge })) → (length text ≤ PROGRAM_LIMIT → IsRead (Ok p) (meaning text)) → program_in text ≡ Ok p
+pub program-told : (text : List ℕ) (p : Table) → (PROGRAM_LIMIT < length text → Ok p ≡ no_program (record { line = 0; kind = kind.TooLarge })) → (length text ≤ PROGRAM_LIMIT → IsRead (Ok p) (meaning text)) → sized PROGRAM_LIMIT (0, kind.TooLarge) meaning text ≡ Ok p
 program-told text p large told = elim (leb_tells 67108865 (length text)) [
   | inl (_, more) ↦ (let e = large (omega arith) in cc)
   | inr (is, few) ↦ rw is (told (omega arith))

@@ -25,9 +25,9 @@ use Rattle.bid_forms.specs.FormText.{bid_checks, bid_fault, bid_told, bidder_tol
 use Rattle.bid_forms.specs.Offers.{Offers, eligibility_of}
 use Rattle.bid_forms.specs.declared.form_text.FormFault.{FormFault}
 use Rattle.bid_forms.specs.declared.form_text.FormFault.TheVariants as form_fault
-use Rattle.auction_input.specs.BookLeft.{book_left}
+use Rattle.auction_input.specs.BookLeft.{sale_left}
 use Rattle.auction_terms.specs.Stages.{each_in_turn, unless}
-use Rattle.auction_input.specs.Submissions.{last_of}
+use Rattle.auction_input.specs.Submissions.{forms_of}
 use Rattle.auction_input.specs.TextsTold.{form_told, terms_told}
 use Rattle.auction_input.proofs.AnswerFacts.{ok-behind, ok-is, ok-refused_as}
 use Rattle.auction_input.proofs.RecordFacts.{few-of-kind, neither, none-failed, rules-told}
@@ -113,8 +113,8 @@ pub unless-large : {A F : Type 0} (large : Bool) (f : F) (r : Result A F) (x : A
 unless-large true f r x told = cc
 unless-large false f r x told = told
 
-pub terms-few : (texts : List (List ℕ)) (t : Terms) → terms_told texts ≡ Ok t → length t.bidders ≤ MOST_BIDDERS
-terms-few texts t told =
+pub terms-few : (text : List ℕ) (t : Terms) → terms_told text ≡ Ok t → length t.bidders ≤ MOST_BIDDERS
+terms-few text t told =
     let inside = ok-refused_as _ _ t told in
     rules-told (λ t. length t.bidders ≤ MOST_BIDDERS) few-bidders _ t (unless-large _ rules_fault.TooLarge _ t inside)
 
@@ -148,19 +148,19 @@ last-within lots bidder before (form ∷ forms) so_far within =
     by false is here left = rw is left
 
 each-few : (lots : Lots) (forms : List Offers) → AllByRecursion (IsWithin lots) forms → (a n : ℕ)
-    → AllByRecursion (λ form. length form ≤ MOST_BIDS) (map (λ bidder. bids_in (last_of bidder forms)) (range_with_len a n))
+    → AllByRecursion (λ form. length form ≤ MOST_BIDS) (map (λ bidder. bids_in (last_or None (forms_of bidder forms))) (range_with_len a n))
 each-few lots forms within a zero = tt
 each-few lots forms within a (suc n) = ((last-within lots a None forms (omega arith, tt) within).0, each-few lots forms within (a + 1) n)
 
 each-bids : (lots : Lots) (forms : List Offers) → AllByRecursion (IsWithin lots) forms → (a n : ℕ)
-    → AllByRecursion (λ form. AllByRecursion (IsBid lots) form) (map (λ bidder. bids_in (last_of bidder forms)) (range_with_len a n))
+    → AllByRecursion (λ form. AllByRecursion (IsBid lots) form) (map (λ bidder. bids_in (last_or None (forms_of bidder forms))) (range_with_len a n))
 each-bids lots forms within a zero = tt
 each-bids lots forms within a (suc n) = ((last-within lots a None forms (omega arith, tt) within).1, each-bids lots forms within (a + 1) n)
 
 -- the book that forms leave
-pub book-within : (t : Terms) (forms : List Offers) → length t.bidders ≤ MOST_BIDDERS → AllByRecursion (IsWithin (lots_in t)) forms → IsBook (lots_in t) (book_left t forms)
+pub book-within : (t : Terms) (forms : List Offers) → length t.bidders ≤ MOST_BIDDERS → AllByRecursion (IsWithin (lots_in t)) forms → IsBook (lots_in t) (sale_left t forms).book
 book-within t forms few within =
-    let count = length-map-range_with_len (λ bidder. bids_in (last_of bidder forms)) 1 (length t.bidders) in
+    let count = length-map-range_with_len (λ bidder. bids_in (last_or None (forms_of bidder forms))) 1 (length t.bidders) in
     record {
       bidders = omega arith;
       forms = each-few (lots_in t) forms within 1 (length t.bidders);

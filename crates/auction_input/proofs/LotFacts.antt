@@ -131,7 +131,7 @@ made-lots v more none step =
 
 -- ---- what an input tells
 
-pub lots-within : (texts : List (List ℕ)) (t : Terms) → terms_told texts ≡ Ok t → IsLots (lots_in t)
-lots-within texts t told =
+pub lots-within : (text : List ℕ) (t : Terms) → terms_told text ≡ Ok t → IsLots (lots_in t)
+lots-within text t told =
     let inside = ok-refused_as _ _ t told in
     rules-told (λ u. IsLots (lots_in u)) made-lots _ t (unless-large _ rules_fault.TooLarge _ t inside)

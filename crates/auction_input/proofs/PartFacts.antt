@@ -1,6 +1,6 @@
 -- The first line of a text, and what is before the next part.
-use Rattle.std.proofs.Common.{◌≡◌, ◌≤◌, ◌<◌, ◌+◌, ◌∷◌, ◌++◌, ◌∙◌, Bool, true, false, ℕ, zero, suc, List, [], drop, take, length, refl, ap, subst, arith, ◌⊎◌, inl, inr}
-use Rattle.std.specs.Prelude.{◌==◌, slice_index, None, Some, cond, filter, map}
+use Rattle.std.proofs.Common.{◌≡◌, ◌≤◌, ◌<◌, ◌+◌, ◌∷◌, ◌++◌, ◌∙◌, Bool, true, false, ℕ, zero, suc, List, [], drop, take, length, refl, ap, subst, sym, arith, ◌⊎◌, inl, inr}
+use Rattle.std.specs.Prelude.{◌==◌, Option, None, Some, codes, cond, filter, map, slice_index}
 use Rattle.auction_terms.specs.FirstFault.{first_fault}
 use Rattle.auction_input.specs.declared.parts.PartFault.TheVariants as fault
 use Rattle.std.proofs.lemmas.Bool.Decides.{Decides-eqb}
@@ -11,8 +11,13 @@ use Rattle.auction_input.specs.declared.part_kind.PartKind.{PartKind}
 use Rattle.auction_input.specs.declared.part_kind.PartKind.TheVariants as kind
 use Rattle.auction_input.specs.declared.request.Request.{Request}
 use Rattle.memchr.specs.Find.{FindsNeedle, OccursAt}
-use Rattle.auction_input.specs.Parts.{Part, bytes_before, bytes_of_kind, first_line, onto_first_line, is_of_kind, is_same_kind, cut_lines, heads_part, input_fault, kind_named, part_name, part, part_fault, parts_in, split}
-use Rattle.auction_input.specs.inside.Parts.{added}
+use Rattle.auction_input.specs.Parts.{Hold, Part, bytes_before, onto_first_line, cut_lines, heads_part, input_fault, part_fault, part_names, parts_in, parts_named}
+use Rattle.auction_input.specs.inside.Parts.{HeldBytes, added, held_bytes, kind_named, name_of, part}
+use Rattle.auction_input.specs.declared.parts.Parts.{Parts}
+use Rattle.auction_input.specs.declared.request.Request.TheVariants as request
+use Rattle.std.specs.List.{list_any}
+use Rattle.std.specs.Str.{bytes_eq}
+use Rattle.std.proofs.lemmas.Slice.Eq.{bytes_eq-Decides}
 
 -- a text with a line feed, none before it
 pub cut-at : (text : List ℕ) (end : ℕ) → end < length text → ((k : ℕ) → k < end → is_line_feed (slice_index text k) ≡ false) → is_line_feed (slice_index text end) ≡ true
@@ -60,39 +65,118 @@ parts-headed text n end some is cut bytes parts =
     let head : heads_part (take n text) ≡ true = headed text n some is in
     rw (cut, head, bytes, parts) refl
 
+-- ---- names and kinds
+
+module _ (name : List ℕ) where
+  -- the name of a kind stands among these names, and a name of no kind doesn't
+  abbrev NamedIn : List (List ℕ) → Option PartKind → Type 0
+  NamedIn names None = list_any (bytes_eq name) names ≡ false
+  NamedIn names (Some k) = (name ≡ name_of k) × (list_any (bytes_eq name) names ≡ true)
+
+  same : (other : List ℕ) → bytes_eq name other ≡ true → name ≡ other
+  same other is = (bytes_eq-Decides name other).0 is
+
+  of-verify : (a b c d e : Bool) → bytes_eq name (codes "%rules") ≡ a → bytes_eq name (codes "%form") ≡ b → bytes_eq name (codes "%groups") ≡ c → bytes_eq name (codes "%solution") ≡ d → bytes_eq name (codes "%certificate") ≡ e
+      → NamedIn (codes "%rules" ∷ codes "%form" ∷ codes "%groups" ∷ codes "%solution" ∷ codes "%certificate" ∷ [])
+      (cond a (Some kind.Rules) (cond b (Some kind.Form) (cond c (Some kind.Groups) (cond d (Some kind.Solution) (cond e (Some kind.Certificate) None)))))
+  of-verify true b c d e r f g s t = (same (codes "%rules") r, rw r refl)
+  of-verify false true c d e r f g s t = (same (codes "%form") f, rw (r, f) refl)
+  of-verify false false true d e r f g s t = (same (codes "%groups") g, rw (r, f, g) refl)
+  of-verify false false false true e r f g s t = (same (codes "%solution") s, rw (r, f, g, s) refl)
+  of-verify false false false false true r f g s t = (same (codes "%certificate") t, rw (r, f, g, s, t) refl)
+  of-verify false false false false false r f g s t = rw (r, f, g, s, t) refl
+
+  of-others : (a b c d e : Bool) → bytes_eq name (codes "%rules") ≡ a → bytes_eq name (codes "%form") ≡ b → bytes_eq name (codes "%groups") ≡ c → bytes_eq name (codes "%solution") ≡ d → bytes_eq name (codes "%certificate") ≡ e
+      → NamedIn (codes "%rules" ∷ codes "%form" ∷ codes "%groups" ∷ codes "%solution" ∷ [])
+      (cond a (Some kind.Rules) (cond b (Some kind.Form) (cond c (Some kind.Groups) (cond d (Some kind.Solution) (cond e (None) None)))))
+  of-others true b c d e r f g s t = (same (codes "%rules") r, rw r refl)
+  of-others false true c d e r f g s t = (same (codes "%form") f, rw (r, f) refl)
+  of-others false false true d e r f g s t = (same (codes "%groups") g, rw (r, f, g) refl)
+  of-others false false false true e r f g s t = (same (codes "%solution") s, rw (r, f, g, s) refl)
+  of-others false false false false true r f g s t = rw (r, f, g, s) refl
+  of-others false false false false false r f g s t = rw (r, f, g, s) refl
+
+  named-in : (asked : Request) → NamedIn (part_names asked) (kind_named asked name)
+  named-in (request.Verify workers) = of-verify _ _ _ _ _ refl refl refl refl refl
+  named-in asked = of-others _ _ _ _ _ refl refl refl refl refl
+
+  pub name-told : (asked : Request) (k : PartKind) → kind_named asked name ≡ Some k → (name ≡ name_of k) × (list_any (bytes_eq name) (part_names asked) ≡ true)
+  name-told asked k is = subst (NamedIn (part_names asked)) is (named-in asked)
+
+  pub no-name-told : (asked : Request) → kind_named asked name ≡ None → list_any (bytes_eq name) (part_names asked) ≡ false
+  no-name-told asked is = subst (NamedIn (part_names asked)) is (named-in asked)
+
+-- ---- parts, by their names
+
 -- a part of a kind that is told
-pub known-part : (asked : Request) (before : List Part) (p : Part) (k : PartKind) → kind_named asked (part_name p.head) ≡ Some k → part_fault asked before p ≡ None
-known-part asked before p k is = rw is refl
+pub known-part : (asked : Request) (before : List Part) (p : Part) (k : PartKind) → kind_named asked p.name ≡ Some k → part_fault asked before p ≡ None
+known-part asked before p k is = rw (name-told p.name asked k is).1 refl
+
+-- a part of no known kind
+pub unknown-part : (asked : Request) (before : List Part) (p : Part) → kind_named asked p.name ≡ None → part_fault asked before p ≡ Some (fault.PartName (length before + 1))
+unknown-part asked before p is = rw (no-name-told p.name asked is) refl
 
 one-part : (t : Bool) (p : Part) → map (λ (q : Part). q.bytes) (cond t (p ∷ []) []) ≡ cond t (p.bytes ∷ []) []
 one-part true p = refl
 one-part false p = refl
 
--- the parts of one kind, with one more part
-bytes-more : (asked : Request) (before : List Part) (p : Part) (k l : PartKind) → kind_named asked (part_name p.head) ≡ Some l
-    → bytes_of_kind asked k (before ++ p ∷ []) ≡ bytes_of_kind asked k before ++ cond (is_same_kind k l) (p.bytes ∷ []) []
-bytes-more asked before p k l is =
-    let one : map (λ (q : Part). q.bytes) (filter (is_of_kind asked k) (p ∷ [])) ≡ cond (is_same_kind k l) (p.bytes ∷ []) [] = rw is (one-part (is_same_kind k l) p) in
-    ap (map (λ (q : Part). q.bytes)) (filter-append (is_of_kind asked k) before (p ∷ []))
-    ∙ map-append (λ (q : Part). q.bytes) (filter (is_of_kind asked k) before) (filter (is_of_kind asked k) (p ∷ []))
-    ∙ ap (λ xs. bytes_of_kind asked k before ++ xs) one
+-- the parts of one name, with one more part
+named-more : (name : List ℕ) (before : List Part) (p : Part) (t : Bool) → bytes_eq p.name name ≡ t → parts_named name (before ++ p ∷ []) ≡ parts_named name before ++ cond t (p.bytes ∷ []) []
+named-more name before p t is =
+    let has_name = λ (q : Part). bytes_eq q.name name in
+    let one : map (λ (q : Part). q.bytes) (filter has_name (p ∷ [])) ≡ cond t (p.bytes ∷ []) [] = rw is (one-part t p) in
+    ap (map (λ (q : Part). q.bytes)) (filter-append has_name before (p ∷ []))
+    ∙ map-append (λ (q : Part). q.bytes) (filter has_name before) (filter has_name (p ∷ []))
+    ∙ ap (λ xs. parts_named name before ++ xs) one
 
--- the same of each kind
-pub split-more : (asked : Request) (before : List Part) (p : Part) (k : PartKind) → kind_named asked (part_name p.head) ≡ Some k → split asked (before ++ p ∷ []) ≡ added k p.bytes (split asked before)
-split-more asked before p k is = by k (bytes-more asked before p kind.Rules k is) (bytes-more asked before p kind.Form k is) (bytes-more asked before p kind.Groups k is) (bytes-more asked before p kind.Solution k is) (bytes-more asked before p kind.Certificate k is)
+-- a part of that name is the last of them
+more : (name : List ℕ) (before : List Part) (p : Part) (old new : List (List ℕ)) → bytes_eq p.name name ≡ true → new ≡ old ++ p.bytes ∷ [] → old ≡ parts_named name before → new ≡ parts_named name (before ++ p ∷ [])
+more name before p old new is grown held = grown ∙ ap (λ xs. xs ++ p.bytes ∷ []) held ∙ sym (named-more name before p true is)
+
+-- and of another name none of them
+others : (name : List ℕ) (before : List Part) (p : Part) (old new : List (List ℕ)) → bytes_eq p.name name ≡ false → new ≡ old → old ≡ parts_named name before → new ≡ parts_named name (before ++ p ∷ [])
+others name before p old new is same held = same ∙ held ∙ sym (named-more name before p false is ∙ append-nil (parts_named name before))
+
+-- one more part is held behind those of its kind
+pub hold-more : (old new : Parts) (asked : Request) (before : List Part) (p : Part) (k : PartKind) → kind_named asked p.name ≡ Some k → held_bytes new ≡ added k p.bytes (held_bytes old) → Hold old before → Hold new (before ++ p ∷ [])
+hold-more old new asked before p k told grown hold = by k (name-told p.name asked k told).0 grown
   where
-    by : (l : PartKind)
-        → bytes_of_kind asked kind.Rules (before ++ p ∷ []) ≡ bytes_of_kind asked kind.Rules before ++ cond (is_same_kind kind.Rules l) (p.bytes ∷ []) []
-        → bytes_of_kind asked kind.Form (before ++ p ∷ []) ≡ bytes_of_kind asked kind.Form before ++ cond (is_same_kind kind.Form l) (p.bytes ∷ []) []
-        → bytes_of_kind asked kind.Groups (before ++ p ∷ []) ≡ bytes_of_kind asked kind.Groups before ++ cond (is_same_kind kind.Groups l) (p.bytes ∷ []) []
-        → bytes_of_kind asked kind.Solution (before ++ p ∷ []) ≡ bytes_of_kind asked kind.Solution before ++ cond (is_same_kind kind.Solution l) (p.bytes ∷ []) []
-        → bytes_of_kind asked kind.Certificate (before ++ p ∷ []) ≡ bytes_of_kind asked kind.Certificate before ++ cond (is_same_kind kind.Certificate l) (p.bytes ∷ []) []
-        → split asked (before ++ p ∷ []) ≡ added l p.bytes (split asked before)
-    by kind.Rules r f g s t = rw (r, f, g, s, t) (simp append-nil)
-    by kind.Form r f g s t = rw (r, f, g, s, t) (simp append-nil)
-    by kind.Groups r f g s t = rw (r, f, g, s, t) (simp append-nil)
-    by kind.Solution r f g s t = rw (r, f, g, s, t) (simp append-nil)
-    by kind.Certificate r f g s t = rw (r, f, g, s, t) (simp append-nil)
+    by : (l : PartKind) → p.name ≡ name_of l → held_bytes new ≡ added l p.bytes (held_bytes old) → Hold new (before ++ p ∷ [])
+    by kind.Rules is same = record {
+      rules = more (codes "%rules") before p _ _ (rw is refl) (ap (λ (b : HeldBytes). b.rules) same) hold.rules;
+      forms = others (codes "%form") before p _ _ (rw is refl) (ap (λ (b : HeldBytes). b.forms) same) hold.forms;
+      groups = others (codes "%groups") before p _ _ (rw is refl) (ap (λ (b : HeldBytes). b.groups) same) hold.groups;
+      solutions = others (codes "%solution") before p _ _ (rw is refl) (ap (λ (b : HeldBytes). b.solutions) same) hold.solutions;
+      certificates = others (codes "%certificate") before p _ _ (rw is refl) (ap (λ (b : HeldBytes). b.certificates) same) hold.certificates;
+    }
+    by kind.Form is same = record {
+      rules = others (codes "%rules") before p _ _ (rw is refl) (ap (λ (b : HeldBytes). b.rules) same) hold.rules;
+      forms = more (codes "%form") before p _ _ (rw is refl) (ap (λ (b : HeldBytes). b.forms) same) hold.forms;
+      groups = others (codes "%groups") before p _ _ (rw is refl) (ap (λ (b : HeldBytes). b.groups) same) hold.groups;
+      solutions = others (codes "%solution") before p _ _ (rw is refl) (ap (λ (b : HeldBytes). b.solutions) same) hold.solutions;
+      certificates = others (codes "%certificate") before p _ _ (rw is refl) (ap (λ (b : HeldBytes). b.certificates) same) hold.certificates;
+    }
+    by kind.Groups is same = record {
+      rules = others (codes "%rules") before p _ _ (rw is refl) (ap (λ (b : HeldBytes). b.rules) same) hold.rules;
+      forms = others (codes "%form") before p _ _ (rw is refl) (ap (λ (b : HeldBytes). b.forms) same) hold.forms;
+      groups = more (codes "%groups") before p _ _ (rw is refl) (ap (λ (b : HeldBytes). b.groups) same) hold.groups;
+      solutions = others (codes "%solution") before p _ _ (rw is refl) (ap (λ (b : HeldBytes). b.solutions) same) hold.solutions;
+      certificates = others (codes "%certificate") before p _ _ (rw is refl) (ap (λ (b : HeldBytes). b.certificates) same) hold.certificates;
+    }
+    by kind.Solution is same = record {
+      rules = others (codes "%rules") before p _ _ (rw is refl) (ap (λ (b : HeldBytes). b.rules) same) hold.rules;
+      forms = others (codes "%form") before p _ _ (rw is refl) (ap (λ (b : HeldBytes). b.forms) same) hold.forms;
+      groups = others (codes "%groups") before p _ _ (rw is refl) (ap (λ (b : HeldBytes). b.groups) same) hold.groups;
+      solutions = more (codes "%solution") before p _ _ (rw is refl) (ap (λ (b : HeldBytes). b.solutions) same) hold.solutions;
+      certificates = others (codes "%certificate") before p _ _ (rw is refl) (ap (λ (b : HeldBytes). b.certificates) same) hold.certificates;
+    }
+    by kind.Certificate is same = record {
+      rules = others (codes "%rules") before p _ _ (rw is refl) (ap (λ (b : HeldBytes). b.rules) same) hold.rules;
+      forms = others (codes "%form") before p _ _ (rw is refl) (ap (λ (b : HeldBytes). b.forms) same) hold.forms;
+      groups = others (codes "%groups") before p _ _ (rw is refl) (ap (λ (b : HeldBytes). b.groups) same) hold.groups;
+      solutions = others (codes "%solution") before p _ _ (rw is refl) (ap (λ (b : HeldBytes). b.solutions) same) hold.solutions;
+      certificates = more (codes "%certificate") before p _ _ (rw is refl) (ap (λ (b : HeldBytes). b.certificates) same) hold.certificates;
+    }
 
 -- where nothing is before the first part, the first fault is that of a part
 pub fault-of-parts : (asked : Request) (text : List ℕ) → bytes_before (cut_lines text) ≡ [] → input_fault asked text ≡ first_fault (part_fault asked) [] (parts_in (cut_lines text))
@@ -108,9 +192,10 @@ pub none-left : (xs : List ℕ) → (length xs == 0) ≡ true → xs ≡ []
 none-left [] is = refl
 none-left (x ∷ xs) is = (let e : length (x ∷ xs) ≡ 0 = (Decides-eqb (length (x ∷ xs)) 0).0 is in absurd (omega arith))
 
--- a part of no known kind
-pub unknown-part : (asked : Request) (before : List Part) (p : Part) → kind_named asked (part_name p.head) ≡ None → part_fault asked before p ≡ Some (fault.PartName (length before + 1))
-unknown-part asked before p is = rw is refl
+-- the first of the lines
+abbrev pub first_line : List (List ℕ) → List ℕ
+first_line [] = []
+first_line (line ∷ more) = line
 
 -- the lines after the first one
 abbrev pub rest_of : List (List ℕ) → List (List ℕ)

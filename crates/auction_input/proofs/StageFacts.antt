@@ -1,7 +1,8 @@
 -- What stages tell together.
 use Rattle.std.proofs.Common.{◌≡◌, ◌+◌, ◌++◌, ◌∷◌, ◌∙◌, [], ℕ, List, Result, Ok, Err, ap, append_assoc, arith, length, refl, sym, inl, inr}
 use Rattle.std.proofs.lemmas.List.{append-nil}
-use Rattle.auction_input.specs.Refused.{Refuses, Refusal, Refused}
+use Rattle.auction_input.specs.Refused.{Refuses}
+use Rattle.auction_input.specs.declared.refusal.Refusal.{Refusal}
 use Rattle.auction_terms.specs.Stages.{and_then, each_in_turn}
 
 -- a stage that tells a value, and the stages behind it
@@ -9,17 +10,17 @@ pub next : {A B E : Type 0} (r : Result A E) (x : A) (k : A → Result B E) (y :
 next r x k y tells goes = ap (λ q. and_then q k) tells ∙ goes
 
 -- a stage that refuses ends the run
-pub stop : {A B : Type 0} (r : Result A Refused) (k : A → Result B Refused) (e : Refusal) → Refuses r e → Refuses (and_then r k) e
+pub stop : {A B : Type 0} (r : Result A Refusal) (k : A → Result B Refusal) (e : Refusal) → Refuses r e → Refuses (and_then r k) e
 stop r k e (inl told) = inl (ap (λ q. and_then q k) told)
 stop r k e (inr memory) = inr memory
 
 -- a stage behind one that tells a value
-pub behind : {A B : Type 0} (r : Result A Refused) (x : A) (k : A → Result B Refused) (e : Refusal) → r ≡ Ok x → Refuses (k x) e → Refuses (and_then r k) e
+pub behind : {A B : Type 0} (r : Result A Refusal) (x : A) (k : A → Result B Refusal) (e : Refusal) → r ≡ Ok x → Refuses (k x) e → Refuses (and_then r k) e
 behind r x k e tells (inl told) = inl (ap (λ q. and_then q k) tells ∙ told)
 behind r x k e tells (inr memory) = inr memory
 
 -- a refusal of what is the same
-pub refuses-as : {A : Type 0} (r s : Result A Refused) (e : Refusal) → s ≡ r → Refuses r e → Refuses s e
+pub refuses-as : {A : Type 0} (r s : Result A Refusal) (e : Refusal) → s ≡ r → Refuses r e → Refuses s e
 refuses-as r s e same (inl told) = inl (same ∙ told)
 refuses-as r s e same (inr memory) = inr memory
 
@@ -105,13 +106,13 @@ module _ {X A E : Type 0} (tell : ℕ → X → Result A E) where
   left-none n items told left = left ∙ ap (λ (xs : List A). Ok xs) (append-nil told)
 
 -- the next item refuses
-pub left-refused : {X A : Type 0} (tell : ℕ → X → Result A Refused) (n : ℕ) (items : List X) (told : List A) (x : X) (rest : List X) (r : Refusal) → IsLeft tell n items told (x ∷ rest) → Refuses (tell n x) r
+pub left-refused : {X A : Type 0} (tell : ℕ → X → Result A Refusal) (n : ℕ) (items : List X) (told : List A) (x : X) (rest : List X) (r : Refusal) → IsLeft tell n items told (x ∷ rest) → Refuses (tell n x) r
     → Refuses (each_in_turn tell 1 items) r
 left-refused tell n items told x rest r left (inl is) = inl (left-fault tell n items told x rest _ left is)
 left-refused tell n items told x rest r left (inr memory) = inr memory
 
 -- a stage of items refuses
-pub left-stage-refused : {X A : Type 0} (tell : ℕ → X → Result A Refused) (n : ℕ) (items : List X) (told : List A) (stage rest : List X) (r : Refusal) → IsLeft tell n items told (stage ++ rest)
+pub left-stage-refused : {X A : Type 0} (tell : ℕ → X → Result A Refusal) (n : ℕ) (items : List X) (told : List A) (stage rest : List X) (r : Refusal) → IsLeft tell n items told (stage ++ rest)
     → Refuses (each_in_turn tell n stage) r → Refuses (each_in_turn tell 1 items) r
 left-stage-refused tell n items told stage rest r left (inl is) = inl (left-stage-fault tell n items told stage rest _ left is)
 left-stage-refused tell n items told stage rest r left (inr memory) = inr memory

@@ -1,25 +1,28 @@
 -- The auction that an input tells is within the limits.
 use Rattle.std.proofs.Common.{◌≡◌, ℕ, List, Ok, refl, subst}
 use Rattle.auction_terms.specs.Limits.{IsBook, IsLots}
-use Rattle.auction_input.specs.Auction.{Auction, auction_in, auction_of, auction_told}
-use Rattle.auction_input.specs.Calls.{calls_told}
-use Rattle.auction_input.specs.PartsTold.{parts_told}
-use Rattle.auction_input.specs.TextsTold.{forms_told, groups_told, terms_told}
+use Rattle.auction_input.specs.Auction.{Auction, auction_told}
+use Rattle.auction_input.specs.BookLeft.{sale_left}
+use Rattle.auction_input.specs.Parts.{parts_named}
+use Rattle.auction_input.specs.PartsTold.{only_text, parts_told}
+use Rattle.auction_input.specs.TextsTold.{form_told, groups_told, terms_told}
+use Rattle.auction_terms.specs.Stages.{each_in_turn}
+use Rattle.std.specs.Prelude.{codes}
 use Rattle.auction_input.specs.declared.refusal.Refusal.TheVariants as refusal
 use Rattle.auction_input.specs.declared.request.Request.{Request}
-use Rattle.auction_input.proofs.AnswerFacts.{ok-behind, ok-is, ok-refused_as, unless-ok}
+use Rattle.auction_input.proofs.AnswerFacts.{ok-behind, ok-refused_as, unless-ok}
 use Rattle.auction_input.proofs.LimitFacts.{book-within, forms-within, terms-few}
 use Rattle.auction_input.proofs.LotFacts.{lots-within}
 
 -- an auction that is told has lots and a book within the limits
 pub auction-within : (asked : Request) (input : List ℕ) (auction : Auction) → auction_told asked input ≡ Ok auction → IsLots auction.sale.lots × IsBook auction.sale.lots auction.sale.book
 auction-within asked input auction told =
-    let (parts, parts_are, more) = ok-behind (parts_told asked input) auction_in auction told in
-    let (t, t_is, more_forms) = ok-behind (terms_told parts.rules) _ auction more in
-    let (forms, forms_are, more_groups) = ok-behind (forms_told t parts.forms) _ auction more_forms in
-    let (groups, groups_are, more_calls) = ok-behind (groups_told t parts.groups) _ auction more_groups in
-    let (accepted, accepted_is, made) = ok-behind (calls_told forms) _ auction more_calls in
-    let same = (unless-ok _ forms accepted (ok-refused_as refusal.CallLimit _ accepted accepted_is)).1 in
-    let is : auction_of t accepted groups parts ≡ auction = ok-is _ (auction_of t accepted groups parts) auction refl made in
-    let within = book-within t forms (terms-few parts.rules t t_is) (forms-within t 1 parts.forms forms forms_are) in
-    subst (λ (a : Auction). IsLots a.sale.lots × IsBook a.sale.lots a.sale.book) is (lots-within parts.rules t t_is, rw (← same) within)
+    let (parts, parts_are, more) = ok-behind (parts_told asked input) _ auction told in
+    let rules = only_text (parts_named (codes "%rules") parts) in
+    let (t, t_is, more_forms) = ok-behind (terms_told rules) _ auction more in
+    let (forms, forms_are, more_groups) = ok-behind (each_in_turn (form_told t) 1 (parts_named (codes "%form") parts)) _ auction more_forms in
+    let (groups, groups_are, more_calls) = ok-behind (groups_told t (only_text (parts_named (codes "%groups") parts))) _ auction more_groups in
+    let whole : Auction = record { sale = sale_left t forms; groups = groups; solutions = parts_named (codes "%solution") parts; certificates = parts_named (codes "%certificate") parts } in
+    let is : whole ≡ auction = (unless-ok _ whole auction (ok-refused_as refusal.CallLimit _ auction more_calls)).1 in
+    let within = book-within t forms (terms-few rules t t_is) (forms-within t 1 (parts_named (codes "%form") parts) forms forms_are) in
+    subst (λ (a : Auction). IsLots a.sale.lots × IsBook a.sale.lots a.sale.book) is (lots-within rules t t_is, within)

@@ -1,24 +1,23 @@
 -- The book that forms leave: of each bidder its last form.
-use Rattle.std.specs.Prelude.{ℕ, List, length, map}
-use Rattle.std.specs.List.{range_with_len}
-use Rattle.auction_input.specs.Submissions.{last_of}
-use Rattle.auction_terms.specs.Allocations.{Book}
+use Rattle.std.specs.Prelude.{ℕ, List, [], None, length, map}
+use Rattle.std.specs.Option.{option_map_or}
+use Rattle.std.specs.List.{last_or, range_with_len}
+use Rattle.auction_input.specs.Submissions.{forms_of}
 use Rattle.auction_terms.specs.Groups.{has}
 use Rattle.auction_terms.specs.Keeping.{kept_of}
 use Rattle.auction_terms.specs.Terms.{Terms, lots_in}
-use Rattle.bid_desk.specs.Closing.{bids_in}
 use Rattle.bid_forms.specs.Offers.{Offers}
 use Rattle.outcome.specs.Sale.{Sale}
 use Rattle.program_rows.specs.Program.{Table}
 use Rattle.program_rows.specs.Rows.{program_of}
 
--- the bids of each bidder, in order of the bidders' numbers
-abbrev pub book_left : Terms → List Offers → Book
-book_left t forms = map (λ bidder. bids_in (last_of bidder forms)) (range_with_len 1 (length t.bidders))
-
--- what is for sale, to whom, and what is bid
+-- what is for sale, to whom, and what is bid: of each bidder, in order of the bidders' numbers, the bids in its last form
 abbrev pub sale_left : Terms → List Offers → Sale
-sale_left t forms = record { names = map (λ bidder. bidder.name) t.bidders; lots = lots_in t; book = book_left t forms }
+sale_left t forms = record {
+  names = map (λ bidder. bidder.name) t.bidders;
+  lots = lots_in t;
+  book = map (λ bidder. option_map_or (λ (form : Offers). form.bids) (last_or None (forms_of bidder forms)) []) (range_with_len 1 (length t.bidders));
+}
 
 -- the program of what is kept without a group
 abbrev pub program_for : Sale → List ℕ → Table

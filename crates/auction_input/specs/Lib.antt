@@ -1,7 +1,6 @@
 pub mod Auction
 pub mod BookLeft
 pub mod Calls
-pub mod InputTexts
 pub mod Line
 pub mod Parts
 pub mod PartsTold

@@ -1,9 +1,8 @@
 -- The parts of the input. A line that begins with a percent sign heads a part, whose bytes run up to the next such line.
-use Rattle.std.specs.Prelude.{◌≡◌, ◌==◌, ◌+◌, ◌++◌, Bool, true, false, ⊤, ℕ, List, [], ◌∷◌, Option, None, Some, Result, Ok, Err, codes, filter, if◌then◌else◌, is_some, length, map}
+use Rattle.std.specs.Prelude.{◌≡◌, ◌==◌, ◌+◌, ◌++◌, Bool, true, false, ⊤, ℕ, List, [], ◌∷◌, Option, None, Some, Result, Ok, Err, codes, filter, if◌then◌else◌, is_some, length, map, slice_index_or}
 use Rattle.std.specs.Option.{option_map_or, option_or}
+use Rattle.std.specs.List.{list_any}
 use Rattle.std.specs.Str.{bytes_eq}
-use Rattle.auction_input.specs.declared.part_kind.PartKind.TheVariants as kind
-use Rattle.auction_input.specs.declared.part_kind.PartKind.{PartKind}
 use Rattle.auction_input.specs.declared.parts.PartFault.TheVariants as fault
 use Rattle.auction_input.specs.declared.parts.PartFault.{PartFault}
 use Rattle.auction_input.specs.declared.parts.Parts.{Parts}
@@ -27,13 +26,10 @@ abbrev pub heads_part : List ℕ → Bool
 heads_part [] = false
 heads_part (b ∷ line) = b == 37
 
--- the line that heads a part, and the bytes after it
+-- the name in the line that heads a part, and the bytes after that line
 pub record Part : Type 0 where
-  pub head : List ℕ
+  pub name : List ℕ
   pub bytes : List ℕ
-
-abbrev pub part : List ℕ → List ℕ → Part
-part head bytes = record { head = head; bytes = bytes }
 
 -- the bytes before the first part
 abbrev pub bytes_before : List (List ℕ) → List ℕ
@@ -43,78 +39,37 @@ bytes_before (line ∷ more) = if heads_part line then [] else line ++ bytes_bef
 -- the parts of a list of lines
 abbrev pub parts_in : List (List ℕ) → List Part
 parts_in [] = []
-parts_in (line ∷ more) = if heads_part line then part line (bytes_before more) ∷ parts_in more else parts_in more
+parts_in (line ∷ more) = if heads_part line then record { name = slice_index_or (lines_of line) 0 []; bytes = bytes_before more } ∷ parts_in more else parts_in more
 
-abbrev pub first_line : List (List ℕ) → List ℕ
-first_line [] = []
-first_line (line ∷ more) = line
+-- the names that a part may have; certificates are for `verify` alone
+abbrev pub part_names : Request → List (List ℕ)
+part_names (request.Verify workers) = codes "%rules" ∷ codes "%form" ∷ codes "%groups" ∷ codes "%solution" ∷ codes "%certificate" ∷ []
+part_names asked = codes "%rules" ∷ codes "%form" ∷ codes "%groups" ∷ codes "%solution" ∷ []
 
--- the name in the line that heads a part
-abbrev pub part_name : List ℕ → List ℕ
-part_name head = first_line (lines_of head)
-
--- certificates are a kind for `verify` alone
-abbrev pub certificates_for : Request → Option PartKind
-certificates_for (request.Verify workers) = Some kind.Certificate
-certificates_for asked = None
-
--- the kind that a name tells to a request
-abbrev pub kind_named : Request → List ℕ → Option PartKind
-kind_named asked name =
-    if bytes_eq name (codes "%rules") then Some kind.Rules
-    else if bytes_eq name (codes "%form") then Some kind.Form
-    else if bytes_eq name (codes "%groups") then Some kind.Groups
-    else if bytes_eq name (codes "%solution") then Some kind.Solution
-    else if bytes_eq name (codes "%certificate") then certificates_for asked
-    else None
-
--- a part of no known kind, given the parts before it
+-- a part of no such name, given the parts before it
 abbrev pub part_fault : Request → List Part → Part → Option PartFault
-part_fault asked before p = if is_some (kind_named asked (part_name p.head)) then None else Some (fault.PartName (length before + 1))
+part_fault asked before p = if list_any (bytes_eq p.name) (part_names asked) then None else Some (fault.PartName (length before + 1))
 
 -- the first fault of the input
 abbrev pub input_fault : Request → List ℕ → Option PartFault
 input_fault asked text =
-    option_or (first_failed ((length (bytes_before (cut_lines text)) == 0, fault.BeforeFirst) ∷ []))
+    option_or (if length (bytes_before (cut_lines text)) == 0 then None else Some fault.BeforeFirst)
     (first_fault (part_fault asked) [] (parts_in (cut_lines text)))
 
--- the bytes of the parts of each kind, in the order of the input
-pub record SplitInput : Type 0 where
-  pub rules : List (List ℕ)
-  pub forms : List (List ℕ)
-  pub groups : List (List ℕ)
-  pub solutions : List (List ℕ)
-  pub certificates : List (List ℕ)
+-- the bytes of the parts of a name, in the order of the input
+abbrev pub parts_named : List ℕ → List Part → List (List ℕ)
+parts_named name parts = map (λ p. p.bytes) (filter (λ (p : Part). bytes_eq p.name name) parts)
 
-abbrev pub is_same_kind : PartKind → PartKind → Bool
-is_same_kind kind.Rules kind.Rules = true
-is_same_kind kind.Form kind.Form = true
-is_same_kind kind.Groups kind.Groups = true
-is_same_kind kind.Solution kind.Solution = true
-is_same_kind kind.Certificate kind.Certificate = true
-is_same_kind k l = false
-
-abbrev pub is_of_kind : Request → PartKind → Part → Bool
-is_of_kind asked k p = option_map_or (is_same_kind k) (kind_named asked (part_name p.head)) false
-
-abbrev pub bytes_of_kind : Request → PartKind → List Part → List (List ℕ)
-bytes_of_kind asked k parts = map (λ p. p.bytes) (filter (is_of_kind asked k) parts)
-
-abbrev pub split : Request → List Part → SplitInput
-split asked parts = record {
-  rules = bytes_of_kind asked kind.Rules parts;
-  forms = bytes_of_kind asked kind.Form parts;
-  groups = bytes_of_kind asked kind.Groups parts;
-  solutions = bytes_of_kind asked kind.Solution parts;
-  certificates = bytes_of_kind asked kind.Certificate parts;
-}
-
--- what the lists of borrowed bytes stand for
-abbrev pub values : Parts → SplitInput
-values p = record { rules = bytes_of p.rules.items; forms = bytes_of p.forms.items; groups = bytes_of p.groups.items; solutions = bytes_of p.solutions.items; certificates = bytes_of p.certificates.items }
+-- the bytes of parts are held by their names
+pub record Hold (held : Parts) (parts : List Part) : Type 0 where
+  pub rules : bytes_of held.rules.items ≡ parts_named (codes "%rules") parts
+  pub forms : bytes_of held.forms.items ≡ parts_named (codes "%form") parts
+  pub groups : bytes_of held.groups.items ≡ parts_named (codes "%groups") parts
+  pub solutions : bytes_of held.solutions.items ≡ parts_named (codes "%solution") parts
+  pub certificates : bytes_of held.certificates.items ≡ parts_named (codes "%certificate") parts
 
 -- the parts, where the input has no fault, and else the first fault; or memory was short
 abbrev pub TellsParts : Request → Result Parts PartFault → List ℕ → Type 0
-TellsParts asked (Ok parts) text = (input_fault asked text ≡ None) × (values parts ≡ split asked (parts_in (cut_lines text)))
+TellsParts asked (Ok held) text = (input_fault asked text ≡ None) × Hold held (parts_in (cut_lines text))
 TellsParts asked (Err fault.OutOfMemory) text = ⊤
 TellsParts asked (Err f) text = input_fault asked text ≡ Some f

@@ -1,17 +1,19 @@
 -- What an input leaves: an auction that is settled, or the first refusal.
-use Rattle.std.specs.Prelude.{◌≡◌, ◌⊎◌, ℕ, true, List, Ok}
+use Rattle.std.specs.Prelude.{◌≡◌, ◌≢◌, ◌⊎◌, ℕ, List, Ok, codes}
 use Rattle.auction_input.specs.Auction.{Auction, auction_told}
 use Rattle.auction_terms.specs.Borrowed.{bytes_of}
-use Rattle.auction_input.specs.Parts.{SplitInput}
-use Rattle.auction_input.specs.PartsTold.{parts_told}
-use Rattle.auction_input.specs.Plan.{reads_auction}
-use Rattle.auction_input.specs.Refused.{Refusal, Refuses}
+use Rattle.auction_input.specs.Parts.{Part, parts_named}
+use Rattle.auction_input.specs.PartsTold.{only_text, parts_told}
+use Rattle.auction_input.specs.Refused.{Refuses}
 use Rattle.auction_input.specs.Submissions.{AreSubmitted}
-use Rattle.auction_input.specs.TextsTold.{forms_told, terms_told}
+use Rattle.auction_input.specs.TextsTold.{form_told, terms_told}
 use Rattle.auction_input.specs.declared.auction.Auction as declared
 use Rattle.auction_input.specs.declared.refusal.Refusal.TheVariants as refusal
+use Rattle.auction_input.specs.declared.refusal.Refusal.{Refusal}
+use Rattle.auction_input.specs.declared.request.Request.TheVariants as request
 use Rattle.auction_input.specs.declared.request.Request.{Request}
 use Rattle.auction_input.specs.declared.round.RoundFault.TheVariants as round
+use Rattle.auction_terms.specs.Stages.{each_in_turn}
 use Rattle.bid_desk.specs.Closing.{Closing}
 use Rattle.bid_forms.specs.Offers.{Offers}
 use Rattle.outcome.specs.Sale.{sale_of}
@@ -22,7 +24,7 @@ held auction = record { sale = sale_of auction.book; groups = auction.groups; so
 
 -- the auction, which the request reads, is accepted, and the desk gave an answer that a round of these calls isn't given
 abbrev pub IsUnsettled : Request → List ℕ → Refusal → Type 0
-IsUnsettled asked input r = (reads_auction asked ≡ true) × (auction : Auction) × (auction_told asked input ≡ Ok auction) × (r ≡ refusal.Round round.WrongAnswer)
+IsUnsettled asked input r = (asked ≢ request.Check) × (auction : Auction) × (auction_told asked input ≡ Ok auction) × (r ≡ refusal.Round round.WrongAnswer)
 
 -- why an input leaves no settled auction
 abbrev pub RefusesAuction : Request → List ℕ → Refusal → Type 0
@@ -30,9 +32,9 @@ RefusesAuction asked input r = Refuses (auction_told asked input) r ⊎ IsUnsett
 
 -- a book holds the forms that the input tells, which were submitted in their order under the rules that it tells
 pub record HoldsForms (asked : Request) (input : List ℕ) (book : Closing) : Type 0 where
-  pub parts : SplitInput
+  pub parts : List Part
   pub forms : List Offers
   pub parts_are : parts_told asked input ≡ Ok parts
-  pub rules_are : terms_told parts.rules ≡ Ok book.rules
-  pub forms_are : forms_told book.rules parts.forms ≡ Ok forms
+  pub rules_are : terms_told (only_text (parts_named (codes "%rules") parts)) ≡ Ok book.rules
+  pub forms_are : each_in_turn (form_told book.rules) 1 (parts_named (codes "%form") parts) ≡ Ok forms
   pub submitted : AreSubmitted forms book

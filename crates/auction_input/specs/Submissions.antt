@@ -15,10 +15,6 @@ use Rattle.bid_forms.specs.Offers.{Offers}
 abbrev pub forms_of : ℕ → List Offers → List Offers
 forms_of bidder forms = filter (λ (form : Offers). form.bidder == bidder) forms
 
--- the last of a bidder's forms, if it has one
-abbrev pub last_of : ℕ → List Offers → Option Offers
-last_of bidder forms = last_or None (forms_of bidder forms)
-
 -- a form was submitted, over whatever number stood, and accepted
 abbrev pub IsAccepted : Offers → Call Offers × Reply Offers → Type 0
 IsAccepted form pair = (over : Option ℕ) × (number : ℕ) × (pair ≡ (Submit form over, Accepted number))
@@ -31,4 +27,4 @@ AreAccepted forms pairs = AllZip IsAccepted forms pairs
 pub record AreSubmitted (forms : List Offers) (book : Closing) : Type 0 where
   pub first : (b : ℕ) → IsSessionOf book.rules b 1 → AreAccepted (forms_of b forms) (own_pairs book.history (Session b 1))
   pub others : (b s : ℕ) → IsSessionOf book.rules b s → s ≢ 1 → own_pairs book.history (Session b s) ≡ []
-  pub standing : (b : ℕ) → 1 ≤ b → b ≤ length book.rules.bidders → form_standing book.history b ≡ last_of b forms
+  pub standing : (b : ℕ) → 1 ≤ b → b ≤ length book.rules.bidders → form_standing book.history b ≡ last_or None (forms_of b forms)

@@ -1,23 +1,28 @@
--- What the texts of rules, forms and groups tell, or which refusal is the first.
-use Rattle.std.specs.Prelude.{ℕ, List, Result}
-use Rattle.auction_input.specs.InputTexts.{form_in, groups_in, rules_in}
+-- What the texts of rules, forms and groups tell, their sizes included, or which refusal is the first.
+use Rattle.std.specs.Prelude.{ℕ, List, Result, Err, if◌then◌else◌, length, nat_lt}
 use Rattle.auction_input.specs.PartsTold.{only_text}
-use Rattle.auction_input.specs.Refused.{Refused}
-use Rattle.auction_terms.specs.Stages.{each_in_turn, refused_as}
 use Rattle.auction_input.specs.declared.refusal.Refusal.TheVariants as refusal
+use Rattle.auction_input.specs.declared.refusal.Refusal.{Refusal}
+use Rattle.auction_terms.specs.GroupsText.{groups_of}
+use Rattle.auction_terms.specs.Records.{records_of}
+use Rattle.auction_terms.specs.RulesText.{rules_of}
+use Rattle.auction_terms.specs.Stages.{refused_as}
 use Rattle.auction_terms.specs.Terms.{Terms}
+use Rattle.auction_terms.specs.declared.groups_text.GroupFault.TheVariants as groups
+use Rattle.auction_terms.specs.declared.limits.TheConstants.{TEXT_LIMIT}
+use Rattle.auction_terms.specs.declared.rules_text.RulesFault.TheVariants as rules
+use Rattle.bid_forms.specs.FormText.{form_of_records}
 use Rattle.bid_forms.specs.Offers.{Offers}
+use Rattle.bid_forms.specs.declared.form_text.FormFault.TheVariants as form
 
-abbrev pub terms_told : List (List ℕ) → Result Terms Refused
-terms_told texts = refused_as refusal.Rules (rules_in (only_text texts))
+-- the rules in the one text of them
+abbrev pub terms_told : List ℕ → Result Terms Refusal
+terms_told text = refused_as refusal.Rules (if nat_lt TEXT_LIMIT (length text) then Err rules.TooLarge else rules_of (records_of text))
 
 -- the form of this number
-abbrev pub form_told : Terms → ℕ → List ℕ → Result Offers Refused
-form_told t number text = refused_as (refusal.Form number) (form_in t text)
-
-abbrev pub forms_told : Terms → List (List ℕ) → Result (List Offers) Refused
-forms_told t texts = each_in_turn (form_told t) 1 texts
+abbrev pub form_told : Terms → ℕ → List ℕ → Result Offers Refusal
+form_told t number text = refused_as (refusal.Form number) (if nat_lt TEXT_LIMIT (length text) then Err form.TooLarge else form_of_records t (records_of text))
 
 -- a command that takes no groups has no text of them, which tells none
-abbrev pub groups_told : Terms → List (List ℕ) → Result (List (List ℕ)) Refused
-groups_told t texts = refused_as refusal.Groups (groups_in t.bidders (only_text texts))
+abbrev pub groups_told : Terms → List ℕ → Result (List (List ℕ)) Refusal
+groups_told t text = refused_as refusal.Groups (if nat_lt TEXT_LIMIT (length text) then Err groups.TooLarge else groups_of t.bidders text)

@@ -1,15 +1,14 @@
 //! The auction that an input tells.
 
-ghost use Rattle.std.specs.Prelude.{◌≡◌, IfErr, IfOk, Ok, true};
+ghost use Rattle.std.specs.Prelude.{◌≡◌, ◌≢◌, IfErr, IfOk, List, Ok};
 ghost use Rattle.auction_input.specs.Auction.{auction_told};
 ghost use Rattle.auction_input.specs.Refused.{Refuses};
 ghost use Rattle.auction_input.specs.Settled.{HoldsForms, RefusesAuction, held};
 ghost use Rattle.auction_terms.specs.Borrowed.{bytes_of};
-ghost use Rattle.auction_input.specs.Parts.{values};
-ghost use Rattle.auction_input.specs.PartsTold.{parts_told};
-ghost use Rattle.auction_input.specs.Plan.{reads_auction};
+ghost use Rattle.auction_input.specs.Parts.{Hold, Part};
+ghost use Rattle.auction_input.specs.PartsTold.{only_text, parts_told};
 ghost use Rattle.auction_input.specs.Sold.{IsSold};
-ghost use Rattle.auction_input.specs.TextsTold.{forms_told, groups_told, terms_told};
+ghost use Rattle.auction_input.specs.TextsTold.{groups_told, terms_told};
 
 use crate::calls::check_calls;
 use crate::parts::{Parts, split_parts};
@@ -34,7 +33,8 @@ pub struct Auction<'t> {
 
 // The parts of a text, as many as the request takes.
 fn read_parts<'t>(alloc: Global, request: &Request, text: &'t [u8]) -> Result<Parts<'t>, Refusal>
-    ensures told { IfOk result (λ parts. parts_told request.now text.now ≡ Ok (values parts)) }
+    ensures told { IfOk result (λ held. (parts : List Part)
+        × (parts_told request.now text.now ≡ Ok parts) × Hold held parts) }
     ensures refuses { IfErr result (Refuses (parts_told request.now text.now)) }
 {
     let parts = split_parts(alloc, request, text)?;
@@ -46,16 +46,18 @@ fn read_parts<'t>(alloc: Global, request: &Request, text: &'t [u8]) -> Result<Pa
 
 // The rules in the one text of them, with a fault as a refusal.
 fn rules_in(alloc: Global, texts: &[&[u8]]) -> Result<Rules, Refusal>
-    ensures told { IfOk result (λ rules. terms_told (bytes_of texts.now) ≡ Ok rules) }
-    ensures refuses { IfErr result (Refuses (terms_told (bytes_of texts.now))) }
+    ensures told { IfOk result (λ rules. terms_told (only_text (bytes_of texts.now)) ≡ Ok rules) }
+    ensures refuses { IfErr result (Refuses (terms_told (only_text (bytes_of texts.now)))) }
 {
     Ok(read_rules(alloc, only_text(texts))?)
 }
 
 // The groups in the one text of them, with a fault as a refusal.
 fn groups_in(alloc: Global, texts: &[&[u8]], rules: &Rules) -> Result<Groups, Refusal>
-    ensures told { IfOk result (λ groups. groups_told rules.now (bytes_of texts.now) ≡ Ok groups) }
-    ensures refuses { IfErr result (Refuses (groups_told rules.now (bytes_of texts.now))) }
+    ensures told { IfOk result (λ groups. groups_told rules.now (only_text (bytes_of texts.now))
+        ≡ Ok groups) }
+    ensures refuses { IfErr result (Refuses (groups_told rules.now
+        (only_text (bytes_of texts.now)))) }
 {
     Ok(read_groups(alloc, only_text(texts), rules)?)
 }
@@ -66,7 +68,7 @@ pub fn read_auction<'t, R: Threads + Wait + Sync + AllocGlobal>(
     request: &Request,
     text: &'t [u8],
 ) -> Result<Auction<'t>, Refusal>
-    requires { reads_auction request.now ≡ true }
+    requires { request.now ≢ Request.Check }
     ensures told { IfOk result (λ auction. auction_told request.now text.now ≡ Ok (held auction)) }
     ensures submitted { IfOk result (λ auction. HoldsForms request.now text.now auction.book) }
     ensures sold { IfOk result (λ auction. IsSold request.now text.now (held auction)) }

@@ -1,8 +1,8 @@
 //! The call limit.
 
-ghost use Rattle.std.specs.Prelude.{◌≡◌, Err, IfErr, Ok, OnOk};
-ghost use Rattle.auction_input.specs.Calls.{calls_told};
-ghost use Rattle.auction_input.specs.Refused.{refused};
+ghost use Rattle.std.specs.Prelude.{◌≡◌, ℕ, [], IfErr, None, OnOk, Some};
+ghost use Rattle.auction_input.specs.Calls.{one_too_many};
+ghost use Rattle.auction_terms.specs.FirstFault.{first_fault};
 
 use crate::refusal::Refusal;
 use bid_book::CALL_LIMIT;
@@ -13,8 +13,9 @@ const COUNTS_LEN: usize = 257;
 
 /// Tests that each form finds a call left of its bidder, as every form is one recorded call.
 pub fn check_calls(forms: &[Form]) -> Result<(), Refusal>
-    ensures accepted { OnOk result (calls_told forms.now ≡ Ok forms.now) }
-    ensures refused { IfErr result (λ r. calls_told forms.now ≡ Err (refused r)) }
+    ensures accepted { OnOk result (first_fault one_too_many [] forms.now ≡ None) }
+    ensures refused { IfErr result (λ r. (number : ℕ)
+        × (first_fault one_too_many [] forms.now ≡ Some number) × (r ≡ Refusal.CallLimit number)) }
 {
     let mut counts = [0u32; COUNTS_LEN];
     for place in 0..forms.len() {

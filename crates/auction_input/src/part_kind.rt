@@ -1,7 +1,7 @@
 //! The kinds of parts.
 
 ghost use Rattle.std.specs.Prelude.{◌≡◌};
-ghost use Rattle.auction_input.specs.Parts.{certificates_for, kind_named};
+ghost use Rattle.auction_input.specs.inside.Parts.{certificates_for, kind_named};
 
 use crate::request::Request;
 

@@ -1,8 +1,8 @@
 //! The parts of the input.
 
 ghost use Rattle.std.specs.Prelude.{◌≡◌, ◌≤◌, ◌<◌, ◌∷◌, ◌⊎◌, [], OnOk, drop, length, take, true};
-ghost use Rattle.auction_input.specs.Parts.{TellsParts, heads_part, bytes_before, cut_lines, part_name, part, parts_in, values};
-ghost use Rattle.auction_input.specs.inside.Parts.{added};
+ghost use Rattle.auction_input.specs.Parts.{TellsParts, heads_part, bytes_before, cut_lines, parts_in};
+ghost use Rattle.auction_input.specs.inside.Parts.{added, held_bytes, part, part_name};
 
 use crate::part_kind::{PartKind, kind_named};
 use crate::request::Request;
@@ -109,7 +109,7 @@ fn first_part(text: &[u8]) -> FirstPart<'_>
 
 // Adds the bytes of a part to those of its kind.
 fn add_part<'t>(parts: &mut Parts<'t>, kind: PartKind, bytes: &'t [u8]) -> Result<(), AllocError>
-    ensures { OnOk result (values parts.new ≡ added kind bytes.now (values parts.old)) }
+    ensures { OnOk result (held_bytes parts.new ≡ added kind bytes.now (held_bytes parts.old)) }
 {
     match kind {
         PartKind::Rules => parts.rules.push(bytes)?,

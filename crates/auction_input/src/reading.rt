@@ -7,9 +7,10 @@ ghost use Rattle.auction_input.specs.Refused.{Refuses};
 ghost use Rattle.auction_input.specs.inside.InputTexts.{AreAdded, IsAnswer, IsFirstErr};
 ghost use Rattle.auction_terms.specs.Borrowed.{bytes_of};
 ghost use Rattle.auction_input.specs.PartsTold.{only_text};
-ghost use Rattle.auction_input.specs.Plan.{groups_taken, miscounted, solutions_taken};
+ghost use Rattle.auction_input.specs.Plan.{groups_taken, miscounted, takes_solutions};
 ghost use Rattle.auction_input.specs.inside.TextsTold.{HaveMore, more_told};
-ghost use Rattle.auction_input.specs.TextsTold.{forms_told};
+ghost use Rattle.auction_input.specs.TextsTold.{form_told};
+ghost use Rattle.auction_terms.specs.Stages.{each_in_turn};
 
 use crate::parts::Parts;
 use crate::refusal::{CountedPart, Refusal};
@@ -19,14 +20,6 @@ use bid_forms::{Form, FormFault, read_form};
 use rayon::prelude::*;
 use std::alloc::{AllocError, Global};
 use std::thread::{Threads, join};
-
-/// How many parts of a kind a command takes.
-#[derive(Clone, Copy, Debug, PartialEq, Eq)]
-pub enum Count {
-    Exactly(usize),
-    /// As many as there are groups, which is tested once the groups are read.
-    PerGroup,
-}
 
 /// How many parts of groups a command takes.
 pub fn groups_taken(request: &Request) -> usize
@@ -38,14 +31,14 @@ pub fn groups_taken(request: &Request) -> usize
     }
 }
 
-/// How many solutions a command takes.
-pub fn solutions_taken(request: &Request) -> Count
-    ensures { result ≡ solutions_taken request.now }
+/// Whether a command takes so many solutions. Whether there is one for each group is tested once the groups are read.
+pub fn takes_solutions(request: &Request, count: usize) -> bool
+    ensures { result ≡ takes_solutions request.now count }
 {
     match request {
-        Request::Map { group: _ } => Count::Exactly(1),
-        Request::Report { workers: _ } | Request::Verify { workers: _ } => Count::PerGroup,
-        _ => Count::Exactly(0),
+        Request::Map { group: _ } => count == 1,
+        Request::Report { workers: _ } | Request::Verify { workers: _ } => true,
+        _ => count == 0,
     }
 }
 
@@ -60,10 +53,10 @@ pub fn miscounted(request: &Request, parts: &Parts<'_>) -> Option<CountedPart>
     if parts.groups.len() != groups_taken(request) {
         return Some(CountedPart::Groups);
     }
-    match solutions_taken(request) {
-        Count::Exactly(count) if parts.solutions.len() != count => Some(CountedPart::Solutions),
-        _ => None,
+    if takes_solutions(request, parts.solutions.len()) {
+        return None;
     }
+    Some(CountedPart::Solutions)
 }
 
 /// The text of the one part of a kind; where there is none, no text.
@@ -87,10 +80,11 @@ pub fn read_forms(
     texts: &[&[u8]],
     rules: &Rules,
 ) -> Result<Vec<Form>, Refusal>
-    ensures told { IfOk result (λ forms. forms_told rules.now (bytes_of texts.now)
+    ensures told { IfOk result (λ forms. each_in_turn (form_told rules.now) 1 (bytes_of texts.now)
         ≡ Ok forms.items) }
     ensures meet { IfOk result (λ forms. All (Meets rules.now) forms.items) }
-    ensures refuses { IfErr result (Refuses (forms_told rules.now (bytes_of texts.now))) }
+    ensures refuses { IfErr result (Refuses (each_in_turn (form_told rules.now) 1
+        (bytes_of texts.now))) }
 {
     let mut forms = Vec::new(alloc);
     let mut start = 0;

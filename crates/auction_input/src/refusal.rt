@@ -1,10 +1,10 @@
 //! Why a run ends without its output.
 
 ghost use Rattle.std.specs.Prelude.{◌≡◌, Some};
-ghost use Rattle.auction_input.specs.Line.{name_told, refusal_text};
-ghost use Rattle.auction_input.specs.Refused.{is_memory, is_memory_kind, is_memory_of_certificate, refused};
+ghost use Rattle.auction_input.specs.Line.{name_told, refusal_text, without_name};
 
 use crate::input::InputFault;
+use crate::name::Name;
 use crate::parts::PartFault;
 use crate::round::RoundFault;
 use auction_terms::{GroupFault, RulesFault};
@@ -26,10 +26,9 @@ pub enum CountedPart {
     Certificates,
 }
 
-/// Why a run ends without its output, or with a front of it. Forms, groups, solutions and certificates count from 1. A name is bytes that the refusal owns;
-/// to definitions it is a list of them.
+/// Why a run ends without its output, or with a front of it. Forms, groups, solutions and certificates count from 1.
 #[derive(Drop)]
-pub enum Refusal<Name = Vec<u8>> {
+pub enum Refusal {
     Input(InputFault),
     Parts(PartFault),
     /// Parts are missing, or there are too many.
@@ -75,37 +74,9 @@ pub enum Refusal<Name = Vec<u8>> {
 }
 
 impl Refusal {
-    // Whether memory was short.
-    fn is_memory(&self) -> bool
-        ensures { result ≡ is_memory self.now }
-    {
-        match self {
-            Refusal::Input(InputFault::OutOfMemory)
-            | Refusal::Parts(PartFault::OutOfMemory)
-            | Refusal::Rules(RulesFault::OutOfMemory)
-            | Refusal::Form {
-                form: _,
-                fault: FormFault::OutOfMemory,
-            }
-            | Refusal::Groups(GroupFault::OutOfMemory)
-            | Refusal::Round(RoundFault::OutOfMemory)
-            | Refusal::Solution {
-                solution: _,
-                fault: SolutionFault::OutOfMemory,
-            }
-            | Refusal::OutOfMemory => true,
-            Refusal::Program(fault) => is_memory_kind(fault.kind),
-            Refusal::Certificate {
-                certificate: _,
-                fault,
-            } => is_memory_of_certificate(fault.kind),
-            _ => false,
-        }
-    }
-
     /// The name of the column or row that is broken; of any other refusal none.
     pub fn name(&self) -> &[u8]
-        ensures { result.now ≡ name_told (refused self.now) }
+        ensures { result.now ≡ name_told self.now }
     {
         match self {
             Refusal::BoundBroken {
@@ -118,33 +89,35 @@ impl Refusal {
     }
 }
 
-fn is_memory_kind(kind: FaultKind) -> bool
-    ensures { result ≡ is_memory_kind kind }
-{
-    match kind {
-        FaultKind::OutOfMemory => true,
-        _ => false,
-    }
-}
-
-fn is_memory_of_certificate(kind: optimality::FaultKind) -> bool
-    ensures { result ≡ is_memory_of_certificate kind }
-{
-    match kind {
-        optimality::FaultKind::OutOfMemory => true,
-        _ => false,
-    }
-}
-
 /// What is told of a refusal, but for the name of a column or row, which are bytes.
 impl fmt::Display for Refusal {
-    ghost output = { λ refusal. Some (refusal_text (refused refusal)) };
+    ghost output = { λ refusal. Some (refusal_text (without_name refusal)) };
 
     fn fmt<W: fmt::Write>(&self, f: &mut fmt::Formatter<W>) -> fmt::Result {
-        if self.is_memory() {
-            return write!(f, "out of memory");
-        }
         match self {
+            Refusal::Rules(RulesFault::OutOfMemory)
+            | Refusal::Form {
+                form: _,
+                fault: FormFault::OutOfMemory,
+            }
+            | Refusal::Groups(GroupFault::OutOfMemory)
+            | Refusal::Program(
+                MpsFault {
+                    line: _,
+                    kind: FaultKind::OutOfMemory,
+                },
+            )
+            | Refusal::Solution {
+                solution: _,
+                fault: SolutionFault::OutOfMemory,
+            }
+            | Refusal::Certificate {
+                certificate: _,
+                fault: CertificateFault {
+                    line: _,
+                    kind: optimality::FaultKind::OutOfMemory,
+                },
+            } => write!(f, "out of memory"),
             Refusal::Input(InputFault::ReadFailed) => write!(f, "input: read failed"),
             Refusal::Input(InputFault::TooLarge) => write!(f, "input: too large"),
             Refusal::Parts(PartFault::BeforeFirst) => {

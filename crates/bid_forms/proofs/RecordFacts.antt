@@ -1,10 +1,9 @@
 -- The fields of a record, one after the other.
-use Rattle.std.proofs.Common.{◌≡◌, ◌<◌, ◌+◌, ◌-◌, ◌∷◌, ◌++◌, ◌∙◌, Bool, true, false, ℕ, zero, suc, List, [], Some, None, add-one, drop, length, map, slice_index_or, refl, sym, ap, arith, ◌&&◌}
+use Rattle.std.proofs.Common.{◌≡◌, ◌<◌, ◌+◌, ◌-◌, ◌∷◌, ◌++◌, ◌∙◌, Bool, true, false, ℕ, zero, suc, List, [], Some, None, add-one, drop, length, map, slice_index_or, refl, sym, ap, arith, ◌&&◌, append_assoc}
 use Rattle.std.specs.Prelude.{All, ◌≤◌, is_some, not, nat_le, unwrap_or}
 use Rattle.std.specs.List.{list_all}
 use Rattle.std.proofs.lemmas.Bool.{le-leb}
 use Rattle.std.proofs.lemmas.List.Elements.{All-push}
-use Rattle.std.proofs.Common.{append_assoc}
 use Rattle.auction_terms.specs.Numbers.{number_of}
 use Rattle.std.specs.Str.{bytes_eq}
 use Rattle.std.specs.Cmp.Lexicographic.{pointwise}

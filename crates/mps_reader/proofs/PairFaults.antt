@@ -2,7 +2,7 @@
 use Rattle.std.proofs.Common.{◌≡◌, ℕ, Bool, true, false, not, ◌||◌, List, [], ◌∷◌, refl, sym, ◌∙◌, Option, Some, None}
 use Rattle.std.specs.Prelude.{◌&&◌, bytes_eq, is_none, if◌then◌else◌, pos}
 use Rattle.std.specs.List.{list_any}
-use Rattle.std.specs.Option.{option_map_or}
+use Rattle.std.specs.Option.{option_map_or, option_or}
 use Rattle.std.specs.Ordering.{int_eq}
 use Rattle.program_rows.specs.Described.{value}
 use Rattle.program_rows.specs.Lines.{LineFields}
@@ -11,7 +11,6 @@ use Rattle.program_rows.specs.declared.fault.FaultKind.{FaultKind}
 use Rattle.program_rows.specs.declared.fault.FaultKind.TheVariants.{UnknownRow, EntryRepeated, ObjectiveConstant}
 use Rattle.program_rows.specs.Numbers.{number as token_number}
 use Rattle.std.specs.Bool.{then_some as when}
-use Rattle.std.specs.Option.{option_or}
 
 -- those of a pair, whose row is known or not, and repeated or not, and one more
 abbrev pub pair_checks : Bool → Bool → List ℕ → Option FaultKind → Option FaultKind

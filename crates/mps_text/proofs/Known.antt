@@ -1,9 +1,8 @@
 -- Steps of known bytes.
 use Rattle.std.proofs.Common.{◌≡◌, ℕ, zero, suc, ◌+◌, ◌-◌, ◌<◌, ◌≤◌, List, [], ◌∷◌, ◌++◌, length, take, drop, refl, sym, ap, ◌∙◌, append_assoc, length-append, arith, Option, Some, None, Result, Ok, Err}
-use Rattle.std.specs.Prelude.{OnErr, ◌^◌}
+use Rattle.std.specs.Prelude.{OnErr, ◌^◌, flat_map, get_or, min, slice_get}
 use Rattle.std.specs.Io.KnownBytes.{Appends, Keeps, append_known}
 use Rattle.std.proofs.lemmas.List.{append-nil, take-append-drop, take_all, length-drop, length-take, take-take, drop-take, take_at}
-use Rattle.std.specs.Prelude.{flat_map, get_or, min, slice_get}
 use Rattle.mps_text.specs.Sinks.{IsFront, Counts, SentFront}
 
 pub Appends-nothing : (a : Option (List ℕ)) → Appends a a []

@@ -1,10 +1,8 @@
 -- The lines of a whole text give the program back.
 use Rattle.std.proofs.Common.{◌≡◌, ℕ, ◌+◌, ◌≤◌, Bool, true, false, not, List, [], ◌∷◌, length, map, refl, sym, ap, subst, ◌∙◌, arith, Option, Some, None}
-use Rattle.std.specs.Prelude.{bytes_eq, codes, find, flat_map, position, ℤ, pos, option_map, unwrap_or, slice_get, if◌then◌else◌, filter}
-use Rattle.std.specs.List.{AllByRecursion, IsDistinct, enumerate_from}
+use Rattle.std.specs.Prelude.{bytes_eq, codes, find, flat_map, position, ℤ, pos, option_map, unwrap_or, slice_get, if◌then◌else◌, filter, nat_lt}
+use Rattle.std.specs.List.{AllByRecursion, IsDistinct, enumerate_from, position_or_len}
 use Rattle.std.proofs.lemmas.List.{reverse-reverse}
-use Rattle.std.specs.List.{position_or_len}
-use Rattle.std.specs.Prelude.{nat_lt}
 use Rattle.std.proofs.lemmas.Bool.{false_from_ne_true, ltb-true}
 use Rattle.program_rows.specs.declared.bounds.Bounds.{Bounds}
 use Rattle.program_rows.specs.Program.{Table, TableRow, TableColumn}

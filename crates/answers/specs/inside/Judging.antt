@@ -1,7 +1,7 @@
 -- What the code holds of certificates while it judges them.
-use Rattle.std.specs.Prelude.{◌≡◌, ◌+◌, ◌++◌, ℕ, List, ◌∷◌, Result, Ok, Err, map, replicate}
+use Rattle.std.specs.Prelude.{◌≡◌, ◌+◌, ◌++◌, ℕ, ℤ, List, ◌∷◌, Result, Ok, Err, length, map, replicate}
 use Rattle.std.specs.List.{zip}
-use Rattle.auction_input.specs.Refused.{Refusal}
+use Rattle.auction_input.specs.declared.refusal.Refusal.{Refusal}
 use Rattle.auction_terms.specs.Stages.{each_in_turn}
 use Rattle.auction_input.specs.declared.refusal.Refusal.TheVariants as refusal
 use Rattle.auction_terms.specs.declared.choices.Choice.{Choice}
@@ -9,17 +9,21 @@ use Rattle.bid_desk.specs.Closing.{Closing}
 use Rattle.outcome.specs.Sale.{sale_of}
 use Rattle.group_compiler.specs.Compiled.{program_without}
 use Rattle.optimality.specs.Answers.{IsVerdict}
+use Rattle.program_rows.specs.Program.{Table}
 use Rattle.optimality.specs.Verdict.{certificate_fault}
 use Rattle.optimality.specs.declared.fault.CertificateFault.{CertificateFault}
-use Rattle.answers.specs.Certified.{ClaimedBound, bound_of, shown}
+use Rattle.answers.specs.Certified.{bound_of, bounds_of, shown}
+use Rattle.answers.specs.Exact.{IsTooWide}
+use Rattle.answers.specs.SolutionWinners.{winners_of_groups}
+use Rattle.auction_input.specs.Auction.{Auction}
 use Rattle.answers.specs.declared.certified.ClaimedBound as declared
 
 -- the value of a bound that the code holds
-abbrev pub bound_held : Closing → declared.ClaimedBound → ClaimedBound
-bound_held book b = record { program = program_without book b.group.now; least = b.least; certificate = b.certificate.now }
+abbrev pub bound_held : Closing → declared.ClaimedBound → Table × ℤ × List ℕ
+bound_held book b = (program_without book b.group.now, b.least, b.certificate.now)
 
 -- what the certificates of groups are to show of allocations
-abbrev pub bounds_by : Closing → List (List ℕ) → List (List Choice) → List (List ℕ) → List ClaimedBound
+abbrev pub bounds_by : Closing → List (List ℕ) → List (List Choice) → List (List ℕ) → List (Table × ℤ × List ℕ)
 bounds_by book groups won certificates = map (bound_of (sale_of book)) (zip (zip groups won) certificates)
 
 -- this is what a certificate comes to, or a limit stands in its place
@@ -27,10 +31,14 @@ pub record IsJudged (book : Closing) (b : declared.ClaimedBound) (verdict : Resu
   pub is : IsVerdict verdict (certificate_fault (program_without book b.group.now) b.least b.certificate.now)
 
 -- each certificate shows what it is to
-abbrev pub AllShown : List ClaimedBound → Type 0
+abbrev pub AllShown : List (Table × ℤ × List ℕ) → Type 0
 AllShown bounds = (all : List (Unit {0})) × (each_in_turn shown 1 bounds ≡ Ok all)
 
 -- the fault comes behind verdicts without one, and has its number
 abbrev pub IsFirstFaulty : List (Result (Unit {0}) CertificateFault) → Refusal → Type 0
 IsFirstFaulty verdicts (refusal.Certificate n f) = (before : ℕ) × (after : List (Result (Unit {0}) CertificateFault)) × (verdicts ≡ replicate before (Ok tt) ++ Err f ∷ after) × (n ≡ before + 1)
 IsFirstFaulty verdicts r = ⊥
+
+-- certificates of which one can't be judged, behind solutions that are taken
+abbrev pub IsBeyondSums : Auction → Refusal → Type 0
+IsBeyondSums auction r = (won : List (List Choice)) × (winners_of_groups auction ≡ Ok won) × (length auction.certificates ≡ length auction.groups) × IsTooWide (bounds_of auction won) r

@@ -1,7 +1,8 @@
 //! The command `check`: the sizes of a program.
 
 ghost use Rattle.std.specs.Prelude.{IfErr, OnOk};
-ghost use Rattle.answers.specs.Exact.{IsUnwritten, IsWritten};
+ghost use Rattle.answers.specs.Answer.{answer};
+ghost use Rattle.answers.specs.Exact.{IsUnwritten, Writes};
 
 use crate::sizes::write_sizes;
 use auction_input::{Refusal, Request};
@@ -11,7 +12,7 @@ use std::alloc::Global;
 
 /// Writes the sizes of the program that the input is the text of.
 pub fn check<S: Sink>(alloc: Global, text: &[u8], out: &mut S) -> Result<(), Refusal>
-    ensures written { OnOk result (IsWritten Request.Check text.now (S.taken out.old)
+    ensures written { OnOk result (Writes (answer Request.Check text.now) (S.taken out.old)
         (S.taken out.new)) }
     ensures refused { IfErr result (IsUnwritten Request.Check text.now (S.taken out.old)
         (S.taken out.new) (S.failures out.old) (S.failures out.new)) }

@@ -1,8 +1,8 @@
 //! The command `compile`: the programs of all groups.
 
 ghost use Rattle.std.specs.Prelude.{◌≤◌, IfErr, OnOk};
-ghost use Rattle.answers.specs.Exact.{Ends, IsUnwritten, IsWritten, Writes};
-ghost use Rattle.answers.specs.commands.Compile.{texts_of_groups};
+ghost use Rattle.answers.specs.Exact.{Ends, IsUnwritten, Writes};
+ghost use Rattle.answers.specs.Answer.{answer, output_of};
 ghost use Rattle.auction_input.specs.Settled.{held};
 ghost use Rattle.auction_input.specs.Sold.{HasSold};
 ghost use Rattle.group_compiler.specs.declared.limits.TheConstants.{MOST_WORKERS};
@@ -24,8 +24,8 @@ pub fn compile<R: Threads + Wait + Sync + AllocGlobal, S: Sink>(
 ) -> Result<(), Refusal>
     requires some { 1 ≤ workers }
     requires few { workers ≤ MOST_WORKERS }
-    ensures written { OnOk result (IsWritten (Request.Compile workers) text.now (S.taken out.old)
-        (S.taken out.new)) }
+    ensures written { OnOk result (Writes (answer (Request.Compile workers) text.now)
+        (S.taken out.old) (S.taken out.new)) }
     ensures sold { OnOk result (HasSold (Request.Compile workers) text.now) }
     ensures refused { IfErr result (IsUnwritten (Request.Compile workers) text.now (S.taken out.old)
         (S.taken out.new) (S.failures out.old) (S.failures out.new)) }
@@ -43,10 +43,10 @@ fn write_programs_of<R: Threads + Wait + Sync + AllocGlobal, S: Sink>(
 ) -> Result<(), Refusal>
     requires some { 1 ≤ workers }
     requires few { workers ≤ MOST_WORKERS }
-    ensures written { OnOk result (Writes (texts_of_groups (held auction.now)) (S.taken out.old)
-        (S.taken out.new)) }
-    ensures refused { IfErr result (Ends (texts_of_groups (held auction.now)) (S.taken out.old)
-        (S.taken out.new) (S.failures out.old) (S.failures out.new)) }
+    ensures written { OnOk result (Writes (output_of (Request.Compile workers) (held auction.now))
+        (S.taken out.old) (S.taken out.new)) }
+    ensures refused { IfErr result (Ends (output_of (Request.Compile workers) (held auction.now))
+        (S.taken out.old) (S.taken out.new) (S.failures out.old) (S.failures out.new)) }
 {
     let Auction { book, groups, .. } = auction;
     match run_compile(rt, rt.alloc(), book, groups, workers, &OpenGate, out) {

@@ -1,9 +1,9 @@
 //! The command `map`: what one solution wins.
 
 ghost use Rattle.std.specs.Prelude.{◌≡◌, ◌≤◌, ◌-◌, [], IfErr, IfOk, Ok, OnOk, false, length, slice_index_or};
-ghost use Rattle.answers.specs.Exact.{Ends, IsUnwritten, IsWritten, Writes};
+ghost use Rattle.answers.specs.Exact.{Ends, IsUnwritten, Writes};
 ghost use Rattle.answers.specs.SolutionWinners.{winners_by};
-ghost use Rattle.answers.specs.commands.Map.{winners_text};
+ghost use Rattle.answers.specs.Answer.{answer, output_of};
 ghost use Rattle.auction_input.specs.Refused.{Refuses};
 ghost use Rattle.auction_input.specs.Settled.{held};
 ghost use Rattle.auction_input.specs.Sold.{HasSold};
@@ -31,7 +31,7 @@ pub fn map<R: Threads + Wait + Sync + AllocGlobal, S: Sink>(
     out: &mut S,
 ) -> Result<(), Refusal>
     requires { 1 ≤ k }
-    ensures written { OnOk result (IsWritten (Request.Map k) text.now (S.taken out.old)
+    ensures written { OnOk result (Writes (answer (Request.Map k) text.now) (S.taken out.old)
         (S.taken out.new)) }
     ensures sold { OnOk result (HasSold (Request.Map k) text.now) }
     ensures refused { IfErr result (IsUnwritten (Request.Map k) text.now (S.taken out.old)
@@ -49,10 +49,10 @@ fn write_winners<R: Threads + Wait + Sync + AllocGlobal, S: Sink>(
     out: &mut S,
 ) -> Result<(), Refusal>
     requires { 1 ≤ k }
-    ensures written { OnOk result (Writes (winners_text k (held auction.now)) (S.taken out.old)
-        (S.taken out.new)) }
-    ensures refused { IfErr result (Ends (winners_text k (held auction.now)) (S.taken out.old)
-        (S.taken out.new) (S.failures out.old) (S.failures out.new)) }
+    ensures written { OnOk result (Writes (output_of (Request.Map k) (held auction.now))
+        (S.taken out.old) (S.taken out.new)) }
+    ensures refused { IfErr result (Ends (output_of (Request.Map k) (held auction.now))
+        (S.taken out.old) (S.taken out.new) (S.failures out.old) (S.failures out.new)) }
 {
     let Auction { book, groups, .. } = auction;
     if k > groups.count() {

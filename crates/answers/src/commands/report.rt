@@ -1,8 +1,8 @@
 //! The command `report`: what the solutions of all groups win, and what each group costs the others.
 
 ghost use Rattle.std.specs.Prelude.{◌≤◌, IfErr, OnOk};
-ghost use Rattle.answers.specs.Exact.{Ends, IsUnwritten, IsWritten, Writes};
-ghost use Rattle.answers.specs.commands.Report.{costs_text};
+ghost use Rattle.answers.specs.Exact.{Ends, IsUnwritten, Writes};
+ghost use Rattle.answers.specs.Answer.{answer, output_of};
 ghost use Rattle.auction_input.specs.Settled.{held};
 ghost use Rattle.auction_input.specs.Sold.{HasSold};
 ghost use Rattle.group_compiler.specs.declared.limits.TheConstants.{MOST_WORKERS};
@@ -23,8 +23,8 @@ pub fn write_report<R: Threads + Wait + Sync + AllocGlobal, S: Sink>(
 ) -> Result<(), Refusal>
     requires some { 1 ≤ workers }
     requires few { workers ≤ MOST_WORKERS }
-    ensures written { OnOk result (IsWritten (Request.Report workers) text.now (S.taken out.old)
-        (S.taken out.new)) }
+    ensures written { OnOk result (Writes (answer (Request.Report workers) text.now)
+        (S.taken out.old) (S.taken out.new)) }
     ensures sold { OnOk result (HasSold (Request.Report workers) text.now) }
     ensures refused { IfErr result (IsUnwritten (Request.Report workers) text.now (S.taken out.old)
         (S.taken out.new) (S.failures out.old) (S.failures out.new)) }
@@ -42,10 +42,10 @@ fn write_costs<R: Threads + Wait + Sync + AllocGlobal, S: Sink>(
 ) -> Result<(), Refusal>
     requires some { 1 ≤ workers }
     requires few { workers ≤ MOST_WORKERS }
-    ensures written { OnOk result (Writes (costs_text (held auction.now)) (S.taken out.old)
-        (S.taken out.new)) }
-    ensures refused { IfErr result (Ends (costs_text (held auction.now)) (S.taken out.old)
-        (S.taken out.new) (S.failures out.old) (S.failures out.new)) }
+    ensures written { OnOk result (Writes (output_of (Request.Report workers) (held auction.now))
+        (S.taken out.old) (S.taken out.new)) }
+    ensures refused { IfErr result (Ends (output_of (Request.Report workers) (held auction.now))
+        (S.taken out.old) (S.taken out.new) (S.failures out.old) (S.failures out.new)) }
 {
     let won = won_by_groups(rt, auction, workers)?;
     report(&auction.book, &auction.groups, won.as_slice(), out)?;

@@ -1,9 +1,9 @@
 //! The command `text`: the program with nobody left out.
 
 ghost use Rattle.std.specs.Prelude.{◌≤◌, [], IfErr, OnOk};
-ghost use Rattle.answers.specs.Exact.{Ends, IsUnwritten, IsWritten, Writes};
+ghost use Rattle.answers.specs.Exact.{Ends, IsUnwritten, Writes};
 ghost use Rattle.answers.specs.inside.GroupTexts.{IsFaithfulWithout};
-ghost use Rattle.answers.specs.commands.Text.{text_of_all};
+ghost use Rattle.answers.specs.Answer.{answer, output_of};
 ghost use Rattle.auction_input.specs.Settled.{held};
 ghost use Rattle.auction_input.specs.Sold.{HasSold};
 ghost use Rattle.group_compiler.specs.declared.limits.TheConstants.{MOST_WORKERS};
@@ -27,7 +27,7 @@ pub fn write_text<R: Threads + Wait + Sync + AllocGlobal, S: Sink>(
     text: &[u8],
     out: &mut S,
 ) -> Result<(), Refusal>
-    ensures written { OnOk result (IsWritten Request.Text text.now (S.taken out.old)
+    ensures written { OnOk result (Writes (answer Request.Text text.now) (S.taken out.old)
         (S.taken out.new)) }
     ensures sold { OnOk result (HasSold Request.Text text.now) }
     ensures refused { IfErr result (IsUnwritten Request.Text text.now (S.taken out.old)
@@ -54,11 +54,11 @@ fn write_program_of_all<R: Threads + Wait + Sync + AllocGlobal, S: Sink>(
     auction: &Auction<'_>,
     out: &mut S,
 ) -> Result<(), Refusal>
-    ensures written { OnOk result (Writes (text_of_all (held auction.now)) (S.taken out.old)
-        (S.taken out.new)) }
+    ensures written { OnOk result (Writes (output_of Request.Text (held auction.now))
+        (S.taken out.old) (S.taken out.new)) }
     ensures faithful { OnOk result (IsFaithfulWithout auction.now.book []) }
-    ensures refused { IfErr result (Ends (text_of_all (held auction.now)) (S.taken out.old)
-        (S.taken out.new) (S.failures out.old) (S.failures out.new)) }
+    ensures refused { IfErr result (Ends (output_of Request.Text (held auction.now))
+        (S.taken out.old) (S.taken out.new) (S.failures out.old) (S.failures out.new)) }
 {
     let alloc: Global = rt.alloc();
     let book = &auction.book;

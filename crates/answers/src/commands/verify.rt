@@ -2,9 +2,10 @@
 
 ghost use Rattle.std.specs.Prelude.{◌≡◌, ◌⊎◌, ◌≤◌, IfErr, OnOk};
 ghost use Rattle.group_compiler.specs.declared.limits.TheConstants.{MOST_WORKERS};
-ghost use Rattle.answers.specs.commands.Verify.{verified_text};
+ghost use Rattle.answers.specs.Answer.{answer, output_of};
 ghost use Rattle.auction_input.specs.Settled.{held};
-ghost use Rattle.answers.specs.Exact.{Ends, IsBeyondSums, IsUnwritten, IsWritten, Writes};
+ghost use Rattle.answers.specs.Exact.{Ends, IsUnwritten, Writes};
+ghost use Rattle.answers.specs.inside.Judging.{IsBeyondSums};
 ghost use Rattle.auction_input.specs.Sold.{HasSold};
 ghost use Rattle.answers.specs.Verified.{WritesTrueReport};
 
@@ -26,8 +27,8 @@ pub fn verify<R: Threads + Wait + Sync + AllocGlobal, S: Sink>(
 ) -> Result<(), Refusal>
     requires some { 1 ≤ workers }
     requires few { workers ≤ MOST_WORKERS }
-    ensures written { OnOk result (IsWritten (Request.Verify workers) text.now (S.taken out.old)
-        (S.taken out.new)) }
+    ensures written { OnOk result (Writes (answer (Request.Verify workers) text.now)
+        (S.taken out.old) (S.taken out.new)) }
     ensures sold { OnOk result (HasSold (Request.Verify workers) text.now) }
     ensures true_report { OnOk result (WritesTrueReport workers text.now (S.taken out.old)
         (S.taken out.new)) }
@@ -47,11 +48,11 @@ fn write_verified<R: Threads + Wait + Sync + AllocGlobal, S: Sink>(
 ) -> Result<(), Refusal>
     requires some { 1 ≤ workers }
     requires few { workers ≤ MOST_WORKERS }
-    ensures written { OnOk result (Writes (verified_text (held auction.now)) (S.taken out.old)
-        (S.taken out.new)) }
-    ensures refused { IfErr result (λ r. Ends (verified_text (held auction.now)) (S.taken out.old)
-        (S.taken out.new) (S.failures out.old) (S.failures out.new) r
-        ⊎ (IsBeyondSums (held auction.now) r × (S.taken out.new ≡ S.taken out.old))) }
+    ensures written { OnOk result (Writes (output_of (Request.Verify workers) (held auction.now))
+        (S.taken out.old) (S.taken out.new)) }
+    ensures refused { IfErr result (λ r. Ends (output_of (Request.Verify workers)
+        (held auction.now)) (S.taken out.old) (S.taken out.new) (S.failures out.old)
+        (S.failures out.new) r ⊎ (IsBeyondSums (held auction.now) r × (S.taken out.new ≡ S.taken out.old))) }
 {
     let won = won_by_groups(rt, auction, workers)?;
     let allocations = won.as_slice();

@@ -1,13 +1,58 @@
--- The parts of the input. A line that begins with a percent sign heads a part, whose bytes run up to the next such line.
-use Rattle.std.specs.Prelude.{◌++◌, ℕ, List, [], ◌∷◌}
+-- The parts of the input, by their kinds, as the code sorts them.
+use Rattle.std.specs.Prelude.{◌≡◌, ◌++◌, ℕ, List, [], ◌∷◌, Option, None, Some, codes, if◌then◌else◌, slice_index_or}
+use Rattle.std.specs.Str.{bytes_eq}
 use Rattle.auction_input.specs.declared.part_kind.PartKind.TheVariants as kind
 use Rattle.auction_input.specs.declared.part_kind.PartKind.{PartKind}
-use Rattle.auction_input.specs.Parts.{SplitInput}
+use Rattle.auction_input.specs.declared.parts.Parts.{Parts}
+use Rattle.auction_input.specs.declared.request.Request.TheVariants as request
+use Rattle.auction_input.specs.declared.request.Request.{Request}
+use Rattle.auction_input.specs.Parts.{Part}
+use Rattle.auction_terms.specs.Borrowed.{bytes_of}
+use Rattle.auction_terms.specs.Lines.{lines_of}
+
+-- the name in the line that heads a part
+abbrev pub part_name : List ℕ → List ℕ
+part_name head = slice_index_or (lines_of head) 0 []
+
+abbrev pub part : List ℕ → List ℕ → Part
+part head bytes = record { name = part_name head; bytes = bytes }
+
+abbrev pub certificates_for : Request → Option PartKind
+certificates_for (request.Verify workers) = Some kind.Certificate
+certificates_for asked = None
+
+-- the kind that a name tells to a request
+abbrev pub kind_named : Request → List ℕ → Option PartKind
+kind_named asked name =
+    if bytes_eq name (codes "%rules") then Some kind.Rules
+    else if bytes_eq name (codes "%form") then Some kind.Form
+    else if bytes_eq name (codes "%groups") then Some kind.Groups
+    else if bytes_eq name (codes "%solution") then Some kind.Solution
+    else if bytes_eq name (codes "%certificate") then certificates_for asked
+    else None
+
+abbrev pub name_of : PartKind → List ℕ
+name_of kind.Rules = codes "%rules"
+name_of kind.Form = codes "%form"
+name_of kind.Groups = codes "%groups"
+name_of kind.Solution = codes "%solution"
+name_of kind.Certificate = codes "%certificate"
+
+-- the bytes that are held of each kind
+pub record HeldBytes : Type 0 where
+  pub rules : List (List ℕ)
+  pub forms : List (List ℕ)
+  pub groups : List (List ℕ)
+  pub solutions : List (List ℕ)
+  pub certificates : List (List ℕ)
+
+abbrev pub held_bytes : Parts → HeldBytes
+held_bytes p = record { rules = bytes_of p.rules.items; forms = bytes_of p.forms.items; groups = bytes_of p.groups.items; solutions = bytes_of p.solutions.items; certificates = bytes_of p.certificates.items }
 
 -- with the bytes of one more part
-abbrev pub added : PartKind → List ℕ → SplitInput → SplitInput
-added kind.Rules bytes input = record input { rules = input.rules ++ bytes ∷ [] }
-added kind.Form bytes input = record input { forms = input.forms ++ bytes ∷ [] }
-added kind.Groups bytes input = record input { groups = input.groups ++ bytes ∷ [] }
-added kind.Solution bytes input = record input { solutions = input.solutions ++ bytes ∷ [] }
-added kind.Certificate bytes input = record input { certificates = input.certificates ++ bytes ∷ [] }
+abbrev pub added : PartKind → List ℕ → HeldBytes → HeldBytes
+added kind.Rules bytes held = record held { rules = held.rules ++ bytes ∷ [] }
+added kind.Form bytes held = record held { forms = held.forms ++ bytes ∷ [] }
+added kind.Groups bytes held = record held { groups = held.groups ++ bytes ∷ [] }
+added kind.Solution bytes held = record held { solutions = held.solutions ++ bytes ∷ [] }
+added kind.Certificate bytes held = record held { certificates = held.certificates ++ bytes ∷ [] }

@@ -7,8 +7,7 @@ use Rattle.auction_input.specs.Refused.{Refuses}
 use Rattle.auction_terms.specs.Borrowed.{bytes_of}
 use Rattle.auction_terms.specs.Stages.{each_in_turn}
 use Rattle.auction_input.proofs.RefusalFacts.{if-err-weaker}
-use Rattle.answers.specs.SolutionWinners.{winners}
-use Rattle.answers.specs.inside.SolutionWinners.{IsFirstRefusal}
+use Rattle.answers.specs.inside.SolutionWinners.{winners, IsFirstRefusal}
 use Rattle.answers.proofs.ReportFacts.{as-many, if-refused, if-won}
 use Rattle.answers.proofs.report_run.won_by_each.Goals as goal
 

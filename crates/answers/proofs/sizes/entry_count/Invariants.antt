@@ -1,5 +1,5 @@
 use Rattle.std.proofs.Common.{◌≡◌, take}
-use Rattle.answers.specs.Sizes.{entry_count}
+use Rattle.answers.proofs.SizeFacts.{entry_count}
 use Rattle.answers.proofs.sizes.entry_count.Given as goal
 
 abbrev pub invariant-loop-column : goal.invariant-loop-column

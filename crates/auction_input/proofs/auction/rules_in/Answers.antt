@@ -1,12 +1,16 @@
 use Rattle.std.proofs.Common.{◌∙◌, ℕ, List, ap, sym, subst}
 use Rattle.auction_input.specs.Refused.{Refuses}
-use Rattle.auction_input.specs.InputTexts.{rules_in}
+use Rattle.auction_input.specs.PartsTold.{only_text}
+use Rattle.auction_terms.specs.Records.{records_of}
+use Rattle.auction_terms.specs.RulesText.{rules_of}
+use Rattle.auction_terms.specs.declared.limits.TheConstants.{TEXT_LIMIT}
+use Rattle.auction_terms.specs.declared.rules_text.RulesFault.TheVariants as rules_fault
 use Rattle.auction_terms.specs.Borrowed.{bytes_of}
 use Rattle.auction_terms.specs.Stages.{refused_as}
 use Rattle.auction_input.specs.TextsTold.{terms_told}
 use Rattle.auction_input.specs.declared.refusal.Refusal.TheVariants as refusal
 use Rattle.auction_input.proofs.FaultFacts.{rules-refuse}
-use Rattle.auction_input.proofs.InputTextFacts.{rules-faulted, rules-tell}
+use Rattle.auction_input.proofs.InputTextFacts.{rules-faulted, rules-tell, sized}
 use Rattle.auction_input.proofs.RefusalFacts.{if-err-of}
 use Rattle.auction_input.proofs.auction.rules_in.Goals as goal
 
@@ -15,12 +19,12 @@ returns-clause-told c =
     let text = c.only_text.result.now in
     let t = c.in_ok-read_rules.field-0 in
     let told = rules-tell text t c.in_ok-read_rules.ensures.too_large c.in_ok-read_rules.ensures.answer in
-    ap (λ (bytes : List ℕ). refused_as refusal.Rules (rules_in bytes)) (sym c.only_text.ensures) ∙ ap (λ r. refused_as refusal.Rules r) told
+    ap (λ (bytes : List ℕ). terms_told bytes) (sym c.only_text.ensures) ∙ ap (λ r. refused_as refusal.Rules r) told
 
 pub returns-in_err-read_rules-clause-refuses : goal.returns-in_err-read_rules-clause-refuses
 returns-in_err-read_rules-clause-refuses c =
     let text = c.only_text.result.now in
     let f = c.in_err-read_rules.field-0.0 in
-    let refused = rules-refuse f (rules_in text) (rules-faulted text f c.in_err-read_rules.ensures.too_large c.in_err-read_rules.ensures.answer) in
-    if-err-of (Refuses (terms_told (bytes_of c.args.texts.now))) c.from_residual.result (refusal.Rules f) c.from_residual.ensures.1
-    (subst (λ (bytes : List ℕ). Refuses (refused_as refusal.Rules (rules_in bytes)) (refusal.Rules f)) c.only_text.ensures refused)
+    let refused = rules-refuse f (sized TEXT_LIMIT rules_fault.TooLarge (λ rules. rules_of (records_of rules)) text) (rules-faulted text f c.in_err-read_rules.ensures.too_large c.in_err-read_rules.ensures.answer) in
+    if-err-of (Refuses (terms_told (only_text (bytes_of c.args.texts.now)))) c.from_residual.result (refusal.Rules f) c.from_residual.ensures.1
+    (subst (λ (bytes : List ℕ). Refuses (terms_told bytes) (refusal.Rules f)) c.only_text.ensures refused)

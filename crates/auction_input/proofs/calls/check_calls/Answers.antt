@@ -5,7 +5,7 @@ use Rattle.auction_terms.proofs.FirstFaultFacts.{CheckedSoFar, checked-all, chec
 use Rattle.bid_forms.specs.Offers.{Offers}
 use Rattle.auction_input.specs.Calls.{one_too_many}
 use Rattle.auction_input.specs.Submissions.{forms_of}
-use Rattle.auction_input.proofs.CallFacts.{call-left, calls-by, counted-more, no-call-left}
+use Rattle.auction_input.proofs.CallFacts.{call-left, counted-more, no-call-left}
 use Rattle.auction_input.proofs.calls.check_calls.Goals as goal
 
 -- what is left begins with the form at this place
@@ -59,7 +59,7 @@ returns-then-counts-bidder-ge-CALL_LIMIT-clause-refused c =
     let many : 1000 ≤ length (forms_of form.bidder before) = (let limit = c.if-counts-bidder-ge-CALL_LIMIT.true in omega arith) in
     let number : length before ≡ place = length-take-le place forms (omega arith) in
     let found = no-call-left before form many ∙ ap (λ n. Some (n + 1)) number in
-    calls-by forms (Some (place + 1)) (checked-fault one_too_many forms before (drop place forms) (drop (place + 1) forms) form (place + 1) so_far (next-form forms place form within c.index-forms-place.is) found)
+    (place + 1, checked-fault one_too_many forms before (drop place forms) (drop (place + 1) forms) form (place + 1) so_far (next-form forms place form within c.index-forms-place.is) found, refl)
 
 pub returns-clause-accepted : goal.returns-clause-accepted
 returns-clause-accepted c =
@@ -69,4 +69,4 @@ returns-clause-accepted c =
     let before = take place forms in
     let least : length forms ≤ place = (let done = c.loop-place-test.false in omega arith) in
     let whole = subst (λ (xs : List Offers). CheckedSoFar one_too_many forms before xs) (drop_all place forms least) so_far in
-    calls-by forms None (checked-all one_too_many forms before whole).0
+    (checked-all one_too_many forms before whole).0

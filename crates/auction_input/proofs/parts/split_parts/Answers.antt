@@ -1,9 +1,9 @@
-use Rattle.std.proofs.Common.{◌≡◌, ◌∷◌, [], ◌++◌, ◌∙◌, sym, ap, arith, refl, length-append}
+use Rattle.std.proofs.Common.{◌≡◌, ◌∷◌, [], ◌++◌, ◌∙◌, sym, arith, refl, subst, length-append}
 use Rattle.std.specs.Prelude.{None, Some}
 use Rattle.auction_terms.proofs.FirstFaultFacts.{checked-all, checked-fault, checked-more}
-use Rattle.auction_input.specs.inside.Parts.{added}
-use Rattle.auction_input.specs.Parts.{bytes_before, cut_lines, kind_named, part_name, part, part_fault, parts_in, split}
-use Rattle.auction_input.proofs.PartFacts.{fault-of-parts, known-part, none-left, split-more, starts-here, unknown-part}
+use Rattle.auction_input.specs.inside.Parts.{kind_named, part_name, part}
+use Rattle.auction_input.specs.Parts.{Hold, bytes_before, cut_lines, part_fault, parts_in}
+use Rattle.auction_input.proofs.PartFacts.{fault-of-parts, hold-more, known-part, none-left, starts-here, unknown-part}
 use Rattle.auction_input.proofs.parts.split_parts.Goals as goal
 
 pub loop-rest-init : goal.loop-rest-init
@@ -13,7 +13,13 @@ loop-rest-init c = (
   refl,
   omega arith,
   starts-here c.args.text.now c.body_end.result c.if-body_end-gt0.false c.body_end.ensures.next,
-  rw (c.new.ensures.items, c.new-2.ensures.items, c.new-3.ensures.items, c.new-4.ensures.items, c.new-5.ensures.items) refl,
+  record {
+    rules = rw c.new.ensures.items refl;
+    forms = rw c.new-2.ensures.items refl;
+    groups = rw c.new-3.ensures.items refl;
+    solutions = rw c.new-4.ensures.items refl;
+    certificates = rw c.new-5.ensures.items refl;
+  },
 )
 
 pub loop-rest-preserved : goal.loop-rest-preserved
@@ -30,7 +36,7 @@ loop-rest-preserved c =
       omega arith,
       (let less = first.ensures.shorter in omega arith),
       first.ensures.next,
-      c.in_ok-add_part.ensures ∙ ap (added k p.bytes) told ∙ sym (split-more asked before p k kind),
+      hold-more c.loop-rest.parts c.add_part.new.parts asked before p k kind c.in_ok-add_part.ensures told,
     )
 
 pub returns-in_default : goal.returns-in_default
@@ -55,4 +61,4 @@ returns c =
     let nothing : c.body_end.result ≡ 0 = omega arith in
     let none : bytes_before (cut_lines text) ≡ [] = rw nothing at c.body_end.ensures.bytes in
     let end = checked-all (part_fault asked) (parts_in (cut_lines text)) before (rw empty at so_far) in
-    (fault-of-parts asked text none ∙ end.0, told ∙ ap (split asked) (sym end.1))
+    (fault-of-parts asked text none ∙ end.0, subst (Hold c.loop-rest.parts) (sym end.1) told)

@@ -1,7 +1,8 @@
 use Rattle.std.proofs.Common.{◌≤◌, ◌+◌, arith, length}
 use Rattle.auction_input.specs.Refused.{Refuses}
 use Rattle.auction_terms.specs.Borrowed.{bytes_of}
-use Rattle.auction_input.specs.TextsTold.{forms_told}
+use Rattle.auction_input.specs.TextsTold.{form_told}
+use Rattle.auction_terms.specs.Stages.{each_in_turn}
 use Rattle.auction_input.proofs.RefusalFacts.{if-err-of}
 use Rattle.auction_input.proofs.FormStageFacts.{all-read, none-read, stage-read, stage-refused}
 use Rattle.auction_input.proofs.reading.read_forms.Goals as goal
@@ -35,5 +36,5 @@ returns-in_err-read_more-clause-refuses g c =
     let i = c.loop-start in
     let order : i.start ≤ i.start + c.min.result = omega arith in
     let r = c.in_err-read_more.field-0.0 in
-    if-err-of (Refuses (forms_told c.args.rules.now (bytes_of c.args.texts.now))) c.from_residual.result r c.from_residual.ensures.1
+    if-err-of (Refuses (each_in_turn (form_told c.args.rules.now) 1 (bytes_of c.args.texts.now))) c.from_residual.result r c.from_residual.ensures.1
     (stage-refused c.args.rules.now c.args.texts.now i.start (i.start + c.min.result) i.forms.items r order i.invariant c.in_err-read_more.ensures.refuses)

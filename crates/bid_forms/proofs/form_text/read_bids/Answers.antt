@@ -3,8 +3,7 @@ use Rattle.csv.specs.Records.{fields_of}
 use Rattle.auction_terms.proofs.FirstFaultFacts.{tells-err}
 use Rattle.bid_forms.proofs.FormFacts.{bids-all, bids-fault, bids-more}
 use Rattle.bid_forms.specs.Offers.{Offers, eligibility_of}
-use Rattle.bid_forms.specs.FormText.{bid_told}
-use Rattle.bid_forms.specs.FormText.{is_form_memory}
+use Rattle.bid_forms.specs.FormText.{bid_told, is_form_memory}
 use Rattle.bid_forms.proofs.form_text.read_bids.Goals as goal
 
 pub returns-in_err-bid-clause-answer : goal.returns-in_err-bid-clause-answer

@@ -1,12 +1,9 @@
-use Rattle.std.proofs.Common.{refl, arith}
-use Rattle.mps_reader.specs.inside.Rows.{names_of, declared_row_names}
+use Rattle.std.proofs.Common.{refl, arith, ◌≡◌, ◌∙◌, ap, sym, subst, Some, rules, w64}
+use Rattle.mps_reader.specs.inside.Rows.{names_of, declared_row_names, option_now, StampsAre}
 use Rattle.mps_reader.proofs.NameFacts.{length-places, length-bytes, no-cost}
 use Rattle.mps_reader.proofs.PairSteps.{get-below, get-from, get-some, pair-fits}
-use Rattle.std.proofs.Common.{◌≡◌, ◌∙◌, ap, sym, subst, Some}
 use Rattle.std.specs.Prelude.{bytes_eq, slice_get, ◌||◌, if◌then◌else◌}
 use Rattle.program_rows.specs.Parts.{IsName}
-use Rattle.mps_reader.specs.inside.Rows.{option_now, StampsAre}
-use Rattle.std.proofs.Common.{rules, w64}
 use Rattle.std.proofs.lemmas.Int.{to_z-of_z}
 use mir.Val.{SFits, to_z, of_z}
 use Rattle.mps_reader.specs.inside.Columns.{put_entries}

@@ -1,9 +1,8 @@
-use Rattle.std.proofs.Common.{refl, ap, ◌∙◌, length, arith, Some}
-use Rattle.mps_reader.specs.inside.Rows.{names_of, declared_row_names, rows_by}
-use Rattle.mps_reader.proofs.NameFacts.{length-places, placed}
+use Rattle.std.proofs.Common.{refl, ap, ◌∙◌, length, arith, Some, rules, ◌≡◌, sym, subst, ℕ, false, map, w64}
+use Rattle.mps_reader.specs.inside.Rows.{names_of, declared_row_names, rows_by, StampsAre, with_side}
+use Rattle.mps_reader.proofs.NameFacts.{length-places, placed, distinct-rows}
 use Rattle.mps_reader.proofs.PairSteps.{get-below, get-from, length-names, length-stamped}
 use Rattle.mps_reader.proofs.FitFacts.{sided-fit, same-names, side-count}
-use Rattle.std.proofs.Common.{rules, ◌≡◌, sym, subst, ℕ, false, map, w64}
 use Rattle.std.specs.Prelude.{Err, bytes_eq, slice_get, ◌||◌, if◌then◌else◌}
 use Rattle.std.specs.List.{list_any, IsDistinct, AllByRecursion}
 use Rattle.std.specs.Option.{option_map_or}
@@ -11,8 +10,6 @@ use Rattle.std.proofs.lemmas.Int.{to_z-of_z}
 use mir.Val.{SFits, to_z, of_z}
 use Rattle.program_rows.specs.Lines.{field}
 use Rattle.program_rows.specs.Described.{value}
-use Rattle.mps_reader.specs.inside.Rows.{StampsAre, with_side}
-use Rattle.mps_reader.proofs.NameFacts.{distinct-rows}
 use Rattle.mps_reader.proofs.AnswerFacts.{handed-on}
 use Rattle.mps_reader.proofs.PairTells.{stamped-are, row-at, free-apart}
 use Rattle.mps_reader.proofs.SideTells.{row-names-by, none-by, side-by, early-refused}

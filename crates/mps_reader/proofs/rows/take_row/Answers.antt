@@ -3,9 +3,8 @@ use Rattle.std.specs.Prelude.{bytes_eq, codes, if◌then◌else◌}
 use Rattle.std.specs.List.{list_any}
 use Rattle.std.proofs.lemmas.Bool.{not-true}
 use Rattle.mps_reader.specs.inside.Rows.{names_of}
-use Rattle.mps_reader.proofs.RowSteps.{no_name, added-free, added-bound, name-at, grown}
+use Rattle.mps_reader.proofs.RowSteps.{no_name, added-free, added-bound, name-at, grown, field-at}
 use Rattle.auction_terms.specs.Borrowed.{bytes_of}
-use Rattle.mps_reader.proofs.RowSteps.{field-at}
 use Rattle.mps_reader.proofs.RowTells.{tells-free, tells-bound}
 use Rattle.mps_reader.proofs.rows.take_row.Goals as goal
 

@@ -1,16 +1,18 @@
 use Rattle.std.proofs.Common.{◌≡◌, ℕ, Ok, Result, ap, inl, refl}
 use Rattle.program_rows.specs.Program.{Table}
 use Rattle.program_rows.specs.declared.fault.FaultKind.{FaultKind}
-use Rattle.answers.specs.Answer.{answer, program_refused}
+use Rattle.answers.specs.Answer.{answer}
 use Rattle.answers.specs.Exact.{IsUnwritten, by_refusal}
-use Rattle.auction_input.specs.InputTexts.{program_in}
+use Rattle.mps_reader.specs.declared.limits.TheConstants.{PROGRAM_LIMIT}
+use Rattle.program_rows.specs.Meaning.{meaning}
+use Rattle.program_rows.specs.declared.fault.FaultKind.TheVariants as kind
 use Rattle.answers.specs.Sizes.{sizes_text}
 use Rattle.auction_terms.specs.Stages.{and_then, refused_as}
 use Rattle.auction_input.specs.declared.refusal.Refusal.TheVariants as refusal
 use Rattle.auction_input.specs.declared.request.Request.TheVariants as request
 use Rattle.answers.proofs.CommandFacts.{cut-short}
-use Rattle.answers.proofs.FaultFacts.{program-refuses}
-use Rattle.auction_input.proofs.InputTextFacts.{program-refused, program-told}
+use Rattle.answers.proofs.FaultFacts.{program-refuses, program_refused}
+use Rattle.auction_input.proofs.InputTextFacts.{program-refused, program-told, sized}
 use Rattle.auction_input.proofs.RefusalFacts.{if-err-of}
 use Rattle.auction_input.proofs.StageFacts.{stop}
 use Rattle.answers.proofs.commands.check.check.Goals as goal
@@ -21,7 +23,7 @@ returns-in_err-program-clause-refused g c =
     let taken = g.S.Sink.taken c.args.out.now in
     let failures = g.S.Sink.failures c.args.out.now in
     let f = c.in_err-program.field-0.0 in
-    let refused = program-refuses f (program_in text) (program-refused text f c.in_err-program.ensures.too_large c.in_err-program.ensures.meaning) in
+    let refused = program-refuses f (sized PROGRAM_LIMIT (0, kind.TooLarge) meaning text) (program-refused text f c.in_err-program.ensures.too_large c.in_err-program.ensures.meaning) in
     if-err-of (IsUnwritten request.Check text taken taken failures failures) c.from_residual.result (refusal.Program f) c.from_residual.ensures.1 (inl (by_refusal (stop _ _ (refusal.Program f) refused) refl))
 
 pub returns-in_err-write_sizes-clause-refused : goal.returns-in_err-write_sizes-clause-refused

@@ -25,9 +25,5 @@ returns-in-Err-Sink-clause-refused g c =
     let programs = map (compiled book) groups in
     let failed = subst (FailsAsTold (g.S.Sink.failures c.args.out.now) (g.S.Sink.failures c.run_compile.new.out)) c.in-Err-Sink.field-0-is c.in-Err-Sink.ensures.failed in
     let stopped = subst (StopsAsTold book programs (g.S.Sink.taken c.args.out.now) (g.S.Sink.taken c.run_compile.new.out)) c.in-Err-Sink.field-0-is c.in-Err-Sink.ensures.stopped in
-    by_put (record {
-      out = programs_bytes book programs;
-      whole = ap (λ (out : List ℕ). Ok out) (of-groups book 1 groups);
-      sent = sent-front book programs _ _ (g.S.Sink.taken c.args.out.now) (g.S.Sink.taken c.run_compile.new.out) stopped.2;
-      failed = failed;
-    })
+    by_put (programs_bytes book programs) (ap (λ (out : List ℕ). Ok out) (of-groups book 1 groups))
+    (sent-front book programs _ _ (g.S.Sink.taken c.args.out.now) (g.S.Sink.taken c.run_compile.new.out) stopped.2) failed

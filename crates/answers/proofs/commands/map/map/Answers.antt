@@ -1,8 +1,9 @@
 use Rattle.std.proofs.Common.{◌≡◌}
 use Rattle.auction_input.specs.Auction.{auction_told}
-use Rattle.answers.specs.commands.Map.{winners_text}
-use Rattle.auction_input.specs.Settled.{held}
-use Rattle.answers.specs.Exact.{IsLeftOpen, IsUnwritten}
+use Rattle.answers.specs.Answer.{output_of}
+use Rattle.auction_input.specs.Settled.{held, IsUnsettled}
+use Rattle.answers.specs.Exact.{IsUnwritten, MeetsLimit}
+use Rattle.std.specs.Prelude.{◌⊎◌}
 use Rattle.auction_input.specs.declared.request.Request.TheVariants as request
 use Rattle.answers.proofs.CommandFacts.{ends-behind, ends-so, no-auction, writes-behind}
 use Rattle.auction_input.proofs.RefusalFacts.{if-err-of, on-ok-given}
@@ -14,12 +15,12 @@ returns-in_err-auction-clause-refused g c =
     let taken = g.S.Sink.taken c.args.out.now in
     let failures = g.S.Sink.failures c.args.out.now in
     let r = c.in_err-auction.field-0.0 in
-    if-err-of (IsUnwritten (request.Map c.args.k) text taken taken failures failures) c.from_residual.result r c.from_residual.ensures.1 (no-auction (request.Map c.args.k) text (winners_text c.args.k) taken failures r c.in_err-auction.ensures.refuses)
+    if-err-of (IsUnwritten (request.Map c.args.k) text taken taken failures failures) c.from_residual.result r c.from_residual.ensures.1 (no-auction (request.Map c.args.k) text (output_of (request.Map c.args.k)) taken failures r c.in_err-auction.ensures.refuses)
 
 pub returns-clause-written : goal.returns-clause-written
 returns-clause-written g c =
     let text = c.args.text.now in
-    writes-behind (auction_told (request.Map c.args.k) text) (held c.in_ok-auction.auction) (winners_text c.args.k) c.in_ok-auction.ensures.told c.write_winners.result (g.S.Sink.taken c.args.out.now) (g.S.Sink.taken c.write_winners.new.out) c.write_winners.ensures.written
+    writes-behind (auction_told (request.Map c.args.k) text) (held c.in_ok-auction.auction) (output_of (request.Map c.args.k)) c.in_ok-auction.ensures.told c.write_winners.result (g.S.Sink.taken c.args.out.now) (g.S.Sink.taken c.write_winners.new.out) c.write_winners.ensures.written
 
 pub returns-clause-refused : goal.returns-clause-refused
 returns-clause-refused g c =
@@ -28,8 +29,8 @@ returns-clause-refused g c =
     let taken' = g.S.Sink.taken c.write_winners.new.out in
     let failures = g.S.Sink.failures c.args.out.now in
     let failures' = g.S.Sink.failures c.write_winners.new.out in
-    let ends = ends-behind (auction_told (request.Map c.args.k) text) (held c.in_ok-auction.auction) (winners_text c.args.k) c.in_ok-auction.ensures.told c.write_winners.result taken taken' failures failures' c.write_winners.ensures.refused in
-    ends-so _ (λ r. IsLeftOpen (request.Map c.args.k) text r × (taken' ≡ taken)) c.write_winners.result taken taken' failures failures' ends
+    let ends = ends-behind (auction_told (request.Map c.args.k) text) (held c.in_ok-auction.auction) (output_of (request.Map c.args.k)) c.in_ok-auction.ensures.told c.write_winners.result taken taken' failures failures' c.write_winners.ensures.refused in
+    ends-so _ (λ r. (IsUnsettled (request.Map c.args.k) text r ⊎ MeetsLimit (request.Map c.args.k) text r) × (taken' ≡ taken)) c.write_winners.result taken taken' failures failures' ends
 
 pub returns-clause-sold : goal.returns-clause-sold
 returns-clause-sold g c = on-ok-given c.write_winners.result (held c.in_ok-auction.auction, c.in_ok-auction.ensures.sold)

@@ -1,7 +1,8 @@
 use Rattle.std.proofs.Common.{◌≤◌, ◌∙◌, Bor, ℕ, List, ap, length, refl, rules}
 use Rattle.outcome.specs.Report.{allocation_text}
 use Rattle.outcome.specs.Sale.{sale_of}
-use Rattle.answers.specs.commands.Map.{winners_text}
+use Rattle.answers.specs.Answer.{output_of}
+use Rattle.auction_input.specs.declared.request.Request.TheVariants as request
 use Rattle.auction_input.specs.Settled.{held}
 use Rattle.answers.specs.Exact.{Ends, by_refusal}
 use Rattle.auction_terms.specs.Borrowed.{bytes_of}
@@ -28,7 +29,7 @@ returns-in_err-allocation-clause-refused g c =
     let r = c.in_err-allocation.field-0.0 in
     let within : c.args.k ≤ length c.args.auction.now.groups = search rules in
     let only = c.only_text-solution.ensures ∙ ap (λ (xs : List (Bor (List ℕ))). only_text (bytes_of xs)) c.as_slice.ensures.value in
-    if-err-of (Ends (winners_text c.args.k (held c.args.auction.now)) taken taken failures failures) c.from_residual.result r c.from_residual.ensures.1
+    if-err-of (Ends (output_of (request.Map c.args.k) (held c.args.auction.now)) taken taken failures failures) c.from_residual.result r c.from_residual.ensures.1
     (by_refusal (winners-refused c.args.auction.now c.args.k c.only_text-solution.result.now within only r c.in_err-allocation.ensures.refuses) refl)
 
 pub returns-in_err-write_allocation-clause-refused : goal.returns-in_err-write_allocation-clause-refused
@@ -41,6 +42,6 @@ returns-in_err-write_allocation-clause-refused g c =
     let within : c.args.k ≤ length c.args.auction.now.groups = search rules in
     let only = c.only_text-solution.ensures ∙ ap (λ (xs : List (Bor (List ℕ))). only_text (bytes_of xs)) c.as_slice.ensures.value in
     let a = c.in_ok-allocation.allocation in
-    if-err-of (Ends (winners_text c.args.k (held c.args.auction.now)) taken taken' failures failures') c.from_residual-in_err-write_allocation.result (refusal.Write f) c.from_residual-in_err-write_allocation.ensures.1
+    if-err-of (Ends (output_of (request.Map c.args.k) (held c.args.auction.now)) taken taken' failures failures') c.from_residual-in_err-write_allocation.result (refusal.Write f) c.from_residual-in_err-write_allocation.ensures.1
     (cut-short _ (allocation_text (sale_of c.args.auction.now.book) a) taken taken' failures failures' f
     (winners-written c.args.auction.now c.args.k c.only_text-solution.result.now within only a c.in_ok-allocation.ensures.won) c.in_err-write_allocation.ensures.err c.in_err-write_allocation.ensures.failed)

@@ -5,7 +5,8 @@ use Rattle.mps_text.specs.Sinks.{SentFront}
 use Rattle.mps_text.specs.Written.{written_of}
 use Rattle.outcome.specs.Report.{report_text}
 use Rattle.outcome.specs.Sale.{sale_of}
-use Rattle.answers.specs.commands.Report.{costs_text}
+use Rattle.answers.specs.Answer.{output_of}
+use Rattle.auction_input.specs.declared.request.Request.TheVariants as request
 use Rattle.auction_input.specs.Settled.{held}
 use Rattle.answers.specs.Exact.{Ends, by_refusal}
 use Rattle.auction_input.specs.declared.refusal.Refusal.TheVariants as refusal
@@ -26,7 +27,7 @@ returns-in_err-won-clause-refused g c =
     let taken = g.S.Sink.taken c.args.out.now in
     let failures = g.S.Sink.failures c.args.out.now in
     let r = c.in_err-won.field-0.0 in
-    if-err-of (Ends (costs_text (held c.args.auction.now)) taken taken failures failures) c.from_residual.result r c.from_residual.ensures.1
+    if-err-of (Ends (output_of (request.Report c.args.workers) (held c.args.auction.now)) taken taken failures failures) c.from_residual.result r c.from_residual.ensures.1
     (by_refusal (stop _ _ r c.in_err-won.ensures.refuses) refl)
 
 pub returns-in_err-report-clause-refused : goal.returns-in_err-report-clause-refused
@@ -39,5 +40,5 @@ returns-in_err-report-clause-refused g c =
     let all = c.in_ok-won.won.items in
     let f = c.in_err-report.field-0.0 in
     let sent = subst (λ (won : List (List Choice)). SentFront taken taken' (report_text (sale_of auction.book) auction.groups won) (written_of f)) c.as_slice.ensures.value c.in_err-report.ensures.err in
-    if-err-of (Ends (costs_text (held auction)) taken taken' failures failures') c.from_residual-in_err-report.result (refusal.Write f) c.from_residual-in_err-report.ensures.1
+    if-err-of (Ends (output_of (request.Report c.args.workers) (held auction)) taken taken' failures failures') c.from_residual-in_err-report.result (refusal.Write f) c.from_residual-in_err-report.ensures.1
     (cut-short _ (report_text (sale_of auction.book) auction.groups all) taken taken' failures failures' f (next _ all _ _ c.in_ok-won.ensures.won refl) sent c.in_err-report.ensures.failed)

@@ -8,7 +8,8 @@ use Rattle.mps_text.proofs.FaithfulTexts.{presolved_text_is_faithful}
 use Rattle.mps_text.specs.Sinks.{SentFront}
 use Rattle.mps_text.specs.Text.{text}
 use Rattle.mps_text.specs.Written.{written_of}
-use Rattle.answers.specs.commands.Text.{text_of_all}
+use Rattle.answers.specs.Answer.{output_of}
+use Rattle.auction_input.specs.declared.request.Request.TheVariants as request
 use Rattle.auction_input.specs.Settled.{held}
 use Rattle.answers.specs.Exact.{Ends, by_refusal}
 use Rattle.auction_input.specs.declared.refusal.Refusal.TheVariants as refusal
@@ -31,13 +32,13 @@ pub returns-in_err-groups-clause-refused : goal.returns-in_err-groups-clause-ref
 returns-in_err-groups-clause-refused g c =
     let taken = g.S.Sink.taken c.args.out.now in
     let failures = g.S.Sink.failures c.args.out.now in
-    if-err-of (Ends (text_of_all (held c.args.auction.now)) taken taken failures failures) c.from_residual.result refusal.OutOfMemory c.from_residual.ensures.1 (by_refusal (inr refl) refl)
+    if-err-of (Ends (output_of request.Text (held c.args.auction.now)) taken taken failures failures) c.from_residual.result refusal.OutOfMemory c.from_residual.ensures.1 (by_refusal (inr refl) refl)
 
 pub returns-in_err-pages-clause-refused : goal.returns-in_err-pages-clause-refused
 returns-in_err-pages-clause-refused g c =
     let taken = g.S.Sink.taken c.args.out.now in
     let failures = g.S.Sink.failures c.args.out.now in
-    if-err-of (Ends (text_of_all (held c.args.auction.now)) taken taken failures failures) c.from_residual-in_err-pages.result refusal.OutOfMemory c.from_residual-in_err-pages.ensures.1 (by_refusal (inr refl) refl)
+    if-err-of (Ends (output_of request.Text (held c.args.auction.now)) taken taken failures failures) c.from_residual-in_err-pages.result refusal.OutOfMemory c.from_residual-in_err-pages.ensures.1 (by_refusal (inr refl) refl)
 
 pub returns-in_err-write_program_without-clause-refused : goal.returns-in_err-write_program_without-clause-refused
 returns-in_err-write_program_without-clause-refused g c =
@@ -49,5 +50,5 @@ returns-in_err-write_program_without-clause-refused g c =
     let f = c.in_err-write_program_without.field-0.0 in
     let nobody : c.group.result.now ≡ [] = c.group.ensures ∙ ap (λ (groups : List (List ℕ)). slice_index_or groups (1 - 1) []) c.in_ok-groups.ensures in
     let sent = subst (λ (group : List ℕ). SentFront taken taken' (text (program_without book group)) (written_of f)) nobody c.in_err-write_program_without.ensures.err in
-    if-err-of (Ends (text_of_all (held c.args.auction.now)) taken taken' failures failures') c.from_residual-in_err-write_program_without.result (refusal.Write f) c.from_residual-in_err-write_program_without.ensures.1
+    if-err-of (Ends (output_of request.Text (held c.args.auction.now)) taken taken' failures failures') c.from_residual-in_err-write_program_without.result (refusal.Write f) c.from_residual-in_err-write_program_without.ensures.1
     (cut-short _ (text (program_without book [])) taken taken' failures failures' f refl sent c.in_err-write_program_without.ensures.failed)

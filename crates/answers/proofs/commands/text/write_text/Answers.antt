@@ -1,8 +1,9 @@
 use Rattle.std.proofs.Common.{◌≡◌}
 use Rattle.auction_input.specs.Auction.{auction_told}
-use Rattle.answers.specs.commands.Text.{text_of_all}
-use Rattle.auction_input.specs.Settled.{held}
-use Rattle.answers.specs.Exact.{IsLeftOpen, IsUnwritten}
+use Rattle.answers.specs.Answer.{output_of}
+use Rattle.auction_input.specs.Settled.{held, IsUnsettled}
+use Rattle.answers.specs.Exact.{IsUnwritten, MeetsLimit}
+use Rattle.std.specs.Prelude.{◌⊎◌}
 use Rattle.auction_input.specs.declared.request.Request.TheVariants as request
 use Rattle.answers.proofs.CommandFacts.{ends-behind, ends-so, no-auction, writes-behind}
 use Rattle.auction_input.proofs.RefusalFacts.{if-err-of, on-ok-given}
@@ -14,12 +15,12 @@ returns-in_err-auction-clause-refused g c =
     let taken = g.S.Sink.taken c.args.out.now in
     let failures = g.S.Sink.failures c.args.out.now in
     let r = c.in_err-auction.field-0.0 in
-    if-err-of (IsUnwritten request.Text text taken taken failures failures) c.from_residual.result r c.from_residual.ensures.1 (no-auction request.Text text text_of_all taken failures r c.in_err-auction.ensures.refuses)
+    if-err-of (IsUnwritten request.Text text taken taken failures failures) c.from_residual.result r c.from_residual.ensures.1 (no-auction request.Text text (output_of request.Text) taken failures r c.in_err-auction.ensures.refuses)
 
 pub returns-clause-written : goal.returns-clause-written
 returns-clause-written g c =
     let text = c.args.text.now in
-    writes-behind (auction_told request.Text text) (held c.in_ok-auction.auction) text_of_all c.in_ok-auction.ensures.told c.write_program_of_all.result (g.S.Sink.taken c.args.out.now) (g.S.Sink.taken c.write_program_of_all.new.out) c.write_program_of_all.ensures.written
+    writes-behind (auction_told request.Text text) (held c.in_ok-auction.auction) (output_of request.Text) c.in_ok-auction.ensures.told c.write_program_of_all.result (g.S.Sink.taken c.args.out.now) (g.S.Sink.taken c.write_program_of_all.new.out) c.write_program_of_all.ensures.written
 
 pub returns-clause-refused : goal.returns-clause-refused
 returns-clause-refused g c =
@@ -28,8 +29,8 @@ returns-clause-refused g c =
     let taken' = g.S.Sink.taken c.write_program_of_all.new.out in
     let failures = g.S.Sink.failures c.args.out.now in
     let failures' = g.S.Sink.failures c.write_program_of_all.new.out in
-    let ends = ends-behind (auction_told request.Text text) (held c.in_ok-auction.auction) text_of_all c.in_ok-auction.ensures.told c.write_program_of_all.result taken taken' failures failures' c.write_program_of_all.ensures.refused in
-    ends-so _ (λ r. IsLeftOpen request.Text text r × (taken' ≡ taken)) c.write_program_of_all.result taken taken' failures failures' ends
+    let ends = ends-behind (auction_told request.Text text) (held c.in_ok-auction.auction) (output_of request.Text) c.in_ok-auction.ensures.told c.write_program_of_all.result taken taken' failures failures' c.write_program_of_all.ensures.refused in
+    ends-so _ (λ r. (IsUnsettled request.Text text r ⊎ MeetsLimit request.Text text r) × (taken' ≡ taken)) c.write_program_of_all.result taken taken' failures failures' ends
 
 pub returns-clause-sold : goal.returns-clause-sold
 returns-clause-sold g c = on-ok-given c.write_program_of_all.result (held c.in_ok-auction.auction, c.in_ok-auction.ensures.sold)
