@@ -10,7 +10,7 @@ use Rattle.auction_input.specs.declared.request.Request.{Request}
 use Rattle.auction_terms.specs.Stages.{and_then, refused_as}
 use Rattle.mps_reader.specs.declared.limits.TheConstants.{PROGRAM_LIMIT}
 use Rattle.mps_text.specs.Text.{text}
-use Rattle.outcome.specs.Report.{allocation_text}
+use Rattle.outcome.specs.Report.{allocation_text, in_turn}
 use Rattle.program_rows.specs.Meaning.{meaning}
 use Rattle.program_rows.specs.Program.{Table}
 use Rattle.program_rows.specs.declared.fault.FaultKind.TheVariants as kind
