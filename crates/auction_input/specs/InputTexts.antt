@@ -2,7 +2,7 @@
 use Rattle.std.specs.Prelude.{ℕ, List, Result, Err, if◌then◌else◌, length, nat_lt}
 use Rattle.auction_terms.specs.GroupsText.{groups_of}
 use Rattle.auction_terms.specs.Records.{records_of}
-use Rattle.auction_terms.specs.RulesText.{rules_of}
+use Rattle.auction_terms.specs.RulesText.{rules_of_records}
 use Rattle.auction_terms.specs.Terms.{Terms}
 use Rattle.auction_terms.specs.declared.groups_text.GroupFault.TheVariants as group_fault
 use Rattle.auction_terms.specs.declared.groups_text.GroupFault.{GroupFault}
@@ -21,7 +21,7 @@ use Rattle.program_rows.specs.declared.fault.FaultKind.TheVariants as kind
 use Rattle.program_rows.specs.declared.fault.FaultKind.{FaultKind}
 
 abbrev pub rules_in : List ℕ → Result Terms RulesFault
-rules_in text = if nat_lt TEXT_LIMIT (length text) then Err rules_fault.TooLarge else rules_of (records_of text)
+rules_in text = if nat_lt TEXT_LIMIT (length text) then Err rules_fault.TooLarge else rules_of_records (records_of text)
 
 abbrev pub groups_in : List Bidder → List ℕ → Result (List (List ℕ)) GroupFault
 groups_in bidders text = if nat_lt TEXT_LIMIT (length text) then Err group_fault.TooLarge else groups_of bidders text
