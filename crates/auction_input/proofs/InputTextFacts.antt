@@ -96,12 +96,12 @@ sized limit too_large tell text = if nat_lt limit (length text) then Err too_lar
 
 -- the fault of rules that are refused is what their text tells
 pub rules-faulted : (text : List ℕ) (f : RulesFault) → (TEXT_LIMIT < length text → no_rules f ≡ no_rules rules_fault.TooLarge)
-    → (length text ≤ TEXT_LIMIT → Answers rules_text.is_rules_memory (no_rules f) (rules_text.rules_of (records_of text))) → Answers rules_text.is_rules_memory (no_rules f) (sized TEXT_LIMIT rules_fault.TooLarge (λ rules. rules_text.rules_of (records_of rules)) text)
+    → (length text ≤ TEXT_LIMIT → Answers rules_text.is_rules_memory (no_rules f) (rules_text.rules_of_records (records_of text))) → Answers rules_text.is_rules_memory (no_rules f) (sized TEXT_LIMIT rules_fault.TooLarge (λ rules. rules_text.rules_of_records (records_of rules)) text)
 rules-faulted text f large told = elim (leb_tells 4194305 (length text)) [
   | inl (is, more) ↦ (
       let e = large (omega arith) in
       let same : f ≡ rules_fault.TooLarge = cc in
-      subst (λ x. Answers rules_text.is_rules_memory (no_rules x) (sized TEXT_LIMIT rules_fault.TooLarge (λ rules. rules_text.rules_of (records_of rules)) text)) (sym same) (rw is refl))
+      subst (λ x. Answers rules_text.is_rules_memory (no_rules x) (sized TEXT_LIMIT rules_fault.TooLarge (λ rules. rules_text.rules_of_records (records_of rules)) text)) (sym same) (rw is refl))
   | inr (is, few) ↦ rw is (told (omega arith))
 ]
 
@@ -117,7 +117,7 @@ groups-faulted bidders text f large told = elim (leb_tells 4194305 (length text)
 ]
 
 -- rules that are read are what their text tells
-pub rules-tell : (text : List ℕ) (t : Terms) → (TEXT_LIMIT < length text → Ok t ≡ no_rules rules_fault.TooLarge) → (length text ≤ TEXT_LIMIT → Ok t ≡ rules_text.rules_of (records_of text)) → sized TEXT_LIMIT rules_fault.TooLarge (λ rules. rules_text.rules_of (records_of rules)) text ≡ Ok t
+pub rules-tell : (text : List ℕ) (t : Terms) → (TEXT_LIMIT < length text → Ok t ≡ no_rules rules_fault.TooLarge) → (length text ≤ TEXT_LIMIT → Ok t ≡ rules_text.rules_of_records (records_of text)) → sized TEXT_LIMIT rules_fault.TooLarge (λ rules. rules_text.rules_of_records (records_of rules)) text ≡ Ok t
 rules-tell text t large told = elim (leb_tells 4194305 (length text)) [
   | inl (_, more) ↦ (let e = large (omega arith) in cc)
   | inr (is, few) ↦ rw is (sym (told (omega arith)))

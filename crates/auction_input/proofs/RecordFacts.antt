@@ -8,7 +8,7 @@ use Rattle.std.proofs.lemmas.List.Elements.{filter-append}
 use Rattle.auction_terms.specs.Entries.{terms_of}
 use Rattle.auction_terms.specs.FirstFault.{first_failed, first_fault}
 use Rattle.auction_terms.specs.Records.{Record}
-use Rattle.auction_terms.specs.RulesText.{entries_of, entry_fault, header_checks, field_number, is_kind, of_kind, record_kind, rules_of, version_of}
+use Rattle.auction_terms.specs.RulesText.{entries_of, entry_fault, header_checks, field_number, is_kind, of_kind, record_kind, rules_of_records, version_of}
 use Rattle.auction_terms.specs.Stages.{and_then, unless}
 use Rattle.auction_terms.specs.Terms.{Terms}
 use Rattle.auction_terms.specs.declared.record_kinds.RecordKind.{RecordKind}
@@ -108,7 +108,7 @@ module _ (P : Terms → Type 0) (made : (v : Version) (more : List Record) → f
   not-empty v more step count t none false true e = cc
   not-empty v more step count t none false false e = subst P (ok-is _ (terms_of step (entries_of v more)) t refl e) (made v more none step)
 
-  pub rules-told : (records : List Record) (t : Terms) → rules_of records ≡ Ok t → P t
+  pub rules-told : (records : List Record) (t : Terms) → rules_of_records records ≡ Ok t → P t
   rules-told [] t told = cc
   rules-told (header ∷ more) t told = by (version_of header) told
     where

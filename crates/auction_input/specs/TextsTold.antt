@@ -5,7 +5,7 @@ use Rattle.auction_input.specs.declared.refusal.Refusal.TheVariants as refusal
 use Rattle.auction_input.specs.declared.refusal.Refusal.{Refusal}
 use Rattle.auction_terms.specs.GroupsText.{groups_of}
 use Rattle.auction_terms.specs.Records.{records_of}
-use Rattle.auction_terms.specs.RulesText.{rules_of}
+use Rattle.auction_terms.specs.RulesText.{rules_of_records}
 use Rattle.auction_terms.specs.Stages.{refused_as}
 use Rattle.auction_terms.specs.Terms.{Terms}
 use Rattle.auction_terms.specs.declared.groups_text.GroupFault.TheVariants as groups
@@ -17,7 +17,7 @@ use Rattle.bid_forms.specs.declared.form_text.FormFault.TheVariants as form
 
 -- the rules in the one text of them
 abbrev pub terms_told : List ℕ → Result Terms Refusal
-terms_told text = refused_as refusal.Rules (if nat_lt TEXT_LIMIT (length text) then Err rules.TooLarge else rules_of (records_of text))
+terms_told text = refused_as refusal.Rules (if nat_lt TEXT_LIMIT (length text) then Err rules.TooLarge else rules_of_records (records_of text))
 
 -- the form of this number
 abbrev pub form_told : Terms → ℕ → List ℕ → Result Offers Refusal

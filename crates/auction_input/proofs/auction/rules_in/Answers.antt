@@ -2,7 +2,7 @@ use Rattle.std.proofs.Common.{◌∙◌, ℕ, List, ap, sym, subst}
 use Rattle.auction_input.specs.Refused.{Refuses}
 use Rattle.auction_input.specs.PartsTold.{only_text}
 use Rattle.auction_terms.specs.Records.{records_of}
-use Rattle.auction_terms.specs.RulesText.{rules_of}
+use Rattle.auction_terms.specs.RulesText.{rules_of_records}
 use Rattle.auction_terms.specs.declared.limits.TheConstants.{TEXT_LIMIT}
 use Rattle.auction_terms.specs.declared.rules_text.RulesFault.TheVariants as rules_fault
 use Rattle.auction_terms.specs.Borrowed.{bytes_of}
@@ -25,6 +25,6 @@ pub returns-in_err-read_rules-clause-refuses : goal.returns-in_err-read_rules-cl
 returns-in_err-read_rules-clause-refuses c =
     let text = c.only_text.result.now in
     let f = c.in_err-read_rules.field-0.0 in
-    let refused = rules-refuse f (sized TEXT_LIMIT rules_fault.TooLarge (λ rules. rules_of (records_of rules)) text) (rules-faulted text f c.in_err-read_rules.ensures.too_large c.in_err-read_rules.ensures.answer) in
+    let refused = rules-refuse f (sized TEXT_LIMIT rules_fault.TooLarge (λ rules. rules_of_records (records_of rules)) text) (rules-faulted text f c.in_err-read_rules.ensures.too_large c.in_err-read_rules.ensures.answer) in
     if-err-of (Refuses (terms_told (only_text (bytes_of c.args.texts.now)))) c.from_residual.result (refusal.Rules f) c.from_residual.ensures.1
     (subst (λ (bytes : List ℕ). Refuses (terms_told bytes) (refusal.Rules f)) c.only_text.ensures refused)
