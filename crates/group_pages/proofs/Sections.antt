@@ -5,14 +5,14 @@ use Rattle.std.proofs.lemmas.List.{map-append}
 use Rattle.std.proofs.lemmas.Grind.{flat_map-append}
 use Rattle.program_rows.specs.Program.{Table, TableColumn}
 use Rattle.program_rows.specs.Lines.{LineFields, Line, Header, Data}
-use Rattle.mps_text.specs.Text.{written, text, block, if_any, column_fields}
+use Rattle.mps_text.specs.Text.{written, text, block, if_any}
 use Rattle.mps_text.specs.Bytes.{row_bytes, right_side_bytes, bound_bytes, column_bytes, cost_bytes}
 use Rattle.mps_text.specs.inside.Bytes.{where_any}
 use Rattle.group_pages.specs.declared.section.Section.TheVariants.{Rows, Columns, RightSides, Bounds}
 use Rattle.group_pages.specs.Joining.{section_text}
 use Rattle.std.specs.Fmt.{signed_decimal}
 use Rattle.program_rows.specs.ProgramNames.{row_name}
-use Rattle.mps_text.proofs.Fields.{row_fields, right_side_fields, bound_fields}
+use Rattle.mps_text.proofs.Fields.{row_fields, right_side_fields, bound_fields, column_fields}
 
 abbrev flat : List LineFields → List ℕ
 flat ls = flat_map written (map Data ls)

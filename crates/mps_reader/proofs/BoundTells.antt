@@ -3,8 +3,8 @@ use Rattle.std.proofs.Common.{◌≡◌, ℕ, zero, suc, Bool, true, false, not,
 use Rattle.std.specs.Prelude.{slice_get, bytes_eq, codes, nat_le, if◌then◌else◌}
 use Rattle.std.specs.List.{list_any, slice_set, AllByRecursion, IsDistinct}
 use Rattle.program_rows.specs.Lines.{LineFields, field}
-use Rattle.program_rows.specs.Described.{is_one_of, value, is_binary_bound, columns_named, column_lines, bound_pair}
-use Rattle.program_rows.specs.Faults.{bound_fault, earliest_fault, is_column, stands_in_integers}
+use Rattle.program_rows.specs.Described.{is_one_of, value, is_binary_bound, columns_named, column_lines, bound_pair, is_column}
+use Rattle.program_rows.specs.Faults.{bound_fault, earliest_fault, stands_in_integers}
 use Rattle.program_rows.specs.declared.fault.FaultKind.{FaultKind}
 use Rattle.program_rows.specs.declared.fault.FaultKind.TheVariants.{BoundType, Fields, UnknownColumn}
 use Rattle.mps_reader.specs.inside.Rows.{names_of}
@@ -13,7 +13,7 @@ use Rattle.mps_reader.specs.declared.column_state.ColumnState.{ColumnState}
 use Rattle.mps_reader.specs.declared.column_table.ColumnTable.{ColumnTable}
 use Rattle.mps_reader.proofs.NameFacts.{same_name}
 use Rattle.mps_reader.proofs.PairTells.{flip-name, all-at}
-use Rattle.mps_reader.proofs.LineTells.{each-any}
+use Rattle.mps_reader.proofs.LineTells.{columns-any}
 use Rattle.mps_reader.specs.inside.Reading.{bit_fault}
 use Rattle.std.specs.Bool.{then_some as when}
 
@@ -74,7 +74,7 @@ last-one (Some k) = refl
 
 -- a name of a column is a column of the lines
 pub column-any : (lines : List LineFields) (names : List (List ℕ)) (name : List ℕ) → names ≡ columns_named lines → is_column lines name ≡ list_any (bytes_eq name) names
-column-any lines names name h = sym (ap (list_any (bytes_eq name)) h ∙ each-any name (column_lines lines))
+column-any lines names name h = sym (ap (list_any (bytes_eq name)) h ∙ columns-any name lines)
 
 -- ---- values
 

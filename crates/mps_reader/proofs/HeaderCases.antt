@@ -6,7 +6,7 @@ use Rattle.program_rows.specs.Sections.{Sections}
 use Rattle.program_rows.specs.Described.{is_one_of, first_free, columns_named}
 use Rattle.program_rows.specs.Faults.{place_of, earliest_fault, sense_fault, header_fault, is_binary, sections_left_out}
 use Rattle.program_rows.specs.declared.fault.FaultKind.{FaultKind}
-use Rattle.program_rows.specs.declared.fault.FaultKind.TheVariants.{Section, NotBinary}
+use Rattle.program_rows.specs.declared.fault.FaultKind.TheVariants.{Section, NoObjective, NotBinary}
 
 pub header-place : (before : Sections) (word : List ℕ) (more : LineFields) → is_one_of word sections_left_out ≡ false → nat_lt (place_of before.section) (place_of word) ≡ false → header_fault before word more ≡ Some Section
 header-place before word more a b = rw (a, b) refl
@@ -23,3 +23,8 @@ pub header-rest : (before : Sections) (word : List ℕ) (more : LineFields) → 
     → (is_one_of word (codes "COLUMNS" ∷ codes "RHS" ∷ codes "BOUNDS" ∷ codes "ENDATA" ∷ []) && is_none (first_free before.rows)) ≡ false
     → header_fault before word more ≡ (if bytes_eq word (codes "ENDATA") then option_map NotBinary (position (λ column. not (is_binary before column)) (columns_named before.columns)) else None)
 header-rest before word more a b m s l = rw (a, b, m, s, l) (last-fault (if bytes_eq word (codes "ENDATA") then option_map NotBinary (position (λ column. not (is_binary before column)) (columns_named before.columns)) else None))
+
+pub header-lacks : (before : Sections) (word : List ℕ) (more : LineFields) → is_one_of word sections_left_out ≡ false → nat_lt (place_of before.section) (place_of word) ≡ true
+    → (is_one_of word (codes "ROWS" ∷ codes "COLUMNS" ∷ codes "RHS" ∷ codes "BOUNDS" ∷ []) && nat_lt 0 (length more)) ≡ false → word_sense word more ≡ None
+    → (is_one_of word (codes "COLUMNS" ∷ codes "RHS" ∷ codes "BOUNDS" ∷ codes "ENDATA" ∷ []) && is_none (first_free before.rows)) ≡ true → header_fault before word more ≡ Some NoObjective
+header-lacks before word more a b m s l = rw (a, b, m, s, l) refl

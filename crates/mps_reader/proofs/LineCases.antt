@@ -3,9 +3,9 @@ use Rattle.std.proofs.Common.{◌≡◌, ℕ, suc, ◌≤◌, true, false, List,
 use Rattle.std.specs.Prelude.{◌==◌, slice_index}
 use Rattle.std.specs.List.{list_all, AllByRecursion}
 use Rattle.std.proofs.lemmas.Bool.{eqb-true, eqb-false, ne_eqb}
-use Rattle.program_rows.specs.Lines.{Skipped, Unprintable, Data, fields, line_of, is_space, is_text_byte, Header, field}
+use Rattle.program_rows.specs.Lines.{Skipped, Unprintable, Data, fields, line_of, is_space, Header, field}
 use Rattle.program_rows.specs.Parts.{IsName}
-use Rattle.mps_reader.specs.inside.Reading.{AreFirst}
+use Rattle.mps_reader.specs.inside.Reading.{AreFirst, is_text_byte}
 use Rattle.mps_reader.proofs.FieldFacts.{fields_names}
 use Rattle.mps_reader.proofs.TextFacts.{other-filled}
 

@@ -12,7 +12,7 @@ use Rattle.program_rows.specs.declared.bounds.Bounds.TheVariants.{ZeroOrOne}
 use Rattle.program_rows.specs.Program.{TableColumn}
 use Rattle.program_rows.specs.Lines.{LineFields, field}
 use Rattle.program_rows.specs.Sections.{Sections}
-use Rattle.program_rows.specs.Described.{pairs, each_once, is_marker, column_lines, columns_named, column_pairs, number_beside}
+use Rattle.program_rows.specs.Described.{pairs, is_marker, column_lines, columns_named, column_pairs, number_beside, is_column}
 use Rattle.program_rows.specs.Faults.{is_integer_open, stands_in_integers, is_split, marker_fault, column_fault, pairs_fault, earliest_fault}
 use Rattle.program_rows.specs.declared.fault.FaultKind.{FaultKind}
 use Rattle.program_rows.specs.declared.fault.FaultKind.TheVariants.{ColumnSplit}
@@ -35,18 +35,18 @@ or-last true false = refl
 or-last false true = refl
 or-last false false = refl
 
-pub each-any : (name : List ℕ) (ls : List LineFields) → list_any (bytes_eq name) (each_once ls) ≡ list_any (λ other. bytes_eq name (field 0 other)) ls
-each-any name [] = refl
-each-any name (f ∷ ls) = by (list_any (λ other. bytes_eq (field 0 f) (field 0 other)) ls) refl (each-any name ls)
+pub columns-any : (name : List ℕ) (lines : List LineFields) → list_any (bytes_eq name) (columns_named lines) ≡ is_column lines name
+columns-any name [] = refl
+columns-any name (f ∷ lines) = by (is_marker f) refl (is_column lines (field 0 f)) refl (columns-any name lines)
   where
-    by : (b : Bool) → list_any (λ other. bytes_eq (field 0 f) (field 0 other)) ls ≡ b → list_any (bytes_eq name) (each_once ls) ≡ list_any (λ other. bytes_eq name (field 0 other)) ls
-        → list_any (bytes_eq name) (if b then each_once ls else each_once ls ++ field 0 f ∷ []) ≡ (bytes_eq name (field 0 f) || list_any (λ other. bytes_eq name (field 0 other)) ls)
-    by false e more = list_any-append (bytes_eq name) (each_once ls) (field 0 f ∷ []) ∙ or-last (list_any (bytes_eq name) (each_once ls)) (bytes_eq name (field 0 f)) ∙ ap (λ b. bytes_eq name (field 0 f) || b) more
-    by true e more = more ∙ known (bytes_eq name (field 0 f)) refl
-      where
-        known : (b : Bool) → bytes_eq name (field 0 f) ≡ b → list_any (λ other. bytes_eq name (field 0 other)) ls ≡ (b || list_any (λ other. bytes_eq name (field 0 other)) ls)
-        known true h = subst (λ n. list_any (λ other. bytes_eq n (field 0 other)) ls ≡ true) (sym (same_name name (field 0 f) h)) e
-        known false h = refl
+    known : (b : Bool) → bytes_eq name (field 0 f) ≡ b → is_column lines (field 0 f) ≡ true → is_column lines name ≡ (b || is_column lines name)
+    known true h e = subst (λ n. is_column lines n ≡ true) (sym (same_name name (field 0 f) h)) e
+    known false h e = refl
+
+    by : (m : Bool) → is_marker f ≡ m → (b : Bool) → is_column lines (field 0 f) ≡ b → list_any (bytes_eq name) (columns_named lines) ≡ is_column lines name → list_any (bytes_eq name) (columns_named (f ∷ lines)) ≡ is_column (f ∷ lines) name
+    by true m b e more = rw m more
+    by false m true e more = rw (m, e) (more ∙ known (bytes_eq name (field 0 f)) refl e)
+    by false m false e more = rw (m, e) (list_any-append (bytes_eq name) (columns_named lines) (field 0 f ∷ []) ∙ or-last (list_any (bytes_eq name) (columns_named lines)) (bytes_eq name (field 0 f)) ∙ ap (λ b. bytes_eq name (field 0 f) || b) more)
 
 -- ---- pairs of columns
 
@@ -130,11 +130,12 @@ pub marker-tells : (f : LineFields) (o : Option (List ℕ)) (rows : List (List �
     → new.current_column.cost ≡ pos 0 → new.is_begun ≡ bytes_eq (field 2 f) (codes "'INTORG'") → ColumnsTell o rows lines [] old → ColumnsTell o rows (f ∷ lines) [] new
 marker-tells f o rows lines old new m names_both states done none nothing begun h =
     let same : column_lines (f ∷ lines) ≡ column_lines lines = rw m refl in
+    let named : columns_named (f ∷ lines) ≡ columns_named lines = rw m refl in
     let values : map (told_values (f ∷ lines) []) (columns_named lines) ≡ map (told_values lines []) (columns_named lines) = values-same f lines (columns_named lines) (λ n k. marker-stands f lines n m) in
     record {
-      names = ap names_of names_both ∙ h.names ∙ ap each_once (sym same);
+      names = ap names_of names_both ∙ h.names ∙ sym named;
       begun = begun ∙ rw m refl;
-      states = ap (λ s. map state_values s.items) states ∙ h.states ∙ sym values ∙ ap (λ ls. map (told_values (f ∷ lines) []) (each_once ls)) (sym same);
+      states = ap (λ s. map state_values s.items) states ∙ h.states ∙ sym values ∙ ap (map (told_values (f ∷ lines) [])) (sym named);
       done = subst (λ ls. AllByRecursion (λ (k : TableColumn). k ≡ told-by o rows ls k.name) new.done) (sym same) (subst (λ ks. AllByRecursion (λ (k : TableColumn). k ≡ told-by o rows (column_lines lines) k.name) ks) (sym done) h.done);
       opened = by new.current none;
       closed = λ e. nothing;
@@ -157,10 +158,10 @@ pub record IsReady (f : LineFields) (o : Option (List ℕ)) (rows : List (List �
   pub done : AllByRecursion (λ k. k ≡ told_column o rows lines k.name) c.done
 
 names-known : (f : LineFields) (lines : List LineFields) → is_marker f ≡ false → list_any (bytes_eq (field 0 f)) (columns_named lines) ≡ true → columns_named (f ∷ lines) ≡ columns_named lines
-names-known f lines m h = let known = sym (each-any (field 0 f) (column_lines lines)) ∙ h in rw (m, known) refl
+names-known f lines m h = let known = sym (columns-any (field 0 f) lines) ∙ h in rw (m, known) refl
 
 names-fresh : (f : LineFields) (lines : List LineFields) → is_marker f ≡ false → list_any (bytes_eq (field 0 f)) (columns_named lines) ≡ false → columns_named (f ∷ lines) ≡ columns_named lines ++ field 0 f ∷ []
-names-fresh f lines m h = let known = sym (each-any (field 0 f) (column_lines lines)) ∙ h in rw (m, known) refl
+names-fresh f lines m h = let known = sym (columns-any (field 0 f) lines) ∙ h in rw (m, known) refl
 
 now-is : (o : Option (Bor (List ℕ))) (name : List ℕ) (P : List ℕ → Type 0) → option_now o ≡ Some name → IfSome o (λ n. P n.now) → P name
 now-is None name P e h = absurd cc
@@ -198,7 +199,7 @@ pub ready-added : (f : LineFields) (o : Option (List ℕ)) (rows : List (List �
     → names_of old.names ≡ columns_named lines → AreStampsUpTo (length (names_of old.names)) r → ColumnAdded o rows lines (field 0 f) c → IsReady f o rows lines r c
 ready-added f o rows lines r old c m stamped names-old low h =
     let count : length (names_of c.names) ≡ length (names_of old.names) + 1 = ap length h.all ∙ length-append (columns_named lines) (field 0 f ∷ []) ∙ ap (λ (ns : List (List ℕ)). length ns + 1) (sym names-old) in
-    let unknown : list_any (λ other. bytes_eq (field 0 f) (field 0 other)) (column_lines lines) ≡ false = sym (each-any (field 0 f) (column_lines lines)) ∙ h.fresh in
+    let unknown : list_any (λ other. bytes_eq (field 0 f) (field 0 other)) (column_lines lines) ≡ false = sym (columns-any (field 0 f) lines) ∙ h.fresh in
     let fresh = names-fresh f lines m h.fresh in
     record {
       tells = record {
@@ -291,7 +292,7 @@ split-lines : (lines : List LineFields) (c : Option (Bor (List ℕ))) (name : Li
     → (list_any (λ fields. bytes_eq name (field 0 fields)) (column_lines lines) && option_map_or (λ nearest. is_marker nearest || not (bytes_eq name (field 0 nearest))) (slice_get lines 0) false)
     ≡ (not (is_current c name) && list_any (bytes_eq name) (columns_named lines))
 split-lines [] c name e = sym (and-swap (not (is_current c name)) false)
-split-lines (g ∷ lines) c name e = ap (λ b. b && (is_marker g || not (bytes_eq name (field 0 g)))) (sym (each-any name (column_lines (g ∷ lines)))) ∙ by (is_marker g) refl c e
+split-lines (g ∷ lines) c name e = ap (λ b. b && (is_marker g || not (bytes_eq name (field 0 g)))) (sym (columns-any name (g ∷ lines))) ∙ by (is_marker g) refl c e
   where
     by : (b : Bool) → is_marker g ≡ b → (c : Option (Bor (List ℕ))) → option_now c ≡ (if is_marker g then None else Some (field 0 g))
         → (list_any (bytes_eq name) (columns_named (g ∷ lines)) && (is_marker g || not (bytes_eq name (field 0 g)))) ≡ (not (is_current c name) && list_any (bytes_eq name) (columns_named (g ∷ lines)))

@@ -6,8 +6,8 @@ use Rattle.std.proofs.lemmas.Bool.{ne_eqb, lt-ltb, ltb-true, ltb-false, le-leb, 
 use denote.Ref.{Bor}
 use Rattle.program_rows.specs.Lines.{Skipped, Data, LineFields, field}
 use Rattle.program_rows.specs.Sections.{Sections, with_line}
-use Rattle.program_rows.specs.Described.{is_one_of, is_binary_bound, bound_pair}
-use Rattle.program_rows.specs.Faults.{place_of, earliest_fault, header_fault, row_fault, column_fault, right_side_fault, bound_fault, is_column, fault, sense_fault}
+use Rattle.program_rows.specs.Described.{is_one_of, is_binary_bound, bound_pair, is_column}
+use Rattle.program_rows.specs.Faults.{place_of, earliest_fault, header_fault, row_fault, column_fault, right_side_fault, bound_fault, fault, sense_fault}
 use Rattle.program_rows.specs.declared.fault.FaultKind.{FaultKind}
 use Rattle.program_rows.specs.declared.fault.FaultKind.TheVariants as kinds
 use Rattle.mps_reader.specs.inside.Reading.{AreFirst, bit_fault}

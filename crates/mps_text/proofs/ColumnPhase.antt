@@ -5,11 +5,11 @@ use Rattle.std.specs.List.{list_any, AllByRecursion, IsDistinct}
 use Rattle.std.proofs.lemmas.Slice.Eq.{bytes_eq-Decides}
 use Rattle.program_rows.specs.Lines.{Line, Data, LineFields}
 use Rattle.program_rows.specs.Sections.{Sections, with_line}
-use Rattle.program_rows.specs.Faults.{fault, is_declared, is_split, is_column, number_fault}
+use Rattle.program_rows.specs.Faults.{fault, is_declared, is_split, number_fault}
 use Rattle.mps_text.proofs.Blocks.{onto, AreRead, AreRead-append, section-onto}
 use Rattle.mps_text.proofs.RowPhase.{flip}
 use Rattle.program_rows.specs.Numbers.{number}
-use Rattle.program_rows.specs.Described.{column_pairs}
+use Rattle.program_rows.specs.Described.{column_pairs, is_column}
 
 -- a row and a number of a column
 abbrev pub Pair : Type 0

@@ -1,11 +1,11 @@
 -- What the lines of COLUMNS say of the columns.
 use Rattle.std.proofs.Common.{◌≡◌, ℕ, Bool, true, false, cond, not, ◌&&◌, List, [], ◌∷◌, ◌++◌, map, refl, sym, ap, subst, ◌∙◌, append_assoc, Option, Some, None}
-use Rattle.std.specs.Prelude.{⊤, bytes_eq, codes, filter, find, flat_map, drop}
+use Rattle.std.specs.Prelude.{⊤, bytes_eq, codes, filter, find, flat_map, drop, if◌then◌else◌}
 use Rattle.std.proofs.lemmas.List.{append-nil}
 use Rattle.std.specs.List.{list_any, AllByRecursion, IsDistinct}
 use Rattle.std.proofs.lemmas.Slice.Eq.{bytes_eq-Decides}
 use Rattle.program_rows.specs.Lines.{LineFields, field}
-use Rattle.program_rows.specs.Described.{is_marker, each_once, pairs}
+use Rattle.program_rows.specs.Described.{is_marker, is_column, columns_named, column_lines, pairs}
 use Rattle.program_rows.specs.Faults.{is_integer_open, stands_in_integers}
 use Rattle.mps_text.proofs.RowPhase.{flip}
 use Rattle.mps_text.proofs.ColumnPhase.{Pair, pair_fields, same-name}
@@ -37,6 +37,20 @@ keeps-lines (c ∷ cs) before h =
     rw (push-append chunk (plain_lines cs) before, push-append chunk (plain_lines cs) (filter plain_line before), keeps-lines cs (push chunk before) h.1, keeps-pairs c.0 c.1 before h.0) refl
 
 -- ---- names
+
+-- the first fields, each once, in the order of the text
+abbrev pub each_once : List LineFields → List (List ℕ)
+each_once [] = []
+each_once (fields ∷ before) = if list_any (λ other. bytes_eq (field 0 fields) (field 0 other)) before then each_once before else each_once before ++ field 0 fields ∷ []
+
+pub named-once : (lines : List LineFields) → columns_named lines ≡ each_once (column_lines lines)
+named-once [] = refl
+named-once (f ∷ lines) = by (is_marker f) refl (is_column lines (field 0 f)) refl (named-once lines)
+  where
+    by : (m : Bool) → is_marker f ≡ m → (b : Bool) → is_column lines (field 0 f) ≡ b → columns_named lines ≡ each_once (column_lines lines) → columns_named (f ∷ lines) ≡ each_once (column_lines (f ∷ lines))
+    by true m b e more = rw m more
+    by false m true e more = rw (m, e) more
+    by false m false e more = rw (m, e) (ap (λ (ns : List (List ℕ)). ns ++ field 0 f ∷ []) more)
 
 -- the names of others aren't this one
 abbrev pub Differs : List ℕ → List Listed → Type 0

@@ -1,13 +1,13 @@
 -- What is written line by line is read as the same lines.
 use Rattle.std.proofs.Common.{◌≡◌, ℕ, zero, suc, ◌-◌, ◌<◌, ◌≤◌, Bool, true, false, not, cond, List, [], ◌∷◌, ◌++◌, length, map, refl, sym, ap, ◌∙◌, append_assoc, arith}
-use Rattle.std.specs.Prelude.{◌==◌, filter, flat_map, slice_index, ◌≢◌}
+use Rattle.std.specs.Prelude.{◌==◌, filter, flat_map, slice_index, ◌≢◌, ◌||◌, ◌&&◌, nat_le}
 use Rattle.std.specs.Str.Lines.{strip_carriage_return}
 use Rattle.std.specs.List.{slice_split, onto_first, join_with_byte, list_all, AllByRecursion}
 use Rattle.std.proofs.lemmas.Bool.{and_parts, ne_eqb}
 use Rattle.std.proofs.lemmas.Grind.{common_steps}
 use Rattle.std.proofs.lemmas.Bool.Decides.{nat_tests}
 use Rattle.auction_terms.specs.Lines.{is_line_feed, lines_of}
-use Rattle.program_rows.specs.Lines.{Line, Skipped, Unprintable, Header, Data, fields, is_space, is_text_byte, line_of}
+use Rattle.program_rows.specs.Lines.{Line, Skipped, Unprintable, Header, Data, fields, is_space, line_of}
 use Rattle.program_rows.proofs.LineParts.{lines_of_parts, lines_are}
 use Rattle.mps_text.specs.Text.{written}
 
@@ -107,6 +107,10 @@ unfolding fields
 fields-spaced a more h = rw (split_joined a more h) (keeps_filled (a ∷ more) h)
 
 -- ---- a line
+
+-- a byte that a text may have
+abbrev is_text_byte : ℕ → Bool
+is_text_byte b = (b == 9) || (nat_le 32 b && nat_le b 126)
 
 printable-text : (b : ℕ) → Printable b → is_text_byte b ≡ true
 printable-text b h = grind (arith, common_steps, nat_tests)

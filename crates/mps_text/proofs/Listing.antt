@@ -8,13 +8,12 @@ use Rattle.std.proofs.lemmas.Bool.{or_right}
 use Rattle.program_rows.specs.Program.{Table, TableRow, TableColumn}
 use Rattle.program_rows.specs.Parts.{AreEntries}
 use Rattle.program_rows.specs.Lines.{Data, LineFields, field}
-use Rattle.mps_text.specs.Text.{column_fields}
 use Rattle.mps_text.proofs.ColumnPhase.{Pair, pair_fields, same-name, columns_lines}
 use Rattle.mps_text.proofs.Pushed.{push, push-append}
 use Rattle.mps_text.proofs.ColumnsBack.{Listed, plain_lines, ArePlain, IsFilled}
 use Rattle.mps_text.proofs.EntriesBack.{PlacesDiffer, pair_of}
 use Rattle.program_rows.specs.ProgramNames.{row_name}
-use Rattle.mps_text.proofs.Fields.{row_fields}
+use Rattle.mps_text.proofs.Fields.{row_fields, column_fields}
 
 abbrev pub row_names : List TableRow → List (List ℕ)
 row_names rows = map (λ r. r.name) rows

@@ -18,7 +18,7 @@ use Rattle.mps_text.proofs.RowPhase.{flip}
 use Rattle.mps_text.proofs.ColumnPhase.{same-name}
 use Rattle.mps_text.proofs.RowsBack.{rows_back}
 use Rattle.mps_text.proofs.Pushed.{push, push-onto_none}
-use Rattle.mps_text.proofs.ColumnsBack.{look, looked, plain_lines, pairs_in, names-once, pairs-found, AreUnlisted, AreUnnamed}
+use Rattle.mps_text.proofs.ColumnsBack.{look, looked, plain_lines, pairs_in, named-once, names-once, pairs-found, AreUnlisted, AreUnnamed}
 use Rattle.mps_text.proofs.BoundsBack.{bounds-found, none-set, bounds-back, binary-back, sets, lower_types, upper_types}
 use Rattle.mps_text.proofs.EntriesBack.{worth, pair_of, entries-back}
 use Rattle.mps_text.proofs.Listing.{row_names, pairs_of, all_listed, places-differ, names-at, names-listed, all-filled, all-pairs-differ}
@@ -64,7 +64,7 @@ unlisted p (c ∷ cs) = (refl, unlisted p cs)
 
 pub names-back : (before : Sections) (p : Table) → IsProgram p → Lists before p → columns_named before.columns ≡ map (λ c. c.name) p.columns
 names-back before p legal h =
-    rw h.columns (names-once (all_listed p p.columns) [] (subst (IsDistinct bytes_eq) (sym (names-listed p p.columns)) legal.columns_differ) (all-filled p p.columns) (unnamed p p.columns) ∙ names-listed p p.columns)
+    named-once before.columns ∙ rw h.columns (names-once (all_listed p p.columns) [] (subst (IsDistinct bytes_eq) (sym (names-listed p p.columns)) legal.columns_differ) (all-filled p p.columns) (unnamed p p.columns) ∙ names-listed p p.columns)
 
 -- where a pair of a column is found
 abbrev IsFound : Sections → Table → TableColumn → Type 0

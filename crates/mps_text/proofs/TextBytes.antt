@@ -8,12 +8,12 @@ use Rattle.program_rows.specs.declared.parts.ProgramParts.{ProgramParts}
 use Rattle.program_rows.specs.Program.{Table, TableRow, TableColumn}
 use Rattle.program_rows.specs.Parts.{shown_row, table_of}
 use Rattle.program_rows.specs.Lines.{Line, Header, Data, LineFields}
-use Rattle.mps_text.specs.Text.{written, text, block, if_any, column_fields}
+use Rattle.mps_text.specs.Text.{written, text, block, if_any}
 use Rattle.mps_text.specs.Bytes.{bound_bytes, column_bytes, cost_bytes}
 use Rattle.mps_text.specs.inside.Bytes.{columns_bytes, bounds_bytes, right_sides_bytes, rows_bytes, parts_bytes}
 use Rattle.std.specs.Fmt.{signed_decimal}
 use Rattle.program_rows.specs.ProgramNames.{row_name}
-use Rattle.mps_text.proofs.Fields.{row_fields, right_side_fields, bound_fields}
+use Rattle.mps_text.proofs.Fields.{row_fields, right_side_fields, bound_fields, column_fields}
 
 abbrev flat : List LineFields → List ℕ
 flat ls = flat_map written (map Data ls)

@@ -10,7 +10,7 @@ use Rattle.program_rows.specs.declared.bounds.Bounds.TheVariants.{ZeroOrOne, Zer
 use Rattle.program_rows.specs.Program.{Table, TableRow, TableColumn}
 use Rattle.program_rows.specs.Parts.{IsProgram, AreEntries, IsName}
 use Rattle.program_rows.specs.Lines.{Line, Header, Data, LineFields}
-use Rattle.mps_text.specs.Text.{block, if_any, kind_letter, column_fields, bound_words}
+use Rattle.mps_text.specs.Text.{block, if_any, kind_letter, bound_words}
 use Rattle.program_rows.specs.Legal.{IsWritable, IsSmall}
 use Rattle.mps_text.proofs.Small.{small_costs, small_entries}
 use Rattle.mps_text.proofs.Lines.{IsField, Printable, IsWritten}
@@ -18,7 +18,7 @@ use Rattle.mps_text.proofs.Numbers.{IsField-signed_decimal}
 use Rattle.mps_text.proofs.Listing.{row_names, at-name}
 use Rattle.std.specs.Fmt.{signed_decimal}
 use Rattle.program_rows.specs.ProgramNames.{row_name}
-use Rattle.mps_text.proofs.Fields.{row_fields, right_side_fields, bound_fields}
+use Rattle.mps_text.proofs.Fields.{row_fields, right_side_fields, bound_fields, column_fields}
 
 printables : (bytes : List ℕ) → list_all (λ b. nat_le 33 b && nat_le b 126) bytes ≡ true → AllByRecursion Printable bytes
 printables [] h = tt

@@ -1,5 +1,5 @@
 -- The program that a sound text describes: what its gathered lines say, section by section.
-use Rattle.std.specs.Prelude.{ℕ, ◌%◌, drop, Bool, not, ◌&&◌, List, [], ◌∷◌, ◌++◌, length, map, reverse, ◌==◌, if◌then◌else◌, ℤ, pos, Option, codes, bytes_eq, filter, flat_map, find, unwrap_or, option_map}
+use Rattle.std.specs.Prelude.{ℕ, ◌%◌, drop, Bool, not, ◌||◌, ◌&&◌, List, [], ◌∷◌, ◌++◌, length, map, reverse, ◌==◌, if◌then◌else◌, ℤ, pos, Option, codes, bytes_eq, filter, flat_map, find, unwrap_or, option_map}
 use Rattle.std.specs.List.{list_any, enumerate_from}
 use Rattle.std.specs.Option.{option_map_or}
 use Rattle.std.specs.Result.{result_unwrap_or}
@@ -65,14 +65,15 @@ is_marker fields = bytes_eq (field 1 fields) (codes "'MARKER'")
 abbrev pub column_lines : List LineFields → List LineFields
 column_lines lines = filter (λ fields. not (is_marker fields)) lines
 
--- the first fields, each once, in the order of the text
-abbrev pub each_once : List LineFields → List (List ℕ)
-each_once [] = []
-each_once (fields ∷ before) = if list_any (λ other. bytes_eq (field 0 fields) (field 0 other)) before then each_once before else each_once before ++ field 0 fields ∷ []
+-- whether a line that is no marker has the name
+abbrev pub is_column : List LineFields → List ℕ → Bool
+is_column lines name = list_any (λ fields. bytes_eq name (field 0 fields)) (column_lines lines)
 
 -- the columns, in the order in which the text names them first
 abbrev pub columns_named : List LineFields → List (List ℕ)
-columns_named lines = each_once (column_lines lines)
+columns_named [] = []
+columns_named (fields ∷ before) =
+    if is_marker fields || is_column before (field 0 fields) then columns_named before else columns_named before ++ field 0 fields ∷ []
 
 -- the pairs that the lines give a column, the last line first
 abbrev pub column_pairs : List LineFields → List ℕ → List (List ℕ × List ℕ)
@@ -108,7 +109,8 @@ table_column s name = record {
   name = name;
   bounds = if int_eq (lower s.bounds name) (pos 1) then One else (if int_eq (unwrap_or (upper s.bounds name) (pos 1)) (pos 0) then Zero else ZeroOrOne);
   cost = number_beside (column_pairs s.columns name) (unwrap_or (first_free s.rows) []);
-  entries = filter (λ e. not (int_eq e.1 (pos 0))) (map (λ r. (r.0, number_beside (column_pairs s.columns name) r.1.name)) (enumerate_from 0 (table_rows s.rows (flat_map line_right_sides s.right_sides))));
+  entries = filter (λ e. not (int_eq e.1 (pos 0)))
+      (map (λ r. (r.0, number_beside (column_pairs s.columns name) r.1.name)) (enumerate_from 0 (table_rows s.rows (flat_map line_right_sides s.right_sides))));
 }
 
 -- the objective, the rows and the columns

@@ -8,7 +8,7 @@ use Rattle.program_rows.specs.declared.number.NumberFault.{NumberFault}
 use Rattle.program_rows.specs.declared.number.NumberFault.TheVariants as numbers
 use Rattle.program_rows.specs.Numbers.{number}
 use Rattle.program_rows.specs.Sections.{Sections}
-use Rattle.program_rows.specs.Described.{is_one_of, value, pairs, line_right_sides, first_free, is_marker, column_lines, columns_named, column_pairs, is_binary_bound, bound_pair, lower, upper}
+use Rattle.program_rows.specs.Described.{is_one_of, value, pairs, line_right_sides, first_free, is_marker, is_column, columns_named, column_pairs, is_binary_bound, bound_pair, lower, upper}
 use Rattle.program_rows.specs.declared.fault.FaultKind.{FaultKind}
 use Rattle.program_rows.specs.declared.fault.FaultKind.TheVariants.{NotText, Section, SectionLeftOut, Fields, RowType, RowRepeated, NoObjective, UnknownRow, ColumnSplit, EntryRepeated, NumberText, NotWhole, NumberRange, Marker, UnknownColumn, BoundType, BoundValue, ObjectiveConstant, SenseMax, NotBinary}
 use Rattle.std.specs.Bool.{then_some as when}
@@ -83,10 +83,6 @@ row_fault rows fields = earliest_fault (
 -- 'INTORG' and 'INTEND' take turns
 abbrev pub marker_fault : List LineFields → LineFields → Option FaultKind
 marker_fault columns fields = when (not (length fields == 3 && bytes_eq (field 2 fields) (if is_integer_open columns then codes "'INTEND'" else codes "'INTORG'"))) Marker
-
--- whether a line of COLUMNS has the name
-abbrev pub is_column : List LineFields → List ℕ → Bool
-is_column columns name = list_any (λ fields. bytes_eq name (field 0 fields)) (column_lines columns)
 
 -- the column was named before, and the line before this one names another or is a marker
 abbrev pub is_split : List LineFields → List ℕ → Bool

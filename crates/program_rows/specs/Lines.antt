@@ -21,15 +21,11 @@ is_skipped line = (slice_index line 0 == 35) || (length (fields line) == 0)
 abbrev pub field : ℕ → LineFields → List ℕ
 field n fields = unwrap_or (slice_get fields n) []
 
--- tab and 0x20 to 0x7E
-abbrev pub is_text_byte : ℕ → Bool
-is_text_byte b = (b == 9) || (nat_le 32 b && nat_le b 126)
-
 -- what a line of an MPS text is
 pub data Line : Type 0 where
   -- a comment, or a line of white space alone
   Skipped : Line
-  -- a byte that no text has
+  -- it has a byte that no text has: text is tab and 0x20 to 0x7E
   Unprintable : Line
   -- the word of a header, and its further fields
   Header : (word : List ℕ) (more : List (List ℕ)) → Line
@@ -39,6 +35,6 @@ pub data Line : Type 0 where
 unfoldable pub line_of : List ℕ → Line
 line_of bytes =
     if (slice_index bytes 0 == 42) || (length (fields bytes) == 0) then Skipped
-    else (if not (list_all is_text_byte bytes) then Unprintable
+    else (if not (list_all (λ b. (b == 9) || (nat_le 32 b && nat_le b 126)) bytes) then Unprintable
     else (if is_space (slice_index bytes 0) then Data (fields bytes)
     else Header (field 0 (fields bytes)) (drop 1 (fields bytes))))

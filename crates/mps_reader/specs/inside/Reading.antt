@@ -1,5 +1,5 @@
 -- What the code holds and answers, as lines and faults of the definitions.
-use Rattle.std.specs.Prelude.{◌≡◌, ℕ, ◌≤◌, Bool, not, ◌||◌, ◌&&◌, nat_le, List, length, take, Option, Some, None, Result, Ok, Err, pos, drop}
+use Rattle.std.specs.Prelude.{◌≡◌, ℕ, ◌≤◌, Bool, not, ◌||◌, ◌&&◌, nat_le, List, length, take, Option, Some, None, Result, Ok, Err, pos, drop, ◌==◌}
 use Rattle.std.specs.List.{AllByRecursion}
 use Rattle.std.specs.Ordering.{int_eq}
 use Rattle.program_rows.specs.Lines as spec
@@ -21,6 +21,10 @@ use Rattle.std.specs.Option.{option_or}
 -- a byte that is no white space
 abbrev pub is_other : ℕ → Bool
 is_other b = not (is_space b)
+
+-- tab and 0x20 to 0x7E
+abbrev pub is_text_byte : ℕ → Bool
+is_text_byte b = (b == 9) || (nat_le 32 b && nat_le b 126)
 
 -- a byte that ends a field: white space, or one that no text has
 abbrev pub is_behind : ℕ → Bool

@@ -3,8 +3,7 @@ use Rattle.std.specs.Prelude.{bytes_eq, codes, Err, slice_get, length, if◌then
 use Rattle.std.specs.List.{list_any}
 use Rattle.program_rows.specs.declared.fault.FaultKind.TheVariants.{UnknownColumn}
 use Rattle.program_rows.specs.Lines.{field}
-use Rattle.program_rows.specs.Described.{value, is_binary_bound, bound_pair}
-use Rattle.program_rows.specs.Faults.{is_column}
+use Rattle.program_rows.specs.Described.{value, is_binary_bound, bound_pair, is_column}
 use Rattle.auction_terms.specs.Borrowed.{bytes_of}
 use Rattle.mps_reader.specs.inside.Rows.{names_of}
 use Rattle.mps_reader.specs.inside.Tracking.{state_values, told_values, bounded_values}

@@ -6,7 +6,7 @@ use Rattle.program_rows.specs.Faults.{place_of}
 use Rattle.auction_terms.specs.Borrowed.{bytes_of}
 use Rattle.mps_reader.specs.inside.Sections.{word_of}
 use Rattle.mps_reader.proofs.SectionWords.{named}
-use Rattle.mps_reader.proofs.HeaderCases.{header-place, header-rest}
+use Rattle.mps_reader.proofs.HeaderCases.{header-place, header-rest, header-lacks}
 use Rattle.mps_reader.proofs.headers.take_header.Goals as goal
 
 pub returns-then-place-clause-fault : goal.returns-then-place-clause-fault
@@ -15,6 +15,15 @@ returns-then-place-clause-fault c = λ before s o.
     let there : place_of c.args.word.now ≡ c.place-2.result = sym (named c.args.word.now).place ∙ ap (λ x. place_of (word_of x)) (sym c.section_of-section.ensures) ∙ sym c.place-2.ensures in
     let low : nat_lt (place_of before.section) (place_of c.args.word.now) ≡ false = ap (λ n. nat_lt n (place_of c.args.word.now)) here ∙ ap (nat_lt c.place.result) there ∙ le-ltb _ _ c.if-place.true in
     header-place before c.args.word.now (bytes_of c.args.more.now) (sym c.is_left_out.ensures ∙ c.if-is_left_out.false) low
+
+pub returns-then-lacks_objective-clause-fault : goal.returns-then-lacks_objective-clause-fault
+returns-then-lacks_objective-clause-fault c = λ before s o.
+    let here : place_of before.section ≡ c.place.result = ap place_of s ∙ sym c.place.ensures in
+    let there : place_of c.args.word.now ≡ c.place-2.result = sym (named c.args.word.now).place ∙ ap (λ x. place_of (word_of x)) (sym c.section_of-section.ensures) ∙ sym c.place-2.ensures in
+    let high : nat_lt (place_of before.section) (place_of c.args.word.now) ≡ true = ap (λ n. nat_lt n (place_of c.args.word.now)) here ∙ ap (nat_lt c.place.result) there ∙ lt-ltb _ _ c.if-place.false in
+    header-lacks before c.args.word.now (bytes_of c.args.more.now) (sym c.is_left_out.ensures ∙ c.if-is_left_out.false) high
+    (sym c.has_more.ensures ∙ c.if-has_more.false) c.in_ok-take_header_sense.ensures
+    (ap (λ b. is_one_of c.args.word.now (codes "COLUMNS" ∷ codes "RHS" ∷ codes "BOUNDS" ∷ codes "ENDATA" ∷ []) && b) o ∙ sym c.lacks_objective.ensures ∙ c.if-lacks_objective.true)
 
 pub returns-clause-fault : goal.returns-clause-fault
 returns-clause-fault c = λ before s o.
