@@ -83,7 +83,7 @@ EndsChecks bounds r = Refuses (each_in_turn shown 1 bounds) r ⊎ IsTooWide boun
 
 refusal-at : (bounds : List Bound) (before : ℕ) (line : ℕ) (k : FaultKind) → Stops 1 bounds before (record { line = line; kind = k }) → EndsChecks bounds (refusal.Certificate (before + 1) (record { line = line; kind = k }))
 refusal-at bounds before line k (by_memory memory) = inl (inr (rw memory refl))
-refusal-at bounds before line k (by_width large few all) = inr (record { before = before; line = line; all = replicate before tt; few = few; shown_are = all; refusal_is = rw large refl })
+refusal-at bounds before line k (by_width large few all) = inr (before, line, few, (replicate before tt, all), rw large refl)
 refusal-at bounds before line k (by_fault told) =
     let count : 1 + before ≡ before + 1 = omega arith in
     inl (inl (rw count at told))

@@ -28,13 +28,10 @@ pub data Ends (told : Result (List ℕ) Refusal) (taken taken' : Option (List �
   by_put : {written : ℕ} → (out : List ℕ) → told ≡ Ok out → SentFront taken taken' out written → HasFailed failures failures' → Ends told taken taken' failures failures' (refusal.Write (write.Sink written))
 
 -- behind some certificates that show what they are to comes one that can't be judged, since a sum may leave 128 bits
-pub record IsTooWide (bounds : List (Table × ℤ × List ℕ)) (r : Refusal) : Type 0 where
-  pub before : ℕ
-  pub line : ℕ
-  pub all : List (Unit {0})
-  pub few : before < length bounds
-  pub shown_are : each_in_turn shown 1 (take before bounds) ≡ Ok all
-  pub refusal_is : r ≡ refusal.Certificate (before + 1) (record { line = line; kind = certificate.TooLarge })
+abbrev pub IsTooWide : List (Table × ℤ × List ℕ) → Refusal → Type 0
+IsTooWide bounds r =
+    (before : ℕ) × (line : ℕ) × (before < length bounds) × ((all : List (Unit {0})) × (each_in_turn shown 1 (take before bounds) ≡ Ok all))
+    × (r ≡ refusal.Certificate (before + 1) (record { line = line; kind = certificate.TooLarge }))
 
 -- `verify` alone adds up in 128 bits: the same of the certificates of an auction that the input tells, behind solutions that are taken
 abbrev pub MeetsLimit : Request → List ℕ → Refusal → Type 0

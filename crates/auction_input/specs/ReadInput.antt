@@ -7,10 +7,8 @@ use Rattle.auction_input.specs.declared.input.TheConstants.{INPUT_LIMIT}
 use Rattle.mps_text.specs.Sinks.{HasFailed}
 
 -- the input was read to its end, and is within the limit
-pub record IsWhole (left left' : Option (List ℕ)) (input : List ℕ) : Type 0 where
-  pub few : length input ≤ INPUT_LIMIT
-  pub read : Consumes left left' input
-  pub ended : IsAtEnd left'
+abbrev pub IsWhole : Option (List ℕ) → Option (List ℕ) → List ℕ → Type 0
+IsWhole left left' input = (length input ≤ INPUT_LIMIT) × Consumes left left' input × IsAtEnd left'
 
 -- what was read of an input that isn't taken: of one that is too large, one byte above the limit; where a read failed, which the counts of failed reads before and after tell, at most as much
 abbrev pub IsUntaken : InputFault → Option (List ℕ) → Option (List ℕ) → ℕ → ℕ → Type 0

@@ -7,7 +7,7 @@ ghost use Rattle.auction_input.specs.Refused.{Refuses};
 ghost use Rattle.auction_input.specs.inside.InputTexts.{AreAdded, IsAnswer, IsFirstErr};
 ghost use Rattle.auction_terms.specs.Borrowed.{bytes_of};
 ghost use Rattle.auction_input.specs.PartsTold.{only_text};
-ghost use Rattle.auction_input.specs.Plan.{groups_taken, miscounted, takes_solutions};
+ghost use Rattle.auction_input.specs.Plan.{miscounted, parts_taken};
 ghost use Rattle.auction_input.specs.inside.TextsTold.{HaveMore, more_told};
 ghost use Rattle.auction_input.specs.TextsTold.{form_told};
 ghost use Rattle.auction_terms.specs.Stages.{each_in_turn};
@@ -21,24 +21,15 @@ use rayon::prelude::*;
 use std::alloc::{AllocError, Global};
 use std::thread::{Threads, join};
 
-/// How many parts of groups a command takes.
-pub fn groups_taken(request: &Request) -> usize
-    ensures { result ≡ groups_taken request.now }
+// How many parts of groups a command takes, and of solutions. Whether there is one for each group is tested once these are read.
+fn parts_taken(request: &Request) -> (usize, Option<usize>)
+    ensures { result ≡ parts_taken request.now }
 {
     match request {
-        Request::Text => 0,
-        _ => 1,
-    }
-}
-
-/// Whether a command takes so many solutions. Whether there is one for each group is tested once the groups are read.
-pub fn takes_solutions(request: &Request, count: usize) -> bool
-    ensures { result ≡ takes_solutions request.now count }
-{
-    match request {
-        Request::Map { group: _ } => count == 1,
-        Request::Report { workers: _ } | Request::Verify { workers: _ } => true,
-        _ => count == 0,
+        Request::Text => (0, Some(0)),
+        Request::Map { group: _ } => (1, Some(1)),
+        Request::Report { workers: _ } | Request::Verify { workers: _ } => (1, None),
+        _ => (1, Some(0)),
     }
 }
 
@@ -47,16 +38,17 @@ pub fn miscounted(request: &Request, parts: &Parts<'_>) -> Option<CountedPart>
     ensures { result ≡ miscounted request.now (length parts.now.rules.items)
         (length parts.now.groups.items) (length parts.now.solutions.items) }
 {
+    let (groups, solutions) = parts_taken(request);
     if parts.rules.len() != 1 {
         return Some(CountedPart::Rules);
     }
-    if parts.groups.len() != groups_taken(request) {
+    if parts.groups.len() != groups {
         return Some(CountedPart::Groups);
     }
-    if takes_solutions(request, parts.solutions.len()) {
-        return None;
+    match solutions {
+        Some(count) if parts.solutions.len() != count => Some(CountedPart::Solutions),
+        _ => None,
     }
-    Some(CountedPart::Solutions)
 }
 
 /// The text of the one part of a kind; where there is none, no text.
