@@ -151,7 +151,8 @@ fn take_entries<'t>(
         (λ row. list_any (λ other. bytes_eq row other.0)
         (pairs (drop 1 (bytes_of fields.now)) ++ earlier))) }
     ensures low { OnOk result (AreStampsUpTo stamp rows.old → AreStampsUpTo stamp rows.new) }
-    ensures tells { OnOk result (PairsFit stamp rows.old column.old → (earlier : List (List ℕ × List ℕ))
+    ensures tells { OnOk result (PairsFit stamp rows.old column.old
+        → (earlier : List (List ℕ × List ℕ))
         → StampsAre rows.old.stamps.items stamp (names_of rows.old.names)
         (λ row. list_any (λ other. bytes_eq row other.0) earlier)
         → OpenTells (option_now rows.old.objective) (declared_row_names rows.old.rows.items)

@@ -88,7 +88,9 @@ pub fn take_header(
     ensures fault { (before : Sections) → before.section ≡ word_of opened
         → is_none (first_free before.rows) ≡ not has_objective
         → AnswersUpTo result (header_fault before word.now (bytes_of more.now))
-        (if bytes_eq word.now (codes "ENDATA") then option_map NotBinary (position (λ column. not (is_binary before column)) (columns_named before.columns)) else None) }
+        (if bytes_eq word.now (codes "ENDATA") then option_map NotBinary
+        (position (λ column. not (is_binary before column)) (columns_named before.columns))
+        else None) }
     ensures objective { OnOk result (bytes_eq word.now (codes "ENDATA") ≡ true
         → has_objective ≡ true) }
     ensures opened { IfOk result (λ section. word_of section ≡ word.now) }

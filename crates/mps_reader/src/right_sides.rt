@@ -134,7 +134,8 @@ pub fn take_right_side_line<'t>(
         → ((name : List ℕ) → option_map_or (bytes_eq name) (first_free before.rows) false
         ≡ option_map_or (λ other. bytes_eq name other.now) rows.old.objective false)
         → StampsAre rows.old.stamps.items stamp (names_of rows.old.names)
-        (λ row. list_any (λ other. bytes_eq row other.0) (flat_map line_right_sides before.right_sides))
+        (λ row. list_any (λ other. bytes_eq row other.0)
+        (flat_map line_right_sides before.right_sides))
         → AnswersFault result (right_side_fault before (bytes_of fields.now)) }
     ensures stamps { OnOk result ((rights : List LineFields)
         → StampsAre rows.old.stamps.items stamp (names_of rows.old.names)

@@ -70,7 +70,8 @@ pub fn take_row<'t>(rows: &mut Rows<'t>, fields: &[&'t [u8]]) -> Result<(), Refu
     requires names { AllByRecursion IsName (bytes_of fields.now) }
     ensures fault { AnswersFault result (earliest_fault
         (when (not (length (bytes_of fields.now) == 2)) Fields
-        ∷ when (not (is_one_of (field 0 (bytes_of fields.now)) (codes "N" ∷ codes "L" ∷ codes "G" ∷ codes "E" ∷ []))) RowType
+        ∷ when (not (is_one_of (field 0 (bytes_of fields.now))
+        (codes "N" ∷ codes "L" ∷ codes "G" ∷ codes "E" ∷ []))) RowType
         ∷ when (list_any (bytes_eq (field 1 (bytes_of fields.now))) (names_of rows.old.names))
         RowRepeated ∷ [])) }
     ensures fit { OnOk result (RowsFit rows.new) }

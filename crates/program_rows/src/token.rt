@@ -148,7 +148,8 @@ fn value_of(front: &[u8], back: &[u8]) -> u128
 }
 
 fn is_exponent(is_marked: bool, digits: &[u8]) -> bool
-    ensures { result ≡ (not is_marked || (nat_lt 0 (length digits.now) && list_all is_ascii_digit digits.now)) }
+    ensures { result ≡ (not is_marked || (nat_lt 0 (length digits.now)
+        && list_all is_ascii_digit digits.now)) }
 {
     if !is_marked {
         return true;
