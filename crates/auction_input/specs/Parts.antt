@@ -1,5 +1,5 @@
 -- The parts of the input. A line that begins with a percent sign heads a part, whose bytes run up to the next such line.
-use Rattle.std.specs.Prelude.{◌≡◌, ◌==◌, ◌+◌, ◌++◌, Bool, true, false, ⊤, ℕ, List, [], ◌∷◌, Option, None, Some, Result, Ok, Err, codes, filter, if◌then◌else◌, length, map, slice_index_or}
+use Rattle.std.specs.Prelude.{◌≡◌, ◌==◌, ◌+◌, ◌++◌, Bool, false, ⊤, ℕ, List, [], ◌∷◌, Option, None, Some, Result, Ok, Err, codes, filter, if◌then◌else◌, length, map, slice_index_or}
 use Rattle.std.specs.List.{list_any}
 use Rattle.std.specs.Str.{bytes_eq}
 use Rattle.auction_input.specs.declared.parts.PartFault.TheVariants as fault
