@@ -1,5 +1,5 @@
 -- The auction that an input tells is within the limits.
-use Rattle.std.proofs.Common.{◌≡◌, ℕ, List, Ok, refl, subst}
+use Rattle.std.proofs.Common.{◌≡◌, ℕ, List, Ok, subst}
 use Rattle.auction_terms.specs.Limits.{IsBook, IsLots}
 use Rattle.auction_input.specs.Auction.{Auction, auction_told}
 use Rattle.auction_input.specs.BookLeft.{sale_left}

@@ -1,5 +1,5 @@
 -- What a run is refused for.
-use Rattle.std.specs.Prelude.{◌≡◌, ◌⊎◌, List, Result, Err, codes}
+use Rattle.std.specs.Prelude.{◌≡◌, ◌⊎◌, Result, Err, codes}
 use Rattle.auction_input.specs.Line.{refusal_text}
 use Rattle.auction_input.specs.declared.refusal.Refusal.{Refusal}
 

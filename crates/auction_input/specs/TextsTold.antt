@@ -1,6 +1,5 @@
 -- What the texts of rules, forms and groups tell, their sizes included, or which refusal is the first.
 use Rattle.std.specs.Prelude.{ℕ, List, Result, Err, if◌then◌else◌, length, nat_lt}
-use Rattle.auction_input.specs.PartsTold.{only_text}
 use Rattle.auction_input.specs.declared.refusal.Refusal.TheVariants as refusal
 use Rattle.auction_input.specs.declared.refusal.Refusal.{Refusal}
 use Rattle.auction_terms.specs.GroupsText.{groups_of}

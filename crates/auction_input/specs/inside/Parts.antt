@@ -1,5 +1,5 @@
 -- The parts of the input, by their kinds, as the code sorts them.
-use Rattle.std.specs.Prelude.{◌≡◌, ◌++◌, ℕ, List, [], ◌∷◌, Option, None, Some, codes, if◌then◌else◌, slice_index_or}
+use Rattle.std.specs.Prelude.{◌++◌, ℕ, List, [], ◌∷◌, Option, None, Some, codes, if◌then◌else◌, slice_index_or}
 use Rattle.std.specs.Str.{bytes_eq}
 use Rattle.auction_input.specs.declared.part_kind.PartKind.TheVariants as kind
 use Rattle.auction_input.specs.declared.part_kind.PartKind.{PartKind}

@@ -1,4 +1,4 @@
-use Rattle.std.proofs.Common.{◌≡◌, ◌≤◌, ◌<◌, ◌+◌, ◌++◌, ◌∷◌, ◌∙◌, [], ℕ, List, Some, None, ap, arith, drop, length, refl, slice_index_or, subst, sym, take}
+use Rattle.std.proofs.Common.{◌≡◌, ◌≤◌, ◌<◌, ◌+◌, ◌++◌, ◌∷◌, ◌∙◌, [], ℕ, List, Some, ap, arith, drop, length, refl, slice_index_or, subst, sym, take}
 use Rattle.std.specs.Prelude.{slice_set}
 use Rattle.std.proofs.lemmas.List.{drop_all, drop_more, get_or-replicate, length-set, length-take-le, take_more}
 use Rattle.auction_terms.proofs.FirstFaultFacts.{CheckedSoFar, checked-all, checked-fault, checked-more}
