@@ -10,4 +10,5 @@ pub mod Runs
 pub mod Sizes
 pub mod Verified
 pub mod SolutionWinners
+pub mod commands
 pub mod inside
