@@ -18,9 +18,9 @@ use Rattle.outcome.specs.Report.{allocation_text, in_turn}
 use Rattle.outcome.specs.Sale.{sale_of}
 use Rattle.program_rows.specs.Program.{Table}
 use Rattle.auction_input.specs.Auction.{Auction, auction_told}
-use Rattle.auction_input.specs.Refused.{Refuses, Refusal, Refused}
+use Rattle.auction_input.specs.Refused.{Refuses}
 use Rattle.auction_input.specs.Settled.{RefusesAuction, held, IsUnsettled}
-use Rattle.answers.specs.Exact.{Ends, IsLeftOpen, Writes, by_put, by_refusal, MeetsLimit}
+use Rattle.answers.specs.Exact.{Ends, Writes, by_put, by_refusal, MeetsLimit}
 use Rattle.answers.specs.GroupTexts.{EndsIn, program_bytes, programs_bytes, program_text}
 use Rattle.answers.specs.Answer.{output_of}
 use Rattle.auction_input.specs.declared.refusal.Refusal.{Refusal}

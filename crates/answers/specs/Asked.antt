@@ -1,5 +1,5 @@
 -- What the words on the command line ask for.
-use Rattle.std.specs.Prelude.{◌≡◌, ◌⊎◌, ℕ, List, [], ◌∷◌, Option, None, Some, true, codes, fold, if◌then◌else◌}
+use Rattle.std.specs.Prelude.{◌≡◌, ◌⊎◌, ℕ, List, [], ◌∷◌, Option, None, Some, Result, Ok, Err, true, codes, fold, if◌then◌else◌}
 use Rattle.std.specs.Option.{option_map_or}
 use Rattle.std.specs.Str.{bytes_eq}
 use Rattle.std.specs.Str.Parse.{digits_value, without_leading_plus}
@@ -8,7 +8,7 @@ use Rattle.auction_input.specs.declared.request.Request.{Request}
 use Rattle.auction_terms.specs.declared.limits.TheConstants.{MOST_GROUPS}
 use Rattle.clap.specs.Simple.{on_top}
 use Rattle.clap.specs.ValueTests.{is_unsigned_in}
-use Rattle.clap.specs.Words.{App, IsAmong, Row, Rule, Text, fault_of, first_of, new_app, new_rule, subcommand_of, with_rule, with_subcommand}
+use Rattle.clap.specs.Words.{App, IsAmong, Kinds, Row, Rule, Text, fault_of, first_of, new_app, new_rule, subcommand_of, with_rule, with_subcommand}
 use Rattle.clap.specs.declared.builder.value_parser.ValueParser.TheVariants as parser
 use Rattle.clap.specs.declared.error.kind.ErrorKind.TheVariants as kind
 use Rattle.clap.specs.declared.error.kind.ErrorKind.{ErrorKind}
@@ -47,9 +47,14 @@ named (Some (name, rows)) =
     else if bytes_eq name (codes "verify") then request.Verify (option_number (codes "workers") MOST_WORKERS rows)
     else request.Text
 
--- words without a fault that ask for this
-abbrev pub AskFor : List Text → Request → Type 0
-AskFor words request = (fault_of wdp words ≡ []) × (request ≡ named (subcommand_of wdp words))
+-- what is asked for, unless the words have a fault, which is of one of these kinds
+abbrev pub asked_unless : Kinds → Request → Result Request Kinds
+asked_unless [] asked = Ok asked
+asked_unless (first ∷ more) asked = Err (first ∷ more)
+
+-- the request that words ask for, or the kinds of their faults, among them that of help
+abbrev pub asked : List Text → Result Request Kinds
+asked words = asked_unless (fault_of wdp words) (named (subcommand_of wdp words))
 
 -- words with a fault that is shown on the output: help, or the version
 abbrev pub IsShown : ErrorKind → Type 0

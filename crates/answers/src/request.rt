@@ -1,11 +1,11 @@
 //! What the words ask for.
 
-ghost use Rattle.std.specs.Prelude.{◌≡◌, ◌≤◌, IfOk, codes, false, if◌then◌else◌, map, true};
+ghost use Rattle.std.specs.Prelude.{◌≡◌, ◌≤◌, IfOk, Ok, codes, false, if◌then◌else◌, map, true};
 ghost use Rattle.std.specs.Str.Parse.{digits_value, without_leading_plus};
 ghost use Rattle.clap.specs.Simple.{on_top};
 ghost use Rattle.clap.specs.ValueTests.{is_unsigned_in};
 ghost use Rattle.clap.specs.Words.{FailsBy, IsPlainArg, app_of, fault_of, found_of, new_app, rows_of, rule_of, subcommand_of, subcommand_rows_of, with_rule};
-ghost use Rattle.answers.specs.Asked.{AskFor, group, named, option_number, wdp, workers};
+ghost use Rattle.answers.specs.Asked.{asked, group, named, option_number, wdp, workers};
 ghost use Rattle.answers.specs.Requests.{IsRequestWithinLimits};
 
 use auction_input::Request;
@@ -175,7 +175,8 @@ fn matches_of<'a>(alloc: Global, words: &'a [&'a str]) -> Result<ArgMatches<'a>,
 
 /// The request of the words, the program's own name first.
 pub fn request_of<'a>(alloc: Global, words: &'a [&'a str]) -> Result<Request, Error>
-    ensures request { IfOk result (AskFor (map (λ word. word.now) words.entry.now)) }
+    ensures request { IfOk result (λ request. asked (map (λ word. word.now) words.entry.now)
+        ≡ Ok request) }
     ensures faults { FailsBy (fault_of wdp (map (λ word. word.now) words.entry.now)) result }
     ensures limits { IfOk result IsRequestWithinLimits }
 {

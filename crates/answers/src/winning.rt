@@ -8,7 +8,7 @@ ghost use Rattle.auction_terms.specs.Terms.{lots_in};
 ghost use Rattle.bid_desk.specs.Closing.{book_of};
 ghost use Rattle.group_compiler.specs.Compiled.{program_without};
 ghost use Rattle.program_rows.specs.Faithful.{IsFaithful};
-ghost use Rattle.auction_input.specs.Refused.{Refuses, refused};
+ghost use Rattle.auction_input.specs.Refused.{Refuses};
 ghost use Rattle.answers.specs.SolutionWinners.{solution_refused, winners_by};
 ghost use Rattle.program_rows.specs.ProgramNames.{row_name};
 
