@@ -23,6 +23,14 @@ four_fields : answer Text (codes "%rules\nrules,1,1,,\ncategory,A,2,10\ncategory
 unfolding csv_on_literals field_at first_fault
 four_fields = refl
 
+unknown_version : answer Text (codes "%rules\nrules,7,1,,\ncategory,A,2,10,1\ncategory,B,1,5,1\nbidder,Alpha,9,2,\nbidder,Beta,9,1,\nbidder,Gamma,9,1,\n") ≡ Err (refusal.Rules (rules_fault.Header 1))
+unfolding csv_on_literals field_at first_fault
+unknown_version = refl
+
+two_bidders_of_one_name : answer Text (codes "%rules\nrules,1,1,,\ncategory,A,2,10,1\ncategory,B,1,5,1\nbidder,Alpha,9,2,\nbidder,Alpha,9,1,\nbidder,Gamma,9,1,\n") ≡ Err (refusal.Rules (rules_fault.NameRepeated 5))
+unfolding csv_on_literals field_at first_fault
+two_bidders_of_one_name = refl
+
 below_reserve : answer Text (codes "%rules\nrules,1,1,,\ncategory,A,2,10,1\ncategory,B,1,5,1\nbidder,Alpha,9,2,\nbidder,Beta,9,1,\nbidder,Gamma,9,1,\n%form\nAlpha,A,B\n14,1,1\n") ≡ Err (refusal.Form 1 (form_fault.BelowReserve 2))
 unfolding csv_on_literals field_at first_fault
 below_reserve = refl
