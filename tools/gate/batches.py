@@ -1,0 +1,270 @@
+"""Edits that must fail, tried many at a time.
+
+A proof goes by the contracts of what a function calls, so a wrong body opens goals of its own function alone. A batch has at
+most one edit of each function, in one check of these functions and of those that they call, which tells which goals of each
+are open. An edit is refused where its own function has an open goal of a promise: what it ensures, an invariant, or what a
+callee requires. Where a function without an edit has an open goal, a batch tells nothing, and its halves are tried. What a
+batch doesn't tell, as of a function whose callee has an edit too, is tried with the next one, and at last alone.
+"""
+import os
+import re
+import tempfile
+import time
+from dataclasses import dataclass, field
+
+from gate.sources import functions_of
+
+SAID = re.compile(r"^fn (\S+): (.*)$", re.M)
+GOALS = re.compile(r"`search` did not prove ((?:`[^`]+`(?:, | and )?)+)")
+# (an answer that no longer holds: its place below proofs/, and the goal)
+ANSWER = re.compile(r"^(?:\./)?proofs/(\S+)/(?:Answers|Invariants|Proof)\.antt:\d+:\d+: error: `([^`]+)`", re.M)
+# What a goal is of, by its name: `returns-in-Some-clause-answer`, `loop-row-preserved`, `push-requires`, `invariant_of-result`.
+PROMISES = re.compile(r"^(returns|loop-|invariant_of|decreases)|-requires(-|$)")
+
+
+@dataclass
+class Edit:
+    path: str
+    pairs: list
+    # the function in whose body its first old text stands, as the file, its place among the file's functions, and itself
+    place: tuple = None
+    function: object = None
+    # whether all that it changes stands there
+    is_in_one_body: bool = False
+
+
+@dataclass
+class Told:
+    """What a check says of a function: whether it came to an answer, and which of the function's own goals are open."""
+    is_answered: bool
+    goals: list = field(default_factory=list)
+
+
+def read(path):
+    with open(path, encoding="utf-8") as file:
+        return file.read()
+
+
+def pairs_of(text):
+    """The replacements of an edit: file, old text, new text."""
+    pairs, file, old = [], None, None
+    for line in text.split("\n"):
+        if line.startswith("file: "):
+            file = line[len("file: "):].strip()
+        elif line.startswith("old: "):
+            old = line[len("old: "):]
+        elif line.startswith("new:"):
+            pairs.append((file, old, line[len("new:"):].removeprefix(" ")))
+    return pairs
+
+
+def place_of(file, old, folder):
+    """The function in whose body a text stands, by file and place among the file's functions, and itself."""
+    source = read(os.path.join(folder, file)) if file.endswith(".rt") else ""
+    at = source.find(old)
+    first, last = (source.count("\n", 0, place) + 1 for place in (at + len(old) - len(old.lstrip()), at + len(old)))
+    inside = [(n, it) for n, it in enumerate(functions_of(source)) if it.has_in_body(first, last)]
+    return ((file, inside[-1][0]), inside[-1][1]) if at >= 0 and inside else (None, None)
+
+
+def edit_of(path, folder):
+    """An edit, and the function that it edits, if there is one."""
+    edit = Edit(path, pairs_of(read(path)))
+    if edit.pairs and all(os.path.isfile(os.path.join(folder, file)) for file, _, _ in edit.pairs):
+        edit.place, edit.function = place_of(*edit.pairs[0][:2], folder)
+        # (a later pair's old text may stand in what an earlier one made)
+        later = [place_of(file, old, folder)[0] for file, old, _ in edit.pairs[1:]
+                 if old in read(os.path.join(folder, file))]
+        edit.is_in_one_body = edit.place is not None and all(place == edit.place for place in later)
+    return edit
+
+
+def applied(edit, folder, texts):
+    """The texts with the edit applied to them, or None where an old text doesn't stand there once."""
+    changed = dict(texts)
+    for file, old, new in edit.pairs:
+        text = changed[file] if file in changed else read(os.path.join(folder, file))
+        if text.count(old) != 1:
+            return None
+        changed[file] = text.replace(old, new)
+    return changed
+
+
+def is_of(function, module, name):
+    """Whether the check's name of a function, behind the crate's, is this function's: `lines::LineReader::next`, and with its
+    trait and the trait's parameters `rules_text::RulesFaultFromAllocError::from`. Where a type's functions stand apart from
+    it, the name has the module of the type, and `module` is None."""
+    parts = name.split("::")
+    owner = parts[-2] if function.owner and len(parts) > 1 else ""
+    if parts[-1] != function.name or not owner.startswith(function.owner) or "fn" in parts:
+        return False
+    return parts[: len(parts) - (2 if function.owner else 1)] == module if module is not None else bool(function.owner)
+
+
+def module_of(file):
+    parts = file[len("src/"):-len(".rt")].split("/")
+    return [] if parts in (["lib"], ["main"]) else parts
+
+
+def goals_in(said):
+    """What a check says of each function, by its name behind the crate's."""
+    told = {}
+    for name, status in SAID.findall(said):
+        goals = [goal for found in GOALS.findall(status) for goal in re.findall(r"`([^`]+)`", found)]
+        told[name.partition("::")[2]] = Told(status.startswith(("proved", "no proof", "not proved")), goals)
+    for place, goal in ANSWER.findall(said):
+        name = place.replace("/", "::")
+        if name in told:
+            told[name].goals.append(goal)
+    return told
+
+
+def told_of(goal):
+    """What an open goal is of, in words, and its name."""
+    if "-clause-" in goal:
+        what = "clause " + goal.rpartition("-clause-")[2]
+    elif goal.startswith("loop-"):
+        what = "the invariant of a loop"
+    elif goal.startswith("invariant_of"):
+        what = "the invariant of a type"
+    else:
+        what = "what a callee requires" if "requires" in goal else "what it ensures"
+    return "%s (goal `%s`)" % (what, goal)
+
+
+def batch_of(edits):
+    """The next batch: at most one edit of each function."""
+    batch = {}
+    for edit in edits:
+        batch.setdefault(edit.place, edit)
+    return list(batch.values())
+
+
+def is_within(name, function):
+    """Whether a name is the function's, or that of a closure in it: `module::fn::name::any` in `module::name`."""
+    bare = "::".join(part for part in name.split("::") if part != "fn")
+    return name == function or bare.startswith(function + "::")
+
+
+def goals_within(function, told):
+    """The open goals of a function, and of the closures in it."""
+    return [goal for name, it in told.items() if function and is_within(name, function) for goal in it.goals]
+
+
+class Trial:
+    """The trial of a crate's edits. `check(texts, functions)` is what a check of the crate says with these texts in place of its
+    own, of these functions and what they call, or of all where none is named; `fault_of(path)` says why an edit can't be
+    applied, or nothing."""
+
+    def __init__(self, crate, folder, edits, check, fault_of):
+        self.crate, self.folder, self.check, self.fault_of = crate, folder, check, fault_of
+        self.edits = [edit_of(path, folder) for path in edits]
+        self.answers, self.checks, self.tried_alone = {}, 0, 0
+
+    def name_of(self, edit, told):
+        """The check's name of an edit's function, where it has just one."""
+        file, place = edit.place
+        names = ([name for name in told if is_of(edit.function, module_of(file), name)]
+                 or [name for name in told if is_of(edit.function, None, name)])
+        if len(names) > 1:
+            # impls of one trait at several types, in their order
+            functions = functions_of(read(os.path.join(self.folder, file)))
+            alike = [n for n, it in enumerate(functions) if (it.name, it.owner) == (edit.function.name, edit.function.owner)]
+            names = [names[alike.index(place)]] if len(alike) == len(names) else []
+        return names[0] if names else None
+
+    def checked(self, texts, edits):
+        """What a check says of the functions of these edits and of those that they call, or of their modules' where a
+        function's name isn't what the toolchain calls it. (A function is called by the end of its name.)"""
+        files = {edit.place[0] for edit in edits}
+        modules = sorted("::".join(module_of(file)) for file in files)
+        names = sorted("::".join([*([edit.function.owner] if edit.function.owner else module_of(edit.place[0])), edit.function.name])
+                       for edit in edits)
+        said = ""
+        for paths in (names, modules if all(modules) else [], []):
+            said = self.check(texts, paths)
+            if SAID.search(said):
+                break
+        return said
+
+    def try_batch(self, batch):
+        """Judges the edits of a batch of which a check says enough. Where another function has an open goal, halves are tried."""
+        texts, tried = {}, []
+        for edit in batch:
+            changed = applied(edit, self.folder, texts)
+            if changed is not None:
+                texts = changed
+                tried.append(edit)
+        if len(tried) < 2:
+            return
+        self.checks += 1
+        told = goals_in(self.checked(texts, tried))
+        functions = {edit.path: self.name_of(edit, told) for edit in tried}
+        named = [name for name in functions.values() if name]
+        if any((it.goals or not it.is_answered) and not any(is_within(name, function) for function in named) for name, it in told.items()):
+            self.try_batch(tried[: len(tried) // 2])
+            self.try_batch(tried[len(tried) // 2:])
+            return
+        for edit in tried:
+            self.judge(edit, functions[edit.path], told)
+
+    def answer(self, edit, is_refused, why):
+        label = "must-fail %s/%s" % (self.crate, os.path.basename(edit.path))
+        self.answers[edit.path] = is_refused, "%s: %s" % (label, why)
+
+    def judge(self, edit, function, told):
+        """Says that an edit is refused, where a check tells so."""
+        promised = [goal for goal in goals_within(function, told) if PROMISES.search(goal)]
+        if promised:
+            more = ", and %d more" % (len(promised) - 1) if len(promised) > 1 else ""
+            self.answer(edit, True, "refused, as it must be, in %s: %s%s" % (function, told_of(promised[0]), more))
+
+    def try_alone(self, edit):
+        """Judges an edit by a check of its own."""
+        self.tried_alone += 1
+        fault = self.fault_of(edit.path)
+        if fault or edit.place is None:
+            return self.answer(edit, False, "BAD EDIT: %s" % (fault or "its first old text stands in no function's body"))
+        said = self.check(applied(edit, self.folder, {}), [])
+        told = goals_in(said)
+        function = self.name_of(edit, told)
+        if function is None:
+            return self.answer(edit, False, "BAD EDIT: the check told nothing of its function: %.300s" % said.strip())
+        self.judge(edit, function, told)
+        if edit.path not in self.answers:
+            others = [name for name, it in told.items() if it.goals and not is_within(name, function)]
+            goals = goals_within(function, told)
+            why = ("only %s isn't shown" % ", ".join(goals) if goals else "%s is still proved" % function
+                   if told[function].is_answered else "the check couldn't tell of %s" % function)
+            self.answer(edit, False, "NOT REFUSED: %s%s" % (why, ", and what breaks is %s" % ", ".join(others) if others else ""))
+
+    def run(self):
+        """Whether each edit is refused, and what to say of it."""
+        left = [edit for edit in self.edits if edit.is_in_one_body]
+        while len(batch := batch_of(left)) > 1:
+            self.try_batch(batch)
+            waiting = [edit for edit in batch if edit.path not in self.answers]
+            if len(waiting) == len(batch):
+                break
+            left = waiting + [edit for edit in left if edit not in batch]
+        for edit in self.edits:
+            if edit.path not in self.answers:
+                self.try_alone(edit)
+        return [self.answers[edit.path] for edit in self.edits]
+
+
+def trial_of(rt):
+    """What takes the place of rt's own trial of a crate's edits, each in turn."""
+    def must_fail_all(crate, edits, flags):
+        with tempfile.TemporaryDirectory(prefix="rt-edits-") as kept:
+            def check(texts, functions):
+                only = [word for name in functions for word in ("--only", name)]
+                return rt.checked(crate, texts, [*flags, *only], kept).stdout
+
+            trial = Trial(crate.name, crate.folder, edits, check, lambda path: rt.read_edit(path, crate.folder)[1])
+            started, answers = time.time(), trial.run()
+        rt.say("%s: %d edits in %d checks, and %d alone, %d s"
+               % (crate.name, len(edits) - trial.tried_alone, trial.checks, trial.tried_alone, time.time() - started))
+        return answers
+
+    return must_fail_all
