@@ -73,32 +73,3 @@ fn a_side_without_points_is_shown_at_scale_0(rt: HostRuntime) -> Result<(), Fail
     assert!(rt; fault(&rt, text, 3)? == None);
     Ok(())
 }
-
-#[test]
-fn the_first_faulty_line_is_told(rt: HostRuntime) -> Result<(), Fail> {
-    for (text, line, kind) in [
-        (b"".as_slice(), 0, FaultKind::NoEnd),
-        (b"split 0 X1 1\n".as_slice(), 1, FaultKind::NoEnd),
-        (
-            b"bound 1 A1 2 A2 2\nbound 1\n".as_slice(),
-            2,
-            FaultKind::Beyond,
-        ),
-        (b"leaf 1\n".as_slice(), 1, FaultKind::Fields),
-        (b"split 0 X1 1\nbound 1\n".as_slice(), 2, FaultKind::Fields),
-        (b"split 0 X1\n".as_slice(), 1, FaultKind::Fields),
-        (b"split 0 A1 1\n".as_slice(), 1, FaultKind::UnknownColumn),
-        (b"bound 1 X1 1\n".as_slice(), 1, FaultKind::UnknownRow),
-        (b"bound one\n".as_slice(), 1, FaultKind::NumberText),
-        (
-            b"bound 1000000000000000000000000000000000000000\n".as_slice(),
-            1,
-            FaultKind::NumberRange,
-        ),
-        (b"bound -1\n".as_slice(), 1, FaultKind::Sign),
-        (b"bound 1 A1 -1\n".as_slice(), 1, FaultKind::Sign),
-    ] {
-        assert!(rt; fault(&rt, text, 1)? == Some((line, kind)));
-    }
-    Ok(())
-}

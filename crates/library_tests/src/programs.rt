@@ -11,12 +11,6 @@ mod refused;
 const TWO_BIDS: &[u8] =
     b"NAME\nROWS\n N OBJ\n L C1\nCOLUMNS\n X256_4000 C1 1\n X01_1 C1 1\nRHS\nBOUNDS\n BV BND X256_4000\n BV BND X01_1\nENDATA\n";
 
-const WITH_VALUES: &[u8] =
-    b"rules,2,1,,,\ncategory,A,2,10,1,40\ncategory,B,1,5,1,0\nbidder,Alpha,9,2,,\n";
-
-const WITH_POOLS: &[u8] =
-    b"rules,3,1,,,\ncategory,A,2,10,1,0\ncategory,B,1,5,1,0\npool,Low,2,,,\nmember,Low,A,1,,\nmember,Low,B,1,,\nbidder,Alpha,9,2,,\n";
-
 #[test]
 fn without_bids_the_categories_have_their_rows(rt: HostRuntime) -> Result<(), Fail> {
     let Ok(rules) = read_rules(rt.alloc(), RULES_OF_ONE) else {
@@ -26,20 +20,6 @@ fn without_bids_the_categories_have_their_rows(rt: HostRuntime) -> Result<(), Fa
     assert_eq!(rt; program.row_count(), 2);
     assert_eq!(rt; program.row_name(1), b"C2".as_slice());
     assert!(rt; same_program(&program, &program));
-    Ok(())
-}
-
-#[test]
-fn lots_with_a_value_have_a_column(rt: HostRuntime) -> Result<(), Fail> {
-    let Ok(rules) = read_rules(rt.alloc(), WITH_VALUES) else {
-        return Err(Fail::from("the rules"));
-    };
-    let program = build(rt.alloc(), &rules, &Kept::new(Vec::new(rt.alloc())))?;
-    assert_eq!(rt; program.row_count(), 2);
-    assert_eq!(rt; program.column_count(), 1);
-    assert_eq!(rt; program.column_name(0), b"K".as_slice());
-    assert_eq!(rt; program.bounds(0), Bounds::One);
-    assert_eq!(rt; program.cost(0), -80);
     Ok(())
 }
 
@@ -54,19 +34,6 @@ fn names_are_found_in_any_order(rt: HostRuntime) -> Result<(), Fail> {
     assert_eq!(rt; place_of(&names, &next, b"X2_1"), Some(2));
     assert_eq!(rt; place_of(&names, &next, b"X1_1"), Some(0));
     assert_eq!(rt; place_of(&names, &next, b"X3_1"), None);
-    Ok(())
-}
-
-#[test]
-fn pools_have_their_rows(rt: HostRuntime) -> Result<(), Fail> {
-    let Ok(rules) = read_rules(rt.alloc(), WITH_POOLS) else {
-        return Err(Fail::from("the rules"));
-    };
-    let program = build(rt.alloc(), &rules, &Kept::new(Vec::new(rt.alloc())))?;
-    assert_eq!(rt; program.row_count(), 3);
-    assert_eq!(rt; program.row_name(2), b"P1".as_slice());
-    assert_eq!(rt; program.right_side(2), 2);
-    assert_eq!(rt; program.column_count(), 0);
     Ok(())
 }
 

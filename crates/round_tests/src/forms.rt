@@ -20,66 +20,6 @@ const FORMS: [(&[u8], u16, usize); 9] = [
     (b"Alpha,A,B\n1000000000000,1,0", 1, 1),
 ];
 
-/// Each text has this as its first fault.
-const FAULTS: [(&[u8], FormFault); 20] = [
-    (b"", FormFault::Header { place: 1 }),
-    (b"Alpha,B,A", FormFault::Header { place: 1 }),
-    (b"Alpha,A\n0,0", FormFault::Header { place: 1 }),
-    (b"Delta,A,B\n0", FormFault::UnknownBidder { place: 1 }),
-    (b"Alpha,A,B\n30,1", FormFault::FieldCount { place: 2 }),
-    (b"Alpha,A,B\n30,1,0,x", FormFault::FieldCount { place: 2 }),
-    (b"Alpha,A,B\n 30,1,0", FormFault::AmountText { place: 2 }),
-    (
-        b"Alpha,A,B\n1000000000000000000,1,0",
-        FormFault::AmountText { place: 2 },
-    ),
-    (b"Alpha,A,B\n0,0,0", FormFault::AmountRange { place: 2 }),
-    (
-        b"Alpha,A,B\n1000000000001,1,0",
-        FormFault::AmountRange { place: 2 },
-    ),
-    (
-        b"Alpha,A,B\n30,10001,x",
-        FormFault::QuantityText { place: 2 },
-    ),
-    (
-        b"Alpha,A,B\n30,10001,0",
-        FormFault::QuantityRange { place: 2 },
-    ),
-    (b"Alpha,A,B\n30,0,0", FormFault::EmptyPackage { place: 2 }),
-    (
-        b"Alpha,A,B\n1,10,0",
-        FormFault::OverEligibility { place: 2 },
-    ),
-    (b"Alpha,A,B\n14,1,1", FormFault::BelowReserve { place: 2 }),
-    (
-        b"Alpha,A,B\n30,1,0\n14,1,1",
-        FormFault::BelowReserve { place: 3 },
-    ),
-    (
-        b"Alpha,A,B\n30,1,0\n31,1,0",
-        FormFault::RepeatedPackage {
-            place: 3,
-            earlier: 1,
-        },
-    ),
-    (
-        b"Alpha,A,B\n30,1,0\n12,0,1\n40,2,0\n13,0,1",
-        FormFault::RepeatedPackage {
-            place: 5,
-            earlier: 2,
-        },
-    ),
-    (
-        b"Alpha,A,B\n9,1,0\n30",
-        FormFault::BelowReserve { place: 2 },
-    ),
-    (
-        b"Alpha,A,B\n30,1,0\n30,1,0,0\n0,0,0",
-        FormFault::FieldCount { place: 3 },
-    ),
-];
-
 #[test]
 fn reads_forms(rt: HostRuntime) -> Result<(), Fail> {
     let rules = read_rules(rt.alloc(), RULES)?;
@@ -89,31 +29,6 @@ fn reads_forms(rt: HostRuntime) -> Result<(), Fail> {
         assert_eq!(rt; form.bids().len(), count);
         assert!(rt; form.meets(&rules));
     }
-    Ok(())
-}
-
-#[test]
-fn refuses_forms(rt: HostRuntime) -> Result<(), Fail> {
-    let rules = read_rules(rt.alloc(), RULES)?;
-    for (text, fault) in FAULTS {
-        assert!(rt; read_form(rt.alloc(), text, &rules).err() == Some(fault));
-    }
-    Ok(())
-}
-
-#[test]
-fn asks_for_steps(rt: HostRuntime) -> Result<(), Fail> {
-    let rules = read_rules(rt.alloc(), RULES)?;
-    let stepped = read_rules(
-        rt.alloc(),
-        b"rules,1,5,,\ncategory,A,2,10,1\ncategory,B,1,5,1\nbidder,Alpha,9,2,\n",
-    )?;
-    let text = b"Alpha,A,B\n31,1,0".as_slice();
-    let form = read_form(rt.alloc(), text, &rules)?;
-    assert!(rt; !form.meets(&stepped));
-    assert!(rt;
-        read_form(rt.alloc(), text, &stepped).err() == Some(FormFault::AmountStep { place: 2 })
-    );
     Ok(())
 }
 

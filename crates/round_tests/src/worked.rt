@@ -14,17 +14,9 @@ use std::test::Fail;
 pub const RULES: &[u8] =
     b"rules,1,1,,\ncategory,A,2,10,1\ncategory,B,1,5,1\nbidder,Alpha,9,2,\nbidder,Beta,9,1,\nbidder,Gamma,9,1,\n";
 
-/// A lot of A is worth 40 where it is left.
-pub const RULES_OF_40: &[u8] =
-    b"rules,2,1,,,\ncategory,A,2,10,1,40\ncategory,B,1,5,1,0\nbidder,Alpha,9,2,,\nbidder,Beta,9,1,,\nbidder,Gamma,9,1,,\n";
-
 /// A lot of A is worth 20 where it is left.
 pub const RULES_OF_20: &[u8] =
     b"rules,2,1,,,\ncategory,A,2,10,1,20\ncategory,B,1,5,1,0\nbidder,Alpha,9,2,,\nbidder,Beta,9,1,,\nbidder,Gamma,9,1,,\n";
-
-/// At most two lots together.
-pub const RULES_OF_A_POOL: &[u8] =
-    b"rules,3,1,,,\ncategory,A,2,10,1,0\ncategory,B,1,5,1,0\npool,Low,2,,,\nmember,Low,A,1,,\nmember,Low,B,1,,\nbidder,Alpha,9,2,,\nbidder,Beta,9,1,,\nbidder,Gamma,9,1,,\n";
 
 /// Room for the largest form.
 pub const WIDE_RULES: &[u8] =
