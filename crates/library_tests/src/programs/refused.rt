@@ -1,10 +1,15 @@
 //! What is built where any one growth is refused (see tools/refuse_calls): nothing, since memory was short, or what is built
 //! with ample memory. Programs with bids are built so by group_compiler's tests.
 
-use super::{WITH_POOLS, WITH_VALUES};
 use auction_terms::{Kept, read_rules};
 use program_rows::{Bounds, Columns, Program, RowKind, build};
 use std::test::Fail;
+
+const WITH_VALUES: &[u8] =
+    b"rules,2,1,,,\ncategory,A,2,10,1,40\ncategory,B,1,5,1,0\nbidder,Alpha,9,2,,\n";
+
+const WITH_POOLS: &[u8] =
+    b"rules,3,1,,,\ncategory,A,2,10,1,0\ncategory,B,1,5,1,0\npool,Low,2,,,\nmember,Low,A,1,,\nmember,Low,B,1,,\nbidder,Alpha,9,2,,\n";
 
 /// Whether the row at a place is this one.
 fn is_row(program: &Program, place: usize, name: &[u8], most: i64) -> bool {
