@@ -1,13 +1,8 @@
 //! The worked rules and forms, and what is made of them in more than one place.
 
-ghost use Rattle.std.specs.Prelude.{◌≡◌, IfOk};
-ghost use Rattle.program_rows.specs.declared.row.RowKind.TheVariants.{AtMost};
-ghost use Rattle.program_rows.specs.Parts.{shown_row};
-
 use auction_terms::Rules;
 use bid_forms::{Form, read_form};
-use program_rows::{Row, RowKind};
-use std::alloc::{AllocError, Global};
+use std::alloc::Global;
 use std::sync::Arc;
 use std::test::Fail;
 
@@ -15,10 +10,6 @@ pub mod books;
 
 pub const RULES: &[u8] =
     b"rules,1,1,,\ncategory,A,2,10,1\ncategory,B,1,5,1\nbidder,Alpha,9,2,\nbidder,Beta,9,1,\nbidder,Gamma,9,1,\n";
-
-/// The same of the first bidder alone.
-pub const RULES_OF_ONE: &[u8] =
-    b"rules,1,1,,\ncategory,A,2,10,1\ncategory,B,1,5,1\nbidder,Alpha,9,2,\n";
 
 /// A lot of A is worth 40 where it is left.
 pub const RULES_OF_40: &[u8] =
@@ -44,15 +35,4 @@ pub const GAMMA: &[u8] = b"Gamma,A,B\n12,0,1\n";
 
 pub fn form_of(alloc: Global, rules: &Rules, text: &[u8]) -> Result<Arc<Form, Global>, Fail> {
     Ok(Arc::new(alloc, read_form(alloc, text, rules)?)?)
-}
-
-pub fn row(alloc: Global, name: &[u8], most: i64) -> Result<Row, AllocError>
-    ensures { IfOk result (λ r. shown_row r
-        ≡ record { name = name.now; kind = AtMost; right_side = most }) }
-{
-    Ok(Row {
-        name: Vec::from_slice(alloc, name)?,
-        kind: RowKind::AtMost,
-        right_side: most,
-    })
 }

@@ -2,8 +2,8 @@ use Rattle.std.proofs.Common.{◌≡◌, ◌∷◌, ◌∙◌, [], map, ap, sym}
 use Rattle.program_rows.specs.Program.{Table}
 use Rattle.program_rows.specs.Parts.{shown_row, table_of}
 use Rattle.outcome.proofs.Worked.{three}
-use Rattle.library_tests.proofs.ThreeBidders.{is_program_of, rows_are, winners_are_a_map}
-use Rattle.library_tests.proofs.solutions.program_of_three.Goals as goal
+use Rattle.program_tests.proofs.ThreeBidders.{is_program_of, rows_are, winners_are_a_map}
+use Rattle.program_tests.proofs.solutions.program_of_three.Goals as goal
 
 pub from_parts-requires : goal.from_parts-requires
 from_parts-requires c =

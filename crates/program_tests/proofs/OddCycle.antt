@@ -6,7 +6,7 @@ use Rattle.program_rows.specs.declared.bounds.Bounds.TheVariants.{ZeroOrOne, One
 use Rattle.program_rows.specs.Program.{Table, TableRow}
 use Rattle.program_rows.specs.declared.row.Row.{Row}
 use Rattle.program_rows.specs.Parts.{IsProgram, shown_row}
-use Rattle.library_tests.proofs.Named.{are_names, distinct}
+use Rattle.program_tests.proofs.Named.{are_names, distinct}
 
 abbrev pub at_most : List ℕ → TableRow
 at_most name = record { name = name; kind = AtMost; right_side = pos 1 }

@@ -1,5 +1,5 @@
 use Rattle.std.proofs.Common.{◌≡◌, replicate}
-use Rattle.library_tests.proofs.texts.long_names.name_of.Given as goal
+use Rattle.program_tests.proofs.texts.long_names.name_of.Given as goal
 
 -- the letters so far
 abbrev pub invariant-loop : goal.invariant-loop

@@ -11,7 +11,7 @@ use Rattle.program_rows.specs.Spelling.{column_bid}
 use Rattle.program_rows.specs.Faithful.{back}
 use Rattle.outcome.specs.PointAllocation.{IsMap}
 use Rattle.outcome.proofs.Worked.{at_most, fixed, three, winners}
-use Rattle.library_tests.proofs.Named.{are_names, distinct}
+use Rattle.program_tests.proofs.Named.{are_names, distinct}
 
 -- ---- they are programs
 

@@ -1,5 +1,5 @@
 use Rattle.std.proofs.Common.{◌≡◌, ◌∷◌, [], true, false, rules}
-use Rattle.library_tests.proofs.solutions.refused.winners_or_want_of_memory.Goals as goal
+use Rattle.program_tests.proofs.solutions.maps_a_point_back.Goals as goal
 
 pub map_back-requires-clause-map : goal.map_back-requires-clause-map
 map_back-requires-clause-map g c =

@@ -1,7 +1,7 @@
 use Rattle.std.proofs.Common.{◌≡◌, ◌∷◌, [], map}
 use Rattle.program_rows.specs.Parts.{shown_row, table_of}
-use Rattle.library_tests.proofs.OddCycle.{is_program_of, odd, rows_are}
-use Rattle.library_tests.proofs.certificates.odd_cycle.Goals as goal
+use Rattle.program_tests.proofs.OddCycle.{is_program_of, odd, rows_are}
+use Rattle.program_tests.proofs.certificates.odd_cycle.Goals as goal
 
 pub from_parts-requires : goal.from_parts-requires
 from_parts-requires c =

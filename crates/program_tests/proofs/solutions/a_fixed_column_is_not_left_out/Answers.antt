@@ -1,8 +1,8 @@
 use Rattle.std.proofs.Common.{◌≡◌, ◌∙◌, [], map, ap}
 use Rattle.program_rows.specs.Parts.{shown_row, table_of}
 use Rattle.outcome.proofs.Worked.{fixed}
-use Rattle.library_tests.proofs.ThreeBidders.{is_fixed_program}
-use Rattle.library_tests.proofs.solutions.a_fixed_column_is_not_left_out.Goals as goal
+use Rattle.program_tests.proofs.ThreeBidders.{is_fixed_program}
+use Rattle.program_tests.proofs.solutions.a_fixed_column_is_not_left_out.Goals as goal
 
 pub from_parts-program-requires : goal.from_parts-program-requires
 from_parts-program-requires g c =

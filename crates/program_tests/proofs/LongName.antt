@@ -6,7 +6,7 @@ use Rattle.program_rows.specs.declared.bounds.Bounds.TheVariants.{ZeroOrOne}
 use Rattle.program_rows.specs.Program.{Table}
 use Rattle.program_rows.specs.Parts.{IsProgram}
 use Rattle.outcome.proofs.Worked.{at_most}
-use Rattle.library_tests.proofs.Named.{are_names, distinct}
+use Rattle.program_tests.proofs.Named.{are_names, distinct}
 
 -- the letter R
 abbrev letters : ℕ → List ℕ

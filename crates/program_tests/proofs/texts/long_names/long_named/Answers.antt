@@ -1,8 +1,8 @@
 use Rattle.std.proofs.Common.{◌≡◌, ◌∷◌, [], map, ap}
 use Rattle.program_rows.specs.Parts.{shown_row, table_of}
 use Rattle.outcome.proofs.Worked.{at_most}
-use Rattle.library_tests.proofs.LongName.{is_long_program, long}
-use Rattle.library_tests.proofs.texts.long_names.long_named.Goals as goal
+use Rattle.program_tests.proofs.LongName.{is_long_program, long}
+use Rattle.program_tests.proofs.texts.long_names.long_named.Goals as goal
 
 pub from_parts-requires : goal.from_parts-requires
 from_parts-requires c =
