@@ -5,6 +5,8 @@ import sys
 import tempfile
 import unittest
 
+from office import choices, files
+
 TOOLS = os.path.dirname(os.path.dirname(os.path.dirname(os.path.abspath(__file__))))
 BIDDERS = ["Ant", "Bee", "Cat", "Dove", "Eel", "Fox", "Gnat", "Heron", "Ibis"]
 RULES = ("rules,1,100,,\ncategory,Low,6,1000,2\ncategory,High,4,500,1\n"
@@ -66,6 +68,10 @@ class Office(unittest.TestCase):
         lines = seen.stderr.decode("utf-8").split("\n")
         self.assertEqual(self.explain(*words).stdout.decode().split("\n")[:-2], lines[:-2])
         return lines[:-2]
+
+    def read(self):
+        """What the files tell, read without starting a tool."""
+        return files.read_files(self.path("rules.csv"), self.path("forms"), [self.path("groups.txt")], choices.Choices())
 
     def gather(self, *words):
         return run("gather", self.path("rules.csv"), self.path("forms"), *(words or [self.path("groups.txt")]))
