@@ -1,6 +1,7 @@
 """How many bids each form is to have: a file with a row `bidder,bids` for each."""
 from office import limits, reading, rules, texts
 from office.faults import Fault, Place, counted, shown
+from office.tables import counted_fields
 
 
 def read_counts(path, known, faults):
@@ -16,7 +17,7 @@ def read_counts(path, known, faults):
     for cells in records:
         place, bidder = Place(path, cells[0].line, cells[0].column), known.bidder_number(cells[0].text)
         if len(cells) != 2:
-            faults.append(Fault(place, "the row has %s; it is to have a bidder and a number of bids" % counted(len(cells), "field")))
+            faults.append(Fault(place, "the row has %s; it is to have a bidder and a number of bids" % counted_fields(cells)))
         elif bidder is None:
             faults.append(Fault(place, "%s is no bidder of the rules" % shown(cells[0].text)))
         elif bidder in expected:

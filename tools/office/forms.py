@@ -4,6 +4,7 @@ from dataclasses import dataclass, field
 from office import limits
 from office.faults import Fault, Found, Place, counted, shown
 from office.rules import number, number_words
+from office.tables import counted_fields
 
 # so many records are read: the header, the bids that a form may have, and the first one that is too many
 RECORDS = limits.BIDS + 2
@@ -147,7 +148,7 @@ class Reader:
             if sum(cell.text.count(mark) for cell in cells) >= wanted - 1:
                 self.is_alike(OTHER_SEPARATOR[separator], record, 4, "FieldCount", cells)
                 return
-        words = "the row has %d fields; a bid has %d, its amount and a quantity for each category" % (len(cells), wanted)
+        words = "the row has %s; a bid has %d, its amount and a quantity for each category" % (counted_fields(cells), wanted)
         self.fault(record, 4, "FieldCount", cells[0], words)
 
     def is_alike(self, words, record, no, name, cells):

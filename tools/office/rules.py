@@ -4,6 +4,7 @@ from dataclasses import dataclass, field
 
 from office import limits
 from office.faults import Fault, Found, Place, shown
+from office.tables import counted_fields
 
 NAME = re.compile(rb"[A-Za-z][A-Za-z0-9]{0,15}")
 NUMBER = re.compile(rb"[0-9]{1,18}")
@@ -118,7 +119,7 @@ class Reader:
     def has_its_fields(self, record, cells):
         wanted = WIDTHS[self.version]
         if len(cells) != wanted:
-            words = "the row has %d fields; rules of version %s have %d" % (len(cells), self.version.decode(), wanted)
+            words = "the row has %s; rules of version %s have %d" % (counted_fields(cells), self.version.decode(), wanted)
             self.fault(record, 3, "FieldCount", cells[0], words)
         return len(cells) == wanted
 

@@ -7,10 +7,13 @@ of the text ends the record. A quote inside a field that doesn't begin with one 
 import re
 from typing import NamedTuple
 
+from office.faults import counted
+
 LINE_END = re.compile(rb"\r\n|\n|\r")
-LINE_ENDS = re.compile(rb"[\r\n]+")
 WHOLE_LINE = re.compile(rb"[^\r\n]*")
 QUOTES = re.compile(rb'"+')
+# no record has as many; what follows one that has isn't read
+FIELDS = 1_000
 
 
 class Field(NamedTuple):
@@ -22,31 +25,43 @@ class Field(NamedTuple):
 class Records:
     """The records of a text, each a list of fields; no more of the text is read than is asked for.
 
-    Lines are counted from `first_line`, columns are bytes from 1. `unclosed` is the field whose quote the text doesn't
-    close, once it is read.
+    Lines are counted from `first_line`, columns are bytes from 1. With `drops_empty` records without a byte but delimiters
+    are counted in `empty` and left out. `unclosed` is the field whose quote the text doesn't close, once it is read.
     """
 
-    def __init__(self, text, delimiter=b",", first_line=1):
+    def __init__(self, text, delimiter=b",", first_line=1, drops_empty=False):
         self.text, self.delimiter = text, delimiter
         self.plain = re.compile(rb"[^\r\n" + re.escape(delimiter) + rb"]*")
+        self.between = re.compile(rb"[\r\n" + (re.escape(delimiter) if drops_empty else b"") + rb"]+")
+        self.delimiters = re.compile(re.escape(delimiter) + b"+")
         self.line, self.line_start = first_line, 0
+        self.empty = 0
+        self.is_too_wide = False
         self.unclosed = None
 
     def __iter__(self):
-        at = 0
-        while at < len(self.text):
-            ends = LINE_ENDS.match(self.text, at)
-            if ends:
-                self.pass_lines(at, ends.end())
-                at = ends.end()
-                continue
+        at = self.pass_empty(0)
+        while at < len(self.text) and not self.is_too_wide:
             end = WHOLE_LINE.match(self.text, at).end()
             if self.text.find(b'"', at, end) < 0:
-                yield self.plain_record(at, end)
+                record = self.plain_record(at, end)
             else:
                 record, end = self.record_with_quotes(at)
-                yield record
-            at = end
+            yield record
+            at = self.pass_empty(end)
+
+    def pass_empty(self, at):
+        """Where the next record begins."""
+        found = self.between.match(self.text, at)
+        if not found:
+            return at
+        end = found.end()
+        if end < len(self.text):
+            # delimiters in front of a value belong to its record
+            end = 1 + max(self.text.rfind(b"\n", at, end), self.text.rfind(b"\r", at, end), at - 1)
+        self.empty += len(self.delimiters.findall(self.text, at, end))
+        self.pass_lines(at, end)
+        return end
 
     def pass_lines(self, at, end):
         """Counts the lines that end in a piece of the text."""
@@ -57,9 +72,12 @@ class Records:
             self.line_start = at + max(piece.rfind(b"\n"), piece.rfind(b"\r")) + 1
 
     def plain_record(self, at, end):
-        """The fields of a record without quotes."""
+        """The fields of a record without quotes; of more fields than a record has, or empty ones at its end, not all."""
         record, column = [], at - self.line_start + 1
-        for value in self.text[at:end].split(self.delimiter):
+        filled = self.text[at:end].rstrip(self.delimiter)
+        values, empty = filled.split(self.delimiter, FIELDS), end - at - len(filled)
+        self.is_too_wide = len(values) > FIELDS
+        for value in values + [b""] * min(empty, FIELDS):
             record.append(Field(value, self.line, column))
             column += len(value) + 1
         return record
@@ -67,13 +85,14 @@ class Records:
     def record_with_quotes(self, at):
         """The fields of the record at a place, and where it ends."""
         record, end = [], at - 1
-        while not record or self.text[end:end + 1] == self.delimiter:
+        while not record or self.text[end:end + 1] == self.delimiter and not self.is_too_wide:
             at = end + 1
             value, end, is_closed = self.field(at)
             record.append(Field(value, self.line, at - self.line_start + 1))
             if not is_closed:
                 self.unclosed = record[-1]
             self.pass_lines(at, end)
+            self.is_too_wide = len(record) > FIELDS
         return record, end
 
     def field(self, at):
@@ -87,6 +106,10 @@ class Records:
                 rest = self.plain.match(self.text, quotes.end())
                 return self.text[at + 1:quotes.end() - 1].replace(b'""', b'"') + rest.group(), rest.end(), True
         return self.text[at + 1:].replace(b'""', b'"'), len(self.text), False
+
+
+def counted_fields(record):
+    return "more than {:,} fields".format(FIELDS) if len(record) > FIELDS else counted(len(record), "field")
 
 
 def written(fields):

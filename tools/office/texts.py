@@ -127,15 +127,16 @@ def table(data, width_of, most=None):
     """The records of a file's bytes, at most so many; `width_of` gives the fields of a record from the first one."""
     text = decoded(data)
     delimiter, begin, of_delimiter = delimiter_of(text.bytes)
-    rows = tables.Records(text.bytes[begin:], delimiter, first_line=2 if begin else 1)
+    rows = tables.Records(text.bytes[begin:], delimiter, first_line=2 if begin else 1, drops_empty=True)
     records, empty = [], 0
     for row in rows:
-        if not holds_something(row):
-            empty += 1
-        elif len(records) == most:
-            break
-        else:
+        if holds_something(row):
             records.append(row)
+            if len(records) == most:
+                break
+        else:
+            empty += 1
+    empty += rows.empty
     changes = text.changes + line_ends(text.bytes) + of_delimiter
     changes += ["empty rows dropped: %d" % empty] if empty else []
     changes += within(records, width_of(records[0])) if records else []
