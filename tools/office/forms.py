@@ -1,5 +1,6 @@
 """Forms: what a table of bids says under the rules, and everything that is wrong with it."""
 from dataclasses import dataclass, field
+from operator import mul
 
 from office import limits
 from office.faults import Fault, Found, Place, counted, shown
@@ -55,6 +56,8 @@ class Reader:
         self.bids = []
         self.bidder = None
         self.packages = {}
+        self.points = [category.points for category in rules.categories]
+        self.reserves = [category.reserve for category in rules.categories]
         # by what they have in common, in words for one row or for many
         self.alike = {}
 
@@ -109,13 +112,10 @@ class Reader:
             quantities.append(value)
         return None if None in quantities else tuple(quantities)
 
-    def value_of(self, package, worth):
-        return sum(quantity * worth(category) for quantity, category in zip(package, self.rules.categories))
-
     def terms(self, record, cell, amount, package):
         """Tests a package against the bidder's points, the reserve and the bids before it."""
-        points = self.value_of(package, lambda category: category.points)
-        reserve = self.value_of(package, lambda category: category.reserve)
+        points = sum(map(mul, package, self.points))
+        reserve = sum(map(mul, package, self.reserves))
         if not any(package):
             self.fault(record, 10, "EmptyPackage", cell, "the bid asks for no lot")
         if self.bidder is not None and points > self.rules.bidders[self.bidder - 1].eligibility:

@@ -12,6 +12,7 @@ from office.faults import counted
 LINE_END = re.compile(rb"\r\n|\n|\r")
 WHOLE_LINE = re.compile(rb"[^\r\n]*")
 QUOTES = re.compile(rb'"+')
+NEEDS_QUOTES = re.compile(rb'[,"\r\n]|^%')
 # no record has as many; what follows one that has isn't read
 FIELDS = 1_000
 
@@ -114,5 +115,5 @@ def counted_fields(record):
 
 def written(fields):
     """The line of a record, with quotes where a field needs them."""
-    return b",".join(b'"' + field.replace(b'"', b'""') + b'"' if re.search(rb'[,"\r\n]|^%', field) else field
+    return b",".join(b'"' + field.replace(b'"', b'""') + b'"' if NEEDS_QUOTES.search(field) else field
                      for field in fields) + b"\n"
