@@ -131,22 +131,29 @@ def read_form_file(path, width, auction):
     return file
 
 
-def named_bidders(path, known):
-    """The numbers of the bidders whose names are words of a file's name; where none is written alike, in any case."""
-    found = set()
-    for word in re.split(r"[^A-Za-z0-9]+", versions.stem(path)):
-        exact = known.bidder_number(word.encode())
-        alike = [number for number, bidder in enumerate(known.bidders, 1) if bidder.name.lower() == word.lower().encode()]
-        found.update([exact] if exact else alike)
-    return found
+class Names:
+    """The bidders by their names, and by these in small letters."""
+
+    def __init__(self, known):
+        self.exact, self.alike = {}, {}
+        for number, bidder in enumerate(known.bidders, 1):
+            self.exact[bidder.name.decode()] = number
+            self.alike.setdefault(bidder.name.decode().lower(), set()).add(number)
+
+    def among(self, path):
+        """The numbers of the bidders whose names are words of a file's name; where none is written alike, in any case."""
+        found = set()
+        for word in re.split(r"[^A-Za-z0-9]+", versions.stem(path)):
+            found |= {self.exact[word]} if word in self.exact else self.alike.get(word.lower(), set())
+        return found
 
 
-def check_name(file, choices, auction):
+def check_name(file, names, choices, auction):
     """A file's name has to name the bidder of its first row, and no other."""
     number = auction.rules.bidder_number(file.heading)
     if number is None:
         return
-    named, own = named_bidders(file.path, auction.rules), file.heading.decode()
+    named, own = names.among(file.path), file.heading.decode()
     others = " and ".join(auction.rules.bidders[other - 1].name.decode() for other in sorted(named - {number}))
     place = Place(file.path, 1, 1)
     if number in named and others:
@@ -233,8 +240,9 @@ def read_forms(folder, choices, auction):
     """Reads each form that counts, and tells what lacks."""
     width = len(auction.rules.categories) + 1
     found = [file for path in form_paths(folder, auction) if (file := read_form_file(path, width, auction))]
+    names = Names(auction.rules)
     for file in found:
-        check_name(file, choices, auction)
+        check_name(file, names, choices, auction)
     for file in last_forms(found, choices, auction):
         read_form(file, choices, auction)
     auction.forms = dict(sorted(auction.forms.items()))

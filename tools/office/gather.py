@@ -10,7 +10,6 @@ and a table that is made to be read aloud to each bidder.
 Exit status: 0 the input is written; 1 something is wrong; 2 the words are wrong.
 """
 import os
-import sys
 
 from office import choices, files, limits, printed, receipt, running
 from office.faults import all_counted
@@ -48,19 +47,11 @@ def is_read(path, given):
     return real in [os.path.realpath(other) for other in read if other] or os.path.dirname(real) == os.path.realpath(given.forms)
 
 
-def tell(text):
-    """Puts a text on standard error. Where nobody reads it, the work goes on."""
-    try:
-        print(text, end="", file=sys.stderr, flush=True)
-    except OSError:
-        pass
-
-
 def write(given, text, told):
     """Writes the input and the receipt, both or none of them."""
     written = {given.output: text, given.receipt: told.encode()}
     running.write_all({path: content for path, content in written.items() if path})
-    tell(told)
+    running.tell(told)
     if not given.output:
         running.print_bytes(text)
 
@@ -68,7 +59,7 @@ def write(given, text, told):
 def main():
     given = words()
     auction = files.read_files(given.rules, given.forms, given.groups or [given.groups_file], choices.choices_of(given))
-    tell("".join(printed.line(str(fault)) for fault in auction.faults))
+    running.tell("".join(printed.line(str(fault)) for fault in auction.faults))
     if auction.faults:
         old = "; %s is what it was before" % given.output if given.output and os.path.exists(given.output) else ""
         raise running.Stopped("%s; nothing is written%s" % (all_counted(auction.faults), old))

@@ -9,6 +9,7 @@ def read_groups(lines, rules, source):
     `lines` are (number in the file, number in the list, bytes) of each line, the last of them one too many at most.
     """
     groups, found = [], Found(source)
+    numbers = {bidder.name: number for number, bidder in enumerate(rules.bidders, 1)}
 
     def fault(line, place, no, name, words, column=1):
         told = "groups: %d %s at line %d" % (no, name, place)
@@ -21,7 +22,7 @@ def read_groups(lines, rules, source):
             names = []
         seen = set()
         for name in names:
-            if rules.bidder_number(name) is None:
+            if name not in numbers:
                 what = "%s is no bidder of the rules" % shown(name) if name else "a name is missing beside a +"
                 fault(line, place, 3, "UnknownBidder", what, column)
             elif name in seen:
@@ -30,7 +31,7 @@ def read_groups(lines, rules, source):
             column += len(name) + 1
         if place == limits.GROUPS + 1:
             fault(line, place, 5, "TooManyGroups", "there are more than {:,} groups".format(limits.GROUPS))
-        groups.append(sorted(filter(None, map(rules.bidder_number, names))))
+        groups.append(sorted(numbers[name] for name in names if name in numbers))
     return (None if found else groups), found.sorted()
 
 

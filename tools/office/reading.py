@@ -26,6 +26,8 @@ def of_system(error):
 def content(path, most):
     """The bytes of a file, or of what else can be read, as a pipe; `-` is standard input."""
     try:
+        if path == "-" and sys.stdin is None:
+            raise Unreadable("standard input is closed")
         if path == "-":
             return up_to(sys.stdin.buffer, most)
         with open(path, "rb") as file:

@@ -20,11 +20,16 @@ class Stopped(Exception):
 
 
 def say(tool, text):
-    """A line on standard error. Where nobody reads it, the work goes on."""
-    try:
-        print(escaped("%s: %s" % (tool, text)), file=sys.stderr, flush=True)
-    except OSError:
-        pass
+    """A line on standard error."""
+    tell(escaped("%s: %s" % (tool, text)) + "\n")
+
+
+def tell(text):
+    """Puts a text on standard error. Where nobody reads it, the work goes on."""
+    # Python prints to standard output where standard error is closed
+    if sys.stderr is not None:
+        with contextlib.suppress(OSError):
+            print(text, end="", file=sys.stderr, flush=True)
 
 
 def missing_packages(modules):
@@ -100,6 +105,8 @@ def umask():
 
 
 def print_bytes(text):
+    if sys.stdout is None:
+        raise Stopped("standard output is closed")
     try:
         sys.stdout.buffer.write(text)
         sys.stdout.buffer.flush()

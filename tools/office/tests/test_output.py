@@ -1,9 +1,10 @@
 """The input and the receipt are written whole or not at all, and never over what is read."""
 import os
 import resource
+import subprocess
 import unittest
 
-from office.tests.offices import Office, form, run
+from office.tests.offices import TOOLS, Office, form, run
 
 
 class Output(Office):
@@ -49,6 +50,15 @@ class Output(Office):
         for name in ("/dev/null", "/dev/stdout", self.path("pipe"), self.path("folder")):
             self.assert_stopped(self.output("--receipt", name), "gather: %s: it isn't a file\n" % name)
         self.assertFalse(os.path.isfile("/dev/null"))
+
+    def test_closed_streams(self):
+        words = "exec %s rules.csv forms groups.txt" % os.path.join(TOOLS, "gather")
+        whole = self.gather().stdout
+        for end, wanted in ((" 2>&-", (0, whole, b"")), (" >&-", (1, b"", None)), (" --expect - <&-", (1, b"", None)), (" --expect - <&- 2>&-", (1, b"", b""))):
+            seen = subprocess.run(["sh", "-c", words + end], cwd=self.folder, capture_output=True, timeout=60)
+            self.assertEqual((seen.returncode, seen.stdout), wanted[:2])
+            self.assertNotIn(b"Traceback", seen.stderr)
+            self.assertIn(wanted[2], (None, seen.stderr))
 
     def test_a_link_stays_one(self):
         os.symlink("elsewhere.txt", self.path("input.txt"))
