@@ -37,7 +37,8 @@ def of_groups(auction):
 
 def bid_words(rules, bid):
     """A bid as it is read aloud: `5,000 for 2 Low, 1 High`."""
-    lots = ["{:,} {}".format(quantity, category.name.decode()) for quantity, category in zip(bid.package, rules.categories) if quantity]
+    lots = ["{:,} {}".format(quantity, category.name.decode())
+            for quantity, category in zip(bid.package, rules.categories) if quantity]
     return "{:,} for {}".format(bid.amount, ", ".join(lots))
 
 
@@ -47,14 +48,15 @@ def to_be_read_aloud(auction):
     for number, bidder in enumerate(auction.rules.bidders, 1):
         bids = auction.forms[number].form.bids if number in auction.forms else []
         amounts = [bid.amount for bid in bids]
-        count = str(len(bids)) if number in auction.forms else "no form"
-        of_bids = [bid_words(auction.rules, bid) for bid in (bids[0], bids[-1])] if bids else ["-", "-"]
-        rows.append((bidder.name.decode(), count, *("{:,}".format(what) if bids else "-"
-                     for what in (max(amounts, default=0), sum(amounts))), *of_bids))
+        told = ["-"] * 4
+        if bids:
+            told = ["{:,}".format(max(amounts)), "{:,}".format(sum(amounts)),
+                    bid_words(auction.rules, bids[0]), bid_words(auction.rules, bids[-1])]
+        rows.append((bidder.name.decode(), "{:,}".format(len(bids)) if number in auction.forms else "no form", *told))
     widths = [max(len(row[place]) for row in rows) for place in range(len(HEADINGS))]
     for row in rows:
-        cells = [cell.rjust(width) if 1 <= place <= 3 else cell.ljust(width) for place, (cell, width) in enumerate(zip(row, widths))]
-        yield "  ".join(cells).rstrip()
+        numbers = map(str.rjust, row[1:4], widths[1:4])
+        yield "  ".join([row[0].ljust(widths[0]), *numbers, row[4].ljust(widths[4]), row[5]])
 
 
 def receipt(auction, text):

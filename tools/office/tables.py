@@ -37,12 +37,13 @@ class Records:
         self.delimiters = re.compile(re.escape(delimiter) + b"+")
         self.line, self.line_start = first_line, 0
         self.empty = 0
-        self.is_too_wide = False
+        # the line of a record with more fields than there may be
+        self.too_wide = None
         self.unclosed = None
 
     def __iter__(self):
         at = self.pass_empty(0)
-        while at < len(self.text) and not self.is_too_wide:
+        while at < len(self.text) and not self.too_wide:
             end = WHOLE_LINE.match(self.text, at).end()
             if self.text.find(b'"', at, end) < 0:
                 record = self.plain_record(at, end)
@@ -77,7 +78,7 @@ class Records:
         record, column = [], at - self.line_start + 1
         filled = self.text[at:end].rstrip(self.delimiter)
         values, empty = filled.split(self.delimiter, FIELDS), end - at - len(filled)
-        self.is_too_wide = len(values) > FIELDS
+        self.too_wide = self.line if len(values) > FIELDS else None
         for value in values + [b""] * min(empty, FIELDS):
             record.append(Field(value, self.line, column))
             column += len(value) + 1
@@ -86,14 +87,14 @@ class Records:
     def record_with_quotes(self, at):
         """The fields of the record at a place, and where it ends."""
         record, end = [], at - 1
-        while not record or self.text[end:end + 1] == self.delimiter and not self.is_too_wide:
+        while not record or self.text[end:end + 1] == self.delimiter and not self.too_wide:
             at = end + 1
             value, end, is_closed = self.field(at)
             record.append(Field(value, self.line, at - self.line_start + 1))
             if not is_closed:
                 self.unclosed = record[-1]
             self.pass_lines(at, end)
-            self.is_too_wide = len(record) > FIELDS
+            self.too_wide = record[0].line if len(record) > FIELDS else None
         return record, end
 
     def field(self, at):

@@ -136,6 +136,8 @@ def table(data, width_of, most=None):
                 break
         else:
             empty += 1
+    if rows.too_wide:
+        raise NotText("the row in line {} has more than {:,} fields".format(rows.too_wide, tables.FIELDS))
     empty += rows.empty
     changes = text.changes + line_ends(text.bytes) + of_delimiter
     changes += ["empty rows dropped: %d" % empty] if empty else []

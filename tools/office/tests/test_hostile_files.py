@@ -45,8 +45,16 @@ class Splitting(unittest.TestCase):
             self.assertEqual((len(records), len(records[1])), (2, tables.FIELDS + 1))
             self.assertEqual(tables.counted_fields(records[1]), "more than 1,000 fields")
 
+    def test_no_row_behind_a_row_of_quoted_empty_fields_is_lost(self):
+        for row in (b'"",' * 1_000 + b'""', b'"",' * 5_000 + b"1", b"1," * 5_000 + b"1"):
+            with self.assertRaisesRegex(texts.NotText, "the row in line 3 has more than 1,000 fields"):
+                texts.table(HEADER + b"5000,2,1\n" + row + b"\n9900,4,0\n", lambda first: 3)
+        table = texts.table(HEADER + b"5000,2,1\n" + b'"",' * 999 + b'""\n9900,4,0\n', lambda first: 3)
+        self.assertEqual([row[0].text for row in table.records], [b"Fox", b"5000", b"9900"])
+
     def test_empty_fields_behind_a_row_do_not_end_the_table(self):
-        table = texts.table(HEADER.replace(b"\n", b"," * 16_000 + b"\n") + b"5000,2,1" + b"," * 16_000 + b"\n9900,4,0\n", lambda first: 3)
+        more = b"," * 16_000
+        table = texts.table(HEADER.strip() + more + b"\n5000,2,1" + more + b"\n9900,4,0\n", lambda first: 3)
         self.assertEqual([[cell.text for cell in row] for row in table.records],
                          [[b"Fox", b"Low", b"High"], [b"5000", b"2", b"1"], [b"9900", b"4", b"0"]])
 
@@ -61,8 +69,9 @@ class Sizes(Office):
     def test_a_form_of_50_mb_is_not_read(self):
         with open(self.path("forms/Fox.csv"), "wb") as file:
             file.truncate(50_000_000)
-        with open(self.path("forms/Fox.csv"), "rb") as file, self.assertRaisesRegex(reading.TooLarge, "more than 8,388,610 bytes"):
-            reading.up_to(Unread(file), texts.LARGEST_FILE)
+        with open(self.path("forms/Fox.csv"), "rb") as file:
+            with self.assertRaisesRegex(reading.TooLarge, "more than 8,388,610 bytes"):
+                reading.up_to(Unread(file), texts.LARGEST_FILE)
         self.assertEqual(self.refused("--allow-missing", "Fox"), [self.path("forms/Fox.csv") + ": it has more than 8,388,610 bytes"])
 
     def test_a_text_beyond_what_wdp_reads_is_not_split(self):

@@ -63,7 +63,8 @@ class Damaged(Office):
 
     def test_a_quote_that_is_not_closed(self):
         self.write("forms/Fox.csv", b'Fox,Low,High\n5000,2,1\n12000,4,"12')
-        self.assertEqual(self.refused("--allow-unended", "Fox"), ["%s:3:9: the field's quote isn't closed" % self.path("forms/Fox.csv")])
+        self.assertEqual(self.refused("--allow-unended", "Fox"),
+                         ["%s:3:9: the field's quote isn't closed" % self.path("forms/Fox.csv")])
 
     def test_a_last_row_that_is_ended_and_told_not_to_be(self):
         self.assertEqual(self.refused("--allow-unended", "Fox"),
@@ -89,19 +90,20 @@ class Named(Office):
     def test_a_name_of_two_bidders(self):
         os.rename(self.path("forms/Heron.csv"), self.path("forms/Ant-Heron.csv"))
         for words in ([], ["--any-file-name"]):
-            self.assertEqual(self.refused(*words), ["%s:1:1: the file's name names Ant beside Heron, whose form its first row says "
-                                                    "it is" % self.path("forms/Ant-Heron.csv")])
+            self.assertEqual(self.refused(*words), [self.path("forms/Ant-Heron.csv") + ":1:1: the file's name names Ant beside "
+                                                    "Heron, whose form its first row says it is"])
 
     def test_a_template_with_the_header_of_another_bidder(self):
         # Fox sent its bids below Heron's name, and Heron sent none
         self.write("forms/Fox.csv", form("Heron").encode())
         os.unlink(self.path("forms/Heron.csv"))
         for words in (["--allow-missing", "Fox"], ["--allow-missing", "Fox", "--any-file-name"]):
-            self.assertEqual(self.refused(*words), ["%s:1:1: the file's name doesn't name Heron, whose form its first row says it "
-                                                    "is, but Fox" % self.path("forms/Fox.csv")])
+            self.assertEqual(self.refused(*words), [self.path("forms/Fox.csv") + ":1:1: the file's name doesn't name Heron, "
+                                                    "whose form its first row says it is, but Fox"])
 
     def test_names_that_differ_in_the_case_of_letters(self):
-        self.write("rules.csv", b"rules,1,100,,\ncategory,Low,6,1000,2\ncategory,High,4,500,1\nbidder,Ant,20,1,\nbidder,ANT,20,1,\n")
+        self.write("rules.csv", b"rules,1,100,,\ncategory,Low,6,1000,2\ncategory,High,4,500,1\n"
+                                b"bidder,Ant,20,1,\nbidder,ANT,20,1,\n")
         self.write("groups.txt", b"-\n")
         for name in BIDDERS:
             os.unlink(self.path("forms/%s.csv" % name))

@@ -54,11 +54,11 @@ class Output(Office):
     def test_closed_streams(self):
         words = "exec %s rules.csv forms groups.txt" % os.path.join(TOOLS, "gather")
         whole = self.gather().stdout
-        for end, wanted in ((" 2>&-", (0, whole, b"")), (" >&-", (1, b"", None)), (" --expect - <&-", (1, b"", None)), (" --expect - <&- 2>&-", (1, b"", b""))):
+        for end, status, output, told in ((" 2>&-", 0, whole, b""), (" >&-", 1, b"", b"standard output is closed\n"),
+                                          (" --expect - <&-", 1, b"", b"nothing is written\n"), (" --expect - <&- 2>&-", 1, b"", b"")):
             seen = subprocess.run(["sh", "-c", words + end], cwd=self.folder, capture_output=True, timeout=60)
-            self.assertEqual((seen.returncode, seen.stdout), wanted[:2])
-            self.assertNotIn(b"Traceback", seen.stderr)
-            self.assertIn(wanted[2], (None, seen.stderr))
+            self.assertEqual((seen.returncode, seen.stdout), (status, output))
+            self.assertTrue(seen.stderr.endswith(told) and b"Traceback" not in seen.stderr, seen.stderr)
 
     def test_a_link_stays_one(self):
         os.symlink("elsewhere.txt", self.path("input.txt"))

@@ -65,7 +65,8 @@ class LastByName(Office):
         # a copied template: Fox's bids would be taken for an old form of Heron
         self.write("forms/Fox.csv", form("Heron", OLD).encode())
         lines = self.refused("--last-wins", "time", "--allow-missing", "Fox", "--any-file-name")
-        self.assertIn("Fox.csv:1:1: the file's name doesn't name Heron, whose form its first row says it is, but Fox", "\n".join(lines))
+        self.assertIn(self.path("forms/Fox.csv") + ":1:1: the file's name doesn't name Heron, whose form its first row says it is, "
+                      "but Fox", lines)
 
 
 class LastByTime(Office):
