@@ -260,10 +260,10 @@ def each_alone(names):
     return b"".join(name + b"\n" for name in [b"-"] + list(names))
 
 
-def winners_of(path):
+def winners_of(text):
     """The winners of the first group in a report, or of an allocation as `wdp map` prints it."""
     names = []
-    for number, line in enumerate(reading.content(path, limits.INPUT).split(b"\n"), 1):
+    for number, line in enumerate(text.split(b"\n"), 1):
         winner = WINNER.fullmatch(line)
         if TOTAL.fullmatch(line):
             return names
@@ -274,26 +274,29 @@ def winners_of(path):
     raise texts.NotText("there is no line of the total, as in a file that was cut off")
 
 
-def groups_by_file(path, auction):
-    auction.groups_file = file_of(path, reading.content(path, texts.LARGEST_FILE))
+def lines_of_groups(words, auction):
+    """The lines of the groups with their numbers, by a file, or by a rule: `each`, or `winners FILE`."""
+    if words[0] == "each":
+        return list(enumerate(each_alone(bidder.name for bidder in auction.rules.bidders).splitlines(), 1))
+    most = limits.INPUT if words[0] == "winners" else texts.LARGEST_FILE
+    auction.groups_file = file_of(words[-1], reading.content(words[-1], most))
+    if words[0] == "winners":
+        auction.groups_file.changes = ["each winner alone"]
+        return list(enumerate(each_alone(winners_of(auction.groups_file.data)).splitlines(), 1))
     lines, auction.groups_file.changes = texts.lines(auction.groups_file.data)
-    auction.groups_text = b"".join(line + b"\n" for _, line in lines)
     return lines
 
 
 def read_groups(words, auction):
-    """The groups by a file, or by a rule: `each`, or `winners FILE`."""
+    """Reads the groups, the first of which has to be that of nobody."""
     path = words[-1]
     try:
-        if words[0] == "each":
-            auction.groups_text = each_alone(bidder.name for bidder in auction.rules.bidders)
-        elif words[0] == "winners":
-            auction.groups_text = each_alone(winners_of(path))
-        lines = groups_by_file(path, auction) if not auction.groups_text else enumerate(auction.groups_text.splitlines(), 1)
-        lines = [(number, number, line) for number, line in lines][:limits.GROUPS + 1]
+        lines = lines_of_groups(words, auction)
     except (reading.Unreadable, texts.NotText) as why:
         auction.fault(Place(path), str(why))
         return
+    auction.groups_text = b"".join(line + b"\n" for _, line in lines)
+    lines = [(number, number, line) for number, line in lines[:limits.GROUPS + 1]]
     if not lines or lines[0][2] != b"-":
         auction.fault(Place(path, 1), "the first line has to be -, the group of nobody: costs are told against it")
     auction.add(groups.read_groups(lines, auction.rules, path)[1])

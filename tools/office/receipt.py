@@ -32,7 +32,7 @@ def of_files(auction):
 
 def of_groups(auction):
     count = counted(auction.groups_text.count(b"\n"), "group")
-    return line_of("groups", auction.groups_file, ", " + count) if auction.groups_file else "groups: %s, by rule" % count
+    return line_of("groups", auction.groups_file, ", " + count) if auction.groups_file else "groups: %s, each bidder alone" % count
 
 
 def bid_words(rules, bid):

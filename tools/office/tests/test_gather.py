@@ -47,6 +47,7 @@ class Clean(Office):
         self.write("report.txt", b"group 1 -\nBee 1 5000\nFox 2 9900\ntotal 14900\ncost 0\ngroup 2 Bee\nCat 1 5000\n")
         seen = self.gather("--groups", "winners", self.path("report.txt"))
         self.assertEqual(seen.stdout.split(b"%groups\n")[1], b"-\nBee\nFox\n")
+        self.assertIn("\ngroups: %s, 3 groups, SHA-256 " % self.path("report.txt"), seen.stderr.decode())
 
     def test_left_out_bids(self):
         self.write("forms/Ant.csv", form("Ant", ["5000,2,1", "5000,3,1", "9900,7,0"]).encode())
