@@ -41,6 +41,13 @@ def names(text):
     return found
 
 
+def path(text):
+    """A path; an empty one, as of a variable that isn't set, isn't as if the word were left out."""
+    if not text:
+        raise argparse.ArgumentTypeError("the name of the file is missing")
+    return text
+
+
 def add_words(parser):
     """The words of the choices."""
     parser.add_argument("--last-wins", choices=tuple(versions.WAYS),
@@ -51,7 +58,7 @@ def add_words(parser):
                        ("unended", "the last rows of these bidders' forms lack their line ends and are whole all the same")):
         parser.add_argument("--allow-" + word, metavar="NAMES", type=names, action="extend", default=[],
                             help=text + "; names parted by commas")
-    parser.add_argument("--expect", metavar="COUNTS", help="a file with a row `bidder,bids` for each form")
+    parser.add_argument("--expect", metavar="COUNTS", type=path, help="a file with a row `bidder,bids` for each form")
 
 
 def choices_of(given):

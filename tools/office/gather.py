@@ -23,9 +23,9 @@ def words():
     parser.add_argument("--groups", nargs="+", metavar="RULE",
                         help="in place of GROUPS: each (nobody, and each bidder alone), or winners FILE (nobody, and each "
                              "winner of a report's first group, or of what `wdp map` prints, alone)")
-    parser.add_argument("--output", metavar="FILE", help="write the input to this file, whole or not at all")
+    parser.add_argument("--output", metavar="FILE", type=choices.path, help="write the input to this file, whole or not at all")
     choices.add_words(parser)
-    parser.add_argument("--receipt", metavar="FILE", help="write the receipt to this file too")
+    parser.add_argument("--receipt", metavar="FILE", type=choices.path, help="write the receipt to this file too")
     given = parser.parse_args()
     rule = given.groups or []
     if rule and rule[0] not in ("each", "winners") or len(rule) != {"each": 1, "winners": 2}.get((rule or [""])[0], 0):

@@ -28,7 +28,7 @@ def damage(choice, folder):
         elif what == 1:
             os.rename(path, os.path.join(folder, choice.choice(NAMES)))
         elif what == 2:
-            shutil.copy(path, os.path.join(folder, choice.choice(NAMES)))
+            shutil.copy(path, os.path.join(folder, choice.choice([name for name in NAMES if name != os.path.basename(path)])))
         else:
             with open(path, "rb") as file:
                 text = file.read()

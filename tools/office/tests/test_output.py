@@ -60,6 +60,11 @@ class Output(Office):
             self.assertEqual((seen.returncode, seen.stdout), (status, output))
             self.assertTrue(seen.stderr.endswith(told) and b"Traceback" not in seen.stderr, seen.stderr)
 
+    def test_an_empty_name_is_wrong_words(self):
+        for word in ("--output", "--receipt", "--expect"):
+            seen = self.gather(self.path("groups.txt"), word, "")
+            self.assertEqual((seen.returncode, seen.stdout), (2, b""))
+
     def test_a_link_stays_one(self):
         os.symlink("elsewhere.txt", self.path("input.txt"))
         self.assertEqual(self.output().returncode, 0)
