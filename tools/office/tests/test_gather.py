@@ -123,6 +123,8 @@ class Ends(Office):
                       [self.path("rules.csv"), self.path("forms"), "--groups", "all"],
                       [self.path("rules.csv"), self.path("forms"), "--groups", "winners"]):
             self.assertEqual(run("gather", *words).returncode, 2)
+        # one input has no files to choose from
+        self.assertEqual(run("explain", self.path("rules.csv"), "--allow-missing", "Ant").returncode, 2)
 
     def test_a_full_disk(self):
         with open("/dev/full", "wb") as full:
@@ -146,8 +148,12 @@ class Ends(Office):
             self.assertNotEqual(tool.wait(timeout=60), 0)
 
     def test_a_reader_that_goes_away(self):
-        self.write("forms/Ant.csv", form("Ant", ["x,y,z"] * 3000).encode())
-        words = [sys.executable, os.path.join(TOOLS, "explain"), self.path("rules.csv"), self.path("forms")]
+        # a line for each bid, more than a pipe holds: each asks for more than the first and pays less
+        rules = RULES.replace(b"Low,6,1000,2", b"Low,10000,0,0").replace(b"High,4,500,1", b"High,10000,0,0")
+        bids = ["99000,0,1"] + ["100,%d,%d" % (place % 100, place // 100 + 2) for place in range(3_900)]
+        self.write("rules.csv", rules)
+        self.write("forms/Ant.csv", form("Ant", bids).encode())
+        words = [sys.executable, os.path.join(TOOLS, "explain"), self.path("rules.csv"), self.path("forms"), "--bids"]
         with subprocess.Popen(words, stdout=subprocess.PIPE, stderr=subprocess.PIPE) as tool:
             tool.stdout.read(10)
             tool.stdout.close()

@@ -60,6 +60,15 @@ class Output(Office):
             self.assertEqual((seen.returncode, seen.stdout), (status, output))
             self.assertTrue(seen.stderr.endswith(told) and b"Traceback" not in seen.stderr, seen.stderr)
 
+    def test_a_part_on_standard_output_is_a_failure_however_python_buffers(self):
+        for unbuffered in ("", "1"):
+            with open(self.path("part.txt"), "wb") as part:
+                seen = run("gather", self.path("rules.csv"), self.path("forms"), self.path("groups.txt"), capture_output=False,
+                           stdout=part, stderr=subprocess.PIPE, env={**os.environ, "PYTHONUNBUFFERED": unbuffered},
+                           preexec_fn=lambda: resource.setrlimit(resource.RLIMIT_FSIZE, (100, 100)))
+            self.assertEqual(seen.returncode, 1)
+            self.assertTrue(seen.stderr.endswith(b"gather: standard output: File too large\n"), seen.stderr)
+
     def test_an_empty_name_is_wrong_words(self):
         for word in ("--output", "--receipt", "--expect"):
             seen = self.gather(self.path("groups.txt"), word, "")
