@@ -64,7 +64,7 @@ class Values(Office):
             self.assertTrue(all(line.isprintable() and line.startswith(self.path("forms/Fox.csv:2:")) for line in lines), lines)
 
     def test_a_header_is_escaped_and_no_longer_than_it_may_be(self):
-        self.write("forms/Fox.csv", b"Fox," + b'"a\nb\x1b",' * 10_000 + b"\n")
+        self.write("forms/Fox.csv", b"Fox," + b'"a\nb\x1b",' * 900 + b"\n")
         line, = self.refused()
         self.assertTrue(line.isprintable() and len(line) < 2_000, line[:200])
 
