@@ -1,5 +1,12 @@
 """What is wrong with an input: each fault with its place, in words, and the line that wdp has for it."""
+from __future__ import annotations
+
 from dataclasses import dataclass
+
+from office.printed import escaped
+
+# of one file no more faults are told one by one
+TOLD = 100
 
 
 @dataclass(frozen=True)
@@ -21,19 +28,56 @@ class Fault:
     place: Place
     words: str
     told: str | None = None
+    # how many faults the line stands for
+    count: int = 1
 
     def __str__(self):
-        return "%s: %s" % (self.place, self.words) + (" (wdp: %s)" % self.told if self.told else "")
+        return escaped("%s: %s" % (self.place, self.words) + (" (wdp: %s)" % self.told if self.told else ""))
+
+
+class Found:
+    """The faults of one file: the first hundred, by a key that sorts them, and how many there are beside these."""
+
+    def __init__(self, source):
+        self.source = source
+        self.keyed = []
+        self.more = 0
+
+    def __bool__(self):
+        return bool(self.keyed)
+
+    def add(self, key, fault):
+        """A fault. Of those that aren't told no key sorts before one that is, but for those within a record."""
+        if len(self.keyed) < TOLD:
+            self.keyed.append((key, fault))
+        else:
+            self.more += fault.count
+
+    def add_for_all(self, key, fault):
+        """A fault that is told once for many rows, wherever it stands."""
+        self.keyed.append((key, fault))
+
+    def sorted(self):
+        """The faults, the one that wdp tells first, and a line for those that aren't told."""
+        faults = [fault for _, fault in sorted(self.keyed, key=lambda keyed: keyed[0])]
+        if self.more:
+            faults.append(Fault(Place(self.source), "%s in this file" % counted(self.more, "more fault"), count=self.more))
+        return faults
 
 
 def shown(value):
     """A value of a file as a person reads it: a whole number with its thousands set apart, anything else in quotes."""
-    text = value.decode("utf-8", "replace") if isinstance(value, bytes) else str(value)
+    text = value[:200].decode("utf-8", "replace") if isinstance(value, bytes) else str(value)
     if text.isascii() and text.isdigit() and len(text) <= 18:
         return "{:,}".format(int(text))
-    return "'%s'" % (text if len(text) <= 40 else text[:37] + "...")
+    return "'%s'" % escaped(text if len(text) <= 40 else text[:37] + "...")
 
 
 def counted(number, thing):
     """A number of things: `1 bid`, `2 bids`."""
     return "{:,} {}{}".format(number, thing, "" if number == 1 else "s")
+
+
+def all_counted(faults):
+    """How many faults there are, with those that a line stands for."""
+    return counted(sum(fault.count for fault in faults), "fault")

@@ -6,43 +6,46 @@ import os
 import re
 from dataclasses import dataclass, field
 
-from office import forms, groups, limits, rules, running, tables, texts
-from office.faults import Fault, Place
+from office import expected, forms, groups, limits, reading, rules, tables, texts, versions
+from office.faults import Fault, Place, counted, shown
 
-LAST_WINS = ("name", "time")
+ENDINGS = (".csv", ".tsv", ".txt")
+WORKBOOKS = (".xlsx", ".xlsm", ".xls", ".ods", ".numbers")
+# of all files of forms together: what an input may have, as UTF-16
+ALL_FORMS = 2 * limits.INPUT
+WINNER = re.compile(rb"([A-Za-z][A-Za-z0-9]{0,15}) [0-9]+ [0-9]+")
+TOTAL = re.compile(rb"total [0-9]+")
 
 
 @dataclass
 class File:
-    """A file of the auction: its bytes, its records or lines, and what was changed to have them."""
+    """A file of the auction: its bytes while they are needed, and what they are turned into."""
 
     path: str
     data: bytes = b""
-    records: list = field(default_factory=list)
+    # in nanoseconds
+    modified: int = 0
+    digest: str = ""
+    # the first field of the first record: in a form the bidder's name
+    heading: bytes = b""
     changes: list = field(default_factory=list)
-    modified: float = 0.0
+    # the records as wdp reads them
+    text: bytes = b""
 
-    @property
-    def digest(self):
-        return hashlib.sha256(self.data).hexdigest()
-
-    @property
-    def heading(self):
-        """The first field of the first record: in a form the bidder's name."""
-        return self.records[0][0].text if self.records else b""
-
-    def text(self):
-        """The records as wdp reads them."""
-        return b"".join(tables.written([cell.text for cell in record]) for record in self.records)
+    def take(self, table):
+        """Keeps what the table's records are as wdp reads them, and gives the records."""
+        self.changes = table.changes
+        self.text = b"".join(tables.written([cell.text for cell in record]) for record in table.records)
+        self.data = b""
+        return table.records
 
 
 @dataclass
-class Choices:
-    """What the office said of its files."""
+class Entry:
+    """The file of a bidder that counts, and its form, or None where that has a fault."""
 
-    last_wins: str | None = None
-    allow_missing: bool = False
-    any_file_name: bool = False
+    file: File
+    form: forms.Form | None
 
 
 @dataclass
@@ -51,88 +54,205 @@ class Auction:
 
     rules_file: File | None = None
     rules: rules.Rules | None = None
-    # of each bidder, by its number, the file and the form that count
+    # of each bidder, by its number, what counts
     forms: dict = field(default_factory=dict)
+    # files that don't count since a later one does
     replaced: list = field(default_factory=list)
+    # names in the folder that aren't taken for forms
+    not_read: list = field(default_factory=list)
     groups_file: File | None = None
     groups_text: bytes = b""
     faults: list = field(default_factory=list)
 
+    def fault(self, place, words):
+        self.faults.append(Fault(place, words))
 
-def read_table(path, width_of, faults):
-    """The table of a file, or None with a fault where it isn't readable."""
+    def add(self, faults):
+        """Faults of a text, without the lines that wdp would have for them in one input."""
+        self.faults += [Fault(fault.place, fault.words, count=fault.count) for fault in faults]
+
+
+def file_of(path, data, modified=0):
+    return File(path, data, modified, hashlib.sha256(data).hexdigest())
+
+
+def read_rules(path, auction):
     try:
-        file = File(path, running.content(path))
-        if path != "-":
-            file.modified = os.stat(path).st_mtime
-        file.records, file.changes = texts.table(file.data, width_of)
-        return file
-    except running.Stopped as stop:
-        faults.append(Fault(Place(path), str(stop).removeprefix(path + ": ")))
-    except texts.NotText as why:
-        faults.append(Fault(Place(path), str(why)))
-    return None
+        file = file_of(path, reading.content(path, texts.LARGEST_FILE))
+        records = file.take(texts.table(file.data, rules.width_of, rules.RECORDS))
+    except (reading.Unreadable, texts.NotText) as why:
+        auction.fault(Place(path), str(why))
+        return
+    auction.rules_file = file
+    auction.rules, faults = rules.read_rules(records, path)
+    auction.add(faults)
 
 
-def form_paths(folder, faults):
-    """The files of a folder by their names; hidden ones, and those that end in ~, are left out."""
+def form_paths(folder, auction):
+    """The files of a folder that are taken for forms; hidden ones, and those that end in ~, are named in the receipt."""
     try:
         names = sorted(os.listdir(folder))
     except OSError as error:
-        faults.append(Fault(Place(folder), error.strerror or str(error)))
+        auction.fault(Place(folder), error.strerror or str(error))
         return []
-    paths = [os.path.join(folder, name) for name in names if not name.startswith(".") and not name.endswith("~")]
-    for path in paths:
-        if os.path.isdir(path):
-            faults.append(Fault(Place(path), "a folder stands among the forms"))
-    return [path for path in paths if not os.path.isdir(path)]
+    paths, all_sizes = [], 0
+    for name in names:
+        if name.startswith(".") or name.endswith("~"):
+            auction.not_read.append(name)
+            continue
+        path, ending = os.path.join(folder, name), os.path.splitext(name)[1].lower()
+        try:
+            size = reading.status(path).st_size
+            all_sizes += size if size <= texts.LARGEST_FILE else 0
+        except reading.Unreadable as why:
+            auction.fault(Place(path), str(why))
+            continue
+        if ending in ENDINGS:
+            paths.append(path)
+        elif ending in WORKBOOKS:
+            auction.fault(Place(path), "it is a workbook; export it as CSV")
+        else:
+            auction.fault(Place(path), "its name doesn't end in %s; take it away where it is no form" % ", ".join(ENDINGS))
+    if all_sizes > ALL_FORMS:
+        auction.fault(Place(folder), "its files have {:,} bytes together, more than {:,}".format(all_sizes, ALL_FORMS))
+        return []
+    return paths
 
 
-def names_bidder(path, bidder):
-    """Whether the file's name has the bidder's name as a word of its own, in any case of its letters."""
-    stem = os.path.splitext(os.path.basename(path))[0]
-    return bidder.decode("ascii", "replace").lower() in [word.lower() for word in re.split(r"[^A-Za-z0-9]+", stem)]
+def read_form_file(path, width, auction):
+    """A file of a form with its heading, or None with a fault where it can't be read."""
+    try:
+        file = file_of(path, *reading.regular(path, texts.LARGEST_FILE))
+        first = texts.table(file.data, lambda first: width, most=1).records
+    except (reading.Unreadable, texts.NotText) as why:
+        auction.fault(Place(path), str(why))
+        return None
+    file.heading = first[0][0].text if first else b""
+    return file
 
 
-def sort_forms(found, choices, auction):
-    """Of each bidder the file that counts, by the order that was chosen."""
-    order = {"name": lambda file: file.path, "time": lambda file: (file.modified, file.path), None: lambda file: file.path}
-    by_bidder = {}
-    for file in sorted(found, key=order[choices.last_wins]):
-        by_bidder.setdefault(file.heading, []).append(file)
-    for heading, files in by_bidder.items():
-        if len(files) > 1 and choices.last_wins is None:
-            words = "another form of %s stands in %s; say --last-wins name or --last-wins time" % (
-                heading.decode("utf-8", "replace"), files[0].path)
-            auction.faults += [Fault(Place(file.path), words) for file in files[1:]]
-        elif len(files) > 1:
-            auction.replaced += [(file, files[-1]) for file in files[:-1]]
-    if choices.last_wins is None:
+class Names:
+    """The bidders by their names, and by these in small letters."""
+
+    def __init__(self, known):
+        self.exact, self.alike = {}, {}
+        for number, bidder in enumerate(known.bidders, 1):
+            self.exact[bidder.name.decode()] = number
+            self.alike.setdefault(bidder.name.decode().lower(), set()).add(number)
+
+    def among(self, path):
+        """The numbers of the bidders whose names are words of a file's name; where none is written alike, in any case."""
+        found = set()
+        for word in re.split(r"[^A-Za-z0-9]+", versions.stem(path)):
+            found |= {self.exact[word]} if word in self.exact else self.alike.get(word.lower(), set())
         return found
-    return [files[-1] for files in by_bidder.values()]
+
+
+def check_name(file, names, choices, auction):
+    """A file's name has to name the bidder of its first row, and no other."""
+    number = auction.rules.bidder_number(file.heading)
+    if number is None:
+        return
+    named, own = names.among(file.path), file.heading.decode()
+    others = " and ".join(auction.rules.bidders[other - 1].name.decode() for other in sorted(named - {number}))
+    place = Place(file.path, 1, 1)
+    if number in named and others:
+        auction.fault(place, "the file's name names %s beside %s, whose form its first row says it is" % (others, own))
+    elif others:
+        auction.fault(place, "the file's name doesn't name %s, whose form its first row says it is, but %s" % (own, others))
+    elif not named and not choices.any_file_name:
+        auction.fault(place, "the file's name doesn't name %s, whose form its first row says it is; "
+                             "say --any-file-name where it is right" % own)
+
+
+def last_forms(found, choices, auction):
+    """Of each bidder the file that counts, by the order that was chosen; all, with faults, where none can be told."""
+    by_heading, counting = {}, []
+    for file in found:
+        by_heading.setdefault(file.heading, []).append(file)
+    for heading, files in by_heading.items():
+        try:
+            if len(files) == 1 or auction.rules.bidder_number(heading) is None:
+                counting += files
+            elif choices.last_wins is None:
+                raise versions.Undecided("say --last-wins name or --last-wins time")
+            else:
+                last, replaced = versions.last_of(files, choices.last_wins)
+                counting.append(last)
+                auction.replaced += replaced
+        except versions.Undecided as why:
+            counting += files
+            begin = "another form of %s stands in %s" % (heading.decode(), files[0].path)
+            tried = "" if choices.last_wins is None else "--last-wins %s can't tell which is later: " % choices.last_wins
+            for file in files[1:]:
+                auction.fault(Place(file.path), "%s; %s%s" % (begin, tried, why))
+    return counting
+
+
+def check_end(file, table, choices, auction):
+    """A form that may have been cut off in its last row."""
+    name = file.heading.decode("utf-8", "replace")
+    if table.unclosed:
+        auction.fault(Place(file.path, table.unclosed.line, table.unclosed.column), "the field's quote isn't closed")
+    elif not table.is_ended and name not in choices.allow_unended:
+        auction.fault(Place(file.path, table.records[-1][0].line), "the last row has no line end, as in a file "
+                      "that was cut off; say --allow-unended %s where it is whole" % name[:40])
+    elif table.is_ended and name in choices.allow_unended:
+        auction.fault(Place(file.path), "the last row has its line end; --allow-unended names %s" % name)
+
+
+def check_bids(file, form, choices, auction):
+    """A form without bids has to be named, and no other."""
+    name = file.heading.decode()
+    if not form.bids and name not in choices.allow_empty:
+        auction.fault(Place(file.path), "the form has no bid; say --allow-empty %s where it is to have none" % name)
+    elif form.bids and name in choices.allow_empty:
+        auction.fault(Place(file.path), "the form has %s; --allow-empty names %s" % (counted(len(form.bids), "bid"), name))
+
+
+def read_form(file, choices, auction):
+    """Reads the form of a file that counts."""
+    table = texts.table(file.data, lambda first: len(auction.rules.categories) + 1, forms.RECORDS)
+    check_end(file, table, choices, auction)
+    form, faults = forms.read_form(file.take(table), auction.rules, 0, file.path)
+    auction.add(faults)
+    if form:
+        check_bids(file, form, choices, auction)
+    number = auction.rules.bidder_number(file.heading)
+    if number is not None:
+        auction.forms[number] = Entry(file, form)
+
+
+def check_words(choices, auction):
+    """Each name in the words has to be a bidder's, and each word needed."""
+    for word, names in (("missing", choices.allow_missing), ("empty", choices.allow_empty), ("unended", choices.allow_unended)):
+        for name in names:
+            number = auction.rules.bidder_number(name.encode("utf-8", "replace"))
+            if number is None:
+                auction.fault(Place("--allow-" + word), "%s is no bidder of the rules" % shown(name))
+            elif word == "missing" and number in auction.forms:
+                auction.fault(Place(auction.forms[number].file.path), "this is a form of %s; --allow-missing names it" % name)
+            elif word != "missing" and number not in auction.forms:
+                auction.fault(Place("--allow-" + word), "there is no form of %s" % name)
 
 
 def read_forms(folder, choices, auction):
-    """Reads each form that counts, in the order of the bidders."""
+    """Reads each form that counts, and tells what lacks."""
     width = len(auction.rules.categories) + 1
-    tables_found = [read_table(path, lambda records: width, auction.faults) for path in form_paths(folder, auction.faults)]
-    read = []
-    for file in sort_forms([file for file in tables_found if file], choices, auction):
-        number = auction.rules.bidder_number(file.heading)
-        form, faults = forms.read_form(file.records, auction.rules, 0, file.path)
-        auction.faults += [Fault(fault.place, fault.words) for fault in faults]
-        if number is None:
-            continue
-        if not choices.any_file_name and not names_bidder(file.path, file.heading):
-            words = "the file's name doesn't name %s, whose form its first row says it is; say --any-file-name where it is right"
-            auction.faults.append(Fault(Place(file.path, 1, 1), words % file.heading.decode()))
-        read.append((number, file, form))
-    auction.forms = {number: (file, form) for number, file, form in sorted(read, key=lambda entry: entry[0])}
-    if not choices.allow_missing:
-        for number, bidder in enumerate(auction.rules.bidders, 1):
-            if number not in auction.forms:
-                words = "there is no form of %s; say --allow-missing where it doesn't bid" % bidder.name.decode()
-                auction.faults.append(Fault(Place(folder), words))
+    found = [file for path in form_paths(folder, auction) if (file := read_form_file(path, width, auction))]
+    names = Names(auction.rules)
+    for file in found:
+        check_name(file, names, choices, auction)
+    for file in last_forms(found, choices, auction):
+        read_form(file, choices, auction)
+    auction.forms = dict(sorted(auction.forms.items()))
+    check_words(choices, auction)
+    for number, bidder in enumerate(auction.rules.bidders, 1):
+        name = bidder.name.decode()
+        if number not in auction.forms and name not in choices.allow_missing:
+            auction.fault(Place(folder), "there is no form of %s; say --allow-missing %s where it doesn't bid" % (name, name))
+    if choices.expect:
+        expected.compare(choices.expect, auction.rules, auction.forms, auction.faults)
 
 
 def each_alone(names):
@@ -140,68 +260,72 @@ def each_alone(names):
     return b"".join(name + b"\n" for name in [b"-"] + list(names))
 
 
-def winners_of(path):
+def winners_of(text):
     """The winners of the first group in a report, or of an allocation as `wdp map` prints it."""
     names = []
-    for line in running.content(path).splitlines():
-        if line.startswith(b"total "):
-            break
-        if not line.startswith(b"group "):
-            names.append(line.split(b" ")[0])
-    return names
+    for number, line in enumerate(text.split(b"\n"), 1):
+        winner = WINNER.fullmatch(line)
+        if TOTAL.fullmatch(line):
+            return names
+        if winner:
+            names.append(winner[1])
+        elif number > 1 or not line.startswith(b"group 1 "):
+            raise texts.NotText("line %d is neither a winner's nor a total: %s" % (number, shown(line)))
+    raise texts.NotText("there is no line of the total, as in a file that was cut off")
+
+
+def lines_of_groups(words, auction):
+    """The lines of the groups with their numbers, by a file, or by a rule: `each`, or `winners FILE`."""
+    if words[0] == "each":
+        return list(enumerate(each_alone(bidder.name for bidder in auction.rules.bidders).splitlines(), 1))
+    most = limits.INPUT if words[0] == "winners" else texts.LARGEST_FILE
+    auction.groups_file = file_of(words[-1], reading.content(words[-1], most))
+    if words[0] == "winners":
+        auction.groups_file.changes = ["each winner alone"]
+        return list(enumerate(each_alone(winners_of(auction.groups_file.data)).splitlines(), 1))
+    lines, auction.groups_file.changes = texts.lines(auction.groups_file.data)
+    return lines
 
 
 def read_groups(words, auction):
-    """The groups by a file, or by a rule: `each`, or `winners FILE`."""
-    if words[0] == "each":
-        auction.groups_text = each_alone(bidder.name for bidder in auction.rules.bidders)
-        lines = list(enumerate(auction.groups_text.splitlines(), 1))
-    elif words[0] == "winners":
-        auction.groups_text = each_alone(winners_of(words[1]))
-        lines = list(enumerate(auction.groups_text.splitlines(), 1))
-    else:
-        try:
-            auction.groups_file = File(words[0], running.content(words[0]))
-            lines, auction.groups_file.changes = texts.lines(auction.groups_file.data)
-        except running.Stopped as stop:
-            auction.faults.append(Fault(Place(words[0]), str(stop).removeprefix(words[0] + ": ")))
-            return
-        except texts.NotText as why:
-            auction.faults.append(Fault(Place(words[0]), str(why)))
-            return
-        auction.groups_text = b"".join(line + b"\n" for _, line in lines)
-    _, faults = groups.read_groups([(number, number, line) for number, line in lines], auction.rules, words[-1])
-    auction.faults += [Fault(fault.place, fault.words) for fault in faults]
+    """Reads the groups, the first of which has to be that of nobody."""
+    path = words[-1]
+    try:
+        lines = lines_of_groups(words, auction)
+    except (reading.Unreadable, texts.NotText) as why:
+        auction.fault(Place(path), str(why))
+        return
+    auction.groups_text = b"".join(line + b"\n" for _, line in lines)
+    lines = [(number, number, line) for number, line in lines[:limits.GROUPS + 1]]
+    if not lines or lines[0][2] != b"-":
+        auction.fault(Place(path, 1), "the first line has to be -, the group of nobody: costs are told against it")
+    auction.add(groups.read_groups(lines, auction.rules, path)[1])
 
 
-def too_large(auction):
+def check_sizes(auction):
     """The texts that are above the limit of what wdp reads."""
-    sizes = [("rules", auction.rules_file.path, auction.rules_file.text())] if auction.rules_file else []
-    sizes += [("form", file.path, file.text()) for file, _ in auction.forms.values()]
-    return [Fault(Place(path), "the %s has more than %s bytes" % (what, "{:,}".format(limits.TEXT)))
-            for what, path, text in sizes if len(text) > limits.TEXT]
+    sizes = [("rules", auction.rules_file)] + [("form", entry.file) for entry in auction.forms.values()]
+    for what, file in sizes:
+        if len(file.text) > limits.TEXT:
+            auction.fault(Place(file.path), "the %s would have more than %s bytes" % (what, "{:,}".format(limits.TEXT)))
 
 
 def read_files(rules_path, folder, group_words, choices):
     """The auction that the files tell."""
     auction = Auction()
-    auction.rules_file = read_table(rules_path, rules.width_of, auction.faults)
-    if auction.rules_file is None:
-        return auction
-    auction.rules, faults = rules.read_rules(auction.rules_file.records, rules_path)
-    auction.faults += [Fault(fault.place, fault.words) for fault in faults]
+    read_rules(rules_path, auction)
     if auction.rules is None:
         return auction
     read_forms(folder, choices, auction)
     if group_words:
         read_groups(group_words, auction)
-    auction.faults += too_large(auction)
+    check_sizes(auction)
     return auction
 
 
 def joined(auction):
     """One input of wdp: the rules, the form of each bidder in the order of their numbers, and the groups."""
-    parts = [b"%rules\n", auction.rules_file.text()]
-    for file, _ in auction.forms.values():
-        parts += [b"%form\n", file.text()]
+    parts = [b"%rules\n", auction.rules_file.text]
+    for entry in auction.forms.values():
+        parts += [b"%form\n", entry.file.text]
     return b"".join(parts + [b"%groups\n", auction.groups_text])

@@ -1,18 +1,19 @@
 """Groups of bidders that are left out: what a list of lines says, and everything that is wrong with it."""
 from office import limits
-from office.faults import Fault, Place, shown
+from office.faults import Fault, Found, Place, shown
 
 
 def read_groups(lines, rules, source):
     """The groups, or None where there is a fault; and all faults, the one that wdp tells first.
 
-    `lines` are (number in the file, number in the list, bytes) of each line.
+    `lines` are (number in the file, number in the list, bytes) of each line, the last of them one too many at most.
     """
-    groups, faults = [], []
+    groups, found = [], Found(source)
+    numbers = {bidder.name: number for number, bidder in enumerate(rules.bidders, 1)}
 
     def fault(line, place, no, name, words, column=1):
         told = "groups: %d %s at line %d" % (no, name, place)
-        faults.append(Fault(Place(source, line, column), words, told))
+        found.add(place, Fault(Place(source, line, column), words, told))
 
     for line, place, text in lines:
         names, column = [] if text == b"-" else text.split(b"+"), 1
@@ -21,7 +22,7 @@ def read_groups(lines, rules, source):
             names = []
         seen = set()
         for name in names:
-            if rules.bidder_number(name) is None:
+            if name not in numbers:
                 what = "%s is no bidder of the rules" % shown(name) if name else "a name is missing beside a +"
                 fault(line, place, 3, "UnknownBidder", what, column)
             elif name in seen:
@@ -30,8 +31,8 @@ def read_groups(lines, rules, source):
             column += len(name) + 1
         if place == limits.GROUPS + 1:
             fault(line, place, 5, "TooManyGroups", "there are more than {:,} groups".format(limits.GROUPS))
-        groups.append(sorted(filter(None, map(rules.bidder_number, names))))
-    return (None if faults else groups), faults
+        groups.append(sorted(numbers[name] for name in names if name in numbers))
+    return (None if found else groups), found.sorted()
 
 
 def too_large(source):

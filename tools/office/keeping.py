@@ -19,42 +19,59 @@ def misfit(rules, bid):
     return None
 
 
-def is_smaller(package, other):
-    return package != other and all(a <= b for a, b in zip(package, other))
+def at_most(numbers):
+    """Of each place the set of the places whose numbers are at most its number; a set is a whole number with a bit for each."""
+    sets, below, same = [0] * len(numbers), 0, []
+    in_order = sorted(range(len(numbers)), key=numbers.__getitem__)
+    for at, place in enumerate(in_order):
+        below |= 1 << place
+        same.append(place)
+        if at + 1 == len(in_order) or numbers[in_order[at + 1]] != numbers[place]:
+            for other in same:
+                sets[other] = below
+            same = []
+    return sets
 
 
-def dominating(rules, bids, place):
-    """The number of the first bid that asks for no more and isn't worth less, or None."""
-    for number, other in enumerate(bids, 1):
-        if is_smaller(other.package, bids[place].package) and net(rules, other) >= net(rules, bids[place]):
-            return number
-    return None
+def dominating(bids, nets):
+    """Of each bid the number of the first one that asks for no more and isn't worth less, or None.
+
+    Packages of a form differ, so any other bid within these sets is a smaller one. Each category costs a step for each bid
+    whatever its packages are, so that no form takes longer than its size.
+    """
+    sets = at_most([-worth for worth in nets])
+    for quantities in zip(*(bid.package for bid in bids)):
+        sets = [found & others for found, others in zip(sets, at_most(quantities))]
+    others = [found & ~(1 << place) for place, found in enumerate(sets)]
+    return [(found & -found).bit_length() or None for found in others]
 
 
-def why_left_out(rules, bids, place):
-    """Why a bid is left out, in words, or None where it is kept."""
-    bid = bids[place]
-    reason = misfit(rules, bid)
+def why_left_out(rules, bids, nets, place, by):
+    """Why a bid is left out, in words, or None where it is kept; `by` is the number of one that dominates it."""
+    reason = misfit(rules, bids[place])
     if reason:
         return reason
-    if net(rules, bid) < 0:
-        return "brings {:,} less than its lots are worth unsold".format(-net(rules, bid))
-    by = dominating(rules, bids, place)
+    if nets[place] < 0:
+        return "brings {:,} less than its lots are worth unsold".format(-nets[place])
     if by is None:
         return None
-    other = bids[by - 1]
     return "is dominated by bid {}: that asks for no more of any category and {}".format(
-        by, "pays {:,}".format(other.amount) if not any(category.value for category in rules.categories)
-        else "brings {:,} above the worth of its lots, this one {:,}".format(net(rules, other), net(rules, bid)))
+        by, "pays {:,}".format(bids[by - 1].amount) if not any(category.value for category in rules.categories)
+        else "brings {:,} above the worth of its lots, this one {:,}".format(nets[by - 1], nets[place]))
+
+
+def reasons_of(rules, bids):
+    """Why each bid is left out, None where it is kept."""
+    nets = [net(rules, bid) for bid in bids]
+    return [why_left_out(rules, bids, nets, place, by) for place, by in enumerate(dominating(bids, nets))]
 
 
 def left_out(rules, forms):
     """A line for each bid that is left out, and one for each form."""
     for number, form in forms.items():
         name = rules.bidders[number - 1].name.decode()
-        reasons = [why_left_out(rules, form.bids, place) for place in range(len(form.bids))]
-        kept = reasons.count(None)
-        yield "%s: %s, %d kept" % (name, counted(len(form.bids), "bid"), kept)
+        reasons = reasons_of(rules, form.bids)
+        yield "%s: %s, %d kept" % (name, counted(len(form.bids), "bid"), reasons.count(None))
         for bid, reason in enumerate(reasons, 1):
             if reason:
                 yield "%s: bid %d %s" % (name, bid, reason)

@@ -3,11 +3,15 @@ import re
 from dataclasses import dataclass, field
 
 from office import limits
-from office.faults import Fault, Place, shown
+from office.faults import Fault, Found, Place, shown
+from office.tables import counted_fields
 
 NAME = re.compile(rb"[A-Za-z][A-Za-z0-9]{0,15}")
 NUMBER = re.compile(rb"[0-9]{1,18}")
+SCIENTIFIC = re.compile(rb"[+-]?[0-9]+([.,][0-9]*)?[eE][+-]?[0-9]+")
 WIDTHS = {b"1": 5, b"2": 6, b"3": 6}
+# so many records are read: a table that has as many has a fault in them
+RECORDS = 2 + limits.CATEGORIES + limits.BIDDERS + limits.POOLS + limits.POOLS * limits.CATEGORIES
 
 
 @dataclass
@@ -45,9 +49,8 @@ class Rules:
         return next((number for number, bidder in enumerate(self.bidders, 1) if bidder.name == name), None)
 
 
-def width_of(records):
+def width_of(header):
     """How many fields each record has by the version that the header tells."""
-    header = records[0]
     return WIDTHS.get(header[1].text if len(header) > 1 else b"", len(header))
 
 
@@ -60,6 +63,8 @@ def number_words(what, value):
     """Why a field is no number, in words that name what stands in the way."""
     if value == b"":
         return "%s is missing" % what
+    if SCIENTIFIC.fullmatch(value):
+        return "%s %s is in scientific notation, as spreadsheets show wide numbers; write digits alone" % (what, shown(value))
     for mark, name in ((b",", "a comma"), (b" ", "a space"), (b"\xc2\xa0", "a space"), (b"\xe2\x80\xaf", "a space"),
                        (b".", "a point"), (b"'", "an apostrophe"), (b"-", "a minus sign"), (b"+", "a plus sign")):
         if mark in value:
@@ -76,14 +81,14 @@ class Reader:
         self.source = source
         self.rules = Rules()
         self.version = b""
-        self.faults = []
+        self.faults = Found(source)
         self.names = {b"category": set(), b"bidder": set(), b"pool": set()}
         self.counts = {b"category": 0, b"bidder": 0, b"pool": 0}
         self.members = set()
 
     def fault(self, record, no, name, cell, words):
         place = Place(self.source, cell.line, cell.column) if cell else Place(self.source)
-        self.faults.append(((record, no), Fault(place, words, "rules: %d %s at record %d" % (no, name, record))))
+        self.faults.add((record, no), Fault(place, words, "rules: %d %s at record %d" % (no, name, record)))
 
     def numbers(self, record, cells):
         """The numbers of cells that are given as (what, cell, least, greatest), None for each that isn't one."""
@@ -114,7 +119,7 @@ class Reader:
     def has_its_fields(self, record, cells):
         wanted = WIDTHS[self.version]
         if len(cells) != wanted:
-            words = "the row has %d fields; rules of version %s have %d" % (len(cells), self.version.decode(), wanted)
+            words = "the row has %s; rules of version %s have %d" % (counted_fields(cells), self.version.decode(), wanted)
             self.fault(record, 3, "FieldCount", cells[0], words)
         return len(cells) == wanted
 
@@ -190,18 +195,18 @@ class Reader:
             if not self.counts[kind]:
                 words = "there is no %s" % kind.decode()
                 told = "rules: %d %s at record %d" % (no, name, len(records))
-                self.faults.append(((len(records), 100 + no), Fault(Place(self.source), words, told)))
+                self.faults.add((len(records), 100 + no), Fault(Place(self.source), words, told))
 
 
 def read_rules(records, source):
     """The rules, or None where there is a fault; and all faults, the one that wdp tells first."""
     reader = Reader(source)
     if reader.header(records):
-        for place, cells in enumerate(records[1:], 2):
+        for place, cells in enumerate(records[1:RECORDS], 2):
             reader.entry(place, cells)
-        reader.end(records)
-    faults = [fault for _, fault in sorted(reader.faults, key=lambda keyed: keyed[0])]
-    return (None if faults else reader.rules), faults
+        if len(records) < RECORDS:
+            reader.end(records)
+    return (None if reader.faults else reader.rules), reader.faults.sorted()
 
 
 def too_large(source):

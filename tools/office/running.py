@@ -1,9 +1,13 @@
 """How a tool runs: messages, clean ends, and output that is written whole or not at all."""
+import contextlib
+import errno
 import importlib
 import os
 import signal
 import sys
 import tempfile
+
+from office.printed import escaped
 
 PACKAGES = {"jinja2": "python3-jinja2", "numpy": "python3-numpy", "scipy": "python3-scipy", "swiglpk": "python3-swiglpk"}
 
@@ -17,11 +21,16 @@ class Stopped(Exception):
 
 
 def say(tool, text):
-    """A line on standard error. Where nobody reads it, the work goes on."""
-    try:
-        print("%s: %s" % (tool, text), file=sys.stderr, flush=True)
-    except OSError:
-        pass
+    """A line on standard error."""
+    tell(escaped("%s: %s" % (tool, text)) + "\n")
+
+
+def tell(text):
+    """Puts a text on standard error. Where nobody reads it, the work goes on."""
+    # Python prints to standard output where standard error is closed
+    if sys.stderr is not None:
+        with contextlib.suppress(OSError):
+            print(text, end="", file=sys.stderr, flush=True)
 
 
 def missing_packages(modules):
@@ -55,16 +64,37 @@ def content(path):
 
 def write_whole(path, text):
     """Writes a file whole or not at all: beside its place first."""
+    write_all({path: text})
+
+
+def write_all(texts):
+    """Writes files whole, all of them or none. No file takes the place of what isn't one, as a device."""
+    with contextlib.ExitStack() as undone:
+        written = [(path, beside(path, text, undone)) for path, text in texts.items()]
+        for path, temporary in written:
+            try:
+                os.replace(temporary, os.path.realpath(path))
+            except OSError as error:
+                raise Stopped("%s: %s" % (path, error.strerror))
+        undone.pop_all()
+
+
+def remove(path):
+    with contextlib.suppress(FileNotFoundError):
+        os.unlink(path)
+
+
+def beside(path, text, undone):
+    """Writes a file beside its place, and leaves word of how it is taken away."""
     try:
-        handle, beside = tempfile.mkstemp(dir=os.path.dirname(os.path.abspath(path)), prefix=".writing-")
-        try:
-            with os.fdopen(handle, "wb") as file:
-                file.write(text)
-            os.chmod(beside, 0o666 & ~umask())
-            os.replace(beside, path)
-        except BaseException:
-            os.unlink(beside)
-            raise
+        if os.path.exists(path) and not os.path.isfile(path):
+            raise Stopped("%s: it isn't a file" % path)
+        handle, temporary = tempfile.mkstemp(dir=os.path.dirname(os.path.realpath(path)), prefix=".writing-")
+        undone.callback(remove, temporary)
+        with os.fdopen(handle, "wb") as file:
+            file.write(text)
+        os.chmod(temporary, 0o666 & ~umask())
+        return temporary
     except OSError as error:
         raise Stopped("%s: %s" % (path, error.strerror))
 
@@ -76,8 +106,16 @@ def umask():
 
 
 def print_bytes(text):
+    if sys.stdout is None:
+        raise Stopped("standard output is closed")
     try:
-        sys.stdout.buffer.write(text)
+        # with PYTHONUNBUFFERED a write may take a part, and say so by its answer alone
+        rest = memoryview(text)
+        while rest:
+            written = sys.stdout.buffer.write(rest)
+            if written is None:
+                raise OSError(errno.EAGAIN, os.strerror(errno.EAGAIN))
+            rest = rest[written:]
         sys.stdout.buffer.flush()
     except OSError as error:
         os.dup2(os.open(os.devnull, os.O_WRONLY), 1)

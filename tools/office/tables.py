@@ -4,12 +4,17 @@ A record ends at LF, CR LF or CR; an empty line is no record. A field that begin
 single one, a doubled one stands for itself, and what follows the closing quote joins the field. An open quote at the end
 of the text ends the record. A quote inside a field that doesn't begin with one is data.
 """
-import bisect
 import re
 from typing import NamedTuple
 
+from office.faults import counted
+
 LINE_END = re.compile(rb"\r\n|\n|\r")
-QUOTED = re.compile(rb'[^"]*')
+WHOLE_LINE = re.compile(rb"[^\r\n]*")
+QUOTES = re.compile(rb'"+')
+NEEDS_QUOTES = re.compile(rb'[,"\r\n]|^%')
+# no record has as many; what follows one that has isn't read
+FIELDS = 1_000
 
 
 class Field(NamedTuple):
@@ -18,74 +23,98 @@ class Field(NamedTuple):
     column: int
 
 
-class Lines:
-    """Where the lines of a text begin, whichever way they end."""
+class Records:
+    """The records of a text, each a list of fields; no more of the text is read than is asked for.
 
-    def __init__(self, text, first_line=1):
-        self.starts = [0] + [end.end() for end in LINE_END.finditer(text)]
-        self.first_line = first_line
+    Lines are counted from `first_line`, columns are bytes from 1. With `drops_empty` records without a byte but delimiters
+    are counted in `empty` and left out. `unclosed` is the field whose quote the text doesn't close, once it is read.
+    """
 
-    def place(self, at):
-        """Line and column of a byte; a column counts bytes from 1."""
-        line = bisect.bisect_right(self.starts, at) - 1
-        return self.first_line + line, at - self.starts[line] + 1
+    def __init__(self, text, delimiter=b",", first_line=1, drops_empty=False):
+        self.text, self.delimiter = text, delimiter
+        self.plain = re.compile(rb"[^\r\n" + re.escape(delimiter) + rb"]*")
+        self.between = re.compile(rb"[\r\n" + (re.escape(delimiter) if drops_empty else b"") + rb"]+")
+        self.delimiters = re.compile(re.escape(delimiter) + b"+")
+        self.line, self.line_start = first_line, 0
+        self.empty = 0
+        # the line of a record with more fields than there may be
+        self.too_wide = None
+        self.unclosed = None
 
+    def __iter__(self):
+        at = self.pass_empty(0)
+        while at < len(self.text) and not self.too_wide:
+            end = WHOLE_LINE.match(self.text, at).end()
+            if self.text.find(b'"', at, end) < 0:
+                record = self.plain_record(at, end)
+            else:
+                record, end = self.record_with_quotes(at)
+            yield record
+            at = self.pass_empty(end)
 
-def _field(text, at, plain):
-    """The bytes of the field at a place, and where it ends."""
-    if text[at:at + 1] != b'"':
-        end = plain.match(text, at).end()
-        return text[at:end], end
-    value, at = b"", at + 1
-    while True:
-        end = QUOTED.match(text, at).end()
-        value += text[at:end]
-        if text[end:end + 2] != b'""':
-            break
-        value, at = value + b'"', end + 2
-    rest = plain.match(text, min(end + 1, len(text)))
-    return value + rest.group(), rest.end()
+    def pass_empty(self, at):
+        """Where the next record begins."""
+        found = self.between.match(self.text, at)
+        if not found:
+            return at
+        end = found.end()
+        if end < len(self.text):
+            # delimiters in front of a value belong to its record
+            end = 1 + max(self.text.rfind(b"\n", at, end), self.text.rfind(b"\r", at, end), at - 1)
+        self.empty += len(self.delimiters.findall(self.text, at, end))
+        self.pass_lines(at, end)
+        return end
 
+    def pass_lines(self, at, end):
+        """Counts the lines that end in a piece of the text."""
+        piece = self.text[at:end]
+        ends = piece.count(b"\n") + piece.count(b"\r") - piece.count(b"\r\n")
+        if ends:
+            self.line += ends
+            self.line_start = at + max(piece.rfind(b"\n"), piece.rfind(b"\r")) + 1
 
-def _plain_record(text, delimiter, line, column):
-    """The fields of a record without quotes."""
-    record = []
-    for value in text.split(delimiter):
-        record.append(Field(value, line, column))
-        column += len(value) + 1
-    return record
+    def plain_record(self, at, end):
+        """The fields of a record without quotes; of more fields than a record has, or empty ones at its end, not all."""
+        record, column = [], at - self.line_start + 1
+        filled = self.text[at:end].rstrip(self.delimiter)
+        values, empty = filled.split(self.delimiter, FIELDS), end - at - len(filled)
+        self.too_wide = self.line if len(values) > FIELDS else None
+        for value in values + [b""] * min(empty, FIELDS):
+            record.append(Field(value, self.line, column))
+            column += len(value) + 1
+        return record
 
-
-def _record(text, at, delimiter, plain, lines):
-    """The fields of the record at a place, and where the next one may begin."""
-    record, end = [], at - 1
-    while not record or text[end:end + 1] == delimiter:
-        at = end + 1
-        value, end = _field(text, at, plain)
-        record.append(Field(value, *lines.place(at)))
-    return record, end + 1
-
-
-def records(text, delimiter=b",", first_line=1):
-    """The records of a text, each a list of fields. `first_line` is the number of the text's first line in its file."""
-    plain = re.compile(rb"[^\r\n" + re.escape(delimiter) + rb"]*")
-    whole_line = re.compile(rb"[^\r\n]*")
-    lines, found, at = Lines(text, first_line), [], 0
-    while at < len(text):
-        if text[at] in b"\r\n":
-            at += 1
-            continue
-        end = whole_line.match(text, at).end()
-        if text.find(b'"', at, end) < 0:
-            found.append(_plain_record(text[at:end], delimiter, *lines.place(at)))
+    def record_with_quotes(self, at):
+        """The fields of the record at a place, and where it ends."""
+        record, end = [], at - 1
+        while not record or self.text[end:end + 1] == self.delimiter and not self.too_wide:
             at = end + 1
-            continue
-        record, at = _record(text, at, delimiter, plain, lines)
-        found.append(record)
-    return found
+            value, end, is_closed = self.field(at)
+            record.append(Field(value, self.line, at - self.line_start + 1))
+            if not is_closed:
+                self.unclosed = record[-1]
+            self.pass_lines(at, end)
+            self.too_wide = record[0].line if len(record) > FIELDS else None
+        return record, end
+
+    def field(self, at):
+        """The bytes of the field at a place, where it ends, and whether a quote that opens it is closed."""
+        if self.text[at:at + 1] != b'"':
+            end = self.plain.match(self.text, at).end()
+            return self.text[at:end], end, True
+        for quotes in QUOTES.finditer(self.text, at + 1):
+            # of an odd number of quotes all but the last are pairs, and that one closes
+            if (quotes.end() - quotes.start()) % 2:
+                rest = self.plain.match(self.text, quotes.end())
+                return self.text[at + 1:quotes.end() - 1].replace(b'""', b'"') + rest.group(), rest.end(), True
+        return self.text[at + 1:].replace(b'""', b'"'), len(self.text), False
+
+
+def counted_fields(record):
+    return "more than {:,} fields".format(FIELDS) if len(record) > FIELDS else counted(len(record), "field")
 
 
 def written(fields):
     """The line of a record, with quotes where a field needs them."""
-    return b",".join(b'"' + field.replace(b'"', b'""') + b'"' if re.search(rb'[,"\r\n]|^%', field) else field
+    return b",".join(b'"' + field.replace(b'"', b'""') + b'"' if NEEDS_QUOTES.search(field) else field
                      for field in fields) + b"\n"

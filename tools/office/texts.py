@@ -2,13 +2,22 @@
 
 Nothing is guessed of a value: only the encoding, the delimiter, line ends, and cells that hold nothing are looked at.
 """
+from __future__ import annotations
+
 import codecs
+import re
 from dataclasses import dataclass, field
 
-from office import tables
+from office import limits, tables
+from office.faults import shown
 
 UTF_16 = ((codecs.BOM_UTF16_LE, "utf-16-le"), (codecs.BOM_UTF16_BE, "utf-16-be"))
-DELIMITERS = ((b";", "semicolons"), (b"\t", "tabs"))
+DELIMITERS = {b",": "commas", b";": "semicolons", b"\t": "tabs"}
+# what some spreadsheets write, and read, as a first line
+SEPARATOR_LINE = re.compile(rb'"?sep=([^"\r\n]*)"?(?:\r\n|\n|\r|$)')
+FIRST_LINE = re.compile(rb"[^\r\n]+")
+# of a file in bytes: a text of the greatest size may stand in it as UTF-16, behind a mark
+LARGEST_FILE = 2 * limits.TEXT + 2
 
 
 @dataclass
@@ -19,12 +28,31 @@ class Text:
     changes: list = field(default_factory=list)
 
 
+@dataclass
+class Table:
+    """The records of a file, each a list of fields, and what was changed to have them."""
+
+    records: list
+    changes: list
+    # the field whose quote isn't closed, as where a file was cut off
+    unclosed: tables.Field | None
+    # whether the last row ends as a row does, and not perhaps in the middle of a value
+    is_ended: bool
+
+
 class NotText(Exception):
     """Why a file is no text."""
 
 
 def decoded(data):
     """The text of a file's bytes."""
+    text = without_mark(data)
+    if len(text.bytes) > limits.TEXT:
+        raise NotText("it has more than {:,} bytes".format(limits.TEXT))
+    return text
+
+
+def without_mark(data):
     for mark, encoding in UTF_16:
         if data.startswith(mark):
             try:
@@ -51,40 +79,70 @@ def line_ends(text):
     return said
 
 
+def last_line(text):
+    """What stands behind the last end of a line."""
+    return text[max(text.rfind(b"\n"), text.rfind(b"\r")) + 1:]
+
+
+def is_ended(text, delimiter):
+    """Whether the last row has a line end, or its last value a closing quote; a row of empty fields needs none."""
+    last = last_line(text)
+    return last.endswith(b'"') or not last.strip(delimiter + b' "')
+
+
 def delimiter_of(text):
-    """The delimiter, by the first line that isn't empty: a comma wherever there is one."""
-    first = next((line for line in tables.LINE_END.split(text) if line), b"")
-    if b"," not in first:
-        for delimiter, name in DELIMITERS:
-            if delimiter in first:
-                return delimiter, [name + " turned into commas"]
-    return b",", []
+    """The delimiter, where the rows begin, and what is said of both.
+
+    It is told by a line `sep=;`, or else by the first line that isn't empty: a comma wherever there is one.
+    """
+    told = SEPARATOR_LINE.match(text)
+    if told:
+        if told[1] not in DELIMITERS:
+            raise NotText("its first line is sep=%s; fields are parted by a comma, a semicolon or a tab" % shown(told[1]))
+        return told[1], told.end(), ["first line dropped, which tells the separator"] + turned(told[1])
+    first = FIRST_LINE.search(text)
+    found = next((delimiter for delimiter in DELIMITERS if first and delimiter in first[0]), b",")
+    return found, 0, turned(found)
 
 
-def without_empty(records):
-    """The records that hold something in some field."""
-    kept = [record for record in records if any(cell.text for cell in record)]
-    dropped = len(records) - len(kept)
-    return kept, ["empty rows dropped: %d" % dropped] if dropped else []
+def turned(delimiter):
+    return [] if delimiter == b"," else [DELIMITERS[delimiter] + " turned into commas"]
+
+
+def holds_something(record):
+    return any(cell.text for cell in record)
 
 
 def within(records, width):
     """The records without the empty fields behind the ones that they have to have."""
     changed = 0
     for place, record in enumerate(records):
-        if len(record) > width and not any(cell.text for cell in record[width:]):
+        if len(record) > width and not holds_something(record[width:]):
             records[place] = record[:width]
             changed += 1
     return ["empty fields at the end of rows dropped: %d" % changed] if changed else []
 
 
-def table(data, width_of):
-    """The records of a file's bytes and what was changed; `width_of` gives the fields of a record from the records."""
+def table(data, width_of, most=None):
+    """The records of a file's bytes, at most so many; `width_of` gives the fields of a record from the first one."""
     text = decoded(data)
-    delimiter, of_delimiter = delimiter_of(text.bytes)
-    records, of_rows = without_empty(tables.records(text.bytes, delimiter))
-    of_fields = within(records, width_of(records)) if records else []
-    return records, text.changes + line_ends(text.bytes) + of_delimiter + of_rows + of_fields
+    delimiter, begin, of_delimiter = delimiter_of(text.bytes)
+    rows = tables.Records(text.bytes[begin:], delimiter, first_line=2 if begin else 1, drops_empty=True)
+    records, empty = [], 0
+    for row in rows:
+        if holds_something(row):
+            records.append(row)
+            if len(records) == most:
+                break
+        else:
+            empty += 1
+    if rows.too_wide:
+        raise NotText("the row in line {} has more than {:,} fields".format(rows.too_wide, tables.FIELDS))
+    empty += rows.empty
+    changes = text.changes + line_ends(text.bytes) + of_delimiter
+    changes += ["empty rows dropped: %d" % empty] if empty else []
+    changes += within(records, width_of(records[0])) if records else []
+    return Table(records, changes, rows.unclosed, not records or is_ended(text.bytes, delimiter))
 
 
 def lines(data):

@@ -3,12 +3,13 @@
 WDP in the environment names the program. DAMAGES is how many inputs are tried of each version, by default 1,000.
 """
 import os
+import re
 import subprocess
 import unittest
 
-from office import inputs
+from office import inputs, keeping
 from office.tests.damaged_inputs import damaged
-from office.tests.inputs_of_tests import ACCEPTED
+from office.tests.inputs_of_tests import ACCEPTED, far_apart_at_places
 
 WDP = os.environ.get("WDP")
 DAMAGES = int(os.environ.get("DAMAGES", "1000"))
@@ -58,6 +59,15 @@ class TellsWhatWdpTells(unittest.TestCase):
             self.compare(text + b"%groups\n-\n")
         self.compare(two + b"%groups\n" + b"-\n" * 1025)
         self.compare(two + b"%groups\n" + b"-\n" * 1024 + b"Beta")
+
+    def test_bids_that_are_in_no_program(self):
+        for text in [*ACCEPTED, far_apart_at_places(4_000)]:
+            text = text[:text.index(b"%groups")]
+            program = subprocess.run([WDP, "text"], input=text, capture_output=True, check=True).stdout
+            auction = inputs.read_input(text, "input", "text")
+            kept = {(form.bidder, number) for form in auction.forms
+                    for number, reason in enumerate(keeping.reasons_of(auction.rules, form.bids), 1) if reason is None}
+            self.assertEqual(kept, {tuple(map(int, pair)) for pair in re.findall(rb"^ X([0-9]+)_([0-9]+) OBJ", program, re.MULTILINE)})
 
 
 if __name__ == "__main__":

@@ -1,36 +1,12 @@
-"""Folders of an auction's files, as offices have them, and the tools run on them as programs."""
+"""Files as offices have them, joined into one input, or refused with everything that is wrong with them."""
 import os
 import signal
 import subprocess
 import sys
-import tempfile
 import time
 import unittest
 
-TOOLS = os.path.dirname(os.path.dirname(os.path.dirname(os.path.abspath(__file__))))
-BIDDERS = ["Ant", "Bee", "Cat", "Dove", "Eel", "Fox", "Gnat", "Heron", "Ibis"]
-RULES = ("rules,1,100,,\ncategory,Low,6,1000,2\ncategory,High,4,500,1\n"
-         + "".join("bidder,%s,20,1,\n" % name for name in BIDDERS)).encode()
-GROUPS = b"-\nAnt\nBee+Cat\n"
-BIDS = ["5000,2,1", "9900,4,0", "3000,0,3"]
-
-
-def form(name, bids=BIDS):
-    return "".join(line + "\n" for line in ["%s,Low,High" % name] + bids)
-
-
-# Nine ways in which spreadsheets and editors export a table.
-EXPORTS = [
-    lambda text: text.encode(),
-    lambda text: b"\xef\xbb\xbf" + text.encode(),
-    lambda text: text.replace("\n", "\r\n").encode(),
-    lambda text: text.replace("\n", "\r").encode(),
-    lambda text: text.replace(",", ";").encode(),
-    lambda text: text.replace("\n", ",,\n").encode(),
-    lambda text: (text + ",,\n,,\n\n").encode(),
-    lambda text: text.replace(",", "\t").encode("utf-16"),
-    lambda text: ("\n".join(",".join('"%s"' % cell for cell in line.split(",")) for line in text.splitlines())).encode(),
-]
+from office.tests.offices import BIDDERS, GROUPS, RULES, TOOLS, Office, form, run
 
 # Ten faults of one form: each line's row, and the words that it is told in.
 FAULTY = [
@@ -47,42 +23,6 @@ FAULTY = [
 ]
 
 
-def run(tool, *words, **how):
-    how = {"capture_output": True, "stdin": subprocess.DEVNULL, **how}
-    return subprocess.run([sys.executable, os.path.join(TOOLS, tool), *words], timeout=60, **how)
-
-
-class Office(unittest.TestCase):
-    def setUp(self):
-        self.kept = tempfile.TemporaryDirectory()
-        self.addCleanup(self.kept.cleanup)
-        self.folder = self.kept.name
-        os.mkdir(self.path("forms"))
-        self.write("rules.csv", RULES)
-        self.write("groups.txt", GROUPS)
-        for name, export in zip(BIDDERS, EXPORTS):
-            self.write("forms/%s.csv" % name, export(form(name)))
-
-    def path(self, name):
-        return os.path.join(self.folder, name)
-
-    def write(self, name, data):
-        with open(self.path(name), "wb") as file:
-            file.write(data)
-
-    def gather(self, *words):
-        return run("gather", self.path("rules.csv"), self.path("forms"), *(words or [self.path("groups.txt")]))
-
-    def explain(self, *words):
-        return run("explain", self.path("rules.csv"), self.path("forms"), self.path("groups.txt"), *words)
-
-    def assert_stopped(self, seen, *parts):
-        self.assertEqual((seen.returncode, seen.stdout), (1, b""))
-        for part in parts:
-            self.assertIn(part, seen.stderr.decode())
-        self.assertNotIn(b"Traceback", seen.stderr)
-
-
 class Clean(Office):
     BY_HAND = b"%rules\n" + RULES + b"".join(b"%form\n" + form(name).encode() for name in BIDDERS) + b"%groups\n" + GROUPS
 
@@ -95,7 +35,7 @@ class Clean(Office):
         seen = self.gather(self.path("groups.txt"), "--receipt", self.path("receipt.txt"))
         with open(self.path("receipt.txt"), "rb") as file:
             self.assertEqual(file.read(), seen.stderr)
-        lines = dict(line.split(": ", 1) for line in seen.stderr.decode().splitlines())
+        lines = dict(line.split(": ", 1) for line in seen.stderr.decode().split("\n\n")[0].splitlines())
         self.assertEqual(list(lines), ["rules"] + BIDDERS + ["groups", "input"])
         self.assertIn("Heron.csv, 3 bids, SHA-256 ", lines["Heron"])
         self.assertIn("UTF-16 turned into UTF-8", lines["Heron"])
@@ -107,6 +47,7 @@ class Clean(Office):
         self.write("report.txt", b"group 1 -\nBee 1 5000\nFox 2 9900\ntotal 14900\ncost 0\ngroup 2 Bee\nCat 1 5000\n")
         seen = self.gather("--groups", "winners", self.path("report.txt"))
         self.assertEqual(seen.stdout.split(b"%groups\n")[1], b"-\nBee\nFox\n")
+        self.assertIn("\ngroups: %s, 3 groups, SHA-256 " % self.path("report.txt"), seen.stderr.decode())
 
     def test_left_out_bids(self):
         self.write("forms/Ant.csv", form("Ant", ["5000,2,1", "5000,3,1", "9900,7,0"]).encode())
@@ -139,13 +80,11 @@ class Wrong(Office):
         by_time = self.gather(self.path("groups.txt"), "--last-wins", "time")
         self.assertEqual((by_time.returncode, by_time.stdout), (0, Clean.BY_HAND))
         self.assertIn("left out: " + self.path("forms/Ant-old.csv"), by_time.stderr.decode())
-        by_name = self.gather(self.path("groups.txt"), "--last-wins", "name")
-        self.assertEqual((by_name.returncode, by_name.stdout), (0, Clean.BY_HAND))
 
     def test_a_forgotten_form(self):
         os.unlink(self.path("forms/Fox.csv"))
         self.assert_stopped(self.gather(), "there is no form of Fox")
-        allowed = self.gather(self.path("groups.txt"), "--allow-missing")
+        allowed = self.gather(self.path("groups.txt"), "--allow-missing", "Fox")
         self.assertEqual(allowed.returncode, 0)
         self.assertIn(b"Fox: no form\n", allowed.stderr)
 
@@ -184,6 +123,8 @@ class Ends(Office):
                       [self.path("rules.csv"), self.path("forms"), "--groups", "all"],
                       [self.path("rules.csv"), self.path("forms"), "--groups", "winners"]):
             self.assertEqual(run("gather", *words).returncode, 2)
+        # one input has no files to choose from
+        self.assertEqual(run("explain", self.path("rules.csv"), "--allow-missing", "Ant").returncode, 2)
 
     def test_a_full_disk(self):
         with open("/dev/full", "wb") as full:
@@ -207,8 +148,12 @@ class Ends(Office):
             self.assertNotEqual(tool.wait(timeout=60), 0)
 
     def test_a_reader_that_goes_away(self):
-        self.write("forms/Ant.csv", form("Ant", ["x,y,z"] * 3000).encode())
-        words = [sys.executable, os.path.join(TOOLS, "explain"), self.path("rules.csv"), self.path("forms")]
+        # a line for each bid, more than a pipe holds: each asks for more than the first and pays less
+        rules = RULES.replace(b"Low,6,1000,2", b"Low,10000,0,0").replace(b"High,4,500,1", b"High,10000,0,0")
+        bids = ["99000,0,1"] + ["100,%d,%d" % (place % 100, place // 100 + 2) for place in range(3_900)]
+        self.write("rules.csv", rules)
+        self.write("forms/Ant.csv", form("Ant", bids).encode())
+        words = [sys.executable, os.path.join(TOOLS, "explain"), self.path("rules.csv"), self.path("forms"), "--bids"]
         with subprocess.Popen(words, stdout=subprocess.PIPE, stderr=subprocess.PIPE) as tool:
             tool.stdout.read(10)
             tool.stdout.close()

@@ -5,7 +5,7 @@ from office import tables, texts
 
 
 def values(text, delimiter=b","):
-    return [[cell.text for cell in record] for record in tables.records(text, delimiter)]
+    return [[cell.text for cell in record] for record in tables.Records(text, delimiter)]
 
 
 class Records(unittest.TestCase):
@@ -33,7 +33,7 @@ class Records(unittest.TestCase):
                 self.assertEqual(values(text), wanted)
 
     def test_places(self):
-        first, second = tables.records(b'a,"b\r\nc",d\n\ne,f', first_line=4)
+        first, second = tables.Records(b'a,"b\r\nc",d\n\ne,f', first_line=4)
         self.assertEqual([(cell.line, cell.column) for cell in first], [(4, 1), (4, 3), (5, 4)])
         self.assertEqual([(cell.line, cell.column) for cell in second], [(7, 1), (7, 3)])
 
@@ -61,14 +61,14 @@ class Spreadsheets(unittest.TestCase):
     def test_ways(self):
         for data, changes in self.WAYS:
             with self.subTest(data=data):
-                records, seen = texts.table(data, lambda records: 3)
-                self.assertEqual([[cell.text for cell in record] for record in records],
+                table = texts.table(data, lambda first: 3)
+                self.assertEqual([[cell.text for cell in record] for record in table.records],
                                  [[b"Alpha", b"A", b"B"], [b"30", b"1", b"0"]])
-                self.assertEqual(seen, changes)
+                self.assertEqual(table.changes, changes)
 
     def test_a_value_is_never_changed(self):
         for value in (b'"1,234"', b"12 000", b" 5", b"1.0", b"12\xc2\xa0000"):
-            records, _ = texts.table(b"Alpha,A,B\n" + value + b",1,0\n", lambda records: 3)
+            records = texts.table(b"Alpha,A,B\n" + value + b",1,0\n", lambda first: 3).records
             self.assertEqual(records[1][0].text, value.strip(b'"'))
 
     def test_no_text(self):
