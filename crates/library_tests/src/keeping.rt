@@ -193,7 +193,7 @@ fn keeps_as_all_pairs<R: Threads + Sync>(
     Ok(bids.len() == count && plain.as_slice() == kept.as_slice())
 }
 
-// Whether the flags keep so many of the largest form of a kind.
+// Whether the flags keep so many of the largest form of a kind, the first bid among them.
 fn keeps_so_many<R: Threads + Wait + Sync>(
     rt: &R,
     alloc: Global,
@@ -202,7 +202,8 @@ fn keeps_so_many<R: Threads + Wait + Sync>(
 ) -> Result<bool, Fail> {
     let text = text_of_many(alloc, many, 4000)?;
     let book = book_of(rt, alloc, WIDE_RULES, &[text.as_bytes()])?;
-    Ok(kept_by_flags(rt, alloc, &book)?.len() == count)
+    let kept = kept_by_flags(rt, alloc, &book)?;
+    Ok(kept.len() == count && kept.first() == Some(&1))
 }
 
 // Whether the flags keep the same of a form of 200 bids of a kind as comparing all pairs does.

@@ -2,7 +2,8 @@
 
 ghost use Rattle.std.specs.Prelude.{◌≤◌};
 
-use crate::worked::books::worked_book;
+use crate::worked::RULES;
+use crate::worked::books::{book_of, worked_book};
 use answers::run_compile;
 use auction_terms::{Groups, Rules, read_groups};
 use bid_desk::ClosedBook;
@@ -330,6 +331,23 @@ fn a_thousand_groups_by_64_workers(rt: HostRuntime) -> Result<(), Fail> {
     let book = worked_book(&rt, rt.alloc())?;
     let groups = thousand_groups(rt.alloc(), book.rules())?;
     assert!(rt; compiles_each_once(&rt, rt.alloc(), &book, &groups, 1024, 64)?);
+    Ok(())
+}
+
+#[test]
+fn a_thousand_groups_without_a_form_by_64_workers(rt: HostRuntime) -> Result<(), Fail> {
+    let book = book_of(&rt, rt.alloc(), RULES, &[])?;
+    let mut text = Vec::new(rt.alloc());
+    for _ in 0..1024 {
+        text.extend_from_slice(b"-\n")?;
+    }
+    let groups = read_groups(rt.alloc(), text.as_slice(), book.rules())?;
+    let gate = Counts::new(rt.alloc(), 1024)?;
+    let all = compile_all(&rt, rt.alloc(), &book, &groups, 64, &gate)?;
+    assert!(rt; all.len() == 1024 && gate.are_each_one());
+    for compiled in &all {
+        assert!(rt; is_text(rt.alloc(), compiled, WITHOUT_ALL));
+    }
     Ok(())
 }
 

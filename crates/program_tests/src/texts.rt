@@ -7,6 +7,9 @@ use mps_text::{
 };
 use program_rows::build;
 use std::alloc::Global;
+use std::cell::Cell;
+use std::io;
+use std::io::Write;
 use std::test::Fail;
 
 mod long_names;
@@ -140,4 +143,36 @@ fn a_failing_writer_is_a_failing_sink(rt: HostRuntime) -> Result<(), Fail> {
     writer.add(b"\n");
     assert_eq!(rt; writer.flush(), Err(WriteFault::Sink { written: 4 }));
     Ok(())
+}
+
+/// A writer that is interrupted at its first write, and then takes what it is given. It counts how often it is asked.
+#[derive(Drop)]
+struct Interrupted<'a> {
+    asked: &'a Cell<usize>,
+}
+
+impl Write for Interrupted<'_> {
+    fn write(&mut self, buf: &[u8]) -> io::Result<usize> {
+        let asked = self.asked.get();
+        self.asked.set(asked.saturating_add(1));
+        if asked == 0 {
+            Err(io::ErrorKind::Interrupted.into())
+        } else {
+            Ok(buf.len())
+        }
+    }
+
+    fn flush(&mut self) -> io::Result<()> {
+        Ok(())
+    }
+}
+
+#[test]
+fn an_interrupted_write_is_a_failed_put(rt: HostRuntime) {
+    let asked = Cell::new(0);
+    let mut sink = StdSink::new(Interrupted { asked: &asked });
+    assert!(rt; sink.put(b"NAME").is_err());
+    assert_eq!(rt; asked.get(), 1);
+    assert!(rt; sink.put(b"NAME") == Ok(4));
+    assert_eq!(rt; asked.get(), 2);
 }
