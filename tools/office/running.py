@@ -1,9 +1,12 @@
 """How a tool runs: messages, clean ends, and output that is written whole or not at all."""
+import contextlib
 import importlib
 import os
 import signal
 import sys
 import tempfile
+
+from office.printed import escaped
 
 PACKAGES = {"jinja2": "python3-jinja2", "numpy": "python3-numpy", "scipy": "python3-scipy", "swiglpk": "python3-swiglpk"}
 
@@ -19,7 +22,7 @@ class Stopped(Exception):
 def say(tool, text):
     """A line on standard error. Where nobody reads it, the work goes on."""
     try:
-        print("%s: %s" % (tool, text), file=sys.stderr, flush=True)
+        print(escaped("%s: %s" % (tool, text)), file=sys.stderr, flush=True)
     except OSError:
         pass
 
@@ -40,6 +43,15 @@ def need(*modules):
     missing = missing_packages(modules)
     if missing:
         raise Stopped("missing Debian packages: apt-get install -y " + " ".join(missing))
+
+
+@contextlib.contextmanager
+def naming(path):
+    """Names the file where the system doesn't, as where a disk is full."""
+    try:
+        yield
+    except OSError as error:
+        raise Stopped("%s: %s" % (error.filename or path, error.strerror or error))
 
 
 def content(path):
