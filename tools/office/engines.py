@@ -40,11 +40,9 @@ def parallel_stages(given, progress):
         yield [[step, solver, str(group)] for step, solver in progress.kinds if step in kinds
                for group in progress.missing((step, solver)) if step == "solve" or group in progress.seen(("solve", solver))]
     names = [solver["name"] for solver in settings["solvers"]]
-    if any(progress.missing(("solve", name)) for name in names):
-        return
-    yield [["report", name] for name in names if not is_there(given, folder.report_path(name))]
     if any(progress.missing(kind) for kind in progress.kinds):
         return
+    yield [["report", name] for name in names if not is_there(given, folder.report_path(name))]
     yield [["verify", names[0]]] if settings["certify"] and not is_there(given, folder.audit_path(names[0])) else []
     yield [["results", names[0]]]
 
@@ -85,6 +83,13 @@ def run_words(words, where, scratch, progress):
             stop(engine)
     progress.tell(whole=True)
     return engine.returncode
+
+
+def plan(given):
+    """What Snakemake would do, on standard output; nothing is done."""
+    done = subprocess.run(snakemake_words(given, os.path.abspath(given.folder)), cwd=given.folder, stdin=subprocess.DEVNULL,
+                          stderr=subprocess.STDOUT, preexec_fn=end_with_parent)
+    return 1 if done.returncode else 0
 
 
 def run(given, progress):
