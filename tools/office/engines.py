@@ -7,6 +7,7 @@ import time
 
 from office import folder, running
 from office.ending import end_with_parent, kill_group
+from office.printed import escaped
 
 HERE = os.path.dirname(os.path.realpath(__file__))
 STEP = os.path.join(os.path.dirname(HERE), "auction_step")
@@ -71,7 +72,7 @@ def stop(engine):
 def run_words(words, where, scratch, progress):
     """The status of an engine; its own words go to a log."""
     with open(os.path.join(where, "engine.log"), "ab") as log:
-        log.write(("\n" + time.strftime("%Y-%m-%d %H:%M:%S ") + " ".join(words) + "\n").encode())
+        log.write(("\n" + escaped(time.strftime("%Y-%m-%d %H:%M:%S ") + " ".join(words)) + "\n").encode())
         log.flush()
         engine = subprocess.Popen(words, cwd=where, stdin=subprocess.DEVNULL, stdout=log, stderr=log, start_new_session=True,
                                   preexec_fn=end_with_parent, env={**os.environ, "TMPDIR": scratch})

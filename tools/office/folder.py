@@ -76,7 +76,7 @@ def read_json(path):
     """What a file of the workflow tells; an object without anything where it can't be read."""
     try:
         with open(path, "rb") as file:
-            told = strict_json.read(file.read())
+            told = strict_json.read(file.read(), any_name=True)
     except (OSError, ValueError):
         return {}
     return told if isinstance(told, dict) else {}

@@ -43,8 +43,12 @@ class RunTold:
         return self.groups.get(number, GroupTold())
 
 
+def is_line(text):
+    return isinstance(text, str) and text.isprintable()
+
+
 def is_texts(value):
-    return isinstance(value, dict) and all(isinstance(text, str) for text in value.values())
+    return isinstance(value, dict) and all(is_line(text) for text in value.values())
 
 
 def is_winner(value):

@@ -22,11 +22,13 @@ def whole(token):
     return int(token)
 
 
-def read(data):
-    """What a text tells; a ValueError that says why where it isn't JSON."""
+def read(data, any_name=False):
+    """What a text tells; a ValueError that says why where it isn't JSON. With `any_name` texts may be names of files, which
+    need not be UTF-8."""
     try:
         told = json.loads(data, parse_float=finite, parse_int=whole, parse_constant=no_number)
-        json.dumps(told, ensure_ascii=False).encode()  # a half of a surrogate pair is no character
+        if not any_name:
+            json.dumps(told, ensure_ascii=False).encode()  # half of a surrogate pair is no character
     except RecursionError:
         raise ValueError("it is nested too deeply")
     except UnicodeEncodeError:

@@ -477,6 +477,14 @@ class Said(Folder):
         self.assertEqual((status, len(messages.splitlines())), (0, 2), messages)
         self.assertIn("the report is", messages)
 
+    def test_a_folder_whose_name_would_forge_lines(self):
+        """A line break, ESC and a byte that isn't UTF-8 are told as their escapes."""
+        self.folder += os.fsdecode(b"\nauction: each total is certified\x1b[2J\xff")
+        status, messages = self.run_it("--no-certify", "--quiet", "--input", os.path.join(EXAMPLES, "worked.txt"))
+        self.assertEqual((status, len(messages.splitlines()), "\x1b" in messages), (0, 2, False), messages)
+        self.assertIn("\\nauction: each total is certified\\x1b[2J", messages)
+        self.assertEqual(self.report(), content(EXAMPLES, "worked.report.txt"))
+
     def test_a_full_disk_names_the_file(self):
         """No file may grow beyond so many bytes; the program of the first group has 370, and what is said of a step fewer."""
         for size, name in ((40, "input.sha256"), (200, "input.txt"), (330, "programs/1.mps")):
