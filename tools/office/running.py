@@ -20,11 +20,16 @@ class Stopped(Exception):
 
 
 def say(tool, text):
-    """A line on standard error. Where nobody reads it, the work goes on."""
-    try:
-        print(escaped("%s: %s" % (tool, text)), file=sys.stderr, flush=True)
-    except OSError:
-        pass
+    """A line on standard error."""
+    tell(escaped("%s: %s" % (tool, text)) + "\n")
+
+
+def tell(text):
+    """Puts a text on standard error. Where nobody reads it, the work goes on."""
+    # Python prints to standard output where standard error is closed
+    if sys.stderr is not None:
+        with contextlib.suppress(OSError):
+            print(text, end="", file=sys.stderr, flush=True)
 
 
 def missing_packages(modules):
@@ -67,16 +72,37 @@ def content(path):
 
 def write_whole(path, text):
     """Writes a file whole or not at all: beside its place first."""
+    write_all({path: text})
+
+
+def write_all(texts):
+    """Writes files whole, all of them or none. No file takes the place of what isn't one, as a device."""
+    with contextlib.ExitStack() as undone:
+        written = [(path, beside(path, text, undone)) for path, text in texts.items()]
+        for path, temporary in written:
+            try:
+                os.replace(temporary, os.path.realpath(path))
+            except OSError as error:
+                raise Stopped("%s: %s" % (path, error.strerror))
+        undone.pop_all()
+
+
+def remove(path):
+    with contextlib.suppress(FileNotFoundError):
+        os.unlink(path)
+
+
+def beside(path, text, undone):
+    """Writes a file beside its place, and leaves word of how it is taken away."""
     try:
-        handle, beside = tempfile.mkstemp(dir=os.path.dirname(os.path.abspath(path)), prefix=".writing-")
-        try:
-            with os.fdopen(handle, "wb") as file:
-                file.write(text)
-            os.chmod(beside, 0o666 & ~umask())
-            os.replace(beside, path)
-        except BaseException:
-            os.unlink(beside)
-            raise
+        if os.path.exists(path) and not os.path.isfile(path):
+            raise Stopped("%s: it isn't a file" % path)
+        handle, temporary = tempfile.mkstemp(dir=os.path.dirname(os.path.realpath(path)), prefix=".writing-")
+        undone.callback(remove, temporary)
+        with os.fdopen(handle, "wb") as file:
+            file.write(text)
+        os.chmod(temporary, 0o666 & ~umask())
+        return temporary
     except OSError as error:
         raise Stopped("%s: %s" % (path, error.strerror))
 
@@ -88,6 +114,8 @@ def umask():
 
 
 def print_bytes(text):
+    if sys.stdout is None:
+        raise Stopped("standard output is closed")
     try:
         sys.stdout.buffer.write(text)
         sys.stdout.buffer.flush()
