@@ -19,9 +19,9 @@ def forms(*patterns):
 # By these a solver says that its answer is optimal.
 OPTIMAL = forms(
     r"optimal",                                                       # HiGHS, below 'Model status'
-    r"(?:model +)?status *:? +optimal",                               # HiGHS, as it prints it
-    r"(?:scip +)?status *: +problem is solved \[optimal solution found\]",
-    r"solution status *: +optimal(?: solution found)?",               # SCIP, in its file
+    r"(?:model )?status(?: ?:)? optimal",                             # HiGHS, as it prints it
+    r"(?:scip )?status ?: problem is solved \[optimal solution found\]",
+    r"solution status ?: optimal(?: solution found)?",                # SCIP, in its file
     r"optimal - objective value " + NUMBER,                           # cbc, in its file
     r"result - optimal solution found",                               # cbc, as it prints it
     r"optimal solution found",                                        # symphony
@@ -71,8 +71,8 @@ def lines_of(text):
 
 
 def bare(line):
-    """A line without what is drawn around it."""
-    return line.strip(SPACES + "*")
+    """A line without what is drawn around it, its words parted by one space each."""
+    return " ".join(line.strip(SPACES + "*").split())
 
 
 class Said:

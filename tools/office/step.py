@@ -167,7 +167,8 @@ def solve(name, group):
     if tried.get("failed"):
         raise running.Stopped(tried["failed"])
     text = tried["solution"] if tried else solved_group(name, group)
-    folder.leave(path, text.encode("latin-1"))
+    if not os.path.exists(path):  # a job of a run that was killed may have gone on beside this one
+        folder.leave(path, text.encode("latin-1"))
 
 
 def certify(name, group):

@@ -174,8 +174,9 @@ def refuse_changed(where):
 
 
 def forget(where, solvers, groups):
-    """What was broken off or failed before is tried again; pieces of files, and answers that are disproved, are put away."""
-    for name in ("running", "ended/report", "ended/verify", "ended/results", "ended/programs", ".scratch"):
+    """What was broken off or failed before is tried again; pieces of files, and answers that are disproved, are put away.
+    Snakemake would go on with the jobs of a cluster that it wrote down as begun, though they were cancelled with the run."""
+    for name in ("running", "ended/report", "ended/verify", "ended/results", "ended/programs", ".scratch", ".snakemake/incomplete"):
         shutil.rmtree(os.path.join(where, name), ignore_errors=True)
     disproved.clear(where)
     for solver in solvers:

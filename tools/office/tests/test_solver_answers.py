@@ -159,6 +159,13 @@ class Values(Solved):
         self.assertEqual((status, "50,000,000 bytes" in messages), (1, True), messages)
         self.assertLess(time.monotonic() - start, 20)
 
+    def test_lines_that_are_made_to_take_long(self):
+        """Words and gaps of 20 MB in one line."""
+        for line in ("status" + " " * 20_000_000 + "optimum", "gap " * 5_000_000, "X1_1" + " " * 20_000_000, "x" * 20_000_000, "=" * 20_000_000):
+            start = time.monotonic()
+            self.assertEqual(self.writes("Optimal\n" + VALUES + line + "\n.\n")[0], 1)
+            self.assertLess(time.monotonic() - start, 30, line[:10])
+
     def test_much_that_is_printed_is_not_read(self):
         """300 MB of words beside an answer in a file, and before an answer of cbc."""
         start = time.monotonic()

@@ -396,6 +396,17 @@ class NotCertified(Folder):
         for name in ("bidders", "categories", "pools", "groups"):
             self.assertIn(b"(results not certified)", content(self.folder, "results", "cbc", name + ".csv").splitlines()[0])
 
+    def test_a_certificate_that_is_missing_leaves_a_page_that_says_so(self):
+        """Where a folder stands in its place, the third certificate can't be written."""
+        os.makedirs(os.path.join(self.folder, "certificates", "cbc", "3.txt.unchecked"))
+        status, messages = self.run_it()
+        self.assertEqual((status, messages.splitlines()[-1]), (1, "auction: not certified: 1 of 4 totals are cbc's word"), messages)
+        self.assertRegex(content(self.folder, "results", "cbc", "results.html").decode(), r"</h1>\n<p[^>]*>Not certified: 3 of 4 totals are shown")
+        self.assertEqual([group["certified"] for group in self.told()["groups"]], [True, True, False, True])
+        os.rmdir(os.path.join(self.folder, "certificates", "cbc", "3.txt.unchecked"))
+        status, messages = self.run_it()
+        self.assertEqual((status, self.told()["certified"]), (0, True), messages)
+
     def test_certified_is_the_usual_way(self):
         status, messages = self.run_it()
         self.assertEqual(status, 0, messages)
@@ -530,6 +541,52 @@ exit 0"""
                 _, messages = tool.communicate(timeout=60)
                 self.assertEqual(tool.returncode, 2)
                 self.assertNotIn(b"Traceback", messages)
+
+
+# A cluster on this machine: a job is a process of its own, of which a folder has the number and the status.
+SUBMIT = """#!/bin/sh
+setsid sh -c '"$1"; echo $? > {kept}/$$.status' job "$1" < /dev/null > /dev/null 2>&1 &
+echo $!
+"""
+STATUS = """#!/bin/sh
+if [ -e {kept}/$1.status ]; then [ "$(cat {kept}/$1.status)" = 0 ] && echo success || echo failed
+elif kill -0 $1 2> /dev/null; then echo running; else echo failed; fi
+"""
+CANCEL = """#!/bin/sh
+for job; do kill -s KILL -- "-$job"; done
+"""
+
+
+class OnACluster(Folder):
+    def profile(self):
+        """A profile of Snakemake for the cluster of this machine."""
+        kept = os.path.join(self.solvers, "jobs")
+        profile = os.path.join(self.solvers, "profile")
+        os.mkdir(kept)
+        os.mkdir(profile)
+        for name, text in (("submit", SUBMIT), ("status", STATUS), ("cancel", CANCEL)):
+            path = os.path.join(profile, name)
+            with open(path, "w") as file:
+                file.write(text.format(kept=kept))
+            os.chmod(path, 0o755)
+        shutil.copy(os.path.join(TOOLS, "slurm", "job"), profile)
+        with open(os.path.join(profile, "config.yaml"), "w") as file:
+            file.write('cluster: "%s"\njobscript: "job"\ncluster-status: "%s"\ncluster-cancel: "%s"\nlatency-wait: 60\n' % tuple(
+                os.path.join(profile, name) for name in ("submit", "status", "cancel")))
+        return profile
+
+    def test_jobs_that_were_cancelled_with_a_run_are_begun_by_the_next_one(self):
+        words = ["--no-certify", "--profile", self.profile()]
+        self.stand_in(WAITS % self.gate)
+        tool = self.start(*words)
+        self.wait_for(lambda: self.solved() == ["1.txt", "2.txt"] and len(self.called()) == 4, 120)
+        tool.terminate()
+        tool.communicate(timeout=60)
+        self.wait_for(lambda: not self.processes(), 10)
+        self.stand_in("")
+        os.unlink(self.calls)
+        status, messages = self.run_it(*words)
+        self.assertEqual((status, len(self.called()), self.report()), (0, 2, content(EXAMPLES, "worked.report.txt")), messages)
 
 
 class ByParallel(Folder):
