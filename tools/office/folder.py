@@ -119,13 +119,14 @@ def left(path):
 
 
 def changed(where):
-    """The files that steps left and that aren't what they left, in the workflow's folder `where`."""
+    """The files that steps left and that aren't what they left, in the workflow's folder `where`. No step reads a hidden
+    one, as systems of files that are shared leave them."""
     found = []
     for kept in KEPT:
         for folder, _, names in os.walk(os.path.join(where, kept)):
             for name in names:
                 path = os.path.relpath(os.path.join(folder, name), where)
-                if not is_piece(name) and not is_as_left(path, running.content(os.path.join(folder, name)), where):
+                if not is_piece(name) and not name.startswith(".") and not is_as_left(path, running.content(os.path.join(folder, name)), where):
                     found.append(path)
     return sorted(found)
 

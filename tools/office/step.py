@@ -292,10 +292,17 @@ def tie_query(solver, group, given):
     return TieQuery.UNDECIDED if group in given["tied_groups"] else TieQuery.NOT_ASKED
 
 
+def certified_groups(solver, given):
+    """The groups whose totals are certified: each certificate was checked by itself, and where none is missing `wdp verify`
+    has to have taken all of them together."""
+    done = folder.numbers_done(".", "certify", solver)
+    return done if len(done) < given["groups"] or os.path.exists(folder.audit_path(solver)) else set()
+
+
 def of_group(solver, group, given):
     """What the run tells of a group."""
     seconds = folder.read_json(folder.ended_path("solve", solver, group)).get("seconds")
-    return {"solver": solver, "seconds": seconds, "certified": os.path.exists(folder.path_of("certify", solver, group)),
+    return {"solver": solver, "seconds": seconds, "certified": group in certified_groups(solver, given),
             "tie_query": tie_query(solver, group, given).value}
 
 
@@ -317,7 +324,7 @@ def results(solver):
     folder.write("run.json", text_of(given["versions"], times, groups))
     audit = folder.audit_path(solver)
     words = ["--audit", audit] if os.path.exists(audit) else []
-    words += ["--currency", given["currency"]] if given["currency"] else []
+    words += ["--currency=" + given["currency"]] if given["currency"] else []
     status, _, messages = run_tool([os.path.join(TOOLS, "results"), "input.txt", folder.report_path(solver), "--run", "run.json",
                                     "--title=" + given["title"], "--output", "results/%s" % solver, *words])
     if status != 0:

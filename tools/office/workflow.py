@@ -267,9 +267,10 @@ def tell_ties(given, solver):
 
 def tell_certified(given, solver, groups):
     """The last line: how to repeat the audit, or that results aren't certified."""
-    totals = len(folder.numbers_done(given.folder, "certify", solver))
+    told = folder.read_json(os.path.join(given.folder, "results", solver, "results.json"))
+    totals = sum(group["certified"] for group in told.get("groups", []))
     audit = os.path.join(given.folder, folder.audit_path(solver))
-    if totals == groups and os.path.exists(audit):
+    if totals == groups:
         say("each total is certified: wdp verify < %s prints the report again" % audit)
     else:
         say(not_certified(totals, groups, solver))

@@ -454,6 +454,16 @@ class Changed(Folder):
         for name in ("2.txt", "other.txt"):
             self.assertIn("solutions/cbc/%s isn't what its step left" % name, messages)
 
+    def test_certificates_that_were_not_taken_together_count_for_nothing(self):
+        """Without its audit, a run that asks for no certificates doesn't say that the totals are certified."""
+        self.assertEqual(self.run_it()[0], 0)
+        os.unlink(os.path.join(self.folder, "audits", "cbc.txt"))
+        status, messages = self.run_it("--no-certify")
+        self.assertEqual((status, messages.splitlines()[-1]), (0, "auction: not certified: the totals are cbc's word"), messages)
+        self.assertFalse(self.told()["certified"])
+        status, messages = self.run_it()
+        self.assertEqual((status, self.told()["certified"]), (0, True), messages)
+
     def test_a_file_that_is_deleted_is_made_again(self):
         self.assertEqual(self.run_it()[0], 0)
         for name in ("solutions/cbc/3.txt", "programs/2.mps"):
@@ -482,6 +492,10 @@ class Said(Folder):
         self.assertIn(b"solve", printed)
         self.assertNotIn(b"missing", messages)
         self.assertFalse(is_there(self.folder, "programs"))
+
+    def test_parallel_has_no_plan(self):
+        tool = self.start("--engine", "parallel", "--", "--dry-run")
+        self.assertEqual((tool.communicate(timeout=60)[0], tool.returncode), (b"", 2))
 
     def test_quiet_tells_the_end_alone(self):
         status, messages = self.run_it("--quiet")
