@@ -222,10 +222,14 @@ def other_failures(given, solvers):
             yield ended["state"], "%s: %s" % (step, ended["words"])
 
 
-def results_without(given, solvers):
-    """Makes the reports and results where all solutions are there and only certificates or ties are missing."""
-    steps = [["report", solver.name] for solver in solvers if not os.path.exists(os.path.join(given.folder, folder.report_path(solver.name)))]
-    for step in [*steps, ["results", solvers[0].name]]:
+def results_without(given, solvers, progress):
+    """Makes the reports, the audit where each certificate is there, and the results, where all solutions are there and only
+    certificates or ties are missing."""
+    main, wanted = solvers[0].name, [("report", solver.name, folder.report_path(solver.name)) for solver in solvers]
+    if given.certify and not progress.missing(("certify", main)):
+        wanted.append(("verify", main, folder.audit_path(main)))
+    steps = [[step, name] for step, name, path in wanted if not os.path.exists(os.path.join(given.folder, path))]
+    for step in [*steps, ["results", main]]:
         done = subprocess.run([engines.STEP, *step], cwd=given.folder, stdin=subprocess.DEVNULL, capture_output=True,
                               preexec_fn=end_with_parent)
         if done.returncode != 0:
@@ -302,7 +306,7 @@ def tell_end(given, solvers, auction, progress, status):
     is_solved = all(not progress.missing(("solve", solver.name)) for solver in solvers)
     is_made, is_disproved = not missing and not wrong and status == 0, any(state == folder.NOT_OPTIMAL for state, _ in missing + wrong)
     if missing and not wrong and is_solved and not is_disproved:
-        is_made = results_without(given, solvers)
+        is_made = results_without(given, solvers, progress)
         wrong = list(other_failures(given, solvers))
         is_disproved = any(state == folder.NOT_OPTIMAL for state, _ in wrong)
     lines = ["missing: " + line for _, line in missing + wrong]
