@@ -1,5 +1,6 @@
 """How a tool runs: messages, clean ends, and output that is written whole or not at all."""
 import contextlib
+import errno
 import importlib
 import os
 import signal
@@ -117,7 +118,13 @@ def print_bytes(text):
     if sys.stdout is None:
         raise Stopped("standard output is closed")
     try:
-        sys.stdout.buffer.write(text)
+        # with PYTHONUNBUFFERED a write may take a part, and say so by its answer alone
+        rest = memoryview(text)
+        while rest:
+            written = sys.stdout.buffer.write(rest)
+            if written is None:
+                raise OSError(errno.EAGAIN, os.strerror(errno.EAGAIN))
+            rest = rest[written:]
         sys.stdout.buffer.flush()
     except OSError as error:
         os.dup2(os.open(os.devnull, os.O_WRONLY), 1)
