@@ -2,24 +2,37 @@
 import os
 import shlex
 import subprocess
-import sys
 import tempfile
 import time
 from concurrent.futures import ThreadPoolExecutor
+from dataclasses import asdict
 
-from office import inputs, running
+from office import disproved, inputs, running
 from office.audit import printed, with_answers
+from office.cut import columns_of, cut_off, other_of_same_total
 from office.ending import end_by_interrupt, end_with_parent
+from office.folder import WRONG, remove
+from office.optimal import NotOptimal, check_answer
 from office.report import read_report
-from office.totals import Answers, check_totals, compare, doubt, ties
-from office.workflow import find_solvers, wdp_version
+from office.results import results_of
+from office.run_record import GroupTold, RunTold
+from office.solving import NO_SOLUTION
+from office.telling import UNDECIDED, not_certified, tie_lines
+from office.totals import Answers, check_totals, compare, doubt, named, ties, with_asked_for
+from office.workflow import find_solvers, tied_groups, wdp_version
 
 TOOLS = os.path.dirname(os.path.dirname(os.path.realpath(__file__)))
-NOT_CERTIFIED = (3, 4)  # statuses of tools/certify: the solution isn't optimal, or a limit is reached
+LIMIT = 4  # the status of tools/certify where a limit is reached
 
 
 def say(text):
     running.say("auction", text)
+
+
+def tell(given, text):
+    """A line on what begins or is done."""
+    if not given.quiet:
+        say(text)
 
 
 def content(folder, name):
@@ -46,11 +59,14 @@ def compile_into(folder, given):
             names.append(line.split()[3].decode("ascii"))
             if program:
                 program.close()
-            program = open(os.path.join(folder, "%d.mps" % len(names)), "wb")
+            path = os.path.join(folder, "%d.mps" % len(names))
+            program = open(path, "wb")
         else:
-            program.write(line)
+            with running.naming(path):
+                program.write(line)
     if program:
-        program.close()
+        with running.naming(path):
+            program.close()
     messages = wdp.stderr.read().decode(errors="replace").strip()
     if wdp.wait() != 0:
         raise refusal(wdp.returncode, messages)
@@ -65,11 +81,9 @@ def wdp_says(given, command, text):
     return output
 
 
-def report_of(folder, solutions, solver, given):
+def report_of(folder, solutions, given):
     """The report for a solver's solutions."""
-    report = wdp_says(given, "report", with_answers(content(folder, "input.txt"), solutions))
-    keep(folder, "report.%s.txt" % solver, report)
-    return report
+    return wdp_says(given, "report", with_answers(content(folder, "input.txt"), solutions))
 
 
 def words_for(solver, given):
@@ -83,23 +97,26 @@ def words_for(solver, given):
 
 
 def on_each(names, given, words_of, begin, done):
-    """Runs a tool for each group, `--workers` of them at a time, and gives the lines and statuses of those that fail, which
-    leave the others. `begin` tells that it starts, and `done` takes what it printed."""
-    failed, tools = [], []
+    """Runs a tool for each group that has words for it, `--workers` of them at a time, and gives why it failed for those
+    for which it did, by their numbers, which leave the others. `begin` tells that it starts, and `done` takes what it printed."""
+    failed, tools = {}, []
 
     def work(number):
-        which = "group %d of %d (%s)" % (number, len(names), names[number - 1])
-        start = time.monotonic()
-        say(begin % which)
-        with subprocess.Popen(words_of(number), stdin=subprocess.DEVNULL, stdout=subprocess.PIPE, stderr=subprocess.PIPE,
+        words = words_of(number)
+        if words is None:
+            return
+        which, start = which_group(number, names), time.monotonic()
+        tell(given, begin % which)
+        with subprocess.Popen(words, stdin=subprocess.DEVNULL, stdout=subprocess.PIPE, stderr=subprocess.PIPE,
                               preexec_fn=end_with_parent) as tool:
             tools.append(tool)
             output, messages = tool.communicate()
-        if tool.returncode != 0:
-            why = messages.decode(errors="replace").strip().rpartition("\n")[2]
-            failed.append(("%s: %s" % (which, why), tool.returncode))
-            return
-        done(number, output, "%s %%s in %.2f s" % (which.replace("%", "%%"), time.monotonic() - start))
+        try:
+            if tool.returncode != 0:
+                raise running.Stopped(messages.decode(errors="replace").strip().rpartition("\n")[2], tool.returncode)
+            done(number, output, "%s %%s in %.2f s" % (which.replace("%", "%%"), time.monotonic() - start))
+        except running.Stopped as stopped:
+            failed[number] = stopped
 
     with ThreadPoolExecutor(given.workers) as pool:
         try:
@@ -109,13 +126,29 @@ def on_each(names, given, words_of, begin, done):
             for tool in tools:
                 tool.terminate()
             raise
-    for line, _ in failed:
-        say(line)
-    return [status for _, status in failed]
+    return failed
+
+
+def which_group(number, names):
+    return "group %d of %d (%s)" % (number, len(names), names[number - 1])
+
+
+def say_failed(failed, names):
+    for number, stopped in sorted(failed.items()):
+        say("%s: %s" % (which_group(number, names), stopped))
+
+
+def refuse_wrong(folder, failed, solver):
+    """Ends where an answer was disproved, and keeps the better points."""
+    wrong = {number: stopped for number, stopped in failed.items() if isinstance(stopped, NotOptimal)}
+    for number, stopped in wrong.items():
+        keep(folder, "%d.better" % number, stopped.better)
+    if wrong:
+        raise running.Stopped("no report: an answer of %s isn't optimal" % solver.name, WRONG)
 
 
 def solve_all(folder, names, solver, given):
-    """Leaves the solution of each program in the folder."""
+    """Leaves the solution of each program in the folder, to which no bid can be added."""
     words = words_for(solver, given)
 
     def words_of(number):
@@ -123,10 +156,13 @@ def solve_all(folder, names, solver, given):
         return words + ["--log", "%s.%s.log" % (path, solver.name), path + ".mps"]
 
     def done(number, solution, told):
+        check_answer(content(folder, "%d.mps" % number), solution, number)
         keep(folder, "%d.%s.solution" % (number, solver.name), solution)
-        say(told % ("solved by " + solver.name))
+        tell(given, told % ("solved by " + solver.name))
 
     failed = on_each(names, given, words_of, "%%s: %s starts" % solver.name, done)
+    say_failed(failed, names)
+    refuse_wrong(folder, failed, solver)
     if failed:
         raise running.Stopped("%d of %d groups aren't solved; with a folder, tools/auction DIR, the others are kept"
                               % (len(failed), len(names)))
@@ -142,63 +178,107 @@ def certify_all(folder, names, solver, given):
 
     def done(number, certificate, told):
         keep(folder, "%d.certificate" % number, certificate)
-        say(told % "certified" + ", %d bytes" % len(certificate))
+        tell(given, told % "certified" + ", %d bytes" % len(certificate))
 
     failed = on_each(names, given, words_of, "%s is being certified", done)
+    say_failed(failed, names)
+    statuses = {stopped.status for stopped in failed.values()}
+    if WRONG in statuses:
+        raise running.Stopped("no report: an answer of %s isn't optimal" % solver.name, WRONG)
     if failed:
-        status = next((status for status in NOT_CERTIFIED if status in failed), 1)
-        raise running.Stopped("%d of %d groups aren't certified" % (len(failed), len(names)), status)
+        raise running.Stopped("no report: %d of %d groups aren't certified; --no-certify reports what the solver says"
+                              % (len(failed), len(names)), LIMIT if LIMIT in statuses else 1)
+
+
+def ask_for_ties(folder, names, solver, given):
+    """Of each group that is asked for the other winners of the same total, if there are some, and the groups of which
+    that wasn't decided."""
+    asked, found = tied_groups(given, len(names)), {}
+
+    def words_of(number):
+        if number not in asked:
+            return None
+        own, cut = content(folder, "%d.%s.solution" % (number, solver.name)), "%d.tie.mps" % number
+        keep(folder, cut, cut_off(content(folder, "%d.mps" % number), columns_of(own)))
+        return words_for(solver, given) + [os.path.join(folder, cut)]
+
+    def done(number, solution, told):
+        text, own = content(folder, "%d.mps" % number), content(folder, "%d.%s.solution" % (number, solver.name))
+        disproved.refuse_below(text, own, solution, number)
+        other = other_of_same_total(text, own, solution)
+        if other is not None:
+            found[number] = tuple(other)
+        tell(given, told % ("asked %s for a tie" % solver.name))
+
+    failed = on_each(names, given, words_of, "%%s: %s is asked for a tie" % solver.name, done)
+    refuse_wrong(folder, failed, solver)
+    undecided = {number: stopped for number, stopped in failed.items() if stopped.status != NO_SOLUTION}
+    say_failed(undecided, names)
+    return found, sorted(undecided)
 
 
 def verified_report(folder, names, solver, solutions, given):
     """What `wdp verify` prints of a solver's solutions with certificates."""
     certify_all(folder, names, solver, given)
     certificates = [content(folder, "%d.certificate" % number) for number in range(1, len(names) + 1)]
-    keep(folder, "audit.txt", with_answers(content(folder, "input.txt"), solutions, certificates))
-    start = time.monotonic()
-    report = wdp_says(given, "verify", content(folder, "audit.txt"))
+    text, start = with_answers(content(folder, "input.txt"), solutions, certificates), time.monotonic()
+    report = wdp_says(given, "verify", text)
+    keep(folder, "audit.txt", text)
     say("verified in %.2f s: each allocation is of greatest total, and each cost is the group's opportunity cost"
         % (time.monotonic() - start))
     return report
 
 
-def tell_ties(seen, auction):
-    for group, found in seen.items():
-        names = ["+".join(auction.rules.bidders[bidder - 1].name.decode() for bidder, _ in winners) or "-" for winners in found]
-        left_out = "+".join(auction.rules.bidders[bidder - 1].name.decode() for bidder in auction.groups[group - 1]) or "-"
-        say("group %d (%s): two combinations have the greatest total; the report doesn't have the one of %s"
-            % (group, left_out, " or ".join(names)))
+def tell_ties(answers, asked_for, undecided, auction):
+    found = named(with_asked_for(ties(answers[0], answers[1:]), asked_for), auction)
+    told = RunTold(groups={number: GroupTold(ties=awards) for number, awards in found.items()})
+    awards = asdict(results_of(auction, answers[0].outcomes, told, "the answers"))["tied_awards"]
+    for line in tie_lines(awards, found):
+        say(line)
+    if undecided:
+        say(UNDECIDED % ", ".join(map(str, undecided)))
+
+
+def reported(folder, names, solver, given, auction):
+    """A solver's solutions, the report of them, and what it says; none that another group's winners disprove."""
+    solve_all(folder, names, solver, given)
+    solutions = [content(folder, "%d.%s.solution" % (number, solver.name)) for number in range(1, len(names) + 1)]
+    report = report_of(folder, solutions, given)
+    answers = Answers(read_report(report, auction, "the report of %s" % solver.name), auction)
+    check_totals(answers)
+    tell(given, "%s's answers keep the law on costs" % solver.name)
+    return solutions, report, answers
 
 
 def run(given, solvers, folder):
+    """Prints the report once all is checked. What is said last tells whether it is certified."""
     find_solvers(solvers, running.missing_packages(["numpy", "scipy", "swiglpk"]) if given.certify else [])
     wdp_version(given.wdp)
+    for name in ["audit.txt", *("report.%s.txt" % solver.name for solver in solvers)]:
+        remove(folder, name)
     keep(folder, "input.txt", running.content("-"))
     start = time.monotonic()
     names = compile_into(folder, given)
     if names[:1] != ["-"]:
         raise running.Stopped("group 1 is not empty: the first line of %groups has to be `-`, since costs are told against "
                               "the winners among all bidders")
-    say("%d programs compiled in %.2f s" % (len(names), time.monotonic() - start))
+    tell(given, "%d programs compiled in %.2f s" % (len(names), time.monotonic() - start))
     auction = inputs.read_input(content(folder, "input.txt"), "input")
-    reports, answers, all_solutions = [], [], []
-    for solver in solvers:
-        solve_all(folder, names, solver, given)
-        solutions = [content(folder, "%d.%s.solution" % (number, solver.name)) for number in range(1, len(names) + 1)]
-        all_solutions.append(solutions)
-        reports.append(report_of(folder, solutions, solver.name, given))
-        answers.append(Answers(read_report(reports[-1], auction, "the report of %s" % solver.name), auction))
-        check_totals(answers[-1])
-        say("%s's answers keep the law on costs" % solver.name)
+    made = [reported(folder, names, solver, given, auction) for solver in solvers]
+    solutions, reports, answers = zip(*made)
     for solver, others in zip(solvers[1:], answers[1:]):
         compare(answers[0], solvers[0].name, others, solver.name)
-        say("%s reaches the same totals" % solver.name)
-    tell_ties(ties(answers[0], answers[1:]), auction)
-    if given.certify:
-        return verified_report(folder, names, solvers[0], all_solutions[0], given)
-    if doubt(answers[0]):
-        say(doubt(answers[0]))
-    return reports[0]
+        tell(given, "%s reaches the same totals" % solver.name)
+    asked_for, undecided = ask_for_ties(folder, names, solvers[0], given)
+    report = verified_report(folder, names, solvers[0], solutions[0], given) if given.certify else reports[0]
+    for solver, text in zip(solvers, reports):
+        keep(folder, "report.%s.txt" % solver.name, text)
+    running.print_bytes(report)
+    tell_ties(answers, asked_for, undecided, auction)
+    if not given.certify:
+        if doubt(answers[0]):
+            say(doubt(answers[0]))
+        say(not_certified(0, len(names), solvers[0].name))
 
 
 def work(given, solvers):
@@ -207,11 +287,10 @@ def work(given, solvers):
             os.makedirs(given.keep, exist_ok=True)
         except OSError as error:
             raise running.Stopped("%s: %s" % (given.keep, error.strerror))
-        report = run(given, solvers, given.keep)
+        run(given, solvers, given.keep)
     else:
         with tempfile.TemporaryDirectory(prefix="auction.") as folder:
-            report = run(given, solvers, folder)
-    running.print_bytes(report)
+            run(given, solvers, folder)
 
 
 def main(given, solvers):

@@ -4,6 +4,8 @@ import shlex
 from office.solver_command import Command, NoCommand
 from office.solving import KNOWN
 
+MOST_OF_HEADING, MOST_OF_UNIT = 200, 20
+
 
 def seconds(word):
     number = int(word)
@@ -17,6 +19,31 @@ seconds.__name__ = "number of seconds, 1 at least,"
 
 def split(word):
     return shlex.split(word)
+
+
+def heading(word):
+    """A text for the page: UTF-8, without control characters."""
+    word.encode()
+    if len(word) > MOST_OF_HEADING or not word.isprintable():
+        raise ValueError
+    return word
+
+
+heading.__name__ = "text of at most 200 printable characters in UTF-8"
+
+
+def unit(word):
+    if len(heading(word).strip()) not in range(1, MOST_OF_UNIT + 1):
+        raise ValueError
+    return word.strip()
+
+
+unit.__name__ = "currency of 1 to 20 printable characters"
+
+
+def add_page_words(words):
+    words.add_argument("--title", type=heading, help="the page's heading")
+    words.add_argument("--currency", type=unit, metavar="UNIT", help="what amounts are in, as GBP")
 
 
 def add_solver_words(words):

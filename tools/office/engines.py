@@ -7,6 +7,7 @@ import time
 
 from office import folder, running
 from office.ending import end_with_parent, kill_group
+from office.printed import escaped
 
 HERE = os.path.dirname(os.path.realpath(__file__))
 STEP = os.path.join(os.path.dirname(HERE), "auction_step")
@@ -40,11 +41,9 @@ def parallel_stages(given, progress):
         yield [[step, solver, str(group)] for step, solver in progress.kinds if step in kinds
                for group in progress.missing((step, solver)) if step == "solve" or group in progress.seen(("solve", solver))]
     names = [solver["name"] for solver in settings["solvers"]]
-    if any(progress.missing(("solve", name)) for name in names):
-        return
-    yield [["report", name] for name in names if not is_there(given, folder.report_path(name))]
     if any(progress.missing(kind) for kind in progress.kinds):
         return
+    yield [["report", name] for name in names if not is_there(given, folder.report_path(name))]
     yield [["verify", names[0]]] if settings["certify"] and not is_there(given, folder.audit_path(names[0])) else []
     yield [["results", names[0]]]
 
@@ -73,7 +72,7 @@ def stop(engine):
 def run_words(words, where, scratch, progress):
     """The status of an engine; its own words go to a log."""
     with open(os.path.join(where, "engine.log"), "ab") as log:
-        log.write(("\n" + time.strftime("%Y-%m-%d %H:%M:%S ") + " ".join(words) + "\n").encode())
+        log.write(("\n" + escaped(time.strftime("%Y-%m-%d %H:%M:%S ") + " ".join(words)) + "\n").encode())
         log.flush()
         engine = subprocess.Popen(words, cwd=where, stdin=subprocess.DEVNULL, stdout=log, stderr=log, start_new_session=True,
                                   preexec_fn=end_with_parent, env={**os.environ, "TMPDIR": scratch})
@@ -85,6 +84,13 @@ def run_words(words, where, scratch, progress):
             stop(engine)
     progress.tell(whole=True)
     return engine.returncode
+
+
+def plan(given):
+    """What Snakemake would do, on standard output; nothing is done."""
+    done = subprocess.run(snakemake_words(given, os.path.abspath(given.folder)), cwd=given.folder, stdin=subprocess.DEVNULL,
+                          stderr=subprocess.STDOUT, preexec_fn=end_with_parent)
+    return 1 if done.returncode else 0
 
 
 def run(given, progress):

@@ -1,10 +1,16 @@
-"""Where everything of an auction's workflow lies in its folder. A file that is there is whole."""
+"""Where everything of an auction's workflow lies in its folder. A file that is there is whole, and has its sum beside it."""
+import contextlib
+import hashlib
 import json
 import os
 
-from office import running
+from office import running, strict_json
 
 SETTINGS = "settings.json"
+SUMS = "sums"
+# what steps leave and later steps and runs go by
+KEPT = ("programs", "first", "solutions", "certificates", "ties", "better", "reports", "audits")
+PUBLISHED = ("bidders.csv", "categories.csv", "pools.csv", "groups.csv", "results.json", "results.html")
 WRONG, NOT_OPTIMAL = 3, "not optimal"  # the exit status and the state where an answer can't be the best one
 KINDS = {"solve": "solutions/{solver}/{group}.txt", "certify": "certificates/{solver}/{group}.txt",
          "ties": "ties/{solver}/{group}.json"}
@@ -26,6 +32,11 @@ def report_path(solver):
 def audit_path(solver):
     """What `wdp verify` read, and printed the report of."""
     return "audits/%s.txt" % solver
+
+
+def better_path(group):
+    """A point that disproved an answer to the group; no answer below it is taken."""
+    return "better/%s.txt" % group
 
 
 def first_path(solver):
@@ -53,18 +64,81 @@ def write(path, text):
     running.write_whole(path, text)
 
 
+def json_text(told):
+    return (json.dumps(told) + "\n").encode()
+
+
 def write_json(path, told):
-    write(path, (json.dumps(told) + "\n").encode())
+    write(path, json_text(told))
 
 
 def read_json(path):
     """What a file of the workflow tells; an object without anything where it can't be read."""
     try:
         with open(path, "rb") as file:
-            told = json.load(file)
+            told = strict_json.read(file.read(), any_name=True)
     except (OSError, ValueError):
         return {}
     return told if isinstance(told, dict) else {}
+
+
+def sum_path(path):
+    return os.path.join(SUMS, path + ".sha256")
+
+
+def write_sum(path, digest):
+    """The sum goes before its file: a run that is ended between them leaves a sum without a file, which is done again."""
+    write(sum_path(path), ("%s  %s\n" % (digest, path)).encode())
+
+
+def leave(path, data):
+    """Writes what a step leaves, with its sum."""
+    write_sum(path, hashlib.sha256(data).hexdigest())
+    write(path, data)
+
+
+def leave_json(path, told):
+    leave(path, json_text(told))
+
+
+def is_as_left(path, data, where="."):
+    """Whether these bytes of a file are what its step left."""
+    try:
+        told = running.content(os.path.join(where, sum_path(path)))
+    except running.Stopped:
+        return False
+    return told.split()[:1] == [hashlib.sha256(data).hexdigest().encode()]
+
+
+def left(path):
+    """The bytes of what a step left; a Stopped where they are others."""
+    data = running.content(path)
+    if not is_as_left(path, data):
+        raise running.Stopped("%s isn't what its step left" % path)
+    return data
+
+
+def changed(where):
+    """The files that steps left and that aren't what they left, in the workflow's folder `where`. No step reads a hidden
+    one, as systems of files that are shared leave them."""
+    found = []
+    for kept in KEPT:
+        for folder, _, names in os.walk(os.path.join(where, kept)):
+            for name in names:
+                path = os.path.relpath(os.path.join(folder, name), where)
+                if not is_piece(name) and not name.startswith(".") and not is_as_left(path, running.content(os.path.join(folder, name)), where):
+                    found.append(path)
+    return sorted(found)
+
+
+def is_piece(name):
+    """Whether a file is what a step that was broken off left behind."""
+    return name.startswith(".writing-") or name.endswith((".writing", ".unchecked"))
+
+
+def remove(*path):
+    with contextlib.suppress(FileNotFoundError):
+        os.unlink(os.path.join(*path))
 
 
 def settings():
@@ -82,6 +156,14 @@ def numbers_in(folder, ending):
         return set()
     stems = [name.removesuffix(ending) for name in names if name.endswith(ending)]
     return {int(stem) for stem in stems if stem.isascii() and stem.isdigit()}
+
+
+def solvers_in(where):
+    """The solvers that have left a solution."""
+    try:
+        return sorted(os.listdir(os.path.join(where, "solutions")))
+    except OSError:
+        return []
 
 
 def numbers_done(where, step, solver):

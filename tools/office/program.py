@@ -54,10 +54,14 @@ class Program:
         """The name of the first column whose bounds these values break, or None."""
         return next((column.name for place, column in enumerate(self.columns) if not column.allows(place in ones)), None)
 
-    def broken_row(self, ones):
-        """The name of the first row that these values don't meet, or None."""
+    def totals(self, ones):
+        """What each row adds up to where the columns at these places are 1."""
         totals = [0] * len(self.rows)
         for place in ones:
             for row, coefficient in self.columns[place].entries:
                 totals[row] += coefficient
-        return next((row.name for row, total in zip(self.rows, totals) if not row.is_met_by(total)), None)
+        return totals
+
+    def broken_row(self, ones):
+        """The name of the first row that these values don't meet, or None."""
+        return next((row.name for row, total in zip(self.rows, self.totals(ones)) if not row.is_met_by(total)), None)

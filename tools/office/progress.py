@@ -29,26 +29,31 @@ def duration(seconds):
 
 
 class Progress:
-    """`kinds` are the steps that each group has: pairs of a step and a solver."""
+    """`kinds` are pairs of a step and a solver, each with the groups that have the step. With `quiet` nothing is told of
+    what begins and is done."""
 
-    def __init__(self, where, kinds, groups):
-        self.where, self.kinds, self.groups = where, kinds, groups
+    def __init__(self, where, kinds, groups, quiet=False):
+        self.where, self.kinds, self.groups, self.quiet = where, kinds, groups, quiet
         self.done = {kind: self.seen(kind) for kind in kinds}
         self.first_done = self.count()
         self.told, self.start = time.monotonic(), None
         self.begun, self.failed, self.since = set(), set(), time.time()
 
     def seen(self, kind):
-        return {group for group in folder.numbers_done(self.where, *kind) if group <= self.groups}
+        return folder.numbers_done(self.where, *kind) & set(self.kinds[kind])
 
     def count(self):
         return sum(map(len, self.done.values()))
 
     def whole(self):
-        return len(self.kinds) * self.groups
+        return sum(map(len, self.kinds.values()))
 
     def missing(self, kind):
-        return [group for group in range(1, self.groups + 1) if group not in self.done[kind]]
+        return [group for group in self.kinds[kind] if group not in self.done[kind]]
+
+    def say(self, text):
+        if not self.quiet:
+            say(text)
 
     def ended(self, step, solver, group):
         return folder.read_json(os.path.join(self.where, folder.ended_path(step, solver, group)))
@@ -78,14 +83,14 @@ class Progress:
             for group in sorted(self.seen(kind) - self.done[kind]):
                 self.done[kind].add(group)
                 seconds = self.ended(*kind, group).get("seconds", 0)
-                say(DONE[kind[0]] % (group, kind[1]) + " in %.2f s: %d of %d done%s"
+                self.say(DONE[kind[0]] % (group, kind[1]) + " in %.2f s: %d of %d done%s"
                     % (seconds, self.count(), self.whole(), self.left()))
 
     def tell_begun(self, at_work):
         for entry in at_work:
             if entry not in self.begun:
                 self.begun.add(entry)
-                say(BEGIN[entry[0]] % (entry[2], entry[1]))
+                self.say(BEGIN[entry[0]] % (entry[2], entry[1]))
 
     def tell_failed(self):
         for step, solver in self.kinds:
@@ -108,10 +113,10 @@ class Progress:
             self.tell_failed()
             self.told = time.monotonic()
             if at_work and not whole:
-                say("%d of %d done%s; at work: %s" % (self.count(), self.whole(), self.left(), ", ".join(
+                self.say("%d of %d done%s; at work: %s" % (self.count(), self.whole(), self.left(), ", ".join(
                     AT_WORK[step] % (group, solver) + " for " + duration(time.time() - since)
                     for step, solver, group, since in at_work)))
 
     def begin(self, engine, jobs):
-        say("%s, %s by %s, %s: %d of %d done" % (
+        self.say("%s, %s by %s, %s: %d of %d done" % (
             counted(self.groups, "group"), counted(self.whole(), "step"), engine, jobs, self.first_done, self.whole()))

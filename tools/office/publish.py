@@ -4,7 +4,8 @@ INPUT is the input of the auction, as `wdp report` took it without the solutions
 is read against the input, and refused where a line doesn't follow from it. DIR gets bidders.csv, categories.csv,
 pools.csv, groups.csv, results.json and results.html; each is written whole or not at all.
 
---run takes what is to be told of the run: versions, times, and of each group its solver, certificate and ties.
+--run takes what is to be told of the run: of each group whether its total is certified, and ties; and the version of wdp.
+--audit takes what `wdp verify` reads, which has to end with INPUT: the page then says how the audit is repeated.
 Exit status: 0 the files are written; 1 a text is refused or a package is missing; 2 the words are wrong.
 """
 import argparse
@@ -12,9 +13,10 @@ import hashlib
 import os
 
 from office import inputs, running
+from office.choosing import add_page_words
 from office.page import page_of
 from office.report import read_report
-from office.results import results_of, texts_of
+from office.results import Audit, results_of, texts_of
 from office.run_record import RunTold, read_run
 
 
@@ -23,22 +25,38 @@ def words():
     parser.add_argument("input", metavar="INPUT")
     parser.add_argument("report", metavar="REPORT")
     parser.add_argument("--output", metavar="DIR", required=True, help="the folder of the files; it is made where it isn't there")
-    parser.add_argument("--title", default="Results of the auction", help="the page's heading")
+    add_page_words(parser)
     parser.add_argument("--run", metavar="FILE", help="what is told of the run, as JSON")
+    parser.add_argument("--audit", metavar="FILE", help="the input with solutions and certificates, as `wdp verify` reads it")
     return parser.parse_args()
 
 
-def results_from(data, report, told, title, input_path="the input", report_path="the report"):
+def digest_of(data):
+    return hashlib.sha256(data).hexdigest()
+
+
+def audit_of(path, data, report):
+    """What is told of an audit; a Stopped where it isn't one of this input."""
+    audit = running.content(path)
+    if not audit.endswith(b"\n" + data) or not audit.startswith(b"%"):
+        raise running.Stopped("%s: it doesn't end with the input, behind solutions and certificates" % path)
+    return Audit(digest_of(audit), digest_of(data), digest_of(report), len(data))
+
+
+def results_from(data, report, told, given):
     """The figures of an input and its report; a Stopped where one of them is refused."""
-    auction = inputs.read_input(data, input_path)
+    auction = inputs.read_input(data, given.input)
     if auction.faults:
         raise running.Stopped(str(auction.faults[0]))
-    outcomes = read_report(report, auction, report_path)
-    digests = [hashlib.sha256(text).hexdigest() for text in (data, report)]
+    outcomes = read_report(report, auction, given.report)
     unknown = set(told.groups) - set(range(1, len(outcomes) + 1))
     if unknown:
         raise running.Stopped("the run tells of group %d, which the report doesn't have" % min(unknown))
-    return results_of(auction, outcomes, digests, title, told)
+    results = results_of(auction, outcomes, told, given.run)
+    results.title, results.currency = given.title or results.title, given.currency
+    results.input_sha256, results.report_sha256 = digest_of(data), digest_of(report)
+    results.audit = audit_of(given.audit, data, report) if given.audit else None
+    return results
 
 
 def publish(results, folder):
@@ -56,7 +74,8 @@ def main():
     given = words()
     running.need("jinja2")
     told = read_run(running.content(given.run), given.run) if given.run else RunTold()
-    results = results_from(running.content(given.input), running.content(given.report), told, given.title,
-                           given.input, given.report)
+    results = results_from(running.content(given.input), running.content(given.report), told, given)
     publish(results, given.output)
     running.say("results", "%d files in %s" % (len(texts_of(results)) + 1, given.output))
+    if not results.certified:
+        running.say("results", results.certified_words)

@@ -91,8 +91,8 @@ class Reader:
         return Winner(bidder, bid, bids[bid - 1].amount, bids[bid - 1].package)
 
 
-def fault_of(outcome, first, rules):
-    """Why an outcome doesn't follow from its winners and those of the first group, or None."""
+def fault_of_total(outcome, rules):
+    """Why a total doesn't follow from its winners, or None."""
     lots = outcome.lots(rules)
     for sold, category in zip(lots, rules.categories):
         if sold > category.supply:
@@ -104,6 +104,14 @@ def fault_of(outcome, first, rules):
     total = sum(winner.amount for winner in outcome.winners) + unsold
     if outcome.total != total:
         return "the total is {:,}, and the winners and unsold lots bring {:,}".format(outcome.total, total)
+    return None
+
+
+def fault_of(outcome, first, rules):
+    """Why an outcome doesn't follow from its winners and those of the first group, or None."""
+    fault = fault_of_total(outcome, rules)
+    if fault:
+        return fault
     cost = outcome.total - (first.total - first.amounts_of(outcome.left_out))
     if outcome.cost != cost:
         return "the cost is {:,}, and by the totals it is {:,}".format(outcome.cost, cost)

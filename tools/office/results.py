@@ -1,12 +1,17 @@
 """The result of an auction in figures: what each bidder won, what is sold, and what each group costs."""
 from __future__ import annotations
 
-import csv
-import io
 import json
-from dataclasses import asdict, dataclass
+import re
+from dataclasses import asdict, dataclass, field
 
-from office.report import last_forms, load_of
+from office.report import Outcome, Winner, fault_of_total, last_forms, load_of
+from office.run_record import TieQuery
+from office.running import Stopped
+
+TITLE = "Results of the auction"
+# what parts fields, and the first signs by which spreadsheets know a formula
+SPECIAL = re.compile(r'[,"\r\n]|^[=+\-@%\t]')
 
 
 @dataclass
@@ -49,55 +54,82 @@ class PoolResult:
 
 @dataclass
 class GroupResult:
-    """`certified` is None where nothing was told; `ties` are other winners that reach the same total;
-    `asked_for_tie` tells whether a solver was asked for such winners."""
+    """`has_tie` tells whether other winners that reach the same total were seen."""
 
     number: int
     left_out: list
     winners: list
     total: int
     cost: int
-    certified: bool | None
-    solver: str | None
-    seconds: float | None
-    ties: list
-    asked_for_tie: bool | None
+    certified: bool
+    has_tie: bool
+
+
+@dataclass
+class AwardCost:
+    """A group's cost by the award that is reported, and by another one."""
+
+    number: int
+    left_out: list
+    reported: int
+    cost: int
+
+
+@dataclass
+class TiedAward:
+    """An award of the same total as the one that is reported, with the costs that it changes."""
+
+    winners: list
+    costs: list
+
+
+@dataclass
+class Audit:
+    """By what anyone repeats the audit: the SHA-256 of what `wdp verify` reads, of the input, which is its end, with its
+    size, and of the report, which it prints."""
+
+    sha256: str
+    input_sha256: str
+    report_sha256: str
+    input_bytes: int
 
 
 @dataclass
 class Results:
-    title: str
-    total: int
-    amounts: int
-    value_left: int
-    bidders: list
-    categories: list
-    pools: list
-    groups: list
-    input_sha256: str
-    report_sha256: str
-    versions: dict
-    times: dict
+    """`certified` tells whether each total is."""
+
+    certified: bool = False
+    title: str = TITLE
+    currency: str | None = None
+    total: int = 0
+    amounts: int = 0
+    value_left: int = 0
+    bidders: list = field(default_factory=list)
+    categories: list = field(default_factory=list)
+    pools: list = field(default_factory=list)
+    groups: list = field(default_factory=list)
+    tie_query: TieQuery = TieQuery.NOT_ASKED
+    tied_awards: list = field(default_factory=list)
+    input_sha256: str = ""
+    report_sha256: str = ""
+    audit: Audit | None = None
+    wdp: str | None = None
+    made: str | None = None
 
     @property
     def winners(self):
         return [bidder for bidder in self.bidders if bidder.won]
 
     @property
-    def ties(self):
-        """The groups in which other winners reach the same total."""
-        return [group for group in self.groups if group.ties]
-
-    @property
-    def asked_for_ties(self):
-        """Whether a solver was asked for other winners of the same total in every group."""
-        return all(group.asked_for_tie for group in self.groups)
-
-    @property
-    def certified(self):
-        """How many totals are certified, or None where nothing was told of any."""
-        told = [group.certified for group in self.groups if group.certified is not None]
-        return sum(told) if told else None
+    def certified_words(self):
+        """What is said of the totals before all else."""
+        certified, whole = sum(group.certified for group in self.groups), len(self.groups)
+        if certified == whole:
+            return "Certified: each of the {:,} totals is shown to be the greatest one.".format(whole)
+        if not certified:
+            return "Not certified: that these totals are the greatest ones is a solver's word, and no certificate shows it."
+        return ("Not certified: {:,} of {:,} totals are shown to be the greatest ones; the others are a solver's word."
+                .format(certified, whole))
 
 
 def bidder_result(number, auction, outcomes):
@@ -123,64 +155,104 @@ def pool_result(pool, lots, rules):
     return PoolResult(pool.name.decode(), load, pool.cap, pool.cap - load)
 
 
-def group_result(number, outcome, rules, told):
-    names = [bidder.name.decode() for bidder in rules.bidders]
-    winners = [{"name": names[winner.bidder - 1], "bid": winner.bid, "amount": winner.amount} for winner in outcome.winners]
-    return GroupResult(number, [names[bidder - 1] for bidder in outcome.left_out], winners, outcome.total, outcome.cost,
-                       told.certified, told.solver, told.seconds, told.ties, told.asked_for_tie)
+def winner_of(winner, names):
+    return {"name": names[winner.bidder - 1], "bid": winner.bid, "amount": winner.amount, "lots": list(winner.package)}
 
 
-def results_of(auction, outcomes, digests, title, told):
-    """The figures of an auction from its input, its report, the SHA-256 of both, and what was told of the run."""
+def group_result(number, outcome, names, told):
+    return GroupResult(number, [names[bidder - 1] for bidder in outcome.left_out],
+                       [winner_of(winner, names) for winner in outcome.winners], outcome.total, outcome.cost,
+                       bool(told.certified), bool(told.ties))
+
+
+def tied_outcome(award, outcome, auction, source):
+    """The outcome of another award of a group, told by names and bids; a Stopped where it isn't of the same total."""
+    rules, forms = auction.rules, last_forms(auction)
+    numbers = [rules.bidder_number(winner["name"].encode()) for winner in award]
+    bids = [forms[bidder].bids if bidder in forms else [] for bidder in numbers]
+    if None in numbers or len(set(numbers)) < len(numbers) or set(numbers) & set(outcome.left_out) or not all(
+            1 <= winner["bid"] <= len(known) for winner, known in zip(award, bids)):
+        raise Stopped("%s: a tie has a winner that the input doesn't have" % source)
+    winners = [Winner(bidder, winner["bid"], known[winner["bid"] - 1].amount, known[winner["bid"] - 1].package)
+               for bidder, winner, known in sorted(zip(numbers, award, bids), key=lambda each: each[0])]
+    made = Outcome(outcome.left_out, winners, outcome.total, outcome.cost)
+    fault = "it is the award itself" if winners == outcome.winners else fault_of_total(made, rules)
+    if fault:
+        raise Stopped("%s: a tie isn't one: %s" % (source, fault))
+    return made
+
+
+def tied_award(award, outcomes, names):
+    """Another award, with the cost of each group for which it changes that. What the others win without a group stays;
+    what is left of the award's total without the group's own amounts doesn't."""
+    costs = []
+    for number, outcome in enumerate(outcomes, 1):
+        cost = outcome.total - (award.total - award.amounts_of(outcome.left_out))
+        if cost != outcome.cost:
+            costs.append(AwardCost(number, [names[bidder - 1] for bidder in outcome.left_out], outcome.cost, cost))
+    return TiedAward([winner_of(winner, names) for winner in award.winners], costs)
+
+
+def results_of(auction, outcomes, told, source):
+    """The figures of an auction from its input, its report, and what was told of the run."""
     rules, lots = auction.rules, outcomes[0].lots(auction.rules)
+    names = [bidder.name.decode() for bidder in rules.bidders]
     categories = [category_result(category, sold) for category, sold in zip(rules.categories, lots)]
+    groups = [group_result(number, outcome, names, told.group(number)) for number, outcome in enumerate(outcomes, 1)]
+    ties = {number: [tied_outcome(award, outcome, auction, source) for award in told.group(number).ties]
+            for number, outcome in enumerate(outcomes, 1)}
     return Results(
-        title=title, total=outcomes[0].total, amounts=sum(winner.amount for winner in outcomes[0].winners),
+        certified=all(group.certified for group in groups), total=outcomes[0].total,
+        amounts=sum(winner.amount for winner in outcomes[0].winners),
         value_left=sum(category.value_left for category in categories),
         bidders=[bidder_result(number, auction, outcomes) for number in range(1, len(rules.bidders) + 1)],
-        categories=categories, pools=[pool_result(pool, lots, rules) for pool in rules.pools],
-        groups=[group_result(number, outcome, rules, told.group(number)) for number, outcome in enumerate(outcomes, 1)],
-        input_sha256=digests[0], report_sha256=digests[1], versions=told.versions, times=told.times)
+        categories=categories, pools=[pool_result(pool, lots, rules) for pool in rules.pools], groups=groups,
+        tie_query=TieQuery(told.group(1).tie_query or TieQuery.NOT_ASKED),
+        tied_awards=[tied_award(award, outcomes, names) for award in ties[1]],
+        wdp=told.versions.get("wdp"), made=told.times.get("Results made"))
 
 
 def json_text(results):
-    return (json.dumps(asdict(results), indent=1) + "\n").encode()
+    return (json.dumps(asdict(results), indent=1, default=lambda query: query.value) + "\n").encode()
 
 
-def table_text(heading, rows):
-    """A CSV text; what isn't known is an empty field."""
-    text = io.StringIO()
-    writer = csv.writer(text, lineterminator="\n")
-    writer.writerow(heading)
-    writer.writerows(rows)
-    return text.getvalue().encode()
+def cell_text(cell):
+    """A field of CSV, in quotes wherever a reader might take it for more than its text; nothing where it isn't known."""
+    text = "" if cell is None else str(cell)
+    if isinstance(cell, str) and SPECIAL.search(text):
+        return '"%s"' % text.replace('"', '""')
+    return text
+
+
+def table_text(results, heading, rows):
+    """A CSV text. Its first field says where not every total is certified."""
+    if not results.certified:
+        heading = [heading[0] + " (results not certified)", *heading[1:]]
+    return "".join(",".join(map(cell_text, row)) + "\n" for row in [heading, *rows]).encode()
 
 
 def bidders_text(results):
     heading = ["bidder", *("lots of " + category.name for category in results.categories), "bid", "amount", "reserve",
                "opportunity cost", "group"]
-    return table_text(heading, ([bidder.name, *bidder.lots, bidder.bid, bidder.amount, bidder.reserve, bidder.cost,
+    return table_text(results, heading, ([bidder.name, *bidder.lots, bidder.bid, bidder.amount, bidder.reserve, bidder.cost,
                                  bidder.cost_group] for bidder in results.bidders))
 
 
 def categories_text(results):
-    return table_text(["category", "supply", "sold", "unsold", "reserve of a lot", "value of an unsold lot", "value left"],
+    return table_text(results, ["category", "supply", "sold", "unsold", "reserve of a lot", "value of an unsold lot", "value left"],
                       (asdict(category).values() for category in results.categories))
 
 
 def pools_text(results):
-    return table_text(["pool", "load", "cap", "left"], (asdict(pool).values() for pool in results.pools))
-
-
-YES_NO = {True: "yes", False: "no", None: None}
+    return table_text(results, ["pool", "load", "cap", "left"], (asdict(pool).values() for pool in results.pools))
 
 
 def groups_text(results):
-    """Names are joined as in the report; without a tie the field says `no` only where a solver was asked for one."""
+    """Names are joined as in the report."""
     return table_text(
-        ["group", "left out", "winners", "total", "opportunity cost", "certified", "solver", "seconds", "tie seen"],
+        results, ["group", "left out", "winners", "total", "opportunity cost", "certified", "tie seen"],
         ([group.number, "+".join(group.left_out) or "-", "+".join(winner["name"] for winner in group.winners) or "-",
-          group.total, group.cost, YES_NO[group.certified], group.solver, group.seconds, "yes" if group.ties else "no" if group.asked_for_tie else None]
+          group.total, group.cost, "yes" if group.certified else "no", "yes" if group.has_tie else "no"]
          for group in results.groups))
 
 

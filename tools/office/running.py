@@ -51,6 +51,15 @@ def need(*modules):
         raise Stopped("missing Debian packages: apt-get install -y " + " ".join(missing))
 
 
+@contextlib.contextmanager
+def naming(path):
+    """Names the file where the system doesn't, as where a disk is full."""
+    try:
+        yield
+    except OSError as error:
+        raise Stopped("%s: %s" % (error.filename or path, error.strerror or error))
+
+
 def content(path):
     """The bytes of a file; `-` is standard input."""
     try:

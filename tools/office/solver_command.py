@@ -3,14 +3,10 @@ import os
 import re
 import shlex
 
-from office.solving import NO_SOLUTION, REFUSED, TIME_OUT, Failed, told_free, write_start
+from office.solver_answer import check_optimal, text_of, values_in_file, values_in_print
+from office.solving import REFUSED, Failed, ends_of, told_free, write_start
 
 PLACES = ("mps", "free", "out", "start", "seconds")
-# How solvers say that their answer is optimal, in the file of the answer or in what they print.
-OPTIMAL = (r"(?im)^(optimal$|optimal - objective value|optimal objective\b|.*(?<!lp )\boptimal solution found\b"
-           r"|(scip|solution) status *: .*\boptimal\b)")
-NONE = re.compile(r"(?im)^.*\b(infeasible|unbounded)\b.*$")
-LIMIT = re.compile(r"(?im)^.*\b(time limit|time out|timeout|interrupted)\b.*$")
 
 
 class NoCommand(Exception):
@@ -37,7 +33,7 @@ class Command:
         if not any("{mps}" in word or "{free}" in word for word in self.words[1:]):
             raise NoCommand("--solver-command has neither {mps} nor {free}")
         try:
-            self.optimal = re.compile(optimal or OPTIMAL)
+            self.optimal = re.compile(optimal) if optimal else None
         except re.error as error:
             raise NoCommand("--optimal-sign: %s" % error)
         if os.sep in self.words[0]:
@@ -72,41 +68,21 @@ class Command:
         return self.read_answer(call)
 
     def read_answer(self, call):
-        answer = "\n".join(call.lines_of("solution.txt") or [])
-        told = answer + "\n" + call.printed
-        if not self.optimal.search(told):
-            limit, none = LIMIT.search(told), NONE.search(told)
-            if limit:
-                call.fail(TIME_OUT, "%s stopped: %s" % (self.name, limit.group().strip()))
-            if none:
-                raise Failed(NO_SOLUTION, "%s found no solution: %s" % (self.name, none.group().strip()))
-            raise Failed(REFUSED, "%s ended with status %d and didn't say that its answer is optimal: %s"
-                         % (self.name, call.status, call.complaint("rror", "ERROR")))
-        values = read_values(answer or call.printed, call.columns)
-        if not values:
-            raise Failed(REFUSED, "%s's answer names no column of the program" % self.name)
-        return values.items()
+        """The columns with their values: those of the file of the answer, or those that are printed where there is none."""
+        answer = call.answer("solution.txt")
+        printed = text_of(call.whole_print() if answer is None else ends_of(call.log), self.name)
+        texts = [printed] if answer is None else [text_of(answer, self.name), printed]
+        check_optimal(call, self.name, texts, self.optimal)
+        if answer is None:
+            pairs = values_in_print(printed, self.name, call.columns)
+        else:
+            pairs = values_in_file(texts[0], self.name, call.columns, self.optimal)
+        if not {name for name, _ in pairs} - call.fixed and set(call.columns) - call.fixed:
+            raise Failed(REFUSED, "%s's answer names no column of the program that may be 0 or 1" % self.name)
+        return pairs
 
 
 def free_copy(call):
     with open(call.path("program.mps"), encoding="latin-1") as ours, open(call.path("free.mps"), "w", encoding="latin-1") as free:
         free.write(told_free(ours.read()))
     return call.path("free.mps")
-
-
-def read_values(text, columns):
-    """The value behind each column's name, whatever else stands in the line. Columns that no line names are 0."""
-    known, values = set(columns), {}
-    for line in text.splitlines():
-        fields = line.replace("=", " ").replace(":", " ").split()
-        place = next((place for place, word in enumerate(fields[:-1]) if word in known), None)
-        if place is None:
-            continue
-        name, value = fields[place], fields[place + 1]
-        try:
-            float(value)
-        except ValueError:
-            continue
-        if values.setdefault(name, value) != value:
-            raise Failed(REFUSED, "the answer tells column %s twice, as %s and as %s" % (name, values[name], value))
-    return values

@@ -1,18 +1,24 @@
 """Solves a 0-1 program in free MPS by a solver that is called as a program, and tells what came of it."""
 from __future__ import annotations
 
+import contextlib
 import os
 import re
 import signal
 import subprocess
 import tempfile
 from dataclasses import dataclass, field
+from fractions import Fraction
 
 from office.ending import started
+from office.numbers import NumberFault, exact_value
+from office.running import naming
 
 REFUSED, NO_SOLUTION, TIME_OUT, KILLED = 1, 3, 4, 5
-PATIENCE = 30  # seconds that a solver may overstep its own limit, before it is stopped
-NEAR_ZERO = 1e-9
+NEAR_ZERO = Fraction(1, 10 ** 9)
+LARGEST_ANSWER = 32 * 1024 * 1024  # bytes of a solver's file, or of what it prints where that is its answer
+ENDS_OF_PRINT = 2 * 1024 * 1024  # bytes that are read at each end of what is printed, where it is more than that
+LONGEST_WORDS = 200
 
 # What solvers say of how far they came: their best solution, bound and gap.
 HOW_FAR = re.compile(r"^[ |]*((?:Objective value|Lower bound|Upper bound|Best bound|Primal bound|Dual bound|Gap)\b.*)"
@@ -25,6 +31,16 @@ class Failed(Exception):
     def __init__(self, status, why):
         super().__init__(why)
         self.status = status
+
+
+def grace(seconds):
+    """The seconds by which a solver may overstep a limit, before it is stopped."""
+    return min(30, 5 + seconds // 10)
+
+
+def shortened(words):
+    """Words of a solver, as far as a message has them."""
+    return words if len(words) <= LONGEST_WORDS else words[:LONGEST_WORDS] + ".."
 
 
 @dataclass
@@ -40,49 +56,82 @@ class Wanted:
 
 @dataclass
 class Call:
-    """A call of a solver in a folder with the text `program.mps`: its columns, what was asked for, and what it printed."""
+    """A call of a solver in a folder with the text `program.mps`: its columns, those that a bound fixes, what was asked
+    for, and what it printed, without the middle where that is long."""
 
     folder: str
     columns: list
+    fixed: set
     wanted: Wanted
     printed: str = ""
     status: int = 0
+    log: str = ""
 
     def path(self, name):
         return os.path.join(self.folder, name)
 
     def run(self, words):
         """Runs the solver to its end; one that was killed, or oversteps its limit, has failed."""
-        log = self.wanted.log or self.path("printed.txt")
+        self.log, limit = self.wanted.log or self.path("printed.txt"), self.wanted.seconds
         try:
-            with open(log, "wb") as file, started(words, cwd=self.folder, stdout=file, stderr=subprocess.STDOUT) as solver:
-                self.status = solver.wait(self.wanted.seconds and self.wanted.seconds + PATIENCE)
+            with open_log(self.log) as file, started(words, cwd=self.folder, stdout=file, stderr=subprocess.STDOUT) as solver:
+                self.status = solver.wait(limit and limit + grace(limit))
         except FileNotFoundError:
             raise Failed(REFUSED, "%s isn't installed" % words[0])
         except PermissionError:
             raise Failed(REFUSED, "%s can't be started" % words[0])
         except subprocess.TimeoutExpired:
-            raise Failed(TIME_OUT, "%s ran out of time and was stopped" % words[0])
-        with open(log, encoding="utf-8", errors="replace") as file:
-            self.printed = file.read()
+            raise Failed(TIME_OUT, "%s overstepped its limit of %d s by %d s and was stopped" % (words[0], limit, grace(limit)))
+        self.printed = ends_of(self.log).decode(errors="replace")
         if self.status < 0:
             raise Failed(KILLED, "%s was killed by signal %d (%s)" % (words[0], -self.status, signal.strsignal(-self.status)))
 
-    def lines_of(self, name):
-        if not os.path.exists(self.path(name)):
+    def answer(self, name, path=None):
+        """The bytes of a file that the solver wrote, or None where it wrote none."""
+        path = path or self.path(name)
+        if not os.path.exists(path):
             return None
-        with open(self.path(name), errors="replace") as file:
-            return file.read().splitlines()
+        if os.path.getsize(path) > LARGEST_ANSWER:
+            raise Failed(REFUSED, "the solver's answer has {:,} bytes, and {:,} at most are read".format(os.path.getsize(path), LARGEST_ANSWER))
+        with naming(path), open(path, "rb") as file:
+            return file.read()
+
+    def whole_print(self):
+        """All that the solver printed."""
+        return self.answer("printed.txt", self.log) or b""
+
+    def lines_of(self, name):
+        answer = self.answer(name)
+        return None if answer is None else answer.decode(errors="replace").splitlines()
 
     def complaint(self, *signs):
         """The line of the solver's output that tells most, for the message."""
         lines = [line.strip() for line in self.printed.splitlines() if line.strip()]
         telling = [line for line in lines if any(sign in line for sign in signs)]
-        return (telling or lines[-1:] or ["no output"])[0]
+        return shortened((telling or lines[-1:] or ["no output"])[0])
 
     def fail(self, status, why):
         """Ends with how far the solver came, where it tells that."""
         raise Failed(status, "; ".join(filter(None, [why, how_far(self.printed)])))
+
+
+@contextlib.contextmanager
+def open_log(path):
+    with naming(path):
+        file = open(path, "wb")
+    with file:
+        yield file
+
+
+def ends_of(path):
+    """The bytes of a file; where there are many, those at its beginning and at its end, in whole lines."""
+    with naming(path), open(path, "rb") as file:
+        if os.path.getsize(path) <= 2 * ENDS_OF_PRINT:
+            return file.read()
+        first = file.read(ENDS_OF_PRINT)
+        file.seek(-ENDS_OF_PRINT, os.SEEK_END)
+        last = file.read()
+    return first[:first.rfind(b"\n") + 1] + last[last.find(b"\n") + 1:]
 
 
 def how_far(printed):
@@ -91,7 +140,7 @@ def how_far(printed):
     for found in HOW_FAR.finditer(printed):
         words = " ".join((found.group(1) or found.group(2)).split())
         said[re.split(r"[:=]| {2}|(?= [-0-9])", words)[0].strip().lower()] = words
-    return ", ".join(said.values())
+    return shortened(", ".join(said.values()))
 
 
 def column_names(text):
@@ -108,11 +157,25 @@ def column_names(text):
     return list(names)
 
 
+def fixed_columns(text):
+    """The columns that an `FX` bound fixes."""
+    fixed, open_section = set(), None
+    for line in text.splitlines():
+        fields = line.split()
+        if not fields or line.startswith("*"):
+            continue
+        if line[0] not in " \t":
+            open_section = fields[0]
+        elif open_section == "BOUNDS" and fields[0] == "FX" and len(fields) > 2:
+            fixed.add(fields[-2])
+    return fixed
+
+
 def without_fixed_costs(text):
     """The text with cost 0 where an `FX` bound fixes the column, if its cost has a line of its own."""
     if not re.search(r"^[ \t]+FX\b", text, re.MULTILINE):
         return text
-    lines, open_section, objective, fixed, costs = text.split("\n"), None, None, set(), {}
+    lines, open_section, objective, fixed, costs = text.split("\n"), None, None, fixed_columns(text), {}
     for place, line in enumerate(lines):
         fields = line.split()
         if not fields or line.startswith("*"):
@@ -123,8 +186,6 @@ def without_fixed_costs(text):
             objective = objective or fields[-1]
         elif open_section == "COLUMNS" and len(fields) == 3 and fields[1] == objective:
             costs[fields[0]] = place
-        elif open_section == "BOUNDS" and fields[0] == "FX" and len(fields) > 2:
-            fixed.add(fields[-2])
     for name in fixed & set(costs):
         lines[costs[name]] = " %s %s 0" % (name, objective)
     return "\n".join(lines)
@@ -141,9 +202,20 @@ def told_free(text):
 
 def write_start(path, columns, ones, numbered):
     """The values of a known solution, in the form that solvers take: NAME VALUE, for cbc behind a number."""
-    with open(path, "w") as file:
+    with naming(path), open(path, "w") as file:
         for place, name in enumerate(columns):
             file.write("%s%s %d\n" % ("%d " % place if numbered else "", name, name in ones))
+
+
+CBC_LINE, LP_SOLVE_LINE = (re.compile(pattern) for pattern in (r" *[0-9]+ +(\S+) +(\S+) +\S+ *", r"(\S+) +(\S+) *"))
+
+
+def fields_of(line, solver, form):
+    """The name and the value in a line of an answer."""
+    found = form.fullmatch(line)
+    if not found:
+        raise Failed(REFUSED, "%s's answer has a line that isn't understood: %s" % (solver, shortened(line)))
+    return found.groups()
 
 
 class Glpsol:
@@ -163,10 +235,15 @@ class Glpsol:
             call.fail(TIME_OUT, "glpsol ran out of time")
         if state != "o":
             raise Failed(NO_SOLUTION, "glpsol found no optimal solution: " + call.complaint("NO ", "INFEASIBLE", "UNBOUNDED"))
-        values = [line.split()[2] for line in lines if line.startswith("j ")]
-        if len(values) != len(call.columns):
-            raise Failed(REFUSED, "glpsol read %d columns where the text has %d" % (len(values), len(call.columns)))
-        return zip(call.columns, values)
+        told = [line for line in lines if line.startswith("j ")]
+        if lines[-1:] != ["e o f"]:
+            raise Failed(REFUSED, "glpsol's answer is cut off")
+        if len(told) != len(call.columns):
+            raise Failed(REFUSED, "glpsol read %d columns where the text has %d" % (len(told), len(call.columns)))
+        for number, line in enumerate(told, 1):
+            if len(line.split()) != 3 or line.split()[1] != str(number):
+                raise Failed(REFUSED, "glpsol's answer has a line that isn't understood: " + shortened(line))
+        return zip(call.columns, [line.split()[2] for line in told])
 
 
 class Cbc:
@@ -197,8 +274,10 @@ class Cbc:
         if lines[0].startswith("Stopped"):
             call.fail(TIME_OUT, "cbc stopped: " + lines[0])
         if not lines[0].startswith("Optimal - objective value"):
-            raise Failed(NO_SOLUTION, "cbc found no optimal solution: " + lines[0])
-        return [line.split()[1:3] for line in lines[1:]]
+            raise Failed(NO_SOLUTION, "cbc found no optimal solution: " + shortened(lines[0]))
+        if "within gap tolerance" in call.printed:
+            raise Failed(REFUSED, "cbc stopped within a gap that it was told to take")
+        return [fields_of(line, "cbc", CBC_LINE) for line in lines[1:] if line.strip()]
 
 
 class LpSolve:
@@ -211,10 +290,10 @@ class LpSolve:
             raise Failed(NO_SOLUTION, "lp_solve: " + call.complaint("This problem"))
         if "Timeout" in call.printed or "sub-optimal" in call.printed:
             call.fail(TIME_OUT, "lp_solve ran out of time")
-        _, heading, rest = call.printed.partition("Actual values of the variables:\n")
+        _, heading, rest = call.whole_print().decode(errors="replace").partition("Actual values of the variables:\n")
         if call.status != 0 or not heading:
             raise Failed(REFUSED, "lp_solve refused the text: " + call.complaint("error", "Unable"))
-        return [line.split() for line in rest.partition("\n\n")[0].splitlines()]
+        return [fields_of(line, "lp_solve", LP_SOLVE_LINE) for line in rest.partition("\n\n")[0].splitlines()]
 
 
 KNOWN = {solver.name: solver for solver in (Glpsol(), Cbc(), LpSolve())}
@@ -227,19 +306,24 @@ def solution(text, solver, wanted):
     columns = column_names(text)
     if not columns:
         return []  # the one solution is empty; lp_solve gives no answer to such a program
-    text = without_fixed_costs(text)
+    fixed, text = fixed_columns(text), without_fixed_costs(text)
     with tempfile.TemporaryDirectory(prefix="solve.") as folder:
-        call = Call(folder, columns, wanted)
-        with open(call.path("program.mps"), "w", encoding="latin-1") as file:
+        call = Call(folder, columns, fixed, wanted)
+        with naming(call.path("program.mps")), open(call.path("program.mps"), "w", encoding="latin-1") as file:
             file.write(told_free(text) if solver.name == "cbc" else text)
         pairs = list(solver.pairs(call))
     strange = set(name for name, _ in pairs) - set(columns)
     if strange:
-        raise Failed(REFUSED, "%s read columns that the text doesn't have: %s" % (solver.name, min(strange)))
+        raise Failed(REFUSED, "%s read columns that the text doesn't have: %s" % (solver.name, shortened(min(strange))))
+    return ["%s %s" % (name, value) for name, value in pairs if abs(number_of(name, value, solver)) > NEAR_ZERO]
+
+
+def number_of(name, value, solver):
+    """A value of an answer, which has to be a number as wdp reads them."""
     try:
-        return ["%s %s" % (name, value) for name, value in pairs if abs(float(value)) > NEAR_ZERO]
-    except ValueError as error:
-        raise Failed(REFUSED, "%s's answer has a value that isn't a number: %s" % (solver.name, error))
+        return exact_value(value.encode())
+    except NumberFault:
+        raise Failed(REFUSED, "%s's answer has a value that is no number: %s %s" % (solver.name, shortened(name), shortened(value)))
 
 
 def start_from(lines, columns):
@@ -247,6 +331,6 @@ def start_from(lines, columns):
     known = set(columns)
     pairs = [line.split() for line in lines]
     try:
-        return [pair[0] for pair in pairs if len(pair) == 2 and pair[0] in known and float(pair[1]) > 0.5]
-    except ValueError as error:
-        raise Failed(REFUSED, "a value of the solution to start from: %s" % error)
+        return [pair[0] for pair in pairs if len(pair) == 2 and pair[0] in known and exact_value(pair[1].encode()) > Fraction(1, 2)]
+    except NumberFault:
+        raise Failed(REFUSED, "a value of the solution to start from is no number")

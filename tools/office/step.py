@@ -1,4 +1,4 @@
-"""One step of an auction's workflow, in the auction's folder; each leaves its file whole or none.
+"""One step of an auction's workflow, in the auction's folder; each leaves its file whole or none, with its sum.
 
 usage: tools/auction_step programs | first SOLVER | solve SOLVER GROUP | certify SOLVER GROUP | ties SOLVER GROUP
                           | report SOLVER | verify SOLVER | results SOLVER
@@ -6,6 +6,8 @@ usage: tools/auction_step programs | first SOLVER | solve SOLVER GROUP | certify
 tools/auction DIR has the engine start it. What is there already isn't made again, but for the results.
 """
 import contextlib
+import hashlib
+import json
 import os
 import signal
 import socket
@@ -13,15 +15,16 @@ import subprocess
 import sys
 import time
 
-from office import folder, inputs, running
+from office import disproved, folder, inputs, running
 from office.audit import printed, with_answers
 from office.choosing import solver_of
 from office.cut import columns_of, cut_off, other_of_same_total
 from office.ending import end_by_interrupt, end_with_parent
+from office.optimal import NotOptimal, check_answer
 from office.report import read_report
-from office.run_record import text_of
+from office.run_record import TieQuery, text_of
 from office.solving import KILLED, NO_SOLUTION, TIME_OUT, Failed, Wanted, column_names, solution, start_from
-from office.totals import Answers, check_totals, compare, ties
+from office.totals import Answers, check_totals, compare, named, ties, with_asked_for
 
 TOOLS = os.path.dirname(os.path.dirname(os.path.realpath(__file__)))
 WHY = {KILLED: "killed", TIME_OUT: "out of time", folder.WRONG: folder.NOT_OPTIMAL}
@@ -62,27 +65,40 @@ def programs():
     given = folder.settings()
     words = [given["wdp"], "compile", "--workers", str(given["workers"])]
     os.makedirs("programs", exist_ok=True)
-    written = []
+    written = {}
     with open("input.txt", "rb") as text, subprocess.Popen(
             words, stdin=text, stdout=subprocess.PIPE, stderr=subprocess.PIPE, preexec_fn=end_with_parent) as wdp:
         with contextlib.ExitStack() as stack:
             for line in wdp.stdout:
                 if line.startswith(b"* program "):
                     stack.close()
-                    written.append(folder.program_path(len(written) + 1))
-                    part = stack.enter_context(open(written[-1] + ".writing", "wb"))
+                    path = folder.program_path(len(written) + 1)
+                    written[path] = hashlib.sha256()
+                    part = stack.enter_context(open_part(path))
                 else:
-                    part.write(line)
+                    with running.naming(path):
+                        part.write(line)
+                    written[path].update(line)
         messages = wdp.stderr.read().decode(errors="replace").strip()
     if wdp.returncode != 0:
         raise refused("wdp compile", wdp.returncode, messages)
-    for path in written:
+    for path, digest in written.items():
+        folder.write_sum(path, digest.hexdigest())
         os.replace(path + ".writing", path)
 
 
-def state_of(step, status):
+@contextlib.contextmanager
+def open_part(path):
+    """A file that is being written, whose end may fail too where the disk is full."""
+    with running.naming(path), open(path + ".writing", "wb") as part:
+        yield part
+
+
+def state_of(step, stopped):
     """How a step ended that wasn't done; a program without a solution is none of an answer that isn't optimal."""
-    return "no solution" if step == "solve" and status == NO_SOLUTION else WHY.get(status, "failed")
+    if step == "solve" and stopped.status == NO_SOLUTION and not isinstance(stopped, NotOptimal):
+        return "no solution"
+    return WHY.get(stopped.status, "failed")
 
 
 @contextlib.contextmanager
@@ -95,10 +111,12 @@ def told(step, solver, group):
         yield
         ended = {"state": "done"}
     except (running.Stopped, Failed) as stopped:
-        ended = {"state": state_of(step, stopped.status), "words": str(stopped)}
+        ended = {"state": state_of(step, stopped), "words": str(stopped)}
+        if isinstance(stopped, NotOptimal):
+            disproved.keep(stopped, solver)
         raise running.Stopped("group %s: %s: %s" % (group, ended["state"], stopped), stopped.status)
     except OSError as error:
-        ended = {"state": "failed", "words": "%s: %s" % (error.filename or "", error.strerror)}
+        ended = {"state": "failed", "words": "%s: %s" % (error.filename or "group %s" % group, error.strerror)}
         raise
     finally:
         ended.update(seconds=round(time.monotonic() - start, 2), host=socket.gethostname(), ended=time.time())
@@ -124,16 +142,21 @@ def first(name):
     """Tries group 1, from whose solution the others start; they go on where it has none."""
     path, text = folder.path_of("solve", name, 1), ""
     try:
-        text = running.content(path).decode("latin-1") if os.path.exists(path) else solved_group(name, "1")
+        text = folder.left(path).decode("latin-1") if os.path.exists(path) else solved_group(name, "1")
         failed = None
     except running.Stopped as stopped:
         failed = str(stopped)
-    folder.write_json(folder.first_path(name), {"solution": text, "failed": failed})
+    folder.leave_json(folder.first_path(name), {"solution": text, "failed": failed})
 
 
 def solved_group(name, group):
+    """An answer, in which each line is of the program, to which no bid can be added, and of which no better one is known."""
     with told("solve", name, group):
-        return solved(name, group, running.content(folder.program_path(group)).decode("latin-1"), "solve")
+        program = folder.left(folder.program_path(group))
+        answer = solved(name, group, program.decode("latin-1"), "solve")
+        known = folder.left(folder.better_path(group)) if os.path.exists(folder.better_path(group)) else None
+        check_answer(program, answer.encode("latin-1"), int(group), known)
+        return answer
 
 
 def solve(name, group):
@@ -144,7 +167,8 @@ def solve(name, group):
     if tried.get("failed"):
         raise running.Stopped(tried["failed"])
     text = tried["solution"] if tried else solved_group(name, group)
-    folder.write(path, text.encode("latin-1"))
+    if not os.path.exists(path):  # a job of a run that was killed may have gone on beside this one
+        folder.leave(path, text.encode("latin-1"))
 
 
 def certify(name, group):
@@ -154,17 +178,23 @@ def certify(name, group):
     if os.path.exists(path):
         return
     with told("certify", name, group):
+        program, solution = map(folder.left, texts)
+        beside, better = path + ".unchecked", path + ".better.unchecked"
+        os.makedirs(os.path.dirname(path), exist_ok=True)
         words = ["--time-limit", str(limit)] if limit else []
-        status, certificate, messages = run_tool([os.path.join(TOOLS, "certify"), *words, *texts])
+        status, certificate, messages = run_tool([os.path.join(TOOLS, "certify"), *words, "--solution-output", better, *texts])
+        if os.path.exists(better):
+            found = running.content(better)
+            folder.remove(better)
+            disproved.refuse_below(program, solution, found, int(group))
         if status != 0:
             raise refused("certify", status, messages.replace("\n", "; "))
-        beside = path + ".unchecked"
         folder.write(beside, certificate)
         status, _, messages = run_tool([os.path.join(TOOLS, "check_certificate"), *texts, beside])
+        folder.remove(beside)
         if status != 0:
-            os.unlink(beside)
             raise refused("check_certificate", status, messages)
-        os.replace(beside, path)
+        folder.leave(path, certificate)
 
 
 def find_ties(name, group):
@@ -173,16 +203,19 @@ def find_ties(name, group):
     if os.path.exists(path):
         return
     with told("ties", name, group):
-        text = running.content(folder.program_path(group))
-        own = running.content(folder.path_of("solve", name, group))
+        text = folder.left(folder.program_path(group))
+        own = folder.left(folder.path_of("solve", name, group))
         cut = cut_off(text, columns_of(own)).decode("latin-1")
         try:
-            other = other_of_same_total(text, own, solved(name, group, cut, "ties").encode("latin-1"))
+            answer = solved(name, group, cut, "ties").encode("latin-1")
         except Failed as failed:
             if failed.status != NO_SOLUTION:
                 raise
             other = None  # there is no other solution at all
-        folder.write_json(path, {"winners": other})
+        else:
+            disproved.refuse_below(text, own, answer, int(group))
+            other = other_of_same_total(text, own, answer)
+        folder.leave_json(path, {"winners": other})
 
 
 def auction_of_folder():
@@ -192,6 +225,7 @@ def auction_of_folder():
 def answers_of(solver, report, auction):
     """The outcomes of a report, whose totals have to be able to be the greatest ones."""
     answers = Answers(read_report(report, auction, "the report of %s" % solver), auction)
+    disproved.refuse_known(answers)
     check_totals(answers)
     return answers
 
@@ -204,14 +238,16 @@ def whole(step):
         except running.Stopped as stopped:
             name = step.__name__
             folder.write_json(folder.ended_path(name, words[0] if words else "-", "all"),
-                              {"state": state_of(name, stopped.status), "words": str(stopped)})
+                              {"state": state_of(name, stopped), "words": str(stopped)})
+            if isinstance(stopped, NotOptimal):
+                disproved.keep(stopped, words[0])
             raise
     return work
 
 
 def of_each_group(step, solver, given):
     """What a step left for each group."""
-    return [running.content(folder.path_of(step, solver, group)) for group in range(1, given["groups"] + 1)]
+    return [folder.left(folder.path_of(step, solver, group)) for group in range(1, given["groups"] + 1)]
 
 
 def wdp_says(given, command, text):
@@ -226,67 +262,71 @@ def report(solver):
     given = folder.settings()
     output = wdp_says(given, "report", with_answers(running.content("input.txt"), of_each_group("solve", solver, given)))
     answers_of(solver, output, auction_of_folder())
-    folder.write(folder.report_path(solver), output)
+    folder.leave(folder.report_path(solver), output)
 
 
 def verify(solver):
     """Leaves what `wdp verify` reads, once it has printed just the report of it."""
     given = folder.settings()
     text = with_answers(running.content("input.txt"), of_each_group("solve", solver, given), of_each_group("certify", solver, given))
-    if wdp_says(given, "verify", text) != running.content(folder.report_path(solver)):
+    if wdp_says(given, "verify", text) != folder.left(folder.report_path(solver)):
         raise running.Stopped("wdp verify prints another report than wdp report")
-    folder.write(folder.audit_path(solver), text)
+    folder.leave(folder.audit_path(solver), text)
 
 
 def ties_asked_for(solver, given):
     """Of each group the other winners that the solver found with the first ones cut off."""
     told = {}
     for group in range(1, given["groups"] + 1):
-        winners = folder.read_json(folder.path_of("ties", solver, group)).get("winners")
+        path = folder.path_of("ties", solver, group)
+        winners = json.loads(folder.left(path))["winners"] if os.path.exists(path) else None
         if winners is not None:
             told[group] = tuple(tuple(winner) for winner in winners)
     return told
 
 
-def tie_names(winners, auction):
-    return ["%s with bid %d" % (auction.rules.bidders[bidder - 1].name.decode(), bid) for bidder, bid in winners]
+def tie_query(solver, group, given):
+    """What came of asking the solver for other winners of the same total."""
+    if os.path.exists(folder.path_of("ties", solver, group)):
+        return TieQuery.ANSWERED
+    return TieQuery.UNDECIDED if group in given["tied_groups"] else TieQuery.NOT_ASKED
 
 
-def all_ties(solver, answers, others, given, auction):
-    seen = ties(answers, others)
-    for group, winners in ties_asked_for(solver, given).items():
-        found = seen.setdefault(group, [])
-        if winners not in found:
-            found.append(winners)
-    return {group: [tie_names(winners, auction) for winners in found] for group, found in seen.items()}
+def certified_groups(solver, given):
+    """The groups whose totals are certified: each certificate was checked by itself, and where none is missing `wdp verify`
+    has to have taken all of them together."""
+    done = folder.numbers_done(".", "certify", solver)
+    return done if len(done) < given["groups"] or os.path.exists(folder.audit_path(solver)) else set()
 
 
 def of_group(solver, group, given):
-    """What the run tells of a group; no certificate is told where none was asked for."""
-    certified = os.path.exists(folder.path_of("certify", solver, group))
+    """What the run tells of a group."""
     seconds = folder.read_json(folder.ended_path("solve", solver, group)).get("seconds")
-    return {"solver": solver, "seconds": seconds, "certified": certified or (False if given["certify"] else None),
-            "asked_for_tie": os.path.exists(folder.path_of("ties", solver, group))}
+    return {"solver": solver, "seconds": seconds, "certified": group in certified_groups(solver, given),
+            "tie_query": tie_query(solver, group, given).value}
 
 
 def results(solver):
     given, auction = folder.settings(), auction_of_folder()
-    with contextlib.suppress(FileNotFoundError):
-        os.unlink("results/%s/results.html" % solver)
-    answers = answers_of(solver, running.content(folder.report_path(solver)), auction)
-    others = [answers_of(other["name"], running.content(folder.report_path(other["name"])), auction)
-              for other in given["solvers"] if other["name"] != solver]
-    for other, its in zip([other for other in given["solvers"] if other["name"] != solver], others):
-        compare(answers, solver, its, other["name"])
+    for name in folder.PUBLISHED:
+        folder.remove("results", solver, name)
+    others = [other["name"] for other in given["solvers"] if other["name"] != solver]
+    answers, *of_others = [answers_of(name, folder.left(folder.report_path(name)), auction) for name in [solver, *others]]
+    for name, its in zip(others, of_others):
+        compare(answers, solver, its, name)
     groups = {str(group): of_group(solver, group, given) for group in range(1, given["groups"] + 1)}
-    for group, found in all_ties(solver, answers, others, given, auction).items():
-        groups[str(group)]["ties"] = found
+    found = named(with_asked_for(ties(answers, of_others), ties_asked_for(solver, given)), auction)
+    for group, awards in found.items():
+        groups[str(group)]["ties"] = awards
     solving = sum(group["seconds"] or 0 for group in groups.values())
     times = {"Started": given["started"], "Seconds of solving": "{:,.2f}".format(solving),
              "Results made": time.strftime("%Y-%m-%d %H:%M %Z")}
     folder.write("run.json", text_of(given["versions"], times, groups))
+    audit = folder.audit_path(solver)
+    words = ["--audit", audit] if os.path.exists(audit) else []
+    words += ["--currency=" + given["currency"]] if given["currency"] else []
     status, _, messages = run_tool([os.path.join(TOOLS, "results"), "input.txt", folder.report_path(solver), "--run", "run.json",
-                                    "--title", given["title"], "--output", "results/%s" % solver])
+                                    "--title=" + given["title"], "--output", "results/%s" % solver, *words])
     if status != 0:
         raise refused("results", status, messages)
 

@@ -1,5 +1,5 @@
 """What the answers to all groups say of one another: totals that can't be the greatest ones, and ties."""
-from office.running import Stopped
+from office.optimal import NotOptimal, better_of_bids
 
 TIES_TOLD = 3  # of a group
 STEPS_TRUSTED = 10 ** 6
@@ -28,6 +28,10 @@ class Answers:
         """Bidders and bids, without those who are left out."""
         return tuple((winner.bidder, winner.bid) for winner in self.outcomes[place].winners if winner.bidder not in left_out)
 
+    def better(self, place, left_out, total):
+        """An outcome's winners who aren't left out, as a point that disproves an answer."""
+        return better_of_bids(self.winners(place, left_out), total, self.unsold != 0)
+
     def names(self, bidders):
         return "+".join(self.rules.bidders[bidder - 1].name.decode() for bidder in bidders) or "-"
 
@@ -38,17 +42,20 @@ def check_totals(answers):
         brought = [answers.brought(place, outcome.left_out) for place in range(len(answers.outcomes))]
         best = max(brought)
         if best > outcome.total:
-            raise Stopped("group %d (%s) has no optimal answer: its total is %d, and the winners of group %d bring %d more in it"
-                          % (number, answers.names(outcome.left_out), outcome.total, brought.index(best) + 1,
-                             best - outcome.total), 3)
+            place = brought.index(best)
+            raise NotOptimal("group %d (%s) has no optimal answer: its total is %d, and the winners of group %d bring %d more in it"
+                             % (number, answers.names(outcome.left_out), outcome.total, place + 1, best - outcome.total), number,
+                             answers.better(place, outcome.left_out, best))
 
 
 def compare(answers, solver, others, other_solver):
     """Both solvers reach the same totals."""
     for number, (outcome, other) in enumerate(zip(answers.outcomes, others.outcomes), 1):
         if outcome.total != other.total:
-            raise Stopped("group %d (%s): %s reaches %d, %s %d; the lower one isn't optimal"
-                          % (number, answers.names(outcome.left_out), solver, outcome.total, other_solver, other.total), 3)
+            least, greatest = sorted([(outcome.total, solver, answers), (other.total, other_solver, others)], key=lambda each: each[0])
+            raise NotOptimal("group %d (%s): %s reaches %d, %s %d; the lower one isn't optimal"
+                             % (number, answers.names(outcome.left_out), solver, outcome.total, other_solver, other.total), number,
+                             greatest[2].better(number - 1, outcome.left_out, greatest[0]), least[1])
 
 
 def doubt(answers):
@@ -74,3 +81,19 @@ def ties(answers, more=()):
         if found:
             seen[number] = list(found)[:TIES_TOLD]
     return seen
+
+
+def named(found, auction):
+    """Ties as they are told: of each group lists of winners by names and bids."""
+    names = [bidder.name.decode() for bidder in auction.rules.bidders]
+    return {group: [[{"name": names[bidder - 1], "bid": bid} for bidder, bid in winners] for winners in awards]
+            for group, awards in found.items()}
+
+
+def with_asked_for(seen, asked_for):
+    """The ties that answers show, with those that a solver was asked for, of each group (bidder, bid) of the winners."""
+    found = {group: list(awards) for group, awards in seen.items()}
+    for group, winners in asked_for.items():
+        if winners not in found.setdefault(group, []):
+            found[group].append(winners)
+    return found

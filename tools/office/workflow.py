@@ -9,13 +9,23 @@ import subprocess
 import sys
 import time
 
-from office import engines, folder, inputs, running
+from office import disproved, engines, folder, inputs, running
 from office.ending import end_by_interrupt, end_with_parent
+from office.faults import counted
 from office.progress import FAILED, Progress, say
+from office.optimal import names_of, total_of
 from office.report import read_report
+from office.results import TITLE
+from office.run_record import TieQuery
+from office.telling import UNDECIDED, not_certified, tie_lines
 from office.totals import Answers, doubt
 
 DONE_WITHOUT = "not done"
+DRY = ("-n", "--dry-run", "--dryrun")
+CHANGED_TOLD = 20  # files
+
+
+CERTIFYING = {running.PACKAGES[module] for module in ("numpy", "scipy", "swiglpk")}
 
 
 def missing_packages(given):
@@ -31,7 +41,8 @@ def find_solvers(solvers, packages=()):
             raise running.Stopped("%s isn't installed" % solver.program)
     packages = list(packages) + [solver.package for solver in solvers if not shutil.which(solver.program)]
     if packages:
-        raise running.Stopped("missing Debian packages: apt-get install -y " + " ".join(packages))
+        hint = "; --no-certify goes without those that certificates need" if set(packages) & CERTIFYING else ""
+        raise running.Stopped("missing Debian packages: apt-get install -y " + " ".join(packages) + hint)
 
 
 def output_of(words):
@@ -115,16 +126,28 @@ def settings_of(solver, optimal, options):
     return {"name": solver.name, "command": command, "optimal": optimal, "options": options, "takes_start": solver.takes_start}
 
 
+def told_before(given, name):
+    """A word that the last run in the folder was given."""
+    return folder.read_json(os.path.join(given.folder, folder.SETTINGS)).get(name)
+
+
+def tied_groups(given, groups):
+    """The groups that the solver is asked once more for. The winners of group 1 alone are published."""
+    return list(range(1, groups + 1)) if given.ties == "all" else [1] if given.ties else []
+
+
 def write_settings(given, solvers, auction):
-    """What the steps have to know."""
+    """What the steps have to know. Title and currency stay as they are where nothing is said of them."""
     versions = {"wdp": wdp_version(given.wdp)}
     versions.update({solver.name: solver_version(solver) for solver in solvers})
     told = [settings_of(solvers[0], given.optimal_sign, given.solver_options)]
     told += [settings_of(solver, None, given.check_options) for solver in solvers[1:]]
     folder.write_json(os.path.join(given.folder, folder.SETTINGS), {
-        "step": engines.STEP, "wdp": os.path.abspath(given.wdp), "solvers": told, "certify": given.certify, "ties": given.ties,
-        "start": not given.no_start, "groups": len(auction.groups), "workers": given.workers, "time_limit": given.time_limit,
-        "title": given.title, "versions": versions, "started": time.strftime("%Y-%m-%d %H:%M %Z")})
+        "step": engines.STEP, "wdp": os.path.abspath(given.wdp), "solvers": told, "certify": given.certify,
+        "tied_groups": tied_groups(given, len(auction.groups)), "start": not given.no_start, "groups": len(auction.groups),
+        "workers": given.workers, "time_limit": given.time_limit, "title": given.title or told_before(given, "title") or TITLE,
+        "currency": given.currency or told_before(given, "currency"), "versions": versions,
+        "started": time.strftime("%Y-%m-%d %H:%M %Z")})
 
 
 def forget_what_followed(where, solver, groups):
@@ -137,14 +160,25 @@ def forget_what_followed(where, solver, groups):
     if len(done & folder.numbers_done(where, "certify", solver)) < groups:
         paths.append(folder.audit_path(solver))
     for path in paths:
-        with contextlib.suppress(FileNotFoundError):
-            os.unlink(os.path.join(where, path))
+        folder.remove(where, path)
+
+
+def refuse_changed(where):
+    """Ends where a file isn't what its step left, and names each."""
+    changed = folder.changed(where)
+    for path in changed[:CHANGED_TOLD]:
+        say("%s isn't what its step left" % os.path.join(where, path))
+    if changed:
+        raise running.Stopped("%s of %s changed since steps left them; nothing was begun: put each back, or delete it to have it "
+                              "made again" % (counted(len(changed), "file"), where))
 
 
 def forget(where, solvers, groups):
-    """What was broken off or failed before is tried again; pieces of files are put away."""
-    for name in ("running", "ended/report", "ended/verify", "ended/results", "ended/programs", ".scratch"):
+    """What was broken off or failed before is tried again; pieces of files, and answers that are disproved, are put away.
+    Snakemake would go on with the jobs of a cluster that it wrote down as begun, though they were cancelled with the run."""
+    for name in ("running", "ended/report", "ended/verify", "ended/results", "ended/programs", ".scratch", ".snakemake/incomplete"):
         shutil.rmtree(os.path.join(where, name), ignore_errors=True)
+    disproved.clear(where)
     for solver in solvers:
         first = os.path.join(where, folder.first_path(solver.name))
         if folder.read_json(first).get("failed", True) and os.path.exists(first):
@@ -152,14 +186,19 @@ def forget(where, solvers, groups):
         forget_what_followed(where, solver.name, groups)
     for path, _, names in os.walk(where):
         for name in names:
-            if name.startswith(".writing-") or name.endswith((".writing", ".unchecked")):
+            if folder.is_piece(name):
                 os.unlink(os.path.join(path, name))
 
 
-def kinds_of(given, solvers):
-    """The steps that each group has, each with its solver."""
-    main = solvers[0].name
-    return ([("solve", solver.name) for solver in solvers] + [("certify", main)] * given.certify + [("ties", main)] * given.ties)
+def kinds_of(given, solvers, groups):
+    """The steps that groups have, each with its solver, and the groups that have it."""
+    main, each = solvers[0].name, list(range(1, groups + 1))
+    kinds = {("solve", solver.name): each for solver in solvers}
+    if given.certify:
+        kinds["certify", main] = each
+    if given.ties:
+        kinds["ties", main] = tied_groups(given, groups)
+    return kinds
 
 
 def missing_lines(progress):
@@ -183,11 +222,19 @@ def other_failures(given, solvers):
             yield ended["state"], "%s: %s" % (step, ended["words"])
 
 
-def results_without(given, solvers):
-    """Makes the results where all totals are there and only certificates or ties are missing."""
-    words = [engines.STEP, "results", solvers[0].name]
-    done = subprocess.run(words, cwd=given.folder, stdin=subprocess.DEVNULL, capture_output=True, preexec_fn=end_with_parent)
-    return done.returncode == 0
+def results_without(given, solvers, progress):
+    """Makes the reports, the audit where each certificate is there, and the results, where all solutions are there and only
+    certificates or ties are missing."""
+    main, wanted = solvers[0].name, [("report", solver.name, folder.report_path(solver.name)) for solver in solvers]
+    if given.certify and not progress.missing(("certify", main)):
+        wanted.append(("verify", main, folder.audit_path(main)))
+    steps = [[step, name] for step, name, path in wanted if not os.path.exists(os.path.join(given.folder, path))]
+    for step in [*steps, ["results", main]]:
+        done = subprocess.run([engines.STEP, *step], cwd=given.folder, stdin=subprocess.DEVNULL, capture_output=True,
+                              preexec_fn=end_with_parent)
+        if done.returncode != 0:
+            return False
+    return True
 
 
 def how_to_go_on(given):
@@ -203,43 +250,80 @@ def last_line(path):
 
 
 def tell_doubt(given, auction, report):
+    """Where no certificate says more, whether a solver's tolerance may matter."""
+    if given.certify:
+        return
     why = doubt(Answers(read_report(running.content(report), auction, report), auction))
     if why:
         say(why)
 
 
 def tell_ties(given, solver):
-    """The ties that the results tell, in a line each."""
+    """The ties that are known, in a line each, and where whether there are some wasn't decided."""
+    results = folder.read_json(os.path.join(given.folder, "results", solver, "results.json"))
+    groups = folder.read_json(os.path.join(given.folder, "run.json")).get("groups", {})
+    for line in tie_lines(results.get("tied_awards", []), {int(number): told.get("ties", []) for number, told in groups.items()}):
+        say(line)
+    undecided = [number for number, told in groups.items() if told["tie_query"] == TieQuery.UNDECIDED.value]
+    if undecided:
+        say(UNDECIDED % ", ".join(undecided))
+
+
+def tell_certified(given, solver, groups):
+    """The last line: how to repeat the audit, or that results aren't certified."""
     told = folder.read_json(os.path.join(given.folder, "results", solver, "results.json"))
-    for group in told.get("groups", []):
-        for names in group["ties"]:
-            say("tie in group %d: the same total is reached by %s; who wins is for the auction's rules to say"
-                % (group["number"], ", ".join(names) or "nobody"))
+    totals = sum(group["certified"] for group in told.get("groups", []))
+    audit = os.path.join(given.folder, folder.audit_path(solver))
+    if totals == groups:
+        say("each total is certified: wdp verify < %s prints the report again" % audit)
+    else:
+        say(not_certified(totals, groups, solver))
+
+
+def tell_better(given):
+    """The points that disproved answers."""
+    for group in sorted(folder.numbers_in(os.path.join(given.folder, "better"), ".txt")):
+        path = os.path.join(given.folder, folder.better_path(group))
+        better = running.content(path)
+        say("group %d: %s bring %s, which is %s; no answer below it is taken" % (group, names_of(better), "{:,}".format(total_of(better)), path))
+
+
+def tell_disproved(given, lines):
+    """Nothing of a disproved answer is left but the better point."""
+    disproved.clear(given.folder)
+    for line in lines:
+        say(line)
+    tell_better(given)
+    say("no report: an answer isn't optimal; another solver, or other --solver-options, may find a better one in this folder")
+    return folder.WRONG
 
 
 def tell_end(given, solvers, auction, progress, status):
-    report = os.path.join(given.folder, folder.report_path(solvers[0].name))
-    page = os.path.join(given.folder, "results", solvers[0].name, "results.html")
+    main, groups = solvers[0].name, len(auction.groups)
+    report = os.path.join(given.folder, folder.report_path(main))
+    page = os.path.join(given.folder, "results", main, "results.html")
     missing, wrong = list(missing_lines(progress)), list(other_failures(given, solvers))
-    if missing and not wrong and all(os.path.exists(os.path.join(given.folder, folder.report_path(solver.name))) for solver in solvers):
-        if results_without(given, solvers):
-            say("the report is %s; the page, without what is missing, %s" % (report, page))
-            tell_doubt(given, auction, report)
+    is_solved = all(not progress.missing(("solve", solver.name)) for solver in solvers)
+    is_made, is_disproved = not missing and not wrong and status == 0, any(state == folder.NOT_OPTIMAL for state, _ in missing + wrong)
+    if missing and not wrong and is_solved and not is_disproved:
+        is_made = results_without(given, solvers, progress)
         wrong = list(other_failures(given, solvers))
-    if not missing and not wrong and status == 0:
-        say("the report is %s, the page %s" % (report, page))
-        if given.certify:
-            say("each total is certified: wdp verify < %s prints the report again" % os.path.join(given.folder, folder.audit_path(solvers[0].name)))
-        else:
-            tell_doubt(given, auction, report)
-        tell_ties(given, solvers[0].name)
-        return 0
-    for _, line in missing + wrong:
-        say("missing: " + line)
-    if not missing and not wrong:
+        is_disproved = any(state == folder.NOT_OPTIMAL for state, _ in wrong)
+    lines = ["missing: " + line for _, line in missing + wrong]
+    if is_disproved:
+        return tell_disproved(given, lines)
+    for line in lines:
+        say(line)
+    if not lines and status != 0:
         say("%s ended with status %d: %s" % (given.engine, status, last_line(os.path.join(given.folder, "engine.log"))))
-    how_to_go_on(given)
-    return folder.WRONG if any(state == folder.NOT_OPTIMAL for state, _ in missing + wrong) else 1
+    if lines or status != 0:
+        how_to_go_on(given)
+    if is_made:
+        say("the report is %s, the page%s %s" % (report, ", without what is missing," * bool(missing), page))
+        tell_doubt(given, auction, report)
+        tell_ties(given, main)
+        tell_certified(given, main, groups)
+    return 1 if lines or status != 0 else 0
 
 
 def workflow(given, solvers):
@@ -247,11 +331,16 @@ def workflow(given, solvers):
     make_folder(given)
     with owned(given.folder):
         auction = take_input(given)
+        refuse_changed(given.folder)
         write_settings(given, solvers, auction)
-        forget(given.folder, solvers, len(auction.groups))
-        progress = Progress(given.folder, kinds_of(given, solvers), len(auction.groups))
+        is_dry = given.engine == "snakemake" and any(word in DRY for word in given.engine_words)
+        if not is_dry:
+            forget(given.folder, solvers, len(auction.groups))
+        progress = Progress(given.folder, kinds_of(given, solvers, len(auction.groups)), len(auction.groups), given.quiet)
         of_profile = given.profile and not given.jobs
         progress.begin(given.engine, "as many as the profile says" if of_profile else "%d at a time" % (given.jobs or 1))
+        if is_dry:
+            return engines.plan(given)
         try:
             status = engines.run(given, progress)
         except KeyboardInterrupt:

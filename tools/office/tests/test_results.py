@@ -9,9 +9,29 @@ import tempfile
 import unittest
 from html.parser import HTMLParser
 
+from office.results import cell_text
+
 TOOLS = os.path.dirname(os.path.dirname(os.path.dirname(os.path.realpath(__file__))))
 EXAMPLES = os.path.join(os.path.dirname(TOOLS), "examples")
 NAMES = ["worked", "worked_pool", "spectrum", "unsold_values", "spectrum_cap", "twelve_bands"]
+TIE = b"""%rules
+rules,1,1,,
+category,A,1,5,1
+bidder,Alpha,9,1,
+bidder,Beta,9,1,
+%form
+Alpha,A
+10,1
+%form
+Beta,A
+10,1
+%groups
+-
+Alpha
+"""
+TIE_REPORT = b"group 1 -\nAlpha 1 10\ntotal 10\ncost 0\ngroup 2 Alpha\nBeta 1 10\ntotal 10\ncost 10\n"
+NOT_CERTIFIED = "%s (results not certified)"
+BETA = [{"name": "Beta", "bid": 1}]
 FILES = ["bidders.csv", "categories.csv", "groups.csv", "pools.csv", "results.html", "results.json"]
 
 
@@ -102,6 +122,15 @@ class Folder(unittest.TestCase):
     def table(self, name):
         return list(csv.DictReader(content(self.path("out"), name + ".csv").decode().splitlines()))
 
+    def told(self, groups, **more):
+        """The words for what is told of the run."""
+        return "--run", self.write("run.json", json.dumps({"groups": groups, **more}).encode())
+
+    def tie_page(self, *words):
+        seen = self.publish(TIE, TIE_REPORT, *words)
+        self.assertEqual(seen.returncode, 0, seen.stderr)
+        return content(self.path("out"), "results.html").decode()
+
     def assert_refused(self, seen, words):
         self.assertEqual((seen.returncode, seen.stdout), (1, b""))
         self.assertIn(words, seen.stderr.decode())
@@ -157,7 +186,7 @@ class Figures(Folder):
                     self.assertEqual([list(row.values()) for row in self.table(table)], rows)
                     self.assertEqual([[cell.replace(",", "") for cell in row] for row in page.tables and
                                       page.texts("table-" + table)[shown]] if rows else [], rows)
-                self.assertEqual([(row["bidder"], row["amount"], row["reserve"]) for row in self.table("bidders")],
+                self.assertEqual([(row[NOT_CERTIFIED % "bidder"], row["amount"], row["reserve"]) for row in self.table("bidders")],
                                  [(row["name"], str(row["amount"]), str(row["reserve"])) for row in told["bidders"]])
                 self.assertEqual([(row["total"], row["opportunity cost"]) for row in self.table("groups")],
                                  [(str(row["total"]), str(row["cost"])) for row in told["groups"]])
@@ -194,15 +223,125 @@ class ForReaders(Folder):
         self.assertIn(b"<h1>3 &lt; 4 &amp; &lt;b&gt;more&lt;/b&gt;</h1>", content(self.path("out"), "results.html"))
 
     def test_what_is_told_of_the_run(self):
-        told = {"versions": {"wdp": "7", "cbc": "2.10.8"}, "times": {"Ended": "at noon"},
-                "groups": {"1": {"certified": True, "solver": "cbc", "seconds": 1234.5, "ties": [["Beta", "Gamma"]]}, "2": {"certified": False}}}
+        """Neither a solver nor seconds are published, nor what the run says of them."""
+        told = {"versions": {"wdp": "7.1", "cbc": "2.10.8"}, "times": {"Results made": "at noon", "Seconds of solving": "1,234.50"},
+                "groups": {"1": {"certified": True, "solver": "cbc", "seconds": 1234.5}, "2": {"certified": False}}}
         page = self.page_of("worked", "--run", self.write("run.json", json.dumps(told).encode()))
-        rows = page.texts("table-groups")
-        self.assertEqual(rows[1][2:3] + rows[1][5:], ["Alpha, Beta, Gamma (tie)", "yes", "cbc", "1,234.50"])
-        self.assertEqual([row[5] for row in rows[2:4]], ["no", "not told"])
+        self.assertEqual([row[5:] for row in page.texts("table-groups")[1:4]], [["yes"], ["no"], ["no"]])
         text = content(self.path("out"), "results.html").decode()
-        for words in ("<dt>cbc</dt><dd>2.10.8</dd>", "at noon", "Tie in group 1", "Beta, Gamma", "1 of 4 totals are certified"):
+        for words in ("<dt>wdp</dt><dd>7.1</dd>", "<dt>Made</dt><dd>at noon</dd>", "Not certified: 1 of 4 totals"):
             self.assertIn(words, text)
+        for name in FILES:
+            for words in (b"cbc", b"1234.5", b"1,234.50", b"2.10.8", b"not told", b"wasn't told"):
+                self.assertNotIn(words, content(self.path("out"), name), name)
+
+    def test_amounts_have_their_currency(self):
+        self.page_of("worked_pool", "--currency", "GBP")
+        text = content(self.path("out"), "results.html").decode()
+        for words in ("<strong>42 GBP</strong>", "<strong>18 GBP</strong>", "<strong>60 GBP</strong>", ">Amount, GBP</th>",
+                      ">Opportunity cost, GBP</th>", ">Value left, GBP</th>", "costs are in GBP."):
+            self.assertIn(words, text)
+        self.assertEqual(json.loads(content(self.path("out"), "results.json"))["currency"], "GBP")
+
+    def test_titles_and_currencies_that_are_no_text(self):
+        """Bytes that aren't UTF-8, a line break and ESC are wrong words."""
+        data, report = content(EXAMPLES, "worked.txt"), content(EXAMPLES, "worked.report.txt")
+        for word in (b"\xff", b"a\nb", b"\x1b[2J", b"x" * 201, "\u202eevil".encode()):
+            for option in (b"--title=", b"--currency="):
+                seen = self.publish(data, report, option + word)
+                self.assertEqual((seen.returncode, os.path.exists(self.path("out"))), (2, False), word)
+                self.assertNotIn(b"Traceback", seen.stderr)
+                self.assertNotIn(b"\x1b", seen.stderr)
+        self.assertEqual(self.publish(data, report, "--currency", "").returncode, 2)
+
+
+class Certified(Folder):
+    def first_lines(self):
+        """The first line that one reads of each table, and of the page's text."""
+        page = content(self.path("out"), "results.html").decode()
+        first = re.sub("<[^>]*>", "", page.partition("</h1>")[2]).strip().splitlines()[0]
+        return first, [content(self.path("out"), name).decode().splitlines()[0] for name in FILES if name.endswith(".csv")]
+
+    def test_results_that_are_not_certified_say_so_first(self):
+        for groups in ({}, {"1": {"certified": True}, "2": {"certified": False}}):
+            page = self.tie_page(*self.told(groups))
+            first, heads = self.first_lines()
+            self.assertTrue(first.startswith("Not certified: "), first)
+            self.assertTrue(all(" (results not certified)," in head for head in heads), heads)
+            self.assertIs(json.loads(content(self.path("out"), "results.json"))["certified"], False)
+            self.assertNotIn("told", page.partition("<main>")[2])
+
+    def test_certified_results_say_so_first(self):
+        self.tie_page(*self.told({"1": {"certified": True}, "2": {"certified": True}}))
+        first, heads = self.first_lines()
+        self.assertTrue(first.startswith("Certified: each of the 2 totals"), first)
+        self.assertFalse(any("not certified" in head for head in heads), heads)
+
+    def test_the_audit_that_the_page_tells_is_of_its_input(self):
+        parts = b"%solution\nX1_1 1\n%certificate\nbound 1 B1 10\n"
+        page = self.tie_page("--audit", self.write("audit.txt", parts + TIE))
+        for data in (parts + TIE, TIE, TIE_REPORT):
+            self.assertIn(hashlib.sha256(data).hexdigest(), page.partition('id="audit"')[2])
+        self.assertIn("tail -c %d audit.txt | sha256sum" % len(TIE), page)
+        for other in (parts, parts + TIE + b"\n", b"", parts[:-1] + TIE, TIE):
+            seen = self.publish(TIE, TIE_REPORT, "--audit", self.write("audit.txt", other))
+            self.assertEqual((seen.returncode, b"doesn't end with the input" in seen.stderr), (1, True), other)
+
+
+class Ties(Folder):
+    """One lot, and two bids of 10 for it: by which is first, Alpha's cost is 10 or 0."""
+
+    def test_awards_that_tie_stand_side_by_side_with_their_costs(self):
+        page = self.tie_page(*self.told({"1": {"ties": [BETA], "tie_query": "answered"}}))
+        self.assertEqual(Page(page).texts("table-ties"),
+                         [["Bidder, cost", "Award of this page", "Other award"], ["Alpha", "10 for 1 of A (bid 1)", "nothing"],
+                          ["Beta", "nothing", "10 for 1 of A (bid 1)"], ["Cost of Alpha", "10", "0"]])
+        self.assertIn("Winners differ, and with them costs.", page)
+        self.assertNotIn("Totals and costs are the same", page)
+        award, = json.loads(content(self.path("out"), "results.json"))["tied_awards"]
+        self.assertEqual([(cost["left_out"], cost["reported"], cost["cost"]) for cost in award["costs"]], [(["Alpha"], 10, 0)])
+
+    def test_winners_who_do_not_change_are_left_out(self):
+        """Three lots: Gamma wins one of B in each award, and its cost stays."""
+        data = TIE.replace(b"bidder,Alpha", b"category,B,1,5,1\nbidder,Alpha").replace(b"Alpha,A\n10,1", b"Alpha,A,B\n10,1,0")
+        data = data.replace(b"Beta,A\n10,1", b"Beta,A,B\n10,1,0").replace(b"%groups\n-\nAlpha\n", b"%form\nGamma,A,B\n7,0,1\n%groups\n-\nAlpha\nGamma\n")
+        data = data.replace(b"bidder,Beta,9,1,", b"bidder,Beta,9,1,\nbidder,Gamma,9,1,")
+        report = (b"group 1 -\nAlpha 1 10\nGamma 1 7\ntotal 17\ncost 0\ngroup 2 Alpha\nBeta 1 10\nGamma 1 7\ntotal 17\ncost 10\n"
+                  b"group 3 Gamma\nAlpha 1 10\ntotal 10\ncost 0\n")
+        seen = self.publish(data, report, *self.told({"1": {"ties": [BETA + [{"name": "Gamma", "bid": 1}]]}}))
+        self.assertEqual(seen.returncode, 0, seen.stderr)
+        rows = Page(content(self.path("out"), "results.html").decode()).texts("table-ties")[1:]
+        self.assertEqual([row[0] for row in rows], ["Alpha", "Beta", "Cost of Alpha"])
+
+    def test_ties_in_other_groups_change_no_figure(self):
+        page = self.tie_page(*self.told({"1": {"tie_query": "answered"}}))
+        self.assertNotIn("table-ties", Page(page).tables)
+        self.assertIn("A solver was asked for other winners of the same total, and found none.", page)
+
+    def test_a_tie_query_without_an_answer_is_told(self):
+        words = {"answered": "A solver was asked for other winners", "not asked": "Whether others reach the same total wasn't asked.",
+                 "not decided": "Whether others reach the same total wasn't decided"}
+        for query, told in words.items():
+            self.assertIn(told, self.tie_page(*self.told({"1": {"tie_query": query}})))
+        self.assertIn(words["not asked"], self.tie_page())
+        self.assertIn("Whether still others reach the same total wasn't decided",
+                      self.tie_page(*self.told({"1": {"tie_query": "not decided", "ties": [BETA]}})))
+
+    def test_ties_that_are_none_are_refused(self):
+        for ties, words in (([[{"name": "Delta", "bid": 1}]], "a winner that the input doesn't have"), ([[{"name": "Beta", "bid": 2}]], "a winner"),
+                            ([[]], "the total is 10"), ([[{"name": "Alpha", "bid": 1}]], "it is the award itself"),
+                            ([BETA + [{"name": "Alpha", "bid": 1}]], "more of A is sold"), ([BETA * 2], "a winner"),
+                            ([[{"name": "\n\x1b[2J", "bid": 1}]], "a winner")):
+            with self.subTest(ties=ties):
+                self.assert_refused(self.publish(TIE, TIE_REPORT, *self.told({"1": {"ties": ties}})), words)
+        self.assert_refused(self.publish(TIE, TIE_REPORT, *self.told({"2": {"ties": [[{"name": "Alpha", "bid": 1}]]}})), "a winner")
+
+
+class Cells(unittest.TestCase):
+    def test_what_a_reader_may_take_for_a_formula_stands_in_quotes(self):
+        for cell in ("=1+1", "+1", "-", "@x", "%form", "\tx", "a,b", 'a"b', "a\nb"):
+            self.assertEqual(cell_text(cell), '"%s"' % cell.replace('"', '""'))
+        self.assertEqual([cell_text(cell) for cell in ("Alpha", "a=b", -5, 12, None, "")], ["Alpha", "a=b", "-5", "12", "", ""])
 
 
 class Refused(Folder):
@@ -236,8 +375,17 @@ class Refused(Folder):
         data, report = content(EXAMPLES, "worked.txt"), content(EXAMPLES, "worked.report.txt")
         for told, words in ((b"{", "no JSON"), (b"[]", "not an object of versions"), (b'{"versions": 1}', "versions isn't"),
                             (b'{"groups": {"1": {"certified": "so"}}}', "group 1: certified"), (b'{"groups": {"-": {}}}', "groups isn't"),
-                            (b'{"groups": {"9": {}}}', "tells of group 9"), (b"\xff", "no JSON")):
-            self.assert_refused(self.publish(data, report, "--run", self.write("run.json", told)), words)
+                            (b'{"groups": {"9": {}}}', "tells of group 9"), (b"\xff", "no JSON"), (b'{"groups": {"01": {}}}', "groups isn't"),
+                            (b'{"groups": {"%s": {}}}' % (b"1" * 5000), "groups isn't"), (b'{"groups": {"1": {"seconds": NaN}}}', "NaN is no number"),
+                            (b'{"groups": {"1": {"seconds": -Infinity}}}', "-Infinity is no number"),
+                            (b'{"groups": {"1": {"seconds": 1e999}}}', "isn't finite"), (b'{"groups": {"1": {"seconds": %s}}}' % (b"1" * 5000), "5000 digits"),
+                            (b'{"times": {"Results made": "\\ud800"}}', "half of a surrogate pair"), (b"[" * 200000, "nested too deeply"),
+                            (b'{"groups": {"1": {"ties": [["Beta"]]}}}', "group 1: ties"), (b'{"groups": {"1": {"tie_query": "no"}}}', "group 1: tie_query"),
+                            (b'{"groups": {"1": {"\\n\\u001b[2J": 1}}}', "group 1: ")):
+            with self.subTest(told=told[:60]):
+                seen = self.publish(data, report, "--run", self.write("run.json", told))
+                self.assert_refused(seen, words)
+                self.assertEqual((seen.stderr.count(b"\n"), len(seen.stderr) < 400, b"\x1b" in seen.stderr), (1, True, False), seen.stderr)
 
     def test_ends(self):
         data, report = content(EXAMPLES, "worked.txt"), content(EXAMPLES, "worked.report.txt")

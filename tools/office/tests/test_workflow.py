@@ -1,6 +1,10 @@
-"""An auction as a workflow: to its page, killed in the middle and gone on with, groups that fail, ties, and no process left."""
+"""An auction as a workflow: to its page, killed in the middle and gone on with, groups that fail, ties, and no process left;
+answers that are disproved, results that aren't certified, and files that were changed behind its back."""
+import hashlib
 import json
 import os
+import re
+import resource
 import shutil
 import signal
 import subprocess
@@ -24,6 +28,13 @@ echo 'Stopped on time - objective value -50.00000000' > solution.txt; exit 0; fi
 FIRST_FAILS = "grep -q X1_1 program.mps && grep -q X2_1 program.mps && kill -9 $$"
 NOBODY_WINS = """grep -q X2_1 program.mps || {
 echo 'wdp read with 0 errors'; echo 'Optimal - objective value 0' > solution.txt; exit 0; }"""
+# In groups 3 and 4 Alpha's bid 1 in place of bid 2; in group 3 with Gamma's, so that no bid can be added in either.
+SHORT = """grep -q X2_1 program.mps || {
+echo 'wdp read with 0 errors'; echo 'Optimal - objective value -42' > solution.txt
+echo ' 0 X1_1 1 -30' >> solution.txt; grep -q X3_1 program.mps && echo ' 2 X3_1 1 -12' >> solution.txt; exit 0; }"""
+# In groups 1 and 2 the true answer, asked for a tie none in time.
+TIE_TAKES_TOO_LONG = """if grep -q TIE program.mps; then
+echo 'wdp read with 0 errors'; echo 'Stopped on time - objective value 0' > solution.txt; exit 0; fi"""
 
 # Alpha and Beta bid the same for the one lot: either may win.
 TIED = b"""%rules
@@ -84,12 +95,12 @@ class Folder(unittest.TestCase):
         self.addCleanup(lambda: (tool.kill(), tool.wait(), tool.stdout.close(), tool.stderr.close()))
         return tool
 
-    def run_it(self, *words, **how):
+    def run_it(self, *words, output=b"", **how):
         """The status and the messages of a run."""
         tool = self.start(*words, **how)
         printed, messages = tool.communicate(timeout=120)
         self.assertNotIn(b"Traceback", messages)
-        self.assertEqual(printed, b"")
+        self.assertIn(output, (printed, None))
         return tool.returncode, messages.decode()
 
     def called(self):
@@ -102,6 +113,12 @@ class Folder(unittest.TestCase):
 
     def report(self, solver="cbc"):
         return content(self.folder, "reports", solver + ".txt")
+
+    def published(self, solver="cbc"):
+        """What stands in the folder that may be published of a solver's answers."""
+        there = [os.path.join(folder, name) for folder in ("reports", "audits") for name in [solver + ".txt"] if is_there(self.folder, folder, name)]
+        where = os.path.join(self.folder, "results", solver)
+        return there + (sorted(os.listdir(where)) if os.path.isdir(where) else [])
 
     def told(self, solver="cbc"):
         return json.loads(content(self.folder, "results", solver, "results.json"))
@@ -142,7 +159,7 @@ class Folder(unittest.TestCase):
 
 class Runs(Folder):
     def test_to_its_page_with_a_second_solver_certificates_and_ties(self):
-        words = ["--check-with", "glpsol", "--certify", "--ties", "--title", "The award"]
+        words = ["--check-with", "glpsol", "--ties", "all", "--title", "The award"]
         status, messages = self.run_it(*words)
         self.assertEqual(status, 0, messages)
         self.assertIn("16 of 16 done", messages)
@@ -150,11 +167,11 @@ class Runs(Folder):
         self.assertEqual(self.report(), content(EXAMPLES, "worked.report.txt"))
         self.assertEqual(self.report("glpsol"), content(EXAMPLES, "worked.report.txt"))
         told = self.told()
-        self.assertEqual([(group["certified"], group["ties"]) for group in told["groups"]], [(True, [])] * 4)
+        self.assertEqual([(group["certified"], group["has_tie"]) for group in told["groups"]], [(True, False)] * 4)
         with open(os.path.join(self.folder, "audits", "cbc.txt"), "rb") as audit:
             done = subprocess.run([WDP, "verify"], stdin=audit, capture_output=True)
         self.assertEqual((done.returncode, done.stdout), (0, self.report()), done.stderr)
-        self.assertEqual(set(told["versions"]), {"wdp", "cbc", "glpsol"})
+        self.assertEqual(set(json.loads(content(self.folder, "run.json"))["versions"]), {"wdp", "cbc", "glpsol"})
         page = content(self.folder, "results", "cbc", "results.html").decode()
         self.assertIn("<h1>The award</h1>", page)
         rows = Page(page).texts("table-groups")[1:]
@@ -238,23 +255,6 @@ class Runs(Folder):
         self.stand_in("")
         self.assertEqual((self.run_it()[0], self.report()), (0, content(EXAMPLES, "worked.report.txt")))
 
-    def test_an_answer_that_cannot_be_optimal(self):
-        """Nobody wins in groups 3 and 4, where Alpha and Gamma of group 1's winners could."""
-        self.stand_in(NOBODY_WINS)
-        status, messages = self.run_it()
-        self.assertEqual(status, 3)
-        self.assertIn("group 3 (Beta) has no optimal answer: its total is 0, and the winners of group 1 bring 42 more", messages)
-        self.assertFalse(is_there(self.folder, "results"))
-
-    def test_a_certificate_shows_that_an_answer_is_not_optimal(self):
-        """Nobody wins in any group, by which none is below another; the page is made, and says what is missing."""
-        self.stand_in("echo 'wdp read with 0 errors'; echo 'Optimal - objective value 0' > solution.txt; exit 0")
-        status, messages = self.run_it("--certify")
-        self.assertEqual(status, 3, messages)
-        self.assertIn("missing: group 1: cbc's solution isn't certified: not optimal: certify: ", messages)
-        self.assertEqual([group["certified"] for group in self.told()["groups"]], [False] * 4)
-        self.assertIn("0 of 4 totals are certified", content(self.folder, "results", "cbc", "results.html").decode())
-
     def test_what_is_missing_is_told_before_the_first_start(self):
         os.symlink(shutil.which("snakemake"), os.path.join(self.solvers, "snakemake"))
         status, messages = self.run_it("--check-with", "glpsol", path=self.solvers)
@@ -278,27 +278,260 @@ class Runs(Folder):
 
 class Ties(Folder):
     def test_a_tie_is_told_where_it_is_asked_for(self):
+        """Group 1 alone is asked; Alpha's cost is 20 where it wins, else 0."""
         self.put("input.txt", TIED)
         status, messages = self.run_it("--ties")
         self.assertEqual(status, 0, messages)
-        first, second = self.told()["groups"]
-        other = {"Alpha": "Beta", "Beta": "Alpha"}[first["winners"][0]["name"]]
-        self.assertEqual((first["ties"], second["ties"]), ([["%s with bid 1" % other]], []))
-        self.assertIn("Tie in group 1", content(self.folder, "results", "cbc", "results.html").decode())
+        self.assertIn("5 of 5 done", messages)
+        told = self.told()
+        first, second = told["groups"]
+        winner = first["winners"][0]["name"]
+        other, costs = {"Alpha": ("Beta", (20, 0)), "Beta": ("Alpha", (0, 20))}[winner]
+        award, = told["tied_awards"]
+        self.assertEqual([each["name"] for each in award["winners"]], [other])
+        self.assertEqual([(cost["reported"], cost["cost"]) for cost in award["costs"]], [costs])
+        self.assertEqual((told["tie_query"], second["has_tie"]), ("answered", False))
+        self.assertIn("tie: the same total is reached by %s with bid 1; the cost of Alpha is then %d in place of %d" % (other, *reversed(costs)), messages)
+        rows = Page(content(self.folder, "results", "cbc", "results.html").decode()).texts("table-ties")
+        self.assertEqual(rows[-1], ["Cost of Alpha", str(costs[0]), str(costs[1])])
 
     def test_answers_that_are_there_show_a_tie(self):
         """Without Alpha Beta wins, with the total of group 1."""
         self.put("input.txt", TIED)
         self.assertEqual(self.run_it()[0], 0)
-        first, second = self.told()["groups"]
-        seen = [["Beta with bid 1"]] if first["winners"][0]["name"] == "Alpha" else []
-        self.assertEqual((first["ties"], second["ties"]), (seen, []))
+        told = self.told()
+        seen = [["Beta"]] if told["groups"][0]["winners"][0]["name"] == "Alpha" else []
+        self.assertEqual([[winner["name"] for winner in award["winners"]] for award in told["tied_awards"]], seen)
+        self.assertEqual(told["tie_query"], "not asked")
+
+    def test_a_tie_query_that_runs_out_of_time_is_told_on_the_page(self):
+        self.stand_in(TIE_TAKES_TOO_LONG)
+        status, messages = self.run_it("--ties")
+        self.assertEqual(status, 1, messages)
+        self.assertIn("missing: group 1: cbc's tie isn't known: out of time", messages)
+        self.assertIn("whether others reach the same total wasn't decided in group 1\n", messages)
+        self.assertIn("Whether others reach the same total wasn't decided", content(self.folder, "results", "cbc", "results.html").decode())
+        self.assertEqual((self.told()["tie_query"], self.told()["certified"]), ("not decided", True))
+
+
+class Disproved(Folder):
+    """Answers for which there is a better one: nothing of them is published, and the better point is kept and told."""
+
+    def test_an_answer_to_which_a_bid_can_be_added(self):
+        """Nobody wins in groups 3 and 4, with and without certificates: refused before a report is made."""
+        self.stand_in(NOBODY_WINS)
+        for words in ([], ["--no-certify"]):
+            status, messages = self.run_it(*words)
+            self.assertEqual(status, 3, messages)
+            self.assertIn("missing: group 3 isn't solved by cbc: not optimal: the answer isn't optimal: one more bid fits into it, X1_2, for 50 more", messages)
+            self.assertIn("group 3: X1_2 bring 50, which is %s" % os.path.join(self.folder, "better", "3.txt"), messages)
+            self.assertEqual((self.published(), self.solved()), ([], ["1.txt", "2.txt"]))
+
+    def test_an_answer_that_a_certificate_disproves_ends_the_run(self):
+        """Without certificates the short answer passes where the groups agree; then its page is taken away."""
+        self.put("input.txt", content(EXAMPLES, "worked.txt").replace(b"Alpha\nBeta\nBeta+Gamma\n", b"Beta\n"))
+        always = SHORT.replace("grep -q X2_1 program.mps || {", "{")
+        self.stand_in(always)
+        status, messages = self.run_it()
+        self.assertEqual(status, 3, messages)
+        self.assertIn("not optimal: ", messages)
+        self.assertEqual(self.published(), [])
+
+    def one_group_short(self, *words):
+        """Group 1 alone, in which Alpha's bid 2 for everything is taken for the best, 12 below it."""
+        self.put("input.txt", content(EXAMPLES, "worked.txt").partition(b"%groups")[0] + b"%groups\n-\n")
+        self.stand_in("echo 'wdp read with 0 errors'; echo 'Optimal - objective value -50' > solution.txt; "
+                      "echo ' 1 X1_2 1 -50' >> solution.txt; exit 0")
+        return self.run_it(*words)
+
+    def test_a_disproved_answer_takes_an_older_page_away(self):
+        status, messages = self.one_group_short("--no-certify")
+        self.assertEqual(status, 0, messages)
+        self.assertIn("results.html", self.published())
+        status, messages = self.run_it()
+        self.assertEqual(status, 3, messages)
+        self.assertIn("missing: group 1: cbc's solution isn't certified: not optimal: ", messages)
+        self.assertIn("group 1: X1_1, X2_1, X3_1 bring 62, which is", messages)
+        self.assertIn("no report: an answer isn't optimal", messages.splitlines()[-1])
+        self.assertEqual((self.published(), self.solved()), ([], []))
+        better = content(self.folder, "better", "1.txt")
+        self.assertEqual(better, b"# total 62\nX1_1 1\nX2_1 1\nX3_1 1\n")
+
+    def test_no_answer_below_a_known_one_is_taken_again(self):
+        self.assertEqual(self.one_group_short()[0], 3)
+        status, messages = self.run_it("--no-certify")
+        self.assertEqual(status, 3, messages)
+        self.assertIn("its total is 50, and a point with 62 is known", messages)
+        self.assertEqual(self.published(), [])
+        self.stand_in("")
+        status, messages = self.run_it()
+        self.assertEqual((status, self.report()[:9]), (0, b"group 1 -"), messages)
+
+    def test_a_second_solver_with_another_total_leaves_no_page(self):
+        self.assertEqual(self.one_group_short("--no-certify")[0], 0)
+        status, messages = self.run_it("--no-certify", "--check-with", "glpsol")
+        self.assertEqual(status, 3, messages)
+        self.assertIn("group 1 (-): cbc reaches 50, glpsol 62; the lower one isn't optimal", messages)
+        self.assertEqual((self.published(), self.solved()), ([], []))
+
+    def test_winners_of_another_group_disprove_a_total(self):
+        """One lot: without Gamma, who bids nothing, Alpha wins with 10, so Beta's 8 aren't the greatest total of group 1."""
+        self.put("input.txt", b"%rules\nrules,1,1,,\ncategory,A,1,5,1\nbidder,Alpha,9,1,\nbidder,Beta,9,1,\nbidder,Gamma,9,1,\n"
+                 b"%form\nAlpha,A\n10,1\n%form\nBeta,A\n8,1\n%form\nGamma,A\n6,1\n%groups\n-\nGamma\n")
+        self.stand_in("grep -q X3_1 program.mps && {\necho 'wdp read with 0 errors'; echo 'Optimal - objective value -8' > solution.txt\n"
+                      "echo ' 1 X2_1 1 -8' >> solution.txt; exit 0; }")
+        status, messages = self.run_it("--no-certify")
+        self.assertEqual(status, 3, messages)
+        self.assertIn("group 1 (-) has no optimal answer: its total is 8, and the winners of group 2 bring 2 more in it", messages)
+        self.assertEqual((self.published(), self.solved()), ([], ["2.txt"]))
+
+
+class NotCertified(Folder):
+    def test_results_without_certificates_say_so_first_and_last(self):
+        status, messages = self.run_it("--no-certify")
+        self.assertEqual((status, messages.splitlines()[-1]), (0, "auction: not certified: the totals are cbc's word"))
+        page = content(self.folder, "results", "cbc", "results.html").decode()
+        self.assertRegex(page, r"</h1>\n<p[^>]*>Not certified: ")
+        self.assertNotIn("told", page.partition("<main>")[2])
+        for name in ("bidders", "categories", "pools", "groups"):
+            self.assertIn(b"(results not certified)", content(self.folder, "results", "cbc", name + ".csv").splitlines()[0])
+
+    def test_a_certificate_that_is_missing_leaves_a_page_that_says_so(self):
+        """Where a folder stands in its place, the third certificate can't be written."""
+        os.makedirs(os.path.join(self.folder, "certificates", "cbc", "3.txt.unchecked"))
+        status, messages = self.run_it()
+        self.assertEqual((status, messages.splitlines()[-1]), (1, "auction: not certified: 1 of 4 totals are cbc's word"), messages)
+        self.assertRegex(content(self.folder, "results", "cbc", "results.html").decode(), r"</h1>\n<p[^>]*>Not certified: 3 of 4 totals are shown")
+        self.assertEqual([group["certified"] for group in self.told()["groups"]], [True, True, False, True])
+        os.rmdir(os.path.join(self.folder, "certificates", "cbc", "3.txt.unchecked"))
+        status, messages = self.run_it()
+        self.assertEqual((status, self.told()["certified"]), (0, True), messages)
+
+    def test_certified_is_the_usual_way(self):
+        status, messages = self.run_it()
+        self.assertEqual(status, 0, messages)
+        self.assertTrue(messages.splitlines()[-1].startswith("auction: each total is certified: wdp verify < "), messages)
+        self.assertRegex(content(self.folder, "results", "cbc", "results.html").decode(), r"</h1>\n<p[^>]*>Certified: each of the 4 totals")
+
+    def test_the_three_lines_of_the_page_repeat_the_audit(self):
+        self.assertEqual(self.run_it()[0], 0)
+        page = content(self.folder, "results", "cbc", "results.html").decode().partition('id="audit"')[2].partition("</dl>")[0]
+        lines = re.findall(r"<dt><code>(.*?)</code></dt><dd><code>([0-9a-f]{64})</code></dd>", page)
+        self.assertEqual(len(lines), 3)
+        shutil.copy(os.path.join(self.folder, "audits", "cbc.txt"), os.path.join(self.solvers, "audit.txt"))
+        os.symlink(WDP, os.path.join(self.solvers, "wdp"))
+        for line, digest in lines:
+            done = subprocess.run(["sh", "-c", line.replace("&lt;", "<")], cwd=self.solvers, capture_output=True, text=True,
+                                  env={**os.environ, "PATH": self.solvers + os.pathsep + os.environ["PATH"]})
+            self.assertEqual((done.returncode, done.stdout.split()[:1]), (0, [digest]), line)
+        self.assertEqual({digest for _, digest in lines}, {hashlib.sha256(data).hexdigest() for data in (
+            content(self.folder, "audits", "cbc.txt"), content(EXAMPLES, "worked.txt"), content(EXAMPLES, "worked.report.txt"))})
+
+
+class Changed(Folder):
+    def test_a_file_that_is_not_what_its_step_left_is_reported(self):
+        self.assertEqual(self.run_it("--ties")[0], 0)
+        calls, page = len(self.called()), content(self.folder, "results", "cbc", "results.html")
+        for name in ("solutions/cbc/1.txt", "certificates/cbc/2.txt", "programs/3.mps", "ties/cbc/1.json", "reports/cbc.txt",
+                     "audits/cbc.txt", "first/cbc.json"):
+            with self.subTest(name=name):
+                before = content(self.folder, name)
+                self.put(name, before[:before.rstrip().rfind(b"\n") + 1])
+                status, messages = self.run_it()
+                self.assertEqual((status, len(self.called())), (1, calls), messages)
+                self.assertIn("%s isn't what its step left\n" % os.path.join(self.folder, name), messages)
+                self.assertIn("1 file of %s changed" % self.folder, messages)
+                self.put(name, before)
+        self.assertEqual(content(self.folder, "results", "cbc", "results.html"), page)
+        self.assertEqual(self.run_it()[0], 0)
+
+    def test_a_file_without_its_sum_and_one_that_is_put_there(self):
+        self.assertEqual(self.run_it()[0], 0)
+        os.unlink(os.path.join(self.folder, "sums", "solutions", "cbc", "2.txt.sha256"))
+        self.put("solutions/cbc/other.txt", b"X1_1 1\n")
+        status, messages = self.run_it()
+        self.assertEqual(status, 1)
+        for name in ("2.txt", "other.txt"):
+            self.assertIn("solutions/cbc/%s isn't what its step left" % name, messages)
+
+    def test_certificates_that_were_not_taken_together_count_for_nothing(self):
+        """Without its audit, a run that asks for no certificates doesn't say that the totals are certified."""
+        self.assertEqual(self.run_it()[0], 0)
+        os.unlink(os.path.join(self.folder, "audits", "cbc.txt"))
+        status, messages = self.run_it("--no-certify")
+        self.assertEqual((status, messages.splitlines()[-1]), (0, "auction: not certified: the totals are cbc's word"), messages)
+        self.assertFalse(self.told()["certified"])
+        status, messages = self.run_it()
+        self.assertEqual((status, self.told()["certified"]), (0, True), messages)
+
+    def test_a_file_that_is_deleted_is_made_again(self):
+        self.assertEqual(self.run_it()[0], 0)
+        for name in ("solutions/cbc/3.txt", "programs/2.mps"):
+            os.unlink(os.path.join(self.folder, name))
+        status, messages = self.run_it()
+        self.assertEqual((status, self.report()), (0, content(EXAMPLES, "worked.report.txt")), messages)
+
+    def test_sums_are_as_sha256sum_reads_them(self):
+        self.assertEqual(self.run_it()[0], 0)
+        done = subprocess.run("find sums -type f | xargs cat | sha256sum --check --quiet", shell=True, cwd=self.folder, capture_output=True)
+        self.assertEqual(done.returncode, 0, done)
+
+
+class Said(Folder):
+    def test_a_title_and_a_currency_are_kept_for_the_next_run(self):
+        self.assertEqual(self.run_it("--title", "The award", "--currency", "GBP")[0], 0)
+        self.assertEqual(self.run_it()[0], 0)
+        self.assertEqual((self.told()["title"], self.told()["currency"]), ("The award", "GBP"))
+        self.assertEqual(self.run_it("--title=-1 % more")[0], 0)
+        self.assertEqual((self.told()["title"], self.told()["currency"]), ("-1 % more", "GBP"))
+
+    def test_a_dry_run_prints_the_plan_and_does_nothing(self):
+        tool = self.start("--", "--dry-run")
+        printed, messages = tool.communicate(timeout=60)
+        self.assertEqual((tool.returncode, self.called()), (0, []), messages)
+        self.assertIn(b"solve", printed)
+        self.assertNotIn(b"missing", messages)
+        self.assertFalse(is_there(self.folder, "programs"))
+
+    def test_parallel_has_no_plan(self):
+        tool = self.start("--engine", "parallel", "--", "--dry-run")
+        self.assertEqual((tool.communicate(timeout=60)[0], tool.returncode), (b"", 2))
+
+    def test_quiet_tells_the_end_alone(self):
+        status, messages = self.run_it("--quiet")
+        self.assertEqual((status, len(messages.splitlines())), (0, 2), messages)
+        self.assertIn("the report is", messages)
+
+    def test_a_folder_whose_name_would_forge_lines(self):
+        """A line break, ESC and a byte that isn't UTF-8 are told as their escapes."""
+        self.folder += os.fsdecode(b"\nauction: each total is certified\x1b[2J\xff")
+        status, messages = self.run_it("--no-certify", "--quiet", "--input", os.path.join(EXAMPLES, "worked.txt"))
+        self.assertEqual((status, len(messages.splitlines()), "\x1b" in messages), (0, 2, False), messages)
+        self.assertIn("\\nauction: each total is certified\\x1b[2J", messages)
+        self.assertEqual(self.report(), content(EXAMPLES, "worked.report.txt"))
+
+    def test_a_full_disk_names_the_file(self):
+        """No file may grow beyond so many bytes; the program of the first group has 370, and what is said of a step fewer."""
+        for size, name in ((40, "input.sha256"), (200, "input.txt"), (330, "programs/1.mps")):
+            with self.subTest(name=name):
+                shutil.rmtree(self.folder)
+                os.mkdir(self.folder)
+                if size > 200:
+                    self.put("input.txt", content(EXAMPLES, "worked.txt"))
+                given = ["--input", os.path.join(EXAMPLES, "worked.txt")]
+                words = [os.path.join(TOOLS, "auction"), self.folder, "--wdp", WDP, "--solver", "cbc", *given]
+                if name.startswith("programs"):
+                    self.assertEqual(self.run_it("--", "--dry-run", output=None)[0], 0)
+                    words = [os.path.join(TOOLS, "auction_step"), "programs"]
+                done = subprocess.run(words, cwd=self.folder, stdin=subprocess.DEVNULL, capture_output=True, text=True,
+                                      preexec_fn=lambda: resource.setrlimit(resource.RLIMIT_FSIZE, (size, size)))
+                self.assertEqual((done.returncode, "%s: File too large" % name in done.stderr), (1, True), done.stderr)
 
 
 class Commands(Folder):
     ANSWER = """grep -q X2_1 program.mps && answer='X2_1 1\\nX3_1 1' || answer='X1_2 1'
 grep -q X1_1 program.mps && grep -q X2_1 program.mps && answer='X1_1 1\\nX2_1 1\\nX3_1 1'
-printf 'Model status\\nOptimal\\n\\n# Primal solution values\\nFeasible\\n# Columns 3\\n'"$answer"'\\n# Rows 1\\nB1 1\\n' > "$3"
+printf 'Model status\\nOptimal\\n\\n# Primal solution values\\nFeasible\\n# Columns '"$(printf "$answer\\n" | wc -l)\\n$answer"'\\n# Rows 1\\nB1 1\\n' > "$3"
 exit 0"""
     WORDS = ("--solver-command", "other {mps} --solution_file {out} --limit {seconds} --start {start}")
 
@@ -307,7 +540,7 @@ exit 0"""
         status, messages = self.run_it("--check-with", "cbc", solver=self.WORDS)
         self.assertEqual(status, 0, messages)
         self.assertEqual(self.report("other"), content(EXAMPLES, "worked.report.txt"))
-        self.assertIn("program of SHA-256", self.told("other")["versions"]["other"])
+        self.assertIn("program of SHA-256", json.loads(content(self.folder, "run.json"))["versions"]["other"])
 
     def test_a_solver_that_does_not_say_that_its_answer_is_optimal(self):
         self.stand_in("echo 'Time limit reached'; exit 0", "other")
@@ -322,6 +555,52 @@ exit 0"""
                 _, messages = tool.communicate(timeout=60)
                 self.assertEqual(tool.returncode, 2)
                 self.assertNotIn(b"Traceback", messages)
+
+
+# A cluster on this machine: a job is a process of its own, of which a folder has the number and the status.
+SUBMIT = """#!/bin/sh
+setsid sh -c '"$1"; echo $? > {kept}/$$.status' job "$1" < /dev/null > /dev/null 2>&1 &
+echo $!
+"""
+STATUS = """#!/bin/sh
+if [ -e {kept}/$1.status ]; then [ "$(cat {kept}/$1.status)" = 0 ] && echo success || echo failed
+elif kill -0 $1 2> /dev/null; then echo running; else echo failed; fi
+"""
+CANCEL = """#!/bin/sh
+for job; do kill -s KILL -- "-$job"; done
+"""
+
+
+class OnACluster(Folder):
+    def profile(self):
+        """A profile of Snakemake for the cluster of this machine."""
+        kept = os.path.join(self.solvers, "jobs")
+        profile = os.path.join(self.solvers, "profile")
+        os.mkdir(kept)
+        os.mkdir(profile)
+        for name, text in (("submit", SUBMIT), ("status", STATUS), ("cancel", CANCEL)):
+            path = os.path.join(profile, name)
+            with open(path, "w") as file:
+                file.write(text.format(kept=kept))
+            os.chmod(path, 0o755)
+        shutil.copy(os.path.join(TOOLS, "slurm", "job"), profile)
+        with open(os.path.join(profile, "config.yaml"), "w") as file:
+            file.write('cluster: "%s"\njobscript: "job"\ncluster-status: "%s"\ncluster-cancel: "%s"\nlatency-wait: 60\n' % tuple(
+                os.path.join(profile, name) for name in ("submit", "status", "cancel")))
+        return profile
+
+    def test_jobs_that_were_cancelled_with_a_run_are_begun_by_the_next_one(self):
+        words = ["--no-certify", "--profile", self.profile()]
+        self.stand_in(WAITS % self.gate)
+        tool = self.start(*words)
+        self.wait_for(lambda: self.solved() == ["1.txt", "2.txt"] and len(self.called()) == 4, 120)
+        tool.terminate()
+        tool.communicate(timeout=60)
+        self.wait_for(lambda: not self.processes(), 10)
+        self.stand_in("")
+        os.unlink(self.calls)
+        status, messages = self.run_it(*words)
+        self.assertEqual((status, len(self.called()), self.report()), (0, 2, content(EXAMPLES, "worked.report.txt")), messages)
 
 
 class ByParallel(Folder):
@@ -352,9 +631,9 @@ class ByParallel(Folder):
 class AtOnce(Folder):
     """Without a folder, from standard input to standard output."""
 
-    def start(self, *words):
+    def start(self, *words, given=None):
         environment = {**os.environ, "PATH": self.solvers + os.pathsep + os.environ["PATH"], "WORKFLOW_OF": self.folder}
-        with open(os.path.join(EXAMPLES, "worked.txt"), "rb") as text:
+        with open(given or os.path.join(EXAMPLES, "worked.txt"), "rb") as text:
             tool = subprocess.Popen([os.path.join(TOOLS, "auction"), "--wdp", WDP, "--solver", "cbc", "--workers", "2", *words],
                                     env=environment, stdin=text, stdout=subprocess.PIPE, stderr=subprocess.PIPE)
         self.addCleanup(lambda: (tool.kill(), tool.wait(), tool.stdout.close(), tool.stderr.close()))
@@ -381,6 +660,56 @@ class AtOnce(Folder):
         self.assertIn("group 3 of 4 (Beta): solve: cbc was killed by signal 9 (Killed)", messages.decode())
         self.assertIn("2 of 4 groups aren't solved", messages.decode())
         self.assertTrue(is_there(self.folder, "2.cbc.solution"))
+
+    def run_it(self, *words, **how):
+        """Status, report and messages."""
+        tool = self.start(*words, **how)
+        printed, messages = tool.communicate(timeout=60)
+        self.assertNotIn(b"Traceback", messages)
+        return tool.returncode, printed, messages.decode()
+
+    def test_a_certified_report_and_one_that_is_not(self):
+        report = content(EXAMPLES, "worked.report.txt")
+        status, printed, messages = self.run_it()
+        self.assertEqual((status, printed), (0, report), messages)
+        self.assertIn("verified in", messages)
+        self.assertNotIn("not certified", messages)
+        status, printed, messages = self.run_it("--no-certify", "--quiet")
+        self.assertEqual((status, printed, messages), (0, report, "auction: not certified: the totals are cbc's word\n"))
+
+    def test_a_disproved_answer_leaves_no_report_and_takes_an_older_one_away(self):
+        self.assertEqual(self.run_it("--keep", self.folder)[0], 0)
+        self.assertTrue(is_there(self.folder, "audit.txt") and is_there(self.folder, "report.cbc.txt"))
+        for script, words in ((NOBODY_WINS, "one more bid fits into it, X1_2, for 50 more"), (SHORT, "X1_2 are better")):
+            self.stand_in(script)
+            status, printed, messages = self.run_it("--keep", self.folder)
+            self.assertEqual((status, printed), (3, b""), messages)
+            self.assertIn(words, messages)
+            self.assertIn("no report: an answer of cbc isn't optimal", messages.splitlines()[-1])
+            self.assertFalse(is_there(self.folder, "audit.txt") or is_there(self.folder, "report.cbc.txt"))
+
+    def test_a_bid_that_could_be_added_is_found_without_certificates(self):
+        self.stand_in(NOBODY_WINS)
+        status, printed, messages = self.run_it("--no-certify")
+        self.assertEqual((status, printed), (3, b""), messages)
+
+    def test_ties_and_their_costs_without_a_folder(self):
+        self.put("tied.txt", TIED)
+        status, _, messages = self.run_it("--ties", given=os.path.join(self.folder, "tied.txt"))
+        self.assertEqual(status, 0, messages)
+        self.assertRegex(messages, "tie: the same total is reached by (Alpha|Beta) with bid 1; the cost of Alpha is then (20 in place of 0|0 in place of 20);")
+        self.stand_in(TIE_TAKES_TOO_LONG)
+        status, _, messages = self.run_it("--ties", given=os.path.join(self.folder, "tied.txt"))
+        self.assertEqual(status, 0, messages)
+        self.assertIn("whether others reach the same total wasn't decided in group 1\n", messages)
+
+    def test_a_value_that_is_no_number_is_no_answer(self):
+        """Alpha's and Gamma's 42 are lost where `nan` counts as 0: Beta's 20 would be reported where 62 can be won."""
+        self.stand_in("echo 'wdp read with 0 errors'; printf 'Optimal - objective value -20\\n 0 X1_1 nan -30\\n 2 X2_1 1 -20\\n' > solution.txt; exit 0")
+        for words in ([], ["--no-certify"]):
+            status, printed, messages = self.run_it(*words)
+            self.assertEqual((status, printed), (1, b""), messages)
+            self.assertIn("a value that is no number: X1_1 nan", messages)
 
 
 if __name__ == "__main__":
