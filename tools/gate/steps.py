@@ -16,11 +16,10 @@ class Steps:
 
     def __init__(self, folder):
         self.folder, self.printing = folder, threading.Lock()
-        self.passed = self.failed = 0
-        self.times, self.started = [], time.time()
+        self.told, self.started = {}, time.time()
 
     def run(self, name, words, is_shown_at_once=False, niceness=0):
-        """Runs a step; what it prints is shown as it comes, or in one piece at its end."""
+        """Runs a step; what it prints is shown as it comes, or in one piece at its end. A step that is run again counts once."""
         started = time.time()
         how = {"cwd": self.folder, "stdin": subprocess.DEVNULL, "stdout": subprocess.PIPE, "stderr": subprocess.STDOUT}
         said = []
@@ -49,18 +48,18 @@ class Steps:
         head = b"" if is_shown else b"== %s\n" % name.encode()
         self.show(head + (b"" if is_shown else said) + why + b"== %s: %d s, status %d\n" % (name.encode(), seconds, status))
         with self.printing:
-            self.passed, self.failed = self.passed + passed, self.failed + failed
-            self.times.append((seconds, name, passed, failed))
+            self.told[name] = seconds, passed, failed
 
     def run_all(self, steps, side_by_side, niceness):
-        """Runs steps, so many at a time."""
+        """Runs steps, so many at a time, and returns those that failed."""
         with ThreadPoolExecutor(side_by_side) as pool:
-            return list(pool.map(lambda step: self.run(*step, niceness=niceness), steps))
+            return [step for step, is_well in zip(steps, pool.map(lambda step: self.run(*step, niceness=niceness), steps)) if not is_well]
 
     def tell(self):
         """Prints the time of each step and the sum, and returns the exit status."""
-        for seconds, name, passed, failed in sorted(self.times, reverse=True):
+        for name, (seconds, passed, failed) in sorted(self.told.items(), key=lambda told: -told[1][0]):
             print("%5d s  %6d passed %4d failed  %s" % (seconds, passed, failed, name))
         print("%5d s  in all, on %d processors" % (time.time() - self.started, len(os.sched_getaffinity(0))))
-        print("%d passed, %d failed" % (self.passed, self.failed), flush=True)
-        return 1 if self.failed else 0
+        _, passed, failed = (sum(column) for column in zip(*self.told.values()))
+        print("%d passed, %d failed" % (passed, failed), flush=True)
+        return 1 if failed else 0

@@ -34,7 +34,7 @@ EXPORTS = [
 
 def run(tool, *words, **how):
     how = {"capture_output": True, "stdin": subprocess.DEVNULL, **how}
-    return subprocess.run([sys.executable, os.path.join(TOOLS, tool), *words], timeout=60, **how)
+    return subprocess.run([sys.executable, os.path.join(TOOLS, tool), *words], timeout=300, **how)
 
 
 class Office(unittest.TestCase):

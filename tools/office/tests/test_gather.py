@@ -145,7 +145,7 @@ class Ends(Office):
             tool.send_signal(signal.SIGINT)
             self.assertEqual(tool.stdout.read(), b"")
             self.assertNotIn(b"Traceback", tool.stderr.read())
-            self.assertNotEqual(tool.wait(timeout=60), 0)
+            self.assertNotEqual(tool.wait(timeout=300), 0)
 
     def test_a_reader_that_goes_away(self):
         # a line for each bid, more than a pipe holds: each asks for more than the first and pays less
@@ -158,7 +158,7 @@ class Ends(Office):
             tool.stdout.read(10)
             tool.stdout.close()
             self.assertNotIn(b"Traceback", tool.stderr.read())
-            self.assertNotEqual(tool.wait(timeout=60), 0)
+            self.assertNotEqual(tool.wait(timeout=300), 0)
 
 
 if __name__ == "__main__":

@@ -56,7 +56,7 @@ class Output(Office):
         whole = self.gather().stdout
         for end, status, output, told in ((" 2>&-", 0, whole, b""), (" >&-", 1, b"", b"standard output is closed\n"),
                                           (" --expect - <&-", 1, b"", b"nothing is written\n"), (" --expect - <&- 2>&-", 1, b"", b"")):
-            seen = subprocess.run(["sh", "-c", words + end], cwd=self.folder, capture_output=True, timeout=60)
+            seen = subprocess.run(["sh", "-c", words + end], cwd=self.folder, capture_output=True, timeout=300)
             self.assertEqual((seen.returncode, seen.stdout), (status, output))
             self.assertTrue(seen.stderr.endswith(told) and b"Traceback" not in seen.stderr, seen.stderr)
 

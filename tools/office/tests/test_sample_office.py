@@ -88,7 +88,7 @@ class Document(unittest.TestCase):
             for command, wanted in steps():
                 with self.subTest(command=command):
                     seen = subprocess.run(["sh", "-c", command], cwd=folder, stdin=subprocess.DEVNULL, stdout=subprocess.PIPE,
-                                          stderr=subprocess.STDOUT, env={**os.environ, "LC_ALL": "C"}, timeout=60)
+                                          stderr=subprocess.STDOUT, env={**os.environ, "LC_ALL": "C"}, timeout=300)
                     self.assertEqual(seen.stdout.decode(), wanted)
                 count += 1
             self.assertGreater(count, 10)

@@ -34,7 +34,7 @@ class Solved(unittest.TestCase):
         """Status, output and messages of tools/solve with a script in the solver's place."""
         path = self.put(solver, "#!/bin/sh\n" + script + "\n", 0o755)
         chosen = ["--solver-command", command % path] if solver == "liar" else ["--solver", solver]
-        done = subprocess.run([os.path.join(TOOLS, "solve"), *chosen, *words], input=text, capture_output=True, timeout=60,
+        done = subprocess.run([os.path.join(TOOLS, "solve"), *chosen, *words], input=text, capture_output=True, timeout=300,
                               env={**os.environ, "PATH": self.folder + os.pathsep + os.environ["PATH"]})
         messages = done.stderr.decode(errors="replace")
         self.assertNotIn("Traceback", messages)

@@ -209,7 +209,7 @@ class Ends(unittest.TestCase):
             self.number = int(file.read())
 
     def wait_for(self, holds):
-        end = time.monotonic() + 30
+        end = time.monotonic() + 120
         while not holds() and time.monotonic() < end:
             time.sleep(0.02)
         self.assertTrue(holds())

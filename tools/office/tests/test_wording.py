@@ -83,13 +83,13 @@ class Copied(Office):
     def test_a_copied_tool_says_where_it_has_to_stand(self):
         for tool in ("gather", "explain"):
             shutil.copy(os.path.join(TOOLS, tool), self.path(tool))
-            seen = subprocess.run([self.path(tool), "--help"], capture_output=True, cwd=self.folder, timeout=60)
+            seen = subprocess.run([self.path(tool), "--help"], capture_output=True, cwd=self.folder, timeout=300)
             self.assertEqual((seen.returncode, seen.stdout, seen.stderr.decode()),
                              (1, b"", "%s: its folder office isn't beside it; start tools/%s where it stands, or through a link\n" % (tool, tool)))
 
     def test_a_link_does(self):
         os.symlink(os.path.join(TOOLS, "gather"), self.path("gather"))
-        seen = subprocess.run([self.path("gather"), "rules.csv", "forms", "groups.txt"], capture_output=True, cwd=self.folder, timeout=60)
+        seen = subprocess.run([self.path("gather"), "rules.csv", "forms", "groups.txt"], capture_output=True, cwd=self.folder, timeout=300)
         self.assertEqual((seen.returncode, seen.stdout), (0, self.gather().stdout))
 
 

@@ -219,7 +219,7 @@ class Runs(Folder):
                 os.path.exists(self.calls) and os.unlink(self.calls)
                 tool = self.start_and_block()
                 tool.send_signal(number)
-                _, messages = tool.communicate(timeout=60)
+                _, messages = tool.communicate(timeout=300)
                 self.assertEqual((tool.returncode, self.processes()), (1, []))
                 self.assertNotIn(b"Traceback", messages)
         self.go_on()
@@ -230,7 +230,7 @@ class Runs(Folder):
         self.assertEqual(status, 1)
         self.assertIn("another run works in", messages)
         with open(self.gate, "wb"):
-            _, messages = tool.communicate(timeout=60)
+            _, messages = tool.communicate(timeout=300)
         self.assertEqual(tool.returncode, 0, messages)
 
     def test_groups_that_fail_leave_the_others(self):
@@ -487,7 +487,7 @@ class Said(Folder):
 
     def test_a_dry_run_prints_the_plan_and_does_nothing(self):
         tool = self.start("--", "--dry-run")
-        printed, messages = tool.communicate(timeout=60)
+        printed, messages = tool.communicate(timeout=300)
         self.assertEqual((tool.returncode, self.called()), (0, []), messages)
         self.assertIn(b"solve", printed)
         self.assertNotIn(b"missing", messages)
@@ -495,7 +495,7 @@ class Said(Folder):
 
     def test_parallel_has_no_plan(self):
         tool = self.start("--engine", "parallel", "--", "--dry-run")
-        self.assertEqual((tool.communicate(timeout=60)[0], tool.returncode), (b"", 2))
+        self.assertEqual((tool.communicate(timeout=300)[0], tool.returncode), (b"", 2))
 
     def test_quiet_tells_the_end_alone(self):
         status, messages = self.run_it("--quiet")
@@ -552,7 +552,7 @@ exit 0"""
         for command in ("other", "other {mps} {what}", "other '{mps}", "", "cbc {mps}"):
             with self.subTest(command=command):
                 tool = self.start(solver=("--solver-command", command))
-                _, messages = tool.communicate(timeout=60)
+                _, messages = tool.communicate(timeout=300)
                 self.assertEqual(tool.returncode, 2)
                 self.assertNotIn(b"Traceback", messages)
 
@@ -595,7 +595,7 @@ class OnACluster(Folder):
         tool = self.start(*words)
         self.wait_for(lambda: self.solved() == ["1.txt", "2.txt"] and len(self.called()) == 4, 120)
         tool.terminate()
-        tool.communicate(timeout=60)
+        tool.communicate(timeout=300)
         self.wait_for(lambda: not self.processes(), 10)
         self.stand_in("")
         os.unlink(self.calls)
@@ -623,7 +623,7 @@ class ByParallel(Folder):
     def test_terminated(self):
         tool = self.start_and_block()
         tool.terminate()
-        tool.communicate(timeout=60)
+        tool.communicate(timeout=300)
         self.assertEqual((tool.returncode, self.processes()), (1, []))
         self.go_on()
 
@@ -655,7 +655,7 @@ class AtOnce(Folder):
     def test_a_group_that_fails_leaves_the_others(self):
         self.stand_in(IS_KILLED)
         tool = self.start("--keep", self.folder)
-        printed, messages = tool.communicate(timeout=60)
+        printed, messages = tool.communicate(timeout=300)
         self.assertEqual((tool.returncode, printed), (1, b""))
         self.assertIn("group 3 of 4 (Beta): solve: cbc was killed by signal 9 (Killed)", messages.decode())
         self.assertIn("2 of 4 groups aren't solved", messages.decode())
@@ -664,7 +664,7 @@ class AtOnce(Folder):
     def run_it(self, *words, **how):
         """Status, report and messages."""
         tool = self.start(*words, **how)
-        printed, messages = tool.communicate(timeout=60)
+        printed, messages = tool.communicate(timeout=300)
         self.assertNotIn(b"Traceback", messages)
         return tool.returncode, printed, messages.decode()
 
