@@ -1,22 +1,25 @@
 """Steps of the tests side by side: each is a command whose last line is 'N passed, M failed', and is timed."""
+import contextlib
 import os
 import re
+import signal
 import subprocess
 import sys
 import threading
 import time
 from concurrent.futures import ThreadPoolExecutor
 
-COUNTS = re.compile(rb"^(\d+) passed, (\d+) failed$", re.M)
+COUNTS = re.compile(rb"(?:\A|\n)(\d+) passed, (\d+) failed\s*\Z")
 
 
 class Steps:
-    """Runs steps in a folder, and adds up what they counted. A step without that line has failed, and so has one that ends with
+    """Runs steps in a folder, and adds up what they counted. A step without that last line has failed, and so has one that ends with
     another status than 0 and counts no failure."""
 
     def __init__(self, folder):
         self.folder, self.printing = folder, threading.Lock()
         self.passed = self.failed = 0
+        self.running, self.is_stopped = set(), False
         self.times, self.started = [], time.time()
 
     def run(self, name, words, is_shown_at_once=False, niceness=0):
@@ -26,13 +29,33 @@ class Steps:
         said = []
         if is_shown_at_once:
             self.show(b"== %s\n" % name.encode())
-        with subprocess.Popen(["nice", "-n", str(niceness), *map(str, words)], **how) as run:
+        with self.printing:
+            if self.is_stopped:
+                return False
+            # (a group of its own, so that all of it can be ended)
+            run = subprocess.Popen(["nice", "-n", str(niceness), *map(str, words)], start_new_session=True, **how)
+            self.running.add(run)
+        with run:
             for line in run.stdout:
                 said.append(line)
                 if is_shown_at_once:
                     self.show(line)
+        with self.printing:
+            self.running.discard(run)
         self.count(name, run.returncode, b"".join(said), is_shown_at_once, time.time() - started)
         return run.returncode == 0
+
+    def stop_on_signals(self):
+        """Has a signal that ends this process end the steps with all that they started."""
+        def stop(number, _):
+            self.is_stopped = True
+            for run in list(self.running):
+                with contextlib.suppress(ProcessLookupError):
+                    os.killpg(run.pid, signal.SIGKILL)
+            sys.exit(128 + number)
+
+        for ends in (signal.SIGTERM, signal.SIGINT, signal.SIGHUP):
+            signal.signal(ends, stop)
 
     def show(self, text):
         with self.printing:
@@ -40,8 +63,8 @@ class Steps:
             sys.stdout.buffer.flush()
 
     def count(self, name, status, said, is_shown, seconds):
-        counts = COUNTS.findall(said)
-        passed, failed = map(int, counts[-1]) if counts else (0, 0)
+        counts = COUNTS.search(said)
+        passed, failed = map(int, counts.groups()) if counts else (0, 0)
         why = b""
         if not counts or (status and not failed):
             failed += 1
