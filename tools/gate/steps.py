@@ -35,6 +35,8 @@ class Steps:
             # (a group of its own, so that all of it can be ended)
             run = subprocess.Popen(["nice", "-n", str(niceness), *map(str, words)], start_new_session=True, **how)
             self.running.add(run)
+            if self.is_stopped:
+                self.end(run)
         with run:
             for line in run.stdout:
                 said.append(line)
@@ -50,12 +52,16 @@ class Steps:
         def stop(number, _):
             self.is_stopped = True
             for run in list(self.running):
-                with contextlib.suppress(ProcessLookupError):
-                    os.killpg(run.pid, signal.SIGKILL)
+                self.end(run)
             sys.exit(128 + number)
 
         for ends in (signal.SIGTERM, signal.SIGINT, signal.SIGHUP):
             signal.signal(ends, stop)
+
+    @staticmethod
+    def end(run):
+        with contextlib.suppress(ProcessLookupError):
+            os.killpg(run.pid, signal.SIGKILL)
 
     def show(self, text):
         with self.printing:
