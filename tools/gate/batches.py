@@ -40,8 +40,8 @@ class Edit:
 
 @dataclass
 class Told:
-    """What a check says of a function: whether it came to an answer, whether that is a proof, and which of the function's own goals are
-    open."""
+    """What a check says of a function: whether it came to an answer, whether that is a proof, and which of the function's own
+    goals are open."""
     is_answered: bool
     is_proved: bool
     goals: list = field(default_factory=list)
@@ -214,8 +214,8 @@ class Trial:
         told = goals_in(self.checked(texts, tried))
         functions = {edit.path: self.name_of(edit, told) for edit in tried}
         named = [name for name in functions.values() if name]
-        if len(named) < len(tried) or any((it.goals or it.lost or not it.is_answered) and not any(is_within(name, function) for function in named)
-                                          for name, it in told.items()):
+        others = [it for name, it in told.items() if not any(is_within(name, function) for function in named)]
+        if len(named) < len(tried) or any(it.goals or it.lost or not it.is_answered for it in others):
             self.try_batch(tried[: len(tried) // 2])
             self.try_batch(tried[len(tried) // 2:])
             return
@@ -247,7 +247,7 @@ class Trial:
             goals = goals_within(function, told)
             lost = [goal for name, it in told.items() if is_within(name, function) for goal in it.lost]
             why = ("only %s isn't shown" % ", ".join(goals) if goals
-                   else "only the answer of %s names what the edit took away" % ", ".join(lost) if lost
+                   else "only the answer for %s is refused, since it names what the edit took away" % ", ".join(lost) if lost
                    else "%s is still proved" % function if told[function].is_proved
                    else "the check couldn't tell of %s" % function)
             self.answer(edit, False, "NOT REFUSED: %s%s" % (why, ", and what breaks is %s" % ", ".join(others) if others else ""))
@@ -255,7 +255,9 @@ class Trial:
     def misplaced(self, edit):
         """Why an edit would show nothing of a body, if it would."""
         others = [file for file, _, _ in edit.pairs if not file.endswith(".rt")]
-        return "it changes %s, which is no body" % others[0] if others else "" if edit.place else "its first old text stands in no function's body"
+        if others:
+            return "it changes %s, which is no body" % others[0]
+        return "" if edit.place else "its first old text stands in no function's body"
 
     def try_without(self):
         """Says that an edit is none where its function isn't proved without it."""
