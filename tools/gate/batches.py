@@ -162,6 +162,13 @@ def goals_within(function, told):
     return [goal for name, it in told.items() if function and is_within(name, function) for goal in it.goals]
 
 
+def without(text, goals):
+    """Answers without those of some goals."""
+    for goal in goals:
+        text = re.sub(r"(?ms)^pub %s :.*?(?=^(?:pub |--|use )|\Z)" % re.escape(goal), "", text)
+    return text
+
+
 class Trial:
     """The trial of a crate's edits. `check(texts, functions)` is what a check of the crate says with these texts in place of its
     own, of these functions and what they call, or of all where none is named; `fault_of(path)` says why an edit can't be
@@ -236,9 +243,16 @@ class Trial:
     def try_alone(self, edit):
         """Judges an edit by a check of its own."""
         self.tried_alone += 1
-        said = self.check(applied(edit, self.folder, {}), [])
+        texts = applied(edit, self.folder, {})
+        said = self.check(texts, [])
         told = goals_in(said)
         function = self.name_of(edit, told)
+        if function and not goals_within(function, told):
+            # what names something that is gone keeps the other goals from being tried: it is left out
+            lost = {"proofs/%s/Answers.antt" % name.replace("::", "/"): it.lost for name, it in told.items() if it.lost and is_within(name, function)}
+            shorter = {path: without(read(os.path.join(self.folder, path)), goals) for path, goals in lost.items()
+                       if os.path.isfile(os.path.join(self.folder, path))}
+            told = goals_in(self.check({**texts, **shorter}, [])) or told if shorter else told
         if function is None:
             return self.answer(edit, False, "BAD EDIT: the check told nothing of its function: %.300s" % said.strip())
         self.judge(edit, function, told)
