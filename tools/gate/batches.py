@@ -3,8 +3,9 @@
 A proof goes by the contracts of what a function calls, so a wrong body opens goals of its own function alone. A batch has at
 most one edit of each function, in one check of these functions and of those that they call, which tells which goals of each
 are open. An edit is refused where its own function has an open goal of a promise: what it ensures, an invariant, or what a
-callee requires. Where a function without an edit has an open goal, a batch tells nothing, and its halves are tried. What a
-batch doesn't tell, as of a function whose callee has an edit too, is tried with the next one, and at last alone.
+callee requires. Where a function without an edit has an open goal, or the check tells nothing of one with an edit, a batch tells
+nothing, and its halves are tried. What a batch doesn't tell, as of a function whose callee has an edit too, is tried with the
+next one, and at last alone.
 """
 import os
 import re
@@ -17,7 +18,11 @@ from gate.sources import functions_of
 SAID = re.compile(r"^fn (\S+): (.*)$", re.M)
 GOALS = re.compile(r"`search` did not prove ((?:`[^`]+`(?:, | and )?)+)")
 # (an answer that no longer holds: its place below proofs/, and the goal)
-ANSWER = re.compile(r"^(?:\./)?proofs/(\S+)/(?:Answers|Invariants|Proof)\.antt:\d+:\d+: error: `([^`]+)`", re.M)
+ANSWER = re.compile(r"^(?:\./)?proofs/(\S+)/(?:Answers|Invariants|Proof)\.antt:\d+:\d+: error: `([^`]+)`(.*)$", re.M)
+# Of such a one: it names what the edit took away, which says nothing of the goal.
+LOST = re.compile(r"has no field|is not in scope|has no `|was not admitted")
+# The last line of a check that came to its end.
+VERDICT = re.compile(r"^(?:logic=(?:proved|not-proved)|only=\d+)\b", re.M)
 # What a goal is of, by its name: `returns-in-Some-clause-answer`, `loop-row-preserved`, `push-requires`, `invariant_of-result`.
 PROMISES = re.compile(r"^(returns|loop-|invariant_of|decreases)|-requires(-|$)")
 
@@ -35,13 +40,17 @@ class Edit:
 
 @dataclass
 class Told:
-    """What a check says of a function: whether it came to an answer, and which of the function's own goals are open."""
+    """What a check says of a function: whether it came to an answer, whether that is a proof, and which of the function's own
+    goals are open."""
     is_answered: bool
+    is_proved: bool
     goals: list = field(default_factory=list)
+    # the goals whose answers name what is gone
+    lost: list = field(default_factory=list)
 
 
 def read(path):
-    with open(path, encoding="utf-8") as file:
+    with open(path, encoding="utf-8", errors="replace") as file:
         return file.read()
 
 
@@ -67,10 +76,10 @@ def place_of(file, old, folder):
     return ((file, inside[-1][0]), inside[-1][1]) if at >= 0 and inside else (None, None)
 
 
-def edit_of(path, folder):
-    """An edit, and the function that it edits, if there is one."""
-    edit = Edit(path, pairs_of(read(path)))
-    if edit.pairs and all(os.path.isfile(os.path.join(folder, file)) for file, _, _ in edit.pairs):
+def edit_of(path, folder, fault=None):
+    """An edit, and the function that it edits, if there is one. One with a fault has no pairs."""
+    edit = Edit(path, [] if fault else pairs_of(read(path)))
+    if edit.pairs:
         edit.place, edit.function = place_of(*edit.pairs[0][:2], folder)
         # (a later pair's old text may stand in what an earlier one made)
         later = [place_of(file, old, folder)[0] for file, old, _ in edit.pairs[1:]
@@ -92,13 +101,13 @@ def applied(edit, folder, texts):
 
 def is_of(function, module, name):
     """Whether the check's name of a function, behind the crate's, is this function's: `lines::LineReader::next`, and with its
-    trait and the trait's parameters `rules_text::RulesFaultFromAllocError::from`. Where a type's functions stand apart from
-    it, the name has the module of the type, and `module` is None."""
+    trait and what that is given `rules_text::RulesFaultFromAllocError::from`. Where a type's functions stand apart from it, the
+    name has the module of the type, and `module` is None."""
     parts = name.split("::")
-    owner = parts[-2] if function.owner and len(parts) > 1 else ""
-    if parts[-1] != function.name or not owner.startswith(function.owner) or "fn" in parts:
+    own = [*([function.owner] if function.owner else []), function.name]
+    if parts[-len(own):] != own or "fn" in parts:
         return False
-    return parts[: len(parts) - (2 if function.owner else 1)] == module if module is not None else bool(function.owner)
+    return parts[: -len(own)] == module if module is not None else bool(function.owner)
 
 
 def module_of(file):
@@ -107,15 +116,17 @@ def module_of(file):
 
 
 def goals_in(said):
-    """What a check says of each function, by its name behind the crate's."""
+    """What a check says of each function, by its name behind the crate's; nothing, where it was ended before its verdict."""
     told = {}
+    if not VERDICT.search(said):
+        return told
     for name, status in SAID.findall(said):
         goals = [goal for found in GOALS.findall(status) for goal in re.findall(r"`([^`]+)`", found)]
-        told[name.partition("::")[2]] = Told(status.startswith(("proved", "no proof", "not proved")), goals)
-    for place, goal in ANSWER.findall(said):
+        told[name.partition("::")[2]] = Told(status.startswith(("proved", "no proof", "not proved")), status.startswith("proved"), goals)
+    for place, goal, why in ANSWER.findall(said):
         name = place.replace("/", "::")
         if name in told:
-            told[name].goals.append(goal)
+            (told[name].lost if LOST.search(re.sub(r"`[^`]*`", "``", why)) else told[name].goals).append(goal)
     return told
 
 
@@ -142,8 +153,8 @@ def batch_of(edits):
 
 def is_within(name, function):
     """Whether a name is the function's, or that of a closure in it: `module::fn::name::any` in `module::name`."""
-    bare = "::".join(part for part in name.split("::") if part != "fn")
-    return name == function or bare.startswith(function + "::")
+    before, _, behind = name.partition("fn::") if name.startswith("fn::") else name.partition("::fn::")
+    return name == function or bool(behind) and "::".join([*([before] if before else []), behind.split("::")[0]]) == function
 
 
 def goals_within(function, told):
@@ -151,27 +162,35 @@ def goals_within(function, told):
     return [goal for name, it in told.items() if function and is_within(name, function) for goal in it.goals]
 
 
+def without(text, goals):
+    """Answers without those of some goals."""
+    for goal in goals:
+        text = re.sub(r"(?ms)^pub %s :.*?(?=^(?:pub |--|use )|\Z)" % re.escape(goal), "", text)
+    return text
+
+
 class Trial:
     """The trial of a crate's edits. `check(texts, functions)` is what a check of the crate says with these texts in place of its
     own, of these functions and what they call, or of all where none is named; `fault_of(path)` says why an edit can't be
-    applied, or nothing."""
+    applied, or nothing. Where the crate wasn't proved just before, a check without edits has to prove the edited functions."""
 
-    def __init__(self, crate, folder, edits, check, fault_of):
-        self.crate, self.folder, self.check, self.fault_of = crate, folder, check, fault_of
-        self.edits = [edit_of(path, folder) for path in edits]
+    def __init__(self, crate, folder, edits, check, fault_of, is_proved=False):
+        self.crate, self.folder, self.check, self.is_proved = crate, folder, check, is_proved
+        self.faults = {path: fault_of(path) for path in edits}
+        self.edits = [edit_of(path, folder, self.faults[path]) for path in edits]
         self.answers, self.checks, self.tried_alone = {}, 0, 0
+        # what the halves of batches left over: tried with none again
+        self.apart = set()
 
     def name_of(self, edit, told):
         """The check's name of an edit's function, where it has just one."""
-        file, place = edit.place
+        file, _ = edit.place
         names = ([name for name in told if is_of(edit.function, module_of(file), name)]
                  or [name for name in told if is_of(edit.function, None, name)])
-        if len(names) > 1:
-            # impls of one trait at several types, in their order
-            functions = functions_of(read(os.path.join(self.folder, file)))
-            alike = [n for n, it in enumerate(functions) if (it.name, it.owner) == (edit.function.name, edit.function.owner)]
-            names = [names[alike.index(place)]] if len(alike) == len(names) else []
-        return names[0] if names else None
+        # (two blocks may have one name, if what their traits are given has)
+        functions = functions_of(read(os.path.join(self.folder, file)))
+        alike = sum((it.name, it.owner) == (edit.function.name, edit.function.owner) for it in functions)
+        return names[0] if len(names) == 1 and alike == 1 else None
 
     def checked(self, texts, edits):
         """What a check says of the functions of these edits and of those that they call, or of their modules' where a
@@ -196,12 +215,14 @@ class Trial:
                 texts = changed
                 tried.append(edit)
         if len(tried) < 2:
+            self.apart.update(edit.path for edit in tried)
             return
         self.checks += 1
         told = goals_in(self.checked(texts, tried))
         functions = {edit.path: self.name_of(edit, told) for edit in tried}
         named = [name for name in functions.values() if name]
-        if any((it.goals or not it.is_answered) and not any(is_within(name, function) for function in named) for name, it in told.items()):
+        others = [it for name, it in told.items() if not any(is_within(name, function) for function in named)]
+        if len(named) < len(tried) or any(it.goals or it.lost or not it.is_answered for it in others):
             self.try_batch(tried[: len(tried) // 2])
             self.try_batch(tried[len(tried) // 2:])
             return
@@ -222,28 +243,57 @@ class Trial:
     def try_alone(self, edit):
         """Judges an edit by a check of its own."""
         self.tried_alone += 1
-        fault = self.fault_of(edit.path)
-        if fault or edit.place is None:
-            return self.answer(edit, False, "BAD EDIT: %s" % (fault or "its first old text stands in no function's body"))
-        said = self.check(applied(edit, self.folder, {}), [])
+        texts = applied(edit, self.folder, {})
+        said = self.check(texts, [])
         told = goals_in(said)
         function = self.name_of(edit, told)
+        if function and not goals_within(function, told):
+            # what names something that is gone keeps the other goals from being tried: it is left out
+            lost = {"proofs/%s/Answers.antt" % name.replace("::", "/"): it.lost for name, it in told.items() if it.lost and is_within(name, function)}
+            shorter = {path: without(read(os.path.join(self.folder, path)), goals) for path, goals in lost.items()
+                       if os.path.isfile(os.path.join(self.folder, path))}
+            told = goals_in(self.check({**texts, **shorter}, [])) or told if shorter else told
         if function is None:
             return self.answer(edit, False, "BAD EDIT: the check told nothing of its function: %.300s" % said.strip())
         self.judge(edit, function, told)
         if edit.path not in self.answers:
-            others = [name for name, it in told.items() if it.goals and not is_within(name, function)]
+            others = [name for name, it in told.items() if (it.goals or it.lost) and not is_within(name, function)]
             goals = goals_within(function, told)
-            why = ("only %s isn't shown" % ", ".join(goals) if goals else "%s is still proved" % function
-                   if told[function].is_answered else "the check couldn't tell of %s" % function)
+            lost = [goal for name, it in told.items() if is_within(name, function) for goal in it.lost]
+            why = ("only %s isn't shown" % ", ".join(goals) if goals
+                   else "only the answer for %s is refused, since it names what the edit took away" % ", ".join(lost) if lost
+                   else "%s is still proved" % function if told[function].is_proved
+                   else "the check couldn't tell of %s" % function)
             self.answer(edit, False, "NOT REFUSED: %s%s" % (why, ", and what breaks is %s" % ", ".join(others) if others else ""))
+
+    def misplaced(self, edit):
+        """Why an edit would show nothing of a body, if it would."""
+        others = [file for file, _, _ in edit.pairs if not file.endswith(".rt")]
+        if others:
+            return "it changes %s, which is no body" % others[0]
+        return "" if edit.place else "its first old text stands in no function's body"
+
+    def try_without(self):
+        """Says that an edit is none where its function isn't proved without it."""
+        edits = [edit for edit in self.edits if edit.path not in self.answers]
+        told = goals_in(self.checked({}, edits)) if edits else {}
+        for edit in edits:
+            function = self.name_of(edit, told)
+            if function and any(is_within(name, function) and (it.goals or it.lost) for name, it in told.items()):
+                self.answer(edit, False, "NOT REFUSED: %s isn't proved without the edit either" % function)
 
     def run(self):
         """Whether each edit is refused, and what to say of it."""
-        left = [edit for edit in self.edits if edit.is_in_one_body]
+        for edit in self.edits:
+            fault = self.faults[edit.path] or self.misplaced(edit)
+            if fault:
+                self.answer(edit, False, "BAD EDIT: %s" % fault)
+        if not self.is_proved:
+            self.try_without()
+        left = [edit for edit in self.edits if edit.is_in_one_body and edit.path not in self.answers]
         while len(batch := batch_of(left)) > 1:
             self.try_batch(batch)
-            waiting = [edit for edit in batch if edit.path not in self.answers]
+            waiting = [edit for edit in batch if edit.path not in self.answers and edit.path not in self.apart]
             if len(waiting) == len(batch):
                 break
             left = waiting + [edit for edit in left if edit not in batch]
@@ -253,18 +303,19 @@ class Trial:
         return [self.answers[edit.path] for edit in self.edits]
 
 
-def trial_of(rt):
-    """What takes the place of rt's own trial of a crate's edits, each in turn."""
+def trial_of(rt, is_proved=False):
+    """What takes the place of rt's own trial of a crate's edits, each in turn. The gate tries those of a crate that it just proved."""
     def must_fail_all(crate, edits, flags):
         with tempfile.TemporaryDirectory(prefix="rt-edits-") as kept:
             def check(texts, functions):
                 only = [word for name in functions for word in ("--only", name)]
                 return rt.checked(crate, texts, [*flags, *only], kept).stdout
 
-            trial = Trial(crate.name, crate.folder, edits, check, lambda path: rt.read_edit(path, crate.folder)[1])
+            trial = Trial(crate.name, crate.folder, edits, check, lambda path: rt.read_edit(path, crate.folder)[1], is_proved)
             started, answers = time.time(), trial.run()
-        rt.say("%s: %d edits in %d checks, and %d alone, %d s"
-               % (crate.name, len(edits) - trial.tried_alone, trial.checks, trial.tried_alone, time.time() - started))
+        told = sum(is_refused for is_refused, _ in answers)
+        rt.say("%s: %d of %d edits refused, in %d checks of many and %d of one, %d s"
+               % (crate.name, told, len(edits), trial.checks, trial.tried_alone, time.time() - started))
         return answers
 
     return must_fail_all

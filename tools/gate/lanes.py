@@ -19,8 +19,10 @@ def chains(tasks):
 
 
 def step_back():
-    """Has what this thread starts wait for what others start: a priority is a thread's, and its children's."""
-    os.setpriority(os.PRIO_PROCESS, threading.get_native_id(), 10)
+    """Has what this thread starts wait for what others start: a priority is a thread's, and its children's. (A run that was
+    started at a lower one mayn't raise it.)"""
+    thread = threading.get_native_id()
+    os.setpriority(os.PRIO_PROCESS, thread, max(10, os.getpriority(os.PRIO_PROCESS, thread)))
 
 
 def timed(key, call):
@@ -85,6 +87,8 @@ class Lanes:
             while self.left or self.running:
                 self.start_proofs(proofs)
                 self.start_fillers(fillers)
+                if not self.running:
+                    raise ValueError("tasks that wait for one another: %s" % self.left)
                 for it in wait(self.running, return_when=FIRST_COMPLETED).done:
                     self.given[self.running.pop(it)[0]] = it.result()
         return self.given

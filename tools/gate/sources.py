@@ -22,10 +22,14 @@ class Function:
 
 
 def owner_of(line):
-    """The type that a block of functions belongs to, and its trait behind it: `FormFault`, `FormFaultDisplay`."""
-    words = re.sub(r"<[^<>]*(?:<[^<>]*(?:<[^<>]*>[^<>]*)*>[^<>]*)*>", "", OWNER.match(line)[1]).split("{")[0].split(" where ")[0]
+    """The type that a block of functions belongs to, and behind it its trait and what that is given first, as the toolchain calls
+    them together: `FormFault`, `FormFaultDisplay`, `FormFaultFromAllocError`."""
+    head = OWNER.match(line)[1].split("{")[0]
+    given = re.search(r"(\w+)<(?:\w+::)*(\w+)[^{]* for ", head)
+    words = re.sub(r"<[^<>]*(?:<[^<>]*(?:<[^<>]*>[^<>]*)*>[^<>]*)*>", "", head).split(" where ")[0]
     of_trait, _, of_type = words.rpartition(" for ")
-    return of_type.strip().split("::")[-1] + of_trait.strip().split("::")[-1]
+    of_trait = of_trait.strip().split("::")[-1]
+    return of_type.strip().split("::")[-1] + of_trait + (given[2] if given and given[1] == of_trait else "")
 
 
 def body_of(lines, head, indent):

@@ -6,7 +6,7 @@ import shutil
 import sys
 
 # What is used of rt. A toolchain whose rt lacks one of them runs its gate as it is.
-USED = ("ci", "in_lanes", "processors", "free", "must_fail_all", "checked", "read_edit", "edits_of", "say", "Crate", "rtlib")
+USED = ("ci", "in_lanes", "processors", "free", "must_fail_all", "checked", "read_edit", "edits_of", "say", "Crate.compile_by", "rtlib")
 
 
 def load():
@@ -21,4 +21,9 @@ def load():
         loader.exec_module(made)
     except (Exception, SystemExit):
         return None
-    return made if all(hasattr(made, name) for name in USED) else None
+    return made if all(has(made, name) for name in USED) else None
+
+
+def has(made, name):
+    first, _, rest = name.partition(".")
+    return hasattr(made, first) and (not rest or has(getattr(made, first), rest))
