@@ -70,9 +70,13 @@ class Lanes:
         for key in [key for key in ready if not self.tasks[key][1]]:
             self.start(pool, key, 0)
         ready = [key for key in ready if self.tasks[key][1]]
-        while ready and (idle := self.processors - self.held(False)) > 0:
+        # the last ones are started with more than there is, so that the longest of them isn't left with one processor
+        running = sum(key[1] != "edits" for key, _, _ in self.running.values())
+        is_end = len(ready) + running <= self.processors and not any(key[1] != "edits" and key not in ready for key in self.left)
+        most = 2 * self.processors if is_end else self.processors
+        while ready and (idle := most - self.held(False)) > 0:
             # the one with the most behind it gets what is left over
-            jobs = min(MOST_JOBS, -(-idle // len(ready)))
+            jobs = min(MOST_JOBS, self.processors, -(-idle // len(ready)))
             key = ready.pop(0)
             if self.has_room(self.tasks[key][2]):
                 self.start(pool, key, jobs)
