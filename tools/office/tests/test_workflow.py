@@ -703,6 +703,12 @@ class AtOnce(Folder):
         self.assertEqual(status, 0, messages)
         self.assertIn("whether others reach the same total wasn't decided in group 1\n", messages)
 
+    def test_a_tool_that_is_killed_is_told(self):
+        self.stand_in("kill -9 $PPID")
+        status, printed, messages = self.run_it("--quiet")
+        self.assertEqual((status, printed), (1, b""), messages)
+        self.assertIn("group 1 of 4 (-): solve was killed by signal 9 (Killed)\n", messages)
+
     def test_a_value_that_is_no_number_is_no_answer(self):
         """Alpha's and Gamma's 42 are lost where `nan` counts as 0: Beta's 20 would be reported where 62 can be won."""
         self.stand_in("echo 'wdp read with 0 errors'; printf 'Optimal - objective value -20\\n 0 X1_1 nan -30\\n 2 X2_1 1 -20\\n' > solution.txt; exit 0")
