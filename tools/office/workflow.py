@@ -96,6 +96,13 @@ def make_folder(given):
         raise running.Stopped("%s is no folder; --input FILE makes it and puts the input there" % given.folder)
 
 
+def refuse_unmarked(where, mark):
+    """Ends where steps have left something, and nothing tells of which input that is."""
+    if any(os.path.exists(os.path.join(where, kept)) for kept in folder.KEPT):
+        raise running.Stopped("%s isn't there, by which what steps left in %s is known to be of its input; put it back, or take "
+                              "another folder" % (mark, where))
+
+
 def take_input(given):
     """The auction of the folder's input, which has to be the one that the folder belongs to."""
     path, mark = (os.path.join(given.folder, name) for name in ("input.txt", "input.sha256"))
@@ -104,6 +111,7 @@ def take_input(given):
     if os.path.exists(mark):
         belongs = running.content(mark).decode("ascii", "replace").strip()
     else:
+        refuse_unmarked(given.folder, mark)
         belongs = hashlib.sha256(running.content(path)).hexdigest() if os.path.exists(path) else digest
     if belongs != digest:
         raise running.Stopped("%s belongs to the input of SHA-256 %s, and this input's is %s; take another folder"

@@ -194,6 +194,15 @@ class Runs(Folder):
         self.assertEqual(self.run_it("--input", os.path.join(EXAMPLES, "spectrum.txt"))[0], 1)
         self.assertEqual(self.run_it("--input", os.path.join(EXAMPLES, "worked.txt"))[0], 0)
 
+    def test_what_is_left_of_an_input_that_is_not_known_counts_for_nothing(self):
+        """With the mark deleted and a bid more in the input, programs would be taken that don't have the bid."""
+        self.assertEqual(self.run_it("--no-certify")[0], 0)
+        os.unlink(os.path.join(self.folder, "input.sha256"))
+        self.put("input.txt", content(EXAMPLES, "worked.txt").replace(b"\n12,0,1\n", b"\n12,0,1\n90,1,1\n"))
+        status, messages = self.run_it("--no-certify")
+        self.assertEqual(status, 1, messages)
+        self.assertIn("input.sha256 isn't there, by which what steps left", messages)
+
     def test_the_first_solution_starts_the_others(self):
         self.assertEqual(self.run_it()[0], 0)
         self.assertNotIn(b"mipstart", content(self.folder, "logs", "cbc", "1.solve.log"))
@@ -702,6 +711,11 @@ class AtOnce(Folder):
         status, _, messages = self.run_it("--ties", given=os.path.join(self.folder, "tied.txt"))
         self.assertEqual(status, 0, messages)
         self.assertIn("whether others reach the same total wasn't decided in group 1\n", messages)
+
+    def test_a_closed_standard_input_is_told(self):
+        done = subprocess.run([os.path.join(TOOLS, "auction"), "--wdp", WDP, "--solver", "cbc"], capture_output=True, timeout=60,
+                              preexec_fn=lambda: os.close(0))
+        self.assertEqual((done.returncode, done.stdout, done.stderr), (1, b"", b"auction: standard input is closed\n"))
 
     def test_a_tool_that_is_killed_is_told(self):
         self.stand_in("kill -9 $PPID")
