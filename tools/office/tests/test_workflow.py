@@ -537,6 +537,21 @@ class Said(Folder):
                 self.assertEqual((done.returncode, "%s: File too large" % name in done.stderr), (1, True), done.stderr)
 
 
+    def test_what_steps_could_not_write_down_is_told(self):
+        """Where `running` is no folder no step can begin, nor write down that it couldn't."""
+        self.put("running", b"")
+        status, messages = self.run_it()
+        self.assertEqual(status, 1, messages)
+        self.assertIn("missing: group 1 isn't solved by cbc: not done\n", messages)
+        self.assertRegex(messages, "auction: snakemake ended with status 1: .*running")
+
+    def test_a_folder_that_takes_no_more_is_told(self):
+        script = ("import resource, sys; sys.path.insert(0, sys.argv[1]); from office.workflow import why_not_written as why; "
+                  "before = why(sys.argv[2]); resource.setrlimit(resource.RLIMIT_FSIZE, (100, 100)); print(before, why(sys.argv[2]))")
+        done = subprocess.run(["python3", "-c", script, TOOLS, self.folder], capture_output=True, text=True, timeout=60)
+        self.assertEqual(done.stdout, "None File too large\n", done.stderr)
+
+
 class Commands(Folder):
     ANSWER = """grep -q X2_1 program.mps && answer='X2_1 1\\nX3_1 1' || answer='X1_2 1'
 grep -q X1_1 program.mps && grep -q X2_1 program.mps && answer='X1_1 1\\nX2_1 1\\nX3_1 1'
