@@ -301,7 +301,7 @@ def certified_groups(solver, given):
 
 def of_group(solver, group, given):
     """What the run tells of a group."""
-    seconds = folder.read_json(folder.ended_path("solve", solver, group)).get("seconds")
+    seconds = folder.ended("solve", solver, group).get("seconds")
     return {"solver": solver, "seconds": seconds, "certified": group in certified_groups(solver, given),
             "tie_query": tie_query(solver, group, given).value}
 

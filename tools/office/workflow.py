@@ -99,7 +99,7 @@ def make_folder(given):
 
 def refuse_unmarked(where, mark):
     """Ends where steps have left something, and nothing tells of which input that is."""
-    if any(os.path.exists(os.path.join(where, kept)) for kept in folder.KEPT):
+    if os.path.exists(os.path.join(where, folder.SUMS)):
         raise running.Stopped("%s isn't there, by which what steps left in %s is known to be of its input; put it back, or take "
                               "another folder" % (mark, where))
 

@@ -463,6 +463,23 @@ class Changed(Folder):
         for name in ("2.txt", "other.txt"):
             self.assertIn("solutions/cbc/%s isn't what its step left" % name, messages)
 
+    def test_a_pipe_or_a_device_that_is_put_there_is_not_opened(self):
+        self.assertEqual(self.run_it()[0], 0)
+        os.mkfifo(os.path.join(self.folder, "certificates", "cbc", "9.txt"))
+        os.symlink("/dev/tty", os.path.join(self.folder, "programs", "9.mps"))
+        status, messages = self.run_it()
+        self.assertEqual((status, messages.count("isn't what its step left\n")), (1, 2), messages)
+
+    def test_what_is_told_of_how_steps_ended_is_no_more_than_that(self):
+        """A record that isn't as steps write it tells nothing, and keeps nothing from being made."""
+        self.assertEqual(self.run_it()[0], 0)
+        for group, text in enumerate((b"[1]", b'{"state": "done", "seconds": "x", "ended": 1}', b'{"state": 3}', b"{"), 1):
+            self.put("ended/solve/cbc/%d.json" % group, text)
+        status, messages = self.run_it("--no-certify")
+        self.assertEqual(status, 0, messages)
+        run = json.loads(content(self.folder, "run.json"))
+        self.assertEqual([told["seconds"] for told in run["groups"].values()], [None] * 4)
+
     def test_certificates_that_were_not_taken_together_count_for_nothing(self):
         """Without its audit, a run that asks for no certificates doesn't say that the totals are certified."""
         self.assertEqual(self.run_it()[0], 0)
