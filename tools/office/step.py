@@ -323,7 +323,7 @@ def results(solver):
              "Results made": time.strftime("%Y-%m-%d %H:%M %Z")}
     folder.write("run.json", text_of(given["versions"], times, groups))
     audit = folder.audit_path(solver)
-    words = ["--audit", audit] if os.path.exists(audit) else []
+    words = ["--audit", audit, "--wdp", given["wdp"]] if os.path.exists(audit) else []
     words += ["--currency=" + given["currency"]] if given["currency"] else []
     status, _, messages = run_tool([os.path.join(TOOLS, "results"), "input.txt", folder.report_path(solver), "--run", "run.json",
                                     "--title=" + given["title"], "--output", "results/%s" % solver, *words])
