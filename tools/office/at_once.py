@@ -1,6 +1,7 @@
 """An auction at once, from standard input to the report on standard output, without a folder that is gone on with."""
 import os
 import shlex
+import signal
 import subprocess
 import tempfile
 import time
@@ -43,9 +44,16 @@ def keep(folder, name, text):
     running.write_whole(os.path.join(folder, name), text)
 
 
+def end_of(program, status):
+    """How a program ended that said nothing."""
+    if status < 0:
+        return "%s was killed by signal %d (%s)" % (os.path.basename(program), -status, signal.strsignal(-status))
+    return "%s ended with status %d" % (os.path.basename(program), status)
+
+
 def refusal(status, messages):
     """The line that wdp prints where it refuses."""
-    return running.Stopped(messages or "wdp ended with status %d" % status)
+    return running.Stopped(messages or end_of("wdp", status))
 
 
 def compile_into(folder, given):
@@ -113,7 +121,8 @@ def on_each(names, given, words_of, begin, done):
             output, messages = tool.communicate()
         try:
             if tool.returncode != 0:
-                raise running.Stopped(messages.decode(errors="replace").strip().rpartition("\n")[2], tool.returncode)
+                raise running.Stopped(messages.decode(errors="replace").strip().rpartition("\n")[2] or end_of(words[0], tool.returncode),
+                                      tool.returncode)
             done(number, output, "%s %%s in %.2f s" % (which.replace("%", "%%"), time.monotonic() - start))
         except running.Stopped as stopped:
             failed[number] = stopped

@@ -12,6 +12,7 @@ SUMS = "sums"
 KEPT = ("programs", "first", "solutions", "certificates", "ties", "better", "reports", "audits")
 PUBLISHED = ("bidders.csv", "categories.csv", "pools.csv", "groups.csv", "results.json", "results.html")
 WRONG, NOT_OPTIMAL = 3, "not optimal"  # the exit status and the state where an answer can't be the best one
+ENDED = {"state": str, "seconds": (int, float), "ended": (int, float)}
 KINDS = {"solve": "solutions/{solver}/{group}.txt", "certify": "certificates/{solver}/{group}.txt",
          "ties": "ties/{solver}/{group}.json"}
 
@@ -82,6 +83,13 @@ def read_json(path):
     return told if isinstance(told, dict) else {}
 
 
+def ended(step, solver, group, where="."):
+    """How a step of a group ended; nothing where that isn't told as steps tell it."""
+    told = read_json(os.path.join(where, ended_path(step, solver, group)))
+    is_told = all(isinstance(told.get(name), kind) for name, kind in ENDED.items()) and isinstance(told.get("words", ""), str)
+    return told if is_told else {}
+
+
 def sum_path(path):
     return os.path.join(SUMS, path + ".sha256")
 
@@ -110,6 +118,12 @@ def is_as_left(path, data, where="."):
     return told.split()[:1] == [hashlib.sha256(data).hexdigest().encode()]
 
 
+def is_file_as_left(path, where):
+    """The same of the file itself; a pipe or a device isn't opened."""
+    whole = os.path.join(where, path)
+    return os.path.isfile(whole) and is_as_left(path, running.content(whole), where)
+
+
 def left(path):
     """The bytes of what a step left; a Stopped where they are others."""
     data = running.content(path)
@@ -126,7 +140,7 @@ def changed(where):
         for folder, _, names in os.walk(os.path.join(where, kept)):
             for name in names:
                 path = os.path.relpath(os.path.join(folder, name), where)
-                if not is_piece(name) and not name.startswith(".") and not is_as_left(path, running.content(os.path.join(folder, name)), where):
+                if not is_piece(name) and not name.startswith(".") and not is_file_as_left(path, where):
                     found.append(path)
     return sorted(found)
 

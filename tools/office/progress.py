@@ -56,7 +56,7 @@ class Progress:
             say(text)
 
     def ended(self, step, solver, group):
-        return folder.read_json(os.path.join(self.where, folder.ended_path(step, solver, group)))
+        return folder.ended(step, solver, group, self.where)
 
     def at_work(self):
         """What is being done: step, solver, group, and since when."""

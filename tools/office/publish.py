@@ -5,7 +5,8 @@ is read against the input, and refused where a line doesn't follow from it. DIR 
 pools.csv, groups.csv, results.json and results.html; each is written whole or not at all.
 
 --run takes what is to be told of the run: of each group whether its total is certified, and ties; and the version of wdp.
---audit takes what `wdp verify` reads, which has to end with INPUT: the page then says how the audit is repeated.
+--audit takes what `wdp verify` reads, which has to end with INPUT, and of which it has to print REPORT: then each total is
+certified, and the page says how the audit is repeated.
 Exit status: 0 the files are written; 1 a text is refused or a package is missing; 2 the words are wrong.
 """
 import argparse
@@ -13,11 +14,14 @@ import hashlib
 import os
 
 from office import inputs, running
+from office.audit import printed
 from office.choosing import add_page_words
 from office.page import page_of
 from office.report import read_report
 from office.results import Audit, results_of, texts_of
 from office.run_record import RunTold, read_run
+
+ROOT = os.path.dirname(os.path.dirname(os.path.dirname(os.path.realpath(__file__))))
 
 
 def words():
@@ -28,6 +32,7 @@ def words():
     add_page_words(parser)
     parser.add_argument("--run", metavar="FILE", help="what is told of the run, as JSON")
     parser.add_argument("--audit", metavar="FILE", help="the input with solutions and certificates, as `wdp verify` reads it")
+    parser.add_argument("--wdp", default=os.path.join(ROOT, "wdp"), help=argparse.SUPPRESS)
     return parser.parse_args()
 
 
@@ -35,11 +40,16 @@ def digest_of(data):
     return hashlib.sha256(data).hexdigest()
 
 
-def audit_of(path, data, report):
-    """What is told of an audit; a Stopped where it isn't one of this input."""
-    audit = running.content(path)
+def audit_of(given, data, report):
+    """What is told of an audit; a Stopped where it isn't one of this input that gives this report."""
+    audit = running.content(given.audit)
     if not audit.endswith(b"\n" + data) or not audit.startswith(b"%"):
-        raise running.Stopped("%s: it doesn't end with the input, behind solutions and certificates" % path)
+        raise running.Stopped("%s: it doesn't end with the input, behind solutions and certificates" % given.audit)
+    status, output, messages = printed(given.wdp, ["verify"], audit)
+    if status != 0:
+        raise running.Stopped("%s: wdp verify refuses it: %s" % (given.audit, messages or "status %d" % status))
+    if output != report:
+        raise running.Stopped("%s: what wdp verify prints of it isn't the report" % given.audit)
     return Audit(digest_of(audit), digest_of(data), digest_of(report), len(data))
 
 
@@ -55,7 +65,10 @@ def results_from(data, report, told, given):
     results = results_of(auction, outcomes, told, given.run)
     results.title, results.currency = given.title or results.title, given.currency
     results.input_sha256, results.report_sha256 = digest_of(data), digest_of(report)
-    results.audit = audit_of(given.audit, data, report) if given.audit else None
+    if given.audit:
+        results.audit, results.certified = audit_of(given, data, report), True
+        for group in results.groups:
+            group.certified = True
     return results
 
 

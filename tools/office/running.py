@@ -63,6 +63,8 @@ def naming(path):
 def content(path):
     """The bytes of a file; `-` is standard input."""
     try:
+        if path == "-" and sys.stdin is None:
+            raise Stopped("standard input is closed")
         if path == "-":
             return sys.stdin.buffer.read()
         with open(path, "rb") as file:

@@ -104,6 +104,11 @@ class Said:
             self.limit = self.limit or line
 
 
+def beginning(text):
+    """The first lines of a text in one."""
+    return shortened(", ".join(list(filter(None, lines_of(text)))[:3]))
+
+
 def check_optimal(call, name, texts, own_sign):
     """Ends unless the solver says that its answer is optimal, and nothing else."""
     said = Said([line for text in texts for line in lines_of(text)], own_sign)
@@ -116,7 +121,7 @@ def check_optimal(call, name, texts, own_sign):
     if said.strange:
         raise Failed(REFUSED, "%s says of an optimum what isn't known to mean that its answer is one: %s" % (name, shortened(said.strange)))
     if not said.optimal:
-        raise Failed(REFUSED, "%s didn't say that its answer is optimal: %s" % (name, call.complaint("rror", "ERROR")))
+        raise Failed(REFUSED, "%s didn't say that its answer is optimal: %s" % (name, beginning(texts[0]) or call.complaint("rror", "ERROR")))
     against = said.gap or said.none or said.limit
     if against:
         raise Failed(REFUSED, "%s says that its answer is optimal, and also: %s" % (name, shortened(against)))

@@ -91,10 +91,12 @@ class Call:
         path = path or self.path(name)
         if not os.path.exists(path):
             return None
+        if not os.path.isfile(path):
+            raise Failed(REFUSED, "the solver's answer is no file, but a folder, a pipe or a device")
         if os.path.getsize(path) > LARGEST_ANSWER:
             raise Failed(REFUSED, "the solver's answer has {:,} bytes, and {:,} at most are read".format(os.path.getsize(path), LARGEST_ANSWER))
         with naming(path), open(path, "rb") as file:
-            return file.read()
+            return file.read(LARGEST_ANSWER)
 
     def whole_print(self):
         """All that the solver printed."""

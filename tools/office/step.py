@@ -301,7 +301,7 @@ def certified_groups(solver, given):
 
 def of_group(solver, group, given):
     """What the run tells of a group."""
-    seconds = folder.read_json(folder.ended_path("solve", solver, group)).get("seconds")
+    seconds = folder.ended("solve", solver, group).get("seconds")
     return {"solver": solver, "seconds": seconds, "certified": group in certified_groups(solver, given),
             "tie_query": tie_query(solver, group, given).value}
 
@@ -323,7 +323,7 @@ def results(solver):
              "Results made": time.strftime("%Y-%m-%d %H:%M %Z")}
     folder.write("run.json", text_of(given["versions"], times, groups))
     audit = folder.audit_path(solver)
-    words = ["--audit", audit] if os.path.exists(audit) else []
+    words = ["--audit", audit, "--wdp", given["wdp"]] if os.path.exists(audit) else []
     words += ["--currency=" + given["currency"]] if given["currency"] else []
     status, _, messages = run_tool([os.path.join(TOOLS, "results"), "input.txt", folder.report_path(solver), "--run", "run.json",
                                     "--title=" + given["title"], "--output", "results/%s" % solver, *words])

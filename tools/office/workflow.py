@@ -7,6 +7,7 @@ import shlex
 import shutil
 import subprocess
 import sys
+import tempfile
 import time
 
 from office import disproved, engines, folder, inputs, running
@@ -23,7 +24,7 @@ from office.totals import Answers, doubt
 DONE_WITHOUT = "not done"
 DRY = ("-n", "--dry-run", "--dryrun")
 CHANGED_TOLD = 20  # files
-
+ENGINE_TOLD = 3  # lines
 
 CERTIFYING = {running.PACKAGES[module] for module in ("numpy", "scipy", "swiglpk")}
 
@@ -96,6 +97,13 @@ def make_folder(given):
         raise running.Stopped("%s is no folder; --input FILE makes it and puts the input there" % given.folder)
 
 
+def refuse_unmarked(where, mark):
+    """Ends where steps have left something, and nothing tells of which input that is."""
+    if os.path.exists(os.path.join(where, folder.SUMS)):
+        raise running.Stopped("%s isn't there, by which what steps left in %s is known to be of its input; put it back, or take "
+                              "another folder" % (mark, where))
+
+
 def take_input(given):
     """The auction of the folder's input, which has to be the one that the folder belongs to."""
     path, mark = (os.path.join(given.folder, name) for name in ("input.txt", "input.sha256"))
@@ -104,6 +112,7 @@ def take_input(given):
     if os.path.exists(mark):
         belongs = running.content(mark).decode("ascii", "replace").strip()
     else:
+        refuse_unmarked(given.folder, mark)
         belongs = hashlib.sha256(running.content(path)).hexdigest() if os.path.exists(path) else digest
     if belongs != digest:
         raise running.Stopped("%s belongs to the input of SHA-256 %s, and this input's is %s; take another folder"
@@ -244,9 +253,27 @@ def how_to_go_on(given):
         % (os.path.join(given.folder, "logs"), os.path.join(given.folder, "engine.log")))
 
 
-def last_line(path):
-    lines = [line.strip() for line in running.content(path).decode(errors="replace").splitlines()]
-    return next((line for line in reversed(lines) if line), "")
+def said_since(start, path):
+    """The lines of an engine's log behind so many bytes, those of steps alone where there are some."""
+    lines = [line.strip() for line in running.content(path)[start:].decode(errors="replace").splitlines() if line.strip()]
+    return [line.removeprefix("auction: ") for line in lines if line.startswith("auction: ")] or lines
+
+
+def tell_engine(given, status, start):
+    """What steps said that couldn't write down how they ended, or the engine's last word."""
+    path = os.path.join(given.folder, "engine.log")
+    said = list(dict.fromkeys(said_since(start, path) if os.path.exists(path) else []))[-ENGINE_TOLD:]
+    say("%s ended with status %d: %s" % (given.engine, status, "; ".join(said) or "no output"))
+
+
+def why_not_written(where):
+    """Why a file of some size can't be written to a folder, as where the disk is full; None where it can."""
+    try:
+        with tempfile.TemporaryFile(dir=where) as file:
+            file.write(bytes(2 ** 16))
+    except OSError as error:
+        return error.strerror
+    return None
 
 
 def tell_doubt(given, auction, report):
@@ -298,7 +325,7 @@ def tell_disproved(given, lines):
     return folder.WRONG
 
 
-def tell_end(given, solvers, auction, progress, status):
+def tell_end(given, solvers, auction, progress, status, log_start):
     main, groups = solvers[0].name, len(auction.groups)
     report = os.path.join(given.folder, folder.report_path(main))
     page = os.path.join(given.folder, "results", main, "results.html")
@@ -314,9 +341,12 @@ def tell_end(given, solvers, auction, progress, status):
         return tell_disproved(given, lines)
     for line in lines:
         say(line)
-    if not lines and status != 0:
-        say("%s ended with status %d: %s" % (given.engine, status, last_line(os.path.join(given.folder, "engine.log"))))
+    if status != 0 and all(line.endswith(": " + DONE_WITHOUT) for line in lines):
+        tell_engine(given, status, log_start)
     if lines or status != 0:
+        full = why_not_written(given.folder)
+        if full:
+            say("%s: %s" % (given.folder, full))
         how_to_go_on(given)
     if is_made:
         say("the report is %s, the page%s %s" % (report, ", without what is missing," * bool(missing), page))
@@ -341,12 +371,14 @@ def workflow(given, solvers):
         progress.begin(given.engine, "as many as the profile says" if of_profile else "%d at a time" % (given.jobs or 1))
         if is_dry:
             return engines.plan(given)
+        log = os.path.join(given.folder, "engine.log")
+        log_start = os.path.getsize(log) if os.path.exists(log) else 0
         try:
             status = engines.run(given, progress)
         except KeyboardInterrupt:
             how_to_go_on(given)
             raise
-        return tell_end(given, solvers, auction, progress, status)
+        return tell_end(given, solvers, auction, progress, status, log_start)
 
 
 def main(given, solvers):

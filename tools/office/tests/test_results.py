@@ -13,6 +13,7 @@ from office.results import cell_text
 
 TOOLS = os.path.dirname(os.path.dirname(os.path.dirname(os.path.realpath(__file__))))
 EXAMPLES = os.path.join(os.path.dirname(TOOLS), "examples")
+WDP = os.environ.get("WDP", os.path.join(os.path.dirname(TOOLS), "wdp"))
 NAMES = ["worked", "worked_pool", "spectrum", "unsold_values", "spectrum_cap", "twelve_bands"]
 TIE = b"""%rules
 rules,1,1,,
@@ -278,14 +279,25 @@ class Certified(Folder):
         self.assertFalse(any("not certified" in head for head in heads), heads)
 
     def test_the_audit_that_the_page_tells_is_of_its_input(self):
-        parts = b"%solution\nX1_1 1\n%certificate\nbound 1 B1 10\n"
-        page = self.tie_page("--audit", self.write("audit.txt", parts + TIE))
+        parts = b"%solution\nX1_1 1\n%solution\nX2_1 1\n" + b"%certificate\nbound 1 C1 10\n" * 2
+        page = self.tie_page("--audit", self.write("audit.txt", parts + TIE), "--wdp", WDP)
+        self.assertTrue(self.first_lines()[0].startswith("Certified: each of the 2 totals"))
         for data in (parts + TIE, TIE, TIE_REPORT):
             self.assertIn(hashlib.sha256(data).hexdigest(), page.partition('id="audit"')[2])
         self.assertIn("tail -c %d audit.txt | sha256sum" % len(TIE), page)
         for other in (parts, parts + TIE + b"\n", b"", parts[:-1] + TIE, TIE):
             seen = self.publish(TIE, TIE_REPORT, "--audit", self.write("audit.txt", other))
             self.assertEqual((seen.returncode, b"doesn't end with the input" in seen.stderr), (1, True), other)
+
+    def test_an_audit_that_does_not_give_the_report_is_refused(self):
+        """A certificate that shows less, one that is missing, and the other award of the same total."""
+        solutions, certificate = b"%solution\nX1_1 1\n%solution\nX2_1 1\n", b"%certificate\nbound 1 C1 10\n"
+        for parts, words in ((solutions + certificate + b"%certificate\nbound 1 C1 11\n", b"wdp verify refuses it: wdp: certificate 2: "),
+                             (solutions + certificate, b"wdp verify refuses it: wdp: "),
+                             (solutions.replace(b"X1_1", b"X2_1") + certificate * 2, b"what wdp verify prints of it isn't the report")):
+            seen = self.publish(TIE, TIE_REPORT, "--audit", self.write("audit.txt", parts + TIE), "--wdp", WDP)
+            self.assertEqual((seen.returncode, words in seen.stderr), (1, True), seen.stderr)
+            self.assertFalse(os.path.exists(self.path("out")))
 
 
 class Ties(Folder):

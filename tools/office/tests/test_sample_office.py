@@ -1,6 +1,7 @@
 """The office in examples/office, and that docs/OFFICE.md says word for word what its commands print."""
 import os
 import re
+import shutil
 import subprocess
 import tempfile
 import unittest
@@ -82,7 +83,9 @@ def steps():
 class Document(unittest.TestCase):
     def test_its_commands_print_what_it_shows(self):
         with tempfile.TemporaryDirectory() as folder:
-            for name, target in (("tools", TOOLS), ("examples", os.path.join(ROOT, "examples")), ("wdp", WDP)):
+            # a copy, whose auction takes the program beside it
+            shutil.copytree(TOOLS, os.path.join(folder, "tools"), ignore=shutil.ignore_patterns("__pycache__"))
+            for name, target in (("examples", os.path.join(ROOT, "examples")), ("wdp", WDP)):
                 os.symlink(target, os.path.join(folder, name))
             count = 0
             for command, wanted in steps():
@@ -91,7 +94,7 @@ class Document(unittest.TestCase):
                                           stderr=subprocess.STDOUT, env={**os.environ, "LC_ALL": "C"}, timeout=300)
                     self.assertEqual(seen.stdout.decode(), wanted)
                 count += 1
-            self.assertGreater(count, 10)
+            self.assertGreater(count, 20)
             with open(os.path.join(folder, "input.txt"), "rb") as file:
                 self.assertEqual(file.read(), INPUT)
 

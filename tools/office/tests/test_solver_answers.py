@@ -159,6 +159,16 @@ class Values(Solved):
         self.assertEqual((status, "50,000,000 bytes" in messages), (1, True), messages)
         self.assertLess(time.monotonic() - start, 20)
 
+    def test_an_answer_that_is_no_file_is_not_opened(self):
+        for made, solver in (("mkfifo", "liar"), ("ln -s /dev/zero", "liar"), ("mkdir", "liar"), ("ln -s /dev/zero", "cbc"), ("mkfifo", "glpsol")):
+            script = "echo 'wdp read with 0 errors'; echo Optimal; %s %s" % (made, "$2" if solver == "liar" else "solution.txt")
+            status, _, messages = self.solve(script, solver=solver)
+            self.assertEqual((status, "answer is no file, but a folder, a pipe or a device" in messages), (1, True), messages)
+
+    def test_a_file_that_does_not_say_that_it_is_optimal_is_told(self):
+        status, _, messages = self.writes("Model status\nFeasible\n\nX1_1 1\nX2_1 1\n")
+        self.assertEqual((status, messages), (1, "solve: liar didn't say that its answer is optimal: Model status, Feasible, X1_1 1\n"))
+
     def test_lines_that_are_made_to_take_long(self):
         """Words and gaps of 20 MB in one line."""
         for line in ("status" + " " * 20_000_000 + "optimum", "gap " * 5_000_000, "X1_1" + " " * 20_000_000, "x" * 20_000_000, "=" * 20_000_000):

@@ -194,6 +194,15 @@ class Runs(Folder):
         self.assertEqual(self.run_it("--input", os.path.join(EXAMPLES, "spectrum.txt"))[0], 1)
         self.assertEqual(self.run_it("--input", os.path.join(EXAMPLES, "worked.txt"))[0], 0)
 
+    def test_what_is_left_of_an_input_that_is_not_known_counts_for_nothing(self):
+        """With the mark deleted and a bid more in the input, programs would be taken that don't have the bid."""
+        self.assertEqual(self.run_it("--no-certify")[0], 0)
+        os.unlink(os.path.join(self.folder, "input.sha256"))
+        self.put("input.txt", content(EXAMPLES, "worked.txt").replace(b"\n12,0,1\n", b"\n12,0,1\n90,1,1\n"))
+        status, messages = self.run_it("--no-certify")
+        self.assertEqual(status, 1, messages)
+        self.assertIn("input.sha256 isn't there, by which what steps left", messages)
+
     def test_the_first_solution_starts_the_others(self):
         self.assertEqual(self.run_it()[0], 0)
         self.assertNotIn(b"mipstart", content(self.folder, "logs", "cbc", "1.solve.log"))
@@ -454,6 +463,23 @@ class Changed(Folder):
         for name in ("2.txt", "other.txt"):
             self.assertIn("solutions/cbc/%s isn't what its step left" % name, messages)
 
+    def test_a_pipe_or_a_device_that_is_put_there_is_not_opened(self):
+        self.assertEqual(self.run_it()[0], 0)
+        os.mkfifo(os.path.join(self.folder, "certificates", "cbc", "9.txt"))
+        os.symlink("/dev/tty", os.path.join(self.folder, "programs", "9.mps"))
+        status, messages = self.run_it()
+        self.assertEqual((status, messages.count("isn't what its step left\n")), (1, 2), messages)
+
+    def test_what_is_told_of_how_steps_ended_is_no_more_than_that(self):
+        """A record that isn't as steps write it tells nothing, and keeps nothing from being made."""
+        self.assertEqual(self.run_it()[0], 0)
+        for group, text in enumerate((b"[1]", b'{"state": "done", "seconds": "x", "ended": 1}', b'{"state": 3}', b"{"), 1):
+            self.put("ended/solve/cbc/%d.json" % group, text)
+        status, messages = self.run_it("--no-certify")
+        self.assertEqual(status, 0, messages)
+        run = json.loads(content(self.folder, "run.json"))
+        self.assertEqual([told["seconds"] for told in run["groups"].values()], [None] * 4)
+
     def test_certificates_that_were_not_taken_together_count_for_nothing(self):
         """Without its audit, a run that asks for no certificates doesn't say that the totals are certified."""
         self.assertEqual(self.run_it()[0], 0)
@@ -526,6 +552,21 @@ class Said(Folder):
                 done = subprocess.run(words, cwd=self.folder, stdin=subprocess.DEVNULL, capture_output=True, text=True,
                                       preexec_fn=lambda: resource.setrlimit(resource.RLIMIT_FSIZE, (size, size)))
                 self.assertEqual((done.returncode, "%s: File too large" % name in done.stderr), (1, True), done.stderr)
+
+
+    def test_what_steps_could_not_write_down_is_told(self):
+        """Where `running` is no folder no step can begin, nor write down that it couldn't."""
+        self.put("running", b"")
+        status, messages = self.run_it()
+        self.assertEqual(status, 1, messages)
+        self.assertIn("missing: group 1 isn't solved by cbc: not done\n", messages)
+        self.assertRegex(messages, "auction: snakemake ended with status 1: .*running")
+
+    def test_a_folder_that_takes_no_more_is_told(self):
+        script = ("import resource, sys; sys.path.insert(0, sys.argv[1]); from office.workflow import why_not_written as why; "
+                  "before = why(sys.argv[2]); resource.setrlimit(resource.RLIMIT_FSIZE, (100, 100)); print(before, why(sys.argv[2]))")
+        done = subprocess.run(["python3", "-c", script, TOOLS, self.folder], capture_output=True, text=True, timeout=60)
+        self.assertEqual(done.stdout, "None File too large\n", done.stderr)
 
 
 class Commands(Folder):
@@ -702,6 +743,17 @@ class AtOnce(Folder):
         status, _, messages = self.run_it("--ties", given=os.path.join(self.folder, "tied.txt"))
         self.assertEqual(status, 0, messages)
         self.assertIn("whether others reach the same total wasn't decided in group 1\n", messages)
+
+    def test_a_closed_standard_input_is_told(self):
+        done = subprocess.run([os.path.join(TOOLS, "auction"), "--wdp", WDP, "--solver", "cbc"], capture_output=True, timeout=60,
+                              preexec_fn=lambda: os.close(0))
+        self.assertEqual((done.returncode, done.stdout, done.stderr), (1, b"", b"auction: standard input is closed\n"))
+
+    def test_a_tool_that_is_killed_is_told(self):
+        self.stand_in("kill -9 $PPID")
+        status, printed, messages = self.run_it("--quiet")
+        self.assertEqual((status, printed), (1, b""), messages)
+        self.assertIn("group 1 of 4 (-): solve was killed by signal 9 (Killed)\n", messages)
 
     def test_a_value_that_is_no_number_is_no_answer(self):
         """Alpha's and Gamma's 42 are lost where `nan` counts as 0: Beta's 20 would be reported where 62 can be won."""
