@@ -134,7 +134,7 @@ class Folder(unittest.TestCase):
                 pass
         return found
 
-    def wait_for(self, holds, seconds=60):
+    def wait_for(self, holds, seconds=300):
         end = time.monotonic() + seconds
         while not holds() and time.monotonic() < end:
             time.sleep(0.05)
