@@ -217,7 +217,7 @@ class Runs(Folder):
         tool = self.start_and_block()
         tool.kill()
         tool.communicate()
-        self.wait_for(lambda: not self.processes(), 10)
+        self.wait_for(lambda: not self.processes())
         self.go_on()
 
     def test_terminated_and_interrupted(self):
@@ -637,7 +637,7 @@ class OnACluster(Folder):
         self.wait_for(lambda: self.solved() == ["1.txt", "2.txt"] and len(self.called()) == 4, 120)
         tool.terminate()
         tool.communicate(timeout=300)
-        self.wait_for(lambda: not self.processes(), 10)
+        self.wait_for(lambda: not self.processes())
         self.stand_in("")
         os.unlink(self.calls)
         status, messages = self.run_it(*words)
@@ -658,7 +658,7 @@ class ByParallel(Folder):
         tool = self.start_and_block()
         tool.kill()
         tool.communicate()
-        self.wait_for(lambda: not self.processes(), 10)
+        self.wait_for(lambda: not self.processes())
         self.go_on()
 
     def test_terminated(self):
@@ -691,7 +691,7 @@ class AtOnce(Folder):
                 printed, messages = tool.communicate(timeout=30)
                 self.assertEqual(printed, b"")
                 self.assertNotIn(b"Traceback", messages)
-                self.wait_for(lambda: not self.processes(), 10)
+                self.wait_for(lambda: not self.processes())
 
     def test_a_group_that_fails_leaves_the_others(self):
         self.stand_in(IS_KILLED)
