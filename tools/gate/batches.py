@@ -122,6 +122,8 @@ def goals_in(said):
         return told
     for name, status in SAID.findall(said):
         goals = [goal for found in GOALS.findall(status) for goal in re.findall(r"`([^`]+)`", found)]
+        # (a loop that nothing shows to end has no goal yet)
+        goals += ["decreases"] if "expected a measure" in status else []
         told[name.partition("::")[2]] = Told(status.startswith(("proved", "no proof", "not proved")), status.startswith("proved"), goals)
     for place, goal, why in ANSWER.findall(said):
         name = place.replace("/", "::")
@@ -136,6 +138,8 @@ def told_of(goal):
         what = "clause " + goal.rpartition("-clause-")[2]
     elif goal.startswith("loop-"):
         what = "the invariant of a loop"
+    elif goal.startswith("decreases"):
+        what = "that it returns"
     elif goal.startswith("invariant_of"):
         what = "the invariant of a type"
     else:
