@@ -176,10 +176,12 @@ def without(text, goals):
 class Trial:
     """The trial of a crate's edits. `check(texts, functions)` is what a check of the crate says with these texts in place of its
     own, of these functions and what they call, or of all where none is named; `fault_of(path)` says why an edit can't be
-    applied, or nothing. Where the crate wasn't proved just before, a check without edits has to prove the edited functions."""
+    applied, or nothing. Where the crate wasn't proved just before, a check without edits has to prove the edited functions. Where
+    the toolchain is asked, an edit that it refuses counts as refused although no promise is seen to refuse it, and says so."""
 
-    def __init__(self, crate, folder, edits, check, fault_of, is_proved=False):
+    def __init__(self, crate, folder, edits, check, fault_of, is_proved=False, is_refused_by_toolchain=lambda path: False):
         self.crate, self.folder, self.check, self.is_proved = crate, folder, check, is_proved
+        self.is_refused_by_toolchain = is_refused_by_toolchain
         self.faults = {path: fault_of(path) for path in edits}
         self.edits = [edit_of(path, folder, self.faults[path]) for path in edits]
         self.answers, self.checks, self.tried_alone = {}, 0, 0
@@ -268,7 +270,10 @@ class Trial:
                    else "only the answer for %s is refused, since it names what the edit took away" % ", ".join(lost) if lost
                    else "%s is still proved" % function if told[function].is_proved
                    else "the check couldn't tell of %s" % function)
-            self.answer(edit, False, "NOT REFUSED: %s%s" % (why, ", and what breaks is %s" % ", ".join(others) if others else ""))
+            why += ", and what breaks is %s" % ", ".join(others) if others else ""
+            # (a function that isn't proved can't be built, whatever its edit shows of its promises)
+            is_refused = not told[function].is_proved and self.is_refused_by_toolchain(edit.path)
+            self.answer(edit, is_refused, "refused by the toolchain, though %s" % why if is_refused else "NOT REFUSED: %s" % why)
 
     def misplaced(self, edit):
         """Why an edit would show nothing of a body, if it would."""
@@ -315,7 +320,8 @@ def trial_of(rt, is_proved=False):
                 only = [word for name in functions for word in ("--only", name)]
                 return rt.checked(crate, texts, [*flags, *only], kept).stdout
 
-            trial = Trial(crate.name, crate.folder, edits, check, lambda path: rt.read_edit(path, crate.folder)[1], is_proved)
+            trial = Trial(crate.name, crate.folder, edits, check, lambda path: rt.read_edit(path, crate.folder)[1], is_proved,
+                          lambda path: is_proved and rt.must_fail(crate, path, flags)[0])
             started, answers = time.time(), trial.run()
         told = sum(is_refused for is_refused, _ in answers)
         rt.say("%s: %d of %d edits refused, in %d checks of many and %d of one, %d s"

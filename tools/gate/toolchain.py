@@ -6,7 +6,7 @@ import shutil
 import sys
 
 # What is used of rt. A toolchain whose rt lacks one of them runs its gate as it is.
-USED = ("ci", "in_lanes", "processors", "free", "must_fail_all", "checked", "read_edit", "edits_of", "say", "Crate.compile_by", "rtlib")
+USED = ("ci", "in_lanes", "processors", "free", "must_fail_all", "must_fail", "checked", "read_edit", "edits_of", "say", "Crate.compile_by", "rtlib")
 
 
 def load():
