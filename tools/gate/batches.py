@@ -250,7 +250,9 @@ class Trial:
         """Judges an edit by a check of its own."""
         self.tried_alone += 1
         texts = applied(edit, self.folder, {})
-        said = self.check(texts, [])
+        # (what an edit of several bodies breaks elsewhere is to be told too)
+        check = (lambda texts: self.checked(texts, [edit])) if edit.is_in_one_body else lambda texts: self.check(texts, [])
+        said = check(texts)
         told = goals_in(said)
         function = self.name_of(edit, told)
         if function and not goals_within(function, told):
@@ -258,7 +260,7 @@ class Trial:
             lost = {"proofs/%s/Answers.antt" % name.replace("::", "/"): it.lost for name, it in told.items() if it.lost and is_within(name, function)}
             shorter = {path: without(read(os.path.join(self.folder, path)), goals) for path, goals in lost.items()
                        if os.path.isfile(os.path.join(self.folder, path))}
-            told = goals_in(self.check({**texts, **shorter}, [])) or told if shorter else told
+            told = goals_in(check({**texts, **shorter})) or told if shorter else told
         if function is None:
             return self.answer(edit, False, "BAD EDIT: the check told nothing of its function: %.300s" % said.strip())
         self.judge(edit, function, told)
