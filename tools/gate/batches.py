@@ -80,9 +80,12 @@ def edit_of(path, folder, fault=None):
     """An edit, and the function that it edits, if there is one. One with a fault has no pairs."""
     edit = Edit(path, [] if fault else pairs_of(read(path)))
     if edit.pairs:
-        edit.place, edit.function = place_of(*edit.pairs[0][:2], folder)
+        # (a pair that changes spaces alone only makes the old text of another one stand once)
+        telling = [pair for pair in edit.pairs if "".join(pair[1].split()) != "".join(pair[2].split())]
+        first, *more = telling or edit.pairs
+        edit.place, edit.function = place_of(*first[:2], folder)
         # (a later pair's old text may stand in what an earlier one made)
-        later = [place_of(file, old, folder)[0] for file, old, _ in edit.pairs[1:]
+        later = [place_of(file, old, folder)[0] for file, old, _ in more
                  if old in read(os.path.join(folder, file))]
         edit.is_in_one_body = edit.place is not None and all(place == edit.place for place in later)
     return edit
