@@ -14,6 +14,7 @@ import time
 from dataclasses import dataclass, field
 
 from gate.sources import functions_of
+from gate.toolchain import is_refused
 
 SAID = re.compile(r"^fn (\S+): (.*)$", re.M)
 GOALS = re.compile(r"`search` did not prove ((?:`[^`]+`(?:, | and )?)+)")
@@ -326,7 +327,7 @@ def trial_of(rt, is_proved=False):
                 return rt.checked(crate, texts, [*flags, *only], kept).stdout
 
             trial = Trial(crate.name, crate.folder, edits, check, lambda path: rt.read_edit(path, crate.folder)[1], is_proved,
-                          lambda path: is_proved and rt.must_fail(crate, path, flags)[0])
+                          lambda path: is_proved and is_refused(rt, crate, path, flags))
             started, answers = time.time(), trial.run()
         told = sum(is_refused for is_refused, _ in answers)
         rt.say("%s: %d of %d edits refused, in %d checks of many and %d of one, %d s"

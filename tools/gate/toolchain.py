@@ -1,4 +1,7 @@
-"""The toolchain's command `rt` as a module: its gate, of which the order of the tasks and the trial of edits are replaced."""
+"""The toolchain's command `rt` as a module: its gate, of which the order of the tasks and the trial of edits are replaced.
+
+rt has had two ways to try a crate's edits: by `must_fail_all`, all in one call, or by tasks that `add_edits` makes, one for each
+edit. Either is replaced."""
 import importlib.machinery
 import importlib.util
 import os
@@ -6,7 +9,9 @@ import shutil
 import sys
 
 # What is used of rt. A toolchain whose rt lacks one of them runs its gate as it is.
-USED = ("ci", "in_lanes", "processors", "free", "must_fail_all", "must_fail", "checked", "read_edit", "edits_of", "say", "Crate.compile_by", "rtlib")
+USED = ("ci", "in_lanes", "processors", "free", "must_fail", "checked", "read_edit", "edits_of", "say", "Crate.compile_by", "rtlib")
+# And what is used of one that makes tasks of edits.
+USED_FOR_TASKS = ("add_edits", "need", "REFUSED", "AT_LIMIT", "MISSED")
 
 
 def load():
@@ -21,7 +26,42 @@ def load():
         loader.exec_module(made)
     except (Exception, SystemExit):
         return None
-    return made if all(has(made, name) for name in USED) else None
+    return made if is_known(made) else None
+
+
+def is_known(rt):
+    """Whether this is an rt whose trial of edits can be replaced."""
+    return all(has(rt, name) for name in USED) and (has(rt, "must_fail_all") or all(has(rt, name) for name in USED_FOR_TASKS))
+
+
+def is_refused(rt, crate, path, flags):
+    """Whether rt's own trial of one edit refuses it: it says so by a truth value, or by a word for what came of it."""
+    came = rt.must_fail(crate, path, flags)[0]
+    return came is True or came in (getattr(rt, "REFUSED", None), getattr(rt, "AT_LIMIT", None))
+
+
+def replace_trial(rt, must_fail_all):
+    """Has rt's gate try the edits of a crate by this call, which answers for each whether it is refused, and what to say."""
+    if has(rt, "must_fail_all"):
+        rt.must_fail_all = must_fail_all
+    else:
+        rt.add_edits = one_task(rt, must_fail_all)
+
+
+def one_task(rt, must_fail_all):
+    """What takes the place of `add_edits`: one task for all edits of a crate, once it is proved with its tests. Nothing is taken
+    from earlier trials."""
+    def add_edits(tasks, crate, edits, first, waits, is_well, kept, start=None, in_ci=True):
+        def try_all(given, jobs):
+            return must_fail_all(crate, edits, ["--jobs", "1"]) if edits and is_well(given, len(edits)) else []
+
+        def results(given):
+            return [(rt.REFUSED if refused else rt.MISSED, text) for refused, text in given[crate.name, "edits"]]
+
+        tasks[crate.name, "edits"] = [*first, *waits], crate.count(rb"\n") if edits else 0, rt.need(crate), try_all
+        return results, dict
+
+    return add_edits
 
 
 def has(made, name):
