@@ -115,27 +115,23 @@ module _ (lots : Lots) (book : Book) (group : ℕ → Bool) where
             omega arith)) f.fit;
       }
 
-  -- a kept bid in place of each, or none
-  record Replaced (a : List Choice) : Type 0 where
-    choices : List Choice
-    fewer : (b : ℕ) → count_by (λ c. c.bidder == b) choices ≤ count_by (λ c. c.bidder == b) a
-    kept : AllByRecursion (λ c. is_kept_choice lots book group c ≡ true) choices
-    eligible : AllByRecursion (λ c. is_eligible book group c ≡ true) choices
-    no_cheaper : sum_by (amount_of book) a + worths lots book choices ≤ sum_by (amount_of book) choices + worths lots book a
-    lighter : (category : ℕ) → sum_by (quantity_of book category) choices ≤ sum_by (quantity_of book category) a
+  -- the choices stand in for these: each bidder has no more bids, no category is loaded more, and the nets are at least as great
+  pub record StandIn (a choices : List Choice) : Type 0 where
+    pub fewer : (b : ℕ) → count_by (λ c. c.bidder == b) choices ≤ count_by (λ c. c.bidder == b) a
+    pub eligible : AllByRecursion (λ c. is_eligible book group c ≡ true) choices
+    pub no_cheaper : sum_by (amount_of book) a + worths lots book choices ≤ sum_by (amount_of book) choices + worths lots book a
+    pub lighter : (category : ℕ) → sum_by (quantity_of book category) choices ≤ sum_by (quantity_of book category) a
 
   -- a bid whose net is below 0 is left out
-  left_out : (c : Choice) (a : List Choice) (g : IsGood c) → net lots g.bid <ℤ pos 0 → Replaced a → Replaced (c ∷ a)
-  left_out c a g less r =
+  pub stand_in_without : (c : Choice) (a choices : List Choice) (g : IsGood c) → net lots g.bid <ℤ pos 0 → StandIn a choices → StandIn (c ∷ a) choices
+  stand_in_without c a choices g less r =
       let amount : amount_of book c ≡ g.bid.amount = ap (λ o. option_map_or (λ (x : Bid). x.amount) o 0) g.stands in
       let worth_is : weighed_choice lots.values book c ≡ worth lots g.bid.package = ap (λ o. option_map_or (λ (x : Bid). weighed lots.values x.package) o 0) g.stands in
       record {
-        choices = r.choices;
         fewer = λ b.
             let s = sum_by-cons (λ (x : Choice). cond (x.bidder == b) 1 0) c a in
             let others = r.fewer b in
             omega arith;
-        kept = r.kept;
         eligible = r.eligible;
         no_cheaper =
             let others = r.no_cheaper in
@@ -149,32 +145,29 @@ module _ (lots : Lots) (book : Book) (group : ℕ → Bool) where
             omega arith;
       }
 
-  -- a kept bid in its place
-  put_in : (c : Choice) (a : List Choice) (g : IsGood c) → KeptInstead lots (form_of book c.bidder) g.bid → Replaced a → Replaced (c ∷ a)
-  put_in c a g k r =
+  -- a kept bid of its form in its place
+  pub stand_in_with : (c : Choice) (a choices : List Choice) (g : IsGood c) (k : KeptInstead lots (form_of book c.bidder) g.bid) → StandIn a choices → StandIn (c ∷ a) (record { bidder = c.bidder; bid = k.number } ∷ choices)
+  stand_in_with c a choices g k r =
       let c' : Choice = record { bidder = c.bidder; bid = k.number } in
       let amount : amount_of book c ≡ g.bid.amount = ap (λ o. option_map_or (λ (x : Bid). x.amount) o 0) g.stands in
       let amount' : amount_of book c' ≡ k.bid.amount = ap (λ o. option_map_or (λ (x : Bid). x.amount) o 0) k.stands in
       let worth_is : weighed_choice lots.values book c ≡ worth lots g.bid.package = ap (λ o. option_map_or (λ (x : Bid). weighed lots.values x.package) o 0) g.stands in
       let worth_is' : weighed_choice lots.values book c' ≡ worth lots k.bid.package = ap (λ o. option_map_or (λ (x : Bid). weighed lots.values x.package) o 0) k.stands in
       record {
-        choices = c' ∷ r.choices;
         fewer = λ b.
-            let s = sum_by-cons (λ (x : Choice). cond (x.bidder == b) 1 0) c a in
             let n : ℕ = cond (c.bidder == b) 1 0 in
-            let s' : count_by (λ x. x.bidder == b) (c' ∷ r.choices) ≡ n + count_by (λ x. x.bidder == b) r.choices = sum_by-cons (λ (x : Choice). cond (x.bidder == b) 1 0) c' r.choices in
+            let s' : count_by (λ x. x.bidder == b) (c' ∷ choices) ≡ n + count_by (λ x. x.bidder == b) choices = sum_by-cons (λ (x : Choice). cond (x.bidder == b) 1 0) c' choices in
             let s : count_by (λ x. x.bidder == b) (c ∷ a) ≡ n + count_by (λ x. x.bidder == b) a = sum_by-cons (λ (x : Choice). cond (x.bidder == b) 1 0) c a in
             let others = r.fewer b in
             omega arith;
-        kept = (and_from _ _ g.outside (ap (λ o. option_map_or (λ (x : Bid). is_kept lots (form_of book c.bidder) x) o false) k.stands ∙ k.kept), r.kept);
         eligible = (and_from _ _ g.outside (ap (λ o. is_some o) k.stands), r.eligible);
         no_cheaper =
             let dearer : net lots g.bid ≤ℤ net lots k.bid = le_from (net lots g.bid) (net lots k.bid) k.no_cheaper in
             let others = r.no_cheaper in
             let s : sum_by (amount_of book) (c ∷ a) ≡ amount_of book c + sum_by (amount_of book) a = sum_by-cons (amount_of book) c a in
-            let s' : sum_by (amount_of book) (c' ∷ r.choices) ≡ amount_of book c' + sum_by (amount_of book) r.choices = sum_by-cons (amount_of book) c' r.choices in
+            let s' : sum_by (amount_of book) (c' ∷ choices) ≡ amount_of book c' + sum_by (amount_of book) choices = sum_by-cons (amount_of book) c' choices in
             let t : worths lots book (c ∷ a) ≡ weighed_choice lots.values book c + worths lots book a = sum_by-cons (weighed_choice lots.values book) c a in
-            let t' : worths lots book (c' ∷ r.choices) ≡ weighed_choice lots.values book c' + worths lots book r.choices = sum_by-cons (weighed_choice lots.values book) c' r.choices in
+            let t' : worths lots book (c' ∷ choices) ≡ weighed_choice lots.values book c' + worths lots book choices = sum_by-cons (weighed_choice lots.values book) c' choices in
             let gain : g.bid.amount + worth lots k.bid.package ≤ k.bid.amount + worth lots g.bid.package = omega (arith, ints) in
             omega arith;
         lighter = λ category.
@@ -183,45 +176,71 @@ module _ (lots : Lots) (book : Book) (group : ℕ → Bool) where
             let less = within_at k.bid.package g.bid.package category k.smaller in
             let others = r.lighter category in
             let s : sum_by (quantity_of book category) (c ∷ a) ≡ quantity_of book category c + sum_by (quantity_of book category) a = sum_by-cons (quantity_of book category) c a in
-            let s' : sum_by (quantity_of book category) (c' ∷ r.choices) ≡ quantity_of book category c' + sum_by (quantity_of book category) r.choices = sum_by-cons (quantity_of book category) c' r.choices in
+            let s' : sum_by (quantity_of book category) (c' ∷ choices) ≡ quantity_of book category c' + sum_by (quantity_of book category) choices = sum_by-cons (quantity_of book category) c' choices in
             omega arith;
       }
+
+  -- what stands in for a feasible allocation is feasible too
+  pub stand_in_feasible : (a choices : List Choice) → IsFeasible lots book group a → StandIn a choices → IsFeasible lots book group choices
+  stand_in_feasible a choices f r =
+      let lighter : is_within (loads lots book choices) (loads lots book a) ≡ true = within_from (loads lots book choices) (loads lots book a) (loads_length lots book choices ∙ sym (loads_length lots book a)) (λ category below.
+      let size = loads_length lots book a in
+      let e = loads_at lots book choices category (omega arith) in
+      let e' = loads_at lots book a category (omega arith) in
+      let l = r.lighter category in
+      omega arith) in
+      record {
+        one_bid_each = λ b. let e = r.fewer b in let o = f.one_bid_each b in omega arith;
+        eligible = All-from_recursion _ choices r.eligible;
+        fit = fits_smaller lots (loads lots book choices) (loads lots book a) lighter f.fit;
+      }
+
+  -- and its total isn't lower
+  pub stand_in_total : (a choices : List Choice) → IsSized lots book → IsFeasible lots book group a → StandIn a choices → total lots book a ≤ total lots book choices
+  stand_in_total a choices sized f r =
+      let t = total_is lots book a sized f.fit in
+      let t' = total_is lots book choices sized (stand_in_feasible a choices f r).fit in
+      let n = r.no_cheaper in
+      omega arith
+
+  -- a kept bid in place of each, or none
+  record Replaced (a : List Choice) : Type 0 where
+    choices : List Choice
+    kept : AllByRecursion (λ c. is_kept_choice lots book group c ≡ true) choices
+    stand_in : StandIn a choices
+
+  pub stand_in_kept : (c : Choice) (g : IsGood c) (k : KeptInstead lots (form_of book c.bidder) g.bid) → is_kept_choice lots book group (record { bidder = c.bidder; bid = k.number }) ≡ true
+  stand_in_kept c g k = and_from _ _ g.outside (ap (λ o. option_map_or (λ (x : Bid). is_kept lots (form_of book c.bidder) x) o false) k.stands ∙ k.kept)
 
   replaced : (a : List Choice) → AllByRecursion IsGood a → Replaced a
   replaced [] h = record {
     choices = [];
-    fewer = λ b. le_refl 0;
     kept = tt;
-    eligible = tt;
-    no_cheaper = le_refl 0;
-    lighter = λ category. le_refl 0;
+    stand_in = record {
+      fewer = λ b. le_refl 0;
+      eligible = tt;
+      no_cheaper = le_refl 0;
+      lighter = λ category. le_refl 0;
+    };
   }
   replaced (c ∷ a) h =
       let g = h.0 in
       let r = replaced a h.1 in
-      ⊎_elim (λ less. left_out c a g less r) (λ k. put_in c a g k r) (keeps_the_best lots (form_of book c.bidder) c.bid g.bid g.stands g.fits)
+      ⊎_elim
+      (λ less. record { choices = r.choices; kept = r.kept; stand_in = stand_in_without c a r.choices g less r.stand_in })
+      (λ k. record {
+        choices = record { bidder = c.bidder; bid = k.number } ∷ r.choices;
+        kept = (stand_in_kept c g k, r.kept);
+        stand_in = stand_in_with c a r.choices g k r.stand_in;
+      })
+      (keeps_the_best lots (form_of book c.bidder) c.bid g.bid g.stands g.fits)
 
 pub kept_are_enough : KeptAreEnough
 kept_are_enough lots book group a sized f =
     let r = replaced lots book group a (recursion_from_All (IsGood lots book group) a (good lots book group sized a f)) in
-    let lighter : is_within (loads lots book r.choices) (loads lots book a) ≡ true = within_from (loads lots book r.choices) (loads lots book a) (loads_length lots book r.choices ∙ sym (loads_length lots book a)) (λ category below.
-    let size = loads_length lots book a in
-    let e = loads_at lots book r.choices category (omega arith) in
-    let e' = loads_at lots book a category (omega arith) in
-    let l = r.lighter category in
-    omega arith) in
-    let fit = fits_smaller lots (loads lots book r.choices) (loads lots book a) lighter f.fit in
     record {
       choices = r.choices;
-      feasible = record {
-        one_bid_each = λ b. let e = r.fewer b in let o = f.one_bid_each b in omega arith;
-        eligible = All-from_recursion _ r.choices r.eligible;
-        fit = fit;
-      };
+      feasible = stand_in_feasible lots book group a r.choices f r.stand_in;
       kept = All-from_recursion _ r.choices r.kept;
-      no_cheaper =
-          let t = total_is lots book a sized f.fit in
-          let t' = total_is lots book r.choices sized fit in
-          let n = r.no_cheaper in
-          omega arith;
+      no_cheaper = stand_in_total lots book group a r.choices sized f r.stand_in;
     }

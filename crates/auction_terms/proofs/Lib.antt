@@ -9,8 +9,10 @@ pub mod GroupsTextFacts
 pub mod WeighedLaws
 pub mod PackageLaws
 pub mod AllocationLaws
+pub mod OnlyLaws
 pub mod OfferLaws
 pub mod LimitLaws
 pub mod LotsLaws
 pub mod Examples
 pub mod VersionExamples
+pub mod OnlyExamples

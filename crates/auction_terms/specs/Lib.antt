@@ -20,4 +20,5 @@ pub mod GroupNames
 pub mod GroupsText
 pub mod RulesFaultText
 pub mod GroupFaultText
+pub mod Only
 pub mod inside

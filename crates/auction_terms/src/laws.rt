@@ -8,6 +8,7 @@ ghost use Rattle.auction_terms.specs.Allocations.{LoadsAddUp, TotalsAreNets};
 ghost use Rattle.auction_terms.specs.Domination.{SmallerSizesSuffice};
 ghost use Rattle.auction_terms.specs.Keeping.{KeepsTheBest, KeptAreEnough};
 ghost use Rattle.auction_terms.specs.Limits.{KeptAreOffers};
+ghost use Rattle.auction_terms.specs.Only.{OnlyAmongAll, RivalsDoAsWell};
 ghost use Rattle.auction_terms.specs.RulesText.{entry_fault};
 ghost use Rattle.auction_terms.specs.declared.record_kinds.Version.{Version};
 ghost use Rattle.auction_terms.specs.declared.rules.Bidder.{Bidder};
@@ -65,4 +66,14 @@ pub fn smaller_sizes_are_enough()
 /// The kept bids of a book within the limits stand within the limits, by rising bidder, then bid.
 pub fn kept_bids_are_offers()
     ensures { KeptAreOffers }
+{}
+
+/// An allocation that is the only one of kept bids with so great a total is the only one of all bids, where no bid does as well in a winner's place.
+pub fn the_only_one_of_kept_bids_is_the_only_one()
+    ensures { OnlyAmongAll }
+{}
+
+/// A bid that does as well in a winner's place makes another feasible allocation of the same total.
+pub fn a_rival_does_as_well()
+    ensures { RivalsDoAsWell }
 {}
