@@ -321,7 +321,7 @@ point_of_others lots offers others p q is_point allowed same = point_where lots 
 -- ---------- from a point to an allocation ----------
 
 -- a measure of the choices is that of the offers
-measured : (h : Choice → ℕ) (g : Offer → ℕ) (xs : List Offer) → AllByRecursion (λ o. h (choice_of o) ≡ g o) xs → sum_by h (map choice_of xs) ≡ sum_by g xs
+pub measured : (h : Choice → ℕ) (g : Offer → ℕ) (xs : List Offer) → AllByRecursion (λ o. h (choice_of o) ≡ g o) xs → sum_by h (map choice_of xs) ≡ sum_by g xs
 measured h g [] a = refl
 measured h g (o ∷ xs) a =
     let s = sum_by-cons h (choice_of o) (map choice_of xs) in let t = sum_by-cons g o xs in let e = a.0 in let r = measured h g xs a.1 in
@@ -400,7 +400,7 @@ module _ (lots : Lots) (book : Book) (group : ℕ → Bool) where
 
 -- ---------- from an allocation to a point ----------
 
-abbrev same_choice : Choice → Choice → Bool
+abbrev pub same_choice : Choice → Choice → Bool
 same_choice c d = (c.bidder == d.bidder) && (c.bid == d.bid)
 
 abbrev is_member : List Choice → Offer → Bool
@@ -453,13 +453,13 @@ apart : (x y : Bool) (n : ℕ) → (x ≡ true → y ≡ false) → cond (x || y
 apart true y n h = sym (ap (λ (b : Bool). n + cond b n 0) (h refl) ∙ add-zero n)
 apart false y n h = sym (zero-add (cond y n 0))
 
-module _ (lots : Lots) (book : Book) (group : ℕ → Bool) (f : ℕ → Bid → ℕ) where
+module _ (lots : Lots) (book : Book) (group : ℕ → Bool) (f : Choice → Bid → ℕ) where
   -- a measure of offers, and of choices
   abbrev of_offer : Offer → ℕ
-  of_offer o = f o.bidder o.bid
+  of_offer o = f (choice_of o) o.bid
 
   abbrev of_choice : Choice → ℕ
-  of_choice c = option_map_or (λ x. f c.bidder x) (bid_of book c) 0
+  of_choice c = option_map_or (λ x. f c x) (bid_of book c) 0
 
   -- a kept choice is one of the kept offers, once
   once : (c : Choice) → is_kept_choice lots book group c ≡ true → sum_by (λ o. cond (same_choice c (choice_of o)) (of_offer o) 0) (kept_of lots book group) ≡ of_choice c
@@ -473,10 +473,10 @@ module _ (lots : Lots) (book : Book) (group : ℕ → Bool) (f : ℕ → Bid →
       (cond-false (same_choice c (choice_of o)) (of_offer o) 0 (false_from_ne_true (same_choice c (choice_of o)) (λ t.
       let w = and_parts (c.bidder == o.bidder) (c.bid == o.number) t in
       differ (sym (eqb-true c.bidder o.bidder w.0)) (sym (eqb-true c.bid o.number w.1)))))) in
-      let is_here : counted here ≡ f c.bidder v.0 =
+      let is_here : counted here ≡ f c v.0 =
       cond-true (is_kept_offer lots book group here) (cond (same_choice c (choice_of here)) (of_offer here) 0) 0 (and_from (not (group c.bidder)) (is_kept lots (form_of book c.bidder) v.0) e.0 v.2)
       ∙ cond-true (same_choice c (choice_of here)) (of_offer here) 0 (and_from (c.bidder == c.bidder) (c.bid == c.bid) (eq-eqb c.bidder c.bidder refl) (eq-eqb c.bid c.bid refl)) in
-      all ∙ one ∙ is_here ∙ sym (ap (λ x. option_map_or (λ (x : Bid). f c.bidder x) x 0) v.1)
+      all ∙ one ∙ is_here ∙ sym (ap (λ x. option_map_or (λ (x : Bid). f c x) x 0) v.1)
 
   members : (a : List Choice) → AllByRecursion (λ c. is_kept_choice lots book group c ≡ true) a → ((b : ℕ) → count_by (λ c. c.bidder == b) a ≤ 1)
       → sum_by (λ o. cond (is_member a o) (of_offer o) 0) (kept_of lots book group) ≡ sum_by of_choice a
@@ -503,23 +503,32 @@ module _ (lots : Lots) (book : Book) (group : ℕ → Bool) (f : ℕ → Bid →
       both' ∙ ap₂ (λ (m n : ℕ). m + n) first' rest' ∙ sym s
 
 module _ (lots : Lots) (book : Book) (group : ℕ → Bool) (sized : IsSized lots book) where
-  counted : (b : ℕ) (c : Choice) → is_kept_choice lots book group c ≡ true → of_choice lots book group (λ d x. cond (d == b) 1 0) c ≡ cond (c.bidder == b) 1 0
-  counted b c k =
+  -- the values at which the columns of these choices are 1
+  abbrev pub values_of : List Choice → List Bool
+  values_of a = map (is_member a) (kept_of lots book group) ++ last_values lots
+
+  -- a measure that only looks at the choice
+  counted : (g : Choice → ℕ) (c : Choice) → is_kept_choice lots book group c ≡ true → of_choice lots book group (λ d x. g d) c ≡ g c
+  counted g c k =
       let e = and_parts (not (group c.bidder)) (option_map_or (λ x. is_kept lots (form_of book c.bidder) x) (bid_of book c) false) k in
       let v = bid_there (λ (x : Bid). is_kept lots (form_of book c.bidder) x) (bid_of book c) e.1 in
-      ap (λ o. option_map_or (λ (x : Bid). cond (c.bidder == b) 1 0) o 0) v.1
+      ap (λ o. option_map_or (λ (x : Bid). g c) o 0) v.1
+
+  -- how often a kept allocation has it, from the offers
+  pub counted_members : (g : Choice → ℕ) (a : List Choice) → AllByRecursion (λ c. is_kept_choice lots book group c ≡ true) a → ((b : ℕ) → count_by (λ c. c.bidder == b) a ≤ 1)
+      → sum_by (λ o. g (choice_of o)) (chosen (kept_of lots book group) (values_of a)) ≡ sum_by g a
+  counted_members g a k one =
+      chosen_marks (is_member a) (λ o. g (choice_of o)) (kept_of lots book group) (last_values lots) ∙ members lots book group (λ d x. g d) a k one
+      ∙ sum_agree (of_choice lots book group (λ d x. g d)) g a (all_agree (λ c. is_kept_choice lots book group c ≡ true) (λ c. of_choice lots book group (λ d x. g d) c ≡ g c) a (counted g) k)
 
   values_fit : (rows : List Subject) (xs : List Offer) (p : Offer → Bool) → AreAllowed (map (column_of lots rows) xs ++ worth_column lots) (map p xs ++ last_values lots)
   values_fit rows [] p = last_allowed lots (worth_of_all lots == 0)
   values_fit rows (o ∷ xs) p = (refl, values_fit rows xs p)
 
   weighs : (s : Subject) (a : List Choice) → AllByRecursion (λ c. is_kept_choice lots book group c ≡ true) a → IsFeasible lots book group a → in_rows lots s
-      → sum_by (weight lots s) (chosen (kept_of lots book group) (map (is_member a) (kept_of lots book group) ++ last_values lots)) ≤ most lots s
+      → sum_by (weight lots s) (chosen (kept_of lots book group) (values_of a)) ≤ most lots s
   weighs (Bidder b) a k f tt =
-      let e = chosen_marks (is_member a) (weight lots (Bidder b)) (kept_of lots book group) (last_values lots) in
-      let m = members lots book group (λ d x. cond (d == b) 1 0) a k f.one_bid_each in
-      let c = sum_agree (of_choice lots book group (λ d x. cond (d == b) 1 0)) (λ c. cond (c.bidder == b) 1 0) a (all_agree (λ c. is_kept_choice lots book group c ≡ true) (λ c. of_choice lots book group (λ d x. cond (d == b) 1 0) c ≡ cond (c.bidder == b) 1 0) a
-      (counted b) k) in
+      let e = counted_members (λ c. cond (c.bidder == b) 1 0) a k f.one_bid_each in
       let l = f.one_bid_each b in
       omega arith
   weighs (Category n) a k f below =
@@ -533,26 +542,32 @@ module _ (lots : Lots) (book : Book) (group : ℕ → Bool) (sized : IsSized lot
       let l = feasible_pool lots book group a sized f n below in
       omega arith
 
+  -- a feasible allocation of kept bids is a point of the same total
+  pub exact_point : (a : List Choice) → AllByRecursion (λ c. is_kept_choice lots book group c ≡ true) a → IsFeasible lots book group a
+      → IsPoint (program_of lots (kept_of lots book group)) (values_of a) × (pos (total lots book a) ≡ neg_ℤ (objective (program_of lots (kept_of lots book group)) (values_of a)))
+  exact_point a k f =
+      let all = kept_of lots book group in
+      let p : List Bool = values_of a in
+      let allowed : AreAllowed (program_of lots all).columns p = values_fit (subjects lots all) all (is_member a) in
+      let amounts : sum_by (amount_of book) a ≡ sum_by (λ o. o.bid.amount) (chosen all p) =
+      sym (chosen_marks (is_member a) (λ o. o.bid.amount) all (last_values lots) ∙ members lots book group (λ d x. x.amount) a k f.one_bid_each) in
+      let worth_is : worths lots book a ≡ sum_by (worth_offered lots) (chosen all p) =
+      sym (chosen_marks (is_member a) (worth_offered lots) all (last_values lots) ∙ members lots book group (λ d x. weighed lots.values x.package) a k f.one_bid_each) in (
+        point_where lots all p allowed (λ s there. weighs s a k f there),
+        same_total (total lots book a) (worths lots book a) (sum_by (amount_of book) a) (worth_of_all lots)
+            (sum_by (λ o. o.bid.amount) (chosen all p)) (sum_by (worth_offered lots) (chosen all p)) (objective (program_of lots all) p)
+            (total_is lots book a sized f.fit) amounts worth_is (cost_is lots (subjects lots all) all p allowed),
+      )
+
   matched : (a : List Choice) → IsFeasible lots book group a → Matched lots book (program_of lots (kept_of lots book group)) a
   matched a f =
       let best = kept_are_enough lots book group a sized f in
-      let all = kept_of lots book group in
-      let k = recursion_from_All (λ c. is_kept_choice lots book group c ≡ true) best.choices best.kept in
-      let p : List Bool = map (is_member best.choices) all ++ last_values lots in
-      let allowed : AreAllowed (program_of lots all).columns p = values_fit (subjects lots all) all (is_member best.choices) in
-      let amounts : sum_by (amount_of book) best.choices ≡ sum_by (λ o. o.bid.amount) (chosen all p) =
-      sym (chosen_marks (is_member best.choices) (λ o. o.bid.amount) all (last_values lots) ∙ members lots book group (λ d x. x.amount) best.choices k best.feasible.one_bid_each) in
-      let worth_is : worths lots book best.choices ≡ sum_by (worth_offered lots) (chosen all p) =
-      sym (chosen_marks (is_member best.choices) (worth_offered lots) all (last_values lots) ∙ members lots book group (λ d x. weighed lots.values x.package) best.choices k best.feasible.one_bid_each) in
-      let negated : pos (total lots book best.choices) ≡ neg_ℤ (objective (program_of lots all) p) =
-      same_total (total lots book best.choices) (worths lots book best.choices) (sum_by (amount_of book) best.choices) (worth_of_all lots)
-      (sum_by (λ o. o.bid.amount) (chosen all p)) (sum_by (worth_offered lots) (chosen all p)) (objective (program_of lots all) p)
-      (total_is lots book best.choices sized best.feasible.fit) amounts worth_is (cost_is lots (subjects lots all) all p allowed) in
+      let exact = exact_point best.choices (recursion_from_All (λ c. is_kept_choice lots book group c ≡ true) best.choices best.kept) best.feasible in
       let dearer = best.no_cheaper in record {
-        values = p;
-        is_point = point_where lots all p allowed (λ s there. weighs s best.choices k best.feasible there);
+        values = values_of best.choices;
+        is_point = exact.0;
         no_less = (let le : pos (total lots book a) ≤ℤ pos (total lots book best.choices) = omega (arith, ints) in
-            subst (λ (z : ℤ). pos (total lots book a) ≤ℤ z) negated le);
+            subst (λ (z : ℤ). pos (total lots book a) ≤ℤ z) exact.1 le);
       }
 
 pub presolved_is_faithful : PresolvedIsFaithful

@@ -3,6 +3,7 @@ pub mod Powers
 mod Examples
 mod ValueExamples
 pub mod FaithfulLaws
+pub mod OnlyPointLaws
 pub mod FewerBidLaws
 pub mod LegalLaws
 pub mod PieceLemmas

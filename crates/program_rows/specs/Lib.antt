@@ -18,4 +18,5 @@ pub mod Faithful
 pub mod Legal
 pub mod Bounded
 pub mod Seeds
+pub mod Only
 pub mod inside
