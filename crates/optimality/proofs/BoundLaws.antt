@@ -124,7 +124,7 @@ pub negated-sum : (form : Form) (vs : List Bool) → form_sum (side true form (p
 negated-sum [] vs = refl
 negated-sum (t ∷ form) vs = rw (opposite (slice_index_or vs t.0 false) t.1, negated-sum form vs) (omega (arith, ints))
 
-shown-within : (p : Table) (least : ℤ) (cuts : List Cut) (certificate : Certificate) (vs : List Bool) → ShowsWithin p least cuts certificate → IsPoint p vs → IsWithin cuts vs → least ≤ℤ objective p vs
+pub shown-within : (p : Table) (least : ℤ) (cuts : List Cut) (certificate : Certificate) (vs : List Bool) → ShowsWithin p least cuts certificate → IsPoint p vs → IsWithin cuts vs → least ≤ℤ objective p vs
 shown-within p least cuts (Bound scale ys rows) vs shows h w = leaf-bounds p least cuts scale ys rows vs shows h w
 shown-within p least cuts (Split form most low high) vs shows h w =
     by_lt_z most (form_sum form vs)

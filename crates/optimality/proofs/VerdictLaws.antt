@@ -1,5 +1,5 @@
 -- A text has no fault exactly where it tells a certificate that shows least.
-use Rattle.std.proofs.Common.{◌≡◌, ℕ, suc, Bool, true, false, cond, List, [], ◌∷◌, ◌++◌, Option, Some, None, Result, Ok, Err, length, refl, sym, subst, ap, ◌∙◌, arith, ℤ, pos, inl, inr}
+use Rattle.std.proofs.Common.{◌≡◌, ℕ, suc, Bool, true, false, cond, List, [], ◌∷◌, ◌++◌, Option, Some, None, Result, Ok, Err, length, refl, sym, subst, ◌∙◌, arith, ℤ, pos, ◌+ℤ◌, inl, inr}
 use Rattle.std.specs.Prelude.{OnOk, IfErr, not, ◌↔◌, ◌⊎◌, ◌<ℤ◌, ◌*ℤ◌, ◌-ℤ◌, int_lt, if◌then◌else◌, bytes_eq, codes}
 use Rattle.std.specs.List.{list_all}
 use Rattle.std.specs.Option.{ok_or}
@@ -22,6 +22,8 @@ use Rattle.optimality.specs.LineMeaning.{Told, BoundLine, SplitLine, natural_tol
 use Rattle.optimality.specs.Telling.{TellsCertificate, IsShownBy}
 use Rattle.optimality.specs.Branches.{Branch, At, cuts_above, closed}
 use Rattle.optimality.specs.Verdict.{taken, fault_from, certificate_fault}
+use Rattle.optimality.specs.Only.{all_others, only_fault, IsShownOnlyBy}
+use Rattle.program_rows.specs.Points.{objective}
 
 -- ---------- what lines still have to tell ----------
 
@@ -184,13 +186,21 @@ verdict p least text =
       (λ h. all.1 (h.0, [], h.1, h.2, refl)),
     )
 
+-- the same behind the split from a point
+pub only-verdict : (p : Table) (values : List Bool) (text : List ℕ) → (only_fault p values text ≡ None) ↔ IsShownOnlyBy p values text
+only-verdict p values text =
+    let all = stands p (objective p values +ℤ pos 1) (lines_of text) (Some (all_others p values ∷ [])) 0 in (
+      (λ h. let a = all.0 h in (a.0, subst (λ (left : List (List ℕ)). TellsCertificate p 1 a.0 (telling_lines (lines_of text)) left) a.4 a.2, a.3)),
+      (λ h. all.1 (h.0, [], h.1, h.2, refl)),
+    )
+
 -- ---------- an answer ----------
 
-pub shown : (p : Table) (least : ℤ) (text : List ℕ) (r : Result (Unit {0}) CertificateFault) → IsVerdict r (certificate_fault p least text) → OnOk r (IsShownBy p least text)
-shown p least text (Ok u) h = (verdict p least text).0 h
-shown p least text (Err fault) h = tt
+pub shown : {S : Type 0} (first : Option (ℕ × FaultKind)) (r : Result (Unit {0}) CertificateFault) → (first ≡ None) ↔ S → IsVerdict r first → OnOk r S
+shown first (Ok u) exact h = exact.0 h
+shown first (Err fault) exact h = tt
 
-pub not-shown : (p : Table) (least : ℤ) (text : List ℕ) (r : Result (Unit {0}) CertificateFault) → IsVerdict r (certificate_fault p least text) → IfErr r (λ fault. IsLimit fault.kind ⊎ ¬ IsShownBy p least text)
-not-shown p least text (Ok u) h = tt
-not-shown p least text (Err fault) (inl limit) = inl limit
-not-shown p least text (Err fault) (inr e) = inr (λ s. let none = (verdict p least text).1 s in cc)
+pub not-shown : {S : Type 0} (first : Option (ℕ × FaultKind)) (r : Result (Unit {0}) CertificateFault) → (first ≡ None) ↔ S → IsVerdict r first → IfErr r (λ fault. IsLimit fault.kind ⊎ ¬ S)
+not-shown first (Ok u) exact h = tt
+not-shown first (Err fault) exact (inl limit) = inl limit
+not-shown first (Err fault) exact (inr e) = inr (λ s. let none = exact.1 s in cc)

@@ -9,4 +9,5 @@ pub mod Answers
 pub mod Branches
 pub mod Verdict
 pub mod CertificateFaultText
+pub mod Only
 pub mod inside

@@ -1,5 +1,5 @@
 -- The first faulty line of a certificate.
-use Rattle.std.specs.Prelude.{ℕ, suc, false, List, [], ◌∷◌, length, ℤ, pos, ◌-ℤ◌, ◌*ℤ◌, int_lt, Option, Some, None, Result, Ok, Err, if◌then◌else◌}
+use Rattle.std.specs.Prelude.{ℕ, suc, false, List, [], ◌∷◌, length, ℤ, pos, ◌-ℤ◌, ◌*ℤ◌, int_lt, Option, Some, Result, Ok, Err, if◌then◌else◌}
 use Rattle.std.specs.Option.{ok_or, option_map}
 use Rattle.auction_terms.specs.Lines.{lines_of}
 use Rattle.program_rows.specs.Program.{Table}

@@ -16,6 +16,7 @@ mod lines;
 mod names;
 mod naturals;
 mod numbers;
+mod only;
 mod open_split;
 mod optimum;
 mod reader;
@@ -27,5 +28,6 @@ mod split_line;
 mod terms;
 
 pub use fault::{CertificateFault, FaultKind};
+pub use only::check_only;
 pub use optimum::check_optimum;
 pub use reader::check_certificate;

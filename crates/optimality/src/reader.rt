@@ -1,18 +1,21 @@
 //! One pass over the lines of a certificate.
 
-ghost use Rattle.std.specs.Prelude.{◌≡◌, ◌⊎◌, IfErr, IfOk, OnOk};
+ghost use Rattle.std.specs.Prelude.{◌≡◌, ◌⊎◌, IfErr, IfOk, Ok, OnOk, Some};
 ghost use Rattle.optimality.specs.Answers.{IsLimit, IsVerdict};
 ghost use Rattle.optimality.specs.inside.Answers.{IsRefusedCertificate};
 ghost use Rattle.optimality.specs.inside.Checking.{IsPrepared};
 ghost use Rattle.optimality.specs.Laws.{IsBound};
 ghost use Rattle.optimality.specs.Telling.{IsShownBy};
-ghost use Rattle.optimality.specs.Verdict.{certificate_fault};
+ghost use Rattle.optimality.specs.Verdict.{certificate_fault, fault_from};
+ghost use Rattle.optimality.specs.inside.Branches.{branches_of};
+ghost use Rattle.auction_terms.specs.Lines.{lines_of};
 
 use crate::checker::Checker;
 use crate::fault::{CertificateFault, FaultKind};
 use crate::limit::Limit;
 use crate::lines::take_any;
 use crate::names::{column_names, row_names};
+use crate::open_split::OpenSplit;
 use crate::refusal::Refusal;
 use crate::row_forms::row_forms;
 use auction_terms::LineReader;
@@ -20,7 +23,7 @@ use program_rows::{Program, Seeded};
 use std::alloc::{AllocError, Global};
 use std::cell::Cell;
 
-fn refused(line: usize, refusal: Refusal) -> CertificateFault
+pub fn refused(line: usize, refusal: Refusal) -> CertificateFault
     ensures { IsRefusedCertificate line refusal result }
 {
     let kind = match refusal {
@@ -31,13 +34,18 @@ fn refused(line: usize, refusal: Refusal) -> CertificateFault
     CertificateFault { line, kind }
 }
 
-fn check_lines(checker: &Checker, text: &[u8]) -> Result<(), CertificateFault>
+/// Checks that a text tells a certificate below the splits that are open.
+pub fn check_lines(
+    checker: &Checker,
+    open_splits: Vec<OpenSplit>,
+    text: &[u8],
+) -> Result<(), CertificateFault>
     requires { IsPrepared checker.now }
-    ensures { IsVerdict result (certificate_fault checker.now.program.now checker.now.least
-        text.now) }
+    ensures { IsVerdict result (fault_from checker.now.program.now checker.now.least
+        (Ok (Some (branches_of open_splits.items))) 0 (lines_of text.now)) }
 {
     let mut numbers = Vec::new(checker.alloc);
-    let mut splits = Vec::new(checker.alloc);
+    let mut splits = open_splits;
     let mut is_last = false;
     let mut lines = LineReader::new(text);
     let mut place: usize = 0;
@@ -57,7 +65,7 @@ fn check_lines(checker: &Checker, text: &[u8]) -> Result<(), CertificateFault>
     })
 }
 
-fn new_checker(alloc: Global, program: &Program, least: i128) -> Result<Checker<'_>, AllocError>
+pub fn new_checker(alloc: Global, program: &Program, least: i128) -> Result<Checker<'_>, AllocError>
     ensures prepared { IfOk result (λ checker. IsPrepared checker) }
     ensures program { IfOk result (λ checker. checker.program.now ≡ program.now) }
     ensures least { IfOk result (λ checker. checker.least ≡ least) }
@@ -97,5 +105,5 @@ pub fn check_certificate(
             kind: FaultKind::OutOfMemory,
         });
     };
-    check_lines(&checker, text)
+    check_lines(&checker, Vec::new(alloc), text)
 }

@@ -1,5 +1,5 @@
 use crate::worked::row;
-use optimality::{FaultKind, check_certificate, check_optimum};
+use optimality::{FaultKind, check_certificate, check_only, check_optimum};
 use program_rows::{Bounds, Columns, Point, Program, ProgramParts};
 use std::alloc::{AllocError, Global};
 use std::test::Fail;
@@ -71,5 +71,43 @@ fn a_side_without_points_is_shown_at_scale_0(rt: HostRuntime) -> Result<(), Fail
     let text =
         b"split 3 X1 1 X2 1 X3 1\nsplit 0 X1 1\nbound 1 0 2 B 2\nbound 1 0 2 A1 2 A2 2\nbound 0 1\n";
     assert!(rt; fault(&rt, text, 3)? == None);
+    Ok(())
+}
+
+/// Two columns, of which one at most is 1, and a fixed one.
+fn pair(alloc: Global) -> Result<Program, AllocError> {
+    let mut rows = Vec::new(alloc);
+    rows.push(row(alloc, b"A", 1)?)?;
+    let mut columns = Columns::new(alloc);
+    columns.push(b"X1", Bounds::ZeroOrOne, -2, &[(0, 1)])?;
+    columns.push(b"X2", Bounds::ZeroOrOne, -1, &[(0, 1)])?;
+    columns.push(b"K", Bounds::One, 5, &[])?;
+    Ok(Program::from_parts(ProgramParts {
+        objective_name: Vec::from_slice(alloc, b"OBJ")?,
+        rows,
+        columns,
+    }))
+}
+
+#[test]
+fn the_only_best_point_is_shown_by_its_split(rt: HostRuntime) -> Result<(), Fail> {
+    let program = pair(rt.alloc())?;
+    let best = Point::new([true, false, true].to_vec(rt.alloc())?);
+    if best.values().len() == program.column_count() {
+        assert!(rt; check_only(rt.alloc(), b"bound 2 1 A 3\n", &program, &best).is_ok());
+        assert!(rt; check_only(rt.alloc(), b"bound 2 0 A 3\n", &program, &best).is_err());
+    }
+    Ok(())
+}
+
+#[test]
+fn a_point_that_ties_isnt_shown_to_be_the_only_one(rt: HostRuntime) -> Result<(), Fail> {
+    let program = odd_cycle(rt.alloc())?;
+    let best = Point::new([true, false, false, true].to_vec(rt.alloc())?);
+    if best.values().len() == program.column_count() {
+        let text = b"split 0 X1 1\nbound 1 0 2 B 2\nbound 1 0 2 A1 2 A2 2\n".as_slice();
+        let fault = check_only(rt.alloc(), text, &program, &best).err();
+        assert!(rt; fault.map(|fault| (fault.line, fault.kind)) == Some((2, FaultKind::NotShown)));
+    }
     Ok(())
 }

@@ -1,0 +1,5 @@
+use Rattle.optimality.proofs.VerdictLaws.{only-verdict}
+use Rattle.optimality.proofs.laws.a_faultless_text_shows_the_only_point.Goals as goal
+
+pub returns : goal.returns
+returns c = only-verdict

@@ -1,0 +1,164 @@
+//! Whether a point is the only one of its objective or less.
+
+ghost use Rattle.std.specs.Prelude.{◌≡◌, ◌⊎◌, ◌+◌, ◌+ℤ◌, ◌++◌, ◌∷◌, ◌<◌, ◌≤◌, [], IfErr, IfOk, OnOk, drop, if◌then◌else◌, length, neg_ℤ, pos};
+ghost use Rattle.optimality.specs.Answers.{IsLimit, IsVerdict};
+ghost use Rattle.optimality.specs.Only as only;
+ghost use Rattle.optimality.specs.Only.{IsShownOnlyBy, all_others, free_ones, only_fault};
+ghost use Rattle.optimality.specs.inside.Branches.{branch_of, branches_of};
+ghost use Rattle.optimality.specs.inside.Checking.{IsPrepared};
+ghost use Rattle.program_rows.specs.Only.{IsOnlyLeast};
+ghost use Rattle.program_rows.specs.Points.{IsPoint, objective};
+
+use crate::arithmetic::plus;
+use crate::checker::Checker;
+use crate::fault::CertificateFault;
+use crate::limit::Limit;
+use crate::open_split::OpenSplit;
+use crate::reader::{check_lines, new_checker, refused};
+use crate::refusal::Refusal;
+use crate::row_forms::Form;
+use program_rows::{Bounds, Point, Program};
+use std::alloc::{AllocError, Global};
+
+fn is_zero_or_one(bounds: Bounds) -> bool
+    ensures { result ≡ only.is_zero_or_one bounds }
+{
+    match bounds {
+        Bounds::ZeroOrOne => true,
+        Bounds::Zero | Bounds::One => false,
+    }
+}
+
+/// The number of a column that is 1, or isn't, in the split's form.
+fn number_of(is_one: bool) -> i64
+    ensures { result ≡ (if is_one then neg_ℤ (pos 1) else pos 1) }
+{
+    if is_one { -1 } else { 1 }
+}
+
+/// Adds the term of a column, if it may be 0 or 1.
+fn add_term(
+    form: &mut Form,
+    program: &Program,
+    values: &Point,
+    column: usize,
+) -> Result<(), AllocError>
+    requires sized { length values.now ≡ length program.now.columns }
+    requires within { column < length program.now.columns }
+    ensures { OnOk result (form.new.items ++ only.distance (column + 1)
+        (drop (column + 1) program.now.columns) (drop (column + 1) values.now)
+        ≡ form.old.items ++ only.distance column (drop column program.now.columns)
+        (drop column values.now)) }
+{
+    let bounds = program.bounds(column);
+    let value = values.value(column);
+    if is_zero_or_one(bounds) {
+        form.push((column, number_of(value)))?;
+    }
+    Ok(())
+}
+
+/// The form of the split from a point.
+fn distance(alloc: Global, program: &Program, values: &Point) -> Result<Form, AllocError>
+    requires { length values.now ≡ length program.now.columns }
+    ensures { IfOk result (λ form. form.items ≡ only.distance 0 program.now.columns values.now) }
+{
+    let mut form = Vec::new(alloc);
+    for column in 0..program.column_count() {
+        add_term(&mut form, program, values, column)?;
+    }
+    Ok(form)
+}
+
+/// 1 where the column may be 0 or 1 and is 1, else 0.
+fn free_one(program: &Program, values: &Point, column: usize) -> usize
+    requires sized { length values.now ≡ length program.now.columns }
+    requires within { column < length program.now.columns }
+    ensures counted { free_ones (drop column program.now.columns) (drop column values.now)
+        ≡ result + free_ones (drop (column + 1) program.now.columns)
+        (drop (column + 1) values.now) }
+    ensures small { result ≤ 1 }
+{
+    let bounds = program.bounds(column);
+    let value = values.value(column);
+    if !is_zero_or_one(bounds) {
+        return 0;
+    }
+    if value { 1 } else { 0 }
+}
+
+/// How many of the columns that may be 0 or 1 are 1.
+fn free_ones(program: &Program, values: &Point) -> Result<i64, Limit>
+    requires { length values.now ≡ length program.now.columns }
+    ensures { IfOk result (λ ones. ones ≡ pos (free_ones program.now.columns values.now)) }
+{
+    let mut ones: usize = 0;
+    for column in 0..program.column_count() {
+        ones += free_one(program, values, column);
+    }
+    i64::try_from(ones).map_err(|_| Limit::TooLarge)
+}
+
+/// The split from a point, at the side of all others.
+fn all_others(alloc: Global, program: &Program, values: &Point) -> Result<OpenSplit, Limit>
+    requires { length values.now ≡ length program.now.columns }
+    ensures { IfOk result (λ split. branch_of split ≡ all_others program.now values.now) }
+{
+    let form = distance(alloc, program, values)?;
+    let ones = free_ones(program, values)?;
+    Ok(OpenSplit {
+        form,
+        most: -ones,
+        is_high: true,
+    })
+}
+
+/// What a certificate is checked against, and the splits that are open above it.
+#[derive(Drop)]
+struct BehindSplit<'p> {
+    checker: Checker<'p>,
+    splits: Vec<OpenSplit>,
+}
+
+fn behind_split<'p>(
+    alloc: Global,
+    program: &'p Program,
+    values: &Point,
+) -> Result<BehindSplit<'p>, Limit>
+    requires { length values.now ≡ length program.now.columns }
+    ensures prepared { IfOk result (λ start. IsPrepared start.checker) }
+    ensures program { IfOk result (λ start. start.checker.program.now ≡ program.now) }
+    ensures least { IfOk result (λ start. start.checker.least
+        ≡ objective program.now values.now +ℤ pos 1) }
+    ensures splits { IfOk result (λ start. branches_of start.splits.items
+        ≡ all_others program.now values.now ∷ []) }
+{
+    let least = plus(program.objective(values), 1)?;
+    let split = all_others(alloc, program, values)?;
+    let checker = new_checker(alloc, program, least)?;
+    let mut splits = Vec::new(alloc);
+    splits.push(split)?;
+    Ok(BehindSplit { checker, splits })
+}
+
+/// Checks that a text tells a certificate that each other point of the program has a higher objective than these values. It is
+/// judged behind a split that parts the values from all others, so that the first multiplier of each leaf is that split's.
+pub fn check_only(
+    alloc: Global,
+    text: &[u8],
+    program: &Program,
+    values: &Point,
+) -> Result<(), CertificateFault>
+    requires { length values.now ≡ length program.now.columns }
+    ensures only { OnOk result (IsPoint program.now values.now
+        → IsOnlyLeast program.now values.now) }
+    ensures shown { OnOk result (IsShownOnlyBy program.now values.now text.now) }
+    ensures refused { IfErr result (λ fault. IsLimit fault.kind
+        ⊎ ¬ IsShownOnlyBy program.now values.now text.now) }
+    ensures first { IsVerdict result (only_fault program.now values.now text.now) }
+{
+    match behind_split(alloc, program, values) {
+        Ok(BehindSplit { checker, splits }) => check_lines(&checker, splits, text),
+        Err(limit) => Err(refused(0, Refusal::Stopped(limit))),
+    }
+}
