@@ -78,7 +78,7 @@ pub same_sum : (f : Choice → ℕ) (choices : List Choice) → AllByRecursion I
 same_sum f choices h = sum_between f choices 1 MOST_BIDDERS
     ∙ sum_agree (λ c. cond (is_between 1 MOST_BIDDERS c.bidder) (f c) 0) f choices (all_agree IsBidder (λ c. cond (is_between 1 MOST_BIDDERS c.bidder) (f c) 0 ≡ f c) choices (λ c b. all_between c.bidder (f c) b.0 b.1) h)
 
-same_each : (f g : ℕ → ℕ) → ((n : ℕ) → f n ≡ g n) → (ns : List ℕ) → map f ns ≡ map g ns
+pub same_each : (f g : ℕ → ℕ) → ((n : ℕ) → f n ≡ g n) → (ns : List ℕ) → map f ns ≡ map g ns
 same_each f g each [] = refl
 same_each f g each (n ∷ ns) = ap₂ (λ (x : ℕ) (xs : List ℕ). x ∷ xs) (each n) (same_each f g each ns)
 

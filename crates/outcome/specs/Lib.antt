@@ -5,5 +5,6 @@ pub mod Coming
 pub mod Sale
 pub mod Report
 pub mod Costs
+pub mod Ties
 pub mod SolutionFaultText
 pub mod inside

@@ -1,3 +1,4 @@
 pub mod Reading
 pub mod Values
+pub mod Rivals
 pub mod Winning

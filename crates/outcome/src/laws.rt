@@ -6,6 +6,7 @@ ghost use Rattle.outcome.specs.Coming.{AnswersOfSolversComeBack, PointsComeBack,
 ghost use Rattle.outcome.specs.Costs.{CostsAreBounded, CostsAreOwn, CostsCoverLots};
 ghost use Rattle.outcome.specs.Solution.{solution_line_fault};
 ghost use Rattle.outcome.specs.PointAllocation.{TakesWhatIsNamed};
+ghost use Rattle.outcome.specs.Ties.{OnlyFirstSettlesCosts, OnlyFirstTellsCosts, OthersDiffer, OthersTie, RivalsTie, TheOnlyIsGreatest};
 
 /// The lines of a solution have the fault of the first of them with a fault.
 pub fn lines_of_solutions_tell_their_first_fault()
@@ -55,4 +56,34 @@ pub fn a_cost_covers_the_lots()
 /// And it is the auction's own: it depends on the greatest totals with the group and without it, and on the amounts of the group's own bids in the first allocation, and not on which allocations of greatest total were found.
 pub fn a_cost_is_the_auctions_own()
     ensures { CostsAreOwn }
+{}
+
+/// An allocation that is the only one of at least its total is of greatest total.
+pub fn the_only_is_greatest()
+    ensures { TheOnlyIsGreatest }
+{}
+
+/// Where one is the only one with nobody left out, all of greatest total have its choices, and costs don't depend on which allocations of greatest total are taken.
+pub fn the_only_first_settles_costs()
+    ensures { OnlyFirstSettlesCosts }
+{}
+
+/// A group's cost then follows from the lots, the book and the group: it is told by the greatest totals with the group and without it, and by the amounts of the group's own bids in the only first allocation.
+pub fn the_only_first_tells_costs()
+    ensures { OnlyFirstTellsCosts }
+{}
+
+/// Allocations of rising bidders that differ in a place aren't the same in another order.
+pub fn other_choices_differ()
+    ensures { OthersDiffer }
+{}
+
+/// Another feasible allocation of rising bidders, whose total is no lower than the greatest, ties.
+pub fn others_tie()
+    ensures { OthersTie }
+{}
+
+/// A bid that does as well in a winner's place ties.
+pub fn a_rival_ties()
+    ensures { RivalsTie }
 {}

@@ -12,7 +12,7 @@ use auction_terms::Choice;
 use bid_desk::ClosedBook;
 
 /// How many lots of a category the choices take.
-fn lots_taken(book: &ClosedBook, category: usize, choices: &[Choice]) -> u128
+pub fn lots_taken(book: &ClosedBook, category: usize, choices: &[Choice]) -> u128
     ensures load { result ≡ sum_by (quantity_of (book_of book.now) category) choices.now }
     ensures small { result ≤ length choices.now * 2 ^ 16 }
 {

@@ -1,0 +1,6 @@
+use Rattle.auction_terms.proofs.OnlyLaws.{rivals_do_as_well}
+use Rattle.outcome.proofs.TieLaws.{rivals_tie}
+use Rattle.outcome.proofs.laws.a_rival_ties.Goals as goal
+
+pub returns : goal.returns
+returns c = rivals_tie rivals_do_as_well
