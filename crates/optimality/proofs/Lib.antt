@@ -8,4 +8,4 @@ pub mod TermLaws
 pub mod BranchLaws
 pub mod VerdictLaws
 pub mod ProductBounds
-mod OnlyLaws
+pub mod OnlyLaws

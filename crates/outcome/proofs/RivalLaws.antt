@@ -1,14 +1,13 @@
 -- A bid in a winner's place: what its total is, and which of the winner's other bids is the first that does as well.
-use Rattle.std.proofs.Common.{◌≡◌, ℕ, zero, suc, ◌+◌, ◌-◌, ◌<◌, ◌≤◌, Bool, true, false, not, ◌&&◌, ◌==◌, cond, List, [], ◌∷◌, ◌++◌, Option, Some, None, is_some, slice_get, get_or, drop, length, map, refl, sym, ap, ap₂, ◌∙◌, subst, arith, eqb-true, eq-eqb, add-one, pos, ℤ, ◌-ℤ◌, drop-cons}
+use Rattle.std.proofs.Common.{◌≡◌, ℕ, zero, suc, ◌+◌, ◌-◌, ◌<◌, ◌≤◌, Bool, true, false, not, ◌&&◌, ◌==◌, cond, List, [], ◌∷◌, Option, Some, None, is_some, slice_get, get_or, drop, length, map, refl, sym, ap, ap₂, ◌∙◌, arith, eqb-true, eq-eqb, add-one, pos, ℤ, ◌-ℤ◌, drop-cons}
 use Rattle.std.specs.Prelude.{count_by, sum_by, filter, find, flat_map}
 use Rattle.std.specs.Cmp.{both_ways as same_answer}
 use Rattle.std.specs.List.{AllByRecursion, range_with_len}
 use Rattle.std.specs.Option.{option_map, option_map_or, option_or}
 use Rattle.std.specs.Ordering.{int_eq}
-use Rattle.std.proofs.lemmas.Bool.{and_parts, and_right, both_ways, cases_Bool, cond-true, cond-false, ne_eqb, not_from_false}
+use Rattle.std.proofs.lemmas.Bool.{and_right, cond-true, cond-false, ne_eqb, not_from_false}
 use Rattle.std.proofs.lemmas.Bool.Decides.{Decides-int_eq}
 use Rattle.std.proofs.lemmas.Int.{ints}
-use Rattle.std.proofs.lemmas.List.Elements.{recursion_from_All}
 use Rattle.std.proofs.lemmas.List.Folds.{find-append}
 use Rattle.std.proofs.lemmas.List.FromFn.{fill_by_all}
 use Rattle.std.proofs.lemmas.List.Sums.{sum_by-cons, get_or-le-sum_by}
@@ -18,10 +17,10 @@ use Rattle.auction_terms.specs.declared.choices.Choice.{Choice}
 use Rattle.auction_terms.specs.Packages.{Lots, fits, left, weighed, worth, worth_of_all}
 use Rattle.auction_terms.specs.Domination.{net}
 use Rattle.auction_terms.specs.Allocations.{Book, form_of, bid_at, bid_of, amount_of, quantity_of, weighed_choice, loads, total, IsFeasible, IsSized}
-use Rattle.auction_terms.specs.Only.{does_as_well, first_rival, other_bids, with_bid}
+use Rattle.auction_terms.specs.Only.{does_as_well, other_bids, with_bid}
 use Rattle.auction_terms.proofs.AllocationLaws.{good, loads_at, loads_length, total_is, value_of, worths}
 use Rattle.auction_terms.proofs.OfferLaws.{all_agree, all_filter}
-use Rattle.outcome.specs.inside.Rivals.{both_packages, first_rival_number, first_suiting, other_numbers, rival_of, suits}
+use Rattle.outcome.specs.inside.Rivals.{both_packages, first_suiting, other_numbers, rival_of, suits}
 use Rattle.outcome.specs.PointAllocation.{HasRisingBidders}
 use Rattle.outcome.proofs.ReportLaws.{same_at}
 use Rattle.outcome.proofs.QuantityLaws.{both-at, both-length, left-at, left-length}

@@ -1,6 +1,6 @@
 -- What ties, and what an only allocation settles.
-use Rattle.std.proofs.Common.{◌≡◌, ℕ, zero, suc, ◌+◌, ◌<◌, ◌≤◌, Bool, true, false, ◌&&◌, ◌==◌, cond, List, [], ◌∷◌, Some, length, map, refl, sym, ap, ap₂, ◌∙◌, arith, le_refl, ⊎_elim, eqb-true, eq-eqb, pos, ◌-ℤ◌}
-use Rattle.std.specs.Prelude.{IsPermutation, sum_by, count_by, filter}
+use Rattle.std.proofs.Common.{◌≡◌, ℕ, ◌+◌, ◌<◌, ◌≤◌, Bool, true, false, ◌&&◌, ◌==◌, cond, List, [], ◌∷◌, length, refl, sym, ap, ap₂, ◌∙◌, arith, ⊎_elim, eqb-true, eq-eqb, pos, ◌-ℤ◌}
+use Rattle.std.specs.Prelude.{IsPermutation, sum_by, count_by}
 use Rattle.std.specs.List.{AllByRecursion, range_with_len}
 use Rattle.std.proofs.lemmas.Bool.{and_from, and_parts, both_ways, cases_Bool, cases_lt, cases_order}
 use Rattle.std.proofs.lemmas.Bool.Decides.{nat_tests}
@@ -10,7 +10,7 @@ use Rattle.auction_terms.specs.declared.choices.Choice.{Choice}
 use Rattle.auction_terms.specs.Groups.{has}
 use Rattle.auction_terms.specs.Packages.{Lots, left, worth}
 use Rattle.auction_terms.specs.Allocations.{Book, amount_of, quantity_of, loads, total, IsFeasible}
-use Rattle.auction_terms.specs.Only.{IsOnly, DoesAsWell, RivalsDoAsWell, with_bid}
+use Rattle.auction_terms.specs.Only.{IsOnly, RivalsDoAsWell, with_bid}
 use Rattle.auction_terms.proofs.OfferLaws.{sum_filter, all_agree}
 use Rattle.program_rows.specs.Faithful.{IsGreatest}
 use Rattle.outcome.specs.PointAllocation.{HasRisingBidders, is_choice}

@@ -9,7 +9,6 @@ use Rattle.std.proofs.lemmas.List.{length-map}
 use Rattle.std.proofs.lemmas.List.Sums.{count_by-le-length}
 use Rattle.std.proofs.lemmas.List.Splits.{length-slice_split}
 use Rattle.auction_terms.specs.FirstFault.{first_fault}
-use Rattle.std.specs.Option.{option_or}
 use Rattle.auction_terms.specs.Stages.{Answers, unless, and_then}
 use Rattle.auction_terms.proofs.FirstFaultFacts.{answers-more, answers-told}
 use Rattle.auction_terms.specs.Lines.{is_line_feed, lines_of, without_empty_last}

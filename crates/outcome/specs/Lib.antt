@@ -4,6 +4,7 @@ pub mod PointAllocation
 pub mod Coming
 pub mod Sale
 pub mod Report
+pub mod Uniqueness
 pub mod Costs
 pub mod Ties
 pub mod SolutionFaultText

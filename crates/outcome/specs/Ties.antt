@@ -1,5 +1,5 @@
 -- Ties of allocations of greatest total, and what holds where one of them is the only one.
-use Rattle.std.specs.Prelude.{◌≡◌, ℕ, ◌≤◌, Bool, false, ◌&&◌, ◌==◌, List, Option, Some, IsPermutation, ℤ}
+use Rattle.std.specs.Prelude.{◌≡◌, ℕ, ◌≤◌, Bool, false, ◌&&◌, ◌==◌, List, Some, IsPermutation, ℤ}
 use Rattle.std.specs.Cmp.Lexicographic.{pointwise}
 use Rattle.auction_terms.specs.Groups.{has}
 use Rattle.auction_terms.specs.declared.choices.Choice.{Choice}

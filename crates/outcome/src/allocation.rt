@@ -1,5 +1,8 @@
 //! Allocations as lists of choices.
 
+ghost use Rattle.std.specs.Prelude.{◌≡◌};
+ghost use Rattle.outcome.specs.Ties.{same_choices};
+
 use auction_terms::Choice;
 use std::marker::Model;
 
@@ -39,4 +42,11 @@ impl Allocation {
     {
         self.choices.as_slice()
     }
+}
+
+/// Whether the same bidders win the same bids.
+pub fn same_winners(one: &Allocation, other: &Allocation) -> bool
+    ensures { result ≡ same_choices one.now other.now }
+{
+    one.choices() == other.choices()
 }

@@ -1,6 +1,6 @@
 //! Writing allocations and reports.
 
-ghost use Rattle.std.specs.Prelude.{◌≡◌, ◌<◌, length, false, true, OnOk, OnErr, IfErr};
+ghost use Rattle.std.specs.Prelude.{◌≡◌, ◌<◌, ◌++◌, length, false, true, OnOk, OnErr, IfErr};
 ghost use Rattle.std.specs.Io.KnownBytes.{Appends};
 ghost use Rattle.auction_terms.specs.Allocations.{IsFeasible};
 ghost use Rattle.auction_terms.specs.Groups.{starts_empty};
@@ -11,9 +11,11 @@ ghost use Rattle.mps_text.specs.Adds.{Adds};
 ghost use Rattle.mps_text.specs.Written.{written_of};
 ghost use Rattle.outcome.specs.Sale.{sale_of};
 ghost use Rattle.outcome.specs.Report.{allocation_text, report_text};
+ghost use Rattle.outcome.specs.Uniqueness.{uniqueness_text};
 
 use crate::allocation::Allocation;
 use crate::reporting::add_groups;
+use crate::uniqueness::{Uniqueness, add_uniqueness};
 use crate::winners::add_allocation;
 use auction_terms::Groups;
 use bid_desk::ClosedBook;
@@ -53,6 +55,24 @@ fn add_report<S: Sink>(
     add_groups(writer, book, allocations[0].choices(), groups, allocations);
 }
 
+/// Adds a report, and behind it what is known of other outcomes.
+fn add_report_with<S: Sink>(
+    writer: &mut Writer<'_, S>,
+    book: &ClosedBook,
+    groups: &Groups,
+    allocations: &[Allocation],
+    uniqueness: &Uniqueness,
+)
+    requires count { length groups.now ≡ length allocations.now }
+    requires some { 0 < length allocations.now }
+    ensures { Adds S.taken S.failures writer.old writer.new
+        (report_text (sale_of book.now) groups.now allocations.now
+        ++ uniqueness_text (sale_of book.now) uniqueness.now) }
+{
+    add_report(writer, book, groups, allocations);
+    add_uniqueness(writer, book, uniqueness);
+}
+
 /// Writes an allocation for each group, the first of them for the empty group: each with its total and the group's opportunity cost. It takes no memory.
 pub fn report<S: Sink>(
     book: &ClosedBook,
@@ -70,5 +90,28 @@ pub fn report<S: Sink>(
 {
     let mut writer = Writer::new(sink);
     add_report(&mut writer, book, groups, allocations);
+    writer.flush()
+}
+
+/// Writes the same report, and behind it what is known of other outcomes that are as good. It takes no memory.
+pub fn report_with<S: Sink>(
+    book: &ClosedBook,
+    groups: &Groups,
+    allocations: &[Allocation],
+    uniqueness: &Uniqueness,
+    sink: &mut S,
+) -> Result<(), WriteFault>
+    requires count { length groups.now ≡ length allocations.now }
+    requires first { starts_empty groups.now ≡ true }
+    ensures ok { OnOk result (Appends (S.taken sink.old) (S.taken sink.new)
+        (report_text (sale_of book.now) groups.now allocations.now
+        ++ uniqueness_text (sale_of book.now) uniqueness.now)) }
+    ensures err { IfErr result (λ e. SentFront (S.taken sink.old) (S.taken sink.new)
+        (report_text (sale_of book.now) groups.now allocations.now
+        ++ uniqueness_text (sale_of book.now) uniqueness.now) (written_of e)) }
+    ensures failed { OnErr result (HasFailed (S.failures sink.old) (S.failures sink.new)) }
+{
+    let mut writer = Writer::new(sink);
+    add_report_with(&mut writer, book, groups, allocations, uniqueness);
     writer.flush()
 }

@@ -21,7 +21,7 @@ use Rattle.program_rows.proofs.FaithfulLaws.{back_is, chosen, counted_members, e
 
 -- ---------- lists that have each choice as often ----------
 
-abbrev times : Choice → List Choice → ℕ
+abbrev pub times : Choice → List Choice → ℕ
 times c xs = sum_by (λ d. cond (same_choice c d) 1 0) xs
 
 same-itself : (c : Choice) → same_choice c c ≡ true
@@ -53,7 +53,7 @@ stands : (c : Choice) (xs : List Choice) → 1 ≤ times c xs → Stands c xs
 stands c [] h = absurd (omega arith)
 stands c (x ∷ xs) h = stands-here-or-later c x xs (same_choice c x) refl h (stands c xs)
 
-as-often : (xs ys : List Choice) → ((c : Choice) → times c xs ≡ times c ys) → IsPermutation xs ys
+pub as-often : (xs ys : List Choice) → ((c : Choice) → times c xs ≡ times c ys) → IsPermutation xs ys
 as-often [] [] h = IsPermutation-refl []
 as-often [] (y ∷ ys) h =
     let here : times y [] ≡ times y (y ∷ ys) = h y in

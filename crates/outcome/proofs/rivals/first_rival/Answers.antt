@@ -1,4 +1,4 @@
-use Rattle.std.proofs.Common.{◌≡◌, ◌+◌, ◌∙◌, Option, Some, None, length, map, sym, ap, arith}
+use Rattle.std.proofs.Common.{◌+◌, ◌∙◌, Option, length, sym, ap, arith}
 use Rattle.std.specs.Option.{option_or}
 use Rattle.std.proofs.lemmas.List.{length-map}
 use Rattle.auction_terms.specs.declared.choices.Choice.{Choice}

@@ -1,11 +1,9 @@
-use Rattle.std.proofs.Common.{◌≡◌, ◌+◌, ◌-◌, suc, ◌<◌, ◌∙◌, Option, Some, None, ℕ, List, length, map, refl, sym, ap, ap₂, arith, ℤ, w64, rules}
+use Rattle.std.proofs.Common.{◌≡◌, ◌+◌, ◌-◌, suc, ◌∙◌, Option, Some, None, ℕ, List, length, refl, sym, ap, ap₂, arith, ℤ, w64, rules}
 use mir.Val.{SFits}
 use Rattle.std.specs.Option.{option_map_or}
 use Rattle.std.proofs.lemmas.Int.{to_z-of_z}
 use Rattle.std.proofs.lemmas.Option.{slice_get_read}
-use Rattle.std.proofs.lemmas.List.{length-map}
 use Rattle.auction_terms.specs.declared.bids.Bid.{Bid}
-use Rattle.auction_terms.specs.declared.rules.Category.{Category}
 use Rattle.auction_terms.specs.Allocations.{bid_at}
 use Rattle.auction_terms.specs.Domination.{net}
 use Rattle.auction_terms.specs.Packages.{left}

@@ -1,4 +1,4 @@
-use Rattle.std.proofs.Common.{◌≡◌, ◌∙◌, Option, ℕ, sym, ap, ℤ, w64}
+use Rattle.std.proofs.Common.{◌∙◌, sym, ap, ℤ, w64}
 use Rattle.std.proofs.lemmas.Int.{to_z-of_z}
 use Rattle.auction_terms.specs.Terms.{lots_in}
 use Rattle.outcome.specs.inside.Rivals.{first_suiting}

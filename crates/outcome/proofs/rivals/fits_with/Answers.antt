@@ -1,5 +1,4 @@
-use Rattle.std.proofs.Common.{◌≡◌, ◌∙◌, List, ℕ, true, false, length, map, sym, ap, arith}
-use Rattle.std.proofs.lemmas.List.{length-map}
+use Rattle.std.proofs.Common.{◌≡◌, ◌∙◌, length, sym, ap, arith}
 use Rattle.auction_terms.specs.Terms.{Terms, lots_in}
 use Rattle.outcome.specs.inside.Rivals.{both_packages}
 use Rattle.outcome.proofs.QuantityLaws.{both-length, large-fails}

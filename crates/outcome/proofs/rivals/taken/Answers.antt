@@ -1,4 +1,4 @@
-use Rattle.std.proofs.Common.{◌≡◌, ◌+◌, ◌<◌, ◌≤◌, ◌∙◌, ◌++◌, ℕ, List, [], ◌∷◌, true, length, map, get_or, refl, sym, ap, subst, arith, rules}
+use Rattle.std.proofs.Common.{◌≡◌, ◌<◌, ◌∙◌, ◌++◌, ℕ, List, [], ◌∷◌, length, map, sym, ap, subst, arith, rules}
 use Rattle.std.specs.Prelude.{sum_by}
 use Rattle.std.specs.List.{range_with_len}
 use Rattle.std.proofs.lemmas.List.{length-map}
@@ -9,7 +9,7 @@ use Rattle.auction_terms.specs.Terms.{Terms, lots_in}
 use Rattle.auction_terms.specs.declared.rules.Category.{Category}
 use Rattle.auction_terms.proofs.AllocationLaws.{feasible_at, loads_length}
 use Rattle.bid_desk.specs.Closing.{book_of}
-use Rattle.outcome.proofs.QuantityLaws.{are_small, small-at, small-fits, small-package}
+use Rattle.outcome.proofs.QuantityLaws.{small-at, small-fits, small-package}
 use Rattle.outcome.proofs.rivals.taken.Goals as goal
 
 counted : (categories others : List Category) → others ≡ categories → length others ≡ length (map (λ (c : Category). c.supply) categories)
