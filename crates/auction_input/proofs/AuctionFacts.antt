@@ -86,9 +86,25 @@ parts-refused asked input f told = told-parts asked input f told
 
 -- ---- the stages behind the parts
 
--- the auction that forms leave, with groups and the texts of solutions and certificates
-abbrev auction_of : Terms → List Offers → List (List ℕ) → List (List ℕ) → List (List ℕ) → Auction
-auction_of t forms groups solutions certificates = record { sale = sale_left t forms; groups = groups; solutions = solutions; certificates = certificates }
+-- the texts behind the groups: of solutions, of certificates, and of what is claimed of other outcomes
+pub record Rest : Type 0 where
+  pub solutions : List (List ℕ)
+  pub certificates : List (List ℕ)
+  pub uniques : List (List ℕ)
+  pub ties : List (List ℕ)
+
+abbrev rest_in : List Part → Rest
+rest_in parts = record { solutions = parts_named (codes "%solution") parts; certificates = parts_named (codes "%certificate") parts; uniques = parts_named (codes "%unique") parts; ties = parts_named (codes "%tie") parts }
+
+abbrev pub rest_held : Parts → Rest
+rest_held held = record { solutions = bytes_of held.solutions.items; certificates = bytes_of held.certificates.items; uniques = bytes_of held.uniques.items; ties = bytes_of held.ties.items }
+
+rest-same : (held : Parts) (parts : List Part) → Hold held parts → rest_in parts ≡ rest_held held
+rest-same held parts hold = rw (hold.solutions, hold.certificates, hold.uniques, hold.ties) refl
+
+-- the auction that forms leave, with groups and these texts
+abbrev auction_of : Terms → List Offers → List (List ℕ) → Rest → Auction
+auction_of t forms groups rest = record { sale = sale_left t forms; groups = groups; solutions = rest.solutions; certificates = rest.certificates; uniques = rest.uniques; ties = rest.ties }
 
 module _ (asked : Request) (input : List ℕ) (held : Parts) (cut : IsCut asked input held) where
   pub terms-refused : (r : Refusal) → Refuses (terms_told (only_text (bytes_of held.rules.items))) r → Refuses (auction_told asked input) r
@@ -114,7 +130,7 @@ module _ (asked : Request) (input : List ℕ) (held : Parts) (cut : IsCut asked 
         groups-are = subst (λ (xs : List (List ℕ)). groups_told t (only_text xs) ≡ Ok groups) cut.2.groups known
 
         abbrev told-by : Option ℕ → Result Auction Refusal
-        told-by found = refused_as refusal.CallLimit (unless found (Ok (auction_of t forms groups (parts_named (codes "%solution") cut.0) (parts_named (codes "%certificate") cut.0))))
+        told-by found = refused_as refusal.CallLimit (unless found (Ok (auction_of t forms groups (rest_in cut.0))))
 
         abbrev no-auction : Refusal → Result Auction Refusal
         no-auction r = Err r
@@ -124,15 +140,15 @@ module _ (asked : Request) (input : List ℕ) (held : Parts) (cut : IsCut asked 
             let limit : told-by (first_fault one_too_many [] forms) ≡ Err r = ap told-by found ∙ ap no-auction (sym is) in
             behind _ cut.0 _ r cut.1 (behind _ t _ r rules-are (behind _ forms _ r forms-are (behind _ groups _ r groups-are (inl limit))))
 
-        pub auction-is : first_fault one_too_many [] forms ≡ None → auction_told asked input ≡ Ok (auction_of t forms groups (bytes_of held.solutions.items) (bytes_of held.certificates.items))
+        pub auction-is : first_fault one_too_many [] forms ≡ None → auction_told asked input ≡ Ok (auction_of t forms groups (rest_held held))
         auction-is accepted =
             next _ _ _ _ cut.1 (next _ _ _ _ rules-are (next _ _ _ _ forms-are (next _ _ _ _ groups-are (ap told-by accepted))))
-            ∙ ap₂ (λ (s c : List (List ℕ)). Ok (auction_of t forms groups s c)) (sym cut.2.solutions) (sym cut.2.certificates)
+            ∙ ap (λ (rest : Rest). Ok (auction_of t forms groups rest)) (rest-same held cut.0 cut.2)
 
         -- what the round leaves is a matter of the desk, or of memory
         pub round-refused : first_fault one_too_many [] forms ≡ None → asked ≢ request.Check → (f : RoundFault) → RefusesAuction asked input (refusal.Round f)
         round-refused accepted reads round.OutOfMemory = inl (inr refl)
-        round-refused accepted reads round.WrongAnswer = inr (reads, auction_of t forms groups (bytes_of held.solutions.items) (bytes_of held.certificates.items), auction-is accepted, refl)
+        round-refused accepted reads round.WrongAnswer = inr (reads, auction_of t forms groups (rest_held held), auction-is accepted, refl)
 
 -- ---- the book
 
@@ -152,11 +168,11 @@ sale-is book forms submitted =
     (λ b least most. ap (λ (form : Option Offers). bids_in form) (submitted.standing b least (omega arith))) in
     ap (sale_with book.rules) same
 
-abbrev sold : Sale → List (List ℕ) → List (List ℕ) → List (List ℕ) → Auction
-sold sale groups solutions certificates = record { sale = sale; groups = groups; solutions = solutions; certificates = certificates }
+abbrev sold : Sale → List (List ℕ) → Rest → Auction
+sold sale groups rest = record { sale = sale; groups = groups; solutions = rest.solutions; certificates = rest.certificates; uniques = rest.uniques; ties = rest.ties }
 
--- the auction that a settled book and groups are, with the texts of solutions and certificates
-pub auction-held : (book : Closing) (t : Terms) (forms : List Offers) (groups solutions certificates : List (List ℕ)) → book.rules ≡ t → AreSubmitted forms book
-    → auction_of t forms groups solutions certificates ≡ sold (sale_of book) groups solutions certificates
-auction-held book t forms groups solutions certificates rules submitted =
-    ap (λ (u : Terms). auction_of u forms groups solutions certificates) (sym rules) ∙ ap (λ (sale : Sale). sold sale groups solutions certificates) (sym (sale-is book forms submitted))
+-- the auction that a settled book and groups are, with the texts behind them
+pub auction-held : (book : Closing) (t : Terms) (forms : List Offers) (groups : List (List ℕ)) (rest : Rest) → book.rules ≡ t → AreSubmitted forms book
+    → auction_of t forms groups rest ≡ sold (sale_of book) groups rest
+auction-held book t forms groups rest rules submitted =
+    ap (λ (u : Terms). auction_of u forms groups rest) (sym rules) ∙ ap (λ (sale : Sale). sold sale groups rest) (sym (sale-is book forms submitted))

@@ -76,29 +76,33 @@ module _ (name : List ℕ) where
   same : (other : List ℕ) → bytes_eq name other ≡ true → name ≡ other
   same other is = (bytes_eq-Decides name other).0 is
 
-  of-verify : (a b c d e : Bool) → bytes_eq name (codes "%rules") ≡ a → bytes_eq name (codes "%form") ≡ b → bytes_eq name (codes "%groups") ≡ c → bytes_eq name (codes "%solution") ≡ d → bytes_eq name (codes "%certificate") ≡ e
-      → NamedIn (codes "%rules" ∷ codes "%form" ∷ codes "%groups" ∷ codes "%solution" ∷ codes "%certificate" ∷ [])
-      (cond a (Some kind.Rules) (cond b (Some kind.Form) (cond c (Some kind.Groups) (cond d (Some kind.Solution) (cond e (Some kind.Certificate) None)))))
-  of-verify true b c d e r f g s t = (same (codes "%rules") r, rw r refl)
-  of-verify false true c d e r f g s t = (same (codes "%form") f, rw (r, f) refl)
-  of-verify false false true d e r f g s t = (same (codes "%groups") g, rw (r, f, g) refl)
-  of-verify false false false true e r f g s t = (same (codes "%solution") s, rw (r, f, g, s) refl)
-  of-verify false false false false true r f g s t = (same (codes "%certificate") t, rw (r, f, g, s, t) refl)
-  of-verify false false false false false r f g s t = rw (r, f, g, s, t) refl
+  of-verify : (a b c d e f g : Bool) → bytes_eq name (codes "%rules") ≡ a → bytes_eq name (codes "%form") ≡ b → bytes_eq name (codes "%groups") ≡ c → bytes_eq name (codes "%solution") ≡ d → bytes_eq name (codes "%certificate") ≡ e → bytes_eq name (codes "%unique") ≡ f → bytes_eq name (codes "%tie") ≡ g
+      → NamedIn (codes "%rules" ∷ codes "%form" ∷ codes "%groups" ∷ codes "%solution" ∷ codes "%certificate" ∷ codes "%unique" ∷ codes "%tie" ∷ [])
+      (cond a (Some kind.Rules) (cond b (Some kind.Form) (cond c (Some kind.Groups) (cond d (Some kind.Solution) (cond e (Some kind.Certificate) (cond f (Some kind.Unique) (cond g (Some kind.Tie) None)))))))
+  of-verify true b c d e f g r o p s t u v = (same (codes "%rules") r, rw r refl)
+  of-verify false true c d e f g r o p s t u v = (same (codes "%form") o, rw (r, o) refl)
+  of-verify false false true d e f g r o p s t u v = (same (codes "%groups") p, rw (r, o, p) refl)
+  of-verify false false false true e f g r o p s t u v = (same (codes "%solution") s, rw (r, o, p, s) refl)
+  of-verify false false false false true f g r o p s t u v = (same (codes "%certificate") t, rw (r, o, p, s, t) refl)
+  of-verify false false false false false true g r o p s t u v = (same (codes "%unique") u, rw (r, o, p, s, t, u) refl)
+  of-verify false false false false false false true r o p s t u v = (same (codes "%tie") v, rw (r, o, p, s, t, u, v) refl)
+  of-verify false false false false false false false r o p s t u v = rw (r, o, p, s, t, u, v) refl
 
-  of-others : (a b c d e : Bool) → bytes_eq name (codes "%rules") ≡ a → bytes_eq name (codes "%form") ≡ b → bytes_eq name (codes "%groups") ≡ c → bytes_eq name (codes "%solution") ≡ d → bytes_eq name (codes "%certificate") ≡ e
+  of-others : (a b c d e f g : Bool) → bytes_eq name (codes "%rules") ≡ a → bytes_eq name (codes "%form") ≡ b → bytes_eq name (codes "%groups") ≡ c → bytes_eq name (codes "%solution") ≡ d → bytes_eq name (codes "%certificate") ≡ e → bytes_eq name (codes "%unique") ≡ f → bytes_eq name (codes "%tie") ≡ g
       → NamedIn (codes "%rules" ∷ codes "%form" ∷ codes "%groups" ∷ codes "%solution" ∷ [])
-      (cond a (Some kind.Rules) (cond b (Some kind.Form) (cond c (Some kind.Groups) (cond d (Some kind.Solution) (cond e (None) None)))))
-  of-others true b c d e r f g s t = (same (codes "%rules") r, rw r refl)
-  of-others false true c d e r f g s t = (same (codes "%form") f, rw (r, f) refl)
-  of-others false false true d e r f g s t = (same (codes "%groups") g, rw (r, f, g) refl)
-  of-others false false false true e r f g s t = (same (codes "%solution") s, rw (r, f, g, s) refl)
-  of-others false false false false true r f g s t = rw (r, f, g, s) refl
-  of-others false false false false false r f g s t = rw (r, f, g, s) refl
+      (cond a (Some kind.Rules) (cond b (Some kind.Form) (cond c (Some kind.Groups) (cond d (Some kind.Solution) (cond e (None) (cond f (None) (cond g (None) None)))))))
+  of-others true b c d e f g r o p s t u v = (same (codes "%rules") r, rw r refl)
+  of-others false true c d e f g r o p s t u v = (same (codes "%form") o, rw (r, o) refl)
+  of-others false false true d e f g r o p s t u v = (same (codes "%groups") p, rw (r, o, p) refl)
+  of-others false false false true e f g r o p s t u v = (same (codes "%solution") s, rw (r, o, p, s) refl)
+  of-others false false false false true f g r o p s t u v = rw (r, o, p, s) refl
+  of-others false false false false false true g r o p s t u v = rw (r, o, p, s) refl
+  of-others false false false false false false true r o p s t u v = rw (r, o, p, s) refl
+  of-others false false false false false false false r o p s t u v = rw (r, o, p, s) refl
 
   named-in : (asked : Request) → NamedIn (part_names asked) (kind_named asked name)
-  named-in (request.Verify workers) = of-verify _ _ _ _ _ refl refl refl refl refl
-  named-in asked = of-others _ _ _ _ _ refl refl refl refl refl
+  named-in (request.Verify workers) = of-verify _ _ _ _ _ _ _ refl refl refl refl refl refl refl
+  named-in asked = of-others _ _ _ _ _ _ _ refl refl refl refl refl refl refl
 
   pub name-told : (asked : Request) (k : PartKind) → kind_named asked name ≡ Some k → (name ≡ name_of k) × (list_any (bytes_eq name) (part_names asked) ≡ true)
   name-told asked k is = subst (NamedIn (part_names asked)) is (named-in asked)
@@ -148,6 +152,8 @@ hold-more old new asked before p k told grown hold = by k (name-told p.name aske
       groups = others (codes "%groups") before p _ _ (rw is refl) (ap (λ (b : HeldBytes). b.groups) same) hold.groups;
       solutions = others (codes "%solution") before p _ _ (rw is refl) (ap (λ (b : HeldBytes). b.solutions) same) hold.solutions;
       certificates = others (codes "%certificate") before p _ _ (rw is refl) (ap (λ (b : HeldBytes). b.certificates) same) hold.certificates;
+      uniques = others (codes "%unique") before p _ _ (rw is refl) (ap (λ (b : HeldBytes). b.uniques) same) hold.uniques;
+      ties = others (codes "%tie") before p _ _ (rw is refl) (ap (λ (b : HeldBytes). b.ties) same) hold.ties;
     }
     by kind.Form is same = record {
       rules = others (codes "%rules") before p _ _ (rw is refl) (ap (λ (b : HeldBytes). b.rules) same) hold.rules;
@@ -155,6 +161,8 @@ hold-more old new asked before p k told grown hold = by k (name-told p.name aske
       groups = others (codes "%groups") before p _ _ (rw is refl) (ap (λ (b : HeldBytes). b.groups) same) hold.groups;
       solutions = others (codes "%solution") before p _ _ (rw is refl) (ap (λ (b : HeldBytes). b.solutions) same) hold.solutions;
       certificates = others (codes "%certificate") before p _ _ (rw is refl) (ap (λ (b : HeldBytes). b.certificates) same) hold.certificates;
+      uniques = others (codes "%unique") before p _ _ (rw is refl) (ap (λ (b : HeldBytes). b.uniques) same) hold.uniques;
+      ties = others (codes "%tie") before p _ _ (rw is refl) (ap (λ (b : HeldBytes). b.ties) same) hold.ties;
     }
     by kind.Groups is same = record {
       rules = others (codes "%rules") before p _ _ (rw is refl) (ap (λ (b : HeldBytes). b.rules) same) hold.rules;
@@ -162,6 +170,8 @@ hold-more old new asked before p k told grown hold = by k (name-told p.name aske
       groups = more (codes "%groups") before p _ _ (rw is refl) (ap (λ (b : HeldBytes). b.groups) same) hold.groups;
       solutions = others (codes "%solution") before p _ _ (rw is refl) (ap (λ (b : HeldBytes). b.solutions) same) hold.solutions;
       certificates = others (codes "%certificate") before p _ _ (rw is refl) (ap (λ (b : HeldBytes). b.certificates) same) hold.certificates;
+      uniques = others (codes "%unique") before p _ _ (rw is refl) (ap (λ (b : HeldBytes). b.uniques) same) hold.uniques;
+      ties = others (codes "%tie") before p _ _ (rw is refl) (ap (λ (b : HeldBytes). b.ties) same) hold.ties;
     }
     by kind.Solution is same = record {
       rules = others (codes "%rules") before p _ _ (rw is refl) (ap (λ (b : HeldBytes). b.rules) same) hold.rules;
@@ -169,6 +179,8 @@ hold-more old new asked before p k told grown hold = by k (name-told p.name aske
       groups = others (codes "%groups") before p _ _ (rw is refl) (ap (λ (b : HeldBytes). b.groups) same) hold.groups;
       solutions = more (codes "%solution") before p _ _ (rw is refl) (ap (λ (b : HeldBytes). b.solutions) same) hold.solutions;
       certificates = others (codes "%certificate") before p _ _ (rw is refl) (ap (λ (b : HeldBytes). b.certificates) same) hold.certificates;
+      uniques = others (codes "%unique") before p _ _ (rw is refl) (ap (λ (b : HeldBytes). b.uniques) same) hold.uniques;
+      ties = others (codes "%tie") before p _ _ (rw is refl) (ap (λ (b : HeldBytes). b.ties) same) hold.ties;
     }
     by kind.Certificate is same = record {
       rules = others (codes "%rules") before p _ _ (rw is refl) (ap (λ (b : HeldBytes). b.rules) same) hold.rules;
@@ -176,6 +188,26 @@ hold-more old new asked before p k told grown hold = by k (name-told p.name aske
       groups = others (codes "%groups") before p _ _ (rw is refl) (ap (λ (b : HeldBytes). b.groups) same) hold.groups;
       solutions = others (codes "%solution") before p _ _ (rw is refl) (ap (λ (b : HeldBytes). b.solutions) same) hold.solutions;
       certificates = more (codes "%certificate") before p _ _ (rw is refl) (ap (λ (b : HeldBytes). b.certificates) same) hold.certificates;
+      uniques = others (codes "%unique") before p _ _ (rw is refl) (ap (λ (b : HeldBytes). b.uniques) same) hold.uniques;
+      ties = others (codes "%tie") before p _ _ (rw is refl) (ap (λ (b : HeldBytes). b.ties) same) hold.ties;
+    }
+    by kind.Unique is same = record {
+      rules = others (codes "%rules") before p _ _ (rw is refl) (ap (λ (b : HeldBytes). b.rules) same) hold.rules;
+      forms = others (codes "%form") before p _ _ (rw is refl) (ap (λ (b : HeldBytes). b.forms) same) hold.forms;
+      groups = others (codes "%groups") before p _ _ (rw is refl) (ap (λ (b : HeldBytes). b.groups) same) hold.groups;
+      solutions = others (codes "%solution") before p _ _ (rw is refl) (ap (λ (b : HeldBytes). b.solutions) same) hold.solutions;
+      certificates = others (codes "%certificate") before p _ _ (rw is refl) (ap (λ (b : HeldBytes). b.certificates) same) hold.certificates;
+      uniques = more (codes "%unique") before p _ _ (rw is refl) (ap (λ (b : HeldBytes). b.uniques) same) hold.uniques;
+      ties = others (codes "%tie") before p _ _ (rw is refl) (ap (λ (b : HeldBytes). b.ties) same) hold.ties;
+    }
+    by kind.Tie is same = record {
+      rules = others (codes "%rules") before p _ _ (rw is refl) (ap (λ (b : HeldBytes). b.rules) same) hold.rules;
+      forms = others (codes "%form") before p _ _ (rw is refl) (ap (λ (b : HeldBytes). b.forms) same) hold.forms;
+      groups = others (codes "%groups") before p _ _ (rw is refl) (ap (λ (b : HeldBytes). b.groups) same) hold.groups;
+      solutions = others (codes "%solution") before p _ _ (rw is refl) (ap (λ (b : HeldBytes). b.solutions) same) hold.solutions;
+      certificates = others (codes "%certificate") before p _ _ (rw is refl) (ap (λ (b : HeldBytes). b.certificates) same) hold.certificates;
+      uniques = others (codes "%unique") before p _ _ (rw is refl) (ap (λ (b : HeldBytes). b.uniques) same) hold.uniques;
+      ties = more (codes "%tie") before p _ _ (rw is refl) (ap (λ (b : HeldBytes). b.ties) same) hold.ties;
     }
 
 -- where nothing is before the first part, the first fault is that of a part

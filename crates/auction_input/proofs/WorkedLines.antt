@@ -4,7 +4,9 @@ use Rattle.std.specs.Fmt.{digits}
 use Rattle.bid_forms.specs.declared.form_text.FormFault.TheVariants as form
 use Rattle.program_rows.specs.declared.fault.FaultKind.TheVariants as kind
 use Rattle.auction_input.specs.Line.{line}
+use Rattle.auction_input.specs.declared.refusal.CountedPart.TheVariants as counted
 use Rattle.auction_input.specs.declared.refusal.Refusal.TheVariants as refusal
+use Rattle.optimality.specs.declared.fault.FaultKind.TheVariants as certificate
 
 below_reserve : line (refusal.Form 1 (form.BelowReserve 2)) ≡ codes "wdp: form 1: 12 BelowReserve at record 2\n"
 unfolding digits
@@ -21,3 +23,13 @@ not_binary = refl
 row_broken : line (refusal.RowBroken 1 (codes "B1")) ≡ codes "wdp: solution 1: 8 RowBroken at row B1\n"
 unfolding digits
 row_broken = refl
+
+claims : line (refusal.PartCount counted.Claims) ≡ codes "wdp: input: wrong number of unique and tie\n"
+claims = refl
+
+unique_refused : line (refusal.Unique (record { line = 12; kind = certificate.NotShown })) ≡ codes "wdp: unique: 9 NotShown at line 12\n"
+unfolding digits
+unique_refused = refl
+
+tie_refused : line (refusal.TieRowBroken (codes "B1")) ≡ codes "wdp: tie: 8 RowBroken at row B1\n"
+tie_refused = refl

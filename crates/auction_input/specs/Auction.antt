@@ -12,12 +12,14 @@ use Rattle.auction_terms.specs.FirstFault.{first_fault}
 use Rattle.auction_terms.specs.Stages.{and_then, each_in_turn, refused_as, unless}
 use Rattle.outcome.specs.Sale.{Sale}
 
--- a sale, the groups that are left out of it, and the texts of solutions and of certificates
+-- a sale, the groups that are left out of it, and the texts of solutions and of certificates; what is claimed of other outcomes: texts of certificates that there is none as good, and of solutions that are
 pub record Auction : Type 0 where
   pub sale : Sale
   pub groups : List (List ℕ)
   pub solutions : List (List ℕ)
   pub certificates : List (List ℕ)
+  pub uniques : List (List ℕ)
+  pub ties : List (List ℕ)
 
 abbrev pub auction_told : Request → List ℕ → Result Auction Refusal
 auction_told asked input =
@@ -30,4 +32,6 @@ auction_told asked input =
       groups = groups;
       solutions = parts_named (codes "%solution") parts;
       certificates = parts_named (codes "%certificate") parts;
+      uniques = parts_named (codes "%unique") parts;
+      ties = parts_named (codes "%tie") parts;
     })))))))

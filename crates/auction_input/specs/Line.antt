@@ -28,6 +28,7 @@ refusal_text (refusal.Rules rules.OutOfMemory) = codes "out of memory"
 refusal_text (refusal.Form n form.OutOfMemory) = codes "out of memory"
 refusal_text (refusal.Groups groups.OutOfMemory) = codes "out of memory"
 refusal_text (refusal.Solution n solution.OutOfMemory) = codes "out of memory"
+refusal_text (refusal.Tie solution.OutOfMemory) = codes "out of memory"
 refusal_text (refusal.Input input.ReadFailed) = codes "input: read failed"
 refusal_text (refusal.Input input.TooLarge) = codes "input: too large"
 refusal_text (refusal.Parts part.BeforeFirst) = codes "input: bytes before the first part"
@@ -36,6 +37,7 @@ refusal_text (refusal.PartCount counted.Rules) = codes "input: wrong number of r
 refusal_text (refusal.PartCount counted.Groups) = codes "input: wrong number of groups"
 refusal_text (refusal.PartCount counted.Solutions) = codes "input: wrong number of solutions"
 refusal_text (refusal.PartCount counted.Certificates) = codes "input: wrong number of certificates"
+refusal_text (refusal.PartCount counted.Claims) = codes "input: wrong number of unique and tie"
 refusal_text (refusal.Rules f) = codes "rules: " ++ rules_fault_text f
 refusal_text (refusal.Form n f) = codes "form " ++ (decimal n ++ (codes ": " ++ form_fault_text f))
 refusal_text (refusal.Groups f) = codes "groups: " ++ group_fault_text f
@@ -49,6 +51,12 @@ refusal_text (refusal.BoundBroken n name) = codes "solution " ++ (decimal n ++ (
 refusal_text (refusal.RowBroken n name) = codes "solution " ++ (decimal n ++ (codes ": 8 RowBroken at row " ++ name))
 refusal_text (refusal.Certificate n f) =
     elim (f.kind) [ certificate.OutOfMemory ↦ codes "out of memory" | k ↦ codes "certificate " ++ (decimal n ++ (codes ": " ++ certificate_fault_text f.line f.kind)) ]
+refusal_text (refusal.Unique f) = elim (f.kind) [ certificate.OutOfMemory ↦ codes "out of memory" | k ↦ codes "unique: " ++ certificate_fault_text f.line f.kind ]
+refusal_text (refusal.Tie f) = codes "tie: " ++ solution_fault_text f
+refusal_text (refusal.TieBoundBroken name) = codes "tie: 7 BoundBroken at column " ++ name
+refusal_text (refusal.TieRowBroken name) = codes "tie: 8 RowBroken at row " ++ name
+refusal_text refusal.LowerTie = codes "tie: total below that of group 1"
+refusal_text refusal.SameTie = codes "tie: same winners as group 1"
 refusal_text (refusal.Write (write.Sink written)) = codes "write failed after " ++ (decimal written ++ codes " bytes")
 refusal_text r = codes "out of memory"
 
@@ -56,12 +64,16 @@ refusal_text r = codes "out of memory"
 abbrev pub without_name : Refusal → Refusal
 without_name (refusal.BoundBroken n name) = refusal.BoundBroken n []
 without_name (refusal.RowBroken n name) = refusal.RowBroken n []
+without_name (refusal.TieBoundBroken name) = refusal.TieBoundBroken []
+without_name (refusal.TieRowBroken name) = refusal.TieRowBroken []
 without_name r = r
 
 -- and that name
 abbrev pub name_told : Refusal → List ℕ
 name_told (refusal.BoundBroken n name) = name
 name_told (refusal.RowBroken n name) = name
+name_told (refusal.TieBoundBroken name) = name
+name_told (refusal.TieRowBroken name) = name
 name_told r = []
 
 abbrev pub line : Refusal → List ℕ

@@ -1,6 +1,6 @@
 -- The parts of the input. A line that begins with a percent sign heads a part, whose bytes run up to the next such line.
-use Rattle.std.specs.Prelude.{◌≡◌, ◌==◌, ◌+◌, ◌++◌, Bool, true, false, ⊤, ℕ, List, [], ◌∷◌, Option, None, Some, Result, Ok, Err, codes, filter, if◌then◌else◌, is_some, length, map, slice_index_or}
-use Rattle.std.specs.Option.{option_map_or, option_or}
+use Rattle.std.specs.Prelude.{◌≡◌, ◌==◌, ◌+◌, ◌++◌, Bool, false, ⊤, ℕ, List, [], ◌∷◌, Option, None, Some, Result, Ok, Err, codes, filter, if◌then◌else◌, length, map, slice_index_or}
+use Rattle.std.specs.Option.{option_or}
 use Rattle.std.specs.List.{list_any}
 use Rattle.std.specs.Str.{bytes_eq}
 use Rattle.auction_input.specs.declared.parts.PartFault.TheVariants as fault
@@ -9,7 +9,7 @@ use Rattle.auction_input.specs.declared.parts.Parts.{Parts}
 use Rattle.auction_input.specs.declared.request.Request.TheVariants as request
 use Rattle.auction_input.specs.declared.request.Request.{Request}
 use Rattle.auction_terms.specs.Borrowed.{bytes_of}
-use Rattle.auction_terms.specs.FirstFault.{first_failed, first_fault}
+use Rattle.auction_terms.specs.FirstFault.{first_fault}
 use Rattle.auction_terms.specs.Lines.{is_line_feed, lines_of}
 
 abbrev pub onto_first_line : ℕ → List (List ℕ) → List (List ℕ)
@@ -41,9 +41,9 @@ abbrev pub parts_in : List (List ℕ) → List Part
 parts_in [] = []
 parts_in (line ∷ more) = if heads_part line then record { name = slice_index_or (lines_of line) 0 []; bytes = bytes_before more } ∷ parts_in more else parts_in more
 
--- the names that a part may have; certificates are for `verify` alone
+-- the names that a part may have; certificates, and what is claimed of other outcomes, are for `verify` alone
 abbrev pub part_names : Request → List (List ℕ)
-part_names (request.Verify workers) = codes "%rules" ∷ codes "%form" ∷ codes "%groups" ∷ codes "%solution" ∷ codes "%certificate" ∷ []
+part_names (request.Verify workers) = codes "%rules" ∷ codes "%form" ∷ codes "%groups" ∷ codes "%solution" ∷ codes "%certificate" ∷ codes "%unique" ∷ codes "%tie" ∷ []
 part_names asked = codes "%rules" ∷ codes "%form" ∷ codes "%groups" ∷ codes "%solution" ∷ []
 
 -- a part of no such name, given the parts before it
@@ -67,6 +67,8 @@ pub record Hold (held : Parts) (parts : List Part) : Type 0 where
   pub groups : bytes_of held.groups.items ≡ parts_named (codes "%groups") parts
   pub solutions : bytes_of held.solutions.items ≡ parts_named (codes "%solution") parts
   pub certificates : bytes_of held.certificates.items ≡ parts_named (codes "%certificate") parts
+  pub uniques : bytes_of held.uniques.items ≡ parts_named (codes "%unique") parts
+  pub ties : bytes_of held.ties.items ≡ parts_named (codes "%tie") parts
 
 -- the parts, where the input has no fault, and else the first fault; or memory was short
 abbrev pub TellsParts : Request → Result Parts PartFault → List ℕ → Type 0

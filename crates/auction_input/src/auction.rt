@@ -22,13 +22,16 @@ use std::alloc::Global;
 use std::sync::Wait;
 use std::thread::Threads;
 
-/// A settled auction, the groups that are left out of it, and the texts of solutions and of certificates.
+/// A settled auction, the groups that are left out of it, and the texts of solutions and of certificates; what is claimed of
+/// other outcomes: texts of certificates that there is none as good, and of solutions that are.
 #[derive(Drop)]
 pub struct Auction<'t> {
     pub book: ClosedBook,
     pub groups: Groups,
     pub solutions: Vec<&'t [u8]>,
     pub certificates: Vec<&'t [u8]>,
+    pub uniques: Vec<&'t [u8]>,
+    pub ties: Vec<&'t [u8]>,
 }
 
 // The parts of a text, as many as the request takes.
@@ -87,6 +90,8 @@ pub fn read_auction<'t, R: Threads + Wait + Sync + AllocGlobal>(
     let Parts {
         solutions,
         certificates,
+        uniques,
+        ties,
         ..
     } = parts;
     Ok(Auction {
@@ -94,5 +99,7 @@ pub fn read_auction<'t, R: Threads + Wait + Sync + AllocGlobal>(
         groups,
         solutions,
         certificates,
+        uniques,
+        ties,
     })
 }

@@ -1,7 +1,7 @@
 //! The kinds of parts.
 
 ghost use Rattle.std.specs.Prelude.{◌≡◌};
-ghost use Rattle.auction_input.specs.inside.Parts.{certificates_for, kind_named};
+ghost use Rattle.auction_input.specs.inside.Parts.{for_verify, kind_named};
 
 use crate::request::Request;
 
@@ -13,14 +13,16 @@ pub enum PartKind {
     Groups,
     Solution,
     Certificate,
+    Unique,
+    Tie,
 }
 
-// Certificates are a kind for `verify` alone.
-fn certificates_for(request: &Request) -> Option<PartKind>
-    ensures { result ≡ certificates_for request.now }
+// A kind that is one for `verify` alone.
+fn for_verify(request: &Request, kind: PartKind) -> Option<PartKind>
+    ensures { result ≡ for_verify request.now kind }
 {
     match request {
-        Request::Verify { workers: _ } => Some(PartKind::Certificate),
+        Request::Verify { workers: _ } => Some(kind),
         _ => None,
     }
 }
@@ -38,7 +40,11 @@ pub fn kind_named(request: &Request, name: &[u8]) -> Option<PartKind>
     } else if name == b"%solution".as_slice() {
         Some(PartKind::Solution)
     } else if name == b"%certificate".as_slice() {
-        certificates_for(request)
+        for_verify(request, PartKind::Certificate)
+    } else if name == b"%unique".as_slice() {
+        for_verify(request, PartKind::Unique)
+    } else if name == b"%tie".as_slice() {
+        for_verify(request, PartKind::Tie)
     } else {
         None
     }

@@ -18,6 +18,8 @@ pub struct Parts<'t> {
     pub groups: Vec<&'t [u8]>,
     pub solutions: Vec<&'t [u8]>,
     pub certificates: Vec<&'t [u8]>,
+    pub uniques: Vec<&'t [u8]>,
+    pub ties: Vec<&'t [u8]>,
 }
 
 /// Why an input has no parts. A part is counted from 1.
@@ -117,6 +119,8 @@ fn add_part<'t>(parts: &mut Parts<'t>, kind: PartKind, bytes: &'t [u8]) -> Resul
         PartKind::Groups => parts.groups.push(bytes)?,
         PartKind::Solution => parts.solutions.push(bytes)?,
         PartKind::Certificate => parts.certificates.push(bytes)?,
+        PartKind::Unique => parts.uniques.push(bytes)?,
+        PartKind::Tie => parts.ties.push(bytes)?,
     }
     Ok(())
 }
@@ -138,6 +142,8 @@ pub fn split_parts<'t>(
         groups: Vec::new(alloc),
         solutions: Vec::new(alloc),
         certificates: Vec::new(alloc),
+        uniques: Vec::new(alloc),
+        ties: Vec::new(alloc),
     };
     let mut rest = text;
     let mut count = 0;

@@ -24,6 +24,7 @@ pub enum CountedPart {
     Groups,
     Solutions,
     Certificates,
+    Claims,
 }
 
 /// Why a run ends without its output, or with a front of it. Forms, groups, solutions and certificates count from 1.
@@ -69,6 +70,22 @@ pub enum Refusal {
         certificate: usize,
         fault: CertificateFault,
     },
+    /// What is to show that the winners are the only ones.
+    Unique(CertificateFault),
+    /// The solution of a tie.
+    Tie(SolutionFault),
+    /// A solution of a tie that breaks the bounds of the column of that name.
+    TieBoundBroken {
+        column: Name,
+    },
+    /// A solution of a tie that doesn't meet the row of that name.
+    TieRowBroken {
+        row: Name,
+    },
+    /// The total of a tie is below that of group 1.
+    LowerTie,
+    /// The winners of a tie are those of group 1.
+    SameTie,
     Write(WriteFault),
     OutOfMemory,
 }
@@ -84,6 +101,8 @@ impl Refusal {
                 column,
             } => column.as_slice(),
             Refusal::RowBroken { solution: _, row } => row.as_slice(),
+            Refusal::TieBoundBroken { column } => column.as_slice(),
+            Refusal::TieRowBroken { row } => row.as_slice(),
             _ => b"",
         }
     }
@@ -117,7 +136,14 @@ impl fmt::Display for Refusal {
                     line: _,
                     kind: optimality::FaultKind::OutOfMemory,
                 },
-            } => write!(f, "out of memory"),
+            }
+            | Refusal::Unique(
+                CertificateFault {
+                    line: _,
+                    kind: optimality::FaultKind::OutOfMemory,
+                },
+            )
+            | Refusal::Tie(SolutionFault::OutOfMemory) => write!(f, "out of memory"),
             Refusal::Input(InputFault::ReadFailed) => write!(f, "input: read failed"),
             Refusal::Input(InputFault::TooLarge) => write!(f, "input: too large"),
             Refusal::Parts(PartFault::BeforeFirst) => {
@@ -133,6 +159,9 @@ impl fmt::Display for Refusal {
             }
             Refusal::PartCount(CountedPart::Certificates) => {
                 write!(f, "input: wrong number of certificates")
+            }
+            Refusal::PartCount(CountedPart::Claims) => {
+                write!(f, "input: wrong number of unique and tie")
             }
             Refusal::Rules(fault) => write!(f, "rules: {fault}"),
             Refusal::Form { form, fault } => write!(f, "form {form}: {fault}"),
@@ -153,6 +182,12 @@ impl fmt::Display for Refusal {
             Refusal::Certificate { certificate, fault } => {
                 write!(f, "certificate {certificate}: {fault}")
             }
+            Refusal::Unique(fault) => write!(f, "unique: {fault}"),
+            Refusal::Tie(fault) => write!(f, "tie: {fault}"),
+            Refusal::TieBoundBroken { column: _ } => write!(f, "tie: 7 BoundBroken at column "),
+            Refusal::TieRowBroken { row: _ } => write!(f, "tie: 8 RowBroken at row "),
+            Refusal::LowerTie => write!(f, "tie: total below that of group 1"),
+            Refusal::SameTie => write!(f, "tie: same winners as group 1"),
             Refusal::Write(WriteFault::Sink { written }) => {
                 write!(f, "write failed after {written} bytes")
             }

@@ -17,9 +17,10 @@ part_name head = slice_index_or (lines_of head) 0 []
 abbrev pub part : List ℕ → List ℕ → Part
 part head bytes = record { name = part_name head; bytes = bytes }
 
-abbrev pub certificates_for : Request → Option PartKind
-certificates_for (request.Verify workers) = Some kind.Certificate
-certificates_for asked = None
+-- a kind that is one for `verify` alone
+abbrev pub for_verify : Request → PartKind → Option PartKind
+for_verify (request.Verify workers) k = Some k
+for_verify asked k = None
 
 -- the kind that a name tells to a request
 abbrev pub kind_named : Request → List ℕ → Option PartKind
@@ -28,7 +29,9 @@ kind_named asked name =
     else if bytes_eq name (codes "%form") then Some kind.Form
     else if bytes_eq name (codes "%groups") then Some kind.Groups
     else if bytes_eq name (codes "%solution") then Some kind.Solution
-    else if bytes_eq name (codes "%certificate") then certificates_for asked
+    else if bytes_eq name (codes "%certificate") then for_verify asked kind.Certificate
+    else if bytes_eq name (codes "%unique") then for_verify asked kind.Unique
+    else if bytes_eq name (codes "%tie") then for_verify asked kind.Tie
     else None
 
 abbrev pub name_of : PartKind → List ℕ
@@ -37,6 +40,8 @@ name_of kind.Form = codes "%form"
 name_of kind.Groups = codes "%groups"
 name_of kind.Solution = codes "%solution"
 name_of kind.Certificate = codes "%certificate"
+name_of kind.Unique = codes "%unique"
+name_of kind.Tie = codes "%tie"
 
 -- the bytes that are held of each kind
 pub record HeldBytes : Type 0 where
@@ -45,9 +50,11 @@ pub record HeldBytes : Type 0 where
   pub groups : List (List ℕ)
   pub solutions : List (List ℕ)
   pub certificates : List (List ℕ)
+  pub uniques : List (List ℕ)
+  pub ties : List (List ℕ)
 
 abbrev pub held_bytes : Parts → HeldBytes
-held_bytes p = record { rules = bytes_of p.rules.items; forms = bytes_of p.forms.items; groups = bytes_of p.groups.items; solutions = bytes_of p.solutions.items; certificates = bytes_of p.certificates.items }
+held_bytes p = record { rules = bytes_of p.rules.items; forms = bytes_of p.forms.items; groups = bytes_of p.groups.items; solutions = bytes_of p.solutions.items; certificates = bytes_of p.certificates.items; uniques = bytes_of p.uniques.items; ties = bytes_of p.ties.items }
 
 -- with the bytes of one more part
 abbrev pub added : PartKind → List ℕ → HeldBytes → HeldBytes
@@ -56,3 +63,5 @@ added kind.Form bytes held = record held { forms = held.forms ++ bytes ∷ [] }
 added kind.Groups bytes held = record held { groups = held.groups ++ bytes ∷ [] }
 added kind.Solution bytes held = record held { solutions = held.solutions ++ bytes ∷ [] }
 added kind.Certificate bytes held = record held { certificates = held.certificates ++ bytes ∷ [] }
+added kind.Unique bytes held = record held { uniques = held.uniques ++ bytes ∷ [] }
+added kind.Tie bytes held = record held { ties = held.ties ++ bytes ∷ [] }

@@ -17,7 +17,7 @@ use Rattle.auction_input.specs.TextsTold.{form_told, groups_told, terms_told}
 use Rattle.auction_terms.specs.Stages.{each_in_turn}
 use Rattle.std.specs.Prelude.{[], None, Some, codes}
 use Rattle.auction_input.specs.declared.refusal.Refusal.TheVariants as refusal
-use Rattle.auction_input.proofs.AuctionFacts.{auction-held, auction-is, calls-refused, forms-are, forms-refused, groups-refused, round-refused, rules-are, terms-refused}
+use Rattle.auction_input.proofs.AuctionFacts.{auction-held, auction-is, calls-refused, forms-are, forms-refused, groups-refused, rest_held, round-refused, rules-are, terms-refused}
 use Rattle.auction_input.proofs.RefusalFacts.{if-err-of}
 use Rattle.auction_input.proofs.StageFacts.{stop}
 use Rattle.auction_input.proofs.auction.read_auction.Goals as goal
@@ -109,7 +109,7 @@ returns-clause-told g c =
     let known = subst (λ (xs : Texts). groups_told t (only_text (bytes_of xs)) ≡ Ok groups) c.as_slice-3.ensures.value c.in_ok-groups.ensures.told in
     let accepted = subst (λ (xs : List Offers). first_fault one_too_many [] xs ≡ None) c.as_slice-4.ensures.value c.in_ok-check_calls.ensures.accepted in
     auction-is asked input c.in_ok-parts.parts c.in_ok-parts.ensures.told t rules forms each groups known accepted
-    ∙ ap (λ (a : Auction). Ok a) (auction-held book t forms groups (bytes_of c.in_ok-parts.parts.solutions.items) (bytes_of c.in_ok-parts.parts.certificates.items) c.in_ok-book.ensures.rules c.in_ok-book.ensures.submitted)
+    ∙ ap (λ (a : Auction). Ok a) (auction-held book t forms groups (rest_held c.in_ok-parts.parts) c.in_ok-book.ensures.rules c.in_ok-book.ensures.submitted)
 
 pub returns-clause-submitted : goal.returns-clause-submitted
 returns-clause-submitted g c =

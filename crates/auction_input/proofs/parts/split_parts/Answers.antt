@@ -19,6 +19,8 @@ loop-rest-init c = (
     groups = rw c.new-3.ensures.items refl;
     solutions = rw c.new-4.ensures.items refl;
     certificates = rw c.new-5.ensures.items refl;
+    uniques = rw c.new-6.ensures.items refl;
+    ties = rw c.new-7.ensures.items refl;
   },
 )
 
