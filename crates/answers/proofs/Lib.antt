@@ -1,11 +1,14 @@
 mod AskedFacts
 pub mod CertifiedFacts
+pub mod ClaimedFacts
 pub mod CommandFacts
+pub mod EndFacts
 pub mod FaithfulFacts
 pub mod FaultFacts
 pub mod FeasibleFacts
 pub mod GroupTextFacts
 mod LineFacts
+pub mod OnlyFacts
 pub mod ReportFacts
 pub mod RunFacts
 mod SizeFacts

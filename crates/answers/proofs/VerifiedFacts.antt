@@ -1,6 +1,6 @@
 -- What certificates show of what groups win.
-use Rattle.std.proofs.Common.{◌≡◌, ◌+◌, ◌==◌, ◌∷◌, ◌∙◌, [], ℕ, true, false, List, Option, None, Some, Result, Ok, Err, ap, arith, eqb-true, length, map, refl, subst, sym}
-use Rattle.std.specs.Prelude.{OnOk, ℤ, slice_index_or}
+use Rattle.std.proofs.Common.{◌≡◌, ◌≤◌, ◌+◌, ◌++◌, ◌==◌, ◌∷◌, ◌∙◌, [], ℕ, true, false, List, Option, None, Some, Result, Ok, Err, ap, arith, eqb-true, length, map, refl, subst, sym}
+use Rattle.std.specs.Prelude.{OnOk, ℤ, codes, slice_index_or}
 use Rattle.std.specs.List.{AllZip, zip}
 use Rattle.std.specs.Option.{option_map}
 use Rattle.std.proofs.lemmas.Int.{ints}
@@ -15,6 +15,9 @@ use Rattle.optimality.specs.declared.fault.FaultKind.{FaultKind}
 use Rattle.outcome.proofs.CostLaws.{costs_are_bounded, costs_are_own}
 use Rattle.outcome.specs.Report.{report_text}
 use Rattle.outcome.specs.Sale.{Sale}
+use Rattle.outcome.specs.Uniqueness.{uniqueness_text}
+use Rattle.outcome.specs.declared.uniqueness.Uniqueness.{Uniqueness}
+use Rattle.outcome.specs.declared.uniqueness.Uniqueness.TheVariants as uniqueness
 use Rattle.program_rows.proofs.FaithfulLaws.{presolved_is_faithful}
 use Rattle.program_rows.specs.Faithful.{IsGreatest}
 use Rattle.program_rows.specs.Program.{Table}
@@ -24,15 +27,20 @@ use Rattle.answers.specs.Certified.{bound_of, bounds_of, certified, shown}
 use Rattle.answers.specs.Answer.{answer, output_of}
 use Rattle.auction_terms.specs.Stages.{and_then, each_in_turn}
 use Rattle.answers.specs.Exact.{Writes}
-use Rattle.answers.specs.Verified.{IsGreatestWithout, IsOwnCost, IsTrueReport, VerifiedIsTrue, WritesTrueReport}
-use Rattle.answers.specs.SolutionWinners.{report_of, winners_of_groups}
+use Rattle.answers.specs.Claimed.{claim_told}
+use Rattle.answers.specs.Verified.{Holds, IsGreatestWithout, IsOnlyOutcome, IsOwnCost, IsTrueReport, UniqueIsOnly, VerifiedIsTrue, WritesTrueReport}
+use Rattle.answers.specs.SolutionWinners.{winners_of_groups}
+use Rattle.answers.specs.commands.Verify.{report_and_claim}
 use Rattle.answers.specs.inside.SolutionWinners.{winners}
 use Rattle.auction_input.specs.declared.refusal.CountedPart.TheVariants as counted
 use Rattle.auction_input.specs.declared.refusal.Refusal.TheVariants as refusal
 use Rattle.auction_input.specs.declared.request.Request.TheVariants as request
 use Rattle.auction_input.proofs.AnswerFacts.{ok-behind, ok-is, unless-ok}
 use Rattle.auction_input.proofs.WithinFacts.{auction-within}
+use Rattle.answers.proofs.ClaimedFacts.{some-group, wins-first}
+use Rattle.answers.proofs.EndFacts.{no-report, no-tie}
 use Rattle.answers.proofs.FeasibleFacts.{feasible-of, when-counted}
+use Rattle.answers.proofs.OnlyFacts.{claim-holds, settled-costs}
 
 -- ---- one group
 
@@ -110,7 +118,8 @@ first-greatest sale ((b ∷ group) ∷ groups) (a ∷ won) starts each = (let no
 
 true-report : (workers : ℕ) (auction : Auction) (out : List ℕ) → IsBook auction.sale.lots auction.sale.book → output_of (request.Verify workers) auction ≡ Ok out → IsTrueReport auction out
 true-report workers auction out within told =
-    let (won, won_is, written) = ok-behind (and_then (winners_of_groups auction) (certified auction)) (report_of auction) out told in
+    let (won, won_is, behind) = ok-behind (and_then (winners_of_groups auction) (certified auction)) (report_and_claim auction) out told in
+    let (claim, claim_is, written) = ok-behind (claim_told auction (slice_index_or won 0 [])) _ out behind in
     let (allocations, wins, certifies) = ok-behind (winners_of_groups auction) (certified auction) won won_is in
     let (starts, counted_wins) = when-counted (starts_empty auction.groups) _ refusal.FirstGroupNotEmpty allocations wins in
     let (count, each) = when-counted (length auction.solutions == length auction.groups) _ (refusal.PartCount counted.Solutions) allocations counted_wins in
@@ -119,12 +128,15 @@ true-report workers auction out within told =
     let is : allocations ≡ won = ok-is _ allocations won refl same in
     let greatest = all-greatest auction.sale 1 auction.groups auction.solutions auction.certificates allocations all within (eqb-true _ _ count) (eqb-true _ _ counts) each shown_are in
     let first = first-greatest auction.sale auction.groups allocations starts greatest in
-    let text : report_text auction.sale auction.groups won ≡ out = ok-is _ (report_text auction.sale auction.groups won) out refl written in
+    let text : report_text auction.sale auction.groups won ++ uniqueness_text auction.sale claim ≡ out = ok-is _ (report_text auction.sale auction.groups won ++ uniqueness_text auction.sale claim) out refl written in
+    let claimed = subst (λ (xs : List (List Choice)). claim_told auction (slice_index_or xs 0 []) ≡ Ok claim) (sym is) claim_is in
     record {
       won = allocations;
-      text = sym text ∙ ap (λ (xs : List (List Choice)). report_text auction.sale auction.groups xs) (sym is);
+      claim = claim;
+      text = sym text ∙ ap (λ (xs : List (List Choice)). report_text auction.sale auction.groups xs ++ uniqueness_text auction.sale claim) (sym is);
       greatest = greatest;
       costs = own-costs auction.sale (slice_index_or allocations 0 []) first auction.groups allocations greatest;
+      holds = claim-holds auction within (slice_index_or allocations 0 []) first (wins-first auction allocations wins).3 auction.uniques auction.ties claim claimed;
     }
 
 -- ---- an input
@@ -133,6 +145,32 @@ pub verified-is-true : VerifiedIsTrue
 verified-is-true workers input out told =
     let (auction, auction_is, text) = ok-behind (auction_told (request.Verify workers) input) (output_of (request.Verify workers)) out told in
     (auction, auction_is, true-report workers auction out (auction-within (request.Verify workers) input auction auction_is).1 text)
+
+-- some group has a report
+some-report : (sale : Sale) (groups : List (List ℕ)) (won : List (List Choice)) → 1 ≤ length groups → AllZip (IsGreatestWithout sale) groups won → 1 ≤ length (zip groups won)
+some-report sale [] won some each = absurd (omega arith)
+some-report sale (group ∷ groups) [] some each = absurd each
+some-report sale (group ∷ groups) (a ∷ won) some each = omega arith
+
+-- a true report that ends with the line `unique`
+only-outcome : (auction : Auction) (before : List ℕ) → 1 ≤ length auction.groups → (won : List (List Choice)) (claim : Uniqueness) → before ++ codes "unique\n" ≡ report_text auction.sale auction.groups won ++ uniqueness_text auction.sale claim
+    → AllZip (IsGreatestWithout auction.sale) auction.groups won → Holds auction.sale (slice_index_or won 0 []) claim → IsOnlyOutcome auction (before ++ codes "unique\n")
+only-outcome auction before some won uniqueness.Unasked is greatest holds = absurd (no-report auction.sale auction.groups won before (some-report auction.sale auction.groups won some greatest) is)
+only-outcome auction before some won uniqueness.Only is greatest holds = record { won = won; text = is; only = holds; costs = settled-costs auction.sale (slice_index_or won 0 []) holds auction.groups won greatest }
+only-outcome auction before some won (uniqueness.Tie other) is greatest holds = absurd (no-tie auction.sale (report_text auction.sale auction.groups won) other before is)
+
+some-groups : (workers : ℕ) (auction : Auction) (out : List ℕ) → output_of (request.Verify workers) auction ≡ Ok out → 1 ≤ length auction.groups
+some-groups workers auction out told =
+    let (won, won_is, behind) = ok-behind (and_then (winners_of_groups auction) (certified auction)) (report_and_claim auction) out told in
+    let (allocations, wins, certifies) = ok-behind (winners_of_groups auction) (certified auction) won won_is in
+    some-group auction.groups (wins-first auction allocations wins).0
+
+pub unique-is-only : UniqueIsOnly
+unique-is-only workers input before told =
+    let out = before ++ codes "unique\n" in
+    let (auction, auction_is, text) = ok-behind (auction_told (request.Verify workers) input) (output_of (request.Verify workers)) out told in
+    let report = true-report workers auction out (auction-within (request.Verify workers) input auction auction_is).1 text in
+    (auction, auction_is, only-outcome auction before (some-groups workers auction out text) report.won report.claim report.text report.greatest report.holds)
 
 -- what is written at Ok is a true report
 pub writes-true : {T E : Type 0} (workers : ℕ) (input : List ℕ) (result : Result T E) (taken taken' : Option (List ℕ)) → OnOk result (Writes (answer (request.Verify workers) input) taken taken') → OnOk result (WritesTrueReport workers input taken taken')

@@ -1,6 +1,6 @@
 -- How `verify` ends.
 use Rattle.std.proofs.Common.{◌≡◌, ℕ, List, Option, Result, Ok, Err, ap, length, refl, subst, sym, inl, inr}
-use Rattle.std.specs.Prelude.{IfErr, ◌⊎◌}
+use Rattle.std.specs.Prelude.{[], IfErr, ◌⊎◌, slice_index_or}
 use Rattle.auction_terms.specs.declared.choices.Choice.{Choice}
 use Rattle.auction_input.specs.Auction.{Auction, auction_told}
 use Rattle.answers.specs.Certified.{bounds_of, certified}
@@ -8,11 +8,11 @@ use Rattle.answers.specs.SolutionWinners.{winners_of_groups}
 use Rattle.answers.specs.Answer.{output_of}
 use Rattle.auction_input.specs.Refused.{Refuses}
 use Rattle.auction_input.specs.declared.refusal.Refusal.{Refusal}
-use Rattle.answers.specs.Exact.{Ends, IsTooWide, IsUnwritten, by_refusal}
-use Rattle.answers.specs.inside.Judging.{IsBeyondSums}
+use Rattle.answers.specs.Claimed.{claim_told}
+use Rattle.answers.specs.Exact.{Ends, IsBeyondSums, IsTooWide, IsTooWideClaim, IsUnwritten, by_refusal}
 use Rattle.auction_terms.specs.Stages.{and_then}
 use Rattle.auction_input.specs.declared.request.Request.TheVariants as request
-use Rattle.auction_input.proofs.StageFacts.{behind, stop}
+use Rattle.auction_input.proofs.StageFacts.{behind, next, stop}
 
 -- an auction of which nothing is written
 pub unwritten : {T : Type 0} (workers : ℕ) (input : List ℕ) (auction : Auction) → auction_told (request.Verify workers) input ≡ Ok auction
@@ -29,4 +29,11 @@ pub unshown : (workers : ℕ) (auction : Auction) (won : List (List Choice)) (ta
     → Refuses (certified auction won) r ⊎ ((length auction.certificates ≡ length auction.groups) × IsTooWide (bounds_of auction won) r)
     → Ends (output_of (request.Verify workers) auction) taken taken failures failures r ⊎ (IsBeyondSums auction r × (taken ≡ taken))
 unshown workers auction won taken failures r told (inl refused) = inl (by_refusal (stop _ _ r (behind _ won _ r told refused)) refl)
-unshown workers auction won taken failures r told (inr (each, wide)) = inr ((won, told, each, wide), refl)
+unshown workers auction won taken failures r told (inr (each, wide)) = inr ((won, told, inl (each, wide)), refl)
+
+-- solutions and certificates that are taken, and a claim of which nothing comes
+pub unclaimed : (workers : ℕ) (auction : Auction) (won : List (List Choice)) (taken : Option (List ℕ)) (failures : ℕ) (r : Refusal) → winners_of_groups auction ≡ Ok won → certified auction won ≡ Ok won
+    → Refuses (claim_told auction (slice_index_or won 0 [])) r ⊎ IsTooWideClaim auction r
+    → Ends (output_of (request.Verify workers) auction) taken taken failures failures r ⊎ (IsBeyondSums auction r × (taken ≡ taken))
+unclaimed workers auction won taken failures r told certifies (inl refused) = inl (by_refusal (behind _ won _ r (next _ won _ _ told certifies) (stop _ _ r refused)) refl)
+unclaimed workers auction won taken failures r told certifies (inr wide) = inr ((won, told, inr (certifies, wide)), refl)

@@ -1,5 +1,5 @@
 -- What a command leaves, by what is told: the whole output, or the first refusal.
-use Rattle.std.specs.Prelude.{◌≡◌, ◌⊎◌, ◌+◌, ◌<◌, ℕ, List, ℤ, Option, Result, Ok, length, take}
+use Rattle.std.specs.Prelude.{◌≡◌, ◌⊎◌, ◌+◌, ◌<◌, ◌∷◌, ℕ, List, [], ℤ, Option, Result, Ok, length, take}
 use Rattle.std.specs.Io.KnownBytes.{Appends}
 use Rattle.auction_input.specs.Auction.{Auction, auction_told}
 use Rattle.auction_input.specs.Refused.{Refuses}
@@ -15,7 +15,7 @@ use Rattle.mps_text.specs.declared.write_fault.WriteFault.TheVariants as write
 use Rattle.optimality.specs.declared.fault.FaultKind.TheVariants as certificate
 use Rattle.program_rows.specs.Program.{Table}
 use Rattle.answers.specs.Answer.{answer}
-use Rattle.answers.specs.Certified.{bounds_of, shown}
+use Rattle.answers.specs.Certified.{bounds_of, certified, shown}
 use Rattle.answers.specs.SolutionWinners.{winners_of_groups}
 
 -- the output that is told was written, and nothing else
@@ -33,11 +33,20 @@ IsTooWide bounds r =
     (before : ℕ) × (line : ℕ) × (before < length bounds) × ((all : List (Unit {0})) × (each_in_turn shown 1 (take before bounds) ≡ Ok all))
     × (r ≡ refusal.Certificate (before + 1) (record { line = line; kind = certificate.TooLarge }))
 
--- `verify` alone adds up in 128 bits: the same of the certificates of an auction that the input tells, behind solutions that are taken
+-- the same of the one certificate that is to show the winners to be the only ones
+abbrev pub IsTooWideClaim : Auction → Refusal → Type 0
+IsTooWideClaim auction r =
+    (text : List ℕ) × (line : ℕ) × (auction.uniques ≡ text ∷ []) × (auction.ties ≡ []) × (r ≡ refusal.Unique (record { line = line; kind = certificate.TooLarge }))
+
+-- behind solutions that are taken it is a certificate of the groups, or behind all of these that of the claim
+abbrev pub IsBeyondSums : Auction → Refusal → Type 0
+IsBeyondSums auction r =
+    (won : List (List Choice)) × (winners_of_groups auction ≡ Ok won)
+    × (((length auction.certificates ≡ length auction.groups) × IsTooWide (bounds_of auction won) r) ⊎ ((certified auction won ≡ Ok won) × IsTooWideClaim auction r))
+
+-- `verify` alone adds up in 128 bits
 abbrev pub MeetsLimit : Request → List ℕ → Refusal → Type 0
-MeetsLimit (request.Verify workers) input r =
-    (auction : Auction) × (auction_told (request.Verify workers) input ≡ Ok auction)
-    × ((won : List (List Choice)) × (winners_of_groups auction ≡ Ok won) × (length auction.certificates ≡ length auction.groups) × IsTooWide (bounds_of auction won) r)
+MeetsLimit (request.Verify workers) input r = (auction : Auction) × (auction_told (request.Verify workers) input ≡ Ok auction) × IsBeyondSums auction r
 MeetsLimit asked input r = ⊥
 
 -- why a request is refused, or its output cut short; what the input doesn't settle is a wrong answer of the desk, and the limit of sums

@@ -1,5 +1,5 @@
 -- What is written for all groups: for each in order a line with its number and names, and then the text of its program.
-use Rattle.std.specs.Prelude.{◌≡◌, ◌≤◌, ◌<◌, ◌+◌, ◌-◌, ⊤, ℕ, List, [], ◌∷◌, ◌++◌, Option, None, Some, codes, decimal, length, take, min, ◌^◌}
+use Rattle.std.specs.Prelude.{◌≡◌, ◌≤◌, ◌<◌, ◌-◌, ⊤, ℕ, List, ◌++◌, Option, None, Some, codes, length, take, min, ◌^◌}
 use Rattle.bid_desk.specs.Closing.{Closing}
 use Rattle.group_compiler.specs.Compiled.{GroupProgram}
 use Rattle.mps_text.specs.Sinks.{HasFailed}

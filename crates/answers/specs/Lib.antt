@@ -1,6 +1,7 @@
 pub mod Answer
 pub mod Asked
 pub mod Certified
+pub mod Claimed
 pub mod Exact
 pub mod FaithfulAnswers
 pub mod FeasibleAnswers

@@ -1,14 +1,19 @@
--- What `verify` writes where it ends well: allocations of greatest total, and so the groups' own opportunity costs.
-use Rattle.std.specs.Prelude.{◌≡◌, ℕ, false, List, [], Option, Ok, slice_index_or}
+-- What `verify` writes where it ends well: allocations of greatest total, and so the groups' own opportunity costs; and what it says of other outcomes.
+use Rattle.std.specs.Prelude.{◌≡◌, ◌++◌, ⊤, ℕ, false, List, [], Option, Ok, codes, slice_index_or}
 use Rattle.std.specs.Io.KnownBytes.{Appends}
 use Rattle.std.specs.List.{AllZip}
 use Rattle.auction_input.specs.Auction.{Auction, auction_told}
 use Rattle.auction_input.specs.declared.request.Request.TheVariants.{Verify}
 use Rattle.auction_terms.specs.Groups.{has}
+use Rattle.auction_terms.specs.Only.{IsOnly}
 use Rattle.auction_terms.specs.declared.choices.Choice.{Choice}
 use Rattle.outcome.specs.Costs.{IsCost, IsGreatestTotal, opportunity_cost}
 use Rattle.outcome.specs.Report.{amounts_of_group, cost, report_text}
 use Rattle.outcome.specs.Sale.{Sale}
+use Rattle.outcome.specs.Ties.{IsTheCost, IsTie}
+use Rattle.outcome.specs.Uniqueness.{uniqueness_text}
+use Rattle.outcome.specs.declared.uniqueness.Uniqueness.TheVariants as uniqueness
+use Rattle.outcome.specs.declared.uniqueness.Uniqueness.{Uniqueness}
 use Rattle.program_rows.specs.Faithful.{IsGreatest}
 use Rattle.answers.specs.Answer.{answer}
 
@@ -22,16 +27,40 @@ pub record IsOwnCost (sale : Sale) (first : List Choice) (group : List ℕ) (a :
       → cost sale.lots sale.book first group a ≡ opportunity_cost of_all without (amounts_of_group sale.book group first)
   pub law : IsCost sale.lots sale.book first group a
 
--- a report on an allocation of greatest total for each group, and on the groups' opportunity costs
+-- what is said of other outcomes holds of the allocation with nobody left out
+abbrev pub Holds : Sale → List Choice → Uniqueness → Type 0
+Holds sale first uniqueness.Unasked = ⊤
+Holds sale first uniqueness.Only = IsOnly sale.lots sale.book (λ b. false) first
+Holds sale first (uniqueness.Tie other) = IsTie sale.lots sale.book (λ b. false) first other
+
+-- a report on an allocation of greatest total for each group, and on the groups' opportunity costs; and behind it what is said of other outcomes
 pub record IsTrueReport (auction : Auction) (out : List ℕ) : Type 0 where
   pub won : List (List Choice)
-  pub text : out ≡ report_text auction.sale auction.groups won
+  pub claim : Uniqueness
+  pub text : out ≡ report_text auction.sale auction.groups won ++ uniqueness_text auction.sale claim
   pub greatest : AllZip (IsGreatestWithout auction.sale) auction.groups won
   pub costs : AllZip (IsOwnCost auction.sale (slice_index_or won 0 [])) auction.groups won
+  pub holds : Holds auction.sale (slice_index_or won 0 []) claim
 
 -- what `verify` answers of an input is a true report on the auction that the input tells
 abbrev pub VerifiedIsTrue : Type 0
 VerifiedIsTrue = (workers : ℕ) (input out : List ℕ) → answer (Verify workers) input ≡ Ok out → (auction : Auction) × (auction_told (Verify workers) input ≡ Ok auction) × IsTrueReport auction out
+
+-- whichever allocations of greatest total are taken, the group's cost is the one that is written
+abbrev pub IsSettledCost : Sale → List Choice → List ℕ → List Choice → Type 0
+IsSettledCost sale first group a = IsTheCost sale.lots sale.book group (cost sale.lots sale.book first group a)
+
+-- the winners are the only ones of so great a total, and the costs follow from the lots, the bids and the group
+pub record IsOnlyOutcome (auction : Auction) (out : List ℕ) : Type 0 where
+  pub won : List (List Choice)
+  pub text : out ≡ report_text auction.sale auction.groups won ++ codes "unique\n"
+  pub only : IsOnly auction.sale.lots auction.sale.book (λ b. false) (slice_index_or won 0 [])
+  pub costs : AllZip (IsSettledCost auction.sale (slice_index_or won 0 [])) auction.groups won
+
+-- where what `verify` answers of an input ends with the line `unique`, that is so
+abbrev pub UniqueIsOnly : Type 0
+UniqueIsOnly = (workers : ℕ) (input before : List ℕ) → answer (Verify workers) input ≡ Ok (before ++ codes "unique\n")
+    → (auction : Auction) × (auction_told (Verify workers) input ≡ Ok auction) × IsOnlyOutcome auction (before ++ codes "unique\n")
 
 -- a true report on the auction that an input tells was written, and nothing else
 pub record WritesTrueReport (workers : ℕ) (input : List ℕ) (taken taken' : Option (List ℕ)) : Type 0 where

@@ -1,3 +1,4 @@
+pub mod Claiming
 pub mod GroupTexts
 pub mod Judging
 pub mod Runs

@@ -2,6 +2,7 @@
 #![tactic(auto)]
 
 mod certified;
+mod claimed;
 mod commands;
 mod compile_run;
 mod group_texts;
@@ -17,6 +18,7 @@ mod telling;
 mod winning;
 
 pub use certified::check_certificates;
+pub use claimed::claim_of;
 pub use commands::answer;
 pub use commands::verify::verify;
 pub use compile_run::run_compile;

@@ -1,5 +1,5 @@
 -- What the code holds of certificates while it judges them.
-use Rattle.std.specs.Prelude.{◌≡◌, ◌+◌, ◌++◌, ℕ, ℤ, List, ◌∷◌, Result, Ok, Err, length, map, replicate}
+use Rattle.std.specs.Prelude.{◌≡◌, ◌+◌, ◌++◌, ℕ, ℤ, List, ◌∷◌, Result, Ok, Err, map, replicate}
 use Rattle.std.specs.List.{zip}
 use Rattle.auction_input.specs.declared.refusal.Refusal.{Refusal}
 use Rattle.auction_terms.specs.Stages.{each_in_turn}
@@ -12,10 +12,7 @@ use Rattle.optimality.specs.Answers.{IsVerdict}
 use Rattle.program_rows.specs.Program.{Table}
 use Rattle.optimality.specs.Verdict.{certificate_fault}
 use Rattle.optimality.specs.declared.fault.CertificateFault.{CertificateFault}
-use Rattle.answers.specs.Certified.{bound_of, bounds_of, shown}
-use Rattle.answers.specs.Exact.{IsTooWide}
-use Rattle.answers.specs.SolutionWinners.{winners_of_groups}
-use Rattle.auction_input.specs.Auction.{Auction}
+use Rattle.answers.specs.Certified.{bound_of, shown}
 use Rattle.answers.specs.declared.certified.ClaimedBound as declared
 
 -- the value of a bound that the code holds
@@ -38,7 +35,3 @@ AllShown bounds = (all : List (Unit {0})) × (each_in_turn shown 1 bounds ≡ Ok
 abbrev pub IsFirstFaulty : List (Result (Unit {0}) CertificateFault) → Refusal → Type 0
 IsFirstFaulty verdicts (refusal.Certificate n f) = (before : ℕ) × (after : List (Result (Unit {0}) CertificateFault)) × (verdicts ≡ replicate before (Ok tt) ++ Err f ∷ after) × (n ≡ before + 1)
 IsFirstFaulty verdicts r = ⊥
-
--- certificates of which one can't be judged, behind solutions that are taken
-abbrev pub IsBeyondSums : Auction → Refusal → Type 0
-IsBeyondSums auction r = (won : List (List Choice)) × (winners_of_groups auction ≡ Ok won) × (length auction.certificates ≡ length auction.groups) × IsTooWide (bounds_of auction won) r

@@ -1,24 +1,24 @@
-//! The command `verify`: a report of solutions that certificates show to be optimal.
+//! The command `verify`: a report of solutions that certificates show to be optimal, and what comes of a claim that they are the only ones.
 
 ghost use Rattle.std.specs.Prelude.{◌≡◌, ◌⊎◌, ◌≤◌, IfErr, OnOk};
 ghost use Rattle.group_compiler.specs.declared.limits.TheConstants.{MOST_WORKERS};
 ghost use Rattle.answers.specs.Answer.{answer, output_of};
 ghost use Rattle.auction_input.specs.Settled.{held};
-ghost use Rattle.answers.specs.Exact.{Ends, IsUnwritten, Writes};
-ghost use Rattle.answers.specs.inside.Judging.{IsBeyondSums};
+ghost use Rattle.answers.specs.Exact.{Ends, IsBeyondSums, IsUnwritten, Writes};
 ghost use Rattle.auction_input.specs.Sold.{HasSold};
 ghost use Rattle.answers.specs.Verified.{WritesTrueReport};
 
 use crate::certified::check_certificates;
+use crate::claimed::claim_of;
 use crate::report_run::won_by_groups;
 use auction_input::{Auction, Refusal, Request, read_auction};
 use mps_text::Sink;
-use outcome::report;
+use outcome::report_with;
 use std::sync::Wait;
 use std::thread::Threads;
 
 /// Writes what the solutions of all groups win, and the groups' opportunity costs, where certificates show that nobody
-/// wins more without its group.
+/// wins more without its group; and behind it, where it is claimed, that nobody else can win as much, or a tie.
 pub fn verify<R: Threads + Wait + Sync + AllocGlobal, S: Sink>(
     rt: &R,
     text: &[u8],
@@ -57,6 +57,7 @@ fn write_verified<R: Threads + Wait + Sync + AllocGlobal, S: Sink>(
     let won = won_by_groups(rt, auction, workers)?;
     let allocations = won.as_slice();
     check_certificates(rt, rt.alloc(), auction, allocations)?;
-    report(&auction.book, &auction.groups, allocations, out)?;
+    let claim = claim_of(rt, rt.alloc(), auction, allocations)?;
+    report_with(&auction.book, &auction.groups, allocations, &claim, out)?;
     Ok(())
 }

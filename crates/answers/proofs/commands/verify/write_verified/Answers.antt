@@ -1,18 +1,18 @@
-use Rattle.std.proofs.Common.{◌≡◌, ◌∙◌, List, Ok, ap, inl, refl, sym}
+use Rattle.std.proofs.Common.{◌≡◌, ◌++◌, ◌∙◌, List, Ok, ap, inl, refl, sym}
 use Rattle.std.specs.Prelude.{◌⊎◌}
 use Rattle.auction_terms.specs.declared.choices.Choice.{Choice}
 use Rattle.outcome.specs.Report.{report_text}
 use Rattle.outcome.specs.Sale.{sale_of}
+use Rattle.outcome.specs.Uniqueness.{uniqueness_text}
 use Rattle.answers.specs.Answer.{output_of}
 use Rattle.auction_input.specs.declared.request.Request.TheVariants as request
 use Rattle.auction_input.specs.Settled.{held}
-use Rattle.answers.specs.Exact.{Ends, by_refusal}
-use Rattle.answers.specs.inside.Judging.{IsBeyondSums}
+use Rattle.answers.specs.Exact.{Ends, IsBeyondSums, by_refusal}
 use Rattle.auction_input.specs.declared.refusal.Refusal.TheVariants as refusal
 use Rattle.answers.proofs.CommandFacts.{cut-short}
 use Rattle.auction_input.proofs.RefusalFacts.{if-err-of}
 use Rattle.auction_input.proofs.StageFacts.{next, stop}
-use Rattle.answers.proofs.VerifyFacts.{unshown}
+use Rattle.answers.proofs.VerifyFacts.{unclaimed, unshown}
 use Rattle.answers.proofs.commands.verify.write_verified.Goals as goal
 
 pub returns-clause-written : goal.returns-clause-written
@@ -20,8 +20,9 @@ returns-clause-written g c =
     let auction = c.args.auction.now in
     let all = c.as_slice-allocations.result.now in
     let won = c.in_ok-won.ensures.won ∙ ap (λ (xs : List (List Choice)). Ok xs) (sym c.as_slice-allocations.ensures.value) in
-    let sent = c.in_ok-report.ensures.ok in
-    (report_text (sale_of auction.book) auction.groups all, next _ all _ _ (next _ all _ _ won c.in_ok-check_certificates.ensures.shown) refl, sent)
+    let claim = c.in_ok-claim.claim in
+    let sent = c.in_ok-report_with.ensures.ok in
+    (report_text (sale_of auction.book) auction.groups all ++ uniqueness_text (sale_of auction.book) claim, next _ all _ _ (next _ all _ _ won c.in_ok-check_certificates.ensures.shown) (next _ claim _ _ c.in_ok-claim.ensures.told refl), sent)
 
 pub returns-in_err-won-clause-refused : goal.returns-in_err-won-clause-refused
 returns-in_err-won-clause-refused g c =
@@ -42,17 +43,28 @@ returns-in_err-check_certificates-clause-refused g c =
     if-err-of (λ e. Ends (output_of (request.Verify c.args.workers) auction) taken taken failures failures e ⊎ (IsBeyondSums auction e × (taken ≡ taken))) c.from_residual-in_err-check_certificates.result r c.from_residual-in_err-check_certificates.ensures.1
     (unshown c.args.workers auction c.as_slice-allocations.result.now taken failures r won c.in_err-check_certificates.ensures.refuses)
 
-pub returns-in_err-report-clause-refused : goal.returns-in_err-report-clause-refused
-returns-in_err-report-clause-refused g c =
+pub returns-in_err-claim-clause-refused : goal.returns-in_err-claim-clause-refused
+returns-in_err-claim-clause-refused g c =
+    let auction = held c.args.auction.now in
+    let taken = g.S.Sink.taken c.args.out.now in
+    let failures = g.S.Sink.failures c.args.out.now in
+    let r = c.in_err-claim.field-0.0 in
+    let won = c.in_ok-won.ensures.won ∙ ap (λ (xs : List (List Choice)). Ok xs) (sym c.as_slice-allocations.ensures.value) in
+    if-err-of (λ e. Ends (output_of (request.Verify c.args.workers) auction) taken taken failures failures e ⊎ (IsBeyondSums auction e × (taken ≡ taken))) c.from_residual-in_err-claim.result r c.from_residual-in_err-claim.ensures.1
+    (unclaimed c.args.workers auction c.as_slice-allocations.result.now taken failures r won c.in_ok-check_certificates.ensures.shown c.in_err-claim.ensures.refuses)
+
+pub returns-in_err-report_with-clause-refused : goal.returns-in_err-report_with-clause-refused
+returns-in_err-report_with-clause-refused g c =
     let auction = c.args.auction.now in
     let taken = g.S.Sink.taken c.args.out.now in
-    let taken' = g.S.Sink.taken c.report.new.sink in
+    let taken' = g.S.Sink.taken c.report_with.new.sink in
     let failures = g.S.Sink.failures c.args.out.now in
-    let failures' = g.S.Sink.failures c.report.new.sink in
+    let failures' = g.S.Sink.failures c.report_with.new.sink in
     let all = c.as_slice-allocations.result.now in
-    let f = c.in_err-report.field-0.0 in
+    let claim = c.in_ok-claim.claim in
+    let f = c.in_err-report_with.field-0.0 in
     let won = c.in_ok-won.ensures.won ∙ ap (λ (xs : List (List Choice)). Ok xs) (sym c.as_slice-allocations.ensures.value) in
-    let sent = c.in_err-report.ensures.err in
-    if-err-of (λ e. Ends (output_of (request.Verify c.args.workers) (held auction)) taken taken' failures failures' e ⊎ (IsBeyondSums (held auction) e × (taken' ≡ taken))) c.from_residual-in_err-report.result (refusal.Write f) c.from_residual-in_err-report.ensures.1
-    (inl (cut-short _ (report_text (sale_of auction.book) auction.groups all) taken taken' failures failures' f
-    (next _ all _ _ (next _ all _ _ won c.in_ok-check_certificates.ensures.shown) refl) sent c.in_err-report.ensures.failed))
+    let sent = c.in_err-report_with.ensures.err in
+    if-err-of (λ e. Ends (output_of (request.Verify c.args.workers) (held auction)) taken taken' failures failures' e ⊎ (IsBeyondSums (held auction) e × (taken' ≡ taken))) c.from_residual-in_err-report_with.result (refusal.Write f) c.from_residual-in_err-report_with.ensures.1
+    (inl (cut-short _ (report_text (sale_of auction.book) auction.groups all ++ uniqueness_text (sale_of auction.book) claim) taken taken' failures failures' f
+    (next _ all _ _ (next _ all _ _ won c.in_ok-check_certificates.ensures.shown) (next _ claim _ _ c.in_ok-claim.ensures.told refl)) sent c.in_err-report_with.ensures.failed))
