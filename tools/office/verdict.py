@@ -1,4 +1,4 @@
-"""Whether a text is a certificate that no point of a program has an objective below a bound.
+"""Whether a text is a certificate that no point of a program has an objective below a bound, or none but one as low as that one.
 
 This is the definition alone, in Python's whole numbers: a second opinion, and the judge in tests. docs/FORMATS.md has
 the grammar and the order of faults.
@@ -31,10 +31,10 @@ class Split:
 
     __slots__ = ("form", "most", "is_high", "widest")
 
-    def __init__(self, form, most):
+    def __init__(self, form, most, is_high=False):
         self.form = form
         self.most = most
-        self.is_high = False
+        self.is_high = is_high
         self.widest = max((abs(number) for _, number in form), default=0)
 
 
@@ -51,9 +51,6 @@ class Verdict(NamedTuple):
 
     fault: Optional[Fault]
     large_line: Optional[int]
-
-    def __str__(self):
-        return "shown" if self.fault is None else str(self.fault)
 
 
 class Checker:
@@ -75,17 +72,27 @@ class Checker:
 
     def verdict(self, least, text):
         """What the text comes to as a certificate that no point has an objective below `least`."""
-        return Reading(self, least).verdict(text)
+        return Reading(self, least, []).verdict(text)
+
+    def only_verdict(self, ones, text):
+        """What it comes to as a certificate that no point but that of these columns at 1 has an objective as low."""
+        return Reading(self, self.program.objective(ones) + 1, [all_others(self.program, ones)]).verdict(text)
+
+
+def all_others(program, ones):
+    """The second side of a split whose first side has no point but that of these columns at 1."""
+    free = [place for place, column in enumerate(program.columns) if column.lower != column.upper]
+    return Split([(place, -1 if place in ones else 1) for place in free], -len(ones.intersection(free)), True)
 
 
 class Reading:
-    """One text that is read as a certificate for one bound."""
+    """One text that is read as a certificate for one bound, below splits that are open."""
 
-    def __init__(self, checker, least):
+    def __init__(self, checker, least, splits):
         self.checker = checker
         self.program = checker.program
         self.least = least
-        self.splits = []
+        self.splits = splits
         self.is_whole = False
         self.large_line = None
 

@@ -58,6 +58,12 @@ BOUNDS
 ENDATA
 """
 
+ONE_COLUMN = b"ROWS\n N OBJ\n L C\nCOLUMNS\n X1 OBJ -12 C 1\nRHS\n R C 1\nBOUNDS\n BV X1\nENDATA\n"
+
+FIXED_ALONE = b"ROWS\n N OBJ\n L C\nCOLUMNS\n K OBJ -80\nRHS\n R C 1\nBOUNDS\n BV K\n FX BND K 1\nENDATA\n"
+
+EMPTY = b"ROWS\n N OBJ\n L C\nCOLUMNS\nRHS\n R C 1\nENDATA\n"
+
 
 def fault_of(program, least, text):
     return Checker(read_program(program, "program")).verdict(least, text).fault
@@ -161,6 +167,62 @@ class FixedColumns(unittest.TestCase):
     def test_a_column_fixed_to_0_counts_for_nothing(self):
         self.check(b"bound 1\n", -80)
         self.check(b"bound 1\n", -79, (1, "NotShown"))
+
+
+class Only(unittest.TestCase):
+    """Certificates that no other point has an objective as low, judged behind a split that parts the point from all others."""
+
+    def check(self, program, ones, text, fault=None):
+        told = read_program(program, "program")
+        places = {told.column_places[name] for name in ones}
+        self.assertEqual(Checker(told).only_verdict(places, text).fault, fault, text[:80])
+
+    def test_one_column(self):
+        # X1 at most 0 times 1, where the objective is to be -11 or more: -12 + 1 is above -12
+        self.check(ONE_COLUMN, [b"X1"], b"bound 1 1\n")
+        self.check(ONE_COLUMN, [b"X1"], b"bound 1 12\n")
+        self.check(ONE_COLUMN, [b"X1"], b"bound 1 0\n", (1, "NotShown"))
+        self.check(ONE_COLUMN, [b"X1"], b"bound 1 0 C 12\n", (1, "NotShown"))
+
+    def test_a_point_that_is_beaten_is_not_the_only_one(self):
+        for multiplier in range(20):
+            self.check(ONE_COLUMN, [], b"bound 1 %d\n" % multiplier, (1, "NotShown"))
+            self.check(ONE_COLUMN, [], b"bound 0 %d\n" % multiplier, (1, "NotShown"))
+
+    def test_the_first_multiplier_is_the_split_above_the_root(self):
+        self.check(ONE_COLUMN, [b"X1"], b"bound 1\n", (1, "Fields"))
+        self.check(ONE_COLUMN, [b"X1"], b"bound 1 C 12\n", (1, "NumberText"))
+        self.check(ONE_COLUMN, [b"X1"], b"bound 1 -1\n", (1, "Sign"))
+        self.check(ONE_COLUMN, [b"X1"], b"split 0 X1 1\nbound 1 0 12\nbound 0 1 1\n")
+        self.check(ONE_COLUMN, [b"X1"], b"split 0 X1 1\nbound 1 0 12\nbound 0 0 1\n", (3, "NotShown"))
+        self.check(ONE_COLUMN, [b"X1"], b"split 0 X1 1\nbound 1 0 12\nbound 0 1 0\n", (3, "NotShown"))
+
+    def test_no_second_side_of_that_split_is_told(self):
+        self.check(ONE_COLUMN, [b"X1"], b"bound 1 1\nbound 1 1\n", (2, "Beyond"))
+        self.check(ONE_COLUMN, [b"X1"], b"", (0, "NoEnd"))
+        self.check(ONE_COLUMN, [b"X1"], b"split 0 X1 1\nbound 1 0 12\n", (2, "NoEnd"))
+
+    def test_of_three_where_one_pays_more(self):
+        more = ODD_CYCLE.replace(b" X1 OBJ -2", b" X1 OBJ -3")
+        # without X1 there are 2 pounds, and with it the others are 0, so that X1 at most X2 and X3 together can't be
+        self.check(more, [b"X1"], b"split 0 X1 1\nbound 1 0 3 B 2\nbound 0 1 3 A1 1 A2 1\n")
+        self.check(more, [b"X1"], b"split 0 X1 1\nbound 1 0 3 B 2\nbound 0 0 3 A1 1 A2 1\n", (3, "NotShown"))
+        self.check(more, [b"X2"], b"split 0 X1 1\nbound 1 0 3 B 2\nbound 0 1 3 A1 1 A2 1\n", (2, "NotShown"))
+
+    def test_a_tie_is_not_shown(self):
+        self.check(ODD_CYCLE, [b"X1"], b"split 0 X1 1\nbound 1 0 2 B 2\nbound 0 1 3 A1 1 A2 1\n", (2, "NotShown"))
+
+    def test_fixed_columns_do_not_count(self):
+        # X1 and X4 less X2 at most 1: that alone parts X1 and X4 from X1 and X2, at -72 with K
+        self.check(FIXED, [b"X1", b"X4", b"K"], b"bound 1 1 AT_LEAST -6 EQUAL 4\n")
+        self.check(FIXED, [b"X1", b"X2", b"K"], b"bound 1 1 AT_LEAST -6 EQUAL 4\n", (1, "NotShown"))
+
+    def test_without_free_columns_there_is_no_other_point(self):
+        for program, ones in ((FIXED_ALONE, [b"K"]), (EMPTY, [])):
+            # none of no columns, which is 0, is at most -1
+            self.check(program, ones, b"bound 0 1\n")
+            self.check(program, ones, b"bound 1 1\n")
+            self.check(program, ones, b"bound 1 0\n", (1, "NotShown"))
 
 
 class Sizes(unittest.TestCase):
