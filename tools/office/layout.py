@@ -18,10 +18,12 @@ NEVER_AT_ANY_SIZE = 10 ** 60
 
 
 class Layout:
-    """`members` has the columns of each block, `block_rows` their rows (or None), `shared` the places of shared rows."""
+    """`members` has the columns of each block, `block_rows` their rows (or None), `shared` the places of shared rows.
+    `split_row` is the place of a row that stands for a split which is open above the root, or None."""
 
-    def __init__(self, program):
+    def __init__(self, program, split_row=None):
         self.program = program
+        self.split_row = split_row
         columns = program.columns
         self.count = len(columns)
         self.is_open = np.array([column.lower != column.upper for column in columns], bool)

@@ -121,13 +121,17 @@ class Leaf:
         column = scale * self.layout.largest_cost + sum(abs(number) * widest.get(row, 1) for row, number in rows)
         column += sum(number * len(cut.places) for number, cut in zip(self.cuts, self.node.path))
         right = sum(abs(number * self.layout.program.rows[row].right_side) for row, number in rows) + 2 * sum(self.cuts)
-        return column * (self.layout.count + 1) + right < WIDEST
+        # the checker counts each column of a split's form, and one more on its right side
+        above = dict(rows).get(self.layout.split_row, 0)
+        return (column + above * self.layout.count) * (self.layout.count + 1) + right + 2 * above < WIDEST
 
     def line(self):
-        words = ["bound", str(self.bound.scale), *map(str, self.cuts)]
-        names = self.layout.program.rows
-        for row, number in self.rows():
-            words += [names[row].name.decode("ascii"), str(number)]
+        """The multiplier of a split above the root stands first."""
+        rows = dict(self.rows())
+        above = [] if self.layout.split_row is None else [rows.pop(self.layout.split_row, 0)]
+        words = ["bound", str(self.bound.scale), *map(str, above + self.cuts)]
+        for row, number in rows.items():
+            words += [self.layout.program.rows[row].name.decode("ascii"), str(number)]
         return " ".join(words).encode("ascii")
 
 

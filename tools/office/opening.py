@@ -39,7 +39,7 @@ def open_root(search, prices):
         node = search.fix(bound, PART if turn else 0)
         gap = search.least - 1 - bound.value
         relaxation = Relaxation(layout, Bound(layout, node, 1, prices), np.flatnonzero(node.allowed), gap)
-        search.say("objective %d, root bound %d, %d of %d columns left, %.1f s"
+        search.say("to show %d, root bound %d, %d of %d columns left, %.1f s"
                    % (search.least, bound.value, relaxation.count, layout.count, search.clock.seconds()))
         relaxation.enter(node)
         if relaxation.solve(seconds=search.clock.seconds_for_solver()) is None:

@@ -53,6 +53,11 @@ class Second(NamedTuple):
     last: int
 
 
+def names_of(ones, program):
+    """The columns at 1, in words."""
+    return " ".join(program.columns[place].name.decode("ascii") for place in sorted(ones)) or "no columns"
+
+
 class Search:
     """`ones` is the best point that is known; with `improves` the search goes on at better ones."""
 
@@ -102,11 +107,14 @@ class Search:
     def check_limits(self):
         why = self.clock.limit_reached(len(self.lines))
         if why:
-            between = "" if self.root_value is None else "; the least objective is between %d and %d" % (self.root_value, self.least)
-            raise Stopped("%s is reached after %d leaves, with %d subtrees open%s"
-                          % (why, self.leaves, len(self.tasks), between), 4)
+            known = "" if self.root_value is None else "; " + self.known()
+            raise Stopped("%s is reached after %d leaves, with %d subtrees open%s" % (why, self.leaves, len(self.tasks), known), 4)
         if self.clock.is_time_to_say():
             self.say("%d leaves, %d subtrees open, %.0f s" % (self.leaves, len(self.tasks), self.clock.seconds()))
+
+    def known(self):
+        """What is known where the search ends early."""
+        return "the least objective is between %d and %d" % (self.root_value, self.least)
 
     def beside(self, program, ones, nodes):
         """A search of another program in the time that is left, without messages."""
@@ -244,10 +252,13 @@ class Search:
             return False
         gain, self.ones, self.least = self.least - objective, ones, objective
         if not self.improves:
-            names = " ".join(self.program.columns[place].name.decode("ascii") for place in sorted(ones))
-            raise NotOptimal("the solution isn't optimal: its objective is at least %d above the least; %s are better"
-                             % (gain, names), 3)
+            raise self.beaten(gain)
         self.say("a better point: %d, by %d, %.1f s" % (objective, gain, self.clock.seconds()))
         if self.at_root and self.at_root.units(objective - 1) < FEWEST_UNITS:
             raise Again()
         return True
+
+    def beaten(self, gain):
+        """What is told of a better point, where the search doesn't go on at it."""
+        return NotOptimal("the solution isn't optimal: its objective is at least %d above the least; %s are better"
+                          % (gain, names_of(self.ones, self.program)), 3)
