@@ -31,6 +31,14 @@ class Formats(unittest.TestCase):
         program = auctions.auction((1, 1, 1), [[(2, (1, 1, 0))], [(2, (1, 0, 1))], [(2, (0, 1, 1))]])
         self.check(program, pieces(b"Certificates")[1], -2)
 
+    def test_the_one_that_a_solution_is_the_only_one(self):
+        checker = Checker(read_program(pieces(b"Written programs")[0], "program"))
+        only = pieces(b"Certificates")[2]
+        self.assertEqual(checker.only_verdict({0}, only), (None, None))
+        self.assertEqual(checker.only_verdict(set(), only).fault, (1, "NotShown"))
+        # as a certificate of optimality it ends between a name and its number
+        self.assertEqual(checker.verdict(-12, only).fault, (1, "Fields"))
+
 
 if __name__ == "__main__":
     unittest.main()
