@@ -10,20 +10,21 @@ from dataclasses import asdict
 
 from office import disproved, inputs, running
 from office.audit import printed, with_answers
+from office.claim import TIE, UNIQUE, Shown, shown_behind, with_shown
 from office.cut import columns_of, cut_off, other_of_same_total
 from office.ending import end_by_interrupt, end_with_parent
 from office.folder import WRONG, remove
 from office.optimal import NotOptimal, check_answer
 from office.report import read_report
 from office.results import results_of
-from office.run_record import GroupTold, RunTold
+from office.run_record import GroupTold, Proof, RunTold
 from office.solving import NO_SOLUTION
-from office.telling import UNDECIDED, not_certified, tie_lines
+from office.telling import PROOFS, UNDECIDED, not_certified, tie_lines
 from office.totals import Answers, check_totals, compare, doubt, named, ties, with_asked_for
-from office.workflow import find_solvers, tied_groups, wdp_version
+from office.workflow import find_solvers, only_groups, tied_groups, wdp_version
 
 TOOLS = os.path.dirname(os.path.dirname(os.path.realpath(__file__)))
-LIMIT = 4  # the status of tools/certify where a limit is reached
+LIMIT, TIED = 4, 5  # the statuses of tools/certify where a limit is reached, and where another point is as good
 
 
 def say(text):
@@ -192,11 +193,38 @@ def certify_all(folder, names, solver, given):
     failed = on_each(names, given, words_of, "%s is being certified", done)
     say_failed(failed, names)
     statuses = {stopped.status for stopped in failed.values()}
-    if WRONG in statuses:
-        raise running.Stopped("no report: an answer of %s isn't optimal" % solver.name, WRONG)
+    refuse_not_optimal(statuses, solver)
     if failed:
         raise running.Stopped("no report: %d of %d groups aren't certified; --no-certify reports what the solver says"
                               % (len(failed), len(names)), LIMIT if LIMIT in statuses else 1)
+
+
+def refuse_not_optimal(statuses, solver):
+    if WRONG in statuses:
+        raise running.Stopped("no report: an answer of %s isn't optimal" % solver.name, WRONG)
+
+
+def claim_of(folder, names, solver, given):
+    """What is claimed of group 1's winners, as a part for `wdp verify`; nothing where it isn't asked for or not finished."""
+    limit, claims = ["--time-limit", str(given.time_limit)] if given.time_limit else [], []
+    program, solution, other = (os.path.join(folder, name) for name in ("1.mps", "1.%s.solution" % solver.name, "1.other.solution"))
+    remove(folder, "1.other.solution")
+
+    def words_of(number):
+        if number not in only_groups(given):
+            return None
+        return [os.path.join(TOOLS, "certify"), "--unique", *limit, "--solution-output", other, program, solution]
+
+    def done(number, certificate, told):
+        claims.append(UNIQUE + certificate)
+        tell(given, told % "the winners are the only ones, certified" + ", %d bytes" % len(certificate))
+
+    failed = on_each(names, given, words_of, "%s: other winners are being ruled out", done)
+    if failed and failed[1].status == TIED:
+        return TIE + running.content(other)
+    say_failed(failed, names)
+    refuse_not_optimal({stopped.status for stopped in failed.values()}, solver)
+    return b"".join(claims)
 
 
 def ask_for_ties(folder, names, solver, given):
@@ -226,26 +254,39 @@ def ask_for_ties(folder, names, solver, given):
     return found, sorted(undecided)
 
 
-def verified_report(folder, names, solver, solutions, given):
-    """What `wdp verify` prints of a solver's solutions with certificates."""
+def verify(folder, names, solver, solutions, report, given):
+    """Leaves the audit: a report's solutions with certificates, of which `wdp verify` prints that report. What is proved of
+    group 1's winners."""
     certify_all(folder, names, solver, given)
     certificates = [content(folder, "%d.certificate" % number) for number in range(1, len(names) + 1)]
-    text, start = with_answers(content(folder, "input.txt"), solutions, certificates), time.monotonic()
-    report = wdp_says(given, "verify", text)
+    claim = claim_of(folder, names, solver, given)
+    text, start = with_answers(content(folder, "input.txt"), solutions, certificates, claim), time.monotonic()
+    shown = shown_behind(report, wdp_says(given, "verify", text), "wdp verify prints another report than wdp report")
     keep(folder, "audit.txt", text)
     say("verified in %.2f s: each allocation is of greatest total, and each cost is the group's opportunity cost"
         % (time.monotonic() - start))
-    return report
+    return shown
 
 
-def tell_ties(answers, asked_for, undecided, auction):
+def proof_of(shown, given):
+    if not only_groups(given):
+        return Proof.NONE
+    return Proof.ONLY if shown.is_only else Proof.UNFINISHED if shown.tie is None else Proof.TIE
+
+
+def tell_ties(answers, asked_for, undecided, auction, shown, proof):
     found = named(with_asked_for(ties(answers[0], answers[1:]), asked_for), auction)
+    of_first = with_shown(found.pop(1, []), shown, "the winners are proved to be the only ones, and others tie")
+    found.update({1: of_first} if of_first else {})
     told = RunTold(groups={number: GroupTold(ties=awards) for number, awards in found.items()})
     awards = asdict(results_of(auction, answers[0].outcomes, told, "the answers"))["tied_awards"]
     for line in tie_lines(awards, found):
         say(line)
+    undecided = [number for number in undecided if number != 1 or proof != Proof.ONLY]
     if undecided:
         say(UNDECIDED % ", ".join(map(str, undecided)))
+    if proof.value in PROOFS:
+        say(PROOFS[proof.value])
 
 
 def reported(folder, names, solver, given, auction):
@@ -279,11 +320,11 @@ def run(given, solvers, folder):
         compare(answers[0], solvers[0].name, others, solver.name)
         tell(given, "%s reaches the same totals" % solver.name)
     asked_for, undecided = ask_for_ties(folder, names, solvers[0], given)
-    report = verified_report(folder, names, solvers[0], solutions[0], given) if given.certify else reports[0]
+    shown = verify(folder, names, solvers[0], solutions[0], reports[0], given) if given.certify else Shown()
     for solver, text in zip(solvers, reports):
         keep(folder, "report.%s.txt" % solver.name, text)
-    running.print_bytes(report)
-    tell_ties(answers, asked_for, undecided, auction)
+    running.print_bytes(reports[0])
+    tell_ties(answers, asked_for, undecided, auction, shown, proof_of(shown, given))
     if not given.certify:
         if doubt(answers[0]):
             say(doubt(answers[0]))

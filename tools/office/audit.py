@@ -1,4 +1,4 @@
-"""What `wdp verify` reads: an input with a solution and a certificate for each group."""
+"""What `wdp verify` reads: an input with a solution and a certificate for each group, and what is claimed of group 1."""
 import subprocess
 import tempfile
 
@@ -6,11 +6,11 @@ from office import running
 from office.ending import end_with_parent
 
 
-def with_answers(text, solutions, certificates=()):
+def with_answers(text, solutions, certificates=(), claim=b""):
     """The parts go before the input, whose last line may lack its end."""
     parts = [b"%solution\n" + solution for solution in solutions]
     parts += [b"%certificate\n" + certificate for certificate in certificates]
-    return b"".join(parts) + text
+    return b"".join(parts) + claim + text
 
 
 def printed(wdp, words, text):

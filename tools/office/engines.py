@@ -37,7 +37,7 @@ def parallel_stages(given, progress):
         yield [["programs"]]
     yield [["first", solver["name"]] for solver in settings["solvers"] if solver["takes_start"] and settings["start"]
            and not is_there(given, folder.first_path(solver["name"]))]
-    for kinds in (["solve"], ["certify", "ties"]):
+    for kinds in (["solve"], ["certify", "ties", "only"]):
         yield [[step, solver, str(group)] for step, solver in progress.kinds if step in kinds
                for group in progress.missing((step, solver)) if step == "solve" or group in progress.seen(("solve", solver))]
     names = [solver["name"] for solver in settings["solvers"]]

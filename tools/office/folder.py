@@ -9,12 +9,12 @@ from office import running, strict_json
 SETTINGS = "settings.json"
 SUMS = "sums"
 # what steps leave and later steps and runs go by
-KEPT = ("programs", "first", "solutions", "certificates", "ties", "better", "reports", "audits")
+KEPT = ("programs", "first", "solutions", "certificates", "ties", "only", "better", "reports", "audits")
 PUBLISHED = ("bidders.csv", "categories.csv", "pools.csv", "groups.csv", "results.json", "results.html")
 WRONG, NOT_OPTIMAL = 3, "not optimal"  # the exit status and the state where an answer can't be the best one
 ENDED = {"state": str, "seconds": (int, float), "ended": (int, float)}
 KINDS = {"solve": "solutions/{solver}/{group}.txt", "certify": "certificates/{solver}/{group}.txt",
-         "ties": "ties/{solver}/{group}.json"}
+         "ties": "ties/{solver}/{group}.json", "only": "only/{solver}/{group}.txt"}
 
 
 def program_path(group):

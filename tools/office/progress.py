@@ -7,11 +7,13 @@ from office.faults import counted
 
 TOLD_EVERY = 15  # seconds
 BEGIN = {"solve": "group %d: %s starts", "certify": "group %d: %s's solution is being certified",
-         "ties": "group %d: %s is asked for a tie"}
-DONE = {"solve": "group %d solved by %s", "certify": "group %d: %s's solution is certified", "ties": "group %d: asked %s for a tie"}
-AT_WORK = {"solve": "group %d by %s", "certify": "certificate of group %d for %s", "ties": "tie in group %d by %s"}
+         "ties": "group %d: %s is asked for a tie", "only": "group %d: other winners than %s's are being ruled out"}
+DONE = {"solve": "group %d solved by %s", "certify": "group %d: %s's solution is certified", "ties": "group %d: asked %s for a tie",
+        "only": "group %d: it is known whether %s's winners are the only ones"}
+AT_WORK = {"solve": "group %d by %s", "certify": "certificate of group %d for %s", "ties": "tie in group %d by %s",
+           "only": "other winners of group %d than %s's"}
 FAILED = {"solve": "group %d isn't solved by %s", "certify": "group %d: %s's solution isn't certified",
-          "ties": "group %d: %s's tie isn't known"}
+          "ties": "group %d: %s's tie isn't known", "only": "group %d: whether %s's winners are the only ones isn't known"}
 
 
 def say(text):

@@ -6,7 +6,8 @@ pools.csv, groups.csv, results.json and results.html; each is written whole or n
 
 --run takes what is to be told of the run: of each group whether its total is certified, and ties; and the version of wdp.
 --audit takes what `wdp verify` reads, which has to end with INPUT, and of which it has to print REPORT: then each total is
-certified, and the page says how the audit is repeated.
+certified, and the page says how the audit is repeated. What it prints behind REPORT, that the winners are the only ones or
+others of the same total, is proved.
 Exit status: 0 the files are written; 1 a text is refused or a package is missing; 2 the words are wrong.
 """
 import argparse
@@ -15,11 +16,12 @@ import os
 
 from office import inputs, running
 from office.audit import printed
+from office.claim import Shown, shown_behind, with_shown
 from office.choosing import add_page_words
 from office.page import page_of
 from office.report import read_report
 from office.results import Audit, results_of, texts_of
-from office.run_record import RunTold, read_run
+from office.run_record import GroupTold, Proof, RunTold, read_run
 
 ROOT = os.path.dirname(os.path.dirname(os.path.dirname(os.path.realpath(__file__))))
 
@@ -41,16 +43,16 @@ def digest_of(data):
 
 
 def audit_of(given, data, report):
-    """What is told of an audit; a Stopped where it isn't one of this input that gives this report."""
+    """What is told of an audit, and what it shows of the winners; a Stopped where it isn't one of this input that gives this
+    report."""
     audit = running.content(given.audit)
     if not audit.endswith(b"\n" + data) or not audit.startswith(b"%"):
         raise running.Stopped("%s: it doesn't end with the input, behind solutions and certificates" % given.audit)
     status, output, messages = printed(given.wdp, ["verify"], audit)
     if status != 0:
         raise running.Stopped("%s: wdp verify refuses it: %s" % (given.audit, messages or "status %d" % status))
-    if output != report:
-        raise running.Stopped("%s: what wdp verify prints of it isn't the report" % given.audit)
-    return Audit(digest_of(audit), digest_of(data), digest_of(report), len(data))
+    shown = shown_behind(report, output, "%s: what wdp verify prints of it isn't the report" % given.audit)
+    return Audit(digest_of(audit), digest_of(data), digest_of(output), len(data)), shown
 
 
 def results_from(data, report, told, given):
@@ -62,11 +64,15 @@ def results_from(data, report, told, given):
     unknown = set(told.groups) - set(range(1, len(outcomes) + 1))
     if unknown:
         raise running.Stopped("the run tells of group %d, which the report doesn't have" % min(unknown))
-    results = results_of(auction, outcomes, told, given.run)
+    audit, shown = audit_of(given, data, report) if given.audit else (None, Shown())
+    first = told.groups.setdefault(1, GroupTold())
+    first.ties = with_shown(first.ties, shown, "%s: by the audit the winners are the only ones, and here others tie" % given.run)
+    results = results_of(auction, outcomes, told, given.run or given.audit)
     results.title, results.currency = given.title or results.title, given.currency
     results.input_sha256, results.report_sha256 = digest_of(data), digest_of(report)
-    if given.audit:
-        results.audit, results.certified = audit_of(given, data, report), True
+    if audit:
+        results.audit, results.certified = audit, True
+        results.proof = Proof.ONLY if shown.is_only else results.proof if shown.tie is None else Proof.TIE
         for group in results.groups:
             group.certified = True
     return results

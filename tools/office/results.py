@@ -6,7 +6,7 @@ import re
 from dataclasses import asdict, dataclass, field
 
 from office.report import Outcome, Winner, fault_of_total, last_forms, load_of
-from office.run_record import TieQuery
+from office.run_record import Proof, TieQuery
 from office.running import Stopped
 
 TITLE = "Results of the auction"
@@ -86,7 +86,7 @@ class TiedAward:
 @dataclass
 class Audit:
     """By what anyone repeats the audit: the SHA-256 of what `wdp verify` reads, of the input, which is its end, with its
-    size, and of the report, which it prints."""
+    size, and of what it prints, the report and what is shown of its winners."""
 
     sha256: str
     input_sha256: str
@@ -96,7 +96,7 @@ class Audit:
 
 @dataclass
 class Results:
-    """`certified` tells whether each total is."""
+    """`certified` tells whether each total is. Where `proof` is a tie, the first of the tied awards is the one that is proved."""
 
     certified: bool = False
     title: str = TITLE
@@ -109,6 +109,7 @@ class Results:
     pools: list = field(default_factory=list)
     groups: list = field(default_factory=list)
     tie_query: TieQuery = TieQuery.NOT_ASKED
+    proof: Proof = Proof.NONE
     tied_awards: list = field(default_factory=list)
     input_sha256: str = ""
     report_sha256: str = ""
@@ -207,7 +208,7 @@ def results_of(auction, outcomes, told, source):
         value_left=sum(category.value_left for category in categories),
         bidders=[bidder_result(number, auction, outcomes) for number in range(1, len(rules.bidders) + 1)],
         categories=categories, pools=[pool_result(pool, lots, rules) for pool in rules.pools], groups=groups,
-        tie_query=TieQuery(told.group(1).tie_query or TieQuery.NOT_ASKED),
+        tie_query=TieQuery(told.group(1).tie_query or TieQuery.NOT_ASKED), proof=Proof(told.group(1).proof or Proof.NONE),
         tied_awards=[tied_award(award, outcomes, names) for award in ties[1]],
         wdp=told.versions.get("wdp"), made=told.times.get("Results made"))
 

@@ -20,15 +20,26 @@ class TieQuery(enum.Enum):
     NOT_ASKED = "not asked"
 
 
+class Proof(enum.Enum):
+    """What is proved of the winners of group 1: that they are the only ones of their total, or that others tie."""
+
+    ONLY = "only"
+    TIE = "tie"
+    UNFINISHED = "unfinished"
+    NONE = "none"
+
+
 @dataclass
 class GroupTold:
-    """`ties` are other awards of the same total, each a list of winners as objects of `name` and `bid`."""
+    """`ties` are other awards of the same total, each a list of winners as objects of `name` and `bid`. `proof` is told of
+    group 1 alone, where one was begun and not finished: what is proved stands in the audit."""
 
     certified: bool | None = None
     solver: str | None = None
     seconds: float | None = None
     ties: list = field(default_factory=list)
     tie_query: str | None = None
+    proof: str | None = None
 
 
 @dataclass
@@ -67,6 +78,7 @@ KINDS = {
     "seconds": lambda value: value is None or isinstance(value, (int, float)) and not isinstance(value, bool),
     "ties": is_ties,
     "tie_query": lambda value: value is None or value in [query.value for query in TieQuery],
+    "proof": lambda value: value in (None, Proof.UNFINISHED.value),
 }
 
 

@@ -1,7 +1,7 @@
 """One step of an auction's workflow, in the auction's folder; each leaves its file whole or none, with its sum.
 
 usage: tools/auction_step programs | first SOLVER | solve SOLVER GROUP | certify SOLVER GROUP | ties SOLVER GROUP
-                          | report SOLVER | verify SOLVER | results SOLVER
+                          | only SOLVER GROUP | report SOLVER | verify SOLVER | results SOLVER
 
 tools/auction DIR has the engine start it. What is there already isn't made again, but for the results.
 """
@@ -18,15 +18,17 @@ import time
 from office import disproved, folder, inputs, running
 from office.audit import printed, with_answers
 from office.choosing import solver_of
+from office.claim import TIE, UNIQUE, shown_behind
 from office.cut import columns_of, cut_off, other_of_same_total
 from office.ending import end_by_interrupt, end_with_parent
 from office.optimal import NotOptimal, check_answer
 from office.report import read_report
-from office.run_record import TieQuery, text_of
+from office.run_record import Proof, TieQuery, text_of
 from office.solving import KILLED, NO_SOLUTION, TIME_OUT, Failed, Wanted, column_names, solution, start_from
 from office.totals import Answers, check_totals, compare, named, ties, with_asked_for
 
 TOOLS = os.path.dirname(os.path.dirname(os.path.realpath(__file__)))
+TIED = 5  # the status of tools/certify where another point is as good
 WHY = {KILLED: "killed", TIME_OUT: "out of time", folder.WRONG: folder.NOT_OPTIMAL}
 
 
@@ -173,28 +175,56 @@ def solve(name, group):
 
 def certify(name, group):
     """The certificate is checked before it counts."""
-    path, limit = folder.path_of("certify", name, group), folder.settings()["time_limit"]
-    texts = [folder.program_path(group), folder.path_of("solve", name, group)]
+    path, texts = folder.path_of("certify", name, group), texts_of(name, group)
     if os.path.exists(path):
         return
     with told("certify", name, group):
-        program, solution = map(folder.left, texts)
-        beside, better = path + ".unchecked", path + ".better.unchecked"
-        os.makedirs(os.path.dirname(path), exist_ok=True)
-        words = ["--time-limit", str(limit)] if limit else []
-        status, certificate, messages = run_tool([os.path.join(TOOLS, "certify"), *words, "--solution-output", better, *texts])
-        if os.path.exists(better):
-            found = running.content(better)
-            folder.remove(better)
-            disproved.refuse_below(program, solution, found, int(group))
-        if status != 0:
-            raise refused("certify", status, messages.replace("\n", "; "))
-        folder.write(beside, certificate)
-        status, _, messages = run_tool([os.path.join(TOOLS, "check_certificate"), *texts, beside])
-        folder.remove(beside)
-        if status != 0:
-            raise refused("check_certificate", status, messages)
+        certificate, _ = certified(path, texts, group)
         folder.leave(path, certificate)
+
+
+def only(name, group):
+    """What is claimed of the winners: a certificate that they are the only ones is checked before it counts, a tie too."""
+    path, texts = folder.path_of("only", name, group), texts_of(name, group)
+    if os.path.exists(path):
+        return
+    with told("only", name, group):
+        certificate, found = certified(path, texts, group, "--unique")
+        if certificate is None and other_of_same_total(*map(folder.left, texts), found) is None:
+            raise running.Stopped("certify --unique left a point of another total")
+        folder.leave(path, TIE + found if certificate is None else UNIQUE + certificate)
+
+
+def texts_of(name, group):
+    return [folder.program_path(group), folder.path_of("solve", name, group)]
+
+
+def certified(path, texts, group, *words):
+    """A certificate, checked, and the point that was left beside it; where that ties there is no certificate."""
+    program, solution = map(folder.left, texts)
+    limit, left, found = folder.settings()["time_limit"], path + ".better.unchecked", None
+    os.makedirs(os.path.dirname(path), exist_ok=True)
+    limited = ["--time-limit", str(limit)] if limit else []
+    status, certificate, messages = run_tool([os.path.join(TOOLS, "certify"), *words, *limited, "--solution-output", left, *texts])
+    if os.path.exists(left):
+        found = running.content(left)
+        folder.remove(left)
+        disproved.refuse_below(program, solution, found, int(group))
+    if status == TIED and words and found is not None:
+        return None, found
+    if status != 0:
+        raise refused("certify", status, messages.replace("\n", "; "))
+    check(certificate, path + ".unchecked", texts, *words)
+    return certificate, found
+
+
+def check(certificate, beside, texts, *words):
+    """Ends where the independent checker finds a fault in a certificate."""
+    folder.write(beside, certificate)
+    status, _, messages = run_tool([os.path.join(TOOLS, "check_certificate"), *words, *texts, beside])
+    folder.remove(beside)
+    if status != 0:
+        raise refused("check_certificate", status, messages)
 
 
 def find_ties(name, group):
@@ -268,9 +298,11 @@ def report(solver):
 def verify(solver):
     """Leaves what `wdp verify` reads, once it has printed just the report of it."""
     given = folder.settings()
-    text = with_answers(running.content("input.txt"), of_each_group("solve", solver, given), of_each_group("certify", solver, given))
-    if wdp_says(given, "verify", text) != folder.left(folder.report_path(solver)):
-        raise running.Stopped("wdp verify prints another report than wdp report")
+    claim = folder.path_of("only", solver, 1)
+    text = with_answers(running.content("input.txt"), of_each_group("solve", solver, given), of_each_group("certify", solver, given),
+                        folder.left(claim) if os.path.exists(claim) else b"")
+    shown_behind(folder.left(folder.report_path(solver)), wdp_says(given, "verify", text),
+                 "wdp verify prints another report than wdp report")
     folder.leave(folder.audit_path(solver), text)
 
 
@@ -302,8 +334,9 @@ def certified_groups(solver, given):
 def of_group(solver, group, given):
     """What the run tells of a group."""
     seconds = folder.ended("solve", solver, group).get("seconds")
+    is_open = group in given["only_groups"] and not os.path.exists(folder.path_of("only", solver, group))
     return {"solver": solver, "seconds": seconds, "certified": group in certified_groups(solver, given),
-            "tie_query": tie_query(solver, group, given).value}
+            "tie_query": tie_query(solver, group, given).value, "proof": Proof.UNFINISHED.value if is_open else None}
 
 
 def results(solver):
@@ -332,7 +365,7 @@ def results(solver):
 
 
 STEPS = {"programs": (whole(programs), 0), "first": (first, 1), "solve": (solve, 2), "certify": (certify, 2),
-         "ties": (find_ties, 2), "report": (whole(report), 1), "verify": (whole(verify), 1), "results": (whole(results), 1)}
+         "ties": (find_ties, 2), "only": (only, 2), "report": (whole(report), 1), "verify": (whole(verify), 1), "results": (whole(results), 1)}
 
 
 def main():

@@ -25,6 +25,9 @@ def tie_lines(awards, ties):
 
 
 UNDECIDED = "whether others reach the same total wasn't decided in group %s"
+# by what is proved of group 1
+PROOFS = {"only": "proved: nobody else can win with the total of group 1", "tie": "proved: the first tie is one",
+          "unfinished": "not proved: whether others can win with the total of group 1, since the search didn't end"}
 
 
 def not_certified(certified, groups, solver):

@@ -17,8 +17,8 @@ from office.progress import FAILED, Progress, say
 from office.optimal import names_of, total_of
 from office.report import read_report
 from office.results import TITLE
-from office.run_record import TieQuery
-from office.telling import UNDECIDED, not_certified, tie_lines
+from office.run_record import Proof, TieQuery
+from office.telling import PROOFS, UNDECIDED, not_certified, tie_lines
 from office.totals import Answers, doubt
 
 DONE_WITHOUT = "not done"
@@ -145,6 +145,11 @@ def tied_groups(given, groups):
     return list(range(1, groups + 1)) if given.ties == "all" else [1] if given.ties else []
 
 
+def only_groups(given):
+    """The groups whose winners are to be shown to be the only ones, or to tie."""
+    return [1] if given.ties and given.certify else []
+
+
 def write_settings(given, solvers, auction):
     """What the steps have to know. Title and currency stay as they are where nothing is said of them."""
     versions = {"wdp": wdp_version(given.wdp)}
@@ -153,20 +158,22 @@ def write_settings(given, solvers, auction):
     told += [settings_of(solver, None, given.check_options) for solver in solvers[1:]]
     folder.write_json(os.path.join(given.folder, folder.SETTINGS), {
         "step": engines.STEP, "wdp": os.path.abspath(given.wdp), "solvers": told, "certify": given.certify,
-        "tied_groups": tied_groups(given, len(auction.groups)), "start": not given.no_start, "groups": len(auction.groups),
+        "tied_groups": tied_groups(given, len(auction.groups)), "only_groups": only_groups(given), "start": not given.no_start, "groups": len(auction.groups),
         "workers": given.workers, "time_limit": given.time_limit, "title": given.title or told_before(given, "title") or TITLE,
         "currency": given.currency or told_before(given, "currency"), "versions": versions,
         "started": time.strftime("%Y-%m-%d %H:%M %Z")})
 
 
-def forget_what_followed(where, solver, groups):
-    """What was made of a solution, or of a certificate, that isn't there any more is put away too."""
+def forget_what_followed(where, solver, groups, claimed):
+    """What was made of a solution, or of a certificate, that isn't there any more is put away too; and an audit without what
+    is to be shown of winners in the groups `claimed`."""
     done = folder.numbers_done(where, "solve", solver)
-    paths = [folder.path_of(step, solver, group) for step in ("certify", "ties")
+    paths = [folder.path_of(step, solver, group) for step in ("certify", "ties", "only")
              for group in folder.numbers_done(where, step, solver) - done]
     if len(done) < groups:
         paths.append(folder.report_path(solver))
-    if len(done & folder.numbers_done(where, "certify", solver)) < groups:
+    has_claims = done & folder.numbers_done(where, "only", solver) >= set(claimed)
+    if len(done & folder.numbers_done(where, "certify", solver)) < groups or not has_claims:
         paths.append(folder.audit_path(solver))
     for path in paths:
         folder.remove(where, path)
@@ -182,7 +189,7 @@ def refuse_changed(where):
                               "made again" % (counted(len(changed), "file"), where))
 
 
-def forget(where, solvers, groups):
+def forget(where, solvers, groups, claimed):
     """What was broken off or failed before is tried again; pieces of files, and answers that are disproved, are put away.
     Snakemake would go on with the jobs of a cluster that it wrote down as begun, though they were cancelled with the run."""
     for name in ("running", "ended/report", "ended/verify", "ended/results", "ended/programs", ".scratch", ".snakemake/incomplete"):
@@ -192,7 +199,7 @@ def forget(where, solvers, groups):
         first = os.path.join(where, folder.first_path(solver.name))
         if folder.read_json(first).get("failed", True) and os.path.exists(first):
             os.unlink(first)
-        forget_what_followed(where, solver.name, groups)
+        forget_what_followed(where, solver.name, groups, claimed)
     for path, _, names in os.walk(where):
         for name in names:
             if folder.is_piece(name):
@@ -207,6 +214,8 @@ def kinds_of(given, solvers, groups):
         kinds["certify", main] = each
     if given.ties:
         kinds["ties", main] = tied_groups(given, groups)
+    if only_groups(given):
+        kinds["only", main] = only_groups(given)
     return kinds
 
 
@@ -233,7 +242,7 @@ def other_failures(given, solvers):
 
 def results_without(given, solvers, progress):
     """Makes the reports, the audit where each certificate is there, and the results, where all solutions are there and only
-    certificates or ties are missing."""
+    certificates, ties or what is shown of winners are missing."""
     main, wanted = solvers[0].name, [("report", solver.name, folder.report_path(solver.name)) for solver in solvers]
     if given.certify and not progress.missing(("certify", main)):
         wanted.append(("verify", main, folder.audit_path(main)))
@@ -291,9 +300,13 @@ def tell_ties(given, solver):
     groups = folder.read_json(os.path.join(given.folder, "run.json")).get("groups", {})
     for line in tie_lines(results.get("tied_awards", []), {int(number): told.get("ties", []) for number, told in groups.items()}):
         say(line)
-    undecided = [number for number, told in groups.items() if told["tie_query"] == TieQuery.UNDECIDED.value]
+    proof = results.get("proof")
+    undecided = [number for number, told in groups.items() if told["tie_query"] == TieQuery.UNDECIDED.value
+                 and not (number == "1" and proof == Proof.ONLY.value)]
     if undecided:
         say(UNDECIDED % ", ".join(undecided))
+    if proof in PROOFS:
+        say(PROOFS[proof])
 
 
 def tell_certified(given, solver, groups):
@@ -302,7 +315,8 @@ def tell_certified(given, solver, groups):
     totals = sum(group["certified"] for group in told.get("groups", []))
     audit = os.path.join(given.folder, folder.audit_path(solver))
     if totals == groups:
-        say("each total is certified: wdp verify < %s prints the report again" % audit)
+        behind = ", and what is proved of its winners" if told["proof"] in (Proof.ONLY.value, Proof.TIE.value) else ""
+        say("each total is certified: wdp verify < %s prints the report again%s" % (audit, behind))
     else:
         say(not_certified(totals, groups, solver))
 
@@ -365,7 +379,7 @@ def workflow(given, solvers):
         write_settings(given, solvers, auction)
         is_dry = given.engine == "snakemake" and any(word in DRY for word in given.engine_words)
         if not is_dry:
-            forget(given.folder, solvers, len(auction.groups))
+            forget(given.folder, solvers, len(auction.groups), only_groups(given))
         progress = Progress(given.folder, kinds_of(given, solvers, len(auction.groups)), len(auction.groups), given.quiet)
         of_profile = given.profile and not given.jobs
         progress.begin(given.engine, "as many as the profile says" if of_profile else "%d at a time" % (given.jobs or 1))

@@ -11,6 +11,7 @@ import subprocess
 import tempfile
 import time
 import unittest
+import unittest.mock
 
 from office.tests.test_results import Page
 
@@ -162,7 +163,7 @@ class Runs(Folder):
         words = ["--check-with", "glpsol", "--ties", "all", "--title", "The award"]
         status, messages = self.run_it(*words)
         self.assertEqual(status, 0, messages)
-        self.assertIn("16 of 16 done", messages)
+        self.assertIn("17 of 17 done", messages)
         self.assertIn("group 3: cbc's solution is certified", messages)
         self.assertEqual(self.report(), content(EXAMPLES, "worked.report.txt"))
         self.assertEqual(self.report("glpsol"), content(EXAMPLES, "worked.report.txt"))
@@ -170,7 +171,7 @@ class Runs(Folder):
         self.assertEqual([(group["certified"], group["has_tie"]) for group in told["groups"]], [(True, False)] * 4)
         with open(os.path.join(self.folder, "audits", "cbc.txt"), "rb") as audit:
             done = subprocess.run([WDP, "verify"], stdin=audit, capture_output=True)
-        self.assertEqual((done.returncode, done.stdout), (0, self.report()), done.stderr)
+        self.assertEqual((done.returncode, done.stdout), (0, self.report() + b"unique\n"), done.stderr)
         self.assertEqual(set(json.loads(content(self.folder, "run.json"))["versions"]), {"wdp", "cbc", "glpsol"})
         page = content(self.folder, "results", "cbc", "results.html").decode()
         self.assertIn("<h1>The award</h1>", page)
@@ -182,7 +183,7 @@ class Runs(Folder):
         os.unlink(os.path.join(self.folder, "solutions", "cbc", "3.txt"))
         status, messages = self.run_it(*words)
         self.assertEqual((status, len(self.called())), (0, calls + 2))
-        self.assertIn("13 of 16 done\n", messages)
+        self.assertIn("14 of 17 done\n", messages)
 
     def test_a_folder_belongs_to_one_input(self):
         self.assertEqual(self.run_it()[0], 0)
@@ -291,7 +292,7 @@ class Ties(Folder):
         self.put("input.txt", TIED)
         status, messages = self.run_it("--ties")
         self.assertEqual(status, 0, messages)
-        self.assertIn("5 of 5 done", messages)
+        self.assertIn("6 of 6 done", messages)
         told = self.told()
         first, second = told["groups"]
         winner = first["winners"][0]["name"]
@@ -301,8 +302,13 @@ class Ties(Folder):
         self.assertEqual([(cost["reported"], cost["cost"]) for cost in award["costs"]], [costs])
         self.assertEqual((told["tie_query"], second["has_tie"]), ("answered", False))
         self.assertIn("tie: the same total is reached by %s with bid 1; the cost of Alpha is then %d in place of %d" % (other, *reversed(costs)), messages)
-        rows = Page(content(self.folder, "results", "cbc", "results.html").decode()).texts("table-ties")
+        page = content(self.folder, "results", "cbc", "results.html").decode()
+        rows = Page(page).texts("table-ties")
         self.assertEqual(rows[-1], ["Cost of Alpha", str(costs[0]), str(costs[1])])
+        self.assertEqual(told["proof"], "tie")
+        self.assertIn("Proved: the other award reaches the same total as that of this page, and none reaches more.", page)
+        self.assertIn("proved: the first tie is one\n", messages)
+        self.assertEqual(self.verified(), self.report() + b"tie\n%s 1 20\ntotal 20\n" % other.encode())
 
     def test_answers_that_are_there_show_a_tie(self):
         """Without Alpha Beta wins, with the total of group 1."""
@@ -315,12 +321,79 @@ class Ties(Folder):
 
     def test_a_tie_query_that_runs_out_of_time_is_told_on_the_page(self):
         self.stand_in(TIE_TAKES_TOO_LONG)
-        status, messages = self.run_it("--ties")
+        status, messages = self.run_it("--ties", "--no-certify")
         self.assertEqual(status, 1, messages)
         self.assertIn("missing: group 1: cbc's tie isn't known: out of time", messages)
         self.assertIn("whether others reach the same total wasn't decided in group 1\n", messages)
-        self.assertIn("Whether others reach the same total wasn't decided", content(self.folder, "results", "cbc", "results.html").decode())
-        self.assertEqual((self.told()["tie_query"], self.told()["certified"]), ("not decided", True))
+        self.assertIn("Whether others reach the same total wasn't decided", self.page())
+        self.assertEqual((self.told()["tie_query"], self.told()["proof"]), ("not decided", "none"))
+        status, messages = self.run_it("--ties")
+        self.assertEqual(status, 1, messages)
+        self.assertNotIn("wasn't decided", messages + self.page())
+        self.assertEqual((self.told()["tie_query"], self.told()["proof"]), ("not decided", "only"))
+
+    def page(self):
+        return content(self.folder, "results", "cbc", "results.html").decode()
+
+    def verified(self):
+        """What `wdp verify` prints of the audit, whose sum the page has."""
+        audit = content(self.folder, "audits", "cbc.txt")
+        done = subprocess.run([WDP, "verify"], input=audit, capture_output=True)
+        self.assertEqual((done.returncode, done.stderr), (0, b""))
+        self.assertIn(hashlib.sha256(done.stdout).hexdigest(), self.page().partition('id="audit"')[2])
+        return done.stdout
+
+    def test_winners_that_are_the_only_ones(self):
+        status, messages = self.run_it("--ties")
+        self.assertEqual(status, 0, messages)
+        self.assertIn("proved: nobody else can win with the total of group 1\n", messages)
+        self.assertIn("prints the report again, and what is proved of its winners\n", messages)
+        self.assertIn("Proved: these are the only winners. No other combination of bids reaches the same total.", self.page())
+        self.assertNotIn("A solver was asked", self.page())
+        self.assertEqual(self.verified(), content(EXAMPLES, "worked.report.txt") + b"unique\n")
+        self.assertEqual((self.told()["proof"], self.told()["tied_awards"]), ("only", []))
+
+    def test_a_bid_without_a_column_ties(self):
+        """Alpha pays as much for one of A and one of B, which stays unsold without Gamma: no program has that bid."""
+        text = content(EXAMPLES, "worked.txt").replace(b"50,2,1\n28,1,1\n", b"30,1,1\n").replace(b"12,0,1\n", b"")
+        self.put("input.txt", text)
+        status, messages = self.run_it("--ties")
+        self.assertEqual(status, 0, messages)
+        self.assertEqual(self.verified().partition(b"tie\n")[2], b"Alpha 2 30\nBeta 1 20\ntotal 50\n")
+        self.assertEqual(self.told()["proof"], "tie")
+        self.assertEqual(Page(self.page()).texts("table-ties")[1], ["Alpha", "30 for 1 of A (bid 1)", "30 for 1 of A, 1 of B (bid 2)"])
+
+    def test_an_audit_is_made_again_where_more_is_to_be_proved(self):
+        self.assertEqual(self.run_it()[0], 0)
+        self.assertEqual((self.told()["proof"], self.verified()), ("none", self.report()))
+        self.assertNotIn('id="proof"', self.page())
+        calls = len(self.called())
+        status, messages = self.run_it("--ties")
+        self.assertEqual((status, len(self.called())), (0, calls + 1), messages)
+        self.assertEqual((self.told()["proof"], self.verified()), ("only", self.report() + b"unique\n"))
+        # what is proved stays so, whether or not it is asked for again
+        self.assertEqual(self.run_it()[0], 0)
+        self.assertEqual((self.told()["proof"], self.verified()), ("only", self.report() + b"unique\n"))
+
+    def test_a_proof_that_is_not_finished_is_told(self):
+        """Where the search for other winners ends by its limit; the next run goes on with it alone."""
+        late = os.path.join(self.solvers, "late")
+        os.mkdir(late)
+        with open(os.path.join(late, "sitecustomize.py"), "w") as file:
+            file.write("import os, sys\nif '--unique' in sys.orig_argv:\n"
+                       "    os.write(2, b'certify: the time limit of 1 seconds is reached after 2 leaves\\n')\n    os._exit(4)\n")
+        with unittest.mock.patch.dict(os.environ, PYTHONPATH=late):
+            status, messages = self.run_it("--ties")
+        self.assertEqual(status, 1, messages)
+        self.assertIn("missing: group 1: whether cbc's winners are the only ones isn't known: out of time: certify: the time limit", messages)
+        self.assertIn("not proved: whether others can win with the total of group 1, since the search didn't end\n", messages)
+        self.assertIn("Whether these are the only winners isn't proved", self.page())
+        self.assertNotIn("Proved", self.page())
+        self.assertEqual((self.told()["proof"], self.told()["certified"], self.verified()), ("unfinished", True, self.report()))
+        calls = len(self.called())
+        status, messages = self.run_it("--ties")
+        self.assertEqual((status, len(self.called())), (0, calls), messages)
+        self.assertEqual((self.told()["proof"], self.verified()), ("only", self.report() + b"unique\n"))
 
 
 class Disproved(Folder):
@@ -441,7 +514,7 @@ class Changed(Folder):
     def test_a_file_that_is_not_what_its_step_left_is_reported(self):
         self.assertEqual(self.run_it("--ties")[0], 0)
         calls, page = len(self.called()), content(self.folder, "results", "cbc", "results.html")
-        for name in ("solutions/cbc/1.txt", "certificates/cbc/2.txt", "programs/3.mps", "ties/cbc/1.json", "reports/cbc.txt",
+        for name in ("solutions/cbc/1.txt", "certificates/cbc/2.txt", "programs/3.mps", "ties/cbc/1.json", "only/cbc/1.txt", "reports/cbc.txt",
                      "audits/cbc.txt", "first/cbc.json"):
             with self.subTest(name=name):
                 before = content(self.folder, name)
@@ -736,13 +809,28 @@ class AtOnce(Folder):
 
     def test_ties_and_their_costs_without_a_folder(self):
         self.put("tied.txt", TIED)
-        status, _, messages = self.run_it("--ties", given=os.path.join(self.folder, "tied.txt"))
-        self.assertEqual(status, 0, messages)
-        self.assertRegex(messages, "tie: the same total is reached by (Alpha|Beta) with bid 1; the cost of Alpha is then (20 in place of 0|0 in place of 20);")
+        told = "tie: the same total is reached by (Alpha|Beta) with bid 1; the cost of Alpha is then (20 in place of 0|0 in place of 20);"
+        for words, proof in (([], "proved: the first tie is one\n"), (["--no-certify"], "not certified: ")):
+            status, _, messages = self.run_it("--ties", *words, given=os.path.join(self.folder, "tied.txt"))
+            self.assertEqual(status, 0, messages)
+            self.assertRegex(messages, told)
+            self.assertIn(proof, messages)
         self.stand_in(TIE_TAKES_TOO_LONG)
-        status, _, messages = self.run_it("--ties", given=os.path.join(self.folder, "tied.txt"))
+        status, _, messages = self.run_it("--ties", "--no-certify", given=os.path.join(self.folder, "tied.txt"))
         self.assertEqual(status, 0, messages)
         self.assertIn("whether others reach the same total wasn't decided in group 1\n", messages)
+
+    def test_winners_that_are_the_only_ones_without_a_folder(self):
+        """The report is printed alone, and the audit has what is proved."""
+        report = content(EXAMPLES, "worked.report.txt")
+        for script in ("", TIE_TAKES_TOO_LONG):
+            self.stand_in(script)
+            status, printed, messages = self.run_it("--ties", "--keep", self.folder)
+            self.assertEqual((status, printed), (0, report), messages)
+            self.assertIn("proved: nobody else can win with the total of group 1\n", messages)
+            self.assertNotIn("wasn't decided", messages)
+            done = subprocess.run([WDP, "verify"], input=content(self.folder, "audit.txt"), capture_output=True)
+            self.assertEqual((done.returncode, done.stdout), (0, report + b"unique\n"))
 
     def test_a_closed_standard_input_is_told(self):
         done = subprocess.run([os.path.join(TOOLS, "auction"), "--wdp", WDP, "--solver", "cbc"], capture_output=True, timeout=60,
