@@ -4,6 +4,7 @@ import hashlib
 import json
 import os
 import re
+import shutil
 import subprocess
 import tempfile
 import unittest
@@ -298,6 +299,40 @@ class Certified(Folder):
             seen = self.publish(TIE, TIE_REPORT, "--audit", self.write("audit.txt", parts + TIE), "--wdp", WDP)
             self.assertEqual((seen.returncode, words in seen.stderr), (1, True), seen.stderr)
             self.assertFalse(os.path.exists(self.path("out")))
+
+    def test_what_an_audit_proves_of_winners_is_told(self):
+        parts = b"%solution\nX1_1 1\n%solution\nX2_1 1\n" + b"%certificate\nbound 1 C1 10\n" * 2
+        tied = self.write("audit.txt", parts + b"%tie\nX2_1 1\n" + TIE)
+        for words in ([], self.told({"1": {"ties": [BETA], "tie_query": "answered"}})):
+            page = self.tie_page("--audit", tied, "--wdp", WDP, *words)
+            self.assertIn("Proved: the other award reaches the same total", page)
+            self.assertEqual(Page(page).texts("table-ties")[-1], ["Cost of Alpha", "10", "0"])
+            told = json.loads(content(self.path("out"), "results.json"))
+            self.assertEqual((told["proof"], len(told["tied_awards"]), told["groups"][0]["has_tie"]), ("tie", 1, True))
+        self.assertIn(hashlib.sha256(TIE_REPORT + b"tie\nBeta 1 10\ntotal 10\n").hexdigest(), page)
+        self.assertIn("this report, and behind it what is proved of the winners.", page)
+
+    def test_ties_beside_a_proof_that_there_are_none_are_refused(self):
+        data = TIE.replace(b"Alpha,A\n10,1", b"Alpha,A\n11,1")
+        report = b"group 1 -\nAlpha 1 11\ntotal 11\ncost 0\ngroup 2 Alpha\nBeta 1 10\ntotal 10\ncost 10\n"
+        parts = b"%solution\nX1_1 1\n%solution\nX2_1 1\n%certificate\nbound 1 C1 11\n%certificate\nbound 1 C1 10\n"
+        # where Beta's part is no smaller than Alpha's, halves of both are the most, 21 halves
+        audit = self.write("audit.txt", parts + b"%unique\nbound 2 1 C1 21\n" + data)
+        seen = self.publish(data, report, "--audit", audit, "--wdp", WDP)
+        self.assertEqual(seen.returncode, 0, seen.stderr)
+        page = content(self.path("out"), "results.html").decode()
+        self.assertIn("Proved: these are the only winners.", page)
+        self.assertNotIn('id="tie-query"', page)
+        shutil.rmtree(self.path("out"))
+        seen = self.publish(data, report, "--audit", audit, "--wdp", WDP, *self.told({"1": {"ties": [BETA]}}))
+        self.assert_refused(seen, "by the audit the winners are the only ones, and here others tie")
+
+    def test_nothing_is_called_proved_without_an_audit(self):
+        for proof in ("only", "tie", "none", 1, True):
+            self.assert_refused(self.publish(TIE, TIE_REPORT, *self.told({"1": {"proof": proof}})), "group 1: proof isn't as")
+        page = self.tie_page(*self.told({"1": {"proof": "unfinished"}}))
+        self.assertIn("Whether these are the only winners isn't proved", page)
+        self.assertNotIn("Proved", page)
 
 
 class Ties(Folder):
