@@ -104,6 +104,15 @@ class Folder(unittest.TestCase):
         self.assertIn(output, (printed, None))
         return tool.returncode, messages.decode()
 
+    def no_time_for_proofs(self):
+        """As where the search for other winners ends by its limit."""
+        late = os.path.join(self.solvers, "late")
+        os.mkdir(late)
+        with open(os.path.join(late, "sitecustomize.py"), "w") as file:
+            file.write("import os, sys\nif '--unique' in sys.orig_argv:\n"
+                       "    os.write(2, b'certify: the time limit of 1 seconds is reached after 2 leaves\\n')\n    os._exit(4)\n")
+        return unittest.mock.patch.dict(os.environ, PYTHONPATH=late)
+
     def called(self):
         """Which programs solvers got, each as often as they did."""
         return content(self.calls).splitlines() if os.path.exists(self.calls) else []
@@ -376,13 +385,8 @@ class Ties(Folder):
         self.assertEqual((self.told()["proof"], self.verified()), ("only", self.report() + b"unique\n"))
 
     def test_a_proof_that_is_not_finished_is_told(self):
-        """Where the search for other winners ends by its limit; the next run goes on with it alone."""
-        late = os.path.join(self.solvers, "late")
-        os.mkdir(late)
-        with open(os.path.join(late, "sitecustomize.py"), "w") as file:
-            file.write("import os, sys\nif '--unique' in sys.orig_argv:\n"
-                       "    os.write(2, b'certify: the time limit of 1 seconds is reached after 2 leaves\\n')\n    os._exit(4)\n")
-        with unittest.mock.patch.dict(os.environ, PYTHONPATH=late):
+        """The next run goes on with it alone."""
+        with self.no_time_for_proofs():
             status, messages = self.run_it("--ties")
         self.assertEqual(status, 1, messages)
         self.assertIn("missing: group 1: whether cbc's winners are the only ones isn't known: out of time: certify: the time limit", messages)
@@ -438,6 +442,15 @@ class Disproved(Folder):
         self.assertEqual((self.published(), self.solved()), ([], []))
         better = content(self.folder, "better", "1.txt")
         self.assertEqual(better, b"# total 62\nX1_1 1\nX2_1 1\nX3_1 1\n")
+
+    def test_a_search_for_other_winners_disproves_an_answer_too(self):
+        """The step alone, in a folder without certificates."""
+        self.assertEqual(self.one_group_short("--no-certify")[0], 0)
+        done = subprocess.run([os.path.join(TOOLS, "auction_step"), "only", "cbc", "1"], cwd=self.folder, stdin=subprocess.DEVNULL, capture_output=True)
+        self.assertEqual(done.returncode, 3, done.stderr)
+        self.assertIn(b"group 1: not optimal: the answer isn't optimal: its total is 50, and X1_1, X2_1, X3_1 bring 62", done.stderr)
+        self.assertEqual((self.published(), content(self.folder, "better", "1.txt")), ([], b"# total 62\nX1_1 1\nX2_1 1\nX3_1 1\n"))
+        self.assertFalse(is_there(self.folder, "only", "cbc", "1.txt"))
 
     def test_no_answer_below_a_known_one_is_taken_again(self):
         self.assertEqual(self.one_group_short()[0], 3)
@@ -831,6 +844,16 @@ class AtOnce(Folder):
             self.assertNotIn("wasn't decided", messages)
             done = subprocess.run([WDP, "verify"], input=content(self.folder, "audit.txt"), capture_output=True)
             self.assertEqual((done.returncode, done.stdout), (0, report + b"unique\n"))
+
+    def test_a_proof_that_is_not_finished_is_told_without_a_folder(self):
+        report = content(EXAMPLES, "worked.report.txt")
+        with self.no_time_for_proofs():
+            status, printed, messages = self.run_it("--ties", "--keep", self.folder)
+        self.assertEqual((status, printed), (0, report), messages)
+        self.assertIn("group 1 of 4 (-): certify: the time limit of 1 seconds is reached after 2 leaves\n", messages)
+        self.assertIn("not proved: whether others can win with the total of group 1, since the search didn't end\n", messages)
+        done = subprocess.run([WDP, "verify"], input=content(self.folder, "audit.txt"), capture_output=True)
+        self.assertEqual((done.returncode, done.stdout), (0, report))
 
     def test_a_closed_standard_input_is_told(self):
         done = subprocess.run([os.path.join(TOOLS, "auction"), "--wdp", WDP, "--solver", "cbc"], capture_output=True, timeout=60,
