@@ -22,10 +22,18 @@ def shown_behind(report, output, why):
         raise Stopped(why)
     if behind in (b"", b"unique\n"):
         return Shown(is_only=behind != b"")
-    head, *winners, total, end = (behind + b"\n").split(b"\n")[:-1] if behind.count(b"\n") > 1 else [b"", b"", b""]
-    if head != b"tie" or end or not TOTAL.fullmatch(total) or not all(map(WINNER.fullmatch, winners)):
+    tie = tie_told(behind.split(b"\n"))
+    if tie is None:
         raise Stopped(why)
-    return Shown(tie=[{"name": name.decode(), "bid": int(bid)} for name, bid, _ in map(bytes.split, winners)])
+    return Shown(tie=tie)
+
+
+def tie_told(lines):
+    """The winners of a tie as it is printed, or None where these lines don't tell one."""
+    winners = lines[1:-2]
+    if len(lines) < 3 or lines[0] != b"tie" or lines[-1] or not TOTAL.fullmatch(lines[-2]) or not all(map(WINNER.fullmatch, winners)):
+        return None
+    return [{"name": name.decode(), "bid": int(bid)} for name, bid, _ in map(bytes.split, winners)]
 
 
 def with_shown(ties, shown, why):
