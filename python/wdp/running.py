@@ -1,0 +1,119 @@
+"""Finding the program, and running it to its end."""
+from __future__ import annotations
+
+import os
+import shutil
+import signal
+import subprocess
+import tempfile
+from dataclasses import dataclass
+from typing import BinaryIO, List, Optional, Sequence, Union
+
+from wdp.faults import NotFound, Refused, Unclear, WrongWords
+
+Path = Union[str, "os.PathLike[str]"]
+
+# the bytes at the end of standard error that are read: a refusal is one line
+MOST_OF_MESSAGES = 65536
+
+
+def tree_of_package() -> Optional[str]:
+    """The tree in which this package lies, or None where it is installed elsewhere."""
+    root = os.path.dirname(os.path.dirname(os.path.dirname(os.path.realpath(__file__))))
+    return root if os.path.isfile(os.path.join(root, "crates.txt")) and os.path.isfile(os.path.join(root, "wdp")) else None
+
+
+def found_program(program: Optional[Path] = None) -> str:
+    """The path of the program: the one that is given, else $WDP, else ./wdp of the package's tree, else `wdp` on the PATH.
+
+    Raises NotFound where that one isn't there; no other one is then taken.
+    """
+    asked = os.fsdecode(program) if program is not None else os.environ.get("WDP") or None
+    tree = tree_of_package()
+    if asked is None:
+        asked = os.path.join(tree, "wdp") if tree else "wdp"
+    found = which(asked)
+    if found is None:
+        raise NotFound("the program isn't found: %s" % asked)
+    return found
+
+
+def which(name: str) -> Optional[str]:
+    """The whole path of a program that can be started, or None."""
+    found = shutil.which(name) if name and "\0" not in name else None
+    return found and os.path.abspath(found)
+
+
+@dataclass(frozen=True)
+class Ran:
+    """How a program ended: its status, below 0 where a signal ended it, its output, and the end of its messages."""
+
+    status: int
+    output: bytes
+    messages: str
+
+    def last_line(self) -> str:
+        """The last line of the messages that isn't blank, or nothing."""
+        lines = [line.strip() for line in self.messages.splitlines()]
+        return next((line for line in reversed(lines) if line), "")
+
+    def first_words(self) -> str:
+        """The lines of the messages before a blank one, as one."""
+        return " ".join(self.messages.strip().split("\n\n")[0].split())
+
+
+def ran(words: Sequence[str], given: bytes, seconds: Optional[float] = None) -> Ran:
+    """Runs a program to its end on `given`, for so many seconds at most.
+
+    Files stand at its three streams: none of them can fill, and nothing is waited for that the program left behind.
+    Raises NotFound where it can't be started, and Unclear where the seconds are over.
+    """
+    with tempfile.TemporaryFile() as source, tempfile.TemporaryFile() as output, tempfile.TemporaryFile() as messages:
+        source.write(given)
+        source.seek(0)
+        try:
+            ended = subprocess.run(list(words), stdin=source, stdout=output, stderr=messages, timeout=seconds, check=False)
+        except subprocess.TimeoutExpired:
+            raise Unclear("%s gave no answer in %g s, and was ended" % (words[0], seconds or 0)) from None
+        except (OSError, ValueError) as error:
+            raise NotFound("%s can't be started: %s" % (words[0], getattr(error, "strerror", None) or error)) from None
+        return Ran(ended.returncode, end_of(output), end_of(messages, MOST_OF_MESSAGES).decode("utf-8", "backslashreplace"))
+
+
+def end_of(file: BinaryIO, most: Optional[int] = None) -> bytes:
+    """The last bytes of a file, so many at most."""
+    size = file.seek(0, os.SEEK_END)
+    file.seek(0 if most is None else max(size - most, 0))
+    return file.read()
+
+
+def answer(program: str, words: List[str], given: bytes, seconds: Optional[float] = None) -> bytes:
+    """What the program prints, where it ends with status 0; else a Refused that says why."""
+    ended = ran([program, *words], given, seconds)
+    if ended.status != 0:
+        raise fault_of(program, ended)
+    return ended.output
+
+
+def fault_of(program: str, ended: Ran) -> Refused:
+    """What a program that didn't end with status 0 has to say."""
+    line = ended.last_line()
+    if ended.status < 0:
+        return Unclear("%s was ended by signal %s" % (program, signal_named(-ended.status)))
+    if not line:
+        return Unclear("%s ended with status %d and said nothing" % (program, ended.status))
+    if ended.status == 1:
+        return Refused(line)
+    if ended.status == 2:
+        return WrongWords(ended.first_words())
+    if ended.status == 3:
+        return NotFound(line)
+    return Unclear("%s ended with status %d: %s" % (program, ended.status, line))
+
+
+def signal_named(number: int) -> str:
+    """A signal's number and, where it has one, its name."""
+    try:
+        return "%d (%s)" % (number, signal.Signals(number).name)
+    except ValueError:
+        return str(number)
