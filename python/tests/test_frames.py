@@ -29,7 +29,8 @@ class Without(Case):
 
     def test_nothing_is_imported_that_is_not_asked_for(self):
         script = ("import sys; sys.path.insert(0, %r)\nimport wdp\nfrom wdp import example\n"
-                  "auction = wdp.Auction(rules=[('rules', 1, 1), ('category', 'A', 1, 1, 1), ('bidder', 'Alpha', 1, 1)], forms=[('Alpha', [(1, 1)])])\n"
+                  "rules = [('rules', 1, 1), ('category', 'A', 1, 1, 1), ('bidder', 'Alpha', 1, 1)]\n"
+                  "auction = wdp.Auction(rules=rules, forms=[('Alpha', [(1, 1)])])\n"
                   "auction.report([{'X1_1': 1}])\n"
                   "print([name for name in ('pandas', 'numpy', 'scipy') if name in sys.modules])" % HERE.replace("tests", ""))
         done = subprocess.run([sys.executable, "-B", "-c", script], capture_output=True, text=True)

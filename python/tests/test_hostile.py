@@ -85,6 +85,12 @@ class Programs(Case):
         with self.assertRaisesRegex(wdp.Refused, "^wdp: input: too large$"):
             wdp.Auction.from_text(ONE + "%form\n" + "x" * 50_000_000, program=program).compile()
 
+    def test_a_disk_that_is_full(self):
+        from unittest import mock
+        with mock.patch("wdp.running.tempfile.TemporaryFile", lambda: open("/dev/full", "r+b", buffering=0)):
+            with self.assertRaisesRegex(wdp.Unclear, "can't be given its input, or its answer can't be read: No space left on device$"):
+                wdp.Auction.from_text(ONE).compile()
+
     def test_threads(self):
         auction, seen = wdp.Auction.from_text(example.INPUT), []
         threads = [threading.Thread(target=lambda: seen.append(auction.report(example.SOLUTIONS))) for _ in range(4)]
@@ -132,7 +138,8 @@ class Answers(Case):
 
     def test_claims(self):
         whole = content("examples", "worked.report.txt")
-        for behind in ("", "unique", "unique\nunique\n", "Unique\n", "tie\n", "tie\nBeta 1 20\n", "tie\ntotal 62\ntotal 62\n", "tie\ntotal 62\nunique\n"):
+        for behind in ("", "unique", "unique\nunique\n", "Unique\n", "tie\n", "tie\nBeta 1 20\n", "tie\ntotal 62\ntotal 62\n",
+                       "tie\ntotal 62\nunique\n"):
             self.assert_unclear_quickly(whole + behind, lambda auction: auction.verify(example.SOLUTIONS, example.CERTIFICATES, unique="bound 1"))
 
     def test_programs(self):

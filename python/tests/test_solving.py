@@ -57,6 +57,13 @@ class Tools(Case):
             self.assertEqual((caught.exception.status, caught.exception.group), (status, 1))
             self.assert_one_line(caught.exception)
 
+    def test_a_tool_that_ends_late(self):
+        from unittest import mock
+        auction = wdp.Auction.from_text(example.INPUT, tools=self.tool("exec sleep 60\n"))
+        with mock.patch("wdp.auction.LONGEST_GRACE", -0.8):
+            with self.assertRaisesRegex(wdp.Unclear, "tools/solve gave no answer in 0.2 s, and was ended$"):
+                auction.solve(time_limit=1)
+
     def test_no_group_is_given_where_a_later_one_fails(self):
         with self.assertRaises(wdp.NotSolved) as caught:
             self.solve(tools=self.tool("grep -q '^ X1_1 OBJ' && echo 'X1_1 1' || exit 5\n"))

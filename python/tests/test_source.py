@@ -54,11 +54,13 @@ class Installed(Case):
         for path in glob.glob(os.path.join(PYTHON, "wdp", "*.py")):
             with open(path, "rb") as file:
                 self.assertEqual(packed.pop("wdp/" + os.path.basename(path)), file.read())
-        self.assertEqual(sorted(packed), ["wdp-%s.dist-info/%s" % (wdp.__version__, name) for name in ("METADATA", "RECORD", "WHEEL")] + ["wdp/py.typed"])
+        described = ["wdp-%s.dist-info/%s" % (wdp.__version__, name) for name in ("METADATA", "RECORD", "WHEEL")]
+        self.assertEqual(sorted(packed), described + ["wdp/py.typed"])
 
     @unittest.skipUnless(subprocess.run([sys.executable, "-m", "pip", "--version"], capture_output=True).returncode == 0, "pip isn't there")
     def test_pip_installs_it_without_a_network(self):
-        words = [sys.executable, "-m", "pip", "install", "-q", "--no-build-isolation", "--no-index", "--no-compile", "--target", self.path("to"), PYTHON]
+        words = [sys.executable, "-m", "pip", "install", "-q", "--no-build-isolation", "--no-index", "--no-compile",
+                 "--target", self.path("to"), PYTHON]
         done = subprocess.run(words, capture_output=True, text=True, env={**os.environ, "PIP_DISABLE_PIP_VERSION_CHECK": "1"})
         self.assertEqual(done.returncode, 0, done.stderr)
         script = "import wdp, wdp.running as r; print(wdp.__file__, r.tree_of_package()); wdp.Auction.from_text('').check('ENDATA')"

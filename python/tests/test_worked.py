@@ -2,6 +2,7 @@
 import csv
 import io
 import unittest
+from decimal import Decimal
 
 from tree import Case, content
 
@@ -150,14 +151,20 @@ class Records(Case):
         return str(caught.exception)
 
     def test_numbers_are_never_rounded(self):
-        for value in (30.5, float("inf"), True, 10 ** 30 + 0.0, [30], object(), 1j):
+        for value in (30.5, float("inf"), True, 10 ** 30 + 0.0, [30], object(), 1j, Decimal("30.5"), Decimal("sNaN")):
             self.assertRegex(self.refused(forms=[("Alpha", [(value, 1, 0)])]), r"^form 1, bid 1: .* is no whole number$")
+
+    def test_whole_numbers_of_other_types(self):
+        for value in (30, 30.0, Decimal(30), Decimal("30.00"), "30"):
+            auction = wdp.Auction(rules=RULES, forms=[("Alpha", [(value, 1, 0)])])
+            self.assertIn(b"\n30,1,0\n", auction.input())
 
     def test_names_that_are_not_known(self):
         self.assertEqual(self.refused(forms=[("Alpha", [{"amount": 30, "C": 1}])]), "form 1, bid 1: 'C' is no category of the rules")
         self.assertEqual(self.refused(forms=[("Alpha", [{"A": 1}])]), "form 1, bid 1: there is no 'amount'")
         self.assertEqual(self.refused(forms=[{"amount": 30, "A": 1}]), "forms, row 1: there is no 'bidder'")
-        self.assertEqual(self.refused(rules=[{"record": "rules", "version": 1, "supply": 3}]), "rules, record 1: a record rules has no field 'supply'")
+        self.assertEqual(self.refused(rules=[{"record": "rules", "version": 1, "supply": 3}]),
+                         "rules, record 1: a record rules has no field 'supply'")
         self.assertRegex(self.refused(rules=[{"record": "lot"}]), "^rules, record 1: 'record' is to be ")
 
     def test_other_things_than_records(self):
@@ -199,7 +206,8 @@ class Records(Case):
 
     def test_lists_of_answers(self):
         auction = wdp.Auction.from_text(example.INPUT)
-        for solutions in ("X1_1 1", None, {}, [7], [{"X1_1\nX2_1": 1}], [{"#X1_1": 1}], [{"X1_1": "1 1"}], [{"X1_1": ""}], [{7: 1}]):
+        for solutions in ("X1_1 1", None, {}, {"X1_1 1", "X2_1 1"}, [7], [{"X1_1\nX2_1": 1}], [{"#X1_1": 1}], [{"X1_1": "1 1"}],
+                          [{"X1_1": ""}], [{7: 1}]):
             with self.assertRaises(wdp.WrongWords) as caught:
                 auction.report(solutions)
             self.assert_one_line(caught.exception)

@@ -4,14 +4,14 @@ from __future__ import annotations
 import os
 import stat
 from dataclasses import dataclass
-from typing import Any, Iterable, List, Optional, Union
+from typing import Any, Iterable, List, Mapping, Optional, Union
 
 from wdp import answers, texts
 from wdp.faults import Refused, WrongWords, escaped
 from wdp.program import Program
 from wdp.results import Allocation, Counts, Report, Solutions
 from wdp.running import Path, answer, found_program
-from wdp.solving import found_tool, solved, solver_words
+from wdp.solving import LONGEST_GRACE, found_tool, solved, solver_words
 
 MOST_OF_A_FILE = 134_217_728  # bytes that the program reads in all
 
@@ -122,7 +122,8 @@ class Auction:
         Raises NotFound without tools/solve, NotSolved where there is no answer, and WrongWords where a word isn't known.
         """
         words, tool = solver_words(solver, time_limit), found_tool("solve", self._program, self._tools)
-        return Solutions(tuple(solved(tool, words, program) for program in self.compile(workers)), solver)
+        seconds = None if time_limit is None else time_limit + LONGEST_GRACE
+        return Solutions(tuple(solved(tool, words, program, seconds) for program in self.compile(workers)), solver)
 
     def report(self, solutions: Iterable[Any], workers: int = 1) -> Report:
         """Winners, total and opportunity cost of each group, of a solution for each: texts, or dicts of columns and values.
@@ -159,8 +160,8 @@ class Auction:
 
 def listed(given: Iterable[Any], what: str) -> List[Any]:
     """A list of texts; WrongWords where it is one text or none at all."""
-    if texts.is_text(given) or isinstance(given, dict) or not isinstance(given, Iterable):
-        raise WrongWords("%s: a list is asked for, one for each group" % what)
+    if texts.is_text(given) or isinstance(given, (Mapping, set, frozenset)) or not isinstance(given, Iterable):
+        raise WrongWords("%s: a list is asked for, with one for each group" % what)
     return list(given)
 
 

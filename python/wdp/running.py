@@ -65,19 +65,27 @@ class Ran:
 def ran(words: Sequence[str], given: bytes, seconds: Optional[float] = None) -> Ran:
     """Runs a program to its end on `given`, for so many seconds at most.
 
-    Files stand at its three streams: none of them can fill, and nothing is waited for that the program left behind.
-    Raises NotFound where it can't be started, and Unclear where the seconds are over.
+    Files stand at its three streams: none of them can fill, as a pipe can, and nothing is waited for that the program left behind.
+    Raises NotFound where it can't be started, and Unclear where the seconds are over or the files can't be written.
     """
-    with tempfile.TemporaryFile() as source, tempfile.TemporaryFile() as output, tempfile.TemporaryFile() as messages:
-        source.write(given)
-        source.seek(0)
-        try:
-            ended = subprocess.run(list(words), stdin=source, stdout=output, stderr=messages, timeout=seconds, check=False)
-        except subprocess.TimeoutExpired:
-            raise Unclear("%s gave no answer in %g s, and was ended" % (words[0], seconds or 0)) from None
-        except (OSError, ValueError) as error:
-            raise NotFound("%s can't be started: %s" % (words[0], getattr(error, "strerror", None) or error)) from None
-        return Ran(ended.returncode, end_of(output), end_of(messages, MOST_OF_MESSAGES).decode("utf-8", "backslashreplace"))
+    try:
+        with tempfile.TemporaryFile() as source, tempfile.TemporaryFile() as output, tempfile.TemporaryFile() as messages:
+            source.write(given)
+            source.seek(0)
+            status = status_of(words, seconds, source, output, messages)
+            return Ran(status, end_of(output), end_of(messages, MOST_OF_MESSAGES).decode("utf-8", "backslashreplace"))
+    except OSError as error:
+        raise Unclear("%s can't be given its input, or its answer can't be read: %s" % (words[0], error.strerror or error)) from None
+
+
+def status_of(words: Sequence[str], seconds: Optional[float], source: BinaryIO, output: BinaryIO, messages: BinaryIO) -> int:
+    """The status of a program with these files at its streams, below 0 where a signal ended it."""
+    try:
+        return subprocess.run(list(words), stdin=source, stdout=output, stderr=messages, timeout=seconds, check=False).returncode
+    except subprocess.TimeoutExpired:
+        raise Unclear("%s gave no answer in %g s, and was ended" % (words[0], seconds or 0)) from None
+    except (OSError, ValueError) as error:
+        raise NotFound("%s can't be started: %s" % (words[0], getattr(error, "strerror", None) or error)) from None
 
 
 def end_of(file: BinaryIO, most: Optional[int] = None) -> bytes:

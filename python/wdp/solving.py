@@ -11,6 +11,9 @@ from wdp.running import Path, Ran, ran, tree_of_package
 from wdp.texts import whole
 
 
+LONGEST_GRACE = 60  # seconds: tools/solve stops a solver that oversteps its limit by half of it
+
+
 def found_tool(name: str, program: str, tools: Optional[Path] = None) -> str:
     """The path of a tool: in the folder that is given, else in $WDP_TOOLS, else in `tools` of the package's tree or beside the
     program. Raises NotFound where it isn't there."""
@@ -33,9 +36,10 @@ def solver_words(solver: str, time_limit: Optional[int]) -> List[str]:
     return ["%s=%s" % (word, solver), *limit]
 
 
-def solved(tool: str, words: List[str], program: Program) -> str:
-    """The solution of a program. Raises NotSolved where the solver gives none, and WrongWords where it isn't known."""
-    ended = ran([tool, *words], program.text.encode())
+def solved(tool: str, words: List[str], program: Program, seconds: Optional[float] = None) -> str:
+    """The solution of a program, found within so many seconds. Raises NotSolved where the solver gives none, and WrongWords
+    where it isn't known."""
+    ended = ran([tool, *words], program.text.encode(), seconds)
     if ended.status != 0:
         raise fault_of(ended, program)
     try:

@@ -80,7 +80,7 @@ def field(value: Any, where: str) -> str:
         number = float(value)
         if number.is_integer() and number == value and abs(number) < MOST_EXACT:
             return str(int(number))
-    except (TypeError, ValueError, OverflowError):
+    except (TypeError, ValueError, ArithmeticError):
         pass
     raise WrongWords("%s: %s is no whole number" % (where, shown(value)))
 
@@ -89,7 +89,7 @@ def is_blank(value: Any) -> bool:
     """Whether this stands for an empty cell: None, not a number, or what pandas has for it."""
     try:
         return value is None or bool(value != value)
-    except (TypeError, ValueError):
+    except (TypeError, ValueError, ArithmeticError):
         return type(value).__name__ == "NAType"
 
 
