@@ -1,14 +1,18 @@
 """Programs that answer something else, or nothing, or are ended; large texts and strange paths: one clear exception, no hang."""
 import os
+import random
 import signal
 import threading
 import time
 import unittest
+from unittest import mock
 
 from tree import EVIL, Case, content
 
 import wdp
+from test_verify import printed
 from wdp import example
+from wdp.answers import Asked, read_report
 
 REPORT = "group 1 -\\nAlpha 1 30\\ntotal 30\\ncost 0\\n"
 ONE = example.INPUT.split("%groups")[0] + "%groups\n-\n"
@@ -17,6 +21,15 @@ ONE = example.INPUT.split("%groups")[0] + "%groups\n-\n"
 def printing(text):
     """A script that prints this, whatever it is asked."""
     return "printf '%s'\n" % text
+
+
+def status_fields(process):
+    """What the system tells of a process behind its name: state, parent, group; nothing where there is none."""
+    try:
+        with open("/proc/%s/stat" % process, "rb") as file:
+            return file.read().decode(errors="replace").rpartition(") ")[2].split()
+    except OSError:
+        return []
 
 
 class Programs(Case):
@@ -45,7 +58,7 @@ class Programs(Case):
             self.assert_all_raise(wdp.Unclear, "printf 'group 1 -\\n'\nkill -%d $$\n" % number, "was ended by signal %d " % number)
 
     def test_garbage(self):
-        for script in ("head -c 100000 /dev/urandom\n", "yes | head -n 1000000\n", "printf '\\377\\376'\n", "printf '\\0'\n",
+        for script in ("head -c 10000 /dev/urandom\n", "yes | head -n 1000\n", "printf '\\377\\376'\n", "printf '\\0'\n",
                        "printf '\\n'\n", "cat\n"):
             self.assert_all_raise(wdp.Unclear, script, "isn't as docs/FORMATS.md says")
 
@@ -72,6 +85,38 @@ class Programs(Case):
             wdp.Auction.from_text(ONE, program=program, seconds=0.2).compile()
         self.assertLess(time.time() - started, 10)
 
+    def test_a_program_that_prints_without_an_end(self):
+        for script, words in (("yes\n", "prints more than an answer to this can have, [0-9]+ bytes$"),
+                              ("yes >&2\n", "prints more than 1000000 bytes on standard error$")):
+            program = self.program("echo $$ > '%s'\n" % self.path("group") + script)
+            with mock.patch("wdp.running.MOST_OF_MESSAGES", 1_000_000), self.assertRaisesRegex(wdp.Unclear, words) as caught:
+                wdp.Auction.from_text(ONE, program=program).report([""])
+            self.assert_one_line(caught.exception)
+            self.assert_nothing_runs()
+
+    def test_an_interrupt_ends_the_program(self):
+        program = self.program("echo $$ > '%s'\nsleep 60\n" % self.path("group"))
+
+        def interrupted():
+            if os.path.exists(self.path("group")) and os.path.getsize(self.path("group")):
+                raise KeyboardInterrupt
+            return 0.0
+
+        with mock.patch("wdp.running.time", mock.Mock(monotonic=interrupted)), self.assertRaises(KeyboardInterrupt):
+            wdp.Auction.from_text(ONE, program=program, seconds=60).compile()
+        self.assert_nothing_runs()
+
+    def assert_nothing_runs(self):
+        """Of the group that a program left in the file `group` nothing runs any more; what nobody has waited for may be listed."""
+        with open(self.path("group")) as file:
+            group = file.read().strip()
+        for _ in range(100):
+            states = [fields[0] for fields in map(status_fields, os.listdir("/proc")) if fields[2:3] == [group]]
+            if set(states) <= {"Z", "X"}:
+                return
+            time.sleep(0.05)
+        self.fail("of the group %s something runs: %s" % (group, states))
+
     def test_a_program_that_leaves_another_one_behind(self):
         started = time.time()
         program = self.program("sleep 20 &\necho $! > '%s'\n" % self.path("left") + printing(REPORT))
@@ -86,7 +131,6 @@ class Programs(Case):
             wdp.Auction.from_text(ONE + "%form\n" + "x" * 50_000_000, program=program).compile()
 
     def test_a_disk_that_is_full(self):
-        from unittest import mock
         with mock.patch("wdp.running.tempfile.TemporaryFile", lambda: open("/dev/full", "r+b", buffering=0)):
             with self.assertRaisesRegex(wdp.Unclear, "can't be given its input, or its answer can't be read: No space left on device$"):
                 wdp.Auction.from_text(ONE).compile()
@@ -130,7 +174,6 @@ class Answers(Case):
 
     def assert_unclear_quickly(self, answer, call):
         """As above, without starting a program for each answer."""
-        from unittest import mock
         with mock.patch("wdp.auction.answer", lambda *_: answer.encode()):
             with self.assertRaises(wdp.Unclear, msg=answer) as caught:
                 call(wdp.Auction.from_text(example.INPUT))
@@ -141,6 +184,23 @@ class Answers(Case):
         for behind in ("", "unique", "unique\nunique\n", "Unique\n", "tie\n", "tie\nBeta 1 20\n", "tie\ntotal 62\ntotal 62\n",
                        "tie\ntotal 62\nunique\n"):
             self.assert_unclear_quickly(whole + behind, lambda auction: auction.verify(example.SOLUTIONS, example.CERTIFICATES, unique="bound 1"))
+
+    def test_what_is_taken_prints_back(self):
+        damaged, taken = random.Random(7), 0
+        asked = Asked(wdp.Auction.from_text(example.INPUT).input(example.SOLUTIONS, example.CERTIFICATES, example.UNIQUE))
+        right = content("examples", "worked.report.txt") + "tie\nAlpha 2 50\nGamma 1 12\ntotal 62\n"
+        for _ in range(5_000):
+            answer = bytearray(right.encode())
+            for _ in range(damaged.randint(1, 3)):
+                place = damaged.randrange(len(answer))
+                answer[place:place + damaged.randint(0, 2)] = damaged.choice([b"", b"0", b"1", b"-", b" ", b"\n", b"a", b"+", b"\r", b"\xff", b"total 1"])
+            try:
+                report = read_report(bytes(answer), asked, True)
+            except wdp.Unclear:
+                continue
+            taken += 1
+            self.assertEqual(printed(report), answer.decode())
+        self.assertGreater(taken, 100)
 
     def test_programs(self):
         whole = "* program 1 -\nNAME wdp\nROWS\n N OBJ\nCOLUMNS\nRHS\nENDATA\n"
@@ -209,7 +269,6 @@ class Found(Case):
         self.assertEqual(auction.report(["X1_1 1\nX2_1 1\nX3_1 1\n"]).groups[0].total, 62)
 
     def test_the_path_where_the_package_lies_in_no_tree(self):
-        from unittest import mock
         os.environ.pop("WDP", None)
         self.program(printing(REPORT.replace("30", "3")), "wdp")
         os.environ["PATH"] = self.folder + ":" + os.environ["PATH"]

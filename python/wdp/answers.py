@@ -10,17 +10,24 @@ from wdp.results import Allocation, Counts, Group, Report, Tie, Winner
 
 NAME = r"[A-Za-z][A-Za-z0-9]{0,15}"
 NAMES = r"(-|%s(?:\+%s)*)" % (NAME, NAME)
-PROGRAM = re.compile(r"^\* program ([0-9]{1,4}) %s\n" % NAMES, re.MULTILINE)
-GROUP = re.compile(r"group ([0-9]{1,4}) %s" % NAMES)
-WINNER = re.compile(r"(%s) ([0-9]{1,4}) ([0-9]{1,13})" % NAME)
-TOTAL = re.compile(r"total ([0-9]{1,30})")
-COST = re.compile(r"cost (-?[0-9]{1,30})")
-COUNTS = re.compile(r"rows ([0-9]{1,9}) columns ([0-9]{1,9}) entries ([0-9]{1,18})")
+PROGRAM = re.compile(r"^\* program ([1-9][0-9]{0,3}) %s\n" % NAMES, re.MULTILINE)
+GROUP = re.compile(r"group ([1-9][0-9]{0,3}) %s" % NAMES)
+WINNER = re.compile(r"(%s) ([1-9][0-9]{0,3}) ([1-9][0-9]{0,12})" % NAME)
+TOTAL = re.compile(r"total (0|[1-9][0-9]{0,29})")
+COST = re.compile(r"cost (0|-?[1-9][0-9]{0,29})")
+COUNTS = re.compile(r"rows (0|[1-9][0-9]{0,17}) columns (0|[1-9][0-9]{0,17}) entries (0|[1-9][0-9]{0,17})")
 HEAD = re.compile(rb"^%([^\n]*)\n?", re.MULTILINE)
+
+# bytes that a group has at most in a report: 256 winners of 36 bytes, as many names, and two lines
+MOST_OF_GROUP = 16_384
+# bytes that a byte of a form has at most in a program: a bid of 4 bytes loads 16 pools, in as many lines of 27 bytes, and has
+# four lines more
+MOST_OF_BYTE = 140
 
 
 class Asked:
-    """What an input asks for, as far as an answer is held against it: its groups, and whether something is claimed."""
+    """What an input asks for, as far as an answer is held against it: its groups, whether something is claimed, and how many
+    bytes an answer has at most."""
 
     def __init__(self, given: bytes) -> None:
         heads = [(found, found[1][:-1] if found[1].endswith(b"\r") else found[1]) for found in HEAD.finditer(given)]
@@ -29,6 +36,9 @@ class Asked:
         for found in [found for found, name in heads if name == b"groups"][:1]:
             following = HEAD.search(given, found.end())
             self.groups = groups_in(given[found.end():following.start() if following else len(given)])
+        count = len(self.groups) + 2
+        self.most_of_report: int = count * MOST_OF_GROUP
+        self.most_of_programs: int = count * (MOST_OF_GROUP + MOST_OF_BYTE * len(given))
 
 
 def groups_in(text: bytes) -> List[FrozenSet[str]]:
@@ -91,9 +101,9 @@ def check_group(number: int, names: Sequence[str], found: Match[str], asked: Ask
         raise unclear("where group %d was to stand there is: %s" % (number, found[0].strip()))
 
 
-def read_programs(output: bytes, given: bytes) -> List[Program]:
+def read_programs(output: bytes, asked: Asked) -> List[Program]:
     """The program of each group."""
-    text, asked = text_of(output), Asked(given)
+    text = text_of(output)
     found = list(PROGRAM.finditer(text))
     if len(found) != len(asked.groups) or text[:found[0].start() if found else len(text)]:
         raise unclear("it has %d programs, for %d groups" % (len(found), len(asked.groups)))
@@ -134,9 +144,9 @@ def read_group(lines: Lines, number: int, asked: Asked) -> Group:
     return Group(number, names, allocation.winners, allocation.total, int(lines.take(COST)[1]))
 
 
-def read_report(output: bytes, given: bytes, is_certified: bool) -> Report:
+def read_report(output: bytes, asked: Asked, is_certified: bool) -> Report:
     """What `report` or `verify` prints."""
-    lines, asked = Lines(output), Asked(given)
+    lines = Lines(output)
     groups = tuple(read_group(lines, number, asked) for number in range(1, len(asked.groups) + 1))
     uniqueness = read_uniqueness(lines) if asked.is_claimed else "unasked"
     lines.end()

@@ -10,8 +10,8 @@ from wdp import answers, texts
 from wdp.faults import Refused, WrongWords, escaped
 from wdp.program import Program
 from wdp.results import Allocation, Counts, Report, Solutions
-from wdp.running import Path, answer, found_program
-from wdp.solving import LONGEST_GRACE, found_tool, solved, solver_words
+from wdp.running import Limits, Path, answer, found_program
+from wdp.solving import LONGEST_GRACE, MOST_OF_A_SOLUTION, found_tool, solved, solver_words
 
 MOST_OF_A_FILE = 134_217_728  # bytes that the program reads in all
 
@@ -108,12 +108,17 @@ class Auction:
         parts += [] if tie is None else [texts.part("tie", texts.solution_text(tie, "tie"))]
         return b"".join(parts)
 
-    def _answer(self, words: List[str], given: bytes) -> bytes:
-        return answer(self._program, words, given, self._seconds)
+    def _answer(self, words: List[str], given: bytes, most: int = answers.MOST_OF_GROUP) -> bytes:
+        return answer(self._program, words, given, Limits(most, self._seconds))
+
+    def _report(self, words: List[str], given: bytes, is_certified: bool) -> Report:
+        asked = answers.Asked(given)
+        return answers.read_report(self._answer(words, given, asked.most_of_report), asked, is_certified)
 
     def compile(self, workers: int = 1) -> List[Program]:
         """The program of each group, in the order of the groups, written by so many workers, 1 to 64."""
-        return answers.read_programs(self._answer(["compile", *workers_of(workers)], self._given), self._given)
+        asked = answers.Asked(self._given)
+        return answers.read_programs(self._answer(["compile", *workers_of(workers)], self._given, asked.most_of_programs), asked)
 
     def solve(self, solver: str = "cbc", time_limit: Optional[int] = None, workers: int = 1) -> Solutions:
         """A solver's answer to each program: of `cbc`, `glpsol`, `lp_solve`, or of a command as docs/SOLVERS.md tells. That an
@@ -122,24 +127,22 @@ class Auction:
         Raises NotFound without tools/solve, NotSolved where there is no answer, and WrongWords where a word isn't known.
         """
         words, tool = solver_words(solver, time_limit), found_tool("solve", self._program, self._tools)
-        seconds = None if time_limit is None else time_limit + LONGEST_GRACE
-        return Solutions(tuple(solved(tool, words, program, seconds) for program in self.compile(workers)), solver)
+        limits = Limits(MOST_OF_A_SOLUTION, None if time_limit is None else time_limit + LONGEST_GRACE)
+        return Solutions(tuple(solved(tool, words, program, limits) for program in self.compile(workers)), solver)
 
     def report(self, solutions: Iterable[Any], workers: int = 1) -> Report:
         """Winners, total and opportunity cost of each group, of a solution for each: texts, or dicts of columns and values.
 
         The solutions are tested exactly; whether they are the best ones isn't.
         """
-        given = self.input(solutions)
-        return answers.read_report(self._answer(["report", *workers_of(workers)], given), given, False)
+        return self._report(["report", *workers_of(workers)], self.input(solutions), False)
 
     def verify(self, solutions: Iterable[Any], certificates: Iterable[texts.Text], unique: Optional[texts.Text] = None,
                tie: Any = None, workers: int = 1) -> Report:
         """What `report` tells, where a certificate for each group shows that nobody wins more. With `unique`, a certificate
         that the solution of group 1 is the only optimal one, or `tie`, another solution of so great a total, the report's
         `uniqueness` tells what comes of it."""
-        given = self.input(solutions, certificates, unique, tie)
-        return answers.read_report(self._answer(["verify", *workers_of(workers)], given), given, True)
+        return self._report(["verify", *workers_of(workers)], self.input(solutions, certificates, unique, tie), True)
 
     def map(self, solution: Any, group: int = 1) -> Allocation:
         """Winners and total of a solution of one group, by its number from 1."""

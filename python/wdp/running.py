@@ -6,6 +6,7 @@ import shutil
 import signal
 import subprocess
 import tempfile
+import time
 from dataclasses import dataclass
 from typing import BinaryIO, List, Optional, Sequence, Union
 
@@ -13,8 +14,9 @@ from wdp.faults import NotFound, Refused, Unclear, WrongWords
 
 Path = Union[str, "os.PathLike[str]"]
 
-# the bytes at the end of standard error that are read: a refusal is one line
-MOST_OF_MESSAGES = 65536
+END_OF_MESSAGES = 65_536  # bytes at the end of standard error that are read: a refusal is one line
+MOST_OF_MESSAGES = 256 * 1024 * 1024  # bytes of standard error behind which a program is ended
+LOOK = 0.25  # seconds between looks at what a program has printed
 
 
 def tree_of_package() -> Optional[str]:
@@ -62,42 +64,77 @@ class Ran:
         return " ".join(self.messages.strip().split("\n\n")[0].split())
 
 
-def ran(words: Sequence[str], given: bytes, seconds: Optional[float] = None) -> Ran:
-    """Runs a program to its end on `given`, for so many seconds at most.
+@dataclass(frozen=True)
+class Limits:
+    """How many bytes an answer may have, and how many seconds it may take."""
 
-    Files stand at its three streams: none of them can fill, as a pipe can, and nothing is waited for that the program left behind.
-    Raises NotFound where it can't be started, and Unclear where the seconds are over or the files can't be written.
+    most: int
+    seconds: Optional[float] = None
+
+
+def ran(words: Sequence[str], given: bytes, limits: Limits) -> Ran:
+    """Runs a program to its end on `given`.
+
+    Files stand at its three streams: none of them can fill, as a pipe can, and nothing is waited for that the program left
+    behind. Raises NotFound where it can't be started, and Unclear where it oversteps a limit or a file can't be written.
     """
     try:
         with tempfile.TemporaryFile() as source, tempfile.TemporaryFile() as output, tempfile.TemporaryFile() as messages:
             source.write(given)
             source.seek(0)
-            status = status_of(words, seconds, source, output, messages)
-            return Ran(status, end_of(output), end_of(messages, MOST_OF_MESSAGES).decode("utf-8", "backslashreplace"))
+            status = status_of(words, limits, source, output, messages)
+            return Ran(status, end_of(output, limits.most), end_of(messages, END_OF_MESSAGES).decode("utf-8", "backslashreplace"))
     except OSError as error:
         raise Unclear("%s can't be given its input, or its answer can't be read: %s" % (words[0], error.strerror or error)) from None
 
 
-def status_of(words: Sequence[str], seconds: Optional[float], source: BinaryIO, output: BinaryIO, messages: BinaryIO) -> int:
+def status_of(words: Sequence[str], limits: Limits, source: BinaryIO, output: BinaryIO, messages: BinaryIO) -> int:
     """The status of a program with these files at its streams, below 0 where a signal ended it."""
     try:
-        return subprocess.run(list(words), stdin=source, stdout=output, stderr=messages, timeout=seconds, check=False).returncode
-    except subprocess.TimeoutExpired:
-        raise Unclear("%s gave no answer in %g s, and was ended" % (words[0], seconds or 0)) from None
+        # (a group of its own, so that all of it can be ended)
+        started = subprocess.Popen(list(words), stdin=source, stdout=output, stderr=messages, start_new_session=True)
     except (OSError, ValueError) as error:
         raise NotFound("%s can't be started: %s" % (words[0], getattr(error, "strerror", None) or error)) from None
+    with started:
+        try:
+            fault = fault_of_limits(started, limits, output, messages)
+        except BaseException:
+            os.killpg(started.pid, signal.SIGKILL)
+            raise
+    if fault:
+        raise Unclear("%s %s" % (words[0], fault))
+    return started.returncode
 
 
-def end_of(file: BinaryIO, most: Optional[int] = None) -> bytes:
+def fault_of_limits(started: "subprocess.Popen[bytes]", limits: Limits, output: BinaryIO, messages: BinaryIO) -> Optional[str]:
+    """Waits for the end of a program. Where it oversteps a limit it is ended, and this is why."""
+    last = float("inf") if limits.seconds is None else time.monotonic() + limits.seconds
+    is_ended, fault = False, None
+    while not is_ended and not fault:
+        try:
+            started.wait(max(min(LOOK, last - time.monotonic()), 0))
+            is_ended = True
+        except subprocess.TimeoutExpired:
+            if time.monotonic() >= last:
+                fault = "gave no answer in %g s, and was ended" % (limits.seconds or 0)
+        if os.fstat(output.fileno()).st_size > limits.most:
+            fault = "prints more than an answer to this can have, %d bytes" % limits.most
+        if os.fstat(messages.fileno()).st_size > MOST_OF_MESSAGES:
+            fault = "prints more than %d bytes on standard error" % MOST_OF_MESSAGES
+    if not is_ended:
+        os.killpg(started.pid, signal.SIGKILL)
+    return fault
+
+
+def end_of(file: BinaryIO, most: int) -> bytes:
     """The last bytes of a file, so many at most."""
-    size = file.seek(0, os.SEEK_END)
-    file.seek(0 if most is None else max(size - most, 0))
-    return file.read()
+    file.seek(max(file.seek(0, os.SEEK_END) - most, 0))
+    return file.read(most)
 
 
-def answer(program: str, words: List[str], given: bytes, seconds: Optional[float] = None) -> bytes:
+def answer(program: str, words: List[str], given: bytes, limits: Limits) -> bytes:
     """What the program prints, where it ends with status 0; else a Refused that says why."""
-    ended = ran([program, *words], given, seconds)
+    ended = ran([program, *words], given, limits)
     if ended.status != 0:
         raise fault_of(program, ended)
     return ended.output

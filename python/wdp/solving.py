@@ -7,11 +7,12 @@ from typing import List, Optional
 from wdp.faults import NotFound, NotSolved, Refused, Unclear, WrongWords
 from wdp.program import Program
 from wdp.results import joined
-from wdp.running import Path, Ran, ran, tree_of_package
+from wdp.running import Limits, Path, Ran, ran, tree_of_package
 from wdp.texts import whole
 
 
 LONGEST_GRACE = 60  # seconds: tools/solve stops a solver that oversteps its limit by half of it
+MOST_OF_A_SOLUTION = 67_108_864  # bytes that the program reads of one
 
 
 def found_tool(name: str, program: str, tools: Optional[Path] = None) -> str:
@@ -36,10 +37,10 @@ def solver_words(solver: str, time_limit: Optional[int]) -> List[str]:
     return ["%s=%s" % (word, solver), *limit]
 
 
-def solved(tool: str, words: List[str], program: Program, seconds: Optional[float] = None) -> str:
-    """The solution of a program, found within so many seconds. Raises NotSolved where the solver gives none, and WrongWords
+def solved(tool: str, words: List[str], program: Program, limits: Limits) -> str:
+    """The solution of a program. Raises NotSolved where the solver gives none, and WrongWords
     where it isn't known."""
-    ended = ran([tool, *words], program.text.encode(), seconds)
+    ended = ran([tool, *words], program.text.encode(), limits)
     if ended.status != 0:
         raise fault_of(ended, program)
     try:
