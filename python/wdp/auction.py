@@ -116,7 +116,14 @@ class Auction:
         return answers.read_report(self._answer(words, given, asked.most_of_report), asked, is_certified)
 
     def compile(self, workers: int = 1) -> List[Program]:
-        """The program of each group, in the order of the groups, written by so many workers, 1 to 64."""
+        """The program of each group, in the order of the groups, written by so many workers, 1 to 64.
+
+        Raises Refused where the rules, a form or a group has a fault, and WrongWords for other numbers of workers.
+
+        >>> from wdp import example
+        >>> [program.names for program in Auction.from_text(example.INPUT).compile()]
+        [(), ('Alpha',), ('Beta',), ('Beta', 'Gamma')]
+        """
         asked = answers.Asked(self._given)
         return answers.read_programs(self._answer(["compile", *workers_of(workers)], self._given, asked.most_of_programs), asked)
 
@@ -131,9 +138,10 @@ class Auction:
         return Solutions(tuple(solved(tool, words, program, limits) for program in self.compile(workers)), solver)
 
     def report(self, solutions: Iterable[Any], workers: int = 1) -> Report:
-        """Winners, total and opportunity cost of each group, of a solution for each: texts, or dicts of columns and values.
+        """Winners, total and opportunity cost of each group in pounds, of a solution for each: texts, or dicts of columns and
+        values. The solutions are tested exactly; whether they are the best ones isn't.
 
-        The solutions are tested exactly; whether they are the best ones isn't.
+        Raises Refused where one isn't a solution of its group's program, or there isn't one for each group.
         """
         return self._report(["report", *workers_of(workers)], self.input(solutions), False)
 
@@ -141,16 +149,33 @@ class Auction:
                tie: Any = None, workers: int = 1) -> Report:
         """What `report` tells, where a certificate for each group shows that nobody wins more. With `unique`, a certificate
         that the solution of group 1 is the only optimal one, or `tie`, another solution of so great a total, the report's
-        `uniqueness` tells what comes of it."""
+        `uniqueness` tells what comes of it.
+
+        Raises Refused where `report` does, where a certificate doesn't show what it is to show, and where a claim doesn't hold.
+
+        >>> from wdp import example
+        >>> auction = Auction.from_text(example.INPUT)
+        >>> auction.verify(example.SOLUTIONS, ["bound 1 B1 99"] * 4)
+        Traceback (most recent call last):
+        wdp.faults.Refused: wdp: certificate 1: 9 NotShown at line 1
+        """
         return self._report(["verify", *workers_of(workers)], self.input(solutions, certificates, unique, tie), True)
 
     def map(self, solution: Any, group: int = 1) -> Allocation:
-        """Winners and total of a solution of one group, by its number from 1."""
+        """Winners and total in pounds of a solution of one group, by its number from 1.
+
+        Raises Refused where it isn't one or there is no such group, and WrongWords for numbers that no group has.
+
+        >>> from wdp import example
+        >>> Auction.from_text(example.INPUT).map({"X1_2": 1}, group=3)
+        Allocation(winners=(Winner(bidder='Alpha', bid=2, amount=50),), total=50)
+        """
         given = self.input([solution])
         return answers.read_map(self._answer(["map", "--group=%d" % texts.whole(group, "group")], given))
 
     def check(self, mps_text: Union[texts.Text, Program]) -> Counts:
-        """How many rows, columns and entries a 0-1 program in MPS has, from wherever it is.
+        """How many rows, columns and entries a 0-1 program in MPS has, from wherever it is. Raises Refused where the text isn't
+        of the profile that docs/FORMATS.md describes.
 
         >>> from wdp import example
         >>> auction = Auction.from_text(example.INPUT)

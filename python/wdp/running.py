@@ -16,7 +16,7 @@ Path = Union[str, "os.PathLike[str]"]
 
 END_OF_MESSAGES = 65_536  # bytes at the end of standard error that are read: a refusal is one line
 MOST_OF_MESSAGES = 256 * 1024 * 1024  # bytes of standard error behind which a program is ended
-LOOK = 0.25  # seconds between looks at what a program has printed
+SHORTEST_LOOK, LONGEST_LOOK = 0.004, 0.25  # seconds between looks at a program: the longer it takes, the fewer
 
 
 def tree_of_package() -> Optional[str]:
@@ -109,10 +109,11 @@ def status_of(words: Sequence[str], limits: Limits, source: BinaryIO, output: Bi
 def fault_of_limits(started: "subprocess.Popen[bytes]", limits: Limits, output: BinaryIO, messages: BinaryIO) -> Optional[str]:
     """Waits for the end of a program. Where it oversteps a limit it is ended, and this is why."""
     last = float("inf") if limits.seconds is None else time.monotonic() + limits.seconds
-    is_ended, fault = False, None
+    is_ended, fault, pause = False, None, SHORTEST_LOOK
     while not is_ended and not fault:
+        pause = min(pause * 1.25, LONGEST_LOOK)
         try:
-            started.wait(max(min(LOOK, last - time.monotonic()), 0))
+            started.wait(max(min(pause, last - time.monotonic()), 0))
             is_ended = True
         except subprocess.TimeoutExpired:
             if time.monotonic() >= last:
