@@ -99,7 +99,7 @@ def status_of(words: Sequence[str], limits: Limits, source: BinaryIO, output: Bi
         try:
             fault = fault_of_limits(started, limits, output, messages)
         except BaseException:
-            os.killpg(started.pid, signal.SIGKILL)
+            end(started)
             raise
     if fault:
         raise Unclear("%s %s" % (words[0], fault))
@@ -122,9 +122,14 @@ def fault_of_limits(started: "subprocess.Popen[bytes]", limits: Limits, output: 
             fault = "prints more than an answer to this can have, %d bytes" % limits.most
         if os.fstat(messages.fileno()).st_size > MOST_OF_MESSAGES:
             fault = "prints more than %d bytes on standard error" % MOST_OF_MESSAGES
-    if not is_ended:
-        os.killpg(started.pid, signal.SIGKILL)
+    end(started)
     return fault
+
+
+def end(started: "subprocess.Popen[bytes]") -> None:
+    """Ends a program with all that it started, unless its end was seen: its number may then be another one's."""
+    if started.returncode is None:
+        os.killpg(started.pid, signal.SIGKILL)
 
 
 def end_of(file: BinaryIO, most: int) -> bytes:
