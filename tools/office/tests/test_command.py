@@ -30,7 +30,7 @@ class Command(Office):
     def test_no_command_lists_all(self):
         status, out, told = self.seen()
         self.assertEqual((status, out), (2, ""))
-        listed = [line.split()[0] for line in told.partition("\ncommands:\n")[2].splitlines()]
+        listed = [line.split()[0] for line in told.partition("\ncommands:\n")[2].partition("\n\n")[0].splitlines()]
         self.assertEqual(listed, list(TOOL_OF))
         self.assertEqual(self.seen("--help"), (0, told, ""))
         self.assertEqual(self.seen("-h"), (0, told, ""))
