@@ -5,6 +5,7 @@ from __future__ import annotations
 import os
 import re
 import subprocess
+from concurrent.futures import ThreadPoolExecutor
 from dataclasses import dataclass
 
 HEADING = re.compile(r"([A-Za-z][A-Za-z ]*):$")
@@ -93,4 +94,6 @@ def of(*words):
 def with_commands(*words):
     """What a command says of itself, and what each of its commands does, but for the command help."""
     own = of(*words)
-    return own, {name: of(*words, name) for name in own.commands() if name != "help"}
+    names = [name for name in own.commands() if name != "help"]
+    with ThreadPoolExecutor() as pool:
+        return own, dict(zip(names, pool.map(lambda name: of(*words, name), names)))
