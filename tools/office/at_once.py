@@ -8,7 +8,7 @@ import time
 from concurrent.futures import ThreadPoolExecutor
 from dataclasses import asdict
 
-from office import disproved, inputs, running
+from office import called, disproved, inputs, running
 from office.audit import printed, with_answers
 from office.claim import TIE, UNIQUE, Shown, shown_behind, with_shown
 from office.cut import columns_of, cut_off, other_of_same_total
@@ -174,8 +174,8 @@ def solve_all(folder, names, solver, given):
     say_failed(failed, names)
     refuse_wrong(folder, failed, solver)
     if failed:
-        raise running.Stopped("%d of %d groups aren't solved; with a folder, tools/auction DIR, the others are kept"
-                              % (len(failed), len(names)))
+        raise running.Stopped("%d of %d groups aren't solved; with a folder, %s DIR, the others are kept"
+                              % (len(failed), len(names), " ".join(called.words_of("auction"))))
 
 
 def certify_all(folder, names, solver, given):

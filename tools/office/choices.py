@@ -4,7 +4,7 @@ from __future__ import annotations
 import argparse
 from dataclasses import dataclass, fields
 
-from office import versions
+from office import called, versions
 from office.printed import escaped
 
 
@@ -27,7 +27,8 @@ class Parser(argparse.ArgumentParser):
     """A parser whose help has its text as it stands, and whose errors are one line."""
 
     def __init__(self, tool, text):
-        super().__init__(prog=tool, description=text, formatter_class=argparse.RawDescriptionHelpFormatter)
+        super().__init__(prog=" ".join(called.words_of(tool)), description=called.text_as_called(text),
+                         formatter_class=argparse.RawDescriptionHelpFormatter)
 
     def error(self, message):
         super().error(escaped(message))

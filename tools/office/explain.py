@@ -11,7 +11,7 @@ from office.faults import all_counted
 
 
 def words():
-    parser = choices.Parser("tools/explain", __doc__)
+    parser = choices.Parser("explain", __doc__)
     parser.add_argument("paths", metavar="INPUT | RULES FORMS_DIR [GROUPS]", nargs="+")
     parser.add_argument("--command", choices=("compile", "text"), default="compile",
                         help="the command that is to read the input; text takes no groups")

@@ -4,7 +4,7 @@ import hashlib
 import json
 import os
 
-from office import running, strict_json
+from office import called, running, strict_json
 
 SETTINGS = "settings.json"
 SUMS = "sums"
@@ -158,7 +158,7 @@ def remove(*path):
 def settings():
     told = read_json(SETTINGS)
     if not told:
-        raise running.Stopped("%s isn't there: tools/auction DIR makes it" % os.path.abspath(SETTINGS))
+        raise running.Stopped("%s isn't there: %s DIR makes it" % (os.path.abspath(SETTINGS), " ".join(called.words_of("auction"))))
     return told
 
 

@@ -16,7 +16,7 @@ from office.faults import all_counted
 
 
 def words():
-    parser = choices.Parser("tools/gather", __doc__)
+    parser = choices.Parser("gather", __doc__)
     parser.add_argument("rules", metavar="RULES", help="the file of the rules")
     parser.add_argument("forms", metavar="FORMS_DIR", help="the folder with the bidders' forms")
     parser.add_argument("groups_file", metavar="GROUPS", nargs="?", help="the file of the groups")

@@ -14,7 +14,7 @@ import argparse
 import hashlib
 import os
 
-from office import inputs, running
+from office import called, inputs, running
 from office.audit import printed
 from office.claim import Shown, shown_behind, with_shown
 from office.choosing import add_page_words
@@ -27,7 +27,8 @@ ROOT = os.path.dirname(os.path.dirname(os.path.dirname(os.path.realpath(__file__
 
 
 def words():
-    parser = argparse.ArgumentParser(description=__doc__, formatter_class=argparse.RawDescriptionHelpFormatter, prog="tools/results")
+    parser = argparse.ArgumentParser(description=called.text_as_called(__doc__), prog=" ".join(called.words_of("results")),
+                                     formatter_class=argparse.RawDescriptionHelpFormatter)
     parser.add_argument("input", metavar="INPUT")
     parser.add_argument("report", metavar="REPORT")
     parser.add_argument("--output", metavar="DIR", required=True, help="the folder of the files; it is made where it isn't there")

@@ -10,7 +10,7 @@ import sys
 import tempfile
 import time
 
-from office import disproved, engines, folder, inputs, running
+from office import called, disproved, engines, folder, inputs, running
 from office.ending import end_by_interrupt, end_with_parent
 from office.faults import counted
 from office.progress import FAILED, Progress, say
@@ -257,7 +257,7 @@ def results_without(given, solvers, progress):
 
 def how_to_go_on(given):
     say("what is done is kept: %s goes on with what is missing; a greater --time-limit gives it more time"
-        % shlex.join(["tools/auction", *sys.argv[1:]]))
+        % shlex.join([*called.words_of("auction"), *sys.argv[1:]]))
     say("what solvers said stands in %s, what the engine said in %s"
         % (os.path.join(given.folder, "logs"), os.path.join(given.folder, "engine.log")))
 
