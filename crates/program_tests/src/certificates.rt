@@ -74,32 +74,6 @@ fn a_side_without_points_is_shown_at_scale_0(rt: HostRuntime) -> Result<(), Fail
     Ok(())
 }
 
-/// Two columns, of which one at most is 1, and a fixed one.
-fn pair(alloc: Global) -> Result<Program, AllocError> {
-    let mut rows = Vec::new(alloc);
-    rows.push(row(alloc, b"A", 1)?)?;
-    let mut columns = Columns::new(alloc);
-    columns.push(b"X1", Bounds::ZeroOrOne, -2, &[(0, 1)])?;
-    columns.push(b"X2", Bounds::ZeroOrOne, -1, &[(0, 1)])?;
-    columns.push(b"K", Bounds::One, 5, &[])?;
-    Ok(Program::from_parts(ProgramParts {
-        objective_name: Vec::from_slice(alloc, b"OBJ")?,
-        rows,
-        columns,
-    }))
-}
-
-#[test]
-fn the_only_best_point_is_shown_by_its_split(rt: HostRuntime) -> Result<(), Fail> {
-    let program = pair(rt.alloc())?;
-    let best = Point::new([true, false, true].to_vec(rt.alloc())?);
-    if best.values().len() == program.column_count() {
-        assert!(rt; check_only(rt.alloc(), b"bound 2 1 A 3\n", &program, &best).is_ok());
-        assert!(rt; check_only(rt.alloc(), b"bound 2 0 A 3\n", &program, &best).is_err());
-    }
-    Ok(())
-}
-
 #[test]
 fn a_point_that_ties_isnt_shown_to_be_the_only_one(rt: HostRuntime) -> Result<(), Fail> {
     let program = odd_cycle(rt.alloc())?;
