@@ -318,13 +318,15 @@ class Trial:
         return [self.answers[edit.path] for edit in self.edits]
 
 
-def trial_of(rt, is_proved=False):
-    """What takes the place of rt's own trial of a crate's edits, each in turn. The gate tries those of a crate that it just proved."""
+def trial_of(rt, is_proved=False, share=None):
+    """What takes the place of rt's own trial of a crate's edits, each in turn. The gate tries those of a crate that it just proved,
+    each check on as many processors as it may use then (`share()`)."""
     def must_fail_all(crate, edits, flags):
         with tempfile.TemporaryDirectory(prefix="rt-edits-") as kept:
             def check(texts, functions):
+                jobs = ["--jobs", str(share())] if share else flags
                 only = [word for name in functions for word in ("--only", name)]
-                return rt.checked(crate, texts, [*flags, *only], kept).stdout
+                return rt.checked(crate, texts, [*jobs, *only], kept).stdout
 
             trial = Trial(crate.name, crate.folder, edits, check, lambda path: rt.read_edit(path, crate.folder)[1], is_proved,
                           lambda path: is_proved and is_refused(rt, crate, path, flags))

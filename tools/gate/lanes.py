@@ -6,6 +6,8 @@ from concurrent.futures import FIRST_COMPLETED, ThreadPoolExecutor, wait
 
 # A check splits its work well among so many processes.
 MOST_JOBS = 4
+# What each further process of a check takes of the memory of the first.
+MEMORY_OF_A_JOB = 0.6
 
 
 def chains(tasks):
@@ -16,6 +18,11 @@ def chains(tasks):
         for it in tasks[key][0]:
             behind[it] = max(behind[it], behind[key])
     return behind
+
+
+def is_filler(key):
+    """Whether no proof of a crate waits for a task."""
+    return key[1] in ("edits", "tests")
 
 
 def step_back():
@@ -30,67 +37,73 @@ def timed(key, call):
     def run(given, jobs):
         started = time.time()
         result = call(given, jobs)
-        print("%s: %s took %d s with %d jobs" % (*key, time.time() - started, jobs), flush=True)
+        print("%s: %s took %d s, begun with %d jobs" % (*key, time.time() - started, jobs), flush=True)
         return result
 
     return run
 
 
 class Lanes:
-    """Runs tasks side by side. Proofs come first, those with the longest chain behind them before others, and share the
-    processors; what nothing waits for (edits) runs beside them at a low priority, on what they leave idle.
+    """Runs tasks side by side. Proofs of crates come first, those with the longest chain behind them before others; tests and
+    edits, which none waits for, run beside them at a low priority, on what they leave idle.
 
+    Parts of each check are done by one process, so the proofs at work may have twice as many as there are processors.
     A task is what it waits for, its work in lines, its memory, and a call that gets what was given and how many jobs it may use.
     """
 
     def __init__(self, tasks, processors, memory):
         self.tasks, self.processors, self.memory = tasks, processors, memory
         self.behind = chains(tasks)
-        self.left = sorted(tasks, key=lambda key: -self.behind[key])
+        # (a line of tests takes longer than one of a crate whose edits are tried)
+        self.left = sorted(tasks, key=lambda key: (key[1] == "edits", -self.behind[key]))
         self.running, self.given = {}, {}
 
-    def ready(self, is_filler):
-        return [key for key in self.left
-                if (key[1] == "edits") == is_filler and all(it in self.given for it in self.tasks[key][0])]
+    def ready(self, fills):
+        return [key for key in self.left if is_filler(key) == fills and all(it in self.given for it in self.tasks[key][0])]
 
-    def held(self, is_filler):
-        return sum(jobs for key, jobs, _ in self.running.values() if (key[1] == "edits") == is_filler)
+    def at_work(self, fills):
+        """The jobs of the tasks at work."""
+        # (other threads ask, too)
+        return [jobs for key, jobs, _ in [*self.running.values()] if is_filler(key) == fills and jobs]
 
-    def has_room(self, needs):
-        return not self.running or needs + sum(held for _, _, held in self.running.values()) <= self.memory
+    def share(self):
+        """How many processors a task at work may use from now on: an equal part."""
+        many = len(self.at_work(True)) + len(self.at_work(False))
+        return max(min(MOST_JOBS, self.processors // max(many, 1)), 1)
+
+    def fitting(self, key, jobs):
+        """With how many jobs a task fits into the memory that is left: none where it doesn't."""
+        left = self.memory - sum(held for _, _, held in self.running.values())
+        return next((many for many in range(jobs, 0, -1) if self.needed(key, many) <= left), 0 if self.running else 1)
+
+    def needed(self, key, jobs):
+        return self.tasks[key][2] * (1 + MEMORY_OF_A_JOB * (jobs - 1))
 
     def start(self, pool, key, jobs):
-        _, work, needs, call = self.tasks[key]
+        _, work, _, call = self.tasks[key]
         self.left.remove(key)
         run = timed(key, call) if work else call
-        self.running[pool.submit(run, self.given, max(jobs, 1))] = key, jobs if work else 0, needs if work else 0
+        self.running[pool.submit(run, self.given, max(jobs, 1))] = key, jobs if work else 0, self.needed(key, jobs) if work else 0
 
-    def start_proofs(self, pool):
-        ready = self.ready(False)
+    def start_all(self, pool, fills, most):
+        """Starts what is ready, as many tasks as there are processors, with so many jobs in all at most."""
+        ready = self.ready(fills)
         for key in [key for key in ready if not self.tasks[key][1]]:
-            self.start(pool, key, 0)
+            self.start(pool, key, 1)
         ready = [key for key in ready if self.tasks[key][1]]
-        # the last ones are started with more than there is, so that the longest of them isn't left with one processor
-        running = sum(key[1] != "edits" for key, _, _ in self.running.values())
-        is_end = len(ready) + running <= self.processors and not any(key[1] != "edits" and key not in ready for key in self.left)
-        most = 2 * self.processors if is_end else self.processors
-        while ready and (idle := most - self.held(False)) > 0:
+        while ready and (idle := most - sum(self.at_work(fills))) > 0 and (places := self.processors - len(self.at_work(fills))) > 0:
             # the one with the most behind it gets what is left over
-            jobs = min(MOST_JOBS, self.processors, -(-idle // len(ready)))
+            wanted = min(MOST_JOBS, self.processors, -(-idle // min(len(ready), places)))
             key = ready.pop(0)
-            if self.has_room(self.tasks[key][2]):
+            jobs = self.fitting(key, wanted)
+            if jobs:
                 self.start(pool, key, jobs)
 
-    def start_fillers(self, pool):
-        for key in self.ready(True):
-            if self.held(True) < self.processors and self.has_room(self.tasks[key][2]):
-                self.start(pool, key, 1)
-
     def run(self):
-        with ThreadPoolExecutor(len(self.tasks)) as proofs, ThreadPoolExecutor(self.processors, initializer=step_back) as fillers:
+        with ThreadPoolExecutor(len(self.tasks)) as proofs, ThreadPoolExecutor(len(self.tasks), initializer=step_back) as fillers:
             while self.left or self.running:
-                self.start_proofs(proofs)
-                self.start_fillers(fillers)
+                self.start_all(proofs, False, 2 * self.processors)
+                self.start_all(fillers, True, self.processors)
                 if not self.running:
                     raise ValueError("tasks that wait for one another: %s" % self.left)
                 for it in wait(self.running, return_when=FIRST_COMPLETED).done:

@@ -53,7 +53,7 @@ def one_task(rt, must_fail_all):
     from earlier trials."""
     def add_edits(tasks, crate, edits, first, waits, is_well, kept, start=None, in_ci=True):
         def try_all(given, jobs):
-            return must_fail_all(crate, edits, ["--jobs", "1"]) if edits and is_well(given, len(edits)) else []
+            return must_fail_all(crate, edits, ["--jobs", str(jobs)]) if edits and is_well(given, len(edits)) else []
 
         def results(given):
             return [(rt.REFUSED if refused else rt.MISSED, text) for refused, text in given[crate.name, "edits"]]
