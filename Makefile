@@ -18,7 +18,7 @@ export PREFIX DESTDIR ZSH CDPATH
 INSTALLED = bin/wdp bin/wdp-office lib/wdp share/doc/wdp share/man/man1/wdp.1.gz share/man/man1/wdp-office*.1.gz \
 	share/bash-completion/completions/wdp share/bash-completion/completions/wdp-office "$$ZSH/_wdp" "$$ZSH/_wdp-office" \
 	share/fish/vendor_completions.d/wdp.fish share/fish/vendor_completions.d/wdp-office.fish
-TOOLS = auction auction_step certify check_certificate explain gather results solve wdp-office
+TOOLS = auction auction_step certify check_certificate explain gather results solve wdp-office wdp_front
 
 help:
 	echo 'make install PREFIX=/usr/local DESTDIR='
@@ -38,12 +38,13 @@ install:
 	mkdir -p "$$DESTDIR$$PREFIX/"
 	to=$$(cd "$$DESTDIR$$PREFIX/" && pwd)
 	(cd "$$to" && rm -rf $(INSTALLED))
-	install -D -m 755 -t "$$to/bin" "$$made/wdp"
+	install -D -m 755 -t "$$to/bin" tools/packaging/wdp
+	install -D -m 755 -t "$$to/lib/wdp" "$$made/wdp"
 	install -D -m 755 -t "$$to/lib/wdp/tools" $(TOOLS:%=tools/%)
+	install -D -m 644 -t "$$to/lib/wdp/tools" tools/wdp_front.sh
 	install -D -m 644 -t "$$to/lib/wdp/tools/office" tools/office/*.py tools/office/*.jinja tools/office/Snakefile
 	install -D -m 755 -t "$$to/lib/wdp/tools/slurm" tools/slurm/job tools/slurm/status
 	install -D -m 644 -t "$$to/lib/wdp/tools/slurm" tools/slurm/config.yaml
-	ln -s ../../bin/wdp "$$to/lib/wdp/wdp"
 	ln -s ../lib/wdp/tools/wdp-office "$$to/bin/wdp-office"
 	install -D -m 644 -t "$$to/share/man/man1" "$$made"/man/*
 	install -D -m 644 -t "$$to/share/bash-completion/completions" "$$made"/bash/*
