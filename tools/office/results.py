@@ -236,7 +236,7 @@ def bidders_text(results):
     heading = ["bidder", *("lots of " + category.name for category in results.categories), "bid", "amount", "reserve",
                "opportunity cost", "group"]
     return table_text(results, heading, ([bidder.name, *bidder.lots, bidder.bid, bidder.amount, bidder.reserve, bidder.cost,
-                                 bidder.cost_group] for bidder in results.bidders))
+                                          bidder.cost_group] for bidder in results.bidders))
 
 
 def categories_text(results):

@@ -639,7 +639,6 @@ class Said(Folder):
                                       preexec_fn=lambda: resource.setrlimit(resource.RLIMIT_FSIZE, (size, size)))
                 self.assertEqual((done.returncode, "%s: File too large" % name in done.stderr), (1, True), done.stderr)
 
-
     def test_what_steps_could_not_write_down_is_told(self):
         """Where `running` is no folder no step can begin, nor write down that it couldn't."""
         self.put("running", b"")
