@@ -51,7 +51,7 @@ install:
 	install -D -m 644 -t "$$to/$$ZSH" "$$made"/zsh/*
 	install -D -m 644 -t "$$to/share/fish/vendor_completions.d" "$$made"/fish/*
 	install -D -m 644 -t "$$to/share/doc/wdp" README.md
-	install -D -m 644 -t "$$to/share/doc/wdp/docs" docs/*.md
+	install -D -m 644 -t "$$to/share/doc/wdp/docs" docs/*.md docs/*.json
 	find examples -type f ! -name '.*' -exec install -D -m 644 {} "$$to/share/doc/wdp/{}" \;
 
 # Folders that others use too stay.
