@@ -16,10 +16,11 @@ MOST_OF_A_SOLUTION = 67_108_864  # bytes that the program reads of one
 
 
 def found_tool(name: str, program: str, tools: Optional[Path] = None) -> str:
-    """The path of a tool: in the folder that is given, else in $WDP_TOOLS, else in `tools` of the package's tree or beside the
-    program. Raises NotFound where it isn't there."""
+    """The path of a tool: in the folder that is given, else in $WDP_TOOLS, else in `tools` of the package's tree, beside the
+    program, or where the program is installed. Raises NotFound where it isn't there."""
     asked = os.fsdecode(tools) if tools is not None else os.environ.get("WDP_TOOLS") or None
-    beside = [tree_of_package() or "", os.path.dirname(os.path.realpath(program))]
+    folder = os.path.dirname(os.path.realpath(program))
+    beside = [tree_of_package() or "", folder, os.path.join(os.path.dirname(folder), "lib", "wdp")]
     folders = [asked] if asked is not None else [os.path.join(folder, "tools") for folder in beside if folder]
     paths = [os.path.abspath(os.path.join(folder, name)) for folder in folders]
     found = [path for path in paths if os.path.isfile(path) and os.access(path, os.X_OK)]

@@ -69,6 +69,7 @@ def name_changed(draw, lines):
     names = [word for line in lines for word in line.split(b" ")[1:] if word[:1].isalpha()]
     if not names:
         return lines
+
     def change(word):
         return [draw.choice([draw.choice(names), draw.choice(names), b"X0_0", b"OBJ", word + b"1", word.lower()])]
     return with_field(draw, lines, change, False)

@@ -85,8 +85,8 @@ class Progress:
             for group in sorted(self.seen(kind) - self.done[kind]):
                 self.done[kind].add(group)
                 seconds = self.ended(*kind, group).get("seconds", 0)
-                self.say(DONE[kind[0]] % (group, kind[1]) + " in %.2f s: %d of %d done%s"
-                    % (seconds, self.count(), self.whole(), self.left()))
+                self.say(DONE[kind[0]] % (group, kind[1]) + " in %.2f s: %d of %d done%s" % (
+                    seconds, self.count(), self.whole(), self.left()))
 
     def tell_begun(self, at_work):
         for entry in at_work:

@@ -2,7 +2,8 @@
 
 INPUT is the input of the auction, as `wdp report` took it without the solutions, and REPORT what it printed. The report
 is read against the input, and refused where a line doesn't follow from it. DIR gets bidders.csv, categories.csv,
-pools.csv, groups.csv, results.json and results.html; each is written whole or not at all.
+pools.csv, groups.csv, results.json and results.html; each is written whole or not at all. --text prints the same tables
+for people, with or without these files.
 
 --run takes what is to be told of the run: of each group whether its total is certified, and ties; and the version of wdp.
 --audit takes what `wdp verify` reads, which has to end with INPUT, and of which it has to print REPORT: then each total is
@@ -19,6 +20,7 @@ from office.audit import printed
 from office.claim import Shown, shown_behind, with_shown
 from office.choosing import add_page_words
 from office.page import page_of
+from office.plain import text_of
 from office.report import read_report
 from office.results import Audit, results_of, texts_of
 from office.run_record import GroupTold, Proof, RunTold, read_run
@@ -31,12 +33,16 @@ def words():
                                      formatter_class=argparse.RawDescriptionHelpFormatter)
     parser.add_argument("input", metavar="INPUT")
     parser.add_argument("report", metavar="REPORT")
-    parser.add_argument("--output", metavar="DIR", required=True, help="the folder of the files; it is made where it isn't there")
+    parser.add_argument("--output", metavar="DIR", help="the folder of the files; it is made where it isn't there")
+    parser.add_argument("--text", action="store_true", help="print the tables, aligned and with thousands separated")
     add_page_words(parser)
     parser.add_argument("--run", metavar="FILE", help="what is told of the run, as JSON")
     parser.add_argument("--audit", metavar="FILE", help="the input with solutions and certificates, as `wdp verify` reads it")
     parser.add_argument("--wdp", default=os.path.join(ROOT, "wdp"), help=argparse.SUPPRESS)
-    return parser.parse_args()
+    given = parser.parse_args()
+    if given.output is None and not given.text:
+        parser.error("one of these words is needed: --output DIR, --text")
+    return given
 
 
 def digest_of(data):
@@ -92,10 +98,14 @@ def publish(results, folder):
 
 def main():
     given = words()
-    running.need("jinja2")
+    if given.output is not None:
+        running.need("jinja2")
     told = read_run(running.content(given.run), given.run) if given.run else RunTold()
     results = results_from(running.content(given.input), running.content(given.report), told, given)
-    publish(results, given.output)
-    running.say("results", "%d files in %s" % (len(texts_of(results)) + 1, given.output))
-    if not results.certified:
+    if given.output is not None:
+        publish(results, given.output)
+        running.say("results", "%d files in %s" % (len(texts_of(results)) + 1, given.output))
+    if given.text:
+        running.print_bytes(text_of(results).encode())
+    elif not results.certified:
         running.say("results", results.certified_words)

@@ -132,6 +132,42 @@ class Results:
         return ("Not certified: {:,} of {:,} totals are shown to be the greatest ones; the others are a solver's word."
                 .format(certified, whole))
 
+    @property
+    def tied_words(self):
+        """What is said of other awards of the same total, where some were seen."""
+        if not self.tied_awards:
+            return None
+        other = "another award" if len(self.tied_awards) == 1 else "{:,} other awards".format(len(self.tied_awards))
+        costs = "and with them costs" if any(award.costs for award in self.tied_awards) else "and each cost is the same"
+        return ("The same total is reached by %s. Which one holds, as by lot, is for the auction's rules to say. Winners differ, %s."
+                % (other, costs))
+
+    @property
+    def proof_words(self):
+        """What is said of what is proved of the winners, where something is or was to be."""
+        if self.proof is Proof.ONLY:
+            return "Proved: these are the only winners. No other combination of bids reaches the same total. The audit shows it."
+        if self.proof is Proof.TIE:
+            return ("Proved: %s reaches the same total as the reported one, and none reaches more. The audit shows it."
+                    % ("the other award" if len(self.tied_awards) == 1 else "other award 1"))
+        if self.proof is Proof.UNFINISHED:
+            return ("Whether these are the only winners isn't proved: the search for a proof, or for other winners of the same "
+                    "total, didn't end.")
+        return None
+
+    @property
+    def tie_query_words(self):
+        """What is said of asking a solver for other winners, where that isn't settled by a proof."""
+        others = "still others" if self.tied_awards else "others"
+        if self.proof is Proof.ONLY:
+            return None
+        if self.tie_query is TieQuery.UNDECIDED:
+            return "Whether %s reach the same total wasn't decided: a solver was asked, and came to no answer." % others
+        if self.tie_query is TieQuery.NOT_ASKED:
+            return "Whether %s reach the same total wasn't asked." % others
+        told = "; there may be more than it told." if self.tied_awards else ", and found none."
+        return "A solver was asked for other winners of the same total" + told
+
 
 def bidder_result(number, auction, outcomes):
     rules, form = auction.rules, last_forms(auction).get(number)
@@ -236,7 +272,7 @@ def bidders_text(results):
     heading = ["bidder", *("lots of " + category.name for category in results.categories), "bid", "amount", "reserve",
                "opportunity cost", "group"]
     return table_text(results, heading, ([bidder.name, *bidder.lots, bidder.bid, bidder.amount, bidder.reserve, bidder.cost,
-                                 bidder.cost_group] for bidder in results.bidders))
+                                          bidder.cost_group] for bidder in results.bidders))
 
 
 def categories_text(results):

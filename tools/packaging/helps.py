@@ -91,6 +91,13 @@ def of(*words):
     return read(done.stdout.decode())
 
 
+def with_files(told):
+    """What the program says of a command, with the words that tools/wdp_front adds."""
+    output = Item("-o, --output <FILE>", "The file that the output goes to, whole or not at all")
+    files = Item("[FILE]...", "Files that are read as one, - for standard input")
+    return Help(told.text, told.paragraphs, {**told.groups, "Options": [*told.groups["Options"], output], "Arguments": [files]})
+
+
 def with_commands(*words):
     """What a command says of itself, and what each of its commands does, but for the command help."""
     own = of(*words)

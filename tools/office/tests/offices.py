@@ -32,6 +32,7 @@ EXPORTS = [
     lambda text: ("\n".join(",".join('"%s"' % cell for cell in line.split(",")) for line in text.splitlines())).encode(),
 ]
 
+
 def run(tool, *words, **how):
     how = {"capture_output": True, "stdin": subprocess.DEVNULL, **how}
     return subprocess.run([sys.executable, os.path.join(TOOLS, tool), *words], timeout=300, **how)

@@ -70,6 +70,12 @@ Aster+Heron
 Kestrel
 """
 
+# ./wdp of the tree, but for which program it takes
+SCRIPT = """#!/bin/sh
+. "${0%%/*}/tools/wdp_front.sh"
+front "${0%%/*}/tools" '%s' "$@"
+"""
+
 
 def steps():
     """The commands of the document with what it shows under each."""
@@ -85,8 +91,9 @@ class Document(unittest.TestCase):
         with tempfile.TemporaryDirectory() as folder:
             # a copy, whose auction takes the program beside it
             shutil.copytree(TOOLS, os.path.join(folder, "tools"), ignore=shutil.ignore_patterns("__pycache__"))
-            for name, target in (("examples", os.path.join(ROOT, "examples")), ("wdp", WDP)):
-                os.symlink(target, os.path.join(folder, name))
+            os.symlink(os.path.join(ROOT, "examples"), os.path.join(folder, "examples"))
+            with open(os.path.join(folder, "wdp"), "w", opener=lambda path, flags: os.open(path, flags, 0o755), encoding="utf-8") as file:
+                file.write(SCRIPT % WDP)
             count = 0
             for command, wanted in steps():
                 with self.subTest(command=command):

@@ -315,7 +315,7 @@ class Ties(Folder):
         rows = Page(page).texts("table-ties")
         self.assertEqual(rows[-1], ["Cost of Alpha", str(costs[0]), str(costs[1])])
         self.assertEqual(told["proof"], "tie")
-        self.assertIn("Proved: the other award reaches the same total as that of this page, and none reaches more.", page)
+        self.assertIn("Proved: the other award reaches the same total as the reported one, and none reaches more.", page)
         self.assertIn("proved: the first tie is one\n", messages)
         self.assertEqual(self.verified(), self.report() + b"tie\n%s 1 20\ntotal 20\n" % other.encode())
 
@@ -638,7 +638,6 @@ class Said(Folder):
                 done = subprocess.run(words, cwd=self.folder, stdin=subprocess.DEVNULL, capture_output=True, text=True,
                                       preexec_fn=lambda: resource.setrlimit(resource.RLIMIT_FSIZE, (size, size)))
                 self.assertEqual((done.returncode, "%s: File too large" % name in done.stderr), (1, True), done.stderr)
-
 
     def test_what_steps_could_not_write_down_is_told(self):
         """Where `running` is no folder no step can begin, nor write down that it couldn't."""
