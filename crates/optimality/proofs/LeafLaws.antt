@@ -1,112 +1,189 @@
--- The value of a leaf, by numbers that stand column by column.
-use Rattle.std.proofs.Common.{◌≡◌, ℕ, zero, suc, ◌+◌, ◌<◌, Bool, true, false, cond, List, [], ◌∷◌, Some, length, slice_get, refl, subst, sym, ap, ◌∙◌, arith, get_or-set_other, length-set, ℤ, pos, ◌+ℤ◌, ◌≢◌}
-use Rattle.std.specs.Prelude.{◌*ℤ◌, ◌==◌}
-use Rattle.std.proofs.lemmas.Grind.{get_or-set_at}
-use Rattle.std.proofs.lemmas.Int.{ints}
+-- The value of a leaf, by what its cuts and rows change of what the costs alone come to.
+use Rattle.std.proofs.Common.{◌≡◌, ℕ, zero, suc, ◌+◌, Bool, true, false, List, [], ◌∷◌, Some, drop, slice_get, refl, subst, sym, ap, ap₂, ◌∙◌, arith, ℤ, pos, negsuc, ◌+ℤ◌, ◌≢◌}
+use Rattle.std.specs.Prelude.{◌*ℤ◌, ◌-ℤ◌, ◌<ℤ◌, ◌≤ℤ◌, ◌==◌, cond, Option, None}
+use Rattle.std.specs.Option.{option_map, option_map_or}
 use Rattle.std.proofs.lemmas.Bool.Decides.{nat_tests}
-use lib.IntN.{*ℤ-zero}
+use Rattle.std.proofs.lemmas.Int.{ints, by_lt_z}
+use lib.IntN.{*ℤ-zero, zero-*ℤ}
+use Rattle.program_rows.specs.declared.bounds.Bounds.{Bounds}
+use Rattle.program_rows.specs.declared.bounds.Bounds.TheVariants.{ZeroOrOne, Zero, One}
 use Rattle.program_rows.specs.Program.{Table, TableColumn}
 use Rattle.program_rows.specs.Points.{coefficient_at}
 use Rattle.program_rows.specs.Parts.{IsProgram}
 use Rattle.optimality.specs.Certificates.{Form, Cut, number_in}
 use Rattle.optimality.specs.Reduced.{reduced, least_part}
-use Rattle.optimality.specs.inside.Adding.{number_at, with_more, with_form, with_cuts, form_at, with_rows, scaled_costs, leaf_numbers}
+use Rattle.optimality.specs.inside.Adding.{number_at, AreNone, IsTaken, at_place, cuts_given, form_at, rows_given, least_alone, least_with, change_at}
 use Rattle.optimality.specs.inside.RowForms.{row_forms}
-use Rattle.optimality.proofs.ColumnSums.{cuts_number, least_sum, rows_number}
-use Rattle.optimality.proofs.Products.{times-sum}
+use Rattle.optimality.proofs.ColumnSums.{least_sum, rows_number}
+use Rattle.optimality.proofs.Products.{times-sum, times-natural}
 use Rattle.optimality.proofs.RowLaws.{row-form-at}
 
--- ---------- numbers by place ----------
+-- ---------- columns of the same numbers ----------
 
-length-more : (place : ℕ) (n : ℤ) (numbers : List ℤ) → length (with_more place n numbers) ≡ length numbers
-length-more place n numbers = length-set numbers place (number_at numbers place +ℤ n)
-
-length-form : (k : ℤ) (form : Form) (numbers : List ℤ) → length (with_form k form numbers) ≡ length numbers
-length-form k [] numbers = refl
-length-form k (t ∷ form) numbers = length-form k form (with_more t.0 (k *ℤ t.1) numbers) ∙ length-more t.0 (k *ℤ t.1) numbers
-
-more-at : (place : ℕ) (n : ℤ) (numbers : List ℤ) (i : ℕ) → i < length numbers → number_at (with_more place n numbers) i ≡ number_at numbers i +ℤ cond (place == i) n (pos 0)
-more-at place n numbers i h = by (place == i) refl
-  where
-    by : (b : Bool) → (place == i) ≡ b → number_at (with_more place n numbers) i ≡ number_at numbers i +ℤ cond b n (pos 0)
-    by true e =
-        let same : i ≡ place = grind (arith, nat_tests) in
-        let within : place < length numbers = omega arith in
-        get_or-set_at numbers place i (number_at numbers place +ℤ n) (pos 0) same within ∙ ap (λ (k : ℕ). number_at numbers k +ℤ n) (sym same)
-    by false e =
-        let other : i ≢ place = grind (arith, nat_tests) in
-        get_or-set_other numbers place i (number_at numbers place +ℤ n) (pos 0) other ∙ omega (arith, ints)
-
-times-at : (k n : ℤ) (b : Bool) → cond b (k *ℤ n) (pos 0) ≡ k *ℤ cond b n (pos 0)
-times-at k n true = refl
-times-at k n false = sym (*ℤ-zero k)
-
-form-at : (k : ℤ) (form : Form) (numbers : List ℤ) (i : ℕ) → i < length numbers → number_at (with_form k form numbers) i ≡ number_at numbers i +ℤ k *ℤ number_in form i
-form-at k [] numbers i h = rw (*ℤ-zero k) (omega (arith, ints))
-form-at k (t ∷ form) numbers i h =
-    let longer : i < length (with_more t.0 (k *ℤ t.1) numbers) = omega (arith, length-more t.0 (k *ℤ t.1) numbers) in
-    let later = form-at k form (with_more t.0 (k *ℤ t.1) numbers) i longer in
-    let first = more-at t.0 (k *ℤ t.1) numbers i h in
-    let term = times-at k t.1 (t.0 == i) in
-    let whole = times-sum k (cond (t.0 == i) t.1 (pos 0)) (number_in form i) in
-    omega (arith, ints)
-
-cuts-at : (ys : List ℕ) (cuts : List Cut) (numbers : List ℤ) (i : ℕ) → i < length numbers → number_at (with_cuts ys cuts numbers) i ≡ number_at numbers i +ℤ cuts_number ys cuts i
-cuts-at [] cuts numbers i h = omega (arith, ints)
-cuts-at (y ∷ ys) [] numbers i h = omega (arith, ints)
-cuts-at (y ∷ ys) (cut ∷ cuts) numbers i h =
-    let longer : i < length (with_form (pos y) cut.form numbers) = omega (arith, length-form (pos y) cut.form numbers) in
-    let later = cuts-at ys cuts (with_form (pos y) cut.form numbers) i longer in
-    let first = form-at (pos y) cut.form numbers i h in
-    omega (arith, ints)
-
-length-cuts : (ys : List ℕ) (cuts : List Cut) (numbers : List ℤ) → length (with_cuts ys cuts numbers) ≡ length numbers
-length-cuts [] cuts numbers = refl
-length-cuts (y ∷ ys) [] numbers = refl
-length-cuts (y ∷ ys) (cut ∷ cuts) numbers = length-cuts ys cuts (with_form (pos y) cut.form numbers) ∙ length-form (pos y) cut.form numbers
-
-rows-at : (rows : Form) (forms : List Form) (numbers : List ℤ) (i : ℕ) (c : TableColumn) → i < length numbers → ((row : ℕ) → number_in (form_at forms row) i ≡ coefficient_at row c)
-    → number_at (with_rows rows forms numbers) i ≡ number_at numbers i +ℤ rows_number rows c
-rows-at [] forms numbers i c h same = omega (arith, ints)
-rows-at (t ∷ rows) forms numbers i c h same =
-    let longer : i < length (with_form t.1 (form_at forms t.0) numbers) = omega (arith, length-form t.1 (form_at forms t.0) numbers) in
-    let later = rows-at rows forms (with_form t.1 (form_at forms t.0) numbers) i c longer same in
-    let first = form-at t.1 (form_at forms t.0) numbers i h in
-    let coefficient = ap (λ (n : ℤ). t.1 *ℤ n) (same t.0) in
-    omega (arith, ints)
-
--- ---------- columns ----------
-
-costs-at : (scale : ℕ) (cs : List TableColumn) (i : ℕ) (c : TableColumn) → slice_get cs i ≡ Some c → number_at (scaled_costs scale cs) i ≡ pos scale *ℤ c.cost
-costs-at scale [] i c h = absurd cc
-costs-at scale (d ∷ cs) zero c h = let same : d ≡ c = cc in ap (λ (x : TableColumn). pos scale *ℤ x.cost) same
-costs-at scale (d ∷ cs) (suc i) c h = costs-at scale cs i c h
-
-length-costs : (scale : ℕ) (cs : List TableColumn) → length (scaled_costs scale cs) ≡ length cs
-length-costs scale [] = refl
-length-costs scale (c ∷ cs) = ap suc (length-costs scale cs)
-
-there : (cs : List TableColumn) (i : ℕ) (c : TableColumn) → slice_get cs i ≡ Some c → i < length cs
-there [] i c h = absurd cc
-there (d ∷ cs) zero c h = omega arith
-there (d ∷ cs) (suc i) c h = let later = there cs i c h in omega arith
-
-least-same : (f g : ℕ → TableColumn → ℤ) (p : ℕ) (cs : List TableColumn) → ((i j : ℕ) (c : TableColumn) → i ≡ p + j → slice_get cs j ≡ Some c → f i c ≡ g i c) → least_sum f p cs ≡ least_sum g p cs
+pub least-same : (f g : ℕ → TableColumn → ℤ) (p : ℕ) (cs : List TableColumn) → ((i j : ℕ) (c : TableColumn) → i ≡ p + j → slice_get cs j ≡ Some c → f i c ≡ g i c) → least_sum f p cs ≡ least_sum g p cs
 least-same f g p [] same = refl
 least-same f g p (c ∷ cs) same =
     ap (λ (k : ℤ). least_part c.bounds k +ℤ least_sum f (p + 1) cs) (same p 0 c (omega arith) refl)
     ∙ ap (λ (k : ℤ). least_part c.bounds (g p c) +ℤ k) (least-same f g (p + 1) cs (λ i j d e h. same i (suc j) d (omega arith) h))
 
-pub least-is : (p : Table) (scale : ℕ) (ys : List ℕ) (cuts : List Cut) (rows : Form) → IsProgram p
-    → least_sum (λ place _. number_at (leaf_numbers p.columns (row_forms p) scale ys cuts rows) place) 0 p.columns ≡ least_sum (reduced scale ys cuts rows) 0 p.columns
-least-is p scale ys cuts rows h =
-    least-same (λ place _. number_at (leaf_numbers p.columns (row_forms p) scale ys cuts rows) place) (reduced scale ys cuts rows) 0 p.columns
+-- ---------- one column changed ----------
+
+abbrev changed : (f g : ℕ → TableColumn → ℤ) → ℕ → ℕ → List TableColumn → ℤ
+changed f g place j cs = option_map_or (λ c. least_part c.bounds (f place c) -ℤ least_part c.bounds (g place c)) (slice_get cs j) (pos 0)
+
+one-changed : (f g : ℕ → TableColumn → ℤ) (place p j : ℕ) (cs : List TableColumn) → place ≡ p + j → ((q : ℕ) (c : TableColumn) → q ≢ place → f q c ≡ g q c) → least_sum f p cs ≡ changed f g place j cs +ℤ least_sum g p cs
+one-changed f g place p j [] e same = omega (arith, ints)
+one-changed f g place p zero (c ∷ cs) e same =
+    let here : place ≡ p = omega arith in
+    let tail : least_sum f (p + 1) cs ≡ least_sum g (p + 1) cs = least-same f g (p + 1) cs (λ i k d at h. same i d (omega arith)) in
+    let first : f p c ≡ f place c = ap (λ (k : ℕ). f k c) (sym here) in
+    let other : g p c ≡ g place c = ap (λ (k : ℕ). g k c) (sym here) in
+    ap₂ (λ (a b : ℤ). least_part c.bounds a +ℤ b) first tail
+    ∙ sub-add (least_part c.bounds (f place c)) (least_part c.bounds (g place c)) (least_sum g (p + 1) cs)
+    ∙ ap (λ (a : ℤ). (least_part c.bounds (f place c) -ℤ least_part c.bounds (g place c)) +ℤ (least_part c.bounds a +ℤ least_sum g (p + 1) cs)) (sym other)
+  where
+    sub-add : (a b r : ℤ) → a +ℤ r ≡ (a -ℤ b) +ℤ (b +ℤ r)
+    sub-add a b r = omega (arith, ints)
+one-changed f g place p (suc j) (c ∷ cs) e same =
+    let first : f p c ≡ g p c = same p c (omega arith) in
+    let tail = one-changed f g place (p + 1) j cs (omega arith) same in
+    ap₂ (λ (a b : ℤ). least_part c.bounds a +ℤ b) first tail ∙ swap (least_part c.bounds (g p c)) (changed f g place j cs) (least_sum g (p + 1) cs)
+  where
+    swap : (a b r : ℤ) → a +ℤ (b +ℤ r) ≡ b +ℤ (a +ℤ r)
+    swap a b r = omega (arith, ints)
+
+-- ---------- taking one ----------
+
+abbrev with_given : ℤ → (ℕ → ℤ) → ℕ → TableColumn → ℤ
+with_given factor given place c = factor *ℤ c.cost +ℤ given place
+
+unchanged-elsewhere : (before after : List ℤ) (place : ℕ) (n : ℤ) (q : ℕ) → q ≢ place → number_at before q ≡ number_at after q +ℤ at_place place n q → number_at before q ≡ number_at after q
+unchanged-elsewhere before after place n q other e = e ∙ by (place == q) refl
+  where
+    by : (b : Bool) → (place == q) ≡ b → number_at after q +ℤ cond b n (pos 0) ≡ number_at after q
+    by true t = let same : q ≡ place = grind (arith, nat_tests) in absurd (other same)
+    by false t = omega (arith, ints)
+
+at-itself : (place : ℕ) (n : ℤ) → at_place place n place ≡ n
+at-itself place n = by (place == place) (grind (arith, nat_tests))
+  where
+    by : (b : Bool) → b ≡ true → cond b n (pos 0) ≡ n
+    by true e = refl
+    by false e = absurd cc
+
+-- what the column of a taken place contributes now, and by how much that is less
+pub least-taken : (factor : ℤ) (cs : List TableColumn) (place : ℕ) (n : ℤ) (before after : List ℤ) → IsTaken (Some (place, n)) before after → least_with factor (number_at before) cs ≡ change_at cs factor place n +ℤ least_with factor (number_at after) cs
+least-taken factor cs place n before after taken =
+    let f = with_given factor (number_at before) in
+    let g = with_given factor (number_at after) in
+    one-changed f g place 0 place cs (omega arith) (λ q c other. ap (λ (m : ℤ). factor *ℤ c.cost +ℤ m) (unchanged-elsewhere before after place n q other (taken.1 q)))
+    ∙ ap (λ (m : ℤ). m +ℤ least_with factor (number_at after) cs) (by (slice_get cs place))
+  where
+    was : number_at before place ≡ n
+    was = let split = taken.1 place in let now = taken.0 in let here = at-itself place n in omega (arith, ints)
+
+    by : (o : Option TableColumn) → option_map_or (λ c. least_part c.bounds (factor *ℤ c.cost +ℤ number_at before place) -ℤ least_part c.bounds (factor *ℤ c.cost +ℤ number_at after place)) o (pos 0)
+        ≡ option_map_or (λ c. least_part c.bounds (factor *ℤ c.cost +ℤ n) -ℤ least_part c.bounds (factor *ℤ c.cost)) o (pos 0)
+    by None = refl
+    by (Some c) =
+        ap₂ (λ (a b : ℤ). least_part c.bounds (factor *ℤ c.cost +ℤ a) -ℤ least_part c.bounds b) was
+        (ap (λ (a : ℤ). factor *ℤ c.cost +ℤ a) taken.0 ∙ omega (arith, ints))
+
+pub total-step : (factor : ℤ) (cs : List TableColumn) (place : ℕ) (n : ℤ) (before after start : List ℤ) (total next alone : ℤ) → IsTaken (Some (place, n)) before after → next ≡ total +ℤ change_at cs factor place n
+    → total +ℤ least_with factor (number_at before) cs ≡ alone +ℤ least_with factor (number_at start) cs → next +ℤ least_with factor (number_at after) cs ≡ alone +ℤ least_with factor (number_at start) cs
+total-step factor cs place n before after start total next alone taken e h =
+    let split = least-taken factor cs place n before after taken in
+    omega (arith, ints)
+
+-- with nothing left
+pub total-end : (factor : ℤ) (cs : List TableColumn) (numbers start : List ℤ) (total alone : ℤ) → AreNone numbers → total +ℤ least_with factor (number_at numbers) cs ≡ alone +ℤ least_with factor (number_at start) cs
+    → total +ℤ least_with factor (λ _. pos 0) cs ≡ alone +ℤ least_with factor (number_at start) cs
+total-end factor cs numbers start total alone none h =
+    let same : least_with factor (number_at numbers) cs ≡ least_with factor (λ _. pos 0) cs =
+    least-same (with_given factor (number_at numbers)) (with_given factor (λ _. pos 0)) 0 cs (λ i j c e at. ap (λ (m : ℤ). factor *ℤ c.cost +ℤ m) (none i)) in
+    omega (arith, ints)
+
+-- what the code computes of a column
+pub change-is : (cs : List TableColumn) (factor : ℤ) (place : ℕ) (number : ℤ) (b : Bounds) (cost product sum now was n : ℤ) → option_map (λ c. c.bounds) (slice_get cs place) ≡ Some b → option_map (λ c. c.cost) (slice_get cs place) ≡ Some cost
+    → product ≡ factor *ℤ cost → sum ≡ product +ℤ number → now ≡ least_part b sum → was ≡ least_part b product → n ≡ now -ℤ was → n ≡ change_at cs factor place number
+change-is cs factor place number b cost product sum now was n of_bounds of_cost p s after before e =
+    e ∙ ap₂ (λ (x y : ℤ). x -ℤ y) (after ∙ ap (λ (x : ℤ). least_part b x) (s ∙ ap (λ (x : ℤ). x +ℤ number) p)) (before ∙ ap (λ (x : ℤ). least_part b x) p)
+    ∙ by (slice_get cs place) of_bounds of_cost
+  where
+    by : (o : Option TableColumn) → option_map (λ c. c.bounds) o ≡ Some b → option_map (λ c. c.cost) o ≡ Some cost
+        → least_part b (factor *ℤ cost +ℤ number) -ℤ least_part b (factor *ℤ cost) ≡ option_map_or (λ c. least_part c.bounds (factor *ℤ c.cost +ℤ number) -ℤ least_part c.bounds (factor *ℤ c.cost)) o (pos 0)
+    by None x y = absurd cc
+    by (Some c) x y =
+        let same_bounds : c.bounds ≡ b = cc in
+        let same_cost : c.cost ≡ cost = cc in
+        ap₂ (λ (d : Bounds) (k : ℤ). least_part d (factor *ℤ k +ℤ number) -ℤ least_part d (factor *ℤ k)) (sym same_bounds) (sym same_cost)
+
+-- ---------- the costs alone ----------
+
+-- what a column that may be 0 or 1 contributes
+abbrev part : ℤ → ℤ
+part n = least_part ZeroOrOne n
+
+part-below : (n : ℤ) → n <ℤ pos 0 → part n ≡ n
+part-below n h = grind (arith, ints)
+
+part-above : (n : ℤ) → pos 0 ≤ℤ n → part n ≡ pos 0
+part-above n h = grind (arith, ints)
+
+below-none : (k : ℕ) (n : ℤ) → n <ℤ pos 0 → (pos (suc k) *ℤ n) <ℤ pos 0
+below-none k (pos n) h = absurd (omega (arith, ints))
+below-none k (negsuc n) h = omega (arith, ints)
+
+scaled-part : (b : Bounds) (k : ℕ) (n : ℤ) → least_part b (pos k *ℤ n) ≡ pos k *ℤ least_part b n
+scaled-part One k n = refl
+scaled-part Zero k n = sym (*ℤ-zero (pos k))
+scaled-part ZeroOrOne k n = by_lt_z n (pos 0) (negative k) (λ more. let up : (pos k *ℤ pos 0) ≤ℤ (pos k *ℤ n) = times-natural k (pos 0) n more in part-above (pos k *ℤ n) (omega (arith, ints, *ℤ-zero (pos k))) ∙ sym (*ℤ-zero (pos k)) ∙ ap (λ (m : ℤ). pos k *ℤ m) (sym (part-above n more)))
+  where
+    negative : (k : ℕ) → n <ℤ pos 0 → part (pos k *ℤ n) ≡ pos k *ℤ part n
+    negative zero less = rw (zero-*ℤ n, zero-*ℤ (part n)) refl
+    negative (suc k) less =
+        let down : (pos (suc k) *ℤ n) <ℤ pos 0 = below-none k n less in
+        part-below (pos (suc k) *ℤ n) down ∙ ap (λ (m : ℤ). pos (suc k) *ℤ m) (sym (part-below n less))
+
+least-scaled : (scale p : ℕ) (cs : List TableColumn) → least_sum (with_given (pos scale) (λ _. pos 0)) p cs ≡ pos scale *ℤ least_alone cs
+least-scaled scale p [] = sym (*ℤ-zero (pos scale))
+least-scaled scale p (c ∷ cs) =
+    let first : least_part c.bounds (pos scale *ℤ c.cost +ℤ pos 0) ≡ pos scale *ℤ least_part c.bounds c.cost = ap (λ (n : ℤ). least_part c.bounds n) (plus-none (pos scale *ℤ c.cost)) ∙ scaled-part c.bounds scale c.cost in
+    ap₂ (λ (a b : ℤ). a +ℤ b) first (least-scaled scale (p + 1) cs) ∙ sym (times-sum (pos scale) (least_part c.bounds c.cost) (least_alone cs))
+  where
+    plus-none : (n : ℤ) → n +ℤ pos 0 ≡ n
+    plus-none n = omega (arith, ints)
+
+alone_there : (i : ℕ) (cs : List TableColumn) (n : ℤ) → option_map (λ c. least_part c.bounds c.cost) (slice_get cs i) ≡ Some n → least_alone (drop i cs) ≡ n +ℤ least_alone (drop (suc i) cs)
+alone_there i [] n h = absurd cc
+alone_there zero (c ∷ cs) n h = let here : least_part c.bounds c.cost ≡ n = cc in ap (λ (m : ℤ). m +ℤ least_alone cs) here
+alone_there (suc i) (c ∷ cs) n h = alone_there i cs n h
+
+pub alone-step : (i : ℕ) (cs : List TableColumn) (sum next n all : ℤ) → option_map (λ c. least_part c.bounds c.cost) (slice_get cs i) ≡ Some n → next ≡ sum +ℤ n
+    → sum +ℤ least_alone (drop i cs) ≡ all → next +ℤ least_alone (drop (i + 1) cs) ≡ all
+alone-step i cs sum next n all e s h =
+    let place : i + 1 ≡ suc i = omega arith in
+    let after : drop (i + 1) cs ≡ drop (suc i) cs = ap (λ (k : ℕ). drop k cs) place in
+    let there : least_alone (drop i cs) ≡ n +ℤ least_alone (drop (suc i) cs) = alone_there i cs n e in
+    let moved : next +ℤ least_alone (drop (suc i) cs) ≡ all = omega (arith, ints) in
+    rw after moved
+
+-- ---------- the whole ----------
+
+rows-at : (rows : Form) (forms : List Form) (i : ℕ) (c : TableColumn) → ((row : ℕ) → number_in (form_at forms row) i ≡ coefficient_at row c) → rows_given rows forms i ≡ rows_number rows c
+rows-at [] forms i c same = refl
+rows-at (t ∷ rows) forms i c same = ap₂ (λ (a b : ℤ). t.1 *ℤ a +ℤ b) (same t.0) (rows-at rows forms i c same)
+
+pub least-is : (p : Table) (scale : ℕ) (ys : List ℕ) (cuts : List Cut) (rows : Form) (numbers : List ℤ) → IsProgram p
+    → ((q : ℕ) → number_at numbers q ≡ cuts_given ys cuts q +ℤ rows_given rows (row_forms p) q)
+    → (n : ℤ) → n +ℤ least_with (pos scale) (λ _. pos 0) p.columns ≡ pos scale *ℤ least_alone p.columns +ℤ least_with (pos scale) (number_at numbers) p.columns
+    → n ≡ least_sum (reduced scale ys cuts rows) 0 p.columns
+least-is p scale ys cuts rows numbers h given n e =
+    let alone = least-scaled scale 0 p.columns in
+    let total : n ≡ least_with (pos scale) (number_at numbers) p.columns = omega (arith, ints) in
+    total ∙ least-same (with_given (pos scale) (number_at numbers)) (reduced scale ys cuts rows) 0 p.columns
     (λ i j c place at.
-    let e : slice_get p.columns i ≡ Some c = subst (λ (k : ℕ). slice_get p.columns k ≡ Some c) (omega arith) at in
-    let costs = scaled_costs scale p.columns in
-    let short : i < length costs = omega (arith, length-costs scale p.columns, there p.columns i c e) in
-    let longer : i < length (with_cuts ys cuts costs) = omega (arith, length-cuts ys cuts costs) in
-    let of_costs = costs-at scale p.columns i c e in
-    let of_cuts = cuts-at ys cuts costs i short in
-    let of_rows = rows-at rows (row_forms p) (with_cuts ys cuts costs) i c longer (λ row. row-form-at p h row i c e) in
+    let there : slice_get p.columns i ≡ Some c = subst (λ (k : ℕ). slice_get p.columns k ≡ Some c) (omega arith) at in
+    let of_rows = rows-at rows (row_forms p) i c (λ row. row-form-at p h row i c there) in
+    let all = given i in
     omega (arith, ints))

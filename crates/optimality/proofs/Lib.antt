@@ -1,11 +1,12 @@
 pub mod Products
 pub mod ColumnSums
 pub mod BoundLaws
+pub mod PlaceLaws
 pub mod Steps
 pub mod RowLaws
 pub mod LeafLaws
+pub mod AlikeLaws
 pub mod TermLaws
 pub mod BranchLaws
 pub mod VerdictLaws
-pub mod ProductBounds
 pub mod OnlyLaws

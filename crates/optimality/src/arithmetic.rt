@@ -29,6 +29,16 @@ pub fn product(a: i64, b: i64) -> i128
     i128::from(a) * i128::from(b)
 }
 
+/// A product of numbers that mostly fit 64 bits.
+pub fn wide_product(a: i128, b: i128) -> Result<i128, Limit>
+    ensures { IfOk result (λ n. n ≡ a *ℤ b) }
+{
+    let (Ok(left), Ok(right)) = (i64::try_from(a), i64::try_from(b)) else {
+        return times(a, b);
+    };
+    Ok(product(left, right))
+}
+
 /// A multiplier in 64 bits, with the sign that it is to have.
 pub fn signed(is_negative: bool, multiplier: u64) -> Result<i64, Limit>
     ensures { IfOk result (λ n. n ≡ (if is_negative then neg_ℤ (pos multiplier) else pos

@@ -18,6 +18,8 @@ pub struct Checker<'p> {
     pub next_row: Cell<usize>,
     /// Its rows, in order, each as a form over its columns: a leaf goes over the rows that it names alone.
     pub row_forms: Vec<Form>,
+    /// The least that the costs alone come to: what a leaf of scale 1 that names nothing is worth.
+    pub alone: i128,
     /// The bound that the certificate is to show.
     pub least: i128,
 }

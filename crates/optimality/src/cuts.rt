@@ -2,38 +2,35 @@
 
 ghost use Rattle.std.specs.Prelude.{◌≡◌, OnOk, IfOk, length, pos, ◌+ℤ◌, ◌*ℤ◌};
 ghost use Rattle.std.specs.List.{zip};
-ghost use Rattle.optimality.specs.inside.Adding.{with_cuts, with_form};
+ghost use Rattle.optimality.specs.inside.Adding.{AreGivenMore, cuts_given, form_given};
 ghost use Rattle.optimality.specs.inside.Holding.{cut_of, cuts_of};
 ghost use Rattle.optimality.specs.Certificates.{sum_of};
 
 use crate::arithmetic::{plus, signed, times};
-use crate::forms::add_form;
+use crate::forms::add_wide_form;
 use crate::limit::Limit;
 use crate::open_split::OpenSplit;
+use crate::sums::Sums;
 
-fn add_cut(numbers: &mut [i128], multiplier: u64, split: &OpenSplit) -> Result<(), Limit>
-    ensures { OnOk result (numbers.new ≡ with_form (pos multiplier) (cut_of split.now).form
-        numbers.old) }
+fn add_cut(sums: &mut Sums, multiplier: u64, split: &OpenSplit) -> Result<(), Limit>
+    ensures { OnOk result (AreGivenMore (form_given (pos multiplier) (cut_of split.now).form)
+        sums.old.numbers.items sums.new.numbers.items) }
 {
     if multiplier == 0 {
         return Ok(());
     }
     let factor = signed(split.is_high, multiplier)?;
-    add_form(numbers, factor, split.form.as_slice())
+    add_wide_form(sums, i128::from(factor), split.form.as_slice())
 }
 
 /// Adds the cuts, each times its multiplier.
-pub fn add_cuts(
-    numbers: &mut [i128],
-    multipliers: &[u64],
-    splits: &[OpenSplit],
-) -> Result<(), Limit>
+pub fn add_cuts(sums: &mut Sums, multipliers: &[u64], splits: &[OpenSplit]) -> Result<(), Limit>
     requires { length multipliers.now ≡ length splits.now }
-    ensures { OnOk result (numbers.new ≡ with_cuts multipliers.now (cuts_of splits.now)
-        numbers.old) }
+    ensures { OnOk result (AreGivenMore (cuts_given multipliers.now (cuts_of splits.now))
+        sums.old.numbers.items sums.new.numbers.items) }
 {
     for i in 0..splits.len() {
-        add_cut(numbers, multipliers[i], &splits[i])?;
+        add_cut(sums, multipliers[i], &splits[i])?;
     }
     Ok(())
 }

@@ -1,6 +1,7 @@
 //! Certificates that no point of a 0-1 program has a lower objective.
 #![tactic(auto)]
 
+mod added_up;
 mod arithmetic;
 mod checker;
 mod closing;
@@ -16,6 +17,7 @@ mod lines;
 mod names;
 mod naturals;
 mod numbers;
+mod numbers_by_place;
 mod only;
 mod open_split;
 mod optimum;
@@ -25,6 +27,7 @@ mod refusal;
 mod row_forms;
 mod rows;
 mod split_line;
+mod sums;
 mod terms;
 
 pub use fault::{CertificateFault, FaultKind};

@@ -5,7 +5,7 @@ ghost use Rattle.std.specs.Option.{ok_or};
 ghost use Rattle.optimality.specs.declared.fault.FaultKind.TheVariants.{Beyond};
 ghost use Rattle.program_rows.specs.Lines.{fields, is_skipped};
 ghost use Rattle.optimality.specs.inside.Answers.{AnswersSeen};
-ghost use Rattle.optimality.specs.inside.Branches.{branches_of, opened};
+ghost use Rattle.optimality.specs.inside.Branches.{AnswersAlike, branches_of, opened};
 ghost use Rattle.optimality.specs.Branches.{cuts_above};
 ghost use Rattle.optimality.specs.inside.Checking.{IsPrepared};
 ghost use Rattle.auction_terms.specs.Stages.{and_then};
@@ -22,7 +22,8 @@ use crate::leaf_value::is_above;
 use crate::limit::Limit;
 use crate::open_split::OpenSplit;
 use crate::refusal::Refusal;
-use crate::split_line::take_split;
+use crate::split_line::{opened_split, take_split};
+use crate::sums::Sums;
 use program_rows::next_field;
 
 fn is_word(text: &[u8], word: &[u8]) -> bool
@@ -31,25 +32,26 @@ fn is_word(text: &[u8], word: &[u8]) -> bool
     text == word
 }
 
-#[tactic(auto, using(crate::proofs::BranchLaws::branches_push))]
 fn take_split_line(
     checker: &Checker,
+    sums: &mut Sums,
     splits: &mut Vec<OpenSplit>,
     text: &[u8],
 ) -> Result<bool, Refusal>
     requires { IsPrepared checker.now }
-    ensures { AnswersSeen (λ is_last. opened is_last splits.new.items) result
+    ensures { AnswersAlike checker.now.program.now checker.now.least splits.new.items result
         (and_then (split_told checker.now.program.now (fields text.now))
         (taken checker.now.program.now checker.now.least (branches_of splits.old.items))) }
 {
-    let split = take_split(checker, text)?;
+    let told = take_split(checker, text)?;
+    let split = opened_split(checker.alloc, sums, &told)?;
     splits.push(split)?;
     Ok(false)
 }
 
 fn leaf_shows(
     checker: &Checker,
-    numbers: &mut Vec<i128>,
+    sums: &mut Sums,
     splits: &[OpenSplit],
     leaf: &Leaf,
 ) -> Result<bool, Limit>
@@ -60,12 +62,12 @@ fn leaf_shows(
         (leaf_value checker.now.program.now (cuts_above (branches_of splits.now)) leaf.now.scale
         leaf.now.multipliers.items leaf.now.rows.items)) }
 {
-    is_above(checker, numbers, splits, leaf)
+    is_above(checker, sums, splits, leaf)
 }
 
 fn take_leaf_line(
     checker: &Checker,
-    numbers: &mut Vec<i128>,
+    sums: &mut Sums,
     splits: &mut Vec<OpenSplit>,
     text: &[u8],
 ) -> Result<bool, Refusal>
@@ -75,7 +77,7 @@ fn take_leaf_line(
         (taken checker.now.program.now checker.now.least (branches_of splits.old.items))) }
 {
     let leaf = take_leaf(checker, splits.len(), text)?;
-    if !leaf_shows(checker, numbers, splits.as_slice(), &leaf)? {
+    if !leaf_shows(checker, sums, splits.as_slice(), &leaf)? {
         return Err(Refusal::Fault(FaultKind::NotShown));
     }
     close(splits)
@@ -84,12 +86,12 @@ fn take_leaf_line(
 #[tactic(auto, using(crate::proofs::BranchLaws::length_branches))]
 fn take_line(
     checker: &Checker,
-    numbers: &mut Vec<i128>,
+    sums: &mut Sums,
     splits: &mut Vec<OpenSplit>,
     line: &[u8],
 ) -> Result<bool, Refusal>
     requires { IsPrepared checker.now }
-    ensures { AnswersSeen (λ is_last. opened is_last splits.new.items) result
+    ensures { AnswersAlike checker.now.program.now checker.now.least splits.new.items result
         (and_then (line_told checker.now.program.now (length (branches_of splits.old.items))
         (fields line.now)) (taken checker.now.program.now checker.now.least
         (branches_of splits.old.items))) }
@@ -98,10 +100,10 @@ fn take_line(
         return Err(Refusal::Fault(FaultKind::Fields));
     };
     if is_word(word.text, b"split") {
-        return take_split_line(checker, splits, word.rest);
+        return take_split_line(checker, sums, splits, word.rest);
     }
     if is_word(word.text, b"bound") {
-        return take_leaf_line(checker, numbers, splits, word.rest);
+        return take_leaf_line(checker, sums, splits, word.rest);
     }
     Err(Refusal::Fault(FaultKind::Fields))
 }
@@ -127,16 +129,16 @@ fn is_telling(line: &[u8]) -> bool
     !is_comment(line) && has_fields(line)
 }
 
-/// Takes a line. `is_last` says whether the certificate is told whole, before and after it; `numbers` is room for a leaf.
+/// Takes a line. `is_last` says whether the certificate is told whole, before and after it; `sums` is room for a line.
 pub fn take_any(
     checker: &Checker,
-    numbers: &mut Vec<i128>,
+    sums: &mut Sums,
     splits: &mut Vec<OpenSplit>,
     is_last: bool,
     line: &[u8],
 ) -> Result<bool, Refusal>
     requires { IsPrepared checker.now }
-    ensures { AnswersSeen (λ is_last_then. opened is_last_then splits.new.items) result
+    ensures { AnswersAlike checker.now.program.now checker.now.least splits.new.items result
         (if is_skipped line.now then Ok (opened is_last splits.old.items) else and_then
         (ok_or (opened is_last splits.old.items) Beyond) (λ above. and_then
         (line_told checker.now.program.now (length above) (fields line.now))
@@ -148,5 +150,5 @@ pub fn take_any(
     if is_last {
         return Err(Refusal::Fault(FaultKind::Beyond));
     }
-    take_line(checker, numbers, splits, line)
+    take_line(checker, sums, splits, line)
 }

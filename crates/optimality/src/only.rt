@@ -12,11 +12,11 @@ ghost use Rattle.program_rows.specs.Points.{IsPoint, objective};
 use crate::arithmetic::plus;
 use crate::checker::Checker;
 use crate::fault::CertificateFault;
+use crate::forms::WideForm;
 use crate::limit::Limit;
 use crate::open_split::OpenSplit;
 use crate::reader::{check_lines, new_checker, refused};
 use crate::refusal::Refusal;
-use crate::row_forms::Form;
 use program_rows::{Bounds, Point, Program};
 use std::alloc::{AllocError, Global};
 
@@ -30,7 +30,7 @@ fn is_zero_or_one(bounds: Bounds) -> bool
 }
 
 /// The number of a column that is 1, or isn't, in the split's form.
-fn number_of(is_one: bool) -> i64
+fn number_of(is_one: bool) -> i128
     ensures { result ≡ (if is_one then neg_ℤ (pos 1) else pos 1) }
 {
     if is_one { -1 } else { 1 }
@@ -38,7 +38,7 @@ fn number_of(is_one: bool) -> i64
 
 /// Adds the term of a column, if it may be 0 or 1.
 fn add_term(
-    form: &mut Form,
+    form: &mut WideForm,
     program: &Program,
     values: &Point,
     column: usize,
@@ -59,7 +59,7 @@ fn add_term(
 }
 
 /// The form of the split from a point.
-fn distance(alloc: Global, program: &Program, values: &Point) -> Result<Form, AllocError>
+fn distance(alloc: Global, program: &Program, values: &Point) -> Result<WideForm, AllocError>
     requires { length values.now ≡ length program.now.columns }
     ensures { IfOk result (λ form. form.items ≡ only.distance 0 program.now.columns values.now) }
 {

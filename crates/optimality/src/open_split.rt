@@ -1,9 +1,10 @@
-use crate::row_forms::Form;
+use crate::forms::WideForm;
 
 /// A split, one side of which is told.
 #[derive(Drop)]
 pub struct OpenSplit {
-    pub form: Form,
+    /// Columns with their numbers, each once.
+    pub form: WideForm,
     pub most: i64,
     /// Whether it is the second side, where the sum is above `most`.
     pub is_high: bool,

@@ -16,11 +16,13 @@ use crate::limit::Limit;
 use crate::lines::take_any;
 use crate::names::{column_names, row_names};
 use crate::open_split::OpenSplit;
+use crate::reduced::least_alone;
 use crate::refusal::Refusal;
 use crate::row_forms::row_forms;
+use crate::sums::Sums;
 use auction_terms::LineReader;
 use program_rows::{Program, Seeded};
-use std::alloc::{AllocError, Global};
+use std::alloc::Global;
 use std::cell::Cell;
 
 pub fn refused(line: usize, refusal: Refusal) -> CertificateFault
@@ -44,14 +46,14 @@ pub fn check_lines(
     ensures { IsVerdict result (fault_from checker.now.program.now checker.now.least
         (Ok (Some (branches_of open_splits.items))) 0 (lines_of text.now)) }
 {
-    let mut numbers = Vec::new(checker.alloc);
+    let mut sums = Sums::new(checker.alloc);
     let mut splits = open_splits;
     let mut is_last = false;
     let mut lines = LineReader::new(text);
     let mut place: usize = 0;
     while let Some(line) = lines.next() {
         place += 1;
-        is_last = match take_any(checker, &mut numbers, &mut splits, is_last, line) {
+        is_last = match take_any(checker, &mut sums, &mut splits, is_last, line) {
             Ok(is_last_then) => is_last_then,
             Err(refusal) => return Err(refused(place, refusal)),
         };
@@ -65,7 +67,7 @@ pub fn check_lines(
     })
 }
 
-pub fn new_checker(alloc: Global, program: &Program, least: i128) -> Result<Checker<'_>, AllocError>
+pub fn new_checker(alloc: Global, program: &Program, least: i128) -> Result<Checker<'_>, Limit>
     ensures prepared { IfOk result (λ checker. IsPrepared checker) }
     ensures program { IfOk result (λ checker. checker.program.now ≡ program.now) }
     ensures least { IfOk result (λ checker. checker.least ≡ least) }
@@ -74,6 +76,7 @@ pub fn new_checker(alloc: Global, program: &Program, least: i128) -> Result<Chec
     let columns = column_names(alloc, program, seed)?;
     let rows = row_names(alloc, program, seed)?;
     let forms = row_forms(alloc, program)?;
+    let alone = least_alone(program)?;
     Ok(Checker {
         alloc,
         program,
@@ -82,6 +85,7 @@ pub fn new_checker(alloc: Global, program: &Program, least: i128) -> Result<Chec
         rows,
         next_row: Cell::new(0),
         row_forms: forms,
+        alone,
         least,
     })
 }
@@ -99,11 +103,8 @@ pub fn check_certificate(
         ⊎ ¬ IsShownBy program.now least text.now) }
     ensures first { IsVerdict result (certificate_fault program.now least text.now) }
 {
-    let Ok(checker) = new_checker(alloc, program, least) else {
-        return Err(CertificateFault {
-            line: 0,
-            kind: FaultKind::OutOfMemory,
-        });
-    };
-    check_lines(&checker, Vec::new(alloc), text)
+    match new_checker(alloc, program, least) {
+        Ok(checker) => check_lines(&checker, Vec::new(alloc), text),
+        Err(limit) => Err(refused(0, Refusal::Stopped(limit))),
+    }
 }

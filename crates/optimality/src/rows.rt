@@ -1,34 +1,36 @@
 //! Multiples of rows: what they give the columns, and their right sides.
 
 ghost use Rattle.std.specs.Prelude.{◌≡◌, IfOk, OnOk, ◌+ℤ◌, ◌*ℤ◌};
-ghost use Rattle.optimality.specs.inside.Adding.{form_at, with_form, with_rows};
+ghost use Rattle.optimality.specs.inside.Adding.{AreGivenMore, form_at, form_given, rows_given};
 ghost use Rattle.optimality.specs.Certificates.{sum_of};
 ghost use Rattle.optimality.specs.Reduced as reduced;
 ghost use Rattle.optimality.specs.inside.RowForms.{forms_held};
 
-use crate::arithmetic::{plus, product};
+use crate::arithmetic::{plus, wide_product};
 use crate::forms::add_form;
 use crate::limit::Limit;
 use crate::row_forms::Form;
+use crate::sums::Sums;
 use program_rows::Program;
 
-fn add_row(numbers: &mut [i128], forms: &[Form], row: usize, multiplier: i64) -> Result<(), Limit>
-    ensures { OnOk result (numbers.new ≡ with_form multiplier (form_at (forms_held forms.now) row)
-        numbers.old) }
+fn add_row(sums: &mut Sums, forms: &[Form], row: usize, multiplier: i128) -> Result<(), Limit>
+    ensures { OnOk result (AreGivenMore (form_given multiplier (form_at (forms_held forms.now) row))
+        sums.old.numbers.items sums.new.numbers.items) }
 {
     if row >= forms.len() {
         return Ok(());
     }
-    add_form(numbers, multiplier, forms[row].as_slice())
+    add_form(sums, multiplier, forms[row].as_slice())
 }
 
 /// Adds the rows, each times its multiplier. A row that isn't named costs nothing.
-pub fn add_rows(numbers: &mut [i128], forms: &[Form], rows: &[(usize, i64)]) -> Result<(), Limit>
-    ensures { OnOk result (numbers.new ≡ with_rows rows.now (forms_held forms.now) numbers.old) }
+pub fn add_rows(sums: &mut Sums, forms: &[Form], rows: &[(usize, i128)]) -> Result<(), Limit>
+    ensures { OnOk result (AreGivenMore (rows_given rows.now (forms_held forms.now))
+        sums.old.numbers.items sums.new.numbers.items) }
 {
     for i in 0..rows.len() {
         let (row, multiplier) = rows[i];
-        add_row(numbers, forms, row, multiplier)?;
+        add_row(sums, forms, row, multiplier)?;
     }
     Ok(())
 }
@@ -44,15 +46,17 @@ fn right_side_at(program: &Program, row: usize) -> i64
     }
 }
 
-fn add_right_side(sum: i128, program: &Program, row: usize, multiplier: i64) -> Result<i128, Limit>
+fn add_right_side(sum: i128, program: &Program, row: usize, multiplier: i128) -> Result<i128, Limit>
     ensures { IfOk result (λ n. n ≡ sum +ℤ multiplier *ℤ reduced.right_side_at program.now.rows
         row) }
 {
-    plus(sum, product(multiplier, right_side_at(program, row)))
+    let right_side = i128::from(right_side_at(program, row));
+    let multiple = wide_product(multiplier, right_side)?;
+    plus(sum, multiple)
 }
 
 /// The sum of the right sides of rows, each times its multiplier.
-pub fn rows_right(program: &Program, rows: &[(usize, i64)]) -> Result<i128, Limit>
+pub fn rows_right(program: &Program, rows: &[(usize, i128)]) -> Result<i128, Limit>
     ensures { IfOk result (λ n. n ≡ sum_of (λ t. t.1 *ℤ reduced.right_side_at program.now.rows
         t.0) rows.now) }
 {

@@ -2,33 +2,55 @@
 
 ghost use Rattle.std.specs.Prelude.{◌≡◌, IfOk, false};
 ghost use Rattle.program_rows.specs.Lines.{fields};
+ghost use Rattle.optimality.specs.inside.Adding.{AreAlike};
 ghost use Rattle.optimality.specs.inside.Answers.{AnswersSeen};
 ghost use Rattle.optimality.specs.inside.Checking.{IsPrepared};
 ghost use Rattle.optimality.specs.LineMeaning.{SplitLine, split_told};
 
+use crate::added_up::added_up;
 use crate::checker::Checker;
 use crate::fault::FaultKind;
+use crate::limit::Limit;
 use crate::numbers::take_number;
 use crate::open_split::OpenSplit;
 use crate::refusal::Refusal;
+use crate::row_forms::Form;
+use crate::sums::Sums;
 use crate::terms::take_column_terms;
 use program_rows::next_field;
+use std::alloc::Global;
 
-/// The split that a text tells, at its first side.
-pub fn take_split(checker: &Checker, text: &[u8]) -> Result<OpenSplit, Refusal>
+/// A split as its line tells it.
+#[derive(Drop)]
+pub struct ToldSplit {
+    pub form: Form,
+    pub most: i64,
+}
+
+/// The split that a text tells.
+pub fn take_split(checker: &Checker, text: &[u8]) -> Result<ToldSplit, Refusal>
     requires { IsPrepared checker.now }
-    ensures told { AnswersSeen (λ split. SplitLine split.form.items split.most) result
+    ensures { AnswersSeen (λ split. SplitLine split.form.items split.most) result
         (split_told checker.now.program.now (fields text.now)) }
-    ensures low { IfOk result (λ split. split.is_high ≡ false) }
 {
     let Some(token) = next_field(text) else {
         return Err(Refusal::Fault(FaultKind::Fields));
     };
     let most = take_number(token.text)?;
     let form = take_column_terms(checker, token.rest)?;
+    Ok(ToldSplit { form, most })
+}
+
+/// Opens a split at its first side, with the numbers of each column added up: a leaf below it goes over each column once.
+pub fn opened_split(alloc: Global, sums: &mut Sums, told: &ToldSplit) -> Result<OpenSplit, Limit>
+    ensures alike { IfOk result (λ split. AreAlike split.form.items told.now.form.items) }
+    ensures most { IfOk result (λ split. split.most ≡ told.now.most) }
+    ensures low { IfOk result (λ split. split.is_high ≡ false) }
+{
+    let form = added_up(alloc, sums, told.form.as_slice())?;
     Ok(OpenSplit {
         form,
-        most,
+        most: told.most,
         is_high: false,
     })
 }

@@ -1,36 +1,82 @@
--- The numbers of a leaf, which stand column by column: forms are added to them place by place.
-use Rattle.std.specs.Prelude.{ℕ, List, [], ◌∷◌, map, slice_index_or, slice_set, ℤ, pos, ◌+ℤ◌, ◌*ℤ◌}
+-- The numbers of a leaf by place: forms are added to them, and taken from them place by place.
+use Rattle.std.specs.Prelude.{◌≡◌, ℕ, ◌==◌, ◌||◌, Bool, false, cond, List, [], ◌∷◌, Option, Some, None, slice_get, slice_index_or, ℤ, pos, ◌+ℤ◌, ◌-ℤ◌, ◌*ℤ◌}
+use Rattle.std.specs.List.{enumerate_from, zip}
+use Rattle.std.specs.Option.{option_map_or}
 use Rattle.program_rows.specs.Program.{TableColumn}
-use Rattle.optimality.specs.Certificates.{Form, Cut}
+use Rattle.optimality.specs.Certificates.{Form, Cut, number_in, sum_of}
+use Rattle.optimality.specs.Reduced.{least_part}
 
+-- the number of a place, 0 behind the last one
 abbrev pub number_at : List ℤ → ℕ → ℤ
 number_at numbers place = slice_index_or numbers place (pos 0)
 
--- a number more at a place
-abbrev pub with_more : ℕ → ℤ → List ℤ → List ℤ
-with_more place number numbers = slice_set numbers place (number_at numbers place +ℤ number)
+-- ---------- which places have a number ----------
 
--- a multiple of a form more
-abbrev pub with_form : ℤ → Form → List ℤ → List ℤ
-with_form factor [] numbers = numbers
-with_form factor (t ∷ form) numbers = with_form factor form (with_more t.0 (factor *ℤ t.1) numbers)
+abbrev pub has_place : List ℕ → ℕ → Bool
+has_place [] q = false
+has_place (place ∷ places) q = (place == q) || has_place places q
 
--- a multiple of each cut more
-abbrev pub with_cuts : List ℕ → List Cut → List ℤ → List ℤ
-with_cuts (y ∷ ys) (cut ∷ cuts) numbers = with_cuts ys cuts (with_form (pos y) cut.form numbers)
-with_cuts _ _ numbers = numbers
+-- a place that isn't listed has 0
+abbrev pub AreListed : List ℕ → List ℤ → Type 0
+AreListed places numbers = (q : ℕ) → has_place places q ≡ false → number_at numbers q ≡ pos 0
+
+abbrev pub AreNone : List ℤ → Type 0
+AreNone numbers = (q : ℕ) → number_at numbers q ≡ pos 0
+
+-- ---------- what is added ----------
+
+abbrev pub AreAsBefore : List ℤ → List ℤ → Type 0
+AreAsBefore before after = (q : ℕ) → number_at after q ≡ number_at before q
+
+-- what is given each place
+abbrev pub AreGivenMore : (ℕ → ℤ) → List ℤ → List ℤ → Type 0
+AreGivenMore given before after = (q : ℕ) → number_at after q ≡ number_at before q +ℤ given q
+
+-- a number at a place
+abbrev pub at_place : ℕ → ℤ → ℕ → ℤ
+at_place place number q = cond (place == q) number (pos 0)
+
+-- a multiple of a form
+abbrev pub form_given : ℤ → Form → ℕ → ℤ
+form_given factor form q = factor *ℤ number_in form q
+
+-- a multiple of each cut
+abbrev pub cuts_given : List ℕ → List Cut → ℕ → ℤ
+cuts_given ys cuts q = sum_of (λ e. pos e.0 *ℤ number_in e.1.form q) (zip ys cuts)
 
 abbrev pub form_at : List Form → ℕ → Form
 form_at forms row = slice_index_or forms row []
 
--- a multiple of each row more, where each row stands as a form
-abbrev pub with_rows : Form → List Form → List ℤ → List ℤ
-with_rows [] forms numbers = numbers
-with_rows (t ∷ rows) forms numbers = with_rows rows forms (with_form t.1 (form_at forms t.0) numbers)
+-- a multiple of each row, where each row stands as a form
+abbrev pub rows_given : Form → List Form → ℕ → ℤ
+rows_given rows forms q = sum_of (λ t. t.1 *ℤ number_in (form_at forms t.0) q) rows
 
-abbrev pub scaled_costs : ℕ → List TableColumn → List ℤ
-scaled_costs scale columns = map (λ c. pos scale *ℤ c.cost) columns
+-- ---------- what is taken ----------
 
--- all that a leaf adds up
-abbrev pub leaf_numbers : List TableColumn → List Form → ℕ → List ℕ → List Cut → Form → List ℤ
-leaf_numbers columns forms scale ys cuts rows = with_rows rows forms (with_cuts ys cuts (scaled_costs scale columns))
+-- a place with its number, which is 0 from then on; nothing where there is none left
+abbrev pub IsTaken : Option (ℕ × ℤ) → List ℤ → List ℤ → Type 0
+IsTaken None before after = AreNone before × AreNone after
+IsTaken (Some t) before after = (number_at after t.0 ≡ pos 0) × ((q : ℕ) → number_at before q ≡ number_at after q +ℤ at_place t.0 t.1 q)
+
+-- what a form gives
+abbrev pub AreOf : Form → List ℤ → Type 0
+AreOf form numbers = (q : ℕ) → number_at numbers q ≡ number_in form q
+
+-- two forms that give each place the same
+abbrev pub AreAlike : Form → Form → Type 0
+AreAlike form other = (place : ℕ) → number_in form place ≡ number_in other place
+
+-- ---------- what the columns come to ----------
+
+-- the least that the costs alone come to
+abbrev pub least_alone : List TableColumn → ℤ
+least_alone columns = sum_of (λ c. least_part c.bounds c.cost) columns
+
+-- the least that scaled costs come to, with a number more for each column
+abbrev pub least_with : ℤ → (ℕ → ℤ) → List TableColumn → ℤ
+least_with factor given columns = sum_of (λ e. least_part e.1.bounds (factor *ℤ e.1.cost +ℤ given e.0)) (enumerate_from 0 columns)
+
+-- by how much a number changes what the column at a place contributes at least
+abbrev pub change_at : List TableColumn → ℤ → ℕ → ℤ → ℤ
+change_at columns factor place number =
+    option_map_or (λ c. least_part c.bounds (factor *ℤ c.cost +ℤ number) -ℤ least_part c.bounds (factor *ℤ c.cost)) (slice_get columns place) (pos 0)

@@ -1,7 +1,12 @@
 -- The open splits above a line, nearest first.
-use Rattle.std.specs.Prelude.{Bool, List, map, reverse, Option, Some, None, if◌then◌else◌}
+use Rattle.std.specs.Prelude.{◌≡◌, ℕ, Bool, List, map, reverse, ℤ, Option, Some, None, Result, Ok, Err, if◌then◌else◌}
+use Rattle.program_rows.specs.Program.{Table}
+use Rattle.optimality.specs.declared.fault.FaultKind.{FaultKind}
 use Rattle.optimality.specs.declared.open_split.OpenSplit.{OpenSplit}
+use Rattle.optimality.specs.declared.refusal.Refusal.{Refusal}
+use Rattle.optimality.specs.declared.refusal.Refusal.TheVariants.{Stopped, Fault}
 use Rattle.optimality.specs.Branches.{Branch, At}
+use Rattle.optimality.specs.Verdict.{fault_from}
 
 abbrev pub branch_of : OpenSplit → Branch
 branch_of s = At s.is_high s.form.items s.most
@@ -13,3 +18,13 @@ branches_of splits = reverse (map branch_of splits)
 -- none behind the last subtree
 abbrev pub opened : Bool → List OpenSplit → Option (List Branch)
 opened is_last splits = if is_last then None else Some (branches_of splits)
+
+-- whatever lines follow, they have the same first fault
+abbrev pub GoOnAlike : Table → ℤ → Result (Option (List Branch)) FaultKind → Result (Option (List Branch)) FaultKind → Type 0
+GoOnAlike p least told other = (place : ℕ) (lines : List (List ℕ)) → fault_from p least told place lines ≡ fault_from p least other place lines
+
+-- what is open behind a line, but that the code may hold other forms which give each column the same; or the line's fault; or a limit
+abbrev pub AnswersAlike : Table → ℤ → List OpenSplit → Result Bool Refusal → Result (Option (List Branch)) FaultKind → Type 0
+AnswersAlike p least splits (Ok is_last) told = GoOnAlike p least told (Ok (opened is_last splits))
+AnswersAlike p least splits (Err (Stopped limit)) told = Unit {0}
+AnswersAlike p least splits (Err (Fault kind)) told = told ≡ Err kind

@@ -1,8 +1,10 @@
-use Rattle.std.proofs.Common.{◌≡◌, drop, ◌+ℤ◌}
-use Rattle.optimality.specs.inside.Adding.{number_at}
-use Rattle.optimality.proofs.ColumnSums.{least_sum}
+use Rattle.std.proofs.Common.{◌≡◌, ◌+ℤ◌, vec_len}
+use Rattle.optimality.specs.inside.Adding.{least_with, number_at}
 use Rattle.optimality.proofs.reduced.least_total.Given as goal
 
--- the sum so far, and that of the columns that are left
+-- the total so far, and what the sums that are left change of it
 abbrev pub invariant-loop-column : goal.invariant-loop-column
-invariant-loop-column l = l.sum +ℤ least_sum (λ place _. number_at l.numbers place) l.column (drop l.column l.program.columns) ≡ least_sum (λ place _. number_at l.numbers place) 0 l.program.columns
+invariant-loop-column l = l.total +ℤ least_with l.factor (number_at l.sums.numbers.items) l.program.columns ≡ l.alone +ℤ least_with l.factor (number_at l.fn.sums.numbers.items) l.program.columns
+
+abbrev pub decreases-loop-column : goal.decreases-loop-column
+decreases-loop-column l = vec_len l.sums.places

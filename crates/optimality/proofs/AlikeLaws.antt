@@ -1,0 +1,252 @@
+-- Forms that give each place the same can stand for one another.
+use Rattle.std.proofs.Common.{◌≡◌, ℕ, zero, suc, ◌+◌, ◌<◌, ◌≤◌, Bool, true, false, cond, List, [], ◌∷◌, ◌++◌, Option, Some, None, Result, Ok, Err, length, refl, subst, sym, ap, ap₂, ◌∙◌, arith, ℤ, pos, neg_ℤ, ◌+ℤ◌}
+use Rattle.std.specs.Prelude.{◌*ℤ◌, ◌-ℤ◌, ◌==◌, if◌then◌else◌, int_lt}
+use Rattle.std.specs.Option.{ok_or}
+use Rattle.std.proofs.lemmas.Int.{ints}
+use Rattle.std.proofs.lemmas.Bool.Decides.{nat_tests}
+use Rattle.std.proofs.Math.IntN.{*ℤ_comm}
+use lib.IntN.{zero-*ℤ}
+use Rattle.auction_terms.specs.Stages.{and_then}
+use Rattle.program_rows.specs.Program.{Table}
+use Rattle.program_rows.specs.Points.{coefficient_at}
+use Rattle.program_rows.specs.Lines.{fields, is_skipped}
+use Rattle.optimality.specs.declared.fault.FaultKind.{FaultKind}
+use Rattle.optimality.specs.declared.fault.FaultKind.TheVariants.{Beyond, NotShown}
+use Rattle.optimality.specs.Certificates.{Form, Cut, number_in, side, sum_of}
+use Rattle.optimality.specs.Reduced.{reduced, right_side_at}
+use Rattle.optimality.specs.Shows.{leaf_value}
+use Rattle.optimality.specs.LineMeaning.{Told, BoundLine, SplitLine, line_told}
+use Rattle.optimality.specs.Branches.{Branch, At, cuts_above, closed}
+use Rattle.optimality.specs.Verdict.{taken, fault_from}
+use Rattle.optimality.specs.declared.open_split.OpenSplit.{OpenSplit}
+use Rattle.optimality.specs.inside.Adding.{AreAlike}
+use Rattle.optimality.specs.inside.Branches.{branch_of, GoOnAlike}
+use Rattle.optimality.proofs.ColumnSums.{cuts_number, cuts_right, least_sum, rows_number, rows_right}
+use Rattle.optimality.proofs.LeafLaws.{least-same}
+use Rattle.optimality.proofs.PlaceLaws.{negated-in}
+use Rattle.optimality.proofs.Products.{times-sum}
+
+-- ---------- sums over places ----------
+
+-- over the places below m
+abbrev weighed : ℕ → (ℕ → ℤ) → (ℕ → ℤ) → ℤ
+weighed zero s h = pos 0
+weighed (suc m) s h = weighed m s h +ℤ s m *ℤ h m
+
+weighed-same : (m : ℕ) (s other h : ℕ → ℤ) → ((q : ℕ) → s q ≡ other q) → weighed m s h ≡ weighed m other h
+weighed-same zero s other h same = refl
+weighed-same (suc m) s other h same = ap₂ (λ (a b : ℤ). a +ℤ b *ℤ h m) (weighed-same m s other h same) (same m)
+
+weighed-none : (m : ℕ) (h : ℕ → ℤ) → weighed m (λ _. pos 0) h ≡ pos 0
+weighed-none zero h = refl
+weighed-none (suc m) h = rw (weighed-none m h, zero-*ℤ (h m)) refl
+
+-- a number more at a place
+abbrev more_at : ℕ → ℤ → (ℕ → ℤ) → ℕ → ℤ
+more_at place n s q = cond (place == q) n (pos 0) +ℤ s q
+
+elsewhere : (place q : ℕ) (n : ℤ) (s : ℕ → ℤ) → (place == q) ≡ false → more_at place n s q ≡ s q
+elsewhere place q n s e = rw e (omega (arith, ints))
+
+here : (place q : ℕ) (n : ℤ) (s : ℕ → ℤ) → (place == q) ≡ true → more_at place n s q ≡ n +ℤ s q
+here place q n s e = rw e refl
+
+weighed-past : (m place : ℕ) (n : ℤ) (s h : ℕ → ℤ) → m ≤ place → weighed m (more_at place n s) h ≡ weighed m s h
+weighed-past zero place n s h l = refl
+weighed-past (suc m) place n s h l =
+    let other : (place == m) ≡ false = grind (arith, nat_tests) in
+    ap₂ (λ (a b : ℤ). a +ℤ b *ℤ h m) (weighed-past m place n s h (omega arith)) (elsewhere place m n s other)
+
+sum-times : (a b k : ℤ) → (a +ℤ b) *ℤ k ≡ a *ℤ k +ℤ b *ℤ k
+sum-times a b k = *ℤ_comm (a +ℤ b) k ∙ times-sum k a b ∙ ap₂ (λ (x y : ℤ). x +ℤ y) (*ℤ_comm k a) (*ℤ_comm k b)
+
+weighed-more : (m place : ℕ) (n : ℤ) (s h : ℕ → ℤ) → place < m → weighed m (more_at place n s) h ≡ n *ℤ h place +ℤ weighed m s h
+weighed-more zero place n s h l = absurd (omega arith)
+weighed-more (suc m) place n s h l = by (weighed-more m place n s h) (place == m) refl
+  where
+    arrange : (a b w : ℤ) → w +ℤ (a +ℤ b) ≡ a +ℤ (w +ℤ b)
+    arrange a b w = omega (arith, ints)
+
+    join : (a b w : ℤ) → (a +ℤ w) +ℤ b ≡ a +ℤ (w +ℤ b)
+    join a b w = omega (arith, ints)
+
+    by : (place < m → weighed m (more_at place n s) h ≡ n *ℤ h place +ℤ weighed m s h) → (b : Bool) → (place == m) ≡ b → weighed m (more_at place n s) h +ℤ more_at place n s m *ℤ h m ≡ n *ℤ h place +ℤ (weighed m s h +ℤ s m *ℤ h m)
+    by later true e =
+        let same : place ≡ m = grind (arith, nat_tests) in
+        ap₂ (λ (a b : ℤ). a +ℤ b *ℤ h m) (weighed-past m place n s h (omega arith)) (here place m n s e)
+        ∙ ap (λ (a : ℤ). weighed m s h +ℤ a) (sum-times n (s m) (h m))
+        ∙ arrange (n *ℤ h m) (s m *ℤ h m) (weighed m s h)
+        ∙ ap (λ (k : ℕ). n *ℤ h k +ℤ (weighed m s h +ℤ s m *ℤ h m)) (sym same)
+    by later false e =
+        let below : place < m = grind (arith, nat_tests) in
+        ap₂ (λ (a b : ℤ). a +ℤ b *ℤ h m) (later below) (elsewhere place m n s e)
+        ∙ join (n *ℤ h place) (s m *ℤ h m) (weighed m s h)
+
+-- all places of a form are below this
+abbrev top : Form → ℕ
+top [] = 0
+top (t ∷ form) = suc t.0 + top form
+
+weighed-form : (m : ℕ) (form : Form) (h : ℕ → ℤ) → top form ≤ m → sum_of (λ t. t.1 *ℤ h t.0) form ≡ weighed m (number_in form) h
+weighed-form m [] h l = sym (weighed-none m h)
+weighed-form m (t ∷ form) h l =
+    let within : t.0 < m = omega arith in
+    ap (λ (a : ℤ). t.1 *ℤ h t.0 +ℤ a) (weighed-form m form h (omega arith)) ∙ sym (weighed-more m t.0 t.1 (number_in form) h within)
+
+sum-alike : (form other : Form) (h : ℕ → ℤ) → AreAlike form other → sum_of (λ t. t.1 *ℤ h t.0) form ≡ sum_of (λ t. t.1 *ℤ h t.0) other
+sum-alike form other h alike =
+    let m = top form + top other in
+    weighed-form m form h (omega arith) ∙ weighed-same m (number_in form) (number_in other) h alike ∙ sym (weighed-form m other h (omega arith))
+
+-- ---------- leaves ----------
+
+-- rows that are alike
+pub rows-alike : (p : Table) (cuts : List Cut) (scale : ℕ) (ys : List ℕ) (rows other : Form) → AreAlike rows other → leaf_value p cuts scale ys rows ≡ leaf_value p cuts scale ys other
+rows-alike p cuts scale ys rows other alike =
+    let columns : least_sum (reduced scale ys cuts rows) 0 p.columns ≡ least_sum (reduced scale ys cuts other) 0 p.columns =
+    least-same (reduced scale ys cuts rows) (reduced scale ys cuts other) 0 p.columns (λ i j c place at. ap (λ (n : ℤ). pos scale *ℤ c.cost +ℤ (cuts_number ys cuts i +ℤ n)) (sum-alike rows other (λ row. coefficient_at row c) alike)) in
+    let right = sum-alike rows other (λ row. right_side_at p.rows row) alike in
+    ap₂ (λ (a b : ℤ). a -ℤ (cuts_right ys cuts +ℤ b)) columns right
+
+-- cuts that are alike
+abbrev CutsAlike : List Cut → List Cut → Type 0
+CutsAlike [] [] = Unit {0}
+CutsAlike (cut ∷ cuts) (other ∷ others) = (cut.most ≡ other.most) × AreAlike cut.form other.form × CutsAlike cuts others
+CutsAlike [] (other ∷ others) = ⊥
+CutsAlike (cut ∷ cuts) [] = ⊥
+
+cuts-number-alike : (ys : List ℕ) (cuts others : List Cut) (q : ℕ) → CutsAlike cuts others → cuts_number ys cuts q ≡ cuts_number ys others q
+cuts-number-alike [] cuts others q alike = refl
+cuts-number-alike (y ∷ ys) [] [] q alike = refl
+cuts-number-alike (y ∷ ys) [] (other ∷ others) q alike = absurd alike
+cuts-number-alike (y ∷ ys) (cut ∷ cuts) [] q alike = absurd alike
+cuts-number-alike (y ∷ ys) (cut ∷ cuts) (other ∷ others) q alike = ap₂ (λ (a b : ℤ). pos y *ℤ a +ℤ b) (alike.1 q) (cuts-number-alike ys cuts others q alike.2)
+
+cuts-right-alike : (ys : List ℕ) (cuts others : List Cut) → CutsAlike cuts others → cuts_right ys cuts ≡ cuts_right ys others
+cuts-right-alike [] cuts others alike = refl
+cuts-right-alike (y ∷ ys) [] [] alike = refl
+cuts-right-alike (y ∷ ys) [] (other ∷ others) alike = absurd alike
+cuts-right-alike (y ∷ ys) (cut ∷ cuts) [] alike = absurd alike
+cuts-right-alike (y ∷ ys) (cut ∷ cuts) (other ∷ others) alike = ap₂ (λ (a b : ℤ). pos y *ℤ a +ℤ b) alike.0 (cuts-right-alike ys cuts others alike.2)
+
+value-alike : (p : Table) (cuts others : List Cut) (scale : ℕ) (ys : List ℕ) (rows : Form) → CutsAlike cuts others → leaf_value p cuts scale ys rows ≡ leaf_value p others scale ys rows
+value-alike p cuts others scale ys rows alike =
+    let columns : least_sum (reduced scale ys cuts rows) 0 p.columns ≡ least_sum (reduced scale ys others rows) 0 p.columns =
+    least-same (reduced scale ys cuts rows) (reduced scale ys others rows) 0 p.columns (λ i j c place at. ap (λ (n : ℤ). pos scale *ℤ c.cost +ℤ (n +ℤ rows_number rows c)) (cuts-number-alike ys cuts others i alike)) in
+    ap₂ (λ (a b : ℤ). a -ℤ (b +ℤ rows_right p.rows rows)) columns (cuts-right-alike ys cuts others alike)
+
+-- ---------- open splits ----------
+
+abbrev pub BranchesAlike : List Branch → List Branch → Type 0
+BranchesAlike [] [] = Unit {0}
+BranchesAlike (At is_second form most ∷ above) (At other_second other other_most ∷ others) = (is_second ≡ other_second) × (most ≡ other_most) × AreAlike form other × BranchesAlike above others
+BranchesAlike [] (b ∷ others) = ⊥
+BranchesAlike (b ∷ above) [] = ⊥
+
+pub branches-themselves : (branches : List Branch) → BranchesAlike branches branches
+branches-themselves [] = tt
+branches-themselves (At is_second form most ∷ above) = (refl, refl, λ _. refl, branches-themselves above)
+
+lengths-alike : (branches others : List Branch) → BranchesAlike branches others → length branches ≡ length others
+lengths-alike [] [] alike = refl
+lengths-alike [] (b ∷ others) alike = absurd alike
+lengths-alike (b ∷ above) [] alike = absurd alike
+lengths-alike (At is_second form most ∷ above) (At other_second other other_most ∷ others) alike = ap suc (lengths-alike above others alike.3)
+
+sides-alike : (is_second : Bool) (form other : Form) (most : ℤ) → AreAlike form other → CutsAlike (side is_second form most ∷ []) (side is_second other most ∷ [])
+sides-alike false form other most alike = (refl, alike, tt)
+sides-alike true form other most alike = (refl, λ q. negated-in form most q ∙ ap neg_ℤ (alike q) ∙ sym (negated-in other most q), tt)
+
+cuts-joined : (cuts others more_cuts more_others : List Cut) → CutsAlike cuts others → CutsAlike more_cuts more_others → CutsAlike (cuts ++ more_cuts) (others ++ more_others)
+cuts-joined [] [] more_cuts more_others alike more = more
+cuts-joined [] (other ∷ others) more_cuts more_others alike more = absurd alike
+cuts-joined (cut ∷ cuts) [] more_cuts more_others alike more = absurd alike
+cuts-joined (cut ∷ cuts) (other ∷ others) more_cuts more_others alike more = (alike.0, alike.1, cuts-joined cuts others more_cuts more_others alike.2 more)
+
+cuts-above-alike : (branches others : List Branch) → BranchesAlike branches others → CutsAlike (cuts_above branches) (cuts_above others)
+cuts-above-alike [] [] alike = tt
+cuts-above-alike [] (b ∷ others) alike = absurd alike
+cuts-above-alike (b ∷ above) [] alike = absurd alike
+cuts-above-alike (At is_second form most ∷ above) (At other_second other other_most ∷ others) alike =
+    let last : CutsAlike (side is_second form most ∷ []) (side other_second other other_most ∷ []) =
+    subst (λ (s : Bool). CutsAlike (side is_second form most ∷ []) (side s other other_most ∷ [])) alike.0
+    (subst (λ (k : ℤ). CutsAlike (side is_second form most ∷ []) (side is_second other k ∷ [])) alike.1 (sides-alike is_second form other most alike.2)) in
+    cuts-joined (cuts_above above) (cuts_above others) (side is_second form most ∷ []) (side other_second other other_most ∷ []) (cuts-above-alike above others alike.3) last
+
+-- ---------- behind a line ----------
+
+abbrev Opened : Type 0
+Opened = Result (Option (List Branch)) FaultKind
+
+abbrev OpenAlike : Opened → Opened → Type 0
+OpenAlike (Ok None) (Ok None) = Unit {0}
+OpenAlike (Ok (Some branches)) (Ok (Some others)) = BranchesAlike branches others
+OpenAlike (Err kind) (Err other) = kind ≡ other
+OpenAlike (Ok None) (Ok (Some others)) = ⊥
+OpenAlike (Ok (Some branches)) (Ok None) = ⊥
+OpenAlike (Ok o) (Err kind) = ⊥
+OpenAlike (Err kind) (Ok o) = ⊥
+
+closed-alike : (branches others : List Branch) → BranchesAlike branches others → OpenAlike (Ok (closed branches)) (Ok (closed others))
+closed-alike [] [] alike = tt
+closed-alike [] (b ∷ others) alike = absurd alike
+closed-alike (b ∷ above) [] alike = absurd alike
+closed-alike (At true form most ∷ above) (At true other other_most ∷ others) alike = closed-alike above others alike.3
+closed-alike (At false form most ∷ above) (At false other other_most ∷ others) alike = (refl, alike.1, alike.2, alike.3)
+closed-alike (At true form most ∷ above) (At false other other_most ∷ others) alike = let apart = alike.0 in absurd cc
+closed-alike (At false form most ∷ above) (At true other other_most ∷ others) alike = let apart = alike.0 in absurd cc
+
+taken-alike : (p : Table) (least : ℤ) (branches others : List Branch) (told : Told) → BranchesAlike branches others → OpenAlike (taken p least branches told) (taken p least others told)
+taken-alike p least branches others (SplitLine form most) alike = (refl, refl, λ _. refl, alike)
+taken-alike p least branches others (BoundLine scale ys rows) alike =
+    let same : leaf_value p (cuts_above branches) scale ys rows ≡ leaf_value p (cuts_above others) scale ys rows = value-alike p (cuts_above branches) (cuts_above others) scale ys rows (cuts-above-alike branches others alike) in
+    subst (λ (n : ℤ). OpenAlike (taken p least branches (BoundLine scale ys rows)) (if int_lt (pos scale *ℤ (least -ℤ pos 1)) n then Ok (closed others) else Err NotShown)) same
+    (by (int_lt (pos scale *ℤ (least -ℤ pos 1)) (leaf_value p (cuts_above branches) scale ys rows)))
+  where
+    by : (b : Bool) → OpenAlike (if b then Ok (closed branches) else Err NotShown) (if b then Ok (closed others) else Err NotShown)
+    by true = closed-alike branches others alike
+    by false = refl
+
+told-alike : (p : Table) (least : ℤ) (branches others : List Branch) (told : Result Told FaultKind) → BranchesAlike branches others → OpenAlike (and_then told (taken p least branches)) (and_then told (taken p least others))
+told-alike p least branches others (Ok told) alike = taken-alike p least branches others told alike
+told-alike p least branches others (Err kind) alike = refl
+
+abbrev behind : Table → ℤ → List ℕ → Option (List Branch) → Opened
+behind p least line branches = and_then (ok_or branches Beyond) (λ above. and_then (line_told p (length above) (fields line)) (taken p least above))
+
+behind-alike : (p : Table) (least : ℤ) (line : List ℕ) (branches others : Option (List Branch)) → OpenAlike (Ok branches) (Ok others) → OpenAlike (behind p least line branches) (behind p least line others)
+behind-alike p least line None None alike = refl
+behind-alike p least line None (Some others) alike = absurd alike
+behind-alike p least line (Some branches) None alike = absurd alike
+behind-alike p least line (Some branches) (Some others) alike =
+    subst (λ (depth : ℕ). OpenAlike (and_then (line_told p (length branches) (fields line)) (taken p least branches)) (and_then (line_told p depth (fields line)) (taken p least others))) (lengths-alike branches others alike)
+    (told-alike p least branches others (line_told p (length branches) (fields line)) alike)
+
+-- the first fault is the same
+pub fault-alike : (p : Table) (least : ℤ) (place : ℕ) (lines : List (List ℕ)) (told other : Opened) → OpenAlike told other → fault_from p least told place lines ≡ fault_from p least other place lines
+fault-alike p least place lines (Err kind) (Err other) alike = ap (λ (k : FaultKind). Some (place, k)) alike
+fault-alike p least place lines (Err kind) (Ok o) alike = absurd alike
+fault-alike p least place lines (Ok o) (Err kind) alike = absurd (by o alike)
+  where
+    by : (o : Option (List Branch)) → OpenAlike (Ok o) (Err kind) → ⊥
+    by None h = h
+    by (Some branches) h = h
+fault-alike p least place [] (Ok None) (Ok None) alike = refl
+fault-alike p least place [] (Ok None) (Ok (Some others)) alike = absurd alike
+fault-alike p least place [] (Ok (Some branches)) (Ok None) alike = absurd alike
+fault-alike p least place [] (Ok (Some branches)) (Ok (Some others)) alike = refl
+fault-alike p least place (line ∷ lines) (Ok branches) (Ok others) alike =
+    by (fault-alike p least (suc place) lines (Ok branches) (Ok others) alike) (fault-alike p least (suc place) lines (behind p least line branches) (behind p least line others) (behind-alike p least line branches others alike)) (is_skipped line)
+  where
+    by : fault_from p least (Ok branches) (suc place) lines ≡ fault_from p least (Ok others) (suc place) lines → fault_from p least (behind p least line branches) (suc place) lines ≡ fault_from p least (behind p least line others) (suc place) lines
+        → (b : Bool) → fault_from p least (if b then Ok branches else behind p least line branches) (suc place) lines ≡ fault_from p least (if b then Ok others else behind p least line others) (suc place) lines
+    by skipped told true = skipped
+    by skipped told false = told
+
+-- a split that is opened with another form than the line tells, which gives each column the same
+pub split-opened : (p : Table) (least : ℤ) (branches after : List Branch) (told : Result Told FaultKind) (form : Form) (most : ℤ) (split : OpenSplit) → told ≡ Ok (SplitLine form most) → AreAlike split.form.items form → split.most ≡ most
+    → split.is_high ≡ false → after ≡ branch_of split ∷ branches → GoOnAlike p least (and_then told (taken p least branches)) (Ok (Some after))
+split-opened p least branches after told form most split t alike m low a place lines =
+    ap (λ (r : Result Told FaultKind). fault_from p least (and_then r (taken p least branches)) place lines) t
+    ∙ fault-alike p least place lines (Ok (Some (At false form most ∷ branches))) (Ok (Some (branch_of split ∷ branches))) (sym low, sym m, λ q. sym (alike q), branches-themselves branches)
+    ∙ ap (λ (bs : List Branch). fault_from p least (Ok (Some bs)) place lines) (sym a)

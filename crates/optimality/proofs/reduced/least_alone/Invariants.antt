@@ -1,0 +1,7 @@
+use Rattle.std.proofs.Common.{◌≡◌, drop, ◌+ℤ◌}
+use Rattle.optimality.specs.inside.Adding as adding
+use Rattle.optimality.proofs.reduced.least_alone.Given as goal
+
+-- the sum so far, and that of the columns that are left
+abbrev pub invariant-loop-column : goal.invariant-loop-column
+invariant-loop-column l = l.sum +ℤ adding.least_alone (drop l.column l.program.columns) ≡ adding.least_alone l.program.columns
