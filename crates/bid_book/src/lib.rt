@@ -18,7 +18,7 @@ pub use book::Book;
 pub use call::Call;
 pub use caller::Caller;
 pub use entry::Entry;
-pub use law::sealed;
+pub use law::{sealed, the_limits_are_these};
 pub use records::CALL_LIMIT;
 pub use reply::Reply;
 pub use standing::Standing;

@@ -1,11 +1,9 @@
 -- The line that ends a text.
 use Rattle.std.proofs.Common.{◌≡◌, ◌≢◌, ℕ, List, [], ◌∷◌, ◌++◌, length, refl, sym, ap, ◌∙◌, arith, drop}
 use Rattle.std.specs.Prelude.{bytes_eq, codes}
-use Rattle.std.specs.List.{AllByRecursion}
 use Rattle.program_rows.specs.Lines.{Skipped, Unprintable, Data, field, Header}
 use Rattle.program_rows.specs.Sections.{is_end}
 use Rattle.mps_reader.specs.inside.Reading.{AreFirst}
-use Rattle.mps_reader.specs.Ending.{IsPassed}
 
 pub end-of : (shown all : List (List ℕ)) → AreFirst shown all → bytes_eq (field 0 shown) (codes "ENDATA") ≡ is_end (Header (field 0 all) (drop 1 all))
 end-of shown [] f = absurd (let size : length shown ≡ 0 = ap length f.front in let some = f.some in omega arith)
@@ -22,10 +20,6 @@ pub data-text : (all : List (List ℕ)) → Data all ≢ Unprintable
 data-text all e = absurd cc
 
 -- ---- the lines so far
-
-pub passed-push : (before : List (List ℕ)) (line : List ℕ) → AllByRecursion IsPassed before → IsPassed line → AllByRecursion IsPassed (before ++ line ∷ [])
-passed-push [] line h p = (p, tt)
-passed-push (l ∷ before) line h p = (h.0, passed-push before line h.1 p)
 
 pub moved : (all before lines rest : List (List ℕ)) (line : List ℕ) → all ≡ before ++ lines → lines ≡ line ∷ rest → all ≡ (before ++ line ∷ []) ++ rest
 moved all before lines rest line h e = h ∙ ap (λ ls. before ++ ls) e ∙ sym (shift before)

@@ -1,4 +1,3 @@
-pub mod Ending
 pub mod Answer
 pub mod MpsFaultText
 pub mod inside

@@ -18,6 +18,7 @@ mod entries;
 mod fields;
 mod finishing;
 mod headers;
+pub mod laws;
 mod limits;
 mod lines;
 mod markers;

@@ -1,8 +1,7 @@
 //! One pass over the lines of a text.
 
-ghost use Rattle.std.specs.Prelude.{◌≡◌, ◌≤◌, ◌<◌, length, Err, IfErr, OnOk};
+ghost use Rattle.std.specs.Prelude.{◌≡◌, ◌≤◌, ◌<◌, length, Err, IfErr};
 ghost use Rattle.auction_terms.specs.Lines.{lines_of};
-ghost use Rattle.mps_reader.specs.Ending.{HasEnd};
 ghost use Rattle.mps_reader.specs.Answer.{IsRead};
 ghost use Rattle.mps_reader.specs.inside.Answer.{IsRefusedLine};
 ghost use Rattle.program_rows.specs.Meaning.{meaning};
@@ -32,7 +31,6 @@ fn refused(line: usize, refusal: Refusal) -> MpsFault
 
 fn read_lines(alloc: Global, text: &[u8]) -> Result<Program, MpsFault>
     requires { length text.now ≤ PROGRAM_LIMIT }
-    ensures ends { OnOk result (HasEnd text.now) }
     ensures line { IfErr result (λ e. e.line ≤ length (lines_of text.now)) }
     ensures meaning { IsRead result (meaning text.now) }
 {
@@ -62,7 +60,6 @@ fn read_lines(alloc: Global, text: &[u8]) -> Result<Program, MpsFault>
 pub fn read_program(alloc: Global, text: &[u8]) -> Result<Program, MpsFault>
     ensures too_large { PROGRAM_LIMIT < length text.now
         → result ≡ Err (record { line = 0; kind = TooLarge }) }
-    ensures ends { OnOk result (HasEnd text.now) }
     ensures line { IfErr result (λ e. e.line ≤ length (lines_of text.now)) }
     ensures meaning { length text.now ≤ PROGRAM_LIMIT → IsRead result (meaning text.now) }
 {

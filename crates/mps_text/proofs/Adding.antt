@@ -1,6 +1,6 @@
 -- Adding to a writer, one piece behind another.
 use Rattle.std.proofs.Common.{◌≡◌, ◌∙◌, ℕ, Bool, true, false, List, [], ◌∷◌, ◌++◌, length, refl, sym, ap, subst, Option, Some, None, Result, Ok, Err}
-use Rattle.std.specs.Prelude.{IfErr}
+use Rattle.std.specs.Prelude.{IfErr, OnOk}
 use Rattle.std.specs.Io.KnownBytes.{Appends, append_known}
 use Rattle.std.proofs.lemmas.List.{append-nil}
 use denote.Ref.{MutBor}
@@ -64,6 +64,10 @@ sent-whole {X} {taken} {failures} {s} {a} {b} {bytes} new added sent =
     (subst (λ (o : Option (List ℕ)). Appends (append_known (taken s.now) []) o bytes) (held-empty taken b b.sink.now refl sent.1)
     (subst (λ (o : Option (List ℕ)). Appends o (bytes_given taken b) bytes) (held-empty taken a s.now new.untouched new.empty) (added.whole sent.0).1))
 
+-- and the sink's failures are what they were
+pub sent-quiet : {X : Type 0} {taken : X → Option (List ℕ)} {failures : X → ℕ} {s : MutBor X} {a b : Writer X} {bytes : List ℕ} → IsNew s a → Adds taken failures a b bytes → IsSent b → failures b.sink.now ≡ failures s.now
+sent-quiet {X} {taken} {failures} {s} {a} {b} {bytes} new added sent = (added.whole sent.0).2 ∙ ap failures new.untouched
+
 -- how many bytes of it went out
 pub counts-new : {X : Type 0} {taken : X → Option (List ℕ)} {failures : X → ℕ} {s : MutBor X} {a b : Writer X} {bytes : List ℕ} → IsNew s a → Adds taken failures a b bytes → Counts (taken s.now) (taken b.sink.now) 0 b.sent
 counts-new {X} {taken} {failures} {s} {a} {b} new added =
@@ -98,3 +102,10 @@ pub tells-front : {X : Type 0} {taken : X → Option (List ℕ)} {failures : X �
 tells-front x (Ok y) new added flushed told end = tt
 tells-front {X} {taken} {failures} {s} {a} {b} {c} {bytes} x (Err e) new added flushed told end =
     subst (λ (y : X). SentFront (taken s.now) (taken y) bytes (written_of e)) (sym end) (sent-front new (Adds-to (Adds-then added flushed) (append-nil bytes)) told)
+
+-- and that its failures are then what they were
+pub tells-quiet : {X : Type 0} {taken : X → Option (List ℕ)} {failures : X → ℕ} {s : MutBor X} {a b c : Writer X} {bytes : List ℕ} (x : X) (r : Result (Unit {0}) WriteFault)
+    → IsNew s a → Adds taken failures a b bytes → Adds taken failures b c [] → OnOk r (IsSent c) → x ≡ c.sink.now → OnOk r (failures x ≡ failures s.now)
+tells-quiet x (Err e) new added flushed told end = tt
+tells-quiet {X} {taken} {failures} {s} {a} {b} {c} {bytes} x (Ok y) new added flushed told end =
+    ap failures end ∙ sent-quiet new (Adds-then added flushed) told

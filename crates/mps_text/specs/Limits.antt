@@ -1,4 +1,4 @@
--- A sink with limits, as contracts see it.
+-- Sinks in memory, as contracts see them: one with limits, and one that grows.
 use Rattle.std.specs.Prelude.{ℕ, List}
 
 pub record Limited : Type 0 where
@@ -7,5 +7,13 @@ pub record Limited : Type 0 where
   -- how much it still takes, and how much of that in one put
   pub room : ℕ
   pub most : ℕ
+  -- how many puts have failed
+  pub failures : ℕ
+
+pub record Grown : Type 0 where
+  -- the bytes that it has taken
+  pub taken : List ℕ
+  -- for how many bytes, these among them, it has room without a growth
+  pub room : ℕ
   -- how many puts have failed
   pub failures : ℕ

@@ -3,12 +3,13 @@ ghost use Rattle.std.specs.Io.KnownBytes.{Appends, Keeps};
 ghost use Rattle.mps_text.specs.Sinks.{one_more};
 
 use crate::sink::{Sink, SinkFailed};
-use std::alloc::Global;
+use std::alloc::{AllocError, Global};
 use std::marker::Model;
 
 /// A sink for tests: it takes at most `most` bytes a put, and fails once it has taken `room` altogether. Contracts see what it has taken and what is left of its limits.
 #[derive(Drop)]
 pub struct LimitSink {
+    // It has room for all that the sink is to take, so that a put takes no memory.
     bytes: Vec<u8>,
     room: usize,
     most: usize,
@@ -16,28 +17,31 @@ pub struct LimitSink {
 }
 
 impl Model for LimitSink {
+    ghost use Rattle.std.specs.Prelude.{◌+◌, ◌≤◌, vec_capacity, vec_len};
     ghost use Rattle.mps_text.specs.Limits.{Limited};
     ghost use Rattle.mps_text.specs.inside.Limits.{limited};
 
     ghost Value = { Limited };
 
     ghost view = { λ s. limited s.bytes.items s.room s.most s.failures };
+
+    ghost invariant = { λ s. vec_len s.bytes + s.room ≤ vec_capacity s.bytes };
 }
 
 impl LimitSink {
     /// A sink without bytes, with room for so many, of which a put takes at most `most`.
-    pub fn new(alloc: Global, room: usize, most: usize) -> Self
-        ensures taken { ⟦<LimitSink as Sink>⟧.taken result ≡ Some [] }
-        ensures failures { ⟦<LimitSink as Sink>⟧.failures result ≡ 0 }
-        ensures room { result.room ≡ room }
-        ensures most { result.most ≡ most }
+    pub fn new(alloc: Global, room: usize, most: usize) -> Result<Self, AllocError>
+        ensures taken { IfOk result (λ sink. ⟦<LimitSink as Sink>⟧.taken sink ≡ Some []) }
+        ensures failures { IfOk result (λ sink. ⟦<LimitSink as Sink>⟧.failures sink ≡ 0) }
+        ensures room { IfOk result (λ sink. sink.room ≡ room) }
+        ensures most { IfOk result (λ sink. sink.most ≡ most) }
     {
-        LimitSink {
-            bytes: Vec::new(alloc),
+        Ok(LimitSink {
+            bytes: Vec::with_capacity(alloc, room)?,
             room,
             most,
             failures: 0,
-        }
+        })
     }
 
     /// The bytes that it has taken.
@@ -76,6 +80,7 @@ impl Sink for LimitSink {
         ensures room { IfOk result (λ n. self.new.room + n ≡ self.old.room) }
         ensures room_kept { OnErr result (self.new.room ≡ self.old.room) }
         ensures most { self.new.most ≡ self.old.most }
+        ensures limit { OnErr result ((0 < length bytes.now) × (min self.old.most self.old.room ≡ 0)) }
     {
         let count = share(bytes.len(), self.most, self.room);
         if count > 0 || bytes.is_empty() {

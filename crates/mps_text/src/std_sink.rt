@@ -1,6 +1,7 @@
-ghost use Rattle.std.specs.Prelude.{◌≡◌};
+ghost use Rattle.std.specs.Prelude.{◌≡◌, ◌⊎◌, ◌<◌, IfOk, IsErr, Ok, OnErr};
 
 use crate::sink::{Sink, SinkFailed};
+use std::io;
 use std::io::Write;
 
 /// A sink over a writer. Every error of the writer, and a write of nothing, is a failed put.
@@ -23,18 +24,27 @@ impl<W: Write + Drop> StdSink<W> {
     }
 }
 
+// What a writer's answer makes of a put of so many bytes: no error is tried again, an interrupted write neither.
+fn judged(answer: io::Result<usize>, offered: usize) -> Result<usize, SinkFailed>
+    ensures taken { IfOk result (λ n. (answer ≡ Ok n) × (0 < offered → 0 < n)) }
+    ensures failed { OnErr result (IsErr answer ⊎ ((answer ≡ Ok 0) × (0 < offered))) }
+{
+    match answer {
+        Ok(n) if n > 0 || offered == 0 => Ok(n),
+        _ => Err(SinkFailed),
+    }
+}
+
 impl<W: Write + Drop> Sink for StdSink<W> {
     ghost taken = { λ s. W.contents s.writer };
 
     ghost failures = { λ s. s.failures };
 
     fn put(&mut self, bytes: &[u8]) -> Result<usize, SinkFailed> {
-        match self.writer.write(bytes) {
-            Ok(n) if n > 0 || bytes.is_empty() => Ok(n),
-            _ => {
-                self.failures = self.failures.saturating_add(1);
-                Err(SinkFailed)
-            }
+        let put = judged(self.writer.write(bytes), bytes.len());
+        if put.is_err() {
+            self.failures = self.failures.saturating_add(1);
         }
+        put
     }
 }

@@ -1,11 +1,12 @@
 //! Laws of the definitions: what a solution comes back to, and what costs say of best allocations.
 
-ghost use Rattle.std.specs.Prelude.{ℕ, List};
+ghost use Rattle.std.specs.Prelude.{◌≡◌, ℕ, List};
 ghost use Rattle.auction_terms.specs.FirstFault.{TellsTheFirst};
 ghost use Rattle.outcome.specs.Coming.{AnswersOfSolversComeBack, PointsComeBack, SolutionsArePoints, SolutionsComeBack, SomeBidsSuffice};
 ghost use Rattle.outcome.specs.Costs.{CostsAreBounded, CostsAreOwn, CostsCoverLots};
 ghost use Rattle.outcome.specs.Solution.{solution_line_fault};
 ghost use Rattle.outcome.specs.PointAllocation.{TakesWhatIsNamed};
+ghost use Rattle.outcome.specs.declared.limits.TheConstants.{SOLUTION_LIMIT, TOLERANCE_PARTS};
 ghost use Rattle.outcome.specs.Ties.{OnlyFirstSettlesCosts, OnlyFirstTellsCosts, OthersDiffer, OthersTie, RivalsTie, TheOnlyIsGreatest};
 
 /// The lines of a solution have the fault of the first of them with a fault.
@@ -86,4 +87,10 @@ pub fn others_tie()
 /// A bid that does as well in a winner's place ties.
 pub fn a_rival_ties()
     ensures { RivalsTie }
+{}
+
+/// The limits of solutions are these numbers.
+pub fn the_limits_are_these()
+    ensures solution { SOLUTION_LIMIT ≡ 67108864 }
+    ensures tolerance { TOLERANCE_PARTS ≡ 100000 }
 {}

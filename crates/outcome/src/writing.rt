@@ -34,6 +34,7 @@ pub fn write_allocation<S: Sink>(
     ensures err { IfErr result (λ e. SentFront (S.taken sink.old) (S.taken sink.new)
         (allocation_text (sale_of book.now) allocation.now) (written_of e)) }
     ensures failed { OnErr result (HasFailed (S.failures sink.old) (S.failures sink.new)) }
+    ensures succeeded { OnOk result (S.failures sink.new ≡ S.failures sink.old) }
 {
     let mut writer = Writer::new(sink);
     add_allocation(&mut writer, book, allocation.choices());
@@ -87,6 +88,7 @@ pub fn report<S: Sink>(
     ensures err { IfErr result (λ e. SentFront (S.taken sink.old) (S.taken sink.new)
         (report_text (sale_of book.now) groups.now allocations.now) (written_of e)) }
     ensures failed { OnErr result (HasFailed (S.failures sink.old) (S.failures sink.new)) }
+    ensures succeeded { OnOk result (S.failures sink.new ≡ S.failures sink.old) }
 {
     let mut writer = Writer::new(sink);
     add_report(&mut writer, book, groups, allocations);
@@ -110,6 +112,7 @@ pub fn report_with<S: Sink>(
         (report_text (sale_of book.now) groups.now allocations.now
         ++ uniqueness_text (sale_of book.now) uniqueness.now) (written_of e)) }
     ensures failed { OnErr result (HasFailed (S.failures sink.old) (S.failures sink.new)) }
+    ensures succeeded { OnOk result (S.failures sink.new ≡ S.failures sink.old) }
 {
     let mut writer = Writer::new(sink);
     add_report_with(&mut writer, book, groups, allocations, uniqueness);

@@ -69,7 +69,7 @@ fn a_program_without_columns_is_written(rt: HostRuntime) -> Result<(), Fail> {
 fn a_sink_that_fails_holds_the_front(rt: HostRuntime) -> Result<(), Fail> {
     let rules = rules(rt.alloc())?;
     let program = build(rt.alloc(), &rules, &Kept::new(Vec::new(rt.alloc())))?;
-    let mut sink = LimitSink::new(rt.alloc(), 12, 3);
+    let mut sink = LimitSink::new(rt.alloc(), 12, 3)?;
     assert_eq!(rt;
         write_program(&program, &mut sink),
         Err(WriteFault::Sink { written: 12 })
@@ -83,7 +83,7 @@ fn a_sink_fails_after_each_number_of_bytes(rt: HostRuntime) -> Result<(), Fail> 
     let rules = rules(rt.alloc())?;
     let program = build(rt.alloc(), &rules, &Kept::new(Vec::new(rt.alloc())))?;
     for room in 0..TEXT.len() {
-        let mut sink = LimitSink::new(rt.alloc(), room, 7);
+        let mut sink = LimitSink::new(rt.alloc(), room, 7)?;
         let told = write_program(&program, &mut sink);
         assert!(rt;
             told == Err(WriteFault::Sink {
@@ -93,7 +93,7 @@ fn a_sink_fails_after_each_number_of_bytes(rt: HostRuntime) -> Result<(), Fail> 
         );
         assert_eq!(rt; sink.bytes(), &TEXT[..room]);
     }
-    let mut sink = LimitSink::new(rt.alloc(), TEXT.len(), 7);
+    let mut sink = LimitSink::new(rt.alloc(), TEXT.len(), 7)?;
     assert!(rt; write_program(&program, &mut sink).is_ok());
     assert_eq!(rt; sink.bytes(), TEXT);
     Ok(())

@@ -42,5 +42,5 @@ loop-line-preserved c =
 pub returns-clause-answer : goal.returns-clause-answer
 returns-clause-answer c small =
     let (before, so_far, count, few, groups, bidders, room, each) = c.loop-line.invariant in
-    let end = checked-all (group_line_fault c.args.rules.now.bidders) (lines_of c.args.bytes.now) before (rw c.in_default.ensures at so_far) in
+    let end = checked-all (group_line_fault c.args.rules.now.bidders) (lines_of c.args.bytes.now) before (rw c.in_default.ensures.0 at so_far) in
     rw (end.0, end.1, ← groups) (search rules)

@@ -1,7 +1,7 @@
 use Rattle.std.proofs.Common.{◌≡◌, ℕ, ◌+◌, ◌∷◌, [], ◌++◌, ◌∙◌, ap, sym, refl, map, length, arith, length-append}
 use Rattle.auction_terms.specs.Lines.{lines_of}
 use Rattle.auction_terms.proofs.LineCount.{lines-within}
-use Rattle.mps_reader.proofs.EndFacts.{passed-push, moved}
+use Rattle.mps_reader.proofs.EndFacts.{moved}
 use Rattle.std.specs.Prelude.{Ok}
 use Rattle.program_rows.specs.Lines.{line_of}
 use Rattle.program_rows.specs.Sections.{no_lines, with_line}
@@ -14,7 +14,7 @@ overflow_add-place c =
     let h = c.loop-line.invariant.1 in
     let within = lines-within c.args.text.now in
     let size = ap length h.1 ∙ length-append h.0 c.loop-line.lines in
-    let count = h.3 in
+    let count = h.2 in
     omega (arith, c.requires)
 
 pub loop-line-preserved : goal.loop-line-preserved
@@ -22,12 +22,11 @@ loop-line-preserved c =
     let h = c.loop-line.invariant.1 in
     let m = c.loop-line.invariant.2 in
     let size = length-append h.0 (c.in-Some.line.now ∷ []) in
-    let count : c.loop-line.place + 1 ≡ length (h.0 ++ c.in-Some.line.now ∷ []) = ap (λ (n : ℕ). n + 1) h.3 ∙ sym size in (
+    let count : c.loop-line.place + 1 ≡ length (h.0 ++ c.in-Some.line.now ∷ []) = ap (λ (n : ℕ). n + 1) h.2 ∙ sym size in (
       c.in-Ok.ensures.fit,
       (
         h.0 ++ c.in-Some.line.now ∷ [],
         moved (lines_of c.args.text.now) h.0 c.loop-line.lines c.next.new.self c.in-Some.line.now h.1 c.in-Some.ensures,
-        passed-push h.0 c.in-Some.line.now h.2 (record { no_end = sym c.in-Ok.ensures.end ∙ c.if-is_end.false; is_text = c.in-Ok.ensures.text }),
         count,
       ),
       (
@@ -40,7 +39,7 @@ loop-line-preserved c =
 pub loop-line-init : goal.loop-line-init
 loop-line-init c = (
   c.start-reading.ensures.fit,
-  ([], sym c.new-lines.ensures, tt, refl),
+  ([], sym c.new-lines.ensures, refl),
   (no_lines, meaning-starts c.args.text.now ∙ ap (λ ls. meaning_behind 0 no_lines (map line_of ls)) (sym c.new-lines.ensures), c.start-reading.ensures.tells),
 )
 

@@ -3,15 +3,13 @@ use Rattle.program_rows.specs.Lines.{line_of}
 use Rattle.program_rows.specs.Sections.{Sections}
 use Rattle.program_rows.specs.Meaning.{meaning, meaning_behind}
 use Rattle.mps_reader.specs.inside.Tracking.{ReadingTells}
-use Rattle.std.specs.List.{AllByRecursion}
 use Rattle.auction_terms.specs.Lines.{lines_of}
 use Rattle.mps_reader.specs.inside.Agreeing.{ReadingFits}
-use Rattle.mps_reader.specs.Ending.{IsPassed}
 use Rattle.mps_reader.proofs.reader.read_lines.Given as goal
 
--- the reading fits, the lines so far are passed, and the reading is that of them
+-- the reading fits, so many lines were read, and the reading is that of them
 abbrev pub invariant-loop-line : goal.invariant-loop-line
-invariant-loop-line l = ReadingFits l.reading × ((before : List (List ℕ)) × (lines_of l.fn.text ≡ before ++ l.lines) × AllByRecursion IsPassed before × (l.place ≡ length before))
+invariant-loop-line l = ReadingFits l.reading × ((before : List (List ℕ)) × (lines_of l.fn.text ≡ before ++ l.lines) × (l.place ≡ length before))
     × ((seen : Sections) × (meaning l.fn.text ≡ meaning_behind l.place seen (map line_of l.lines)) × ReadingTells seen l.reading)
 
 abbrev pub decreases-loop-line : goal.decreases-loop-line

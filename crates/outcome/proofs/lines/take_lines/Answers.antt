@@ -36,11 +36,11 @@ returns-in_err-take_line-clause-answer c =
 pub returns-clause-answer : goal.returns-clause-answer
 returns-clause-answer c =
     let (before, so_far, place, count, said) = c.loop-line.invariant in
-    let end = checked-all (solution_line_fault (bytes_of c.args.columns.now.names.keys)) (lines_of c.args.text.now) before (rw c.in_default.ensures at so_far) in
+    let end = checked-all (solution_line_fault (bytes_of c.args.columns.now.names.keys)) (lines_of c.args.text.now) before (rw c.in_default.ensures.0 at so_far) in
     told_fine _ _ end.0
 
 pub returns-clause-said : goal.returns-clause-said
 returns-clause-said c =
     let (before, so_far, place, count, said) = c.loop-line.invariant in
-    let end = checked-all (solution_line_fault (bytes_of c.args.columns.now.names.keys)) (lines_of c.args.text.now) before (rw c.in_default.ensures at so_far) in
+    let end = checked-all (solution_line_fault (bytes_of c.args.columns.now.names.keys)) (lines_of c.args.text.now) before (rw c.in_default.ensures.0 at so_far) in
     rw end.1 said
