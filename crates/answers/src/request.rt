@@ -40,18 +40,39 @@ fn workers_option<'a>(alloc: Global) -> Arg<'a>
         .default_value("1")
 }
 
+// What stands below the options in the help of each command.
+const TEXT_HELP: &str =
+    "Input: %rules, and a %form for each form\nOutput: the program of the empty group, in free MPS\nExample: wdp text < examples/one_form.txt > one_form.mps";
+
+const CHECK_HELP: &str =
+    "Input: the text of one program, in free MPS, without parts\nOutput: a line rows R columns C entries E\nExample: wdp text < examples/one_form.txt | wdp check";
+
+const COMPILE_HELP: &str =
+    "Input: %rules, a %form for each form, and %groups\nOutput: for each group a line * program K NAMES, and its program in free MPS\nExample: wdp compile --workers 4 < examples/worked.txt > programs.mps";
+
+const MAP_HELP: &str =
+    "Input: %rules, a %form for each form, %groups, and one %solution\nOutput: a line NAME BID AMOUNT for each winner, and a line total N\nExample: cat examples/worked.txt solution.txt | wdp map --group 1";
+
+const REPORT_HELP: &str =
+    "Input: %rules, a %form for each form, %groups, and a %solution for each group\nOutput: for each group its winners, their total, and its opportunity cost\nExample: cat examples/worked.txt solutions.txt | wdp report";
+
+const VERIFY_HELP: &str =
+    "Input: as of report, and a %certificate for each group; perhaps a %unique or a %tie\nOutput: as of report, and what is shown of other outcomes\nExample: wdp verify < examples/verified.txt";
+
 fn text_command<'a>(alloc: Global) -> Command<'a>
     ensures { app_of result ≡ new_app (codes "text") }
 {
-    Command::new(alloc, "text").about(
-        "Prints the program of the empty group, as no command does too",
-    )
+    Command::new(alloc, "text")
+        .about("Prints the program of the empty group, as no command does too")
+        .after_help(TEXT_HELP)
 }
 
 fn check_command<'a>(alloc: Global) -> Command<'a>
     ensures { app_of result ≡ new_app (codes "check") }
 {
-    Command::new(alloc, "check").about("Prints the sizes of an MPS text")
+    Command::new(alloc, "check")
+        .about("Prints the sizes of an MPS text")
+        .after_help(CHECK_HELP)
 }
 
 fn compile_command<'a>(alloc: Global) -> Result<Command<'a>, AllocError>
@@ -60,6 +81,7 @@ fn compile_command<'a>(alloc: Global) -> Result<Command<'a>, AllocError>
 {
     Command::new(alloc, "compile")
         .about("Prints the programs of all groups")
+        .after_help(COMPILE_HELP)
         .arg(workers_option(alloc))
 }
 
@@ -69,6 +91,7 @@ fn map_command<'a>(alloc: Global) -> Result<Command<'a>, AllocError>
 {
     Command::new(alloc, "map")
         .about("Prints what a solution wins")
+        .after_help(MAP_HELP)
         .arg(group_option(alloc))
 }
 
@@ -78,6 +101,7 @@ fn report_command<'a>(alloc: Global) -> Result<Command<'a>, AllocError>
 {
     Command::new(alloc, "report")
         .about("Prints what the solutions of all groups win, and the groups' opportunity costs")
+        .after_help(REPORT_HELP)
         .arg(workers_option(alloc))
 }
 
@@ -87,6 +111,7 @@ fn verify_command<'a>(alloc: Global) -> Result<Command<'a>, AllocError>
 {
     Command::new(alloc, "verify")
         .about("Prints the report of solutions that certificates show to be optimal")
+        .after_help(VERIFY_HELP)
         .arg(workers_option(alloc))
 }
 
