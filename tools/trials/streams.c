@@ -1,8 +1,10 @@
 /* Preload it (see tools/ends_test). Standard output takes at most MOST_WRITTEN bytes at a time, standard input fails
- * once READ_FAILS_AFTER bytes were read, and no thread is to be had where NO_THREADS is set. */
+ * once READ_FAILS_AFTER bytes were read, and no thread is to be had where NO_THREADS is set. Each thread start adds a byte
+ * to the file STARTS. */
 #define _GNU_SOURCE
 #include <dlfcn.h>
 #include <errno.h>
+#include <fcntl.h>
 #include <pthread.h>
 #include <stdlib.h>
 #include <unistd.h>
@@ -34,6 +36,8 @@ ssize_t read(int file, void *bytes, size_t count) {
 
 int pthread_create(pthread_t *thread, const pthread_attr_t *attributes, void *(*start)(void *), void *argument) {
     static int (*next)(pthread_t *, const pthread_attr_t *, void *(*)(void *), void *);
+    int starts = getenv("STARTS") ? open(getenv("STARTS"), O_WRONLY | O_APPEND) : -1;
+    if (starts >= 0 && (pwrite(starts, "+", 1, 0) != 1 || close(starts) != 0)) return EAGAIN;
     if (getenv("NO_THREADS")) return EAGAIN;
     if (!next) next = (int (*)(pthread_t *, const pthread_attr_t *, void *(*)(void *), void *))dlsym(RTLD_NEXT, "pthread_create");
     return next(thread, attributes, start, argument);
