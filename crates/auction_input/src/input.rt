@@ -45,7 +45,7 @@ pub fn read_input<I: Read>(alloc: Global, input: &mut Source<I>) -> Result<Vec<u
     let mut block = [0u8; BLOCK_LEN];
     while text.len() <= INPUT_LIMIT {
         let room = INPUT_LIMIT + 1 - text.len();
-        let most = if room < BLOCK_LEN { room } else { BLOCK_LEN };
+        let most = room.min(BLOCK_LEN);
         let Ok(count) = input.read(&mut block[..most]) else {
             return Err(InputFault::ReadFailed);
         };

@@ -6,7 +6,6 @@ use Rattle.auction_input.specs.declared.input.TheConstants.{INPUT_LIMIT}
 use Rattle.auction_input.proofs.ReadFacts.{Consumes-then}
 use Rattle.auction_input.proofs.RefusalFacts.{if-err-of}
 use Rattle.auction_input.proofs.input.read_input.Goals as goal
-use Rattle.auction_input.proofs.input.read_input.Goals.{then-room-lt-BLOCK_LEN, else-room-lt-BLOCK_LEN}
 
 pub returns-in_err-extend_from_slice-clause-untaken : goal.returns-in_err-extend_from_slice-clause-untaken
 returns-in_err-extend_from_slice-clause-untaken g c =
@@ -16,9 +15,6 @@ returns-in_err-extend_from_slice-clause-untaken g c =
     let left' = g.I.Read.remaining c.read.new.self.reader in
     let size = length-append text read in
     let own = c.in-Ok.ensures.bound in
-    let small : length (text ++ read) ≤ INPUT_LIMIT + 1 = elim c.if-room-lt-BLOCK_LEN.branch [
-      | then-room-lt-BLOCK_LEN w ↦ grind (arith, common_steps, size, own)
-      | else-room-lt-BLOCK_LEN w ↦ grind (arith, common_steps, size, own)
-    ] in
+    let small : length (text ++ read) ≤ INPUT_LIMIT + 1 = grind (arith, common_steps, size, own) in
     if-err-of (λ f. IsUntaken f left left' c.args.input.now.failures c.read.new.self.failures) c.from_residual.result fault.OutOfMemory c.from_residual.ensures.1
     (c.in-Ok.ensures.succeeded ∙ c.loop-block.invariant.2, (text ++ read, Consumes-then _ _ _ text read c.loop-block.invariant.1 c.in-Ok.ensures.bytes.0, small))
