@@ -25,11 +25,11 @@ use Rattle.program_rows.specs.Program.{Table}
 use Rattle.program_rows.specs.declared.fault.FaultKind.TheVariants as kind
 use Rattle.auction_input.specs.Refused.{Refuses}
 use Rattle.auction_input.specs.declared.refusal.Refusal.{Refusal}
-use Rattle.auction_input.specs.inside.InputTexts.{AreAdded, IsAnswer, IsFirstErr, form_in}
+use Rattle.auction_input.specs.inside.InputTexts.{AreAdded, IsAnswer, IsFirstErr}
 use Rattle.auction_terms.specs.Borrowed.{bytes_of}
 use Rattle.auction_terms.specs.Stages.{Answers, each_in_turn, refused_as}
 use Rattle.auction_input.specs.inside.TextsTold.{HaveMore, more_told}
-use Rattle.auction_input.specs.TextsTold.{form_told}
+use Rattle.auction_input.specs.TextsTold.{form_in, form_told}
 use Rattle.auction_input.specs.declared.refusal.Refusal.TheVariants as refusal
 use Rattle.auction_input.proofs.FaultFacts.{form-refuses, no_groups, no_rules}
 use Rattle.auction_input.proofs.StageFacts.{behind, next, stop}

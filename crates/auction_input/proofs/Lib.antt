@@ -7,6 +7,7 @@ pub mod InputTextFacts
 pub mod LimitFacts
 pub mod LotFacts
 pub mod PartFacts
+mod ReadFacts
 pub mod RecordFacts
 pub mod RefusalFacts
 pub mod StageFacts

@@ -83,7 +83,7 @@ line r = codes "wdp: " ++ (refusal_text r ++ 10 ∷ [])
 abbrev pub Puts : List ℕ → Option (List ℕ) → Option (List ℕ) → ℕ → ℕ → Type 0
 Puts bytes taken taken' failures failures' = Appends taken taken' bytes ⊎ ((n : ℕ) × SentFront taken taken' bytes n × HasFailed failures failures')
 
--- a refusal is told by its line, or by 'out of memory' where its text finds no room
+-- a refusal is told by its line, or by 'out of memory' in its place: which of them isn't said, since no contract of formatting says when a text finds no room
 abbrev pub IsTold : Refusal → Option (List ℕ) → Option (List ℕ) → ℕ → ℕ → Type 0
 IsTold r taken taken' failures failures' = Puts (line r) taken taken' failures failures' ⊎ Puts (line refusal.OutOfMemory) taken taken' failures failures'
 

@@ -13,14 +13,19 @@ use Rattle.auction_terms.specs.declared.rules_text.RulesFault.TheVariants as rul
 use Rattle.bid_forms.specs.FormText.{form_of_records}
 use Rattle.bid_forms.specs.Offers.{Offers}
 use Rattle.bid_forms.specs.declared.form_text.FormFault.TheVariants as form
+use Rattle.bid_forms.specs.declared.form_text.FormFault.{FormFault}
 
 -- the rules in the one text of them
 abbrev pub terms_told : List ℕ → Result Terms Refusal
 terms_told text = refused_as refusal.Rules (if nat_lt TEXT_LIMIT (length text) then Err rules.TooLarge else rules_of_records (records_of text))
 
+-- a form
+abbrev pub form_in : Terms → List ℕ → Result Offers FormFault
+form_in t text = if nat_lt TEXT_LIMIT (length text) then Err form.TooLarge else form_of_records t (records_of text)
+
 -- the form of this number
 abbrev pub form_told : Terms → ℕ → List ℕ → Result Offers Refusal
-form_told t number text = refused_as (refusal.Form number) (if nat_lt TEXT_LIMIT (length text) then Err form.TooLarge else form_of_records t (records_of text))
+form_told t number text = refused_as (refusal.Form number) (form_in t text)
 
 -- a command that takes no groups has no text of them, which tells none
 abbrev pub groups_told : Terms → List ℕ → Result (List (List ℕ)) Refusal

@@ -1,6 +1,6 @@
 //! Reading the input.
 
-ghost use Rattle.std.specs.Prelude.{IfErr, IfOk};
+ghost use Rattle.std.specs.Prelude.{◌≡◌, IfErr, IfOk, OnOk};
 ghost use Rattle.auction_input.specs.ReadInput.{IsUntaken, IsWhole};
 
 use crate::source::Source;
@@ -37,6 +37,7 @@ impl From<AllocError> for InputFault {
 pub fn read_input<I: Read>(alloc: Global, input: &mut Source<I>) -> Result<Vec<u8>, InputFault>
     ensures whole { IfOk result (λ text. IsWhole (I.remaining input.old.reader)
         (I.remaining input.new.reader) text.items) }
+    ensures unfailed { OnOk result (input.new.failures ≡ input.old.failures) }
     ensures untaken { IfErr result (λ f. IsUntaken f (I.remaining input.old.reader)
         (I.remaining input.new.reader) input.old.failures input.new.failures) }
 {
@@ -44,7 +45,7 @@ pub fn read_input<I: Read>(alloc: Global, input: &mut Source<I>) -> Result<Vec<u
     let mut block = [0u8; BLOCK_LEN];
     while text.len() <= INPUT_LIMIT {
         let room = INPUT_LIMIT + 1 - text.len();
-        let most = if room < BLOCK_LEN { room } else { BLOCK_LEN };
+        let most = room.min(BLOCK_LEN);
         let Ok(count) = input.read(&mut block[..most]) else {
             return Err(InputFault::ReadFailed);
         };

@@ -31,6 +31,11 @@ pub enum RoundFault {
 }
 
 impl From<AllocError> for RoundFault {
+    ghost use Rattle.std.specs.Prelude.{◌≡◌};
+    ghost use Rattle.auction_input.specs.declared.round.RoundFault.TheVariants.{OutOfMemory};
+
+    ghost from_gives = { λ _ e. e ≡ OutOfMemory };
+
     fn from(_: AllocError) -> RoundFault {
         RoundFault::OutOfMemory
     }

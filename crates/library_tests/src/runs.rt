@@ -5,6 +5,7 @@ use auction_input::{Auction, Request, Source, read_auction};
 use group_compiler::OpenGate;
 use mps_text::{LimitSink, MemorySink};
 use std::alloc::Global;
+use std::cell::Cell;
 use std::io;
 use std::io::Read;
 use std::sync::Wait;
@@ -84,6 +85,24 @@ impl Read for Endless {
     }
 }
 
+/// A reader that is interrupted at its first read, and then has nothing left. It counts how often it is asked.
+#[derive(Drop)]
+struct Interrupted<'a> {
+    asked: &'a Cell<usize>,
+}
+
+impl Read for Interrupted<'_> {
+    fn read(&mut self, _buf: &mut [u8]) -> io::Result<usize> {
+        let asked = self.asked.get();
+        self.asked.set(asked.saturating_add(1));
+        if asked == 0 {
+            Err(io::ErrorKind::Interrupted.into())
+        } else {
+            Ok(0)
+        }
+    }
+}
+
 /// Whether a run, whose output is to be `whole`, ends as it has to on a sink that takes so many bytes a put and has so
 /// much room: the output's front went out, and the line tells how many bytes of it.
 fn ends_as_told<'w, R: Threads + Wait + Sync + AllocGlobal>(
@@ -96,7 +115,7 @@ fn ends_as_told<'w, R: Threads + Wait + Sync + AllocGlobal>(
 ) -> Result<bool, Fail> {
     let alloc: Global = rt.alloc();
     let mut input = Source::new(input);
-    let mut out = LimitSink::new(alloc, room, most);
+    let mut out = LimitSink::new(alloc, room, most)?;
     let mut faults = MemorySink::new(alloc);
     let status = run(rt, words, &mut input, &mut out, &mut faults);
     if room >= whole.len() {
@@ -121,6 +140,17 @@ fn a_failing_input_is_refused_at_every_byte(rt: HostRuntime) -> Result<(), Fail>
         assert_eq!(rt; out.bytes().len(), 0);
     }
     Ok(())
+}
+
+#[test]
+fn an_interrupted_read_is_a_failed_read(rt: HostRuntime) {
+    let asked = Cell::new(0);
+    let mut input = Source::new(Interrupted { asked: &asked });
+    let mut block = [0u8; 4];
+    assert!(rt; input.read(&mut block).is_err());
+    assert_eq!(rt; asked.get(), 1);
+    assert!(rt; input.read(&mut block) == Ok(0));
+    assert_eq!(rt; asked.get(), 2);
 }
 
 #[test]
@@ -202,7 +232,7 @@ fn fault_at<R: Threads + Wait + Sync>(
     auction: &Auction<'_>,
     room: usize,
 ) -> Option<RunFault> {
-    let mut out = LimitSink::new(alloc, room, 7);
+    let mut out = LimitSink::new(alloc, room, 7).ok()?;
     let Auction { book, groups, .. } = auction;
     let ended = run_compile(rt, alloc, book, groups, 2, &OpenGate, &mut out);
     if room < TWO_PROGRAMS.len() && out.bytes() == &TWO_PROGRAMS[..room] {
@@ -265,7 +295,7 @@ fn help_goes_to_the_output(rt: HostRuntime) -> Result<(), Fail> {
 fn a_refused_line_changes_no_status(rt: HostRuntime) -> Result<(), Fail> {
     let mut input = Source::new(b"".as_slice());
     let mut out = MemorySink::new(rt.alloc());
-    let mut faults = LimitSink::new(rt.alloc(), 5, 3);
+    let mut faults = LimitSink::new(rt.alloc(), 5, 3)?;
     assert_eq!(rt; run(&rt, &["wdp"], &mut input, &mut out, &mut faults), 1);
     assert_eq!(rt; faults.bytes(), b"wdp: ".as_slice());
     assert_eq!(rt;

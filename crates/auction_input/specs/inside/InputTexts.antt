@@ -1,20 +1,14 @@
--- What the texts of the input tell, their sizes included: rules, a form, groups, and a program.
-use Rattle.std.specs.Prelude.{◌≡◌, ◌+◌, ◌++◌, ◌∷◌, ⊤, ℕ, List, Result, Ok, Err, IfOk, if◌then◌else◌, length, map, nat_lt}
+-- What is read of the texts of forms.
+use Rattle.std.specs.Prelude.{◌≡◌, ◌+◌, ◌++◌, ◌∷◌, ⊤, ℕ, List, Result, Ok, Err, IfOk, length, map}
 use Rattle.auction_input.specs.declared.refusal.Refusal.{Refusal}
 use Rattle.auction_input.specs.declared.refusal.Refusal.TheVariants as refusal
 use Rattle.auction_terms.specs.Terms.{Terms}
 use Rattle.auction_terms.specs.Stages.{Answers}
-use Rattle.bid_forms.specs.FormText.{form_of_records, is_form_memory}
-use Rattle.auction_terms.specs.Records.{records_of}
-use Rattle.bid_forms.specs.declared.form_text.FormFault.TheVariants as fault
+use Rattle.bid_forms.specs.FormText.{is_form_memory}
 use Rattle.bid_forms.specs.Offers.{Meets, Offers}
 use Rattle.bid_forms.specs.declared.form_text.FormFault.{FormFault}
 use denote.Ref.{Bor}
-use Rattle.auction_terms.specs.declared.limits.TheConstants.{TEXT_LIMIT}
-
--- a form, its size included
-abbrev pub form_in : Terms → List ℕ → Result Offers FormFault
-form_in t text = if nat_lt TEXT_LIMIT (length text) then Err fault.TooLarge else form_of_records t (records_of text)
+use Rattle.auction_input.specs.TextsTold.{form_in}
 
 -- this is what a text tells, or memory was short
 pub record IsAnswer (t : Terms) (text : Bor (List ℕ)) (answer : Result Offers FormFault) : Type 0 where
