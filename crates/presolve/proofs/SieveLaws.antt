@@ -1,19 +1,21 @@
 -- Laws of the sieve: its levels mark every rival that beats the bid.
-use Rattle.std.proofs.Common.{◌≡◌, ◌≢◌, ⊎_elim, ◌+◌, ◌-◌, ◌/◌, ◌%◌, ◌<◌, ◌≤◌, ◌^◌, ℕ, ◌&&◌, Bool, true, false, nat_lt, List, length, map, slice_index, slice_index_or, slice_set, arith, sym, ap, ◌∙◌, subst}
-use Rattle.std.specs.Prelude.{All, AllPairs, int_le}
+use Rattle.std.proofs.Common.{◌≡◌, ◌≢◌, ⊎_elim, ◌+◌, ◌-◌, ◌/◌, ◌%◌, ◌<◌, ◌≤◌, ℕ, ◌&&◌, Bool, true, false, nat_lt, List, [], ◌∷◌, ◌++◌, length, map, slice_index, slice_index_or, slice_set, arith, sym, ap, ◌∙◌, subst}
+use Rattle.std.specs.Prelude.{All, AllPairs, int_le, min}
+use Rattle.std.specs.List.Sorted.{IsNonDecreasing}
 use Rattle.std.specs.Int.{bit_at}
 use Rattle.std.proofs.Math.Nat.{div-mul-le_self}
 use Rattle.std.proofs.lemmas.Bool.{and_parts, cases_eq, cases_lt, false≢true, le-ltb}
-use Rattle.std.proofs.lemmas.Nat.{le-div, pow_pos}
+use Rattle.std.proofs.lemmas.Nat.{le-div}
 use Rattle.std.proofs.lemmas.Nat.Bits.{bit_at-zero}
 use Rattle.std.proofs.lemmas.List.{get_or-map, get_or-set_other, get_or-set_same, get_or_default, get_or_past, length-map}
+use Rattle.std.proofs.lemmas.List.Elements.{All-push}
+use Rattle.std.proofs.lemmas.List.Sorted.{IsNonDecreasingBy-push}
 use Rattle.auction_terms.specs.Packages.{is_within}
 use Rattle.auction_terms.proofs.PackageLaws.{within_at}
 use Rattle.presolve.specs.declared.order.SizedBid.{SizedBid}
 use Rattle.presolve.specs.declared.sieve.Level.{Level}
-use Rattle.presolve.specs.declared.sieve.Scale.{Scale}
 use Rattle.presolve.specs.declared.sieve.Sieve.{Sieve}
-use Rattle.presolve.specs.inside.Sieves.{AreRanked, AreSieved, IsMarked, IsSieve, rank_in}
+use Rattle.presolve.specs.inside.Sieves.{AreLower, AreRanked, AreSieved, IsMarked, IsSieve}
 use Rattle.presolve.specs.inside.Sizes.{beats}
 
 -- what holds of each word before a place, and of the one that is set there
@@ -46,24 +48,57 @@ still_on levels r d new within more s i marked =
     (λ (apart : s ≢ r). subst (λ (l : Level). IsMarked l.words.items i) (sym (get_or-set_other levels r s new d apart)) marked)
     (cases_eq s r)
 
--- a greater number has no lower rank
-rank_rises : (scale : Scale) (a b : ℕ) → a ≤ b → rank_in scale a ≤ rank_in scale b
-rank_rises scale a b less =
-    let step = 2 ^ scale.shift in
-    let up : a - scale.low ≤ b - scale.low = omega arith in
-    let within = div-mul-le_self (a - scale.low) step in
-    let steps = le-div ((a - scale.low) / step) (b - scale.low) step (pow_pos scale.shift) (omega arith) in
-    omega arith
-
-pub are_ranked : (scale : Scale) (numbers ranks : List ℕ) → ranks ≡ map (rank_in scale) numbers → AreRanked numbers ranks
-are_ranked scale numbers ranks same = record {
-  count = ap (λ (xs : List ℕ). length xs) same ∙ length-map numbers (rank_in scale);
+-- a rank of a rank is one of the number
+pub ranked_again : (numbers places ranks : List ℕ) → AreRanked numbers places → AreRanked places ranks → AreRanked numbers ranks
+ranked_again numbers places ranks first second = record {
+  count = second.count ∙ first.count;
   rising = λ i k within inside less.
-      let first : slice_index ranks i ≡ rank_in scale (slice_index numbers i) = ap (λ (xs : List ℕ). slice_index xs i) same ∙ get_or-map (rank_in scale) numbers i 0 0 within in
-      let second : slice_index ranks k ≡ rank_in scale (slice_index numbers k) = ap (λ (xs : List ℕ). slice_index xs k) same ∙ get_or-map (rank_in scale) numbers k 0 0 inside in
-      let up = rank_rises scale (slice_index numbers i) (slice_index numbers k) less in
+      let count = first.count in
+      second.rising i k (omega arith) (omega arith) (first.rising i k within inside less);
+}
+
+-- ranks that rise from number to number
+pub ranked_by : (numbers ranks by : List ℕ) → length ranks ≡ length numbers → ((k : ℕ) → k < length numbers → slice_index ranks k ≡ slice_index by (slice_index numbers k)) → All (λ n. n < length by) numbers → IsNonDecreasing by → AreRanked numbers ranks
+ranked_by numbers ranks by count own within rising = record {
+  count = count;
+  rising = λ i k inside more less.
+      let first = own i inside in
+      let second = own k more in
+      let up = rising (slice_index numbers i) (slice_index numbers k) 0 less (within k 0 more) in
       rw (first, second) up;
 }
+
+-- no fewer are lower than a greater number
+pub lower_rises : (sorted : List ℕ) (a b m n : ℕ) → a ≤ b → AreLower sorted a m → AreLower sorted b n → m ≤ n
+lower_rises sorted a b m n less first second =
+    ⊎_elim
+    (λ (fewer : n < m).
+    let low = first.lower n fewer in
+    let within = first.within in
+    let high = second.others n (omega arith) (omega arith) in
+    absurd (omega arith))
+    (λ (up : m ≤ n). up)
+    (cases_lt n m)
+
+-- places that tell how many are lower
+pub places_ranked : (sorted numbers places : List ℕ) → length places ≡ length numbers → ((k : ℕ) → k < length numbers → AreLower sorted (slice_index numbers k) (slice_index places k)) → AreRanked numbers places
+places_ranked sorted numbers places count lower = record {
+  count = count;
+  rising = λ i k within inside less. lower_rises sorted (slice_index numbers i) (slice_index numbers k) (slice_index places i) (slice_index places k) less (lower i within) (lower k inside);
+}
+
+-- the next rank of a list that rises, by so many as are counted from a number on
+pub next_rank : (ranks : List ℕ) (step low middle high : ℕ) → 1 ≤ step → low ≤ middle → middle ≤ high → IsNonDecreasing ranks → All (λ r. r ≤ min (low / step) 31) ranks
+    → IsNonDecreasing (ranks ++ min (middle / step) 31 ∷ []) × All (λ r. r ≤ min (high / step) 31) (ranks ++ min (middle / step) 31 ∷ [])
+next_rank ranks step low middle high some up more rising below =
+    let first : low / step ≤ middle / step = rises low middle up in
+    let second : middle / step ≤ high / step = rises middle high more in (
+      IsNonDecreasingBy-push (λ (r : ℕ). r) ranks (min (middle / step) 31) rising (λ d inside. let b = below (length ranks - 1) d (omega arith) in omega arith),
+      All-push (λ r. r ≤ min (high / step) 31) ranks (min (middle / step) 31) (λ k d inside. (let b = below k d inside in omega arith)) (omega arith),
+    )
+  where
+    rises : (a b : ℕ) → a ≤ b → a / step ≤ b / step
+    rises a b less = let within = div-mul-le_self a step in le-div (a / step) b step some (omega arith)
 
 -- a rival that beats a bid has at most its quantity of a category
 pub fewer_at : (place : ℕ) (x s : SizedBid) → beats x s ≡ true → slice_index s.bid.now.package place ≤ slice_index x.bid.now.package place

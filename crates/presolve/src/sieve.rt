@@ -14,37 +14,30 @@
 //!
 //! What to mind when changing it: the levels only have to be sound, that is, to have the bit of every rival that dominates
 //! the bid (`Sifts`). One that has too many bits costs time and changes no answer, since each candidate is compared. So the
-//! scale by which numbers become ranks, which comes from a sample of them, may be any that rises, a sieve may be left out,
-//! and the order of the sieves doesn't matter. A scale that doesn't rise isn't sound, nor is a bit that is left out.
+//! ranks, which come from counts of all numbers, may be any that rise with them, a sieve may be left out, and the order of
+//! the sieves doesn't matter. Ranks that don't rise aren't sound, nor is a bit that is left out.
 
-ghost use Rattle.std.specs.Prelude.{◌≡◌, ◌+◌, ◌/◌, ◌<◌, ◌≤◌, ℕ, List, true, false, slice_index, slice_index_or, All, length, map, IfOk, IsTrue};
+ghost use Rattle.std.specs.Prelude.{◌≡◌, ◌+◌, ◌/◌, ◌^◌, ◌<◌, ◌≤◌, ℕ, List, true, false, nat_lt, slice_index, slice_index_or, All, length, map, IfOk, IsTrue};
 ghost use Rattle.std.specs.Int.{bit_at, div_ceil};
 ghost use Rattle.std.specs.List.{list_any};
+ghost use Rattle.std.specs.List.Sorted.{IsNonDecreasing};
 ghost use Rattle.auction_terms.specs.declared.limits.TheConstants.{MOST_BIDS, MOST_CATEGORIES};
 ghost use Rattle.presolve.specs.declared.order.SizedBid.{SizedBid};
-ghost use Rattle.presolve.specs.inside.Sieves.{AreLevels, AreRanked, AreSieved, HasPlace, IsMarked, IsSieve, Sifts, rank_in, shortfall};
+ghost use Rattle.presolve.specs.inside.Sieves.{AreLevels, AreLower, AreRanked, AreSieved, HasPlace, IsMarked, IsSieve, Sifts, shortfall};
 ghost use Rattle.presolve.specs.inside.Sizes.{AreRivals, beats};
 
 use crate::order::SizedBid;
-use arrayvec::ArrayVec;
 use auction_terms::MOST_BIDS;
 use std::alloc::{AllocError, Global};
 
-/// How many numbers the scale of a sieve is taken from.
-const SAMPLE: usize = 31;
-
 /// How many ranks there are at most.
-const RANKS: u64 = 32;
+const RANKS: u32 = 32;
+
+/// Of numbers up to so many times as many as there are of them each value is counted.
+const SPREAD: u64 = 16;
 
 /// The most words that hold a bit for each rival.
 const MOST_WORDS: usize = MOST_BIDS / 64 + 1;
-
-/// How numbers become ranks: by steps of 2 to the power of the shift above the low number.
-#[derive(Drop)]
-pub(crate) struct Scale {
-    pub(crate) low: u64,
-    pub(crate) shift: u32,
-}
 
 /// The bitset of the rivals of one rank or a lower one.
 #[derive(Drop)]
@@ -59,52 +52,104 @@ pub(crate) struct Sieve {
     pub(crate) levels: Vec<Level>,
 }
 
-// A sample of the numbers, by rising number.
-fn sample_of(numbers: &[u64]) -> ArrayVec<u64, SAMPLE> {
-    let apart = numbers.len() / SAMPLE + 1;
-    let mut sample = ArrayVec::new();
-    for taken in 0..SAMPLE {
-        if let Some(number) = numbers.get(taken * apart) {
-            sample.push(*number);
-        }
-    }
-    sample.sort_unstable();
-    sample
+// How many of the sorted numbers are lower.
+fn count_lower(sorted: &[u64], number: u64) -> usize
+    requires { IsNonDecreasing sorted.now }
+    ensures { AreLower sorted.now number result }
+{
+    sorted.partition_point(
+        |other: &u64| -> bool
+            ensures { result ≡ nat_lt other.now number }
+        { *other < number },
+    )
 }
 
-// A scale that tells the numbers between the second and the last but one of a sample apart, so that a few numbers far from
-// the others don't take the ranks of all.
-fn scale_of(numbers: &[u64]) -> Scale
-    ensures { result.shift < 64 }
+// How many of the numbers are lower than each.
+fn places_of(alloc: Global, numbers: &[u64]) -> Result<Vec<u64>, AllocError>
+    ensures ranked { IfOk result (λ places. AreRanked numbers.now places.items) }
+    ensures within { IfOk result (λ places. All (λ place. place ≤ length numbers.now)
+        places.items) }
 {
-    let sample = sample_of(numbers);
-    let second = sample.get(1).copied().unwrap_or(0);
-    let last = sample.get(sample.len().saturating_sub(2)).copied();
-    let low = second.saturating_sub(1);
-    let step = last.unwrap_or(0).saturating_sub(low) / (RANKS - 1);
-    Scale {
-        low,
-        shift: (u64::BITS - step.leading_zeros()).min(63),
-    }
-}
-
-fn rank_in(scale: &Scale, number: u64) -> u8
-    requires { scale.now.shift < 64 }
-    ensures { result ≡ rank_in scale.now number }
-{
-    (number.saturating_sub(scale.low) >> scale.shift).min(RANKS - 1) as u8
-}
-
-// The rank of each number.
-fn ranks_of(alloc: Global, numbers: &[u64]) -> Result<Vec<u8>, AllocError>
-    ensures { IfOk result (λ ranks. AreRanked numbers.now ranks.items) }
-{
-    let scale = scale_of(numbers);
-    let mut ranks = Vec::with_capacity(alloc, numbers.len())?;
+    let mut sorted = numbers.to_vec(alloc)?;
+    sorted.sort_unstable();
+    let mut places = Vec::with_capacity(alloc, numbers.len())?;
     for number in numbers {
-        ranks.push(rank_in(&scale, *number))?;
+        places.push(count_lower(&sorted, *number) as u64)?;
+    }
+    Ok(places)
+}
+
+// How often each number up to the greatest is there.
+fn counts_of(alloc: Global, numbers: &[u64], greatest: u64) -> Result<Vec<u32>, AllocError>
+    requires few { length numbers.now ≤ MOST_BIDS }
+    requires small { greatest < 2 ^ 32 }
+    requires within { All (λ number. number ≤ greatest) numbers.now }
+    ensures { IfOk result (λ counts. length counts.items ≡ greatest + 1) }
+{
+    let mut counts = vec![in alloc; 0; greatest as usize + 1]?;
+    for number in numbers {
+        counts[*number as usize] += 1;
+    }
+    Ok(counts)
+}
+
+// The rank of each number that is counted: how many are lower and how many are at most as great, together, in steps. So a
+// number that many are equal to shares its rank with none, and others share theirs with less than a step.
+fn ranks_by_counts(alloc: Global, counts: &[u32], step: u32) -> Result<Vec<u8>, AllocError>
+    requires { 1 ≤ step }
+    ensures count { IfOk result (λ ranks. length ranks.items ≡ length counts.now) }
+    ensures rising { IfOk result (λ ranks. IsNonDecreasing ranks.items) }
+{
+    let mut ranks = Vec::with_capacity(alloc, counts.len())?;
+    let mut lower_twice: u32 = 0;
+    for count in counts {
+        let middle = lower_twice.saturating_add(*count);
+        ranks.push((middle / step).min(RANKS - 1) as u8)?;
+        lower_twice = middle.saturating_add(*count);
     }
     Ok(ranks)
+}
+
+// The rank of each number, none of which is above the greatest.
+fn ranks_up_to(alloc: Global, numbers: &[u64], greatest: u64) -> Result<Vec<u8>, AllocError>
+    requires few { length numbers.now ≤ MOST_BIDS }
+    requires small { greatest < 2 ^ 32 }
+    requires within { All (λ number. number ≤ greatest) numbers.now }
+    ensures { IfOk result (λ ranks. AreRanked numbers.now ranks.items) }
+{
+    let step = (2 * numbers.len() as u32).div_ceil(RANKS).max(1);
+    let counts = counts_of(alloc, numbers, greatest)?;
+    let by_number = ranks_by_counts(alloc, &counts, step)?;
+    let mut ranks = vec![in alloc; 0; numbers.len()]?;
+    for place in 0..numbers.len() {
+        ranks[place] = by_number[numbers[place] as usize];
+    }
+    Ok(ranks)
+}
+
+// The greatest of the numbers.
+fn greatest_of(numbers: &[u64]) -> u64
+    ensures { All (λ number. number ≤ result) numbers.now }
+{
+    let mut greatest = 0;
+    for number in numbers {
+        greatest = greatest.max(*number);
+    }
+    greatest
+}
+
+// The rank of each number. Numbers that are great beside how many there are, as nets, are ranked by their places.
+fn ranks_of(alloc: Global, numbers: &[u64]) -> Result<Vec<u8>, AllocError>
+    requires { length numbers.now ≤ MOST_BIDS }
+    ensures { IfOk result (λ ranks. AreRanked numbers.now ranks.items) }
+{
+    let count = numbers.len() as u64;
+    let greatest = greatest_of(numbers);
+    if greatest <= SPREAD * count {
+        return ranks_up_to(alloc, numbers, greatest);
+    }
+    let places = places_of(alloc, numbers)?;
+    ranks_up_to(alloc, &places, count)
 }
 
 // The greatest of the ranks.
@@ -173,6 +218,7 @@ fn add_lower(level: &mut Level, so_far: &mut Level)
 
 // The sieve of these numbers. To each level those below it are added.
 fn sieve_of(alloc: Global, numbers: &[u64]) -> Result<Sieve, AllocError>
+    requires { length numbers.now ≤ MOST_BIDS }
     ensures { IfOk result (λ sieve. AreSieved numbers.now sieve) }
 {
     let ranks = ranks_of(alloc, numbers)?;
@@ -195,9 +241,10 @@ fn quantities_at(
     ensures { IfOk result (λ numbers. numbers.items
         ≡ map (λ s. slice_index s.bid.now.package place) rivals.now) }
 {
-    let mut numbers = Vec::with_capacity(alloc, rivals.len())?;
-    for rival in rivals {
-        numbers.push(u64::from(rival.bid.package.quantities()[place]))?;
+    let mut numbers = vec![in alloc; 0; rivals.len()]?;
+    for rival in 0..rivals.len() {
+        let bid = rivals[rival].bid;
+        numbers[rival] = u64::from(bid.package.quantities()[place]);
     }
     Ok(numbers)
 }
@@ -228,6 +275,7 @@ pub(crate) fn sieves(
 ) -> Result<Vec<Sieve>, AllocError>
     requires sized { All (λ s. length s.bid.now.package ≡ categories) rivals.now }
     requires few { categories ≤ MOST_CATEGORIES }
+    requires many { length rivals.now ≤ MOST_BIDS }
     ensures each { IfOk result (λ sieves. All (IsSieve rivals.now) sieves.items) }
     ensures count { IfOk result (λ sieves. length sieves.items ≡ categories + 1) }
 {

@@ -1,9 +1,8 @@
 -- The sieve of a form's rivals: for each number that a rival has, bitsets of those that have at most so much.
-use Rattle.std.specs.Prelude.{◌≡◌, ◌-◌, ◌/◌, ◌%◌, ◌^◌, ◌<◌, ◌≤◌, ℕ, ℤ, true, List, length, min, slice_index, slice_index_or, All}
+use Rattle.std.specs.Prelude.{◌≡◌, ◌-◌, ◌/◌, ◌%◌, ◌^◌, ◌<◌, ◌≤◌, ℕ, ℤ, true, List, length, slice_index, slice_index_or, All}
 use Rattle.std.specs.Int.{bit_at, div_ceil, saturate_unsigned, w64}
 use Rattle.presolve.specs.declared.order.SizedBid.{SizedBid}
 use Rattle.presolve.specs.declared.sieve.Level.{Level}
-use Rattle.presolve.specs.declared.sieve.Scale.{Scale}
 use Rattle.presolve.specs.declared.sieve.Sieve.{Sieve}
 use Rattle.presolve.specs.inside.Sizes.{beats}
 
@@ -15,9 +14,11 @@ IsMarked words i = bit_at (slice_index words (i / 64)) (i % 64) ≡ 1
 abbrev pub shortfall : ℤ → ℕ
 shortfall net = 2 ^ 64 - 1 - saturate_unsigned w64 net
 
--- how many steps of the scale a number stands above its low number, 31 at most
-abbrev pub rank_in : Scale → ℕ → ℕ
-rank_in scale number = min ((number - scale.low) / 2 ^ scale.shift) 31
+-- so many of the sorted numbers are lower than a number, and no others
+pub record AreLower (sorted : List ℕ) (number count : ℕ) : Type 0 where
+  pub within : count ≤ length sorted
+  pub lower : (k : ℕ) → k < count → slice_index sorted k < number
+  pub others : (k : ℕ) → count ≤ k → k < length sorted → number ≤ slice_index sorted k
 
 -- a rank for each number, not lower for a greater one
 pub record AreRanked (numbers ranks : List ℕ) : Type 0 where

@@ -17,6 +17,12 @@ sieves-requires-clause-sized c =
     let rivals = are_rivals (lots_in c.args.rules.now) (length c.args.rules.now.categories) c.args.bids.now c.in_ok-rivals.rivals.items c.requires.sized c.in_ok-rivals.ensures in
     rw (c.deref.ensures.value, c.categories.ensures.value) rivals.sized
 
+pub sieves-requires-clause-many : goal.sieves-requires-clause-many
+sieves-requires-clause-many c =
+    let few = no_more_fit (lots_in c.args.rules.now) c.args.bids.now c.in_ok-rivals.rivals.items c.in_ok-rivals.ensures in
+    let many = c.requires.few in
+    rw c.deref.ensures.value (omega arith)
+
 pub is_kept_beside-requires-clause-rivals : goal.is_kept_beside-requires-clause-rivals
 is_kept_beside-requires-clause-rivals c =
     let n = length c.args.rules.now.categories in
