@@ -1,10 +1,10 @@
 -- What certificates come to, one after the other.
-use Rattle.std.proofs.Common.{◌≡◌, ◌≢◌, ◌<◌, ◌+◌, ◌++◌, ◌∷◌, ◌∙◌, [], ℕ, zero, suc, true, false, List, Option, Some, Result, Ok, Err, ap, arith, length, map, refl, replicate, subst, sym, take, inl, inr}
+use Rattle.std.proofs.Common.{◌≡◌, ◌≢◌, ◌<◌, ◌≤◌, ◌+◌, ◌∷◌, ◌∙◌, [], ⊎_elim, ℕ, zero, suc, true, false, List, Option, Some, Result, Ok, Err, ap, arith, length, map, refl, replicate, slice_index_or, subst, sym, take, inl, inr}
 use Rattle.std.specs.Prelude.{◌==◌, ◌⊎◌, IfErr, OnOk, ℤ}
 use Rattle.std.specs.List.{AllZip}
 use Rattle.std.specs.Option.{option_map}
-use Rattle.std.proofs.lemmas.Bool.{eq-eqb, ne_eqb}
-use Rattle.std.proofs.lemmas.List.{length-map}
+use Rattle.std.proofs.lemmas.Bool.{cases_lt, eq-eqb, ne_eqb}
+use Rattle.std.proofs.lemmas.List.{get_or_default, length-map}
 use denote.Ref.{Bor}
 use Rattle.auction_terms.specs.declared.choices.Choice.{Choice}
 use Rattle.bid_desk.specs.Closing.{Closing}
@@ -20,7 +20,7 @@ use Rattle.auction_input.specs.Refused.{Refuses}
 use Rattle.auction_input.specs.declared.refusal.Refusal.{Refusal}
 use Rattle.auction_input.specs.Settled.{held}
 use Rattle.answers.specs.Exact.{IsTooWide}
-use Rattle.answers.specs.inside.Judging.{AllShown, IsFirstFaulty, IsJudged, bounds_by, bound_held}
+use Rattle.answers.specs.inside.Judging.{AllShown, AreFine, IsFirstFaulty, IsJudged, IsJudgedIfBegun, bounds_by, bound_held}
 use Rattle.auction_terms.specs.Borrowed.{bytes_of}
 use Rattle.auction_terms.specs.Stages.{and_then, each_in_turn, unless}
 use Rattle.auction_input.specs.declared.auction.Auction as declared
@@ -42,13 +42,14 @@ ok = Ok tt
 shown-ok : (book : Closing) (n : ℕ) (b : code.ClaimedBound) → IsJudged book b ok → shown n (bound_held book b) ≡ Ok tt
 shown-ok book n b judged = ap (λ (f : Option (ℕ × FaultKind)). unless (option_map (λ (f : ℕ × FaultKind). refusal.Certificate n (record { line = f.0; kind = f.1 })) f) (Ok tt)) judged.is
 
+-- where the certificates behind the first are fine too
+fine-behind : (book : Closing) (b : code.ClaimedBound) (bounds : List code.ClaimedBound) (count : ℕ) → AreFine book (b ∷ bounds) (suc count) → AreFine book bounds count
+fine-behind book b bounds count fine = λ k d small. fine (suc k) d (omega arith)
+
 -- as many as there are
-pub all-shown : (book : Closing) (n : ℕ) (bounds : List code.ClaimedBound) (count : ℕ) → AllZip (IsJudged book) bounds (replicate count ok)
-    → each_in_turn shown n (map (bound_held book) bounds) ≡ Ok (replicate count tt)
-all-shown book n [] zero each = refl
-all-shown book n [] (suc count) each = absurd each
-all-shown book n (b ∷ bounds) zero each = absurd each
-all-shown book n (b ∷ bounds) (suc count) each = rw (shown-ok book n b each.0, all-shown book (n + 1) bounds count each.1) refl
+pub all-shown : (book : Closing) (n : ℕ) (bounds : List code.ClaimedBound) → AreFine book bounds (length bounds) → each_in_turn shown n (map (bound_held book) bounds) ≡ Ok (replicate (length bounds) tt)
+all-shown book n [] fine = refl
+all-shown book n (b ∷ bounds) fine = rw (shown-ok book n b (fine 0 b (omega arith)), all-shown book (n + 1) bounds (fine-behind book b bounds (length bounds) fine)) refl
 
 -- how a list of bounds ends at the first fault, which has number m
 data Stops (n : ℕ) (bounds : List Bound) (before : ℕ) (f : CertificateFault) : Type 0 where
@@ -72,11 +73,12 @@ later-stops book n b bounds before f first (by_fault told) =
     let count : n + 1 + before ≡ n + suc before = omega arith in
     by_fault (rw (shown-ok book n b first, told, count) refl)
 
-stops : (book : Closing) (n : ℕ) (bounds : List code.ClaimedBound) (before : ℕ) (f : CertificateFault) (after : List Verdict) → AllZip (IsJudged book) bounds (replicate before ok ++ Err f ∷ after) → Stops n (map (bound_held book) bounds) before f
-stops book n [] zero f after each = absurd each
-stops book n [] (suc before) f after each = absurd each
-stops book n (b ∷ bounds) zero f after each = first-stops book n b (map (bound_held book) bounds) f each.0.is
-stops book n (b ∷ bounds) (suc before) f after each = later-stops book n b (map (bound_held book) bounds) before f each.0 (stops book (n + 1) bounds before f after each.1)
+stops : (book : Closing) (n : ℕ) (bounds : List code.ClaimedBound) (before : ℕ) (f : CertificateFault) → before < length bounds → AreFine book bounds before → ((d : code.ClaimedBound) → IsJudged book (slice_index_or bounds before d) (Err f))
+    → Stops n (map (bound_held book) bounds) before f
+stops book n [] before f within fine faulty = absurd (omega arith)
+stops book n (b ∷ bounds) zero f within fine faulty = first-stops book n b (map (bound_held book) bounds) f (faulty b).is
+stops book n (b ∷ bounds) (suc before) f within fine faulty =
+    later-stops book n b (map (bound_held book) bounds) before f (fine 0 b (omega arith)) (stops book (n + 1) bounds before f (omega arith) (fine-behind book b bounds before fine) faulty)
 
 abbrev pub EndsChecks : List Bound → Refusal → Type 0
 EndsChecks bounds r = Refuses (each_in_turn shown 1 bounds) r ⊎ IsTooWide bounds r
@@ -88,21 +90,45 @@ refusal-at bounds before line k (by_fault told) =
     let count : 1 + before ≡ before + 1 = omega arith in
     inl (inl (rw count at told))
 
--- the first fault among verdicts ends the checks
-pub ends-checks : (book : Closing) (bounds : List code.ClaimedBound) (verdicts : List Verdict) (r : Refusal) → AllZip (IsJudged book) bounds verdicts → IsFirstFaulty verdicts r → EndsChecks (map (bound_held book) bounds) r
-ends-checks book bounds verdicts (refusal.Certificate n f) each (before, after, are, number) =
-    let stopped = stops book 1 bounds before f after (rw are at each) in
+-- the first fault ends the checks
+pub ends-checks : (book : Closing) (bounds : List code.ClaimedBound) (r : Refusal) → IsFirstFaulty book bounds r → EndsChecks (map (bound_held book) bounds) r
+ends-checks book bounds (refusal.Certificate n f) (before, within, fine, faulty, number) =
+    let stopped = stops book 1 bounds before f within fine faulty in
     subst (λ (m : ℕ). EndsChecks (map (bound_held book) bounds) (refusal.Certificate m f)) (sym number) (refusal-at (map (bound_held book) bounds) before f.line f.kind stopped)
-ends-checks book bounds verdicts r each is = absurd is
+ends-checks book bounds r is = absurd is
 
--- where no verdict is a fault, all certificates show what they are to
-pub all-checked : (book : Closing) (bounds : List code.ClaimedBound) (verdicts : List Verdict) (r : Result (Unit {0}) Refusal) → AllZip (IsJudged book) bounds verdicts → OnOk r (verdicts ≡ replicate (length verdicts) ok) → OnOk r (AllShown (map (bound_held book) bounds))
-all-checked book bounds verdicts (Ok u) each none = (replicate (length verdicts) tt, all-shown book 1 bounds (length verdicts) (subst (λ (vs : List Verdict). AllZip (IsJudged book) bounds vs) none each))
-all-checked book bounds verdicts (Err r) each none = tt
+-- where no certificate has a fault, all show what they are to
+pub all-checked : (book : Closing) (bounds : List code.ClaimedBound) (r : Result (Unit {0}) Refusal) → OnOk r (AreFine book bounds (length bounds)) → OnOk r (AllShown (map (bound_held book) bounds))
+all-checked book bounds (Ok u) fine = (replicate (length bounds) tt, all-shown book 1 bounds fine)
+all-checked book bounds (Err r) fine = tt
 
-pub checks-ended : (book : Closing) (bounds : List code.ClaimedBound) (verdicts : List Verdict) (r : Result (Unit {0}) Refusal) → AllZip (IsJudged book) bounds verdicts → IfErr r (IsFirstFaulty verdicts) → IfErr r (EndsChecks (map (bound_held book) bounds))
-checks-ended book bounds verdicts (Ok u) each first = tt
-checks-ended book bounds verdicts (Err r) each first = ends-checks book bounds verdicts r each first
+pub checks-ended : (book : Closing) (bounds : List code.ClaimedBound) (r : Result (Unit {0}) Refusal) → IfErr r (IsFirstFaulty book bounds) → IfErr r (EndsChecks (map (bound_held book) bounds))
+checks-ended book bounds (Ok u) first = tt
+checks-ended book bounds (Err r) first = ends-checks book bounds r first
+
+-- a verdict at its place
+pub verdict-at : (book : Closing) (bounds : List code.ClaimedBound) (verdicts : List (Option Verdict)) (k : ℕ) (b : code.ClaimedBound) (v : Option Verdict) → AllZip (IsJudgedIfBegun book) bounds verdicts → k < length bounds
+    → IsJudgedIfBegun book (slice_index_or bounds k b) (slice_index_or verdicts k v)
+verdict-at book [] verdicts k b v each within = absurd (omega arith)
+verdict-at book (x ∷ bounds) [] k b v each within = absurd each
+verdict-at book (x ∷ bounds) (y ∷ verdicts) zero b v each within = each.0
+verdict-at book (x ∷ bounds) (y ∷ verdicts) (suc k) b v each within = verdict-at book bounds verdicts k b v each.1 (omega arith)
+
+-- as many places as there are certificates
+pub as-long : (book : Closing) (bounds : List code.ClaimedBound) (verdicts : List (Option Verdict)) → AllZip (IsJudgedIfBegun book) bounds verdicts → length verdicts ≡ length bounds
+as-long book [] [] each = refl
+as-long book [] (y ∷ verdicts) each = absurd each
+as-long book (x ∷ bounds) [] each = absurd each
+as-long book (x ∷ bounds) (y ∷ verdicts) each = ap suc (as-long book bounds verdicts each.1)
+
+-- one more certificate without a fault
+pub fine-more : (book : Closing) (bounds : List code.ClaimedBound) (count : ℕ) (b : code.ClaimedBound) → count < length bounds → b ≡ slice_index_or bounds count b → AreFine book bounds count → IsJudged book b ok → AreFine book bounds (count + 1)
+fine-more book bounds count b within is fine own = λ k d small. ⊎_elim
+    (λ (before : k < count). fine k d before)
+    (λ (here : count ≤ k).
+    let at : count ≡ k = omega arith in
+    subst (λ (n : ℕ). IsJudged book (slice_index_or bounds n d) ok) at (subst (λ (x : code.ClaimedBound). IsJudged book x ok) (is ∙ get_or_default bounds count b d within) own))
+    (cases_lt k count)
 
 -- ---- the certificates of an auction
 

@@ -1,93 +1,82 @@
 -- What the solutions of all groups win, one by one and in turn.
-use Rattle.std.proofs.Common.{◌≡◌, ◌+◌, ◌++◌, ◌∷◌, ◌∙◌, ℕ, zero, suc, List, [], Result, Ok, Err, ap, ap₂, arith, inl, inr, length, map, refl, slice_index_or, subst, sym}
-use Rattle.std.specs.Prelude.{⊤, ◌<◌, ◌-◌, IfErr, IfOk}
+use Rattle.std.proofs.Common.{◌≡◌, ◌<◌, ◌≤◌, ◌+◌, ◌++◌, ◌∷◌, ◌∙◌, ℕ, zero, suc, List, [], None, Option, Some, Result, Ok, ap, ap₂, arith, drop, length, length-append, refl, slice_index_or, subst, sym}
+use Rattle.std.specs.Prelude.{◌-◌, IfErr, IfOk, IfSome}
 use denote.Ref.{Bor}
 use Rattle.std.specs.List.{AllZip, range_with_len, zip}
-use Rattle.std.proofs.lemmas.List.{length-map}
-use Rattle.std.proofs.lemmas.Slice.Zip.{AllZip-long}
+use Rattle.std.proofs.lemmas.List.{drop_all, drop_more}
+use Rattle.std.proofs.lemmas.Slice.Zip.{get_or-zip, length-zip}
 use Rattle.auction_terms.specs.declared.choices.Choice.{Choice}
-use Rattle.bid_desk.specs.Closing.{Closing}
-use Rattle.group_compiler.specs.Compiled.{Compiling, compiling, program_without}
-use Rattle.std.proofs.lemmas.List.FromFn.{length-range_with_len}
+use Rattle.group_compiler.specs.Compiled.{Compiling, program_without}
 use Rattle.auction_terms.specs.Borrowed.{bytes_of}
-use Rattle.outcome.specs.Sale.{Sale, sale_of}
+use Rattle.outcome.specs.Sale.{sale_of}
 use Rattle.auction_input.specs.Refused.{Refuses}
 use Rattle.auction_input.specs.declared.refusal.Refusal.{Refusal}
-use Rattle.auction_terms.specs.Stages.{each_in_turn}
-use Rattle.auction_input.proofs.StageFacts.{behind, next, stop}
+use Rattle.auction_input.proofs.StageFacts.{IsLeft, each-count, left-first, left-more, left-none, left-refused}
 use Rattle.answers.specs.SolutionWinners.{winners_by}
-use Rattle.answers.specs.inside.SolutionWinners.{IsFirstRefusal, IsToldAnswer, winners_at, winners}
+use Rattle.answers.specs.inside.SolutionWinners.{IsToldAnswer, winners, winners_at, winners_told}
 
 abbrev Answer : Type 0
 Answer = Result (List Choice) Refusal
 
-module _ (sale : Sale) where
-  -- the answers of groups and their solutions, numbered from n on
-  abbrev AreTold : ℕ → List (List ℕ) → List (List ℕ) → List Answer → Type 0
-  AreTold n [] texts [] = ⊤
-  AreTold n [] texts (answer ∷ answers) = ⊥
-  AreTold n (group ∷ groups) [] answers = ⊥
-  AreTold n (group ∷ groups) (text ∷ texts) [] = ⊥
-  AreTold n (group ∷ groups) (text ∷ texts) (answer ∷ answers) = IsToldAnswer (winners sale n (group, text)) answer × AreTold (n + 1) groups texts answers
+abbrev Item : Type 0
+Item = List ℕ × List ℕ
 
-  told-from : (all_groups all_texts : List (List ℕ)) (a : ℕ) (groups texts : List (List ℕ)) (answers : List Answer) → length texts ≡ length groups
-      → ((i n : ℕ) → n ≡ a + i → slice_index_or groups i [] ≡ slice_index_or all_groups n []) → ((i n : ℕ) → n ≡ a + i → slice_index_or texts i [] ≡ slice_index_or all_texts n [])
-      → AllZip (λ n answer. IsToldAnswer (winners_at sale all_groups all_texts n) answer) (range_with_len a (length groups)) answers → AreTold (a + 1) groups texts answers
-  told-from gs ts a [] texts [] count g t z = tt
-  told-from gs ts a [] texts (answer ∷ answers) count g t z = absurd z
-  told-from gs ts a (group ∷ groups) [] answers count g t z = absurd (omega arith)
-  told-from gs ts a (group ∷ groups) (text ∷ texts) [] count g t z = absurd z
-  told-from gs ts a (group ∷ groups) (text ∷ texts) (answer ∷ answers) count g t z =
-      let same : (group, text) ≡ (slice_index_or gs a [], slice_index_or ts a []) = ap₂ (λ (x y : List ℕ). (x, y)) (g 0 a (omega arith)) (t 0 a (omega arith)) in (
-        subst (λ (item : List ℕ × List ℕ). IsToldAnswer (winners sale (a + 1) item) answer) (sym same) z.0,
-        told-from gs ts (a + 1) groups texts answers (omega arith) (λ i n e. g (suc i) n (omega arith)) (λ i n e. t (suc i) n (omega arith)) z.1,
-      )
+abbrev pub IsMade : Compiling → List (List ℕ) → ℕ → Option (List Choice) → Type 0
+IsMade c texts n found = IfSome found (λ a. winners_at (sale_of c.book) c.groups texts n ≡ Ok a)
 
-  won-of : (n : ℕ) (groups texts : List (List ℕ)) (answers : List Answer) (all : List (List Choice)) → AreTold n groups texts answers → map (λ a. Ok a) all ≡ answers
-      → each_in_turn (winners sale) n (zip groups texts) ≡ Ok all
-  won-of n [] texts [] [] told are = refl
-  won-of n [] texts [] (y ∷ all) told are = cc
-  won-of n [] texts (answer ∷ answers) all told are = absurd told
-  won-of n (group ∷ groups) [] answers all told are = absurd told
-  won-of n (group ∷ groups) (text ∷ texts) [] all told are = absurd told
-  won-of n (group ∷ groups) (text ∷ texts) (answer ∷ answers) [] told are = cc
-  won-of n (group ∷ groups) (text ∷ texts) (answer ∷ answers) (y ∷ all) told are =
-      let first : answer ≡ Ok y = cc in
-      let rest : map (λ a. Ok a) all ≡ answers = cc in
-      let here = subst (λ (r : Answer). IsToldAnswer (winners sale n (group, text)) r) first told.0 in
-      next (winners sale n (group, text)) y _ _ here.0 (next _ all _ _ (won-of (n + 1) groups texts answers all told.1 rest) refl)
+-- what was made of the numbers from a on
+abbrev pub MadeFrom : Compiling → List (List ℕ) → ℕ → ℕ → List (Option (List Choice)) → Type 0
+MadeFrom c texts a count made = AllZip (IsMade c texts) (range_with_len a count) made
 
-  refused-by : (n : ℕ) (groups texts : List (List ℕ)) (before : List (List Choice)) (r : Refusal) (after : List Answer) → AreTold n groups texts (map (λ a. Ok a) before ++ Err r ∷ after)
-      → Refuses (each_in_turn (winners sale) n (zip groups texts)) r
-  refused-by n [] texts [] r after told = absurd told
-  refused-by n [] texts (b ∷ before) r after told = absurd told
-  refused-by n (group ∷ groups) [] before r after told = absurd told
-  refused-by n (group ∷ groups) (text ∷ texts) [] r after told = stop _ _ r told.0.1
-  refused-by n (group ∷ groups) (text ∷ texts) (b ∷ before) r after told = behind (winners sale n (group, text)) b _ r told.0.0 (stop _ _ r (refused-by (n + 1) groups texts before r after told.1))
+-- the next number, and those behind it
+pub made-next : (c : Compiling) (texts : List (List ℕ)) (a count : ℕ) (found : Option (List Choice)) (rest : List (Option (List Choice))) → MadeFrom c texts a count (found ∷ rest)
+    → (0 < count) × IsMade c texts a found × MadeFrom c texts (a + 1) (count - 1) rest
+made-next c texts a zero found rest each = absurd each
+made-next c texts a (suc count) found rest each =
+    let less : count ≡ suc count - 1 = omega arith in
+    (omega arith, each.0, subst (λ (n : ℕ). MadeFrom c texts (a + 1) n rest) less each.1)
 
-  refused-at : (groups texts : List (List ℕ)) (answers : List Answer) (r : Refusal) → AreTold 1 groups texts answers → IsFirstRefusal answers r → Refuses (each_in_turn (winners sale) 1 (zip groups texts)) r
-  refused-at groups texts answers r told (inl (before, after, are)) = refused-by 1 groups texts before r after (subst (AreTold 1 groups texts) are told)
-  refused-at groups texts answers r told (inr memory) = inr (rw memory refl)
+-- no number is left where nothing is
+pub made-all : (c : Compiling) (texts : List (List ℕ)) (a count : ℕ) (rest : List (Option (List Choice))) → length rest ≡ 0 → MadeFrom c texts a count rest → count ≡ 0
+made-all c texts a zero rest none each = refl
+made-all c texts a (suc count) [] none each = absurd each
+made-all c texts a (suc count) (found ∷ rest) none each = absurd (omega arith)
 
--- the answers of the compiler of an auction are those of its groups and solutions
-abbrev pub AreAnswers : Compiling → List (List ℕ) → List Answer → Type 0
-AreAnswers c texts answers = AllZip (λ n answer. IsToldAnswer (winners_at (sale_of c.book) c.groups texts n) answer) (range_with_len 0 (length c.groups)) answers
+-- these allocations are won by the first solutions, and the others are left
+abbrev pub IsLeftFrom : Compiling → List (List ℕ) → List (List Choice) → Type 0
+IsLeftFrom c texts all = IsLeft (winners (sale_of c.book)) (length all + 1) (zip c.groups texts) all (drop (length all) (zip c.groups texts))
 
-module _ (book : Closing) (groups texts : List (List ℕ)) (count : length texts ≡ length groups) (c : Compiling) (is : c ≡ compiling book groups) where
-  told : (answers : List Answer) → AreAnswers c texts answers → AreTold (sale_of book) 1 groups texts answers
-  told answers are = told-from (sale_of book) groups texts 0 groups texts answers count (λ i n e. ap (λ (m : ℕ). slice_index_or groups m []) (let t : i ≡ n = omega arith in t)) (λ i n e. ap (λ (m : ℕ). slice_index_or texts m []) (let t : i ≡ n = omega arith in t))
-      (subst (λ (k : Compiling). AreAnswers k texts answers) is are)
+module _ (c : Compiling) (texts : List (List ℕ)) (same : length texts ≡ length c.groups) where
+  abbrev items : List Item
+  items = zip c.groups texts
 
-  pub if-won : (answers : List Answer) (all : List (List Choice)) → AreAnswers c texts answers → map (λ a. Ok a) all ≡ answers → each_in_turn (winners (sale_of book)) 1 (zip groups texts) ≡ Ok all
-  if-won answers all are ok = won-of (sale_of book) 1 groups texts answers all (told answers are) ok
+  pub left-first-of : IsLeftFrom c texts []
+  left-first-of = left-first (winners (sale_of c.book)) items
 
-  pub if-refused : (answers : List Answer) (r : Refusal) → AreAnswers c texts answers → IsFirstRefusal answers r → Refuses (each_in_turn (winners (sale_of book)) 1 (zip groups texts)) r
-  if-refused answers r are first = refused-at (sale_of book) groups texts answers r (told answers are) first
+  next-item : (k : ℕ) → k < length c.groups → drop k items ≡ (slice_index_or c.groups k [], slice_index_or texts k []) ∷ drop (k + 1) items
+  next-item k within =
+      let size = length-zip c.groups texts in
+      drop_more items k ([], []) (omega arith) ∙ ap (λ (item : Item). item ∷ drop (k + 1) items) (get_or-zip c.groups texts k ([], []) within (omega arith))
 
-pub as-many : (c : Compiling) (book : Closing) (groups texts : List (List ℕ)) (answers : List Answer) (all : List (List Choice)) → c ≡ compiling book groups → AreAnswers c texts answers → map (λ a. Ok a) all ≡ answers → length all ≡ length groups
-as-many c book groups texts answers all is are ok =
-    let given = AllZip-long _ (range_with_len 0 (length c.groups)) answers are in
-    sym (length-map all (λ a. Ok a)) ∙ ap (λ (rs : List Answer). length rs) ok ∙ given ∙ length-range_with_len 0 (length c.groups) ∙ ap (λ (k : Compiling). length k.groups) is
+  pub left-at : (all : List (List Choice)) → length all < length c.groups → IsLeftFrom c texts all → IsLeft (winners (sale_of c.book)) (length all + 1) items all ((slice_index_or c.groups (length all) [], slice_index_or texts (length all) []) ∷ drop (length all + 1) items)
+  left-at all within left = subst (IsLeft (winners (sale_of c.book)) (length all + 1) items all) (next-item (length all) within) left
+
+  pub left-on : (all : List (List Choice)) (a : List Choice) → length all < length c.groups → IsLeftFrom c texts all → winners_at (sale_of c.book) c.groups texts (length all) ≡ Ok a → IsLeftFrom c texts (all ++ a ∷ [])
+  left-on all a within left tells =
+      let count : length all + 1 ≡ length (all ++ a ∷ []) = (let size = length-append all (a ∷ []) in omega arith) in
+      subst (λ (n : ℕ). IsLeft (winners (sale_of c.book)) (n + 1) items (all ++ a ∷ []) (drop n items)) count
+      (left-more (winners (sale_of c.book)) (length all + 1) items all _ _ a (left-at all within left) tells)
+
+  pub left-ends : (all : List (List Choice)) (r : Refusal) → length all < length c.groups → IsLeftFrom c texts all → Refuses (winners_at (sale_of c.book) c.groups texts (length all)) r → Refuses (winners_told c texts) r
+  left-ends all r within left refuses = left-refused (winners (sale_of c.book)) (length all + 1) items all _ _ r (left-at all within left) refuses
+
+  pub left-whole : (all : List (List Choice)) → length c.groups ≤ length all → IsLeftFrom c texts all → winners_told c texts ≡ Ok all
+  left-whole all every left =
+      let size = length-zip c.groups texts in
+      left-none (winners (sale_of c.book)) (length all + 1) items all (subst (IsLeft (winners (sale_of c.book)) (length all + 1) items all) (drop_all (length all) items (omega arith)) left)
+
+  pub as-many : (all : List (List Choice)) → winners_told c texts ≡ Ok all → length all ≡ length c.groups
+  as-many all told = (let size = length-zip c.groups texts in let count = each-count (winners (sale_of c.book)) 1 items all told in omega arith)
 
 abbrev Text : Type 0
 Text = Bor (List ℕ)
@@ -105,3 +94,11 @@ told-by c texts n group text answer is at won refused =
     let same : winners_by (program_without c.book group) (n + 1) text ≡ winners_by (program_without c.book (slice_index_or c.groups n [])) (n + 1) (slice_index_or texts n []) =
     ap₂ (λ (g t : List ℕ). winners_by (program_without c.book g) (n + 1) t) (is ∙ ap (λ (k : ℕ). slice_index_or c.groups k []) place) at in
     (subst (λ (told : Result (List Choice) Refusal). IfOk answer (λ a. told ≡ Ok a)) same won, subst (λ (told : Result (List Choice) Refusal). IfErr answer (Refuses told)) same refused)
+
+-- the same of an allocation that is won whatever the number of the solution is
+pub made-by : (c : Compiling) (texts : List (List ℕ)) (n : ℕ) (group text : List ℕ) (found : Option (List Choice)) → group ≡ slice_index_or c.groups (n + 1 - 1) [] → text ≡ slice_index_or texts n []
+    → IfSome found (λ a. (number : ℕ) → winners_by (program_without c.book group) number text ≡ Ok a) → IsMade c texts n found
+made-by c texts n group text None is at won = tt
+made-by c texts n group text (Some a) is at won =
+    let place : n + 1 - 1 ≡ n = omega arith in
+    ap₂ (λ (g t : List ℕ). winners_by (program_without c.book g) (n + 1) t) (sym (is ∙ ap (λ (k : ℕ). slice_index_or c.groups k []) place)) (sym at) ∙ won (n + 1)

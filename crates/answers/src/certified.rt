@@ -1,16 +1,17 @@
 //! Whether the certificates of groups show that nobody wins more.
 
-ghost use Rattle.std.specs.Prelude.{◌≡◌, ◌⊎◌, ◌+◌, ◌++◌, ◌∷◌, ◌-◌, ◌≤◌, [], IfErr, IfOk, Ok, OnOk, length, map, replicate, slice_index_or};
+ghost use Rattle.std.specs.Prelude.{◌≡◌, ◌⊎◌, ◌+◌, ◌++◌, ◌∷◌, ◌-◌, ◌≤◌, [], IfErr, IfOk, Ok, OnOk, length, map};
 ghost use Rattle.std.specs.List.{AllZip};
 ghost use Rattle.outcome.specs.Sale.{sale_of};
 ghost use Rattle.answers.specs.Certified.{bound_of, bounds_of, certified, shown};
 ghost use Rattle.auction_input.specs.Refused.{Refuses};
 ghost use Rattle.auction_input.specs.Settled.{held};
 ghost use Rattle.answers.specs.Exact.{IsTooWide};
-ghost use Rattle.answers.specs.inside.Judging.{AllShown, IsFirstFaulty, IsJudged, bounds_by, bound_held};
+ghost use Rattle.answers.specs.inside.Judging.{AllShown, AreFine, IsFirstFaulty, IsJudged, IsJudgedIfBegun, bounds_by, bound_held};
 ghost use Rattle.auction_terms.specs.Borrowed.{bytes_of};
 ghost use Rattle.auction_terms.specs.Stages.{each_in_turn};
 
+use crate::lowest::Lowest;
 use auction_input::{Auction, CountedPart, Refusal};
 use auction_terms::{Group, Groups};
 use bid_desk::ClosedBook;
@@ -21,9 +22,10 @@ use rayon::prelude::*;
 use std::alloc::{AllocError, Global};
 use std::thread::Threads;
 
-/// A certificate, and the objective below which it is to show no point of the program without a group.
+/// A certificate with its number, from 1, and the objective below which it is to show no point of the program without a group.
 #[derive(Clone, Copy)]
 pub struct ClaimedBound<'c> {
+    pub number: usize,
     pub group: &'c Group,
     pub least: i128,
     pub certificate: &'c [u8],
@@ -73,6 +75,7 @@ fn bounds_of<'c>(
     let mut bounds = Vec::new(alloc);
     for place in 0..groups.count() {
         let bound = bound_of(
+            place + 1,
             book,
             groups.group(place + 1),
             &allocations[place],
@@ -85,6 +88,7 @@ fn bounds_of<'c>(
 
 // What a certificate is to show of an allocation that is won without a group.
 fn bound_of<'c>(
+    number: usize,
     book: &ClosedBook,
     group: &'c Group,
     allocation: &Allocation,
@@ -94,6 +98,7 @@ fn bound_of<'c>(
         ≡ bound_of (sale_of book.now) ((group.now, allocation.now), certificate.now) }
 {
     ClaimedBound {
+        number,
         group,
         least: -(total(book, allocation) as i128),
         certificate,
@@ -120,29 +125,50 @@ fn check_each(
         ⊎ IsTooWide (map (bound_held compiler.now.book) bounds.now) r) }
 {
     let verdicts = verdicts_of(rt, alloc, compiler, bounds)?;
-    first_refused(verdicts.as_slice())
+    first_refused(alloc, compiler, bounds, verdicts.as_slice())
 }
 
-// What each certificate comes to. Checking one is worth a thread, however few there are; its program is compiled there, and
-// dropped with it.
+// What each certificate comes to, but for those behind one that is known to be faulty. Checking one is worth a thread, however
+// few there are; its program is compiled there, and dropped with it.
 fn verdicts_of(
     rt: &(impl Threads + Sync),
     alloc: Global,
     compiler: &Compiler<'_, '_>,
     bounds: &[ClaimedBound<'_>],
-) -> Result<Vec<Result<(), CertificateFault>>, AllocError>
-    ensures { IfOk result (λ verdicts. AllZip (IsJudged compiler.now.book) bounds.now
+) -> Result<Vec<Option<Result<(), CertificateFault>>>, AllocError>
+    ensures { IfOk result (λ verdicts. AllZip (IsJudgedIfBegun compiler.now.book) bounds.now
         verdicts.items) }
 {
+    let faulty = Lowest::none();
+    let faulty = &faulty;
     bounds
         .par_iter()
         .with_min_len(1)
         .map(
-            |bound: &ClaimedBound<'_>| -> Result<(), CertificateFault>
-                ensures { IsJudged compiler.entry.now.book bound.now result }
-            { verdict_of(alloc, compiler, bound) },
+            |bound: &ClaimedBound<'_>| -> Option<Result<(), CertificateFault>>
+                ensures { IsJudgedIfBegun compiler.entry.now.book bound.now result }
+            { verdict_unless_behind(alloc, compiler, faulty, bound) },
         )
         .collect(rt, alloc)
+}
+
+// What a certificate comes to; nothing, where one before it is known to be faulty.
+fn verdict_unless_behind(
+    alloc: Global,
+    compiler: &Compiler<'_, '_>,
+    faulty: &Lowest,
+    bound: &ClaimedBound<'_>,
+) -> Option<Result<(), CertificateFault>>
+    ensures { IsJudgedIfBegun compiler.now.book bound.now result }
+{
+    if faulty.is_below(bound.number) {
+        return None;
+    }
+    let verdict = verdict_of(alloc, compiler, bound);
+    if verdict.is_err() {
+        faulty.tell(bound.number);
+    }
+    Some(verdict)
 }
 
 // What a certificate comes to.
@@ -162,13 +188,36 @@ fn verdict_of(
     check_certificate(alloc, bound.certificate, &program, bound.least)
 }
 
-// The first fault among verdicts, with its number from 1.
-fn first_refused(verdicts: &[Result<(), CertificateFault>]) -> Result<(), Refusal>
-    ensures shown { OnOk result (verdicts.now ≡ replicate (length verdicts.now) (Ok tt)) }
-    ensures first { IfErr result (IsFirstFaulty verdicts.now) }
+// The verdict that is there, or else what the certificate comes to.
+fn settled(
+    alloc: Global,
+    compiler: &Compiler<'_, '_>,
+    bound: &ClaimedBound<'_>,
+    verdict: Option<Result<(), CertificateFault>>,
+) -> Result<(), CertificateFault>
+    requires { IsJudgedIfBegun compiler.now.book bound.now verdict }
+    ensures { IsJudged compiler.now.book bound.now result }
 {
-    for place in 0..verdicts.len() {
-        if let Err(fault) = verdicts[place] {
+    match verdict {
+        Some(verdict) => verdict,
+        None => verdict_of(alloc, compiler, bound),
+    }
+}
+
+// The first fault among verdicts, with its number from 1. Behind it may be certificates without one, and none before it.
+fn first_refused(
+    alloc: Global,
+    compiler: &Compiler<'_, '_>,
+    bounds: &[ClaimedBound<'_>],
+    verdicts: &[Option<Result<(), CertificateFault>>],
+) -> Result<(), Refusal>
+    requires { AllZip (IsJudgedIfBegun compiler.now.book) bounds.now verdicts.now }
+    ensures shown { OnOk result (AreFine compiler.now.book bounds.now (length bounds.now)) }
+    ensures first { IfErr result (IsFirstFaulty compiler.now.book bounds.now) }
+{
+    for place in 0..bounds.len() {
+        let verdict = settled(alloc, compiler, &bounds[place], verdicts[place]);
+        if let Err(fault) = verdict {
             let certificate = place + 1;
             return Err(Refusal::Certificate { certificate, fault });
         }

@@ -7,6 +7,7 @@ mod commands;
 mod compile_run;
 mod group_texts;
 pub mod laws;
+mod lowest;
 mod named_bids;
 mod pieces;
 mod report_run;

@@ -4,26 +4,20 @@ use auction_terms::{Choice, LineReader};
 use program_rows::{bid_named, next_field};
 use std::alloc::{AllocError, Global};
 
-/// A text that names more bids than this is read against the program of all bids at once.
-pub const MOST_NAMED: usize = 1_000;
-
 // The bid that a line names, if its first field spells one.
 fn bid_in(line: &[u8]) -> Option<Choice> {
     bid_named(next_field(line)?.text)
 }
 
-/// The bids that the lines of a text name, where they are few. Whatever they are, a solution is taken as it would be
-/// against the program of all bids, so that nothing is said of them.
-pub fn named_bids(alloc: Global, text: &[u8]) -> Result<Option<Vec<Choice>>, AllocError> {
+/// The bids that the lines of a text name. Whatever they are, a solution is taken as it would be against the program of all
+/// bids, so that nothing is said of them.
+pub fn named_bids(alloc: Global, text: &[u8]) -> Result<Vec<Choice>, AllocError> {
     let mut named = Vec::new(alloc);
     let mut lines = LineReader::new(text);
     while let Some(line) = lines.next() {
-        if named.len() == MOST_NAMED {
-            return Ok(None);
-        }
         if let Some(choice) = bid_in(line) {
             named.push(choice)?;
         }
     }
-    Ok(Some(named))
+    Ok(named)
 }

@@ -10,9 +10,10 @@ ghost use Rattle.auction_input.specs.Settled.{held};
 ghost use Rattle.auction_terms.specs.Borrowed.{bytes_of};
 ghost use Rattle.auction_terms.specs.Stages.{each_in_turn};
 ghost use Rattle.answers.specs.SolutionWinners.{winners_of_groups};
-ghost use Rattle.answers.specs.inside.SolutionWinners.{IsFirstRefusal, winners};
+ghost use Rattle.answers.specs.inside.SolutionWinners.{AreMade, winners, winners_told};
 
-use crate::winning::won_without;
+use crate::lowest::Lowest;
+use crate::winning::{won_by_all, won_by_named};
 use auction_input::{Auction, CountedPart, Refusal};
 use auction_terms::Groups;
 use bid_desk::ClosedBook;
@@ -22,39 +23,73 @@ use std::alloc::{AllocError, Global};
 use std::sync::Wait;
 use std::thread::Threads;
 
-/// Finds what the solution of each group's program wins.
+/// Finds what the solution of each group's program wins, by the program of the bids that it names. A solution that this
+/// refuses is left to be read against the program of all bids, and nothing is begun behind it: so only one such program
+/// stands at a time, however many workers there are.
 #[derive(Drop)]
 pub struct Winning<'a, 't> {
     compiler: Compiler<'a, 'a>,
     solutions: &'a [&'t [u8]],
+    left: Lowest,
     ghost each: { length solutions.now ≡ length compiler.groups },
 }
 
 impl<'a, 't> Maker for Winning<'a, 't> {
-    ghost use Rattle.std.specs.Prelude.{◌+◌, length};
+    ghost use Rattle.std.specs.Prelude.{◌≡◌, ◌+◌, IfSome, Ok, length};
     ghost use Rattle.outcome.specs.Sale.{sale_of};
-    ghost use Rattle.answers.specs.inside.SolutionWinners.{IsToldAnswer, winners_at};
+    ghost use Rattle.answers.specs.inside.SolutionWinners.{winners_at};
 
-    type Made = Result<Allocation, Refusal>;
+    type Made = Option<Allocation>;
 
     ghost count_of = { λ w. length w.compiler.groups };
 
-    ghost makes = { λ w n told. IsToldAnswer (winners_at (sale_of w.compiler.book) w.compiler.groups (bytes_of w.solutions.now) n) told };
+    ghost makes = { λ w n made. IfSome made (λ a. winners_at (sale_of w.compiler.book) w.compiler.groups (bytes_of w.solutions.now) n ≡ Ok a) };
 
     fn count(&self) -> usize {
         self.compiler.count()
     }
 
-    fn make(
-        &self,
-        alloc: Global,
-        number: usize,
-    ) -> Result<Result<Allocation, Refusal>, AllocError> {
+    fn make(&self, alloc: Global, number: usize) -> Result<Option<Allocation>, AllocError> {
+        if self.left.is_below(number) {
+            return Ok(None);
+        }
         // Its contract says how many groups there may be, so that the number behind this one is none too great.
         let _few = self.compiler.count();
         let group = self.compiler.group(number + 1);
         let text = text_at(self.solutions, number);
-        Ok(won_without(alloc, &self.compiler, group, number + 1, text))
+        let won = won_by_named(alloc, &self.compiler, group, text)?;
+        if won.is_none() {
+            self.left.tell(number);
+        }
+        Ok(won)
+    }
+}
+
+impl<'a, 't> Winning<'a, 't> {
+    ghost use Rattle.std.specs.Prelude.{◌≡◌, ◌<◌, IfSome, Ok, length};
+    ghost use Rattle.answers.specs.inside.SolutionWinners.{IsToldAnswer, winners_at};
+
+    // What the solution of a group wins, or why it is refused, where this was made of it. Its number is from 0.
+    fn answer(
+        &self,
+        alloc: Global,
+        number: usize,
+        made: Option<Allocation>,
+    ) -> Result<Allocation, Refusal>
+        requires within { number < length self.now.compiler.groups }
+        requires made { IfSome made (λ a. winners_at (sale_of self.now.compiler.book)
+            self.now.compiler.groups (bytes_of self.now.solutions.now) number ≡ Ok a) }
+        ensures { IsToldAnswer (winners_at (sale_of self.now.compiler.book) self.now.compiler.groups
+            (bytes_of self.now.solutions.now) number) result }
+    {
+        if let Some(allocation) = made {
+            return Ok(allocation);
+        }
+        // Its contract says how many groups there may be.
+        let _few = self.compiler.count();
+        let group = self.compiler.group(number + 1);
+        let text = text_at(self.solutions, number);
+        won_by_all(alloc, &self.compiler, group, number + 1, text)
     }
 }
 
@@ -116,22 +151,28 @@ fn won_by_each<R: Threads + Wait + Sync + AllocGlobal>(
     let winning = Winning {
         compiler,
         solutions,
+        left: Lowest::none(),
     };
-    let answers = make_all(rt, alloc, workers, &OpenGate, &winning)?;
-    all_won(alloc, answers)
+    let made = make_all(rt, alloc, workers, &OpenGate, &winning)?;
+    all_won(alloc, &winning, made)
 }
 
-// The allocations, where all answers are allocations, or the first refusal.
+// The allocations, where all solutions are taken, or the first refusal.
 fn all_won(
     alloc: Global,
-    answers: Vec<Result<Allocation, Refusal>>,
+    winning: &Winning<'_, '_>,
+    made: Vec<Option<Allocation>>,
 ) -> Result<Vec<Allocation>, Refusal>
-    ensures won { IfOk result (λ all. map (λ a. Ok a) all.items ≡ answers.items) }
-    ensures first { IfErr result (IsFirstRefusal answers.items) }
+    requires { AreMade winning.now.compiler (bytes_of winning.now.solutions.now) made.items }
+    ensures won { IfOk result (λ all. winners_told winning.now.compiler
+        (bytes_of winning.now.solutions.now) ≡ Ok all.items) }
+    ensures refuses { IfErr result (Refuses (winners_told winning.now.compiler
+        (bytes_of winning.now.solutions.now))) }
 {
     let mut all = Vec::new(alloc);
-    for answer in answers {
-        add(&mut all, answer?)?;
+    for found in made {
+        let number = all.len();
+        add(&mut all, winning.answer(alloc, number, found)?)?;
     }
     Ok(all)
 }

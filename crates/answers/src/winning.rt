@@ -58,17 +58,35 @@ pub fn won_without(
     ensures refuses { IfErr result (Refuses (winners_by
         (program_without compiler.now.book group.now) solution text.now)) }
 {
-    // Its contract says that the book's forms are within limits, which the program's faithfulness asks for.
-    let _within_limits = compiler.book().rules();
     if let Some(allocation) = won_by_named(alloc, compiler, group, text)? {
         return Ok(allocation);
     }
+    won_by_all(alloc, compiler, group, solution, text)
+}
+
+/// The allocation that a solution wins by the program of all kept bids, or why that refuses it.
+pub fn won_by_all(
+    alloc: Global,
+    compiler: &Compiler<'_, '_>,
+    group: &Group,
+    solution: usize,
+    text: &[u8],
+) -> Result<Allocation, Refusal>
+    ensures feasible { IfOk result (λ a. IsFeasible (lots_in compiler.now.book.rules)
+        (book_of compiler.now.book) (has group.now) a) }
+    ensures won { IfOk result (λ a. winners_by (program_without compiler.now.book group.now)
+        solution text.now ≡ Ok a) }
+    ensures refuses { IfErr result (Refuses (winners_by
+        (program_without compiler.now.book group.now) solution text.now)) }
+{
+    // Its contract says that the book's forms are within limits, which the program's faithfulness asks for.
+    let _within_limits = compiler.book().rules();
     let program = compiler.program_without(alloc, group)?;
     allocation_won(alloc, compiler.book(), group, &program, solution, text)
 }
 
-// The allocation that a solution wins by the program of the bids that it names, if that takes it.
-fn won_by_named(
+/// The allocation that a solution wins by the program of the bids that it names, if that takes it.
+pub fn won_by_named(
     alloc: Global,
     compiler: &Compiler<'_, '_>,
     group: &Group,
@@ -82,9 +100,7 @@ fn won_by_named(
 {
     // Its contract says that the book's forms are within limits.
     let _within_limits = compiler.book().rules();
-    let Some(choices) = named_bids(alloc, text)? else {
-        return Ok(None);
-    };
+    let choices = named_bids(alloc, text)?;
     let program = compiler.program_among(alloc, group, choices)?;
     match read_solution(alloc, text, &program) {
         Ok(point) => Ok(Some(map_back(alloc, &program, &point)?)),

@@ -1,5 +1,5 @@
 -- What the code holds of certificates while it judges them.
-use Rattle.std.specs.Prelude.{◌≡◌, ◌+◌, ◌++◌, ℕ, ℤ, List, ◌∷◌, Result, Ok, Err, map, replicate}
+use Rattle.std.specs.Prelude.{◌≡◌, ◌+◌, ◌<◌, ℕ, ℤ, List, Option, Result, Ok, Err, IfSome, length, map, slice_index_or}
 use Rattle.std.specs.List.{zip}
 use Rattle.auction_input.specs.declared.refusal.Refusal.{Refusal}
 use Rattle.auction_terms.specs.Stages.{each_in_turn}
@@ -31,7 +31,16 @@ pub record IsJudged (book : Closing) (b : declared.ClaimedBound) (verdict : Resu
 abbrev pub AllShown : List (Table × ℤ × List ℕ) → Type 0
 AllShown bounds = (all : List (Unit {0})) × (each_in_turn shown 1 bounds ≡ Ok all)
 
--- the fault comes behind verdicts without one, and has its number
-abbrev pub IsFirstFaulty : List (Result (Unit {0}) CertificateFault) → Refusal → Type 0
-IsFirstFaulty verdicts (refusal.Certificate n f) = (before : ℕ) × (after : List (Result (Unit {0}) CertificateFault)) × (verdicts ≡ replicate before (Ok tt) ++ Err f ∷ after) × (n ≡ before + 1)
-IsFirstFaulty verdicts r = ⊥
+-- this is what a certificate comes to, where it was judged
+abbrev pub IsJudgedIfBegun : Closing → declared.ClaimedBound → Option (Result (Unit {0}) CertificateFault) → Type 0
+IsJudgedIfBegun book b verdict = IfSome verdict (IsJudged book b)
+
+-- the first so many certificates have no fault
+abbrev pub AreFine : Closing → List declared.ClaimedBound → ℕ → Type 0
+AreFine book bounds count = (k : ℕ) (d : declared.ClaimedBound) → k < count → IsJudged book (slice_index_or bounds k d) (Ok tt)
+
+-- the certificate of this number has the fault, and those before it have none
+abbrev pub IsFirstFaulty : Closing → List declared.ClaimedBound → Refusal → Type 0
+IsFirstFaulty book bounds (refusal.Certificate n f) =
+    (before : ℕ) × (before < length bounds) × AreFine book bounds before × ((d : declared.ClaimedBound) → IsJudged book (slice_index_or bounds before d) (Err f)) × (n ≡ before + 1)
+IsFirstFaulty book bounds r = ⊥

@@ -1,10 +1,12 @@
 -- What a solution of the program without a group wins, or why it is refused.
-use Rattle.std.specs.Prelude.{◌≡◌, ◌⊎◌, ◌+◌, ◌++◌, ◌∷◌, ℕ, List, [], Result, Ok, Err, IfOk, IfErr, map, slice_index_or}
+use Rattle.std.specs.Prelude.{◌≡◌, ◌+◌, ℕ, List, [], Option, Result, Ok, IfOk, IfErr, IfSome, length, slice_index_or}
+use Rattle.std.specs.List.{AllZip, range_with_len, zip}
+use Rattle.auction_terms.specs.Stages.{each_in_turn}
 use Rattle.auction_input.specs.Refused.{Refuses}
 use Rattle.auction_input.specs.declared.refusal.Refusal.{Refusal}
-use Rattle.auction_input.specs.declared.refusal.Refusal.TheVariants as refusal
 use Rattle.auction_terms.specs.declared.choices.Choice.{Choice}
-use Rattle.outcome.specs.Sale.{Sale}
+use Rattle.group_compiler.specs.Compiled.{Compiling}
+use Rattle.outcome.specs.Sale.{Sale, sale_of}
 use Rattle.auction_input.specs.BookLeft.{program_for}
 use Rattle.answers.specs.SolutionWinners.{winners_by}
 
@@ -20,6 +22,10 @@ winners_at sale groups texts n = winners sale (n + 1) (slice_index_or groups n [
 abbrev pub IsToldAnswer : Result (List Choice) Refusal → Result (List Choice) Refusal → Type 0
 IsToldAnswer told answer = IfOk answer (λ a. told ≡ Ok a) × IfErr answer (Refuses told)
 
--- an answer that is a refusal comes after allocations alone; or memory was short
-abbrev pub IsFirstRefusal : List (Result (List Choice) Refusal) → Refusal → Type 0
-IsFirstRefusal answers r = ((before : List (List Choice)) × (after : List (Result (List Choice) Refusal)) × (answers ≡ map (λ a. Ok a) before ++ Err r ∷ after)) ⊎ (r ≡ refusal.OutOfMemory)
+-- these are the winners of all groups by their solutions, where they were found
+abbrev pub AreMade : Compiling → List (List ℕ) → List (Option (List Choice)) → Type 0
+AreMade c texts made = AllZip (λ n found. IfSome found (λ a. winners_at (sale_of c.book) c.groups texts n ≡ Ok a)) (range_with_len 0 (length c.groups)) made
+
+-- what the solutions of all groups tell together
+abbrev pub winners_told : Compiling → List (List ℕ) → Result (List (List Choice)) Refusal
+winners_told c texts = each_in_turn (winners (sale_of c.book)) 1 (zip c.groups texts)

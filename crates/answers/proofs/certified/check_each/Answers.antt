@@ -1,26 +1,23 @@
-use Rattle.std.proofs.Common.{List, Result, inl, inr, map, refl, subst, sym}
+use Rattle.std.proofs.Common.{List, Option, Result, inl, inr, map, refl, subst, sym}
 use Rattle.std.specs.List.{AllZip}
 use Rattle.optimality.specs.declared.fault.CertificateFault.{CertificateFault}
-use Rattle.answers.specs.inside.Judging.{IsJudged, bound_held}
+use Rattle.answers.specs.inside.Judging.{IsJudgedIfBegun, bound_held}
 use Rattle.auction_input.specs.declared.refusal.Refusal.TheVariants as refusal
 use Rattle.answers.proofs.CertifiedFacts.{EndsChecks, all-checked, checks-ended}
 use Rattle.auction_input.proofs.RefusalFacts.{if-err-of}
 use Rattle.answers.proofs.certified.check_each.Goals as goal
 
 abbrev Verdicts : Type 0
-Verdicts = List (Result (Unit {0}) CertificateFault)
+Verdicts = List (Option (Result (Unit {0}) CertificateFault))
+
+pub first_refused-requires : goal.first_refused-requires
+first_refused-requires g c = subst (λ (xs : Verdicts). AllZip (IsJudgedIfBegun c.args.compiler.now.book) c.args.bounds.now xs) (sym c.as_slice.ensures.value) c.in_ok-verdicts.ensures
 
 pub returns-clause-shown : goal.returns-clause-shown
-returns-clause-shown g c =
-    let bounds = c.args.bounds.now in
-    let each = subst (λ (xs : Verdicts). AllZip (IsJudged c.args.compiler.now.book) bounds xs) (sym c.as_slice.ensures.value) c.in_ok-verdicts.ensures in
-    all-checked c.args.compiler.now.book bounds c.as_slice.result.now c.first_refused.result each c.first_refused.ensures.shown
+returns-clause-shown g c = all-checked c.args.compiler.now.book c.args.bounds.now c.first_refused.result c.first_refused.ensures.shown
 
 pub returns-clause-refuses : goal.returns-clause-refuses
-returns-clause-refuses g c =
-    let bounds = c.args.bounds.now in
-    let each = subst (λ (xs : Verdicts). AllZip (IsJudged c.args.compiler.now.book) bounds xs) (sym c.as_slice.ensures.value) c.in_ok-verdicts.ensures in
-    checks-ended c.args.compiler.now.book bounds c.as_slice.result.now c.first_refused.result each c.first_refused.ensures.first
+returns-clause-refuses g c = checks-ended c.args.compiler.now.book c.args.bounds.now c.first_refused.result c.first_refused.ensures.first
 
 pub returns-in_err-verdicts-clause-refuses : goal.returns-in_err-verdicts-clause-refuses
 returns-in_err-verdicts-clause-refuses g c =

@@ -1,16 +1,23 @@
-use Rattle.std.proofs.Common.{◌≡◌, ◌+◌, ◌++◌, ◌∷◌, ◌∙◌, List, Result, Ok, Err, ap, ap₂, drop, refl, sym}
-use Rattle.std.proofs.lemmas.List.{drop_more, take-append-drop}
-use Rattle.optimality.specs.declared.fault.CertificateFault.{CertificateFault}
+use Rattle.std.proofs.Common.{◌≡◌, ◌∙◌, Err, None, arith, refl, subst, sym}
+use Rattle.std.proofs.lemmas.List.{get_or_default}
+use Rattle.answers.specs.declared.certified.ClaimedBound.{ClaimedBound}
+use Rattle.answers.specs.inside.Judging.{IsJudged, IsJudgedIfBegun}
+use Rattle.answers.proofs.CertifiedFacts.{as-long, fine-more, verdict-at}
 use Rattle.answers.proofs.certified.first_refused.Goals as goal
 
-abbrev Verdict : Type 0
-Verdict = Result (Unit {0}) CertificateFault
+pub bounds-verdicts-place : goal.bounds-verdicts-place
+bounds-verdicts-place c = (let long = as-long c.args.compiler.now.book c.args.bounds.now c.args.verdicts.now c.requires in let within = c.loop-place-test.true in omega arith)
+
+pub settled-verdict-requires : goal.settled-verdict-requires
+settled-verdict-requires c =
+    let bounds = c.args.bounds.now in
+    let bound = c.index-bounds-place.result in
+    let here = verdict-at c.args.compiler.now.book bounds c.args.verdicts.now c.loop-place.place bound None c.requires c.loop-place-test.true in
+    rw c.index-bounds-place.is here
 
 pub returns-in-Err-clause-first : goal.returns-in-Err-clause-first
 returns-in-Err-clause-first c =
-    let verdicts = c.args.verdicts.now in
+    let bounds = c.args.bounds.now in
+    let bound = c.index-bounds-place.result in
     let place = c.loop-place.place in
-    let fine : Verdict = Ok tt in
-    let fault : Verdict = Err c.in-Err.fault in
-    let rest : drop place verdicts ≡ fault ∷ drop (place + 1) verdicts = drop_more verdicts place fine c.loop-place-test.true ∙ ap (λ (v : Verdict). v ∷ drop (place + 1) verdicts) c.in-Err.is in
-    (place, drop (place + 1) verdicts, sym (take-append-drop place verdicts) ∙ ap₂ (λ (xs ys : List Verdict). xs ++ ys) c.loop-place.invariant rest, refl)
+    (place, c.loop-place-test.true, c.loop-place.invariant, λ d. subst (λ (b : ClaimedBound). IsJudged c.args.compiler.now.book b (Err c.in-Err.fault)) (c.index-bounds-place.is ∙ get_or_default bounds place bound d c.loop-place-test.true) c.in-Err.ensures, refl)

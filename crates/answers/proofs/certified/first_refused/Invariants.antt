@@ -1,5 +1,6 @@
-use Rattle.std.proofs.Common.{◌≡◌, Ok, replicate, take}
+use Rattle.answers.specs.inside.Judging.{AreFine}
 use Rattle.answers.proofs.certified.first_refused.Given as goal
 
+-- the certificates so far have no fault
 abbrev pub invariant-loop-place : goal.invariant-loop-place
-invariant-loop-place l = take l.place l.verdicts ≡ replicate l.place (Ok tt)
+invariant-loop-place l = AreFine l.compiler.book l.bounds l.place
