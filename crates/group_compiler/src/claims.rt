@@ -45,7 +45,7 @@ impl Model for Claims {
 }
 
 impl Claims {
-    ghost use Rattle.std.specs.Prelude.{◌≡◌, ◌+◌, ◌<◌, ◌≤◌, [], ◌∷◌, ◌++◌, length, IfOk, OnErr};
+    ghost use Rattle.std.specs.Prelude.{◌≡◌, ◌+◌, ◌<◌, ◌≤◌, [], ◌∷◌, ◌++◌, length, IfOk, IsOk};
     ghost use Rattle.group_compiler.specs.Claims.{IsEachBelow};
     ghost use Rattle.group_compiler.specs.Claimed.{IsOf};
     ghost use Rattle.group_compiler.specs.declared.limits.TheConstants.{ALL_DRAWS, WORKER_DRAWS};
@@ -60,16 +60,17 @@ impl Claims {
         Ok((Claims { table }, Claim { seat }))
     }
 
-    /// Gives the draws of one worker to a new claim.
+    /// Gives the draws of one worker to a new claim. It takes no memory, and nothing in it fails.
     pub fn split(&self, claim: &mut Claim) -> Result<Claim, AllocError>
         requires same { IsOf self.now claim.old }
         requires room { WORKER_DRAWS ≤ claim.old.room }
 
-        // The claim keeps its list, and gives its draws away only where there is a new claim.
+        ensures given { IsOk result }
+
+        // The claim keeps its list, and gives its draws away.
         ensures same { IsOf self.now claim.new }
         ensures drawn { claim.new.drawn ≡ claim.old.drawn }
         ensures room { IfOk result (λ other. claim.new.room + other.room ≡ claim.old.room) }
-        ensures err { OnErr result (claim.new.room ≡ claim.old.room) }
 
         ensures other { IfOk result (λ other. IsOf self.now other) }
         ensures other_drawn { IfOk result (λ other. other.drawn ≡ []) }

@@ -55,6 +55,7 @@ impl<'g> Compiled<'g> {
         ensures err { IfErr result (λ e. SentFront (S.taken sink.old) (S.taken sink.new)
             (text self.now.program) (written_of e)) }
         ensures failed { OnErr result (HasFailed (S.failures sink.old) (S.failures sink.new)) }
+        ensures succeeded { OnOk result (S.failures sink.new ≡ S.failures sink.old) }
     {
         write_program(&self.program, sink)
     }

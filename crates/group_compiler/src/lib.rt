@@ -6,6 +6,7 @@ mod claims;
 mod compiled;
 mod compiling;
 mod gate;
+pub mod laws;
 mod limits;
 mod maker;
 mod ordering;
