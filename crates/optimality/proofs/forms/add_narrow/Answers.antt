@@ -1,27 +1,26 @@
 use Rattle.std.proofs.Common.{get_or, pos, rules, subst, arith, ◌≤◌, length, ℤ}
-use Rattle.std.specs.Prelude.{◌*ℤ◌}
 use Rattle.std.proofs.lemmas.Int.{to_z-of_z}
 use mir.Syntax.{w64, w128}
 use mir.Val.{SFits}
 use Rattle.optimality.specs.inside.Adding.{AreGivenMore, at_place}
 use Rattle.optimality.proofs.PlaceLaws.{form-step, form-end}
-use Rattle.optimality.proofs.forms.add_form.Goals as goal
+use Rattle.optimality.proofs.forms.add_narrow.Goals as goal
 
 pub loop-i-preserved : goal.loop-i-preserved
 loop-i-preserved c =
     let t = get_or c.args.form.now c.loop-i.i (0, pos 0) in
-    let fits_factor : SFits w128 c.args.factor = c.ranges.factor in
-    let fits : SFits w128 c.from.result = search rules in
+    let fits_factor : SFits w64 c.args.factor = c.ranges.factor in
+    let fits : SFits w128 c.product.result = search rules in
     let fits_number : SFits w64 (get_or c.args.form.now c.loop-i.i (0, pos 0)).1 = search rules in
-    let number = simp to_z-of_z at c.from.ensures in
-    let added = simp to_z-of_z at c.in_ok-add_multiple.ensures in
+    let multiple = simp to_z-of_z at c.product.ensures in
+    let added = simp to_z-of_z at c.in_ok-add.ensures in
     let before = simp to_z-of_z at c.loop-i.invariant in
-    simp to_z-of_z (form-step c.args.factor c.args.form.now c.loop-i.i (0, pos 0) c.args.sums.now.numbers.items c.loop-i.sums.numbers.items c.add_multiple.new.sums.numbers.items c.loop-i-test.true
-    (subst (λ (n : ℤ). AreGivenMore (at_place t.0 (c.args.factor *ℤ n)) c.loop-i.sums.numbers.items c.add_multiple.new.sums.numbers.items) number added) before)
+    simp to_z-of_z (form-step c.args.factor c.args.form.now c.loop-i.i (0, pos 0) c.args.sums.now.numbers.items c.loop-i.sums.numbers.items c.add.new.self.numbers.items c.loop-i-test.true
+    (subst (λ (n : ℤ). AreGivenMore (at_place t.0 n) c.loop-i.sums.numbers.items c.add.new.self.numbers.items) multiple added) before)
 
 pub returns : goal.returns
 returns c =
-    let fits_factor : SFits w128 c.args.factor = c.ranges.factor in
+    let fits_factor : SFits w64 c.args.factor = c.ranges.factor in
     let before = simp to_z-of_z at c.loop-i.invariant in
     let past : length c.args.form.now ≤ c.loop-i.i = omega (arith, c.loop-i-test.false) in
     form-end c.args.factor c.args.form.now c.loop-i.i c.args.sums.now.numbers.items c.loop-i.sums.numbers.items past before
