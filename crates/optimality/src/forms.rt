@@ -18,6 +18,13 @@ fn add_multiple(sums: &mut Sums, factor: i128, place: usize, number: i128) -> Re
     sums.add(place, multiple)
 }
 
+fn add_product(sums: &mut Sums, factor: i64, place: usize, number: i64) -> Result<(), Limit>
+    ensures { OnOk result (AreGivenMore (at_place place (factor *ℤ number))
+        sums.old.numbers.items sums.new.numbers.items) }
+{
+    sums.add_product(place, product(factor, number))
+}
+
 /// Adds a multiple of a form, each product in one instruction and without a check.
 fn add_narrow(sums: &mut Sums, factor: i64, form: &[(usize, i64)]) -> Result<(), Limit>
     ensures { OnOk result (AreGivenMore (form_given factor form.now) sums.old.numbers.items
@@ -25,7 +32,7 @@ fn add_narrow(sums: &mut Sums, factor: i64, form: &[(usize, i64)]) -> Result<(),
 {
     for i in 0..form.len() {
         let (place, number) = form[i];
-        sums.add(place, product(factor, number))?;
+        add_product(sums, factor, place, number)?;
     }
     Ok(())
 }
