@@ -10,3 +10,4 @@ pub mod TermLaws
 pub mod BranchLaws
 pub mod VerdictLaws
 pub mod OnlyLaws
+pub mod ProductBounds

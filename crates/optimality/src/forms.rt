@@ -3,7 +3,7 @@
 ghost use Rattle.std.specs.Prelude.{OnOk, ◌*ℤ◌};
 ghost use Rattle.optimality.specs.inside.Adding.{AreGivenMore, at_place, form_given};
 
-use crate::arithmetic::wide_product;
+use crate::arithmetic::{product, wide_product};
 use crate::limit::Limit;
 use crate::sums::Sums;
 
@@ -18,8 +18,27 @@ fn add_multiple(sums: &mut Sums, factor: i128, place: usize, number: i128) -> Re
     sums.add(place, multiple)
 }
 
-/// Adds a multiple of a form.
-pub fn add_form(sums: &mut Sums, factor: i128, form: &[(usize, i64)]) -> Result<(), Limit>
+fn add_product(sums: &mut Sums, factor: i64, place: usize, number: i64) -> Result<(), Limit>
+    ensures { OnOk result (AreGivenMore (at_place place (factor *ℤ number))
+        sums.old.numbers.items sums.new.numbers.items) }
+{
+    sums.add_product(place, product(factor, number))
+}
+
+/// Adds a multiple of a form, each product in one instruction and without a check.
+fn add_narrow(sums: &mut Sums, factor: i64, form: &[(usize, i64)]) -> Result<(), Limit>
+    ensures { OnOk result (AreGivenMore (form_given factor form.now) sums.old.numbers.items
+        sums.new.numbers.items) }
+{
+    for i in 0..form.len() {
+        let (place, number) = form[i];
+        add_product(sums, factor, place, number)?;
+    }
+    Ok(())
+}
+
+/// The same with a factor beyond 64 bits.
+fn add_widened(sums: &mut Sums, factor: i128, form: &[(usize, i64)]) -> Result<(), Limit>
     ensures { OnOk result (AreGivenMore (form_given factor form.now) sums.old.numbers.items
         sums.new.numbers.items) }
 {
@@ -28,6 +47,17 @@ pub fn add_form(sums: &mut Sums, factor: i128, form: &[(usize, i64)]) -> Result<
         add_multiple(sums, factor, place, i128::from(number))?;
     }
     Ok(())
+}
+
+/// Adds a multiple of a form.
+pub fn add_form(sums: &mut Sums, factor: i128, form: &[(usize, i64)]) -> Result<(), Limit>
+    ensures { OnOk result (AreGivenMore (form_given factor form.now) sums.old.numbers.items
+        sums.new.numbers.items) }
+{
+    match i64::try_from(factor) {
+        Ok(narrow) => add_narrow(sums, narrow, form),
+        Err(_) => add_widened(sums, factor, form),
+    }
 }
 
 /// The same of a form of sums.

@@ -1,9 +1,10 @@
 //! Sums by place, of which those that may differ from 0 are listed.
 
-ghost use Rattle.std.specs.Prelude.{◌<◌, IfOk, IfSome, OnOk, length, vec_len};
-ghost use Rattle.optimality.specs.inside.Adding.{AreAsBefore, AreListed, AreNone, AreGivenMore, IsTaken, at_place};
+ghost use Rattle.std.specs.Prelude.{◌≡◌, ◌<◌, ◌^◌, ◌-ℤ◌, ◌≤ℤ◌, IfOk, IfSome, OnOk, length, neg_ℤ, pos, vec_len};
+ghost use Rattle.optimality.specs.inside.Adding as adding;
+ghost use Rattle.optimality.specs.inside.Adding.{AreAsBefore, AreGivenMore, AreListed, AreNone, IsTaken, at_place};
 
-use crate::arithmetic::plus;
+use crate::arithmetic::{plus, plus_product};
 use crate::limit::Limit;
 use crate::numbers_by_place::{list_new, number_at, reach, set_number};
 use std::alloc::Global;
@@ -26,6 +27,18 @@ impl Sums {
         }
     }
 
+    /// Sets the sum of a place, which had another one before.
+    fn put(&mut self, place: usize, before: i128, sum: i128) -> Result<(), Limit>
+        requires { before ≡ adding.number_at self.old.numbers.items place }
+        ensures { OnOk result (AreGivenMore (at_place place (sum -ℤ before)) self.old.numbers.items
+            self.new.numbers.items) }
+    {
+        reach(&mut self.numbers, place)?;
+        list_new(&mut self.places, place, before)?;
+        set_number(&mut self.numbers, place, sum);
+        Ok(())
+    }
+
     /// Adds a number at a place.
     pub fn add(&mut self, place: usize, number: i128) -> Result<(), Limit>
         ensures { OnOk result (AreGivenMore (at_place place number) self.old.numbers.items
@@ -33,10 +46,19 @@ impl Sums {
     {
         let before = number_at(self.numbers.as_slice(), place);
         let sum = plus(before, number)?;
-        reach(&mut self.numbers, place)?;
-        list_new(&mut self.places, place, before)?;
-        set_number(&mut self.numbers, place, sum);
-        Ok(())
+        self.put(place, before, sum)
+    }
+
+    /// Adds a product of numbers of 64 bits.
+    pub fn add_product(&mut self, place: usize, product: i128) -> Result<(), Limit>
+        requires low { neg_ℤ (pos (2 ^ 126)) ≤ℤ product }
+        requires high { product ≤ℤ pos (2 ^ 126) }
+        ensures { OnOk result (AreGivenMore (at_place place product) self.old.numbers.items
+            self.new.numbers.items) }
+    {
+        let before = number_at(self.numbers.as_slice(), place);
+        let sum = plus_product(before, product)?;
+        self.put(place, before, sum)
     }
 
     /// Takes a place that is listed, and its number.

@@ -5,7 +5,7 @@ use mir.Syntax.{w64, w128}
 use mir.Val.{SFits}
 use Rattle.optimality.specs.inside.Adding.{AreGivenMore, at_place}
 use Rattle.optimality.proofs.PlaceLaws.{form-step, form-end}
-use Rattle.optimality.proofs.forms.add_form.Goals as goal
+use Rattle.optimality.proofs.forms.add_widened.Goals as goal
 
 pub loop-i-preserved : goal.loop-i-preserved
 loop-i-preserved c =

@@ -1,0 +1,31 @@
+-- Products of numbers of 64 bits lie between -2^126 and 2^126.
+use Rattle.std.proofs.Common.{ℕ, ◌*◌, ◌^◌, ◌≤◌, ◌<◌, arith, ℤ, pos, negsuc, neg_ℤ, ◌≤ℤ◌}
+use Rattle.std.specs.Prelude.{◌*ℤ◌, unsigned_abs}
+use native.Mathlib.Nat.{mul-le-mul_left}
+use Rattle.std.proofs.lemmas.Int.{ints, unsigned_abs-mul}
+use mir.Syntax.{w64}
+use mir.Val.{SFits}
+
+abs-within : (n : ℤ) → SFits w64 n → unsigned_abs n ≤ 2 ^ 63
+abs-within (pos n) f = let below : n < 2 ^ 63 = f.sfits in omega arith
+abs-within (negsuc n) f = let below : n < 2 ^ 63 = f.sfits in omega arith
+
+abs-product : (a b : ℤ) → SFits w64 a → SFits w64 b → unsigned_abs (a *ℤ b) ≤ 2 ^ 126
+abs-product a b f g =
+    let left = abs-within a f in
+    let right : unsigned_abs a * unsigned_abs b ≤ unsigned_abs a * (2 ^ 63) = mul-le-mul_left (unsigned_abs a) (abs-within b g) in
+    omega (arith, unsigned_abs-mul a b, left, right)
+
+by-abs-low : (n : ℤ) (m : ℕ) → unsigned_abs n ≤ m → neg_ℤ (pos m) ≤ℤ n
+by-abs-low (pos n) m h = omega (arith, ints)
+by-abs-low (negsuc n) m h = omega (arith, ints)
+
+by-abs-high : (n : ℤ) (m : ℕ) → unsigned_abs n ≤ m → n ≤ℤ pos m
+by-abs-high (pos n) m h = omega (arith, ints)
+by-abs-high (negsuc n) m h = omega (arith, ints)
+
+pub product_low : (a b : ℤ) → SFits w64 a → SFits w64 b → neg_ℤ (pos (2 ^ 126)) ≤ℤ (a *ℤ b)
+product_low a b f g = by-abs-low (a *ℤ b) (2 ^ 126) (abs-product a b f g)
+
+pub product_high : (a b : ℤ) → SFits w64 a → SFits w64 b → (a *ℤ b) ≤ℤ pos (2 ^ 126)
+product_high a b f g = by-abs-high (a *ℤ b) (2 ^ 126) (abs-product a b f g)
