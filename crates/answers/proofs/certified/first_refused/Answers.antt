@@ -1,8 +1,8 @@
-use Rattle.std.proofs.Common.{◌≡◌, ◌∙◌, Err, None, arith, refl, subst, sym}
+use Rattle.std.proofs.Common.{◌∙◌, Err, None, arith, refl, subst}
 use Rattle.std.proofs.lemmas.List.{get_or_default}
 use Rattle.answers.specs.declared.certified.ClaimedBound.{ClaimedBound}
-use Rattle.answers.specs.inside.Judging.{IsJudged, IsJudgedIfBegun}
-use Rattle.answers.proofs.CertifiedFacts.{as-long, fine-more, verdict-at}
+use Rattle.answers.specs.inside.Judging.{IsJudged}
+use Rattle.answers.proofs.CertifiedFacts.{as-long, verdict-at}
 use Rattle.answers.proofs.certified.first_refused.Goals as goal
 
 pub bounds-verdicts-place : goal.bounds-verdicts-place

@@ -1,11 +1,10 @@
-use Rattle.std.proofs.Common.{◌≡◌, ◌+◌, ◌-◌, ◌<◌, ◌≤◌, ◌∙◌, List, [], ap, arith, drop, length, nat_lt, refl, sum_by, sym}
+use Rattle.std.proofs.Common.{◌≡◌, ◌+◌, ◌<◌, ◌≤◌, ◌∙◌, List, ap, arith, drop, length, refl, sum_by}
 use Rattle.std.proofs.lemmas.Bool.Decides.{nat_tests}
 use Rattle.std.proofs.lemmas.List.{drop_all}
 use Rattle.std.proofs.lemmas.List.Sums.{sum_by-cons}
 use Rattle.auction_terms.specs.Allocations.{form_of}
 use Rattle.auction_terms.specs.declared.bids.Bid.{Bid}
 use Rattle.bid_desk.specs.Closing.{book_of}
-use Rattle.presolve.specs.declared.few_bids.TheConstants.{FEW_BIDS}
 use Rattle.presolve.proofs.KeepLaws.{length_book, next_form}
 use Rattle.presolve.proofs.few_bids.has_few_bids.Goals as goal
 

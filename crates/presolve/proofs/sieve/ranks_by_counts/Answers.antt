@@ -1,4 +1,4 @@
-use Rattle.std.proofs.Common.{◌≡◌, ◌≤◌, ◌/◌, ◌+◌, ◌∷◌, ◌++◌, [], List, ℕ, arith, length, length-append, sym, subst, ap, ◌∙◌}
+use Rattle.std.proofs.Common.{◌≡◌, ◌≤◌, ◌/◌, ◌∷◌, ◌++◌, [], List, ℕ, arith, length, length-append, sym, subst, ap, ◌∙◌}
 use Rattle.std.specs.Prelude.{All, min}
 use Rattle.std.specs.List.Sorted.{IsNonDecreasing}
 use Rattle.presolve.proofs.SieveLaws.{next_rank}

@@ -1,5 +1,4 @@
-use Rattle.std.proofs.Common.{◌<◌, ◌≤◌, ℕ, arith}
-use Rattle.std.specs.Prelude.{slice_index}
+use Rattle.std.proofs.Common.{arith}
 use Rattle.presolve.proofs.SieveLaws.{ranked_by}
 use Rattle.presolve.proofs.sieve.ranks_up_to.Goals as goal
 
