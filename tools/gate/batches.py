@@ -6,6 +6,9 @@ are open. An edit is refused where its own function has an open goal of a promis
 callee requires. Where a function without an edit has an open goal, or the check tells nothing of one with an edit, a batch tells
 nothing, and its halves are tried. What a batch doesn't tell, as of a function whose callee has an edit too, is tried with the
 next one, and at last alone.
+
+An edit of a constant is one of the law that states its number: a function with an empty body, a clause of which says `NAME ≡`. It
+is tried alone, since other functions stand on the constant too.
 """
 import os
 import re
@@ -24,6 +27,8 @@ ANSWER = re.compile(r"^(?:\./)?proofs/(\S+)/(?:Answers|Invariants|Proof)\.antt:\
 LOST = re.compile(r"has no field|is not in scope|has no `|was not admitted")
 # The last line of a check that came to its end.
 VERDICT = re.compile(r"^(?:logic=(?:proved|not-proved)|only=\d+)\b", re.M)
+# A constant, at the head of its line.
+CONSTANT = re.compile(r"^ *(?:pub(?:\([^)]*\))? )?const (\w+):", re.M)
 # What a goal is of, by its name: `returns-in-Some-clause-answer`, `loop-row-preserved`, `push-requires`, `invariant_of-result`.
 PROMISES = re.compile(r"^(returns|loop-|invariant_of|decreases)|-requires(-|$)")
 
@@ -37,6 +42,8 @@ class Edit:
     function: object = None
     # whether all that it changes stands there
     is_in_one_body: bool = False
+    # whether it changes a constant, and the function is the law that states its number
+    is_of_constant: bool = False
 
 
 @dataclass
@@ -77,6 +84,26 @@ def place_of(file, old, folder):
     return ((file, inside[-1][0]), inside[-1][1]) if at >= 0 and inside else (None, None)
 
 
+def law_of(file, old, folder):
+    """The law that states the number of the constant at whose line a text stands, by file and place among the file's functions,
+    and itself."""
+    source = read(os.path.join(folder, file)) if file.endswith(".rt") else ""
+    at = source.find(old)
+    named = CONSTANT.match(source, source.rfind("\n", 0, at + len(old) - len(old.lstrip())) + 1) if at >= 0 else None
+    if named is None:
+        return None, None
+    stated = re.compile(r"\bensures\b[^{]*\{[^}]*\b%s ≡" % named[1])
+    for path in sorted(os.listdir(os.path.join(folder, "src"))):
+        if not path.endswith(".rt"):
+            continue
+        text = read(os.path.join(folder, "src", path))
+        lines = text.split("\n")
+        for n, it in enumerate(functions_of(text)):
+            if it.start == it.end and stated.search("\n".join(lines[it.head - 1:it.end])):
+                return ("src/" + path, n), it
+    return None, None
+
+
 def edit_of(path, folder, fault=None):
     """An edit, and the function that it edits, if there is one. One with a fault has no pairs."""
     edit = Edit(path, [] if fault else pairs_of(read(path)))
@@ -89,6 +116,9 @@ def edit_of(path, folder, fault=None):
         later = [place_of(file, old, folder)[0] for file, old, _ in more
                  if old in read(os.path.join(folder, file))]
         edit.is_in_one_body = edit.place is not None and all(place == edit.place for place in later)
+        if edit.place is None and len(telling) == 1:
+            edit.place, edit.function = law_of(*first[:2], folder)
+            edit.is_of_constant = edit.place is not None
     return edit
 
 
@@ -255,7 +285,8 @@ class Trial:
         self.tried_alone += 1
         texts = applied(edit, self.folder, {})
         # (what an edit of several bodies breaks elsewhere is to be told too)
-        check = (lambda texts: self.checked(texts, [edit])) if edit.is_in_one_body else lambda texts: self.check(texts, [])
+        is_of_one = edit.is_in_one_body or edit.is_of_constant
+        check = (lambda texts: self.checked(texts, [edit])) if is_of_one else lambda texts: self.check(texts, [])
         said = check(texts)
         told = goals_in(said)
         function = self.name_of(edit, told)

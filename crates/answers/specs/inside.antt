@@ -1,5 +1,4 @@
 pub mod Claiming
-pub mod GroupTexts
 pub mod Judging
 pub mod Runs
 pub mod SolutionWinners

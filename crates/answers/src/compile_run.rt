@@ -43,6 +43,7 @@ pub fn run_compile<R: Threads + Wait + Sync, G: Gate + Sync, S: Sink>(
     ensures stopped { IfErr result (StopsAsTold book.now (map (compiled book.now) groups.now)
         (S.taken out.old) (S.taken out.new)) }
     ensures failed { IfErr result (FailsAsTold (S.failures out.old) (S.failures out.new)) }
+    ensures succeeded { OnOk result (S.failures out.new ≡ S.failures out.old) }
 {
     // Its contract says that the book is within limits, which the headline's clauses ask for.
     let _rules = book.rules();

@@ -65,6 +65,7 @@ pub fn write_program_without<S: Sink>(
     ensures err { IfErr result (λ e. SentFront (S.taken out.old) (S.taken out.new)
         (text (program_without book.now group.now)) (written_of e)) }
     ensures failed { OnErr result (HasFailed (S.failures out.old) (S.failures out.new)) }
+    ensures succeeded { OnOk result (S.failures out.new ≡ S.failures out.old) }
 {
     let mut writer = Writer::new(out);
     add_program(&mut writer, book, pages, group);
@@ -109,6 +110,7 @@ pub fn write_programs<S: Sink>(
     ensures stopped { IfErr result (StopsAsTold book.now (map (compiled book.now) groups.now)
         (S.taken out.old) (S.taken out.new)) }
     ensures failed { IfErr result (FailsAsTold (S.failures out.old) (S.failures out.new)) }
+    ensures succeeded { OnOk result (S.failures out.new ≡ S.failures out.old) }
 {
     let mut writer = Writer::new(out);
     for place in 0..groups.count() {

@@ -1,6 +1,6 @@
 //! Writing pieces of text.
 
-ghost use Rattle.std.specs.Prelude.{IfErr, OnErr, OnOk, flat_map};
+ghost use Rattle.std.specs.Prelude.{◌≡◌, IfErr, OnErr, OnOk, flat_map};
 ghost use Rattle.std.specs.Io.KnownBytes.{Appends};
 ghost use Rattle.mps_text.specs.Sinks.{HasFailed, SentFront};
 ghost use Rattle.mps_text.specs.Written.{written_of};
@@ -14,6 +14,7 @@ pub fn write_pieces<S: Sink>(pieces: &[&[u8]], sink: &mut S) -> Result<(), Write
     ensures err { IfErr result (λ e. SentFront (S.taken sink.old) (S.taken sink.new)
         (flat_map (λ p. p.now) pieces.now) (written_of e)) }
     ensures failed { OnErr result (HasFailed (S.failures sink.old) (S.failures sink.new)) }
+    ensures succeeded { OnOk result (S.failures sink.new ≡ S.failures sink.old) }
 {
     let mut writer = Writer::new(sink);
     writer.add_pieces(pieces);

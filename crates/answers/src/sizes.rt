@@ -29,6 +29,7 @@ pub fn write_sizes<S: Sink>(program: &Program, out: &mut S) -> Result<(), WriteF
     ensures err { IfErr result (λ e. SentFront (S.taken out.old) (S.taken out.new)
         (sizes_text program.now) (written_of e)) }
     ensures failed { OnErr result (HasFailed (S.failures out.old) (S.failures out.new)) }
+    ensures succeeded { OnOk result (S.failures out.new ≡ S.failures out.old) }
 {
     let mut rows = Buffer::new();
     let mut columns = Buffer::new();

@@ -2,11 +2,12 @@
 
 ghost use Rattle.std.specs.Prelude.{◌≤◌, [], IfErr, OnOk};
 ghost use Rattle.answers.specs.Exact.{Ends, IsUnwritten, Writes};
-ghost use Rattle.answers.specs.inside.GroupTexts.{IsFaithfulWithout};
+ghost use Rattle.answers.specs.FaithfulAnswers.{IsFaithfulToSale};
 ghost use Rattle.answers.specs.Answer.{answer, output_of};
 ghost use Rattle.auction_input.specs.Settled.{held};
 ghost use Rattle.auction_input.specs.Sold.{HasSold};
 ghost use Rattle.group_compiler.specs.declared.limits.TheConstants.{MOST_WORKERS};
+ghost use Rattle.outcome.specs.Sale.{sale_of};
 
 use crate::group_texts::write_program_without;
 use auction_input::{Auction, Refusal, Request, read_auction};
@@ -56,7 +57,7 @@ fn write_program_of_all<R: Threads + Wait + Sync + AllocGlobal, S: Sink>(
 ) -> Result<(), Refusal>
     ensures written { OnOk result (Writes (output_of Request.Text (held auction.now))
         (S.taken out.old) (S.taken out.new)) }
-    ensures faithful { OnOk result (IsFaithfulWithout auction.now.book []) }
+    ensures faithful { OnOk result (IsFaithfulToSale (sale_of auction.now.book) []) }
     ensures refused { IfErr result (Ends (output_of Request.Text (held auction.now))
         (S.taken out.old) (S.taken out.new) (S.failures out.old) (S.failures out.new)) }
 {

@@ -1,7 +1,7 @@
 use Rattle.std.proofs.Common.{rules, ◌≡◌, ◌<◌, ◌+◌, ◌-◌, ◌++◌, ◌∙◌, [], ℕ, List, ap, length, map, slice_index_or, take, drop, sym, arith, refl}
 use Rattle.std.proofs.lemmas.List.{append-nil, get_or-map, length-map}
 use Rattle.group_compiler.specs.Compiled.{GroupProgram, compiled}
-use Rattle.mps_text.proofs.Adding.{Adds-then, Adds-to}
+use Rattle.mps_text.proofs.Adding.{Adds-then, Adds-to, sent-quiet}
 use Rattle.outcome.specs.Report.{in_turn}
 use Rattle.answers.specs.GroupTexts.{program_bytes}
 use Rattle.answers.proofs.GroupTextFacts.{ends-in, ends-told, fails-told, in_turn-more, in_turn-rest}
@@ -58,3 +58,8 @@ returns-in-Err-clause-stopped g c =
 
 pub returns-in-Err-clause-failed : goal.returns-in-Err-clause-failed
 returns-in-Err-clause-failed g c = rw c.fault_in.ensures (fails-told _ c.new-writer.ensures c.loop-place.invariant.added (Adds-then c.add_group.ensures c.flush.ensures.adds) c.in-Err.ensures.err (search rules))
+
+pub returns-clause-succeeded : goal.returns-clause-succeeded
+returns-clause-succeeded g c =
+    let out : c.out-1.given.0 ≡ c.loop-place.writer.sink.now = search rules in
+    ap g.S.Sink.failures out ∙ sent-quiet c.new-writer.ensures c.loop-place.invariant.added c.loop-place.invariant.sent
