@@ -1,6 +1,6 @@
 //! A list of numbers, 0 behind its end, and a list of places.
 
-ghost use Rattle.std.specs.Prelude.{◌≡◌, ◌<◌, ℕ, OnOk, false, length, pos, slice_set, true, vec_len};
+ghost use Rattle.std.specs.Prelude.{◌≡◌, ◌<◌, ℕ, OnOk, false, pos, slice_set, true, vec_len};
 ghost use Rattle.optimality.specs.inside.Adding as adding;
 ghost use Rattle.optimality.specs.inside.Adding.{AreAsBefore, has_place};
 

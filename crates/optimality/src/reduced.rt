@@ -1,6 +1,6 @@
 //! The least that the columns come to: what the costs alone come to, and what cuts and rows change of that.
 
-ghost use Rattle.std.specs.Prelude.{◌≡◌, ◌<◌, Some, IfOk, OnOk, ◌+ℤ◌, ◌*ℤ◌, length, pos, slice_get};
+ghost use Rattle.std.specs.Prelude.{◌≡◌, ◌<◌, Some, IfOk, ◌+ℤ◌, ◌*ℤ◌, length, pos, slice_get};
 ghost use Rattle.std.specs.Option.{option_map};
 ghost use Rattle.optimality.specs.inside.Adding as adding;
 ghost use Rattle.optimality.specs.inside.Adding.{change_at, least_with, number_at};

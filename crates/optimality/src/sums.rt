@@ -1,8 +1,8 @@
 //! Sums by place, of which those that may differ from 0 are listed.
 
-ghost use Rattle.std.specs.Prelude.{◌≡◌, ◌<◌, ◌^◌, ◌-ℤ◌, ◌≤ℤ◌, IfOk, IfSome, OnOk, length, neg_ℤ, pos, vec_len};
+ghost use Rattle.std.specs.Prelude.{◌≡◌, ◌<◌, ◌^◌, ◌-ℤ◌, ◌≤ℤ◌, IfSome, OnOk, neg_ℤ, pos, vec_len};
 ghost use Rattle.optimality.specs.inside.Adding as adding;
-ghost use Rattle.optimality.specs.inside.Adding.{AreAsBefore, AreGivenMore, AreListed, AreNone, IsTaken, at_place};
+ghost use Rattle.optimality.specs.inside.Adding.{AreGivenMore, AreListed, AreNone, IsTaken, at_place};
 
 use crate::arithmetic::{plus, plus_product};
 use crate::limit::Limit;

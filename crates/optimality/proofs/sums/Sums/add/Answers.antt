@@ -1,4 +1,4 @@
-use Rattle.std.proofs.Common.{◌≡◌, arith, rules, subst, ℤ, ◌+ℤ◌}
+use Rattle.std.proofs.Common.{◌≡◌, arith, rules, subst, ℤ}
 use Rattle.std.specs.Prelude.{◌-ℤ◌}
 use Rattle.std.proofs.lemmas.Int.{ints, to_z-of_z}
 use Rattle.std.proofs.lemmas.Result.{on_ok_weaker}
