@@ -19,7 +19,7 @@ import tempfile
 
 sys.dont_write_bytecode = True
 sys.path.insert(0, os.path.join(os.path.dirname(os.path.realpath(__file__)), ".."))
-import measuring
+import measuring  # noqa: E402
 
 BIDS, CATEGORIES, BASE = 4000, 32, 700
 SAMPLE = 31
