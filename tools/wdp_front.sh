@@ -33,14 +33,30 @@ is_piped() {
     esac
 }
 
+# Whether Python is there, and may have the memory that it takes.
+has_python() {
+    [ -x /usr/bin/python3 ] || return 1
+    # shellcheck disable=SC3045
+    allowed=$(ulimit -v 2> /dev/null)
+    case $allowed in
+        '' | *[!0-9]*) return 0 ;;
+        *) [ "$allowed" -ge 32768 ] ;;
+    esac
+}
+
 front() {
     tools=$1
     program=$2
     shift 2
+    # beyond a limit on the size of files a write fails then, which the program tells, where a signal would end it without a word
+    trap '' XFSZ
     if are_plain "$@"; then
-        if [ ! -x /usr/bin/python3 ] || { [ ! -t 0 ] && ! is_piped "$@"; }; then exec "$program" "$@"; fi
+        if { [ ! -t 0 ] && ! is_piped "$@"; } || ! has_python; then exec "$program" "$@"; fi
     elif [ ! -x /usr/bin/python3 ]; then
         echo "wdp: files on the command line need /usr/bin/python3; standard input and output don't: wdp COMMAND < FILE > FILE" >&2
+        exit 1
+    elif ! has_python; then
+        echo "wdp: files on the command line need 32 MB of memory, ulimit -v 32768; standard input and output don't: wdp COMMAND < FILE > FILE" >&2
         exit 1
     fi
     exec "$tools/wdp_front" "$program" "$@"

@@ -7,11 +7,16 @@ callee requires. Where a function without an edit has an open goal, or the check
 nothing, and its halves are tried. What a batch doesn't tell, as of a function whose callee has an edit too, is tried with the
 next one, and at last alone.
 
+The other functions of a crate that was just proved aren't proved once more: what they state is taken, by a hole in the place of
+each one's proof. A wrong body changes no contract, so none of them can break by it.
+
 An edit of a constant is one of the law that states its number: a function with an empty body, a clause of which says `NAME ≡`. It
 is tried alone, since other functions stand on the constant too.
 """
 import os
 import re
+import shutil
+import subprocess
 import tempfile
 import time
 from dataclasses import dataclass, field
@@ -29,6 +34,15 @@ LOST = re.compile(r"has no field|is not in scope|has no `|was not admitted")
 VERDICT = re.compile(r"^(?:logic=(?:proved|not-proved)|only=\d+)\b", re.M)
 # A constant, at the head of its line.
 CONSTANT = re.compile(r"^ *(?:pub(?:\([^)]*\))? )?const (\w+):", re.M)
+# What stands in the place of a proof, and what a check says where it can't stand there.
+HOLE = """use Rattle.%s.proofs.%s.Statement as stated
+pub %s_spec : {M : Type 1} → stated.statement M
+%s_spec = ?
+"""
+PROOF = "/Proof.antt"
+NO_HOLE = re.compile(r"^(?:\./)?proofs/\S+/Proof\.antt:\d+:\d+: error", re.M)
+# What is proved, where holes are allowed in what it stands on.
+PROVED = ("proved", "no holes", "depends on a hole")
 # What a goal is of, by its name: `returns-in-Some-clause-answer`, `loop-row-preserved`, `push-requires`, `invariant_of-result`.
 PROMISES = re.compile(r"^(returns|loop-|invariant_of|decreases)|-requires(-|$)")
 
@@ -158,7 +172,7 @@ def goals_in(said):
         goals = [goal for found in GOALS.findall(status) for goal in re.findall(r"`([^`]+)`", found)]
         # (a loop that nothing shows to end has no goal yet)
         goals += ["decreases"] if "expected a measure" in status else []
-        told[name.partition("::")[2]] = Told(status.startswith(("proved", "no proof", "not proved")), status.startswith("proved"), goals)
+        told[name.partition("::")[2]] = Told(status.startswith((*PROVED, "no proof", "not proved")), status.startswith(PROVED), goals)
     for place, goal, why in ANSWER.findall(said):
         name = place.replace("/", "::")
         if name in told:
@@ -209,12 +223,13 @@ def without(text, goals):
 
 class Trial:
     """The trial of a crate's edits. `check(texts, functions)` is what a check of the crate says with these texts in place of its
-    own, of these functions and what they call, or of all where none is named; `fault_of(path)` says why an edit can't be
-    applied, or nothing. Where the crate wasn't proved just before, a check without edits has to prove the edited functions. Where
-    the toolchain is asked, an edit that it refuses counts as refused although no promise is seen to refuse it, and says so."""
+    own (None for a file that isn't there), of these functions and what they call, or of all where none is named; `fault_of(path)`
+    says why an edit can't be applied, or nothing. Where the crate wasn't proved just before, a check without edits has to prove
+    the edited functions. `proved` are the check's names of functions that are proved without edits, behind the crate's. Where the
+    toolchain is asked, an edit that it refuses counts as refused although no promise is seen to refuse it, and says so."""
 
-    def __init__(self, crate, folder, edits, check, fault_of, is_proved=False, is_refused_by_toolchain=lambda path: False):
-        self.crate, self.folder, self.check, self.is_proved = crate, folder, check, is_proved
+    def __init__(self, crate, folder, edits, check, fault_of, is_proved=False, is_refused_by_toolchain=lambda path: False, proved=()):
+        self.crate, self.folder, self.check, self.is_proved, self.proved = crate, folder, check, is_proved, list(proved)
         self.is_refused_by_toolchain = is_refused_by_toolchain
         self.faults = {path: fault_of(path) for path in edits}
         self.edits = [edit_of(path, folder, self.faults[path]) for path in edits]
@@ -232,6 +247,30 @@ class Trial:
         alike = sum((it.name, it.owner) == (edit.function.name, edit.function.owner) for it in functions)
         return names[0] if len(names) == 1 and alike == 1 else None
 
+    def holes(self, edits):
+        """Files that put a hole in the place of the proof of each function that is proved, but for those of these edits."""
+        edited = [self.name_of(edit, self.proved) for edit in edits]
+        if None in edited:
+            return {}
+        texts = {}
+        for name in self.proved:
+            parts = name.split("::")
+            # (closures are proved with their function, and what is let go has no file)
+            if name not in edited and "fn" not in parts and "++" not in name:
+                folder = "proofs/" + "/".join(parts)
+                texts[folder + PROOF] = HOLE % (self.crate, ".".join(parts), parts[-1], parts[-1])
+                texts.update({folder + file: None for file in ("/Answers.antt", "/Invariants.antt")})
+        return texts
+
+    def said_of(self, texts, functions, edits):
+        """What a check says of these functions, with holes for the others where it takes them."""
+        holes = self.holes(edits)
+        said = self.check({**holes, **texts}, functions)
+        if holes and NO_HOLE.search(said):
+            self.proved = []
+            said = self.check(texts, functions)
+        return said
+
     def checked(self, texts, edits):
         """What a check says of the functions of these edits and of those that they call, or of their modules' where a
         function's name isn't what the toolchain calls it. (A function is called by the end of its name.)"""
@@ -241,7 +280,7 @@ class Trial:
                        for edit in edits)
         said = ""
         for paths in (names, modules if all(modules) else [], []):
-            said = self.check(texts, paths)
+            said = self.said_of(texts, paths, edits)
             if SAID.search(said):
                 break
         return said
@@ -323,6 +362,7 @@ class Trial:
         """Says that an edit is none where its function isn't proved without it."""
         edits = [edit for edit in self.edits if edit.path not in self.answers]
         told = goals_in(self.checked({}, edits)) if edits else {}
+        self.proved = [name for name, it in told.items() if it.is_proved]
         for edit in edits:
             function = self.name_of(edit, told)
             if function and any(is_within(name, function) and (it.goals or it.lost) for name, it in told.items()):
@@ -349,18 +389,37 @@ class Trial:
         return [self.answers[edit.path] for edit in self.edits]
 
 
-def trial_of(rt, is_proved=False, share=None):
+def checked(rt, crate, texts, flags, kept):
+    """What a check of a copy of the crate says, with these texts in place of its own."""
+    with tempfile.TemporaryDirectory(prefix="rt-edit-") as room:
+        for part in rt.rtlib.PARTS:
+            if os.path.isdir(os.path.join(crate.folder, part)):
+                shutil.copytree(os.path.join(crate.folder, part), os.path.join(room, part))
+        for path, text in texts.items():
+            path = os.path.join(room, path)
+            if text is not None:
+                os.makedirs(os.path.dirname(path), exist_ok=True)
+                with open(path, "w", encoding="utf-8") as file:
+                    file.write(text)
+            elif os.path.exists(path):
+                os.remove(path)
+        words = [*rt.rtlib.guarded(), rt.rtlib.RATTLE, "check", *crate.words(flags, keeps=False), "--incremental", kept]
+        return subprocess.run(words, cwd=room, stdin=subprocess.DEVNULL, stdout=subprocess.PIPE, stderr=subprocess.STDOUT, errors="replace").stdout
+
+
+def trial_of(rt, is_proved=False, share=None, proved_in=lambda crate: ()):
     """What takes the place of rt's own trial of a crate's edits, each in turn. The gate tries those of a crate that it just proved,
-    each check on as many processors as it may use then (`share()`)."""
+    whose functions it knows (`proved_in(crate)`), each check on as many processors as it may use then (`share()`)."""
     def must_fail_all(crate, edits, flags):
         with tempfile.TemporaryDirectory(prefix="rt-edits-") as kept:
             def check(texts, functions):
                 jobs = ["--jobs", str(share())] if share else flags
                 only = [word for name in functions for word in ("--only", name)]
-                return rt.checked(crate, texts, [*jobs, *only], kept).stdout
+                holes = ["--allow-holes"] if any(path.endswith(PROOF) for path in texts) else []
+                return checked(rt, crate, texts, [*jobs, *only, *holes], kept)
 
             trial = Trial(crate.name, crate.folder, edits, check, lambda path: rt.read_edit(path, crate.folder)[1], is_proved,
-                          lambda path: is_proved and is_refused(rt, crate, path, flags))
+                          lambda path: is_proved and is_refused(rt, crate, path, flags), proved_in(crate))
             started, answers = time.time(), trial.run()
         told = sum(is_refused for is_refused, _ in answers)
         rt.say("%s: %d of %d edits refused, in %d checks of many and %d of one, %d s"

@@ -12,6 +12,13 @@ from concurrent.futures import ThreadPoolExecutor
 COUNTS = re.compile(rb"(?:\A|\n)(\d+) passed, (\d+) failed\s*\Z")
 
 
+def step_back(process, niceness):
+    """Gives the session that a process leads a priority: where the kernel shares processors out by sessions, that of a process
+    counts within its own alone."""
+    with contextlib.suppress(OSError), open("/proc/%d/autogroup" % process, "w") as group:
+        group.write(str(niceness))
+
+
 class Steps:
     """Runs steps in a folder, and adds up what they counted. A step without that last line has failed, and so has one that ends with
     another status than 0 and counts no failure."""
@@ -33,6 +40,7 @@ class Steps:
                 return False
             # (a group of its own, so that all of it can be ended)
             run = subprocess.Popen(["nice", "-n", str(niceness), *map(str, words)], start_new_session=True, **how)
+            step_back(run.pid, niceness)
             self.running.add(run)
             if self.is_stopped:
                 self.end(run)

@@ -206,6 +206,11 @@ def forget(where, solvers, groups, claimed):
                 os.unlink(os.path.join(path, name))
 
 
+def settled_groups(given, solver):
+    """The groups of which it is proved whether others tie, so that what the solver says of it isn't needed."""
+    return folder.numbers_done(given.folder, "only", solver) & set(only_groups(given))
+
+
 def kinds_of(given, solvers, groups):
     """The steps that groups have, each with its solver, and the groups that have it."""
     main, each = solvers[0].name, list(range(1, groups + 1))
@@ -213,19 +218,27 @@ def kinds_of(given, solvers, groups):
     if given.certify:
         kinds["certify", main] = each
     if given.ties:
-        kinds["ties", main] = tied_groups(given, groups)
+        kinds["ties", main] = [group for group in tied_groups(given, groups) if group not in settled_groups(given, main)]
     if only_groups(given):
         kinds["only", main] = only_groups(given)
     return kinds
 
 
-def missing_lines(progress):
-    """What is missing, each with its state and why; what waits for a solution that is missing too isn't told again."""
+def is_settled(given, step, solver, group, ended):
+    """Whether a proof stands in for what a step was to find. A better answer that it found is told all the same."""
+    return step == "ties" and group in settled_groups(given, solver) and ended.get("state") != folder.NOT_OPTIMAL
+
+
+def missing_lines(given, progress):
+    """What is missing, each with its state and why; what waits for a solution that is missing too isn't told again, nor is a
+    solver's word on ties where a proof has settled it."""
     for step, solver in progress.kinds:
         for group in progress.missing((step, solver)):
             if step != "solve" and group not in progress.done["solve", solver]:
                 continue
             ended = progress.ended(step, solver, group)
+            if is_settled(given, step, solver, group, ended):
+                continue
             state = ended.get("state", "done")
             told = DONE_WITHOUT if state == "done" or ended["ended"] < progress.since - 1 else "%s: %s" % (state, ended.get("words"))
             yield state, FAILED[step] % (group, solver) + ": " + told
@@ -343,13 +356,17 @@ def tell_end(given, solvers, auction, progress, status, log_start):
     main, groups = solvers[0].name, len(auction.groups)
     report = os.path.join(given.folder, folder.report_path(main))
     page = os.path.join(given.folder, "results", main, "results.html")
-    missing, wrong = list(missing_lines(progress)), list(other_failures(given, solvers))
+    missing, wrong = list(missing_lines(given, progress)), list(other_failures(given, solvers))
     is_solved = all(not progress.missing(("solve", solver.name)) for solver in solvers)
     is_made, is_disproved = not missing and not wrong and status == 0, any(state == folder.NOT_OPTIMAL for state, _ in missing + wrong)
-    if missing and not wrong and is_solved and not is_disproved:
+    # an engine counts a query that ran out of time as failed, though a proof says more than its answer would
+    needs_none = not missing and any(progress.missing(kind) for kind in progress.kinds)
+    if (missing or needs_none) and not wrong and is_solved and not is_disproved:
         is_made = results_without(given, solvers, progress)
         wrong = list(other_failures(given, solvers))
         is_disproved = any(state == folder.NOT_OPTIMAL for state, _ in wrong)
+        if needs_none and is_made and not wrong:
+            status = 0
     lines = ["missing: " + line for _, line in missing + wrong]
     if is_disproved:
         return tell_disproved(given, lines)

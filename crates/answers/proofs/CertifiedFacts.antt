@@ -12,9 +12,9 @@ use Rattle.group_compiler.specs.Compiled.{program_without}
 use Rattle.optimality.specs.Answers.{IsLimit}
 use Rattle.optimality.specs.Verdict.{certificate_fault}
 use Rattle.program_rows.specs.Program.{Table}
-use Rattle.optimality.specs.declared.fault.CertificateFault.{CertificateFault}
-use Rattle.optimality.specs.declared.fault.FaultKind.{FaultKind}
-use Rattle.optimality.specs.declared.fault.FaultKind.TheVariants as kind
+use Rattle.program_faults.specs.declared.certificate_fault.CertificateFault.{CertificateFault}
+use Rattle.program_faults.specs.declared.certificate_fault.FaultKind.{FaultKind}
+use Rattle.program_faults.specs.declared.certificate_fault.FaultKind.TheVariants as kind
 use Rattle.answers.specs.Certified.{bounds_of, certified, shown}
 use Rattle.auction_input.specs.Refused.{Refuses}
 use Rattle.auction_input.specs.declared.refusal.Refusal.{Refusal}

@@ -22,11 +22,11 @@ use Rattle.auction_input.proofs.AnswerFacts.{ok-behind, ok-is}
 use Rattle.auction_input.proofs.StageFacts.{next}
 use Rattle.optimality.specs.Answers.{IsLimit, IsVerdict}
 use Rattle.optimality.specs.Only.{only_fault}
-use Rattle.optimality.specs.declared.fault.CertificateFault.{CertificateFault}
-use Rattle.optimality.specs.declared.fault.FaultKind.{FaultKind}
-use Rattle.outcome.specs.Sale.{Sale}
+use Rattle.program_faults.specs.declared.certificate_fault.CertificateFault.{CertificateFault}
+use Rattle.program_faults.specs.declared.certificate_fault.FaultKind.{FaultKind}
+use Rattle.bid_desk.specs.Sale.{Sale}
 use Rattle.outcome.specs.Solution.{solution}
-use Rattle.outcome.specs.declared.fault.SolutionFault.TheVariants as fault
+use Rattle.program_faults.specs.declared.solution_fault.SolutionFault.TheVariants as fault
 use Rattle.outcome.specs.declared.uniqueness.Uniqueness.{Uniqueness}
 use Rattle.outcome.specs.declared.uniqueness.Uniqueness.TheVariants as uniqueness
 use Rattle.answers.specs.Claimed.{claim_told, claims_told, first_program, of_tie, only_or_rival, only_told, tie_told, tied}

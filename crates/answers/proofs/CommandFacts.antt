@@ -15,7 +15,7 @@ use Rattle.mps_text.specs.Written.{written_of}
 use Rattle.mps_text.specs.declared.write_fault.WriteFault.{WriteFault}
 use Rattle.mps_text.specs.declared.write_fault.WriteFault.TheVariants as write
 use Rattle.outcome.specs.Report.{allocation_text, in_turn}
-use Rattle.outcome.specs.Sale.{sale_of}
+use Rattle.bid_desk.specs.Sale.{sale_of}
 use Rattle.program_rows.specs.Program.{Table}
 use Rattle.auction_input.specs.Auction.{Auction, auction_told}
 use Rattle.auction_input.specs.Refused.{Refuses}
@@ -32,8 +32,8 @@ use Rattle.answers.specs.inside.SolutionWinners.{winners}
 use Rattle.auction_input.specs.declared.auction.Auction as declared
 use Rattle.auction_input.specs.declared.refusal.CountedPart.TheVariants as counted
 use Rattle.auction_input.specs.declared.refusal.Refusal.TheVariants as refusal
-use Rattle.auction_input.specs.declared.request.Request.TheVariants as request
-use Rattle.auction_input.specs.declared.request.Request.{Request}
+use Rattle.requests.specs.declared.request.Request.TheVariants as request
+use Rattle.requests.specs.declared.request.Request.{Request}
 use Rattle.auction_input.proofs.StageFacts.{next, refuses-as, stop}
 
 abbrev Text : Type 0

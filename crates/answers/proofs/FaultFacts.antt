@@ -5,10 +5,10 @@ use Rattle.auction_input.specs.declared.refusal.Refusal.{Refusal}
 use Rattle.auction_terms.specs.Stages.{Answers, refused_as}
 use Rattle.auction_input.specs.declared.refusal.Refusal.TheVariants as refusal
 use Rattle.mps_reader.specs.Answer.{IsRead}
-use Rattle.mps_reader.specs.declared.mps_fault.MpsFault.{MpsFault}
+use Rattle.program_faults.specs.declared.mps_fault.MpsFault.{MpsFault}
 use Rattle.outcome.specs.Solution as solution_text
-use Rattle.outcome.specs.declared.fault.SolutionFault.TheVariants as solution
-use Rattle.outcome.specs.declared.fault.SolutionFault.{SolutionFault}
+use Rattle.program_faults.specs.declared.solution_fault.SolutionFault.TheVariants as solution
+use Rattle.program_faults.specs.declared.solution_fault.SolutionFault.{SolutionFault}
 use Rattle.program_rows.specs.Program.{Table}
 use Rattle.program_rows.specs.declared.fault.FaultKind.{FaultKind}
 use Rattle.auction_input.specs.Line.{refusal_text}

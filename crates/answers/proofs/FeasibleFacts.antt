@@ -13,12 +13,12 @@ use Rattle.auction_input.specs.PartsTold.{only_text}
 use Rattle.auction_input.specs.declared.refusal.Refusal.{Refusal}
 use Rattle.auction_input.specs.declared.refusal.CountedPart.TheVariants as counted
 use Rattle.auction_input.specs.declared.refusal.Refusal.TheVariants as refusal
-use Rattle.auction_input.specs.declared.request.Request.TheVariants as request
+use Rattle.requests.specs.declared.request.Request.TheVariants as request
 use Rattle.auction_input.proofs.AnswerFacts.{ok-behind, ok-is, ok-refused_as}
 use Rattle.auction_input.proofs.WithinFacts.{auction-within}
 use Rattle.outcome.specs.PointAllocation.{allocation_of}
 use Rattle.outcome.specs.Report.{allocation_text, report_text}
-use Rattle.outcome.specs.Sale.{Sale}
+use Rattle.bid_desk.specs.Sale.{Sale}
 use Rattle.outcome.specs.Solution.{solution}
 use Rattle.outcome.proofs.BackLaws.{solutions_come_back}
 use Rattle.program_rows.specs.Program.{Table}

@@ -1,4 +1,3 @@
-mod AskedFacts
 pub mod CertifiedFacts
 pub mod ClaimedFacts
 pub mod CommandFacts
@@ -9,6 +8,7 @@ pub mod FeasibleFacts
 pub mod GroupTextFacts
 mod LineFacts
 pub mod OnlyFacts
+pub mod ProgramTextFacts
 pub mod ReportFacts
 pub mod RunFacts
 mod SizeFacts

@@ -19,12 +19,12 @@ use Rattle.auction_input.proofs.RecordFacts.{none-failed}
 use Rattle.optimality.proofs.OnlyLaws.{shown-is-only}
 use Rattle.optimality.proofs.VerdictLaws.{only-verdict}
 use Rattle.optimality.specs.Only.{only_fault}
-use Rattle.optimality.specs.declared.fault.FaultKind.{FaultKind}
+use Rattle.program_faults.specs.declared.certificate_fault.FaultKind.{FaultKind}
 use Rattle.outcome.proofs.BackLaws.{back_bidders, same_sum, solutions_come_back}
 use Rattle.outcome.proofs.PointLaws.{solutions_are_points}
 use Rattle.outcome.proofs.TieLaws.{others_tie, only_first_settles_costs, rivals_tie}
 use Rattle.outcome.specs.PointAllocation.{HasRisingBidders, allocation_of}
-use Rattle.outcome.specs.Sale.{Sale}
+use Rattle.bid_desk.specs.Sale.{Sale}
 use Rattle.outcome.specs.Solution.{solution}
 use Rattle.outcome.specs.Ties.{same_choices}
 use Rattle.outcome.specs.declared.uniqueness.Uniqueness.TheVariants as uniqueness

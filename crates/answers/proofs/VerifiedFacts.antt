@@ -11,10 +11,10 @@ use Rattle.optimality.proofs.BoundLaws.{shown-is-bound}
 use Rattle.optimality.proofs.VerdictLaws.{verdict}
 use Rattle.optimality.specs.Laws.{IsBound}
 use Rattle.optimality.specs.Verdict.{certificate_fault}
-use Rattle.optimality.specs.declared.fault.FaultKind.{FaultKind}
+use Rattle.program_faults.specs.declared.certificate_fault.FaultKind.{FaultKind}
 use Rattle.outcome.proofs.CostLaws.{costs_are_bounded, costs_are_own}
 use Rattle.outcome.specs.Report.{report_text}
-use Rattle.outcome.specs.Sale.{Sale}
+use Rattle.bid_desk.specs.Sale.{Sale}
 use Rattle.outcome.specs.Uniqueness.{uniqueness_text}
 use Rattle.outcome.specs.declared.uniqueness.Uniqueness.{Uniqueness}
 use Rattle.outcome.specs.declared.uniqueness.Uniqueness.TheVariants as uniqueness
@@ -34,7 +34,7 @@ use Rattle.answers.specs.commands.Verify.{report_and_claim}
 use Rattle.answers.specs.inside.SolutionWinners.{winners}
 use Rattle.auction_input.specs.declared.refusal.CountedPart.TheVariants as counted
 use Rattle.auction_input.specs.declared.refusal.Refusal.TheVariants as refusal
-use Rattle.auction_input.specs.declared.request.Request.TheVariants as request
+use Rattle.requests.specs.declared.request.Request.TheVariants as request
 use Rattle.auction_input.proofs.AnswerFacts.{ok-behind, ok-is, unless-ok}
 use Rattle.auction_input.proofs.WithinFacts.{auction-within}
 use Rattle.answers.proofs.ClaimedFacts.{some-group, wins-first}

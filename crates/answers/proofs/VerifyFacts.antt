@@ -11,7 +11,7 @@ use Rattle.auction_input.specs.declared.refusal.Refusal.{Refusal}
 use Rattle.answers.specs.Claimed.{claim_told}
 use Rattle.answers.specs.Exact.{Ends, IsBeyondSums, IsTooWide, IsTooWideClaim, IsUnwritten, by_refusal}
 use Rattle.auction_terms.specs.Stages.{and_then}
-use Rattle.auction_input.specs.declared.request.Request.TheVariants as request
+use Rattle.requests.specs.declared.request.Request.TheVariants as request
 use Rattle.auction_input.proofs.StageFacts.{behind, next, stop}
 
 -- an auction of which nothing is written

@@ -22,7 +22,7 @@ use Rattle.outcome.specs.Coming.{ComesBack}
 use Rattle.outcome.specs.Solution.{solution}
 use Rattle.outcome.specs.PointAllocation.{IsMap, allocation_of}
 use Rattle.outcome.specs.inside.Winning.{by_bidder}
-use Rattle.outcome.specs.declared.fault.SolutionFault.{SolutionFault}
+use Rattle.program_faults.specs.declared.solution_fault.SolutionFault.{SolutionFault}
 use Rattle.auction_terms.specs.Stages.{refused_as}
 use Rattle.answers.specs.SolutionWinners.{solution_refused, winners_by}
 use Rattle.auction_input.proofs.StageFacts.{next}

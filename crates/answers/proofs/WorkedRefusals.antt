@@ -9,7 +9,7 @@ use Rattle.auction_input.specs.declared.refusal.CountedPart.TheVariants as count
 use Rattle.auction_input.specs.declared.parts.PartFault.TheVariants as part_fault
 use Rattle.answers.specs.Answer.{answer}
 use Rattle.auction_input.specs.declared.refusal.Refusal.TheVariants as refusal
-use Rattle.auction_input.specs.declared.request.Request.TheVariants.{Text}
+use Rattle.requests.specs.declared.request.Request.TheVariants.{Text}
 
 two_rules : answer Text (codes "%rules\nrules,1,1,,\ncategory,A,2,10,1\ncategory,B,1,5,1\nbidder,Alpha,9,2,\nbidder,Beta,9,1,\nbidder,Gamma,9,1,\n%rules\nrules,1,1,,\ncategory,A,2,10,1\ncategory,B,1,5,1\nbidder,Alpha,9,2,\nbidder,Beta,9,1,\nbidder,Gamma,9,1,\n") ≡ Err (refusal.PartCount counted.Rules)
 unfolding first_fault

@@ -9,7 +9,7 @@ use Rattle.program_rows.specs.Numbers.{number}
 use Rattle.program_rows.specs.declared.fault.FaultKind.TheVariants as kind
 use Rattle.answers.specs.Answer.{answer}
 use Rattle.auction_input.specs.declared.refusal.Refusal.TheVariants as refusal
-use Rattle.auction_input.specs.declared.request.Request.TheVariants.{Check}
+use Rattle.requests.specs.declared.request.Request.TheVariants.{Check}
 
 sizes : answer Check (codes "NAME wdp\nROWS\n N OBJ\n L B3\n L C1\n L C2\nCOLUMNS\n M1 'MARKER' 'INTORG'\n X3_1 OBJ -12\n X3_1 B3 1\n X3_1 C2 1\n M2 'MARKER' 'INTEND'\nRHS\n RHS B3 1\n RHS C1 2\n RHS C2 1\nBOUNDS\n UP BND X3_1 1\nENDATA\n") ≡ Ok (codes "rows 3 columns 1 entries 2\n")
 unfolding digits meaning fields line_of number fault program

@@ -2,8 +2,8 @@
 use Rattle.std.specs.Prelude.{ℕ, List, Result}
 use Rattle.auction_input.specs.Auction.{Auction, auction_told}
 use Rattle.auction_input.specs.declared.refusal.Refusal.{Refusal}
-use Rattle.auction_input.specs.declared.request.Request.TheVariants.{Check, Compile, Map, Report, Verify}
-use Rattle.auction_input.specs.declared.request.Request.{Request}
+use Rattle.requests.specs.declared.request.Request.TheVariants.{Check, Compile, Map, Report, Verify}
+use Rattle.requests.specs.declared.request.Request.{Request}
 use Rattle.auction_terms.specs.Stages.{and_then}
 use Rattle.answers.specs.commands.Check.{sizes_told}
 use Rattle.answers.specs.commands.Compile.{texts_of_groups}

@@ -11,8 +11,8 @@ use Rattle.auction_input.specs.declared.refusal.Refusal.TheVariants as refusal
 use Rattle.auction_terms.specs.Allocations.{total}
 use Rattle.auction_terms.specs.declared.choices.Choice.{Choice}
 use Rattle.optimality.specs.Verdict.{certificate_fault}
-use Rattle.optimality.specs.declared.fault.FaultKind.{FaultKind}
-use Rattle.outcome.specs.Sale.{Sale}
+use Rattle.program_faults.specs.declared.certificate_fault.FaultKind.{FaultKind}
+use Rattle.bid_desk.specs.Sale.{Sale}
 use Rattle.program_rows.specs.Program.{Table}
 
 -- what the certificate of a group is to show of what is won without the group: a program, the objective below which it has no point, and the certificate

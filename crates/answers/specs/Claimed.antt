@@ -12,8 +12,8 @@ use Rattle.auction_terms.specs.Only.{first_rival, with_bid}
 use Rattle.auction_terms.specs.Stages.{and_then, refused_as, unless}
 use Rattle.auction_terms.specs.declared.choices.Choice.{Choice}
 use Rattle.optimality.specs.Only.{only_fault}
-use Rattle.optimality.specs.declared.fault.FaultKind.{FaultKind}
-use Rattle.outcome.specs.Sale.{Sale}
+use Rattle.program_faults.specs.declared.certificate_fault.FaultKind.{FaultKind}
+use Rattle.bid_desk.specs.Sale.{Sale}
 use Rattle.outcome.specs.Solution.{solution}
 use Rattle.outcome.specs.Ties.{same_choices}
 use Rattle.outcome.specs.declared.uniqueness.Uniqueness.TheVariants as uniqueness

@@ -7,12 +7,12 @@ use Rattle.auction_input.specs.declared.refusal.Refusal.{Refusal}
 use Rattle.auction_input.specs.Settled.{IsUnsettled}
 use Rattle.auction_terms.specs.Stages.{each_in_turn}
 use Rattle.auction_input.specs.declared.refusal.Refusal.TheVariants as refusal
-use Rattle.auction_input.specs.declared.request.Request.TheVariants as request
-use Rattle.auction_input.specs.declared.request.Request.{Request}
+use Rattle.requests.specs.declared.request.Request.TheVariants as request
+use Rattle.requests.specs.declared.request.Request.{Request}
 use Rattle.auction_terms.specs.declared.choices.Choice.{Choice}
 use Rattle.mps_text.specs.Sinks.{HasFailed, SentFront}
 use Rattle.mps_text.specs.declared.write_fault.WriteFault.TheVariants as write
-use Rattle.optimality.specs.declared.fault.FaultKind.TheVariants as certificate
+use Rattle.program_faults.specs.declared.certificate_fault.FaultKind.TheVariants as certificate
 use Rattle.program_rows.specs.Program.{Table}
 use Rattle.answers.specs.Answer.{answer}
 use Rattle.answers.specs.Certified.{bounds_of, certified, shown}

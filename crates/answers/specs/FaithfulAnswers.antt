@@ -3,12 +3,12 @@ use Rattle.std.specs.Prelude.{◌≡◌, ℕ, false, List, Ok}
 use Rattle.std.specs.List.{AllByRecursion}
 use Rattle.auction_input.specs.Auction.{Auction, auction_told}
 use Rattle.auction_input.specs.BookLeft.{program_for}
-use Rattle.auction_input.specs.declared.request.Request.TheVariants.{Compile, Text}
+use Rattle.requests.specs.declared.request.Request.TheVariants.{Compile, Text}
 use Rattle.auction_terms.specs.Groups.{has}
 use Rattle.mps_text.specs.FaithfulText.{IsFaithfulText}
 use Rattle.mps_text.specs.Text.{text}
 use Rattle.outcome.specs.Report.{in_turn}
-use Rattle.outcome.specs.Sale.{Sale}
+use Rattle.bid_desk.specs.Sale.{Sale}
 use Rattle.answers.specs.Answer.{answer}
 use Rattle.answers.specs.GroupTexts.{program_text}
 

@@ -2,12 +2,12 @@
 use Rattle.std.specs.Prelude.{◌≡◌, ◌-◌, ℕ, List, [], Ok, slice_index_or}
 use Rattle.std.specs.List.{AllZip}
 use Rattle.auction_input.specs.Auction.{Auction, auction_told}
-use Rattle.auction_input.specs.declared.request.Request.TheVariants.{Map, Report}
+use Rattle.requests.specs.declared.request.Request.TheVariants.{Map, Report}
 use Rattle.auction_terms.specs.Allocations.{IsFeasible}
 use Rattle.auction_terms.specs.Groups.{has}
 use Rattle.auction_terms.specs.declared.choices.Choice.{Choice}
 use Rattle.outcome.specs.Report.{allocation_text, report_text}
-use Rattle.outcome.specs.Sale.{Sale}
+use Rattle.bid_desk.specs.Sale.{Sale}
 use Rattle.answers.specs.Answer.{answer}
 
 -- an allocation that is feasible with a group left out

@@ -1,12 +1,10 @@
 pub mod Answer
-pub mod Asked
 pub mod Certified
 pub mod Claimed
 pub mod Exact
 pub mod FaithfulAnswers
 pub mod FeasibleAnswers
 pub mod GroupTexts
-pub mod Requests
 pub mod Runs
 pub mod Sizes
 pub mod Verified

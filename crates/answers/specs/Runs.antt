@@ -1,15 +1,14 @@
 -- What a run leaves of its input and its output.
-use Rattle.std.specs.Prelude.{◌≡◌, ◌⊎◌, ℕ, List, Option, Ok}
+use Rattle.std.specs.Prelude.{◌≡◌, ◌⊎◌, ◌<◌, ℕ, List, Option, Ok, codes, length}
 use Rattle.std.specs.Io.KnownBytes.{Appends}
 use Rattle.auction_input.specs.ReadInput.{IsUntaken, IsWhole}
 use Rattle.auction_input.specs.declared.refusal.Refusal.{Refusal}
 use Rattle.auction_input.specs.declared.input.InputFault.{InputFault}
 use Rattle.auction_input.specs.declared.refusal.Refusal.TheVariants as refusal
-use Rattle.auction_input.specs.declared.request.Request.{Request}
-use Rattle.clap.specs.Words.{IsAmong, Text, fault_of}
-use Rattle.clap.specs.declared.error.kind.ErrorKind.{ErrorKind}
+use Rattle.requests.specs.declared.request.Request.{Request}
+use Rattle.auction_input.specs.Line.{Puts}
 use Rattle.answers.specs.Answer.{answer}
-use Rattle.answers.specs.Asked.{AskForHelp, IsShown, asked, wdp}
+use Rattle.requests.specs.Asked.{Asked, for_answer, for_help, for_nothing, for_version}
 use Rattle.answers.specs.Exact.{Ends, IsUnwritten, Writes}
 
 -- from what a reader had left and a sink had taken before to those after: the input was read, and what was asked for is written
@@ -21,18 +20,28 @@ pub data IsRefused (asked : Request) (left left' : Option (List ℕ)) (reads rea
   by_input : {f : InputFault} → IsUntaken f left left' reads reads' → taken' ≡ taken → IsRefused asked left left' reads reads' taken taken' failures failures' (refusal.Input f)
   by_text : {r : Refusal} → (input : List ℕ) → IsWhole left left' input → IsUnwritten asked input taken taken' failures failures' r → IsRefused asked left left' reads reads' taken taken' failures failures' r
 
--- what the words ask for is answered; or help went out, which they ask for, and nothing was read
-abbrev pub IsDone : List Text → Option (List ℕ) → Option (List ℕ) → Option (List ℕ) → Option (List ℕ) → Type 0
-IsDone words left left' taken taken' =
-    ((request : Request) × (asked words ≡ Ok request) × IsAnswered request left left' taken taken')
-    ⊎ (AskForHelp words × (left' ≡ left) × ((help : List ℕ) × Appends taken taken' help))
+-- what goes out without an input: a text of help, which isn't empty, or the version
+abbrev pub IsShown : Asked → List ℕ → Type 0
+IsShown for_help text = 0 < length text
+IsShown for_version text = text ≡ codes "wdp 1.0.0\n"
+IsShown asked text = ⊥
 
--- why a run is refused: what the words ask for is; or help, which they ask for, could not be written; or memory was short before anything was read
-pub data IsUndone (words : List Text) (left left' : Option (List ℕ)) (reads reads' : ℕ) (taken taken' : Option (List ℕ)) (failures failures' : ℕ) : Refusal → Type 0 where
-  by_request : {r : Refusal} → (request : Request) → asked words ≡ Ok request → IsRefused request left left' reads reads' taken taken' failures failures' r → IsUndone words left left' reads reads' taken taken' failures failures' r
-  by_help : {r : Refusal} → (help : List ℕ) → AskForHelp words → left' ≡ left → Ends (Ok help) taken taken' failures failures' r → IsUndone words left left' reads reads' taken taken' failures failures' r
-  by_memory : left' ≡ left → taken' ≡ taken → IsUndone words left left' reads reads' taken taken' failures failures' refusal.OutOfMemory
+-- what is asked for is answered; or help or the version, which is asked for, went out, and nothing was read
+abbrev pub IsDone : Asked → Option (List ℕ) → Option (List ℕ) → Option (List ℕ) → Option (List ℕ) → Type 0
+IsDone asked left left' taken taken' =
+    ((request : Request) × (asked ≡ for_answer request) × IsAnswered request left left' taken taken')
+    ⊎ ((text : List ℕ) × IsShown asked text × (left' ≡ left) × Appends taken taken' text)
 
--- the words have a fault other than asking for help, and nothing is read or written
-abbrev pub IsUnasked : List Text → Option (List ℕ) → Option (List ℕ) → Option (List ℕ) → Option (List ℕ) → Type 0
-IsUnasked words left left' taken taken' = ((k : ErrorKind) × IsAmong k (fault_of wdp words) × ¬ (IsShown k)) × (left' ≡ left) × (taken' ≡ taken)
+-- why a run is refused: what is asked for is; or help or the version, which is asked for, could not be written; or memory was short before anything was read
+pub data IsUndone (asked : Asked) (left left' : Option (List ℕ)) (reads reads' : ℕ) (taken taken' : Option (List ℕ)) (failures failures' : ℕ) : Refusal → Type 0 where
+  by_request : {r : Refusal} → (request : Request) → asked ≡ for_answer request → IsRefused request left left' reads reads' taken taken' failures failures' r → IsUndone asked left left' reads reads' taken taken' failures failures' r
+  by_showing : {r : Refusal} → (text : List ℕ) → IsShown asked text → left' ≡ left → Ends (Ok text) taken taken' failures failures' r → IsUndone asked left left' reads reads' taken taken' failures failures' r
+  by_memory : left' ≡ left → taken' ≡ taken → IsUndone asked left left' reads reads' taken taken' failures failures' refusal.OutOfMemory
+
+-- nothing is asked for, and nothing is read or written
+abbrev pub IsUnasked : Asked → Option (List ℕ) → Option (List ℕ) → Option (List ℕ) → Option (List ℕ) → Type 0
+IsUnasked asked left left' taken taken' = (asked ≡ for_nothing) × (left' ≡ left) × (taken' ≡ taken)
+
+-- some bytes are put, one at least
+abbrev pub PutsSome : Option (List ℕ) → Option (List ℕ) → ℕ → ℕ → Type 0
+PutsSome taken taken' failures failures' = (text : List ℕ) × (0 < length text) × Puts text taken taken' failures failures'

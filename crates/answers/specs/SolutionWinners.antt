@@ -13,8 +13,8 @@ use Rattle.auction_input.specs.declared.refusal.Refusal.TheVariants as refusal
 use Rattle.auction_terms.specs.declared.choices.Choice.{Choice}
 use Rattle.outcome.specs.Solution.{solution}
 use Rattle.outcome.specs.PointAllocation.{allocation_of}
-use Rattle.outcome.specs.declared.fault.SolutionFault.TheVariants as fault
-use Rattle.outcome.specs.declared.fault.SolutionFault.{SolutionFault}
+use Rattle.program_faults.specs.declared.solution_fault.SolutionFault.TheVariants as fault
+use Rattle.program_faults.specs.declared.solution_fault.SolutionFault.{SolutionFault}
 use Rattle.program_rows.specs.Program.{Table}
 use Rattle.program_rows.specs.ProgramNames.{row_name}
 

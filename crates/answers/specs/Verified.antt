@@ -3,13 +3,13 @@ use Rattle.std.specs.Prelude.{◌≡◌, ◌++◌, ⊤, ℕ, false, List, [], Op
 use Rattle.std.specs.Io.KnownBytes.{Appends}
 use Rattle.std.specs.List.{AllZip}
 use Rattle.auction_input.specs.Auction.{Auction, auction_told}
-use Rattle.auction_input.specs.declared.request.Request.TheVariants.{Verify}
+use Rattle.requests.specs.declared.request.Request.TheVariants.{Verify}
 use Rattle.auction_terms.specs.Groups.{has}
 use Rattle.auction_terms.specs.Only.{IsOnly}
 use Rattle.auction_terms.specs.declared.choices.Choice.{Choice}
 use Rattle.outcome.specs.Costs.{IsCost, IsGreatestTotal, opportunity_cost}
 use Rattle.outcome.specs.Report.{amounts_of_group, cost, report_text}
-use Rattle.outcome.specs.Sale.{Sale}
+use Rattle.bid_desk.specs.Sale.{Sale}
 use Rattle.outcome.specs.Ties.{IsTheCost, IsTie}
 use Rattle.outcome.specs.Uniqueness.{uniqueness_text}
 use Rattle.outcome.specs.declared.uniqueness.Uniqueness.TheVariants as uniqueness

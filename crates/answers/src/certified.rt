@@ -2,7 +2,7 @@
 
 ghost use Rattle.std.specs.Prelude.{◌≡◌, ◌⊎◌, ◌+◌, ◌++◌, ◌∷◌, ◌-◌, ◌≤◌, [], IfErr, IfOk, Ok, OnOk, length, map};
 ghost use Rattle.std.specs.List.{AllZip};
-ghost use Rattle.outcome.specs.Sale.{sale_of};
+ghost use Rattle.bid_desk.specs.Sale.{sale_of};
 ghost use Rattle.answers.specs.Certified.{bound_of, bounds_of, certified, shown};
 ghost use Rattle.auction_input.specs.Refused.{Refuses};
 ghost use Rattle.auction_input.specs.Settled.{held};
@@ -16,8 +16,9 @@ use auction_input::{Auction, CountedPart, Refusal};
 use auction_terms::{Group, Groups};
 use bid_desk::ClosedBook;
 use group_compiler::Compiler;
-use optimality::{CertificateFault, FaultKind, check_certificate};
+use optimality::check_certificate;
 use outcome::{Allocation, total};
+use program_faults::{CertificateFault, FaultKind};
 use rayon::prelude::*;
 use std::alloc::{AllocError, Global};
 use std::thread::Threads;

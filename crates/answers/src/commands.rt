@@ -1,9 +1,9 @@
 //! The commands: the input is read, and the command that is asked for answers.
 
-ghost use Rattle.std.specs.Prelude.{IfErr, OnOk};
+ghost use Rattle.std.specs.Prelude.{◌≡◌, IfErr, OnOk};
 ghost use Rattle.answers.specs.Answer.{answer};
 ghost use Rattle.answers.specs.Exact.{IsUnwritten, Writes};
-ghost use Rattle.answers.specs.Requests.{IsRequestWithinLimits};
+ghost use Rattle.requests.specs.Requests.{IsRequestWithinLimits};
 ghost use Rattle.answers.specs.Runs.{IsAnswered, IsRefused};
 ghost use Rattle.auction_input.specs.Sold.{HasReadSold, HasSold};
 
@@ -20,8 +20,9 @@ use crate::commands::map::map;
 use crate::commands::report::write_report;
 use crate::commands::text::write_text;
 use crate::commands::verify::verify;
-use auction_input::{Refusal, Request, Source, read_input};
+use auction_input::{Refusal, Source, read_input};
 use mps_text::Sink;
+use requests::Request;
 use std::io::Read;
 use std::sync::Wait;
 use std::thread::Threads;
@@ -38,6 +39,8 @@ pub fn answer<R: Threads + Wait + Sync + AllocGlobal, I: Read, S: Sink>(
         (I.remaining input.new.reader) (S.taken out.old) (S.taken out.new)) }
     ensures sold { OnOk result (HasReadSold request (I.remaining input.old.reader)
         (I.remaining input.new.reader)) }
+    ensures succeeded { OnOk result ((S.failures out.new ≡ S.failures out.old)
+        × (input.new.failures ≡ input.old.failures)) }
     ensures refused { IfErr result (IsRefused request (I.remaining input.old.reader)
         (I.remaining input.new.reader) input.old.failures input.new.failures (S.taken out.old)
         (S.taken out.new) (S.failures out.old) (S.failures out.new)) }
@@ -57,6 +60,7 @@ fn answer_text<R: Threads + Wait + Sync + AllocGlobal, S: Sink>(
     ensures written { OnOk result (Writes (answer request text.now) (S.taken out.old)
         (S.taken out.new)) }
     ensures sold { OnOk result (HasSold request text.now) }
+    ensures succeeded { OnOk result (S.failures out.new ≡ S.failures out.old) }
     ensures refused { IfErr result (IsUnwritten request text.now (S.taken out.old) (S.taken out.new)
         (S.failures out.old) (S.failures out.new)) }
 {

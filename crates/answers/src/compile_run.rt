@@ -1,6 +1,6 @@
 //! Compiling all groups and writing their programs.
 
-ghost use Rattle.std.specs.Prelude.{◌≡◌, ◌≤◌, [], All, IfErr, OnOk, map};
+ghost use Rattle.std.specs.Prelude.{◌≡◌, ◌≤◌, [], All, IfErr, OnOk, length, map};
 ghost use Rattle.std.specs.Io.KnownBytes.{Appends};
 ghost use Rattle.auction_terms.specs.Groups.{has};
 ghost use Rattle.auction_terms.specs.Terms.{lots_in};
@@ -8,7 +8,8 @@ ghost use Rattle.bid_desk.specs.Closing.{book_of};
 ghost use Rattle.mps_text.specs.FaithfulText.{IsFaithfulText};
 ghost use Rattle.mps_text.specs.Text.{text};
 ghost use Rattle.group_compiler.specs.Compiled.{compiled, program_without};
-ghost use Rattle.group_compiler.specs.declared.limits.TheConstants.{MOST_WORKERS};
+ghost use Rattle.group_compiler.specs.Gates.{AreAllPast};
+ghost use Rattle.auction_terms.specs.declared.limits.TheConstants.{MOST_WORKERS};
 ghost use Rattle.answers.specs.GroupTexts.{FailsAsTold, StopsAsTold, programs_bytes};
 
 use crate::group_texts::write_programs;
@@ -25,6 +26,10 @@ use std::thread::Threads;
 /// Renders the lines of each form's kept bids once, with 1 to 64 workers, and writes for each group in order a line
 /// `* program k NAMES` and the text of its program. Each point of a text maps back to a feasible allocation of the same
 /// total, and each feasible allocation is matched by a point of at least its total.
+///
+/// What the gate means here: the workers make pages, and this call joins the texts from them when all are made. A worker stops
+/// at the gate with the group that has the number it drew, and then makes the page of the bidder with that number. So each
+/// group has come past before anything of its text is joined, but not by the worker that joins it.
 pub fn run_compile<R: Threads + Wait + Sync, G: Gate + Sync, S: Sink>(
     rt: &R,
     alloc: Global,
@@ -44,6 +49,7 @@ pub fn run_compile<R: Threads + Wait + Sync, G: Gate + Sync, S: Sink>(
         (S.taken out.old) (S.taken out.new)) }
     ensures failed { IfErr result (FailsAsTold (S.failures out.old) (S.failures out.new)) }
     ensures succeeded { OnOk result (S.failures out.new ≡ S.failures out.old) }
+    ensures past { OnOk result (AreAllPast (length groups.now) (G.is_past gate.now)) }
 {
     // Its contract says that the book is within limits, which the headline's clauses ask for.
     let _rules = book.rules();

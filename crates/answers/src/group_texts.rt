@@ -11,7 +11,7 @@ ghost use Rattle.mps_text.specs.Sinks.{HasFailed, SentFront};
 ghost use Rattle.mps_text.specs.Text.{text};
 ghost use Rattle.mps_text.specs.Written.{written_of};
 ghost use Rattle.outcome.specs.Report.{heading};
-ghost use Rattle.outcome.specs.Sale.{sale_of};
+ghost use Rattle.bid_desk.specs.Sale.{sale_of};
 ghost use Rattle.answers.specs.declared.run_fault.RunFault.TheVariants.{Sink as FaultOfSink};
 ghost use Rattle.answers.specs.GroupTexts.{FailsAsTold, StopsAsTold, program_bytes, programs_bytes};
 

@@ -1,10 +1,10 @@
 //! What the solutions of all groups win, and what each group's opportunity cost is.
 
 ghost use Rattle.std.specs.Prelude.{◌≡◌, ◌≤◌, ◌<◌, ◌++◌, ◌∷◌, [], IfErr, IfOk, Ok, OnOk, length, map, slice_index_or, true};
-ghost use Rattle.group_compiler.specs.declared.limits.TheConstants.{MOST_WORKERS};
+ghost use Rattle.auction_terms.specs.declared.limits.TheConstants.{MOST_WORKERS};
 ghost use Rattle.std.specs.List.{zip};
 ghost use Rattle.auction_terms.specs.Groups.{starts_empty};
-ghost use Rattle.outcome.specs.Sale.{sale_of};
+ghost use Rattle.bid_desk.specs.Sale.{sale_of};
 ghost use Rattle.auction_input.specs.Refused.{Refuses};
 ghost use Rattle.auction_input.specs.Settled.{held};
 ghost use Rattle.auction_terms.specs.Borrowed.{bytes_of};
@@ -36,16 +36,22 @@ pub struct Winning<'a, 't> {
 
 impl<'a, 't> Maker for Winning<'a, 't> {
     ghost use Rattle.std.specs.Prelude.{◌≡◌, ◌+◌, IfSome, Ok, length};
-    ghost use Rattle.outcome.specs.Sale.{sale_of};
+    ghost use Rattle.bid_desk.specs.Sale.{sale_of};
     ghost use Rattle.answers.specs.inside.SolutionWinners.{winners_at};
 
     type Made = Option<Allocation>;
 
     ghost count_of = { λ w. length w.compiler.groups };
 
+    ghost groups_of = { λ w. length w.compiler.groups };
+
     ghost makes = { λ w n made. IfSome made (λ a. winners_at (sale_of w.compiler.book) w.compiler.groups (bytes_of w.solutions.now) n ≡ Ok a) };
 
     fn count(&self) -> usize {
+        self.compiler.count()
+    }
+
+    fn groups(&self) -> usize {
         self.compiler.count()
     }
 

@@ -1,56 +1,101 @@
 //! The program on its words, its input and two sinks.
 
-ghost use Rattle.std.specs.Prelude.{◌≡◌, ◌≢◌, ◌≤◌, List, ℕ};
+ghost use Rattle.std.specs.Prelude.{◌≡◌, ◌≢◌, ◌<◌, ◌≤◌, IfErr, IfSome, IsSome, Ok, codes, flat_map, length};
 ghost use Rattle.std.specs.Io.KnownBytes.{Appends};
+ghost use Rattle.std.specs.IoError.{error_kind};
+ghost use Rattle.std.specs.declared.io.ErrorKind.TheVariants as io_kind;
 ghost use Rattle.clap.specs.Words.{kind_of};
-ghost use Rattle.clap.specs.declared.error.kind.ErrorKind.TheVariants as kind;
-ghost use Rattle.answers.specs.Asked.{IsShown};
-ghost use Rattle.auction_input.specs.Line.{IsToldWhy};
-ghost use Rattle.auction_terms.specs.Borrowed.{bytes_of};
-ghost use Rattle.answers.specs.Requests.{IsRequestWithinLimits};
-ghost use Rattle.answers.specs.Runs.{IsAnswered, IsDone, IsRefused, IsUnasked, IsUndone};
-ghost use Rattle.answers.specs.inside.Runs.{IsUnshown, IsUntold};
+ghost use Rattle.auction_input.specs.Line.{IsToldWhy, Puts, line};
+ghost use Rattle.auction_input.specs.declared.refusal.Refusal.TheVariants as refusal;
+ghost use Rattle.requests.specs.Asked.{asked_of, by_fault, for_nothing};
+ghost use Rattle.answers.specs.Exact.{Ends};
+ghost use Rattle.requests.specs.Requests.{IsRequestWithinLimits};
+ghost use Rattle.answers.specs.Runs.{IsAnswered, IsDone, IsRefused, IsUnasked, IsUndone, PutsSome};
+ghost use Rattle.answers.specs.inside.Runs.{IsUntold, HasShown};
 
 use crate::commands::answer;
 use crate::pieces::write_pieces;
-use crate::request::request_of;
 use crate::telling::tell;
-use auction_input::{Refusal, Request, Source};
+use auction_input::{Refusal, Source};
 use clap::Error;
 use clap::error::ErrorKind;
 use mps_text::Sink;
+use requests::{Request, VERSION, request_of};
 use std::alloc::Global;
+use std::env::Args;
+use std::io;
 use std::io::Read;
 use std::sync::Wait;
 use std::thread::Threads;
 
-/// The whole program on its words, its own name first: the result is its exit status. It is 0 where the output is whole, 1 where the run is
-/// refused, and 2 where the words are.
-pub fn run<'a, R: Threads + Wait + Sync + AllocGlobal, I: Read, S: Sink, F: Sink>(
+/// The whole program on its words as std tells them, its own name first: the result is its exit status. It is 0 where the
+/// output is whole, 1 where the run is refused, and 2 where the words are.
+pub fn run<R: Threads + Wait + Sync + AllocGlobal, I: Read, S: Sink, F: Sink>(
     rt: &R,
-    words: &'a [&'a str],
+    words: io::Result<Args>,
     input: &mut Source<I>,
     out: &mut S,
     faults: &mut F,
 ) -> u8
     ensures status { result ≤ 2 }
-    ensures done { result ≡ 0 → IsDone (bytes_of words.entry.now) (I.remaining input.old.reader)
+    ensures done { result ≡ 0 → IsDone (asked_of words) (I.remaining input.old.reader)
         (I.remaining input.new.reader) (S.taken out.old) (S.taken out.new) }
-    ensures quiet { result ≡ 0 → F.taken faults.new ≡ F.taken faults.old }
-    ensures refused { result ≡ 1 → IsToldWhy (IsUndone (bytes_of words.entry.now)
+    ensures quiet { result ≡ 0 → (F.taken faults.new ≡ F.taken faults.old)
+        × (F.failures faults.new ≡ F.failures faults.old) }
+    ensures succeeded { result ≢ 1 → (S.failures out.new ≡ S.failures out.old)
+        × (input.new.failures ≡ input.old.failures) }
+    ensures refused { result ≡ 1 → IsToldWhy (IsUndone (asked_of words)
         (I.remaining input.old.reader) (I.remaining input.new.reader) input.old.failures
         input.new.failures (S.taken out.old) (S.taken out.new) (S.failures out.old)
         (S.failures out.new)) (F.taken faults.old) (F.taken faults.new) (F.failures faults.old)
         (F.failures faults.new) }
-    ensures unasked { result ≡ 2 → IsUnasked (bytes_of words.entry.now)
-        (I.remaining input.old.reader) (I.remaining input.new.reader) (S.taken out.old)
-        (S.taken out.new) }
+    ensures unasked { result ≡ 2 → IsUnasked (asked_of words) (I.remaining input.old.reader)
+        (I.remaining input.new.reader) (S.taken out.old) (S.taken out.new) }
+    ensures told { result ≡ 2 → PutsSome (F.taken faults.old) (F.taken faults.new)
+        (F.failures faults.old) (F.failures faults.new) }
+    // Where std tells no words, memory was short, or one of them is no text.
+    ensures wordless { IfErr words (λ e. (error_kind e ≡ io_kind.OutOfMemory → result ≡ 1)
+        × (error_kind e ≢ io_kind.OutOfMemory → (result ≡ 2)
+        × Puts (codes "wdp: a word is no text\n") (F.taken faults.old) (F.taken faults.new)
+        (F.failures faults.old) (F.failures faults.new))) }
 {
-    let alloc: Global = rt.alloc();
-    match request_of(alloc, words) {
+    let words = match words {
+        Ok(words) => words,
+        Err(error) => return without_words(&error, faults),
+    };
+    match request_of(rt.alloc(), words) {
         Ok(request) => answer_request(rt, request, input, out, faults),
-        Err(error) => tell_words(alloc, &error, out, faults),
+        Err(error) => tell_words(rt.alloc(), &error, out, faults),
     }
+}
+
+// Tells why there are no words.
+fn without_words<F: Sink>(error: &io::Error, faults: &mut F) -> u8
+    ensures memory { error_kind error.now ≡ io_kind.OutOfMemory → result ≡ 1 }
+    ensures other { error_kind error.now ≢ io_kind.OutOfMemory → result ≡ 2 }
+    ensures some { 1 ≤ result }
+    ensures status { result ≤ 2 }
+    ensures refused { result ≡ 1 → Puts (line refusal.OutOfMemory) (F.taken faults.old)
+        (F.taken faults.new) (F.failures faults.old) (F.failures faults.new) }
+    ensures told { result ≡ 2 → Puts (codes "wdp: a word is no text\n") (F.taken faults.old)
+        (F.taken faults.new) (F.failures faults.old) (F.failures faults.new) }
+{
+    if error.kind() == io::ErrorKind::OutOfMemory {
+        tell(&Refusal::OutOfMemory, faults);
+        return 1;
+    }
+    put_fault(b"wdp: a word is no text\n", faults)
+}
+
+// Puts what is told of words that ask for nothing.
+fn put_fault<F: Sink>(text: &[u8], faults: &mut F) -> u8
+    ensures status { result ≡ 2 }
+    ensures told { Puts text.now (F.taken faults.old) (F.taken faults.new) (F.failures faults.old)
+        (F.failures faults.new) }
+{
+    let pieces: [&[u8]; 1] = [text];
+    let _ = write_pieces(&pieces, faults);
+    2
 }
 
 // Answers a request, or tells why not.
@@ -65,7 +110,10 @@ fn answer_request<R: Threads + Wait + Sync + AllocGlobal, I: Read, S: Sink, F: S
     ensures status { result ≤ 1 }
     ensures answered { result ≡ 0 → IsAnswered request (I.remaining input.old.reader)
         (I.remaining input.new.reader) (S.taken out.old) (S.taken out.new) }
-    ensures quiet { result ≡ 0 → F.taken faults.new ≡ F.taken faults.old }
+    ensures quiet { result ≡ 0 → (F.taken faults.new ≡ F.taken faults.old)
+        × (F.failures faults.new ≡ F.failures faults.old) }
+    ensures succeeded { result ≡ 0 → (S.failures out.new ≡ S.failures out.old)
+        × (input.new.failures ≡ input.old.failures) }
     ensures refused { result ≡ 1 → IsToldWhy (IsRefused request (I.remaining input.old.reader)
         (I.remaining input.new.reader) input.old.failures input.new.failures (S.taken out.old)
         (S.taken out.new) (S.failures out.old) (S.failures out.new)) (F.taken faults.old)
@@ -80,28 +128,41 @@ fn answer_request<R: Threads + Wait + Sync + AllocGlobal, I: Read, S: Sink, F: S
     }
 }
 
+// What an error of the words tells, unless memory is short: then its text may be an empty one.
+fn text_of(alloc: Global, error: &Error) -> Option<String>
+    ensures some { IfSome result (λ text. 0 < length text.bytes.items) }
+    ensures other { IsSome result → kind_of error.now ≢ ErrorKind.OutOfMemory }
+{
+    if error.kind() == ErrorKind::OutOfMemory {
+        return None;
+    }
+    let text = format!(in alloc; "{error}").ok()?;
+    if text.is_empty() { None } else { Some(text) }
+}
+
 // Help and the version go to the output; a fault of the words to the faults.
 fn tell_words<S: Sink, F: Sink>(alloc: Global, error: &Error, out: &mut S, faults: &mut F) -> u8
     ensures status { result ≤ 2 }
-    ensures help { result ≡ 0 → IsShown (kind_of error.now)
-        × ((help : List ℕ) × Appends (S.taken out.old) (S.taken out.new) help) }
-    ensures quiet { result ≡ 0 → F.taken faults.new ≡ F.taken faults.old }
-    ensures refused { result ≡ 1 → IsToldWhy (IsUntold (kind_of error.now) (S.taken out.old)
-        (S.taken out.new) (S.failures out.old) (S.failures out.new)) (F.taken faults.old)
-        (F.taken faults.new) (F.failures faults.old) (F.failures faults.new) }
-    ensures unasked { result ≡ 2 → ¬ (IsShown (kind_of error.now))
-        × (kind_of error.now ≢ kind.OutOfMemory) × (S.taken out.new ≡ S.taken out.old) }
+    ensures shown { result ≡ 0 → HasShown (by_fault (kind_of error.now)) (S.taken out.old)
+        (S.taken out.new) }
+    ensures quiet { result ≡ 0 → (F.taken faults.new ≡ F.taken faults.old)
+        × (F.failures faults.new ≡ F.failures faults.old) }
+    ensures succeeded { result ≢ 1 → S.failures out.new ≡ S.failures out.old }
+    ensures refused { result ≡ 1 → IsToldWhy (IsUntold (by_fault (kind_of error.now))
+        (S.taken out.old) (S.taken out.new) (S.failures out.old) (S.failures out.new))
+        (F.taken faults.old) (F.taken faults.new) (F.failures faults.old) (F.failures faults.new) }
+    ensures unasked { result ≡ 2 → (by_fault (kind_of error.now) ≡ for_nothing)
+        × (kind_of error.now ≢ ErrorKind.OutOfMemory) × (S.taken out.new ≡ S.taken out.old) }
+    ensures told { result ≡ 2 → PutsSome (F.taken faults.old) (F.taken faults.new)
+        (F.failures faults.old) (F.failures faults.new) }
 {
-    match format!(in alloc; "{error}") {
-        Ok(text) if error.kind() != ErrorKind::OutOfMemory => {
-            if error.use_stderr() {
-                let pieces: [&[u8]; 1] = [text.as_bytes()];
-                let _ = write_pieces(&pieces, faults);
-                return 2;
-            }
-            show(text.as_bytes(), out, faults)
-        }
-        _ => {
+    if error.kind() == ErrorKind::DisplayVersion {
+        return show(&[b"wdp ", VERSION.as_bytes(), b"\n"], out, faults);
+    }
+    match text_of(alloc, error) {
+        Some(text) if error.use_stderr() => put_fault(text.as_bytes(), faults),
+        Some(text) => show(&[text.as_bytes()], out, faults),
+        None => {
             tell(&Refusal::OutOfMemory, faults);
             1
         }
@@ -109,16 +170,18 @@ fn tell_words<S: Sink, F: Sink>(alloc: Global, error: &Error, out: &mut S, fault
 }
 
 // Writes help, or the version.
-fn show<S: Sink, F: Sink>(help: &[u8], out: &mut S, faults: &mut F) -> u8
+fn show<S: Sink, F: Sink>(pieces: &[&[u8]], out: &mut S, faults: &mut F) -> u8
     ensures status { result ≤ 1 }
-    ensures help { result ≡ 0 → (help : List ℕ) × Appends (S.taken out.old) (S.taken out.new) help }
-    ensures quiet { result ≡ 0 → F.taken faults.new ≡ F.taken faults.old }
-    ensures refused { result ≡ 1 → IsToldWhy (IsUnshown (S.taken out.old) (S.taken out.new)
-        (S.failures out.old) (S.failures out.new)) (F.taken faults.old) (F.taken faults.new)
-        (F.failures faults.old) (F.failures faults.new) }
+    ensures shown { result ≡ 0 → Appends (S.taken out.old) (S.taken out.new)
+        (flat_map (λ p. p.now) pieces.now) }
+    ensures quiet { result ≡ 0 → (F.taken faults.new ≡ F.taken faults.old)
+        × (F.failures faults.new ≡ F.failures faults.old) }
+    ensures succeeded { result ≡ 0 → S.failures out.new ≡ S.failures out.old }
+    ensures refused { result ≡ 1 → IsToldWhy (Ends (Ok (flat_map (λ p. p.now) pieces.now))
+        (S.taken out.old) (S.taken out.new) (S.failures out.old) (S.failures out.new))
+        (F.taken faults.old) (F.taken faults.new) (F.failures faults.old) (F.failures faults.new) }
 {
-    let pieces: [&[u8]; 1] = [help];
-    match write_pieces(&pieces, out) {
+    match write_pieces(pieces, out) {
         Ok(()) => 0,
         Err(fault) => {
             tell(&Refusal::Write(fault), faults);

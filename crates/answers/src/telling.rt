@@ -1,45 +1,66 @@
 //! The line that tells why a run ended.
 
-ghost use Rattle.std.specs.Prelude.{◌≡◌, ◌++◌, ◌∷◌, [], IfSome, codes};
-ghost use Rattle.auction_input.specs.Line.{IsTold, Puts, refusal_text, without_name};
+ghost use Rattle.std.specs.Prelude.{◌≡◌, ◌++◌, ◌∷◌, [], codes, decimal};
+ghost use Rattle.auction_input.specs.Line.{Puts, line};
+ghost use Rattle.auction_input.specs.Told.{told_text};
+ghost use Rattle.auction_terms.specs.Wording.{wording_text};
+ghost use Rattle.mps_text.specs.Adds.{Adds};
 
-use crate::pieces::write_pieces;
-use arrayvec::ArrayString;
-use auction_input::Refusal;
-use mps_text::Sink;
-use std::fmt::Write;
+use auction_input::{Refusal, Told};
+use auction_terms::Wording;
+use itoa::Buffer;
+use mps_text::{Sink, Writer};
 
-/// Room for what is told of any refusal, but for the name of a column or row.
-const TEXT_ROOM: usize = 128;
+// Adds words, with the numbers among them.
+fn add_wording<S: Sink>(writer: &mut Writer<'_, S>, wording: Wording)
+    ensures { Adds S.taken S.failures writer.old writer.new (wording_text wording) }
+{
+    let mut digits = Buffer::new();
+    let mut more_digits = Buffer::new();
+    match wording {
+        Wording::Words(words) => writer.add(words.as_bytes()),
+        Wording::Number(words, number) => {
+            let pieces: [&[u8]; 2] = [words.as_bytes(), digits.format(number).as_bytes()];
+            writer.add_pieces(&pieces);
+        }
+        Wording::Between(words, number, more) => {
+            let pieces: [&[u8]; 3] = [
+                words.as_bytes(),
+                digits.format(number).as_bytes(),
+                more.as_bytes(),
+            ];
+            writer.add_pieces(&pieces);
+        }
+        Wording::Numbers(words, number, more, other) => {
+            let pieces: [&[u8]; 4] = [
+                words.as_bytes(),
+                digits.format(number).as_bytes(),
+                more.as_bytes(),
+                more_digits.format(other).as_bytes(),
+            ];
+            writer.add_pieces(&pieces);
+        }
+    }
+}
+
+// Adds the line of what is told.
+fn add_line<S: Sink>(writer: &mut Writer<'_, S>, told: &Told<'_>)
+    ensures { Adds S.taken S.failures writer.old writer.new
+        (codes "wdp: " ++ (told_text told.now ++ 10 ∷ [])) }
+{
+    writer.add(b"wdp: ");
+    add_wording(writer, told.part);
+    add_wording(writer, told.fault);
+    writer.add(told.name);
+    writer.add(b"\n");
+}
 
 /// Puts the line of a refusal. It takes no memory. What a sink of such lines doesn't take changes nothing.
 pub fn tell<F: Sink>(refusal: &Refusal, faults: &mut F)
-    ensures { IsTold refusal.now (F.taken faults.old) (F.taken faults.new)
+    ensures { Puts (line refusal.now) (F.taken faults.old) (F.taken faults.new)
         (F.failures faults.old) (F.failures faults.new) }
 {
-    match text_of(refusal) {
-        Some(text) => put_line(text.as_str(), refusal.name(), faults),
-        None => put_line("out of memory", b"", faults),
-    }
-}
-
-// What is told of a refusal, but for a name, where there is room.
-fn text_of(refusal: &Refusal) -> Option<ArrayString<TEXT_ROOM>>
-    ensures { IfSome result (λ text. text.bytes ≡ refusal_text (without_name refusal.now)) }
-{
-    let mut text = ArrayString::new();
-    match write!(text, "{refusal}") {
-        Ok(()) => Some(text),
-        Err(_) => None,
-    }
-}
-
-// Puts a line: a text, and a name behind it.
-#[tactic(auto, using(crate::proofs::LineFacts::puts))]
-fn put_line<F: Sink>(text: &str, name: &[u8], faults: &mut F)
-    ensures { Puts (codes "wdp: " ++ (text.now ++ (name.now ++ 10 ∷ []))) (F.taken faults.old)
-        (F.taken faults.new) (F.failures faults.old) (F.failures faults.new) }
-{
-    let pieces: [&[u8]; 4] = [b"wdp: ", text.as_bytes(), name, b"\n"];
-    let _ = write_pieces(&pieces, faults);
+    let mut writer = Writer::new(faults);
+    add_line(&mut writer, &refusal.told());
+    let _ = writer.flush();
 }

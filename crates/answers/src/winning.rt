@@ -17,7 +17,8 @@ use auction_input::{Name, Refusal};
 use auction_terms::Group;
 use bid_desk::ClosedBook;
 use group_compiler::Compiler;
-use outcome::{Allocation, SolutionFault, map_back, read_solution};
+use outcome::{Allocation, map_back, read_solution};
+use program_faults::SolutionFault;
 use program_rows::Program;
 use std::alloc::{AllocError, Global};
 

@@ -8,7 +8,7 @@ use Rattle.auction_terms.specs.Allocations.{Book}
 use Rattle.auction_terms.specs.Terms.{Terms, lots_in}
 use Rattle.bid_desk.specs.Closing.{Closing, bids_in, book_of, form_standing}
 use Rattle.bid_forms.specs.Offers.{Offers}
-use Rattle.outcome.specs.Sale.{Sale, sale_of}
+use Rattle.bid_desk.specs.Sale.{Sale, sale_of}
 use Rattle.auction_input.specs.Auction.{Auction, auction_told}
 use Rattle.auction_input.specs.BookLeft.{sale_left}
 use Rattle.auction_input.specs.Calls.{one_too_many}
@@ -28,8 +28,8 @@ use Rattle.auction_input.specs.declared.parts.PartFault.TheVariants as fault
 use Rattle.auction_input.specs.declared.parts.Parts.{Parts}
 use Rattle.auction_input.specs.declared.refusal.CountedPart.{CountedPart}
 use Rattle.auction_input.specs.declared.refusal.Refusal.TheVariants as refusal
-use Rattle.auction_input.specs.declared.request.Request.TheVariants as request
-use Rattle.auction_input.specs.declared.request.Request.{Request}
+use Rattle.requests.specs.declared.request.Request.TheVariants as request
+use Rattle.requests.specs.declared.request.Request.{Request}
 use Rattle.auction_input.specs.declared.round.RoundFault.{RoundFault}
 use Rattle.auction_input.specs.declared.round.RoundFault.TheVariants as round
 use Rattle.auction_input.proofs.StageFacts.{behind, next, stop}

@@ -17,12 +17,6 @@ use Rattle.auction_terms.specs.declared.rules_text.RulesFault.{RulesFault}
 use Rattle.auction_terms.specs.declared.rules_text.RulesFault.TheVariants as rules_fault
 use Rattle.bid_forms.specs.Offers.{Meets, Offers}
 use Rattle.bid_forms.specs.declared.form_text.FormFault.{FormFault}
-use Rattle.mps_reader.specs.Answer.{IsRead}
-use Rattle.mps_reader.specs.declared.mps_fault.MpsFault.{MpsFault}
-use Rattle.mps_reader.specs.declared.limits.TheConstants.{PROGRAM_LIMIT}
-use Rattle.program_rows.specs.Meaning.{meaning}
-use Rattle.program_rows.specs.Program.{Table}
-use Rattle.program_rows.specs.declared.fault.FaultKind.TheVariants as kind
 use Rattle.auction_input.specs.Refused.{Refuses}
 use Rattle.auction_input.specs.declared.refusal.Refusal.{Refusal}
 use Rattle.auction_input.specs.inside.InputTexts.{AreAdded, IsAnswer, IsFirstErr}
@@ -129,25 +123,4 @@ pub groups-tell : (bidders : List Bidder) (text : List ℕ) (groups : List (List
 groups-tell bidders text groups large told = elim (leb_tells 4194305 (length text)) [
   | inl (_, more) ↦ ok-or-fault groups group_fault.TooLarge (large (omega arith))
   | inr (is, few) ↦ rw is (sym (told (omega arith)))
-]
-
-abbrev no_program : MpsFault → Result Table MpsFault
-no_program f = Err f
-
--- a text that is refused is no program
-pub program-refused : (text : List ℕ) (f : MpsFault) → (PROGRAM_LIMIT < length text → no_program f ≡ no_program (record { line = 0; kind = kind.TooLarge }))
-    → (length text ≤ PROGRAM_LIMIT → IsRead (no_program f) (meaning text)) → IsRead (no_program f) (sized PROGRAM_LIMIT (0, kind.TooLarge) meaning text)
-program-refused text f large told = elim (leb_tells 67108865 (length text)) [
-  | inl (is, more) ↦ (
-      let e = large (omega arith) in
-      let same : f ≡ record { line = 0; kind = kind.TooLarge } = cc in
-      subst (λ x. IsRead (no_program x) (sized PROGRAM_LIMIT (0, kind.TooLarge) meaning text)) (sym same) (inr (rw is refl)))
-  | inr (is, few) ↦ rw is (told (omega arith))
-]
-
--- a text that is read is a program
-pub program-told : (text : List ℕ) (p : Table) → (PROGRAM_LIMIT < length text → Ok p ≡ no_program (record { line = 0; kind = kind.TooLarge })) → (length text ≤ PROGRAM_LIMIT → IsRead (Ok p) (meaning text)) → sized PROGRAM_LIMIT (0, kind.TooLarge) meaning text ≡ Ok p
-program-told text p large told = elim (leb_tells 67108865 (length text)) [
-  | inl (_, more) ↦ (let e = large (omega arith) in cc)
-  | inr (is, few) ↦ rw is (told (omega arith))
 ]

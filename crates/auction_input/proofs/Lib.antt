@@ -9,7 +9,6 @@ pub mod LotFacts
 pub mod PartFacts
 mod ReadFacts
 pub mod RecordFacts
-pub mod RefusalFacts
 pub mod StageFacts
 pub mod StandingFacts
 pub mod SubmissionFacts

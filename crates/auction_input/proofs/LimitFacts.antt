@@ -67,10 +67,10 @@ length-drop-one [] n is = absurd (omega arith)
 length-drop-one (x ∷ xs) n is = omega arith
 
 -- a record without a fault tells a bid within the limits, and there is room for it
-bid-within : (t : Terms) (eligibility place : ℕ) (before : List Bid) (r : Record) → first_failed (bid_checks t eligibility place before r (bid_told r)) ≡ None
+bid-within : (t : Terms) (eligibility place : ℕ) (before : List Bid) (r : Record) → first_failed (bid_checks t eligibility place before r) ≡ None
     → IsBid (lots_in t) (bid_told r) × (length before < MOST_BIDS)
 bid-within t eligibility place before r free =
-    let checks = none-failed (bid_checks t eligibility place before r (bid_told r)) free in
+    let checks = none-failed (bid_checks t eligibility place before r) free in
     let wide = eqb-true (length r) (length t.categories + 1) checks.0 in
     let fields = length-drop-one r (length t.categories) wide in
     let sized : length (bid_told r).package ≡ length (lots_in t).supply = length-map (drop 1 r) _ ∙ fields ∙ sym (length-map t.categories _) in

@@ -9,12 +9,12 @@ use Rattle.std.proofs.lemmas.List.{append-nil, map-append}
 use Rattle.std.proofs.lemmas.List.Elements.{filter-append}
 use Rattle.auction_input.specs.declared.part_kind.PartKind.{PartKind}
 use Rattle.auction_input.specs.declared.part_kind.PartKind.TheVariants as kind
-use Rattle.auction_input.specs.declared.request.Request.{Request}
+use Rattle.requests.specs.declared.request.Request.{Request}
 use Rattle.memchr.specs.Find.{FindsNeedle, OccursAt}
 use Rattle.auction_input.specs.Parts.{Hold, Part, bytes_before, onto_first_line, cut_lines, heads_part, input_fault, part_fault, part_names, parts_in, parts_named}
 use Rattle.auction_input.specs.inside.Parts.{HeldBytes, added, held_bytes, kind_named, name_of, part}
 use Rattle.auction_input.specs.declared.parts.Parts.{Parts}
-use Rattle.auction_input.specs.declared.request.Request.TheVariants as request
+use Rattle.requests.specs.declared.request.Request.TheVariants as request
 use Rattle.std.specs.List.{list_any}
 use Rattle.std.specs.Str.{bytes_eq}
 use Rattle.std.proofs.lemmas.Slice.Eq.{bytes_eq-Decides}

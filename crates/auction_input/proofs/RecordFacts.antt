@@ -8,7 +8,7 @@ use Rattle.std.proofs.lemmas.List.Elements.{filter-append}
 use Rattle.auction_terms.specs.Entries.{terms_of}
 use Rattle.auction_terms.specs.FirstFault.{first_failed, first_fault}
 use Rattle.auction_terms.specs.Records.{Record}
-use Rattle.auction_terms.specs.RulesText.{entries_of, entry_fault, header_checks, field_number, is_kind, of_kind, record_kind, rules_of_records, version_of}
+use Rattle.auction_terms.specs.RulesText.{end_checks, entries_of, entry_fault, header_checks, field_number, is_kind, of_kind, record_kind, rules_of_records, version_of}
 use Rattle.auction_terms.specs.Stages.{and_then, unless}
 use Rattle.auction_terms.specs.Terms.{Terms}
 use Rattle.auction_terms.specs.declared.record_kinds.RecordKind.{RecordKind}
@@ -102,12 +102,6 @@ rules-or (Some f) answer t told = cc
 
 -- what rules have that are made of records without a fault, rules have that records tell
 module _ (P : Terms → Type 0) (made : (v : Version) (more : List Record) → first_fault (entry_fault v) [] more ≡ None → (step : ℕ) → P (terms_of step (entries_of v more))) where
-  not-empty : (v : Version) (more : List Record) (step count : ℕ) (t : Terms) → first_fault (entry_fault v) [] more ≡ None → (a b : Bool)
-      → cond a (Err (rules_fault.NoCategory count)) (cond b (Err (rules_fault.NoBidder count)) (Ok (terms_of step (entries_of v more)))) ≡ Ok t → P t
-  not-empty v more step count t none true b e = cc
-  not-empty v more step count t none false true e = cc
-  not-empty v more step count t none false false e = subst P (ok-is _ (terms_of step (entries_of v more)) t refl e) (made v more none step)
-
   pub rules-told : (records : List Record) (t : Terms) → rules_of_records records ≡ Ok t → P t
   rules-told [] t told = cc
   rules-told (header ∷ more) t told = by (version_of header) told
@@ -116,12 +110,13 @@ module _ (P : Terms → Type 0) (made : (v : Version) (more : List Record) → f
       after v =
           unless (first_failed (header_checks v header))
           (unless (first_fault (entry_fault v) [] more)
-          (cond (length (entries_of v more).categories == 0) (Err (rules_fault.NoCategory (length more + 1)))
-          (cond (length (entries_of v more).bidders == 0) (Err (rules_fault.NoBidder (length more + 1))) (Ok (terms_of (field_number 3 header) (entries_of v more))))))
+          (unless (first_failed (end_checks (length more + 1) (entries_of v more)))
+          (Ok (terms_of (field_number 3 header) (entries_of v more)))))
 
       by : (version : Option Version) → and_then (ok_or version (rules_fault.Header 1)) after ≡ Ok t → P t
       by None e = cc
       by (Some v) e =
           let first = rules-or (first_failed (header_checks v header)) _ t e in
           let second = rules-or (first_fault (entry_fault v) [] more) _ t first.1 in
-          not-empty v more _ _ t second.0 _ _ second.1
+          let third = rules-or (first_failed (end_checks (length more + 1) (entries_of v more))) _ t second.1 in
+          subst P (ok-is _ (terms_of (field_number 3 header) (entries_of v more)) t refl third.1) (made v more second.0 (field_number 3 header))

@@ -1,11 +1,12 @@
 -- What is kept while forms are put with those of their bidder, and while sessions submit them.
-use Rattle.std.proofs.Common.{◌≡◌, ◌≢◌, ◌+◌, ◌<◌, ◌≤◌, ◌++◌, ◌==◌, ◌∷◌, ◌∙◌, [], List, ℕ, suc, Err, false, true, Ok, ap, append-nil, append_assoc, arith, cond, inl, inr, length, map, refl, subst, sym, take}
-use Rattle.std.specs.Prelude.{All, IfOk, if◌then◌else◌, is_err, is_ok, OnOk, vec_len, Option, Result, slice_index_or, slice_set}
+use Rattle.std.proofs.Common.{◌⊎◌, ◌≡◌, ◌≢◌, ◌+◌, ◌<◌, ◌≤◌, ◌++◌, ◌==◌, ◌∷◌, ◌∙◌, [], List, ℕ, suc, Err, false, true, Ok, ap, append-nil, append_assoc, arith, cond, inl, inr, length, map, refl, subst, sym, take}
+use Rattle.std.specs.Prelude.{All, Any, IfOk, if◌then◌else◌, is_err, is_ok, OnOk, vec_len, Option, Result, slice_index_or, slice_set}
 use Rattle.std.specs.Arc.{arc_value}
 use Rattle.std.specs.List.{AllZip}
 use Rattle.std.proofs.lemmas.Bool.{cases_Bool, eqb-false, eqb-true}
-use Rattle.std.proofs.lemmas.List.{get_or-map, get_or-set_other, get_or-set_same, length-map, map-append, map-set, take_more}
+use Rattle.std.proofs.lemmas.List.{get_or_append_left, get_or-map, length-append, length-take-le, get_or-set_other, get_or-set_same, length-map, map-append, map-set, take_more}
 use Rattle.std.proofs.lemmas.List.Elements.{All-append, All-cons, All-filter, All-head, All-map, All-nil, All-push, All-rest, All-same, All-tail, All-weaker, filter_passes}
+use Rattle.std.proofs.lemmas.List.Quantifiers.{Any-push}
 use Rattle.std.proofs.lemmas.List.Sums.{sum_by-le}
 use Rattle.std.specs.declared.alloc.Global.{Global}
 use Rattle.std.specs.declared.sync.Arc.{Arc}
@@ -21,6 +22,7 @@ use Rattle.bid_desk.specs.Holding.{Holding, IsRecorded, SessionOwn}
 use Rattle.bid_desk.specs.Opening.{all_sessions, fresh_session, sessions_of}
 use Rattle.bid_forms.specs.Offers.{Meets, Offers}
 use Rattle.auction_input.specs.Submissions.{AreAccepted, IsAccepted, forms_of}
+use Rattle.auction_input.specs.declared.round.RoundFault.{RoundFault}
 use Rattle.auction_input.specs.inside.Submissions.{AreByBidder, AreFormsOf, HasSubmitted, HaveOneMore, ComesTo, IsFirstJob, IsFormOf, IsIdle, JobOwn, form_values, forms_in}
 
 abbrev Shared : Type 0
@@ -102,6 +104,12 @@ jobs-more lists jobs jobs' job b session forms more before is with_forms first b
       forms = with_forms ∙ are ∙ ap (forms_in lists) (bidder ∙ sym (ap (λ (s : SessionOwn). s.bidder) is));
     }))
 
+-- what holds of some element does so in a longer list
+Any-longer : {X : Type 0} (P : X → Type 0) (xs : List X) (y : X) → Any P xs → Any P (xs ++ y ∷ [])
+Any-longer P xs y found =
+    let small = found.2 in
+    (found.0, found.1, omega (arith, length-append xs (y ∷ [])), get_or_append_left xs (y ∷ []) found.1 found.0 small ∙ found.3, found.4)
+
 -- one job more was done
 module _ {D E : Type 0} (session_of : D → SessionOwn) (ended_of : D → Result (Unit {0}) E) (yielded : List D) (job : D) where
   pub sessions-more : (others sessions sessions' : List SessionOwn) → sessions' ≡ sessions ++ session_of job ∷ [] → sessions ≡ others ++ map session_of yielded
@@ -115,6 +123,12 @@ module _ {D E : Type 0} (session_of : D → SessionOwn) (ended_of : D → Result
   ended-more ended ended' told before ok =
       let both : (ended ≡ Ok tt) × (ended_of job ≡ Ok tt) = subst (λ (r : Result (Unit {0}) E). OnOk r ((ended ≡ Ok tt) × (ended_of job ≡ Ok tt))) ok told in
       All-push (λ (d : D). ended_of d ≡ Ok tt) yielded job (before both.0) both.1
+
+  -- a wrong answer is that of some job
+  pub wrong-more : (ended ended' : Result (Unit {0}) E) (fault : E) → (ended' ≡ Err fault → (ended ≡ Err fault) ⊎ (ended_of job ≡ Err fault)) → (ended ≡ Err fault → Any (λ (d : D). ended_of d ≡ Err fault) yielded)
+      → ended' ≡ Err fault → Any (λ (d : D). ended_of d ≡ Err fault) (yielded ++ job ∷ [])
+  wrong-more ended ended' fault told before wrong =
+      elim (told wrong) [ inl earlier ↦ Any-longer (λ (d : D). ended_of d ≡ Err fault) yielded job (before earlier) | inr own ↦ Any-push (λ (d : D). ended_of d ≡ Err fault) yielded job own ]
 
 pub yielded-more : {X : Type 0} (yielded rest rest' all : List X) (x : X) → rest ≡ x ∷ rest' → yielded ++ rest ≡ all → (yielded ++ x ∷ []) ++ rest' ≡ all
 yielded-more yielded rest rest' all x taken are = append_assoc yielded (x ∷ []) rest' ∙ ap (λ xs. yielded ++ xs) (sym taken) ∙ are
@@ -151,6 +165,25 @@ accepted-more [] (p ∷ pairs) form pair before one = absurd before
 accepted-more (f ∷ forms) [] form pair before one = absurd before
 accepted-more (f ∷ forms) (p ∷ pairs) form pair before one = (before.0, accepted-more forms pairs form pair before.1 one)
 
+-- as many as there are forms
+accepted-length : (forms : List Offers) (pairs : List (Call Offers × Reply Offers)) → AreAccepted forms pairs → length forms ≡ length pairs
+accepted-length [] [] all = refl
+accepted-length [] (p ∷ pairs) all = absurd all
+accepted-length (f ∷ forms) [] all = absurd all
+accepted-length (f ∷ forms) (p ∷ pairs) all = ap suc (accepted-length forms pairs all.1)
+
+-- the last one was accepted
+accepted-last : (forms : List Offers) (pairs : List (Call Offers × Reply Offers)) (pair : Call Offers × Reply Offers) → AreAccepted forms (pairs ++ pair ∷ []) → (number : ℕ) × (pair.1 ≡ Accepted number)
+accepted-last [] [] pair all = absurd all
+accepted-last [] (p ∷ pairs) pair all = absurd all
+accepted-last (f ∷ forms) [] pair all = (all.0.1, ap (λ (p : Call Offers × Reply Offers). p.1) all.0.2)
+accepted-last (f ∷ forms) (p ∷ pairs) pair all = accepted-last forms pairs pair all.1
+
+-- a reply is that of the limit, or it isn't
+at-limit : (reply : Reply Offers) → (reply ≡ CallLimit) ⊎ (reply ≢ CallLimit)
+at-limit CallLimit = inl refl
+at-limit r = inr (λ is. cc)
+
 module _ (forms : List Shared) (k : ℕ) (d : Shared) (small : k < length forms) (stands : d ≡ slice_index_or forms k d) where
   value-here : slice_index_or (form_values forms) k (arc_value d) ≡ arc_value d
   value-here = get_or-map (λ (f : Shared). arc_value f) forms k d (arc_value d) small ∙ ap (λ (f : Shared). arc_value f) (sym stands)
@@ -176,6 +209,20 @@ module _ (forms : List Shared) (k : ℕ) (d : Shared) (small : k < length forms)
       (subst (AreAccepted (take k (form_values forms) ++ form ∷ [])) (sym (recorded other).own_is)
       (accepted-more (take k (form_values forms)) own form (Submit form over, reply) accepted (over, number, ap (λ (r : Reply Offers). (Submit form over, r)) is)))
 
+  -- the form at a place was not accepted after those before it, and what its session called shows it
+  pub unaccepted-here : (before after : Holding) (caller : Caller) (own own' : List (Call Offers × Reply Offers)) (share share' : ℕ) (over : Option ℕ) (reply : Reply Offers)
+      → AreAccepted (take k (form_values forms)) own → ((number : ℕ) → reply ≢ Accepted number)
+      → (reply ≢ CallLimit → IsRecorded before after caller own own' share share' (Submit (arc_value d) over) reply) → (reply ≡ CallLimit → own' ≡ own)
+      → ¬ (AreAccepted (form_values forms) own')
+  unaccepted-here before after caller own own' share share' over reply accepted other recorded limit all =
+      let short : length own ≡ length (take k (form_values forms)) = sym (accepted-length (take k (form_values forms)) own accepted) in
+      let long : length (form_values forms) ≡ length own' = accepted-length (form_values forms) own' all in
+      elim (at-limit reply) [
+        | inl is ↦
+            (let kept : length own' ≡ length own = ap length (limit is) in absurd (omega (arith, inside, length-take-le k (form_values forms) (omega (arith, inside)))))
+        | inr more ↦ (let last = accepted-last (form_values forms) own (Submit (arc_value d) over, reply) (subst (AreAccepted (form_values forms)) (recorded more).own_is all) in absurd (other last.0 last.1))
+      ]
+
 -- sessions that are handed in have submitted their bidders' forms
 module _ (forms : List Offers) (lists : Lists) (by : AreByBidder forms lists) where
   idle-submitted : (s : SessionOwn) → IsIdle lists s → HasSubmitted forms s
@@ -186,16 +233,16 @@ module _ (forms : List Offers) (lists : Lists) (by : AreByBidder forms lists) wh
     other = λ other. idle.fresh;
   }
 
-  job-submitted : {E : Type 0} (job : JobOwn) (s : SessionOwn) (ended : Result (Unit {0}) E) → IsFirstJob lists job → ComesTo job s ended → ended ≡ Ok tt → HasSubmitted forms s
-  job-submitted {E} job s ended first done ok =
-      let accepted : AreAccepted job.forms s.pairs = subst (λ (r : Result (Unit {0}) E). OnOk r (AreAccepted job.forms s.pairs)) ok done.accepted in
+  job-submitted : (job : JobOwn) (s : SessionOwn) (ended : Result (Unit {0}) RoundFault) → IsFirstJob lists job → ComesTo job s ended → ended ≡ Ok tt → HasSubmitted forms s
+  job-submitted job s ended first done ok =
+      let accepted : AreAccepted job.forms s.pairs = subst (λ (r : Result (Unit {0}) RoundFault). OnOk r (AreAccepted job.forms s.pairs)) ok done.accepted in
       let forms_are : job.forms ≡ forms_of s.bidder forms = first.forms ∙ by job.session.bidder ∙ ap (λ b. forms_of b forms) (sym done.bidder_is) in
       record {
         first = λ one. subst (λ xs. AreAccepted xs s.pairs) forms_are accepted;
         other = λ other. absurd (other (done.session_is ∙ first.first));
       }
 
-  jobs-submitted : {D E : Type 0} (session_of : D → SessionOwn) (ended_of : D → Result (Unit {0}) E) (jobs : List JobOwn) (done : List D)
+  jobs-submitted : {D : Type 0} (session_of : D → SessionOwn) (ended_of : D → Result (Unit {0}) RoundFault) (jobs : List JobOwn) (done : List D)
       → AllZip (λ (job : JobOwn) (d : D). ComesTo job (session_of d) (ended_of d)) jobs done → All (IsFirstJob lists) jobs → All (λ (d : D). ended_of d ≡ Ok tt) done
       → All (HasSubmitted forms) (map session_of done)
   jobs-submitted session_of ended_of [] [] each first ok = All-nil (HasSubmitted forms)
@@ -206,7 +253,7 @@ module _ (forms : List Offers) (lists : Lists) (by : AreByBidder forms lists) wh
       (job-submitted job (session_of d) (ended_of d) (All-head (IsFirstJob lists) job jobs first) each.0 (All-head (λ (x : D). ended_of x ≡ Ok tt) d done ok))
       (jobs-submitted session_of ended_of jobs done each.1 (All-tail (IsFirstJob lists) job jobs first) (All-tail (λ (x : D). ended_of x ≡ Ok tt) d done ok))
 
-  pub all-submitted : {D E : Type 0} (session_of : D → SessionOwn) (ended_of : D → Result (Unit {0}) E) (others : List SessionOwn) (jobs : List JobOwn) (done : List D)
+  pub all-submitted : {D : Type 0} (session_of : D → SessionOwn) (ended_of : D → Result (Unit {0}) RoundFault) (others : List SessionOwn) (jobs : List JobOwn) (done : List D)
       → All (IsIdle lists) others → AllZip (λ (job : JobOwn) (d : D). ComesTo job (session_of d) (ended_of d)) jobs done → All (IsFirstJob lists) jobs → All (λ (d : D). ended_of d ≡ Ok tt) done
       → All (HasSubmitted forms) (others ++ map session_of done)
   all-submitted session_of ended_of others jobs done idle each first ok =

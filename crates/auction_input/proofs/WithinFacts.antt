@@ -9,7 +9,7 @@ use Rattle.auction_input.specs.TextsTold.{form_told, groups_told, terms_told}
 use Rattle.auction_terms.specs.Stages.{each_in_turn}
 use Rattle.std.specs.Prelude.{codes}
 use Rattle.auction_input.specs.declared.refusal.Refusal.TheVariants as refusal
-use Rattle.auction_input.specs.declared.request.Request.{Request}
+use Rattle.requests.specs.declared.request.Request.{Request}
 use Rattle.auction_input.proofs.AnswerFacts.{ok-behind, ok-refused_as, unless-ok}
 use Rattle.auction_input.proofs.LimitFacts.{book-within, forms-within, terms-few}
 use Rattle.auction_input.proofs.LotFacts.{lots-within}

@@ -6,7 +6,7 @@ use Rattle.program_rows.specs.declared.fault.FaultKind.TheVariants as kind
 use Rattle.auction_input.specs.Line.{line}
 use Rattle.auction_input.specs.declared.refusal.CountedPart.TheVariants as counted
 use Rattle.auction_input.specs.declared.refusal.Refusal.TheVariants as refusal
-use Rattle.optimality.specs.declared.fault.FaultKind.TheVariants as certificate
+use Rattle.program_faults.specs.declared.certificate_fault.FaultKind.TheVariants as certificate
 
 below_reserve : line (refusal.Form 1 (form.BelowReserve 2)) ≡ codes "wdp: form 1: 12 BelowReserve at record 2\n"
 unfolding digits

@@ -7,10 +7,10 @@ use Rattle.auction_input.specs.PartsTold.{only_text, parts_told}
 use Rattle.auction_input.specs.TextsTold.{form_told, groups_told, terms_told}
 use Rattle.auction_input.specs.declared.refusal.Refusal.TheVariants as refusal
 use Rattle.auction_input.specs.declared.refusal.Refusal.{Refusal}
-use Rattle.auction_input.specs.declared.request.Request.{Request}
+use Rattle.requests.specs.declared.request.Request.{Request}
 use Rattle.auction_terms.specs.FirstFault.{first_fault}
 use Rattle.auction_terms.specs.Stages.{and_then, each_in_turn, refused_as, unless}
-use Rattle.outcome.specs.Sale.{Sale}
+use Rattle.bid_desk.specs.Sale.{Sale}
 
 -- a sale, the groups that are left out of it, and the texts of solutions and of certificates; what is claimed of other outcomes: texts of certificates that there is none as good, and of solutions that are
 pub record Auction : Type 0 where

@@ -7,7 +7,7 @@ use Rattle.auction_terms.specs.Groups.{has}
 use Rattle.auction_terms.specs.Keeping.{kept_of}
 use Rattle.auction_terms.specs.Terms.{Terms, lots_in}
 use Rattle.bid_forms.specs.Offers.{Offers}
-use Rattle.outcome.specs.Sale.{Sale}
+use Rattle.bid_desk.specs.Sale.{Sale}
 use Rattle.program_rows.specs.Program.{Table}
 use Rattle.program_rows.specs.Rows.{program_of}
 

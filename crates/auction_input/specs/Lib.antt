@@ -11,4 +11,5 @@ pub mod Settled
 pub mod Sold
 pub mod Submissions
 pub mod TextsTold
+pub mod Told
 pub mod inside

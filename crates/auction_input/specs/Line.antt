@@ -10,20 +10,24 @@ use Rattle.auction_input.specs.declared.round.RoundFault.TheVariants as round
 use Rattle.auction_terms.specs.GroupFaultText.{group_fault_text}
 use Rattle.auction_terms.specs.RulesFaultText.{rules_fault_text}
 use Rattle.bid_forms.specs.FormFaultText.{form_fault_text}
-use Rattle.mps_reader.specs.MpsFaultText.{mps_fault_text}
+use Rattle.program_faults.specs.MpsFaultText.{mps_fault_text}
 use Rattle.mps_text.specs.Sinks.{HasFailed, SentFront}
 use Rattle.mps_text.specs.declared.write_fault.WriteFault.TheVariants as write
-use Rattle.optimality.specs.CertificateFaultText.{certificate_fault_text}
-use Rattle.outcome.specs.SolutionFaultText.{solution_fault_text}
+use Rattle.program_faults.specs.CertificateFaultText.{certificate_fault_text}
+use Rattle.program_faults.specs.SolutionFaultText.{solution_fault_text}
 use Rattle.auction_terms.specs.declared.groups_text.GroupFault.TheVariants as groups
 use Rattle.auction_terms.specs.declared.rules_text.RulesFault.TheVariants as rules
 use Rattle.bid_forms.specs.declared.form_text.FormFault.TheVariants as form
-use Rattle.optimality.specs.declared.fault.FaultKind.TheVariants as certificate
-use Rattle.outcome.specs.declared.fault.SolutionFault.TheVariants as solution
+use Rattle.program_faults.specs.declared.certificate_fault.FaultKind.TheVariants as certificate
+use Rattle.program_faults.specs.declared.solution_fault.SolutionFault.TheVariants as solution
 use Rattle.program_rows.specs.declared.fault.FaultKind.TheVariants as kind
 
--- what is told of a refusal: wherever memory was short, just that
+-- what is told of a refusal: wherever memory was short, just that; of a fault the words of its part before it
 abbrev pub refusal_text : Refusal → List ℕ
+refusal_text (refusal.Input input.OutOfMemory) = codes "out of memory"
+refusal_text (refusal.Parts part.OutOfMemory) = codes "out of memory"
+refusal_text (refusal.Round round.OutOfMemory) = codes "out of memory"
+refusal_text refusal.OutOfMemory = codes "out of memory"
 refusal_text (refusal.Rules rules.OutOfMemory) = codes "out of memory"
 refusal_text (refusal.Form n form.OutOfMemory) = codes "out of memory"
 refusal_text (refusal.Groups groups.OutOfMemory) = codes "out of memory"
@@ -39,18 +43,18 @@ refusal_text (refusal.PartCount counted.Solutions) = codes "input: wrong number 
 refusal_text (refusal.PartCount counted.Certificates) = codes "input: wrong number of certificates"
 refusal_text (refusal.PartCount counted.Claims) = codes "input: wrong number of unique and tie"
 refusal_text (refusal.Rules f) = codes "rules: " ++ rules_fault_text f
-refusal_text (refusal.Form n f) = codes "form " ++ (decimal n ++ (codes ": " ++ form_fault_text f))
+refusal_text (refusal.Form n f) = (codes "form " ++ (decimal n ++ codes ": ")) ++ form_fault_text f
 refusal_text (refusal.Groups f) = codes "groups: " ++ group_fault_text f
-refusal_text (refusal.CallLimit n) = codes "form " ++ (decimal n ++ codes ": CallLimit")
+refusal_text (refusal.CallLimit n) = (codes "form " ++ (decimal n ++ codes ": ")) ++ codes "CallLimit"
 refusal_text (refusal.Round round.WrongAnswer) = codes "desk: wrong answer"
 refusal_text (refusal.NoGroup k) = codes "groups: no group " ++ decimal k
 refusal_text refusal.FirstGroupNotEmpty = codes "groups: group 1 is not empty"
 refusal_text (refusal.Program f) = elim (f.kind) [ kind.OutOfMemory ↦ codes "out of memory" | k ↦ codes "program: " ++ mps_fault_text f.line f.kind ]
-refusal_text (refusal.Solution n f) = codes "solution " ++ (decimal n ++ (codes ": " ++ solution_fault_text f))
-refusal_text (refusal.BoundBroken n name) = codes "solution " ++ (decimal n ++ (codes ": 7 BoundBroken at column " ++ name))
-refusal_text (refusal.RowBroken n name) = codes "solution " ++ (decimal n ++ (codes ": 8 RowBroken at row " ++ name))
+refusal_text (refusal.Solution n f) = (codes "solution " ++ (decimal n ++ codes ": ")) ++ solution_fault_text f
+refusal_text (refusal.BoundBroken n name) = (codes "solution " ++ (decimal n ++ codes ": ")) ++ (codes "7 BoundBroken at column " ++ name)
+refusal_text (refusal.RowBroken n name) = (codes "solution " ++ (decimal n ++ codes ": ")) ++ (codes "8 RowBroken at row " ++ name)
 refusal_text (refusal.Certificate n f) =
-    elim (f.kind) [ certificate.OutOfMemory ↦ codes "out of memory" | k ↦ codes "certificate " ++ (decimal n ++ (codes ": " ++ certificate_fault_text f.line f.kind)) ]
+    elim (f.kind) [ certificate.OutOfMemory ↦ codes "out of memory" | k ↦ (codes "certificate " ++ (decimal n ++ codes ": ")) ++ certificate_fault_text f.line f.kind ]
 refusal_text (refusal.Unique f) = elim (f.kind) [ certificate.OutOfMemory ↦ codes "out of memory" | k ↦ codes "unique: " ++ certificate_fault_text f.line f.kind ]
 refusal_text (refusal.Tie f) = codes "tie: " ++ solution_fault_text f
 refusal_text (refusal.TieBoundBroken name) = codes "tie: 7 BoundBroken at column " ++ name
@@ -58,24 +62,8 @@ refusal_text (refusal.TieRowBroken name) = codes "tie: 8 RowBroken at row " ++ n
 refusal_text refusal.LowerTie = codes "tie: total below that of group 1"
 refusal_text refusal.SameTie = codes "tie: same winners as group 1"
 refusal_text (refusal.Write (write.Sink written)) = codes "write failed after " ++ (decimal written ++ codes " bytes")
-refusal_text r = codes "out of memory"
 
--- a refusal without the name of the column or row that it tells
-abbrev pub without_name : Refusal → Refusal
-without_name (refusal.BoundBroken n name) = refusal.BoundBroken n []
-without_name (refusal.RowBroken n name) = refusal.RowBroken n []
-without_name (refusal.TieBoundBroken name) = refusal.TieBoundBroken []
-without_name (refusal.TieRowBroken name) = refusal.TieRowBroken []
-without_name r = r
-
--- and that name
-abbrev pub name_told : Refusal → List ℕ
-name_told (refusal.BoundBroken n name) = name
-name_told (refusal.RowBroken n name) = name
-name_told (refusal.TieBoundBroken name) = name
-name_told (refusal.TieRowBroken name) = name
-name_told r = []
-
+-- and its line
 abbrev pub line : Refusal → List ℕ
 line r = codes "wdp: " ++ (refusal_text r ++ 10 ∷ [])
 
@@ -83,10 +71,6 @@ line r = codes "wdp: " ++ (refusal_text r ++ 10 ∷ [])
 abbrev pub Puts : List ℕ → Option (List ℕ) → Option (List ℕ) → ℕ → ℕ → Type 0
 Puts bytes taken taken' failures failures' = Appends taken taken' bytes ⊎ ((n : ℕ) × SentFront taken taken' bytes n × HasFailed failures failures')
 
--- a refusal is told by its line, or by 'out of memory' in its place: which of them isn't said, since no contract of formatting says when a text finds no room
-abbrev pub IsTold : Refusal → Option (List ℕ) → Option (List ℕ) → ℕ → ℕ → Type 0
-IsTold r taken taken' failures failures' = Puts (line r) taken taken' failures failures' ⊎ Puts (line refusal.OutOfMemory) taken taken' failures failures'
-
--- a refusal for this reason is told
+-- a refusal for this reason is told by its line
 abbrev pub IsToldWhy : (Refusal → Type 0) → Option (List ℕ) → Option (List ℕ) → ℕ → ℕ → Type 0
-IsToldWhy Why taken taken' failures failures' = (r : Refusal) × Why r × IsTold r taken taken' failures failures'
+IsToldWhy Why taken taken' failures failures' = (r : Refusal) × Why r × Puts (line r) taken taken' failures failures'

@@ -4,7 +4,7 @@ use Rattle.auction_input.specs.Parts.{Part, cut_lines, input_fault, parts_in, pa
 use Rattle.auction_input.specs.Plan.{miscounted}
 use Rattle.auction_input.specs.declared.refusal.Refusal.TheVariants as refusal
 use Rattle.auction_input.specs.declared.refusal.Refusal.{Refusal}
-use Rattle.auction_input.specs.declared.request.Request.{Request}
+use Rattle.requests.specs.declared.request.Request.{Request}
 use Rattle.auction_terms.specs.Stages.{and_then, refused_as, unless}
 
 abbrev pub parts_told : Request → List ℕ → Result (List Part) Refusal

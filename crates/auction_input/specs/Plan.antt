@@ -3,8 +3,8 @@ use Rattle.std.specs.Prelude.{◌==◌, ℕ, true, [], ◌∷◌, Option, None, 
 use Rattle.std.specs.Option.{option_map_or}
 use Rattle.auction_input.specs.declared.refusal.CountedPart.TheVariants as counted
 use Rattle.auction_input.specs.declared.refusal.CountedPart.{CountedPart}
-use Rattle.auction_input.specs.declared.request.Request.TheVariants as request
-use Rattle.auction_input.specs.declared.request.Request.{Request}
+use Rattle.requests.specs.declared.request.Request.TheVariants as request
+use Rattle.requests.specs.declared.request.Request.{Request}
 use Rattle.auction_terms.specs.FirstFault.{first_failed}
 
 -- how many parts of groups a command takes, and of solutions; of a report there is to be one for each group, which is tested once these are read

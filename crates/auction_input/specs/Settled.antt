@@ -10,19 +10,19 @@ use Rattle.auction_input.specs.TextsTold.{form_told, terms_told}
 use Rattle.auction_input.specs.declared.auction.Auction as declared
 use Rattle.auction_input.specs.declared.refusal.Refusal.TheVariants as refusal
 use Rattle.auction_input.specs.declared.refusal.Refusal.{Refusal}
-use Rattle.auction_input.specs.declared.request.Request.TheVariants as request
-use Rattle.auction_input.specs.declared.request.Request.{Request}
+use Rattle.requests.specs.declared.request.Request.TheVariants as request
+use Rattle.requests.specs.declared.request.Request.{Request}
 use Rattle.auction_input.specs.declared.round.RoundFault.TheVariants as round
 use Rattle.auction_terms.specs.Stages.{each_in_turn}
 use Rattle.bid_desk.specs.Closing.{Closing}
 use Rattle.bid_forms.specs.Offers.{Offers}
-use Rattle.outcome.specs.Sale.{sale_of}
+use Rattle.bid_desk.specs.Sale.{sale_of}
 
 -- what an auction that is settled holds
 abbrev pub held : declared.Auction → Auction
 held auction = record { sale = sale_of auction.book; groups = auction.groups; solutions = bytes_of auction.solutions.items; certificates = bytes_of auction.certificates.items; uniques = bytes_of auction.uniques.items; ties = bytes_of auction.ties.items }
 
--- the auction, which the request reads, is accepted, and the desk gave an answer that a round of these calls isn't given
+-- the auction, which the request reads, is accepted, and yet a wrong answer of the desk is told: that it gave one isn't said, since nothing is known of what a lock gives
 abbrev pub IsUnsettled : Request → List ℕ → Refusal → Type 0
 IsUnsettled asked input r = (asked ≢ request.Check) × (auction : Auction) × (auction_told asked input ≡ Ok auction) × (r ≡ refusal.Round round.WrongAnswer)
 

@@ -4,13 +4,13 @@ use Rattle.auction_input.specs.Auction.{Auction, auction_told}
 use Rattle.auction_input.specs.BookLeft.{program_for}
 use Rattle.auction_input.specs.ReadInput.{IsWhole}
 use Rattle.auction_input.specs.Settled.{HoldsForms}
-use Rattle.auction_input.specs.declared.request.Request.TheVariants.{Check}
-use Rattle.auction_input.specs.declared.request.Request.{Request}
+use Rattle.requests.specs.declared.request.Request.TheVariants.{Check}
+use Rattle.requests.specs.declared.request.Request.{Request}
 use Rattle.auction_terms.specs.Groups.{has}
 use Rattle.bid_desk.specs.Closing.{Closing, IsClosing}
 use Rattle.mps_text.specs.FaithfulText.{IsFaithfulText}
 use Rattle.mps_text.specs.Text.{text}
-use Rattle.outcome.specs.Sale.{sale_of}
+use Rattle.bid_desk.specs.Sale.{sale_of}
 
 -- an input tells this auction, whose book is that of a closed round; and the text of the program without any group is faithful to it
 pub record IsSold (asked : Request) (input : List ℕ) (auction : Auction) : Type 0 where

@@ -1,6 +1,7 @@
 //! What a bidder's thread does.
 
-ghost use Rattle.std.specs.Prelude.{◌≡◌, [], OnOk, map};
+ghost use Rattle.std.specs.Prelude.{◌≡◌, ◌≢◌, ℕ, [], Err, IfNone, IfSome, OnOk, map};
+ghost use Rattle.bid_book.specs.History.{reply_value};
 ghost use Rattle.auction_input.specs.Submissions.{AreAccepted};
 ghost use Rattle.auction_input.specs.inside.Submissions.{AreFormsOf, ComesTo, form_values};
 
@@ -59,6 +60,17 @@ impl<'f, L: Round> Job<'f, L> {
     }
 }
 
+// The number that a reply accepts a form by.
+fn number_of(reply: &Reply) -> Option<u32>
+    ensures accepted { IfSome result (λ number. reply_value reply.now ≡ Reply.Accepted number) }
+    ensures other { IfNone result ((number : ℕ) → reply_value reply.now ≢ Reply.Accepted number) }
+{
+    match reply {
+        Reply::Accepted { number } => Some(*number),
+        _ => None,
+    }
+}
+
 fn submit_each<L: Round, R: Wait>(
     rt: &R,
     desk: &Desk<L>,
@@ -68,14 +80,18 @@ fn submit_each<L: Round, R: Wait>(
     requires own { AreFormsOf L.rules session.old.bidder (form_values forms.now) }
     requires fresh { session.old.pairs ≡ [] }
     ensures accepted { OnOk result (AreAccepted (form_values forms.now) session.new.pairs) }
+    ensures wrong { result ≡ Err RoundFault.WrongAnswer
+        → ¬ (AreAccepted (form_values forms.now) session.new.pairs) }
     ensures same { (session.new.bidder ≡ session.old.bidder)
         × (session.new.session ≡ session.old.session) }
 {
     let mut over = None;
     for place in 0..forms.len() {
         match desk.enter(rt).submit(session, &forms[place], over) {
-            Ok(Reply::Accepted { number }) => over = Some(number),
-            Ok(_) => return Err(RoundFault::WrongAnswer),
+            Ok(reply) => match number_of(&reply) {
+                Some(number) => over = Some(number),
+                None => return Err(RoundFault::WrongAnswer),
+            },
             Err(DeskError::OutOfMemory) => return Err(RoundFault::OutOfMemory),
         }
     }

@@ -5,7 +5,7 @@ ghost use Rattle.auction_terms.specs.FirstFault.{TellsTheFirst};
 ghost use Rattle.auction_input.specs.Calls.{one_too_many};
 ghost use Rattle.auction_input.specs.Parts.{part_fault};
 ghost use Rattle.auction_input.specs.declared.input.TheConstants.{INPUT_LIMIT};
-ghost use Rattle.auction_input.specs.declared.request.Request.{Request};
+ghost use Rattle.requests.specs.declared.request.Request.{Request};
 
 /// The parts of an input have the fault of the first of them with a fault.
 pub fn parts_tell_their_first_fault()

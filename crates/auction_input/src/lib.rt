@@ -13,9 +13,9 @@ mod part_kind;
 mod parts;
 mod reading;
 mod refusal;
-mod request;
 mod round;
 mod source;
+mod told;
 
 pub use auction::{Auction, read_auction};
 pub use input::{INPUT_LIMIT, InputFault, read_input};
@@ -24,6 +24,6 @@ pub use part_kind::PartKind;
 pub use parts::{PartFault, Parts, split_parts};
 pub use reading::only_text;
 pub use refusal::{CountedPart, Refusal};
-pub use request::Request;
 pub use round::RoundFault;
 pub use source::{ReadFailed, Source};
+pub use told::Told;

@@ -3,7 +3,7 @@
 ghost use Rattle.std.specs.Prelude.{◌≡◌};
 ghost use Rattle.auction_input.specs.inside.Parts.{for_verify, kind_named};
 
-use crate::request::Request;
+use requests::Request;
 
 /// What a part of the input holds.
 #[derive(Clone, Copy, Debug, PartialEq, Eq)]

@@ -5,9 +5,9 @@ ghost use Rattle.auction_input.specs.Parts.{TellsParts, heads_part, bytes_before
 ghost use Rattle.auction_input.specs.inside.Parts.{added, held_bytes, part, part_name};
 
 use crate::part_kind::{PartKind, kind_named};
-use crate::request::Request;
 use auction_terms::LineReader;
 use memchr::memmem;
+use requests::Request;
 use std::alloc::{AllocError, Global};
 
 /// The bytes of the parts of each kind, in the order of the input.

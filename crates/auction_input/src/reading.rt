@@ -14,10 +14,10 @@ ghost use Rattle.auction_terms.specs.Stages.{each_in_turn};
 
 use crate::parts::Parts;
 use crate::refusal::{CountedPart, Refusal};
-use crate::request::Request;
 use auction_terms::Rules;
 use bid_forms::{Form, FormFault, read_form};
 use rayon::prelude::*;
+use requests::Request;
 use std::alloc::{AllocError, Global};
 use std::thread::{Threads, join};
 

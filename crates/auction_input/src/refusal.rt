@@ -1,21 +1,20 @@
 //! Why a run ends without its output.
 
-ghost use Rattle.std.specs.Prelude.{◌≡◌, Some};
-ghost use Rattle.auction_input.specs.Line.{name_told, refusal_text, without_name};
+ghost use Rattle.std.specs.Prelude.{◌≡◌};
+ghost use Rattle.auction_input.specs.Line.{refusal_text};
+ghost use Rattle.auction_input.specs.Told.{told_text};
 
 use crate::input::InputFault;
 use crate::name::Name;
 use crate::parts::PartFault;
 use crate::round::RoundFault;
-use auction_terms::{GroupFault, RulesFault};
+use crate::told::Told;
+use auction_terms::{GroupFault, RulesFault, Wording};
 use bid_forms::FormFault;
-use mps_reader::MpsFault;
 use mps_text::WriteFault;
-use optimality::CertificateFault;
-use outcome::SolutionFault;
+use program_faults::{CertificateFault, MpsFault, SolutionFault};
 use program_rows::FaultKind;
 use std::alloc::AllocError;
-use std::fmt;
 
 /// The parts of which a command takes a certain number.
 #[derive(Clone, Copy, Debug, PartialEq, Eq)]
@@ -26,6 +25,8 @@ pub enum CountedPart {
     Certificates,
     Claims,
 }
+
+const OUT_OF_MEMORY: &str = "out of memory";
 
 /// Why a run ends without its output, or with a front of it. Forms, groups, solutions and certificates count from 1.
 #[derive(Drop)]
@@ -90,108 +91,145 @@ pub enum Refusal {
     OutOfMemory,
 }
 
-impl Refusal {
-    /// The name of the column or row that is broken; of any other refusal none.
-    pub fn name(&self) -> &[u8]
-        ensures { result.now ≡ name_told self.now }
-    {
-        match self {
-            Refusal::BoundBroken {
-                solution: _,
-                column,
-            } => column.as_slice(),
-            Refusal::RowBroken { solution: _, row } => row.as_slice(),
-            Refusal::TieBoundBroken { column } => column.as_slice(),
-            Refusal::TieRowBroken { row } => row.as_slice(),
-            _ => b"",
-        }
-    }
+// What is told of an input that isn't taken.
+fn in_input(fault: InputFault) -> Told<'static>
+    ensures { told_text result ≡ refusal_text (Refusal.Input fault) }
+{
+    Told::only(Wording::Words(match fault {
+        InputFault::ReadFailed => "input: read failed",
+        InputFault::TooLarge => "input: too large",
+        InputFault::OutOfMemory => OUT_OF_MEMORY,
+    }))
 }
 
-/// What is told of a refusal, but for the name of a column or row, which are bytes.
-impl fmt::Display for Refusal {
-    ghost output = { λ refusal. Some (refusal_text (without_name refusal)) };
+// What is told of an input without parts.
+fn in_parts(fault: PartFault) -> Told<'static>
+    ensures { told_text result ≡ refusal_text (Refusal.Parts fault) }
+{
+    Told::only(match fault {
+        PartFault::BeforeFirst => Wording::Words("input: bytes before the first part"),
+        PartFault::PartName { part } => Wording::Between("input: part ", part as u64, " not known"),
+        PartFault::OutOfMemory => Wording::Words(OUT_OF_MEMORY),
+    })
+}
 
-    fn fmt<W: fmt::Write>(&self, f: &mut fmt::Formatter<W>) -> fmt::Result {
+// What is told of parts of which there are too few or too many.
+fn in_count(part: CountedPart) -> Told<'static>
+    ensures { told_text result ≡ refusal_text (Refusal.PartCount part) }
+{
+    Told::only(Wording::Words(match part {
+        CountedPart::Rules => "input: wrong number of rules",
+        CountedPart::Groups => "input: wrong number of groups",
+        CountedPart::Solutions => "input: wrong number of solutions",
+        CountedPart::Certificates => "input: wrong number of certificates",
+        CountedPart::Claims => "input: wrong number of unique and tie",
+    }))
+}
+
+impl Refusal {
+    /// What is told of it. Wherever memory was short, just that is told.
+    pub fn told(&self) -> Told<'_>
+        ensures { told_text result ≡ refusal_text self.now }
+    {
         match self {
             Refusal::Rules(RulesFault::OutOfMemory)
             | Refusal::Form {
-                form: _,
                 fault: FormFault::OutOfMemory,
+                ..
             }
             | Refusal::Groups(GroupFault::OutOfMemory)
+            | Refusal::Round(RoundFault::OutOfMemory)
             | Refusal::Program(
                 MpsFault {
-                    line: _,
                     kind: FaultKind::OutOfMemory,
+                    ..
                 },
             )
             | Refusal::Solution {
-                solution: _,
                 fault: SolutionFault::OutOfMemory,
+                ..
             }
             | Refusal::Certificate {
-                certificate: _,
                 fault: CertificateFault {
-                    line: _,
-                    kind: optimality::FaultKind::OutOfMemory,
+                    kind: program_faults::FaultKind::OutOfMemory,
+                    ..
                 },
+                ..
             }
             | Refusal::Unique(
                 CertificateFault {
-                    line: _,
-                    kind: optimality::FaultKind::OutOfMemory,
+                    kind: program_faults::FaultKind::OutOfMemory,
+                    ..
                 },
             )
-            | Refusal::Tie(SolutionFault::OutOfMemory) => write!(f, "out of memory"),
-            Refusal::Input(InputFault::ReadFailed) => write!(f, "input: read failed"),
-            Refusal::Input(InputFault::TooLarge) => write!(f, "input: too large"),
-            Refusal::Parts(PartFault::BeforeFirst) => {
-                write!(f, "input: bytes before the first part")
-            }
-            Refusal::Parts(PartFault::PartName { part }) => {
-                write!(f, "input: part {part} not known")
-            }
-            Refusal::PartCount(CountedPart::Rules) => write!(f, "input: wrong number of rules"),
-            Refusal::PartCount(CountedPart::Groups) => write!(f, "input: wrong number of groups"),
-            Refusal::PartCount(CountedPart::Solutions) => {
-                write!(f, "input: wrong number of solutions")
-            }
-            Refusal::PartCount(CountedPart::Certificates) => {
-                write!(f, "input: wrong number of certificates")
-            }
-            Refusal::PartCount(CountedPart::Claims) => {
-                write!(f, "input: wrong number of unique and tie")
-            }
-            Refusal::Rules(fault) => write!(f, "rules: {fault}"),
-            Refusal::Form { form, fault } => write!(f, "form {form}: {fault}"),
-            Refusal::Groups(fault) => write!(f, "groups: {fault}"),
-            Refusal::CallLimit { form } => write!(f, "form {form}: CallLimit"),
-            Refusal::Round(RoundFault::WrongAnswer) => write!(f, "desk: wrong answer"),
-            Refusal::NoGroup { group } => write!(f, "groups: no group {group}"),
-            Refusal::FirstGroupNotEmpty => write!(f, "groups: group 1 is not empty"),
-            Refusal::Program(fault) => write!(f, "program: {fault}"),
-            Refusal::Solution { solution, fault } => write!(f, "solution {solution}: {fault}"),
-            Refusal::BoundBroken {
-                solution,
-                column: _,
-            } => write!(f, "solution {solution}: 7 BoundBroken at column "),
-            Refusal::RowBroken { solution, row: _ } => {
-                write!(f, "solution {solution}: 8 RowBroken at row ")
-            }
-            Refusal::Certificate { certificate, fault } => {
-                write!(f, "certificate {certificate}: {fault}")
-            }
-            Refusal::Unique(fault) => write!(f, "unique: {fault}"),
-            Refusal::Tie(fault) => write!(f, "tie: {fault}"),
-            Refusal::TieBoundBroken { column: _ } => write!(f, "tie: 7 BoundBroken at column "),
-            Refusal::TieRowBroken { row: _ } => write!(f, "tie: 8 RowBroken at row "),
-            Refusal::LowerTie => write!(f, "tie: total below that of group 1"),
-            Refusal::SameTie => write!(f, "tie: same winners as group 1"),
-            Refusal::Write(WriteFault::Sink { written }) => {
-                write!(f, "write failed after {written} bytes")
-            }
-            _ => write!(f, "out of memory"),
+            | Refusal::Tie(SolutionFault::OutOfMemory)
+            | Refusal::OutOfMemory => Told::only(Wording::Words(OUT_OF_MEMORY)),
+            Refusal::Input(fault) => in_input(*fault),
+            Refusal::Parts(fault) => in_parts(*fault),
+            Refusal::PartCount(part) => in_count(*part),
+            Refusal::Rules(fault) => Told::in_part("rules: ", fault.wording()),
+            Refusal::Form { form, fault } => Told::in_number("form ", *form, fault.wording()),
+            Refusal::Groups(fault) => Told::in_part("groups: ", fault.wording()),
+            Refusal::CallLimit { form } => Told::in_number(
+                "form ",
+                *form,
+                Wording::Words("CallLimit"),
+            ),
+            Refusal::Round(RoundFault::WrongAnswer) => Told::in_part(
+                "desk: ",
+                Wording::Words("wrong answer"),
+            ),
+            Refusal::NoGroup { group } => Told::in_part(
+                "groups: ",
+                Wording::Number("no group ", *group as u64),
+            ),
+            Refusal::FirstGroupNotEmpty => Told::in_part(
+                "groups: ",
+                Wording::Words("group 1 is not empty"),
+            ),
+            Refusal::Program(fault) => Told::in_part("program: ", fault.wording()),
+            Refusal::Solution { solution, fault } => Told::in_number(
+                "solution ",
+                *solution,
+                fault.wording(),
+            ),
+            Refusal::BoundBroken { solution, column } => Told {
+                part: Wording::Between("solution ", *solution as u64, ": "),
+                fault: Wording::Words("7 BoundBroken at column "),
+                name: column.as_slice(),
+            },
+            Refusal::RowBroken { solution, row } => Told {
+                part: Wording::Between("solution ", *solution as u64, ": "),
+                fault: Wording::Words("8 RowBroken at row "),
+                name: row.as_slice(),
+            },
+            Refusal::Certificate { certificate, fault } => Told::in_number(
+                "certificate ",
+                *certificate,
+                fault.wording(),
+            ),
+            Refusal::Unique(fault) => Told::in_part("unique: ", fault.wording()),
+            Refusal::Tie(fault) => Told::in_part("tie: ", fault.wording()),
+            Refusal::TieBoundBroken { column } => Told {
+                part: Wording::Words("tie: "),
+                fault: Wording::Words("7 BoundBroken at column "),
+                name: column.as_slice(),
+            },
+            Refusal::TieRowBroken { row } => Told {
+                part: Wording::Words("tie: "),
+                fault: Wording::Words("8 RowBroken at row "),
+                name: row.as_slice(),
+            },
+            Refusal::LowerTie => Told::in_part(
+                "tie: ",
+                Wording::Words("total below that of group 1"),
+            ),
+            Refusal::SameTie => Told::in_part("tie: ", Wording::Words("same winners as group 1")),
+            Refusal::Write(WriteFault::Sink { written }) => Told::only(Wording::Between(
+                "write failed after ",
+                *written,
+                " bytes",
+            )),
         }
     }
 }

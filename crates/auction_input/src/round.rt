@@ -1,12 +1,13 @@
 //! The round: every bidder submits its forms, the chair closes, and the desk is settled.
 
-ghost use Rattle.std.specs.Prelude.{◌≡◌, ◌+◌, ◌++◌, ℕ, [], All, IfOk, Ok, OnOk, map};
+ghost use Rattle.std.specs.Prelude.{◌≡◌, ◌≢◌, ◌+◌, ◌++◌, ◌⊎◌, ℕ, [], All, Any, Err, IfErr, IfOk, MatchBool, Ok, OnOk, map, true};
+ghost use Rattle.bid_book.specs.History.{reply_value};
 ghost use Rattle.std.specs.List.{AllZip};
 ghost use Rattle.auction_terms.specs.Terms.{session_count};
 ghost use Rattle.bid_desk.specs.Holding.{ChairOwn};
 ghost use Rattle.bid_desk.specs.Settlement.{IsSettled};
 ghost use Rattle.bid_forms.specs.Offers.{Meets};
-ghost use Rattle.auction_input.specs.inside.Submissions.{AreFormsOf, ComesTo, IsFirstJob, IsIdle, forms_in};
+ghost use Rattle.auction_input.specs.inside.Submissions.{AreFormsOf, ComesTo, HasClosed, IsFirstJob, IsIdle, forms_in};
 ghost use Rattle.auction_input.specs.Submissions.{AreSubmitted};
 
 use crate::by_bidder::{by_bidder, forms_in};
@@ -180,6 +181,8 @@ fn sessions_of<L: Round>(
     ensures ended { OnOk result (All (λ job. job.ended ≡ Ok tt) done.items) }
     ensures sessions { IfOk result (λ sessions. sessions.items
         ≡ others.items ++ map (λ job. job.session) done.items) }
+    ensures wrong { IfErr result (λ fault. fault ≡ RoundFault.WrongAnswer
+        → Any (λ job. job.ended ≡ Err RoundFault.WrongAnswer) done.items) }
 {
     let mut sessions = others;
     let mut ended = Ok(());
@@ -199,7 +202,9 @@ fn sessions_of<L: Round>(
 
 // Of two ends the one to tell: out of memory, else a wrong answer.
 fn first_of(one: Result<(), RoundFault>, other: Result<(), RoundFault>) -> Result<(), RoundFault>
-    ensures { OnOk result ((one ≡ Ok tt) × (other ≡ Ok tt)) }
+    ensures ok { OnOk result ((one ≡ Ok tt) × (other ≡ Ok tt)) }
+    ensures wrong { result ≡ Err RoundFault.WrongAnswer
+        → (one ≡ Err RoundFault.WrongAnswer) ⊎ (other ≡ Err RoundFault.WrongAnswer) }
 {
     match (one, other) {
         (Ok(()), end) => end,
@@ -229,22 +234,37 @@ fn settle<L: Round, R: Wait + AllocGlobal>(
     }
 }
 
-fn fault_of(cause: &Cause) -> RoundFault {
+// What a settlement that is refused is told by.
+fn fault_of(cause: &Cause) -> RoundFault
+    ensures memory { cause.now ≡ Cause.OutOfMemory → result ≡ RoundFault.OutOfMemory }
+    ensures wrong { cause.now ≢ Cause.OutOfMemory → result ≡ RoundFault.WrongAnswer }
+{
     match cause {
         Cause::OutOfMemory => RoundFault::OutOfMemory,
         _ => RoundFault::WrongAnswer,
     }
 }
 
+// Whether a reply says that the chair has closed a round that was open.
+fn was_open(reply: &Reply) -> bool
+    ensures { MatchBool result (reply_value reply.now ≡ Reply.Closed true)
+        (reply_value reply.now ≢ Reply.Closed true) }
+{
+    match reply {
+        Reply::Closed { was_open } => *was_open,
+        _ => false,
+    }
+}
+
 // The chair closes the round, which is open.
-fn close<L: Round, R: Wait>(
-    rt: &R,
-    desk: &Desk<L>,
-    chair: &mut Chair<L>,
-) -> Result<(), RoundFault> {
+fn close<L: Round, R: Wait>(rt: &R, desk: &Desk<L>, chair: &mut Chair<L>) -> Result<(), RoundFault>
+    ensures ok { OnOk result (HasClosed chair.old.pairs chair.new.pairs) }
+    ensures wrong { result ≡ Err RoundFault.WrongAnswer
+        → ¬ (HasClosed chair.old.pairs chair.new.pairs) }
+{
     match desk.enter(rt).close(chair) {
-        Ok(Reply::Closed { was_open: true }) => Ok(()),
-        Ok(_) => Err(RoundFault::WrongAnswer),
+        Ok(reply) if !was_open(&reply) => Err(RoundFault::WrongAnswer),
+        Ok(_) => Ok(()),
         Err(_) => Err(RoundFault::OutOfMemory),
     }
 }

@@ -1,11 +1,15 @@
 pub mod FirstFaultFacts
+pub mod AllFaultsFacts
 pub mod RecordFacts
 pub mod PlainFacts
 pub mod TermsFacts
 pub mod RulesTextFacts
+pub mod AllRulesFaultsFacts
 pub mod LineFacts
 pub mod LineCount
+pub mod NameCount
 pub mod GroupsTextFacts
+pub mod AllGroupFaultsFacts
 pub mod WeighedLaws
 pub mod PackageLaws
 pub mod AllocationLaws

@@ -1,4 +1,5 @@
 pub mod FirstFault
+pub mod AllFaults
 pub mod Stages
 pub mod Borrowed
 pub mod Records
@@ -6,6 +7,7 @@ pub mod Names
 pub mod Numbers
 pub mod Terms
 pub mod RulesText
+pub mod AllRulesFaults
 pub mod Entries
 pub mod Lines
 pub mod Packages
@@ -18,7 +20,9 @@ pub mod Bids
 pub mod Groups
 pub mod GroupNames
 pub mod GroupsText
+pub mod AllGroupFaults
 pub mod RulesFaultText
 pub mod GroupFaultText
+pub mod Wording
 pub mod Only
 pub mod inside

@@ -4,7 +4,8 @@ ghost use Rattle.std.specs.Prelude.{◌≡◌, ◌≤◌, ◌<◌, Err, [], ◌�
 ghost use Rattle.std.specs.List.{list_any};
 ghost use Rattle.std.specs.Str.{bytes_eq};
 ghost use Rattle.auction_terms.specs.FirstFault.{first_failed, first_fault};
-ghost use Rattle.auction_terms.specs.GroupsText.{group_of, groups_of, is_groups_memory, group_line_fault, name_fault};
+ghost use Rattle.auction_terms.specs.Borrowed.{bytes_of};
+ghost use Rattle.auction_terms.specs.GroupsText.{group_of, groups_of, is_groups_memory, group_line_fault, line_checks, name_fault, room_checks};
 ghost use Rattle.auction_terms.specs.inside.GroupsText.{fault_of_line, numbers_from};
 ghost use Rattle.auction_terms.specs.Stages.{Answers};
 ghost use Rattle.auction_terms.specs.inside.FirstFault.{Tells, TellsFault};
@@ -13,6 +14,7 @@ ghost use Rattle.auction_terms.specs.Groups.{IsGroup};
 ghost use Rattle.auction_terms.specs.Lines.{lines_of};
 ghost use Rattle.auction_terms.specs.declared.limits.TheConstants.{MOST_BIDDERS};
 ghost use Rattle.auction_terms.specs.GroupFaultText.{group_fault_text};
+ghost use Rattle.auction_terms.specs.Wording.{wording_text};
 ghost use Rattle.auction_terms.specs.declared.groups_text.GroupFault.TheVariants as fault;
 
 use crate::group_list::Groups;
@@ -21,6 +23,7 @@ use crate::groups::Group;
 use crate::limits::{MOST_GROUPS, TEXT_LIMIT};
 use crate::lines::LineReader;
 use crate::rules::{Bidder, Rules};
+use crate::wording::Wording;
 use std::alloc::{AllocError, Global};
 use std::fmt;
 use thiserror::Error;
@@ -42,18 +45,27 @@ pub enum GroupFault {
     OutOfMemory,
 }
 
+impl GroupFault {
+    /// What is told of the fault: its number and name, and in which line it is.
+    pub fn wording(self) -> Wording
+        ensures { wording_text result ≡ group_fault_text self }
+    {
+        match self {
+            GroupFault::TooLarge => Wording::Words("1 TooLarge"),
+            GroupFault::EmptyLine { place } => Wording::at("2 EmptyLine at line ", place),
+            GroupFault::UnknownBidder { place } => Wording::at("3 UnknownBidder at line ", place),
+            GroupFault::RepeatedBidder { place } => Wording::at("4 RepeatedBidder at line ", place),
+            GroupFault::TooManyGroups { place } => Wording::at("5 TooManyGroups at line ", place),
+            GroupFault::OutOfMemory => Wording::Words("out of memory"),
+        }
+    }
+}
+
 impl fmt::Display for GroupFault {
     ghost output = { λ fault. Some (group_fault_text fault) };
 
     fn fmt<W: fmt::Write>(&self, f: &mut fmt::Formatter<W>) -> fmt::Result {
-        match *self {
-            GroupFault::TooLarge => write!(f, "1 TooLarge"),
-            GroupFault::EmptyLine { place } => write!(f, "2 EmptyLine at line {place}"),
-            GroupFault::UnknownBidder { place } => write!(f, "3 UnknownBidder at line {place}"),
-            GroupFault::RepeatedBidder { place } => write!(f, "4 RepeatedBidder at line {place}"),
-            GroupFault::TooManyGroups { place } => write!(f, "5 TooManyGroups at line {place}"),
-            GroupFault::OutOfMemory => write!(f, "out of memory"),
-        }
+        self.wording().fmt(f)
     }
 }
 
@@ -77,31 +89,50 @@ fn is_among(names: &[&[u8]], name: &[u8]) -> bool
     names.iter().any(|other| *other == name)
 }
 
-// Refuses a name that no bidder has, and one that stood before.
-fn check_name(
+// The fault of a name that no bidder has, or that stood before.
+pub(crate) fn name_fault(
     place: u32,
     bidders: &[Bidder],
     before: &[&[u8]],
     name: &[u8],
-) -> Result<(), GroupFault>
-    ensures { Tells is_groups_memory result
-        (first_failed ((
-          list_any (λ bidder. bytes_eq bidder.name name.now) bidders.now,
-          fault.UnknownBidder place,
-        )
-        ∷ (
-          not (list_any (λ other. bytes_eq other.now name.now) before.now),
-          fault.RepeatedBidder
-              place,
-        ) ∷ [])) tt }
+) -> Option<GroupFault>
+    ensures { result ≡ name_fault bidders.now place (bytes_of before.now) name.now }
 {
     if !is_known(bidders, name) {
-        return Err(GroupFault::UnknownBidder { place });
+        return Some(GroupFault::UnknownBidder { place });
     }
     if is_among(before, name) {
-        return Err(GroupFault::RepeatedBidder { place });
+        return Some(GroupFault::RepeatedBidder { place });
     }
-    Ok(())
+    None
+}
+
+// The fault of a line without a byte.
+pub(crate) fn empty_fault(place: u32, line: &[u8]) -> Option<GroupFault>
+    ensures { result ≡ first_failed (line_checks place line.now) }
+{
+    if line.is_empty() {
+        return Some(GroupFault::EmptyLine { place });
+    }
+    None
+}
+
+// The fault of a line behind the last one that may be.
+pub(crate) fn room_fault(place: u32) -> Option<GroupFault>
+    ensures { result ≡ first_failed (room_checks place) }
+{
+    if place > MOST_GROUPS {
+        return Some(GroupFault::TooManyGroups { place });
+    }
+    None
+}
+
+macro_rules! refuse {
+    ($fault:expr) => {
+        if let Some(fault) = $fault {
+            return Err(fault);
+        }
+    };
 }
 
 // The names of a line.
@@ -118,7 +149,7 @@ fn read_names<'a>(
     let mut names = Vec::new(alloc);
     let mut reader = NameReader::new(line);
     while let Some(name) = reader.next() {
-        check_name(place, bidders, &names, name)?;
+        refuse!(name_fault(place, bidders, &names, name));
         if names.push(name).is_err() {
             return Err(GroupFault::OutOfMemory);
         }
@@ -155,13 +186,9 @@ fn read_group(
     ensures room { OnOk result (place ≤ MOST_GROUPS) }
     ensures group { IfOk result IsGroup }
 {
-    if line.is_empty() {
-        return Err(GroupFault::EmptyLine { place });
-    }
+    refuse!(empty_fault(place, line));
     let names = read_names(alloc, place, bidders, line)?;
-    if place > MOST_GROUPS {
-        return Err(GroupFault::TooManyGroups { place });
-    }
+    refuse!(room_fault(place));
     let numbers = numbers_of(alloc, bidders, &names)?;
     Ok(Group::new(numbers))
 }

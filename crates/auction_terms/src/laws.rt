@@ -2,17 +2,21 @@
 
 ghost use Rattle.std.specs.Prelude.{◌≡◌, ℕ, List};
 ghost use Rattle.auction_terms.specs.FirstFault.{TellsTheFirst};
-ghost use Rattle.auction_terms.specs.GroupsText.{group_line_fault, name_fault};
+ghost use Rattle.auction_terms.specs.AllFaults.{AreFaultsOf};
+ghost use Rattle.auction_terms.specs.AllGroupFaults.{all_group_faults};
+ghost use Rattle.auction_terms.specs.GroupsText.{group_line_fault, groups_of, name_fault};
 ghost use Rattle.auction_terms.specs.Packages.{SmallerFits, SmallerLoadsNoMore};
 ghost use Rattle.auction_terms.specs.Allocations.{LoadsAddUp, TotalsAreNets};
 ghost use Rattle.auction_terms.specs.Domination.{SmallerSizesSuffice};
 ghost use Rattle.auction_terms.specs.Keeping.{KeepsTheBest, KeptAreEnough};
 ghost use Rattle.auction_terms.specs.Limits.{KeptAreOffers};
 ghost use Rattle.auction_terms.specs.Only.{OnlyAmongAll, RivalsDoAsWell};
-ghost use Rattle.auction_terms.specs.RulesText.{entry_fault};
+ghost use Rattle.auction_terms.specs.AllRulesFaults.{all_rules_faults};
+ghost use Rattle.auction_terms.specs.Records.{Record};
+ghost use Rattle.auction_terms.specs.RulesText.{entry_fault, rules_of_records};
 ghost use Rattle.auction_terms.specs.declared.record_kinds.Version.{Version};
 ghost use Rattle.auction_terms.specs.declared.rules.Bidder.{Bidder};
-ghost use Rattle.auction_terms.specs.declared.limits.TheConstants.{GREATEST_AMOUNT, GREATEST_POINTS, GREATEST_QUANTITY, GREATEST_VALUE, GREATEST_WEIGHT, MOST_BIDDERS, MOST_BIDS, MOST_CATEGORIES, MOST_GROUPS, MOST_POOLS, MOST_SESSIONS, TEXT_LIMIT};
+ghost use Rattle.auction_terms.specs.declared.limits.TheConstants.{GREATEST_AMOUNT, GREATEST_POINTS, GREATEST_QUANTITY, GREATEST_VALUE, GREATEST_WEIGHT, MOST_BIDDERS, MOST_BIDS, MOST_CATEGORIES, MOST_FAULTS, MOST_GROUPS, MOST_POOLS, MOST_SESSIONS, MOST_WORKERS, TEXT_LIMIT};
 
 /// The records behind the header of rules have the fault of the first of them with a fault.
 pub fn records_of_rules_tell_their_first_fault()
@@ -27,6 +31,18 @@ pub fn lines_of_groups_tell_their_first_fault()
 /// And so have the names in a line of groups.
 pub fn names_of_a_group_tell_their_first_fault()
     ensures { (bidders : List Bidder) (line : ℕ) → TellsTheFirst (name_fault bidders line) }
+{}
+
+/// All faults of a text of rules begin with the first one, and where there is none there is no first one.
+pub fn all_faults_of_rules_begin_with_the_first()
+    ensures { (records : List Record) → AreFaultsOf (all_rules_faults records)
+        (rules_of_records records) }
+{}
+
+/// All faults of a text of groups begin with the first one, and where there is none there is no first one.
+pub fn all_faults_of_groups_begin_with_the_first()
+    ensures { (bidders : List Bidder) (text : List ℕ)
+        → AreFaultsOf (all_group_faults bidders text) (groups_of bidders text) }
 {}
 
 /// A package that is at most another loads no pool more.
@@ -87,10 +103,12 @@ pub fn the_limits_are_these()
     ensures pools { MOST_POOLS ≡ 16 }
     ensures bids { MOST_BIDS ≡ 4000 }
     ensures groups { MOST_GROUPS ≡ 1024 }
+    ensures workers { MOST_WORKERS ≡ 64 }
     ensures quantity { GREATEST_QUANTITY ≡ 10000 }
     ensures amount { GREATEST_AMOUNT ≡ 1000000000000 }
     ensures value { GREATEST_VALUE ≡ 1000000000000 }
     ensures points { GREATEST_POINTS ≡ 1000000 }
     ensures weight { GREATEST_WEIGHT ≡ 10000 }
+    ensures faults { MOST_FAULTS ≡ 10000 }
     ensures text { TEXT_LIMIT ≡ 4194304 }
 {}

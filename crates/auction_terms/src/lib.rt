@@ -4,6 +4,9 @@
 mod bids;
 mod choices;
 mod draft;
+mod faults;
+mod faulty_groups;
+mod faulty_rules;
 mod group_list;
 mod group_names;
 mod groups;
@@ -21,15 +24,20 @@ mod rules;
 mod rules_text;
 mod values;
 mod weights;
+mod wording;
 
 pub use bids::{Bid, Kept, KeptBid};
 pub use choices::Choice;
+pub use faults::{Faults, Found};
+pub use faulty_groups::group_faults;
+pub use faulty_rules::rules_faults;
 pub use group_list::Groups;
 pub use groups::Group;
 pub use groups_text::{GroupFault, read_groups};
 pub use limits::{
     GREATEST_AMOUNT, GREATEST_POINTS, GREATEST_QUANTITY, GREATEST_VALUE, GREATEST_WEIGHT,
-    MOST_BIDDERS, MOST_BIDS, MOST_CATEGORIES, MOST_GROUPS, MOST_POOLS, MOST_SESSIONS, TEXT_LIMIT,
+    MOST_BIDDERS, MOST_BIDS, MOST_CATEGORIES, MOST_FAULTS, MOST_GROUPS, MOST_POOLS, MOST_SESSIONS,
+    MOST_WORKERS, TEXT_LIMIT,
 };
 pub use lines::LineReader;
 pub use names::Name;
@@ -39,3 +47,4 @@ pub use records::RecordReader;
 pub use rules::{Bidder, Category, Pool, Rules};
 pub use rules_text::{RulesFault, field, read_rules};
 pub use weights::Weights;
+pub use wording::Wording;

@@ -19,6 +19,9 @@ pub const MOST_BIDS: usize = 4000;
 /// The most groups of a text.
 pub const MOST_GROUPS: u32 = 1024;
 
+/// The most workers that compile.
+pub const MOST_WORKERS: usize = 64;
+
 /// The greatest supply of a category, and the greatest quantity of a package.
 pub const GREATEST_QUANTITY: u64 = 10_000;
 
@@ -33,6 +36,9 @@ pub const GREATEST_POINTS: u64 = 1_000_000;
 
 /// The greatest weight of a member in its pool.
 pub const GREATEST_WEIGHT: u64 = 10_000;
+
+/// The most faults that are kept of a text, or of an input; others are counted.
+pub const MOST_FAULTS: usize = 10_000;
 
 /// The most bytes of a text of rules, a form or groups.
 pub const TEXT_LIMIT: usize = 4 * 1024 * 1024;

@@ -4,3 +4,4 @@ pub mod Opening
 pub mod Settlement
 pub mod Closing
 pub mod inside
+pub mod Sale

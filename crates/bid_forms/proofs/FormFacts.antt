@@ -13,8 +13,8 @@ use Rattle.auction_terms.specs.Terms.{Terms}
 use Rattle.auction_terms.specs.declared.bids.Bid.{Bid}
 use Rattle.auction_terms.specs.declared.limits.TheConstants.{MOST_BIDS}
 use Rattle.bid_forms.specs.Offers.{IsBidWithinLimits, PackagesDiffer, is_bid_under, number_of_package}
-use Rattle.bid_forms.specs.FormText.{bid_checks, bid_fault, bid_told}
-use Rattle.bid_forms.specs.inside.FormText.{amount_checks, fault_of_bid, package_checks, place_checks, quantity_checks}
+use Rattle.bid_forms.specs.FormText.{amount_checks, bid_checks, bid_fault, bid_told, count_checks, package_checks, quantity_checks, repeat_checks, reserve_checks, form_room_checks}
+use Rattle.bid_forms.specs.inside.FormText.{fault_of_bid}
 use Rattle.bid_forms.specs.declared.form_text.FormFault.{FormFault}
 use Rattle.bid_forms.specs.declared.form_text.FormFault.TheVariants as fault
 use Rattle.bid_forms.proofs.PackageFacts.{number-differ}
@@ -31,17 +31,22 @@ pub record BidsSoFar (t : Terms) (eligibility : ℕ) (all rest : List Record) (p
   pub differ : PackagesDiffer bids
 
 -- the first fault of all checks is that of the first part with a fault
-checks-parts : (t : Terms) (eligibility place : ℕ) (before : List Bid) (r : Record) → first_failed (bid_checks t eligibility place before r (bid_told r)) ≡ fault_of_bid t eligibility place before r
+pub checks-parts : (t : Terms) (eligibility place : ℕ) (before : List Bid) (r : Record) → first_failed (bid_checks t eligibility place before r) ≡ fault_of_bid t eligibility place before r
 checks-parts t eligibility place before r =
-    let count : List (Bool × FormFault) = (length r == length t.categories + 1, fault.FieldCount place) ∷ [] in
+    let lots = (bid_told r).package in
+    let count = count_checks t place r in
     let amount = amount_checks t.step place r in
     let quantities = quantity_checks place r in
-    let package_ = package_checks t.categories eligibility place (bid_told r).package (field_number 1 r) in
-    let last = place_checks place before (bid_told r).package in
-    first_failed-append count (amount ++ (quantities ++ (package_ ++ last)))
-    ∙ ap (option_or (first_failed count)) (first_failed-append amount (quantities ++ (package_ ++ last))
-    ∙ ap (option_or (first_failed amount)) (first_failed-append quantities (package_ ++ last)
-    ∙ ap (option_or (first_failed quantities)) (first_failed-append package_ last)))
+    let package_ = package_checks t.categories eligibility place lots in
+    let reserve = reserve_checks t.categories place lots (field_number 1 r) in
+    let repeat = repeat_checks place before lots in
+    let room = form_room_checks place before in
+    first_failed-append count (amount ++ (quantities ++ (package_ ++ (reserve ++ (repeat ++ room)))))
+    ∙ ap (option_or (first_failed count)) (first_failed-append amount (quantities ++ (package_ ++ (reserve ++ (repeat ++ room))))
+    ∙ ap (option_or (first_failed amount)) (first_failed-append quantities (package_ ++ (reserve ++ (repeat ++ room)))
+    ∙ ap (option_or (first_failed quantities)) (first_failed-append package_ (reserve ++ (repeat ++ room))
+    ∙ ap (option_or (first_failed package_)) (first_failed-append reserve (repeat ++ room)
+    ∙ ap (option_or (first_failed reserve)) (first_failed-append repeat room)))))
 
 -- the fault of the next record, by what was read so far
 bid_fault-is : (t : Terms) (eligibility : ℕ) (all ahead : List Record) (place : ℕ) (bids : List Bid) (r : Record) (so_far : BidsSoFar t eligibility all ahead place bids)

@@ -1,20 +1,22 @@
 //! The text of a form.
 
-ghost use Rattle.std.specs.Prelude.{◌≡◌, ◌≤◌, ◌<◌, ◌+◌, ◌++◌, [], ◌∷◌, None, Some, Err, All, IfOk, OnOk, IsTrue, drop, is_some, length, map};
+ghost use Rattle.std.specs.Prelude.{◌≡◌, ◌≤◌, ◌<◌, ◌+◌, ◌++◌, [], ◌∷◌, None, Some, Err, All, IfErr, IfOk, OnOk, IsTrue, false, drop, is_some, length, map};
 ghost use Rattle.std.specs.Str.{bytes_eq};
 ghost use Rattle.std.specs.Cmp.Lexicographic.{pointwise};
 ghost use Rattle.csv.specs.Records.{fields_of};
 ghost use Rattle.auction_terms.specs.FirstFault.{first_failed, first_fault};
 ghost use Rattle.auction_terms.specs.RulesText.{field_number, record_field};
 ghost use Rattle.auction_terms.specs.Records.{records_of};
-ghost use Rattle.auction_terms.specs.Terms.{AreTerms};
+ghost use Rattle.auction_terms.specs.Terms.{AreTerms, IsCategory};
 ghost use Rattle.auction_terms.specs.declared.limits.TheConstants.{MOST_CATEGORIES};
 ghost use Rattle.bid_forms.specs.inside.Fingerprints.{AreSeen};
 ghost use Rattle.bid_forms.specs.Offers.{IsBidWithinLimits, Meets, eligibility_of, is_bid_under, number_of_package};
-ghost use Rattle.bid_forms.specs.FormText.{bid_fault, bid_told, bidder_told, form_of_records, is_form_memory};
-ghost use Rattle.bid_forms.specs.inside.FormText.{amount_checks, fault_of_bid, package_checks, quantity_checks};
+ghost use Rattle.auction_terms.specs.declared.bids.Bid.{Bid};
+ghost use Rattle.bid_forms.specs.FormText.{amount_checks, bid_fault, bid_told, bidder_told, count_checks, form_of_records, is_form_memory, package_checks, quantity_checks, repeat_checks, reserve_checks, form_room_checks};
+ghost use Rattle.bid_forms.specs.inside.FormText.{fault_of_bid};
 ghost use Rattle.auction_terms.specs.Stages.{Answers};
 ghost use Rattle.auction_terms.specs.inside.FirstFault.{Tells, TellsFault};
+ghost use Rattle.auction_terms.specs.Wording.{wording_text};
 ghost use Rattle.bid_forms.specs.FormFaultText.{form_fault_text};
 ghost use Rattle.bid_forms.specs.declared.form_text.FormFault.TheVariants as fault;
 
@@ -24,7 +26,7 @@ use crate::sums::{is_empty_package, points_of, reserve_of};
 use arrayvec::ArrayVec;
 use auction_terms::{
     Bid, Category, GREATEST_AMOUNT, GREATEST_QUANTITY, MOST_BIDS, Package, Quantities,
-    RecordReader, Rules, TEXT_LIMIT, field, number,
+    RecordReader, Rules, TEXT_LIMIT, Wording, field, number,
 };
 use csv::ByteRecord;
 use std::alloc::{AllocError, Global};
@@ -66,35 +68,44 @@ pub enum FormFault {
     OutOfMemory,
 }
 
+impl FormFault {
+    /// What is told of the fault: its number and name, in which record it is, and an earlier bid.
+    pub fn wording(self) -> Wording
+        ensures { wording_text result ≡ form_fault_text self }
+    {
+        match self {
+            FormFault::TooLarge => Wording::Words("1 TooLarge"),
+            FormFault::Header { place } => Wording::at("2 Header at record ", place),
+            FormFault::UnknownBidder { place } => Wording::at("3 UnknownBidder at record ", place),
+            FormFault::FieldCount { place } => Wording::at("4 FieldCount at record ", place),
+            FormFault::AmountText { place } => Wording::at("5 AmountText at record ", place),
+            FormFault::AmountRange { place } => Wording::at("6 AmountRange at record ", place),
+            FormFault::AmountStep { place } => Wording::at("7 AmountStep at record ", place),
+            FormFault::QuantityText { place } => Wording::at("8 QuantityText at record ", place),
+            FormFault::QuantityRange { place } => Wording::at("9 QuantityRange at record ", place),
+            FormFault::EmptyPackage { place } => Wording::at("10 EmptyPackage at record ", place),
+            FormFault::OverEligibility { place } => Wording::at(
+                "11 OverEligibility at record ",
+                place,
+            ),
+            FormFault::BelowReserve { place } => Wording::at("12 BelowReserve at record ", place),
+            FormFault::RepeatedPackage { place, earlier } => Wording::Numbers(
+                "13 RepeatedPackage at record ",
+                place as u64,
+                ", earlier bid ",
+                earlier as u64,
+            ),
+            FormFault::TooManyBids { place } => Wording::at("14 TooManyBids at record ", place),
+            FormFault::OutOfMemory => Wording::Words("out of memory"),
+        }
+    }
+}
+
 impl fmt::Display for FormFault {
     ghost output = { λ fault. Some (form_fault_text fault) };
 
     fn fmt<W: fmt::Write>(&self, f: &mut fmt::Formatter<W>) -> fmt::Result {
-        match *self {
-            FormFault::TooLarge => write!(f, "1 TooLarge"),
-            FormFault::Header { place } => write!(f, "2 Header at record {place}"),
-            FormFault::UnknownBidder { place } => write!(f, "3 UnknownBidder at record {place}"),
-            FormFault::FieldCount { place } => write!(f, "4 FieldCount at record {place}"),
-            FormFault::AmountText { place } => write!(f, "5 AmountText at record {place}"),
-            FormFault::AmountRange { place } => write!(f, "6 AmountRange at record {place}"),
-            FormFault::AmountStep { place } => write!(f, "7 AmountStep at record {place}"),
-            FormFault::QuantityText { place } => write!(f, "8 QuantityText at record {place}"),
-            FormFault::QuantityRange { place } => write!(f, "9 QuantityRange at record {place}"),
-            FormFault::EmptyPackage { place } => write!(f, "10 EmptyPackage at record {place}"),
-            FormFault::OverEligibility { place } => write!(
-                f,
-                "11 OverEligibility at record {place}"
-            ),
-            FormFault::BelowReserve { place } => write!(f, "12 BelowReserve at record {place}"),
-            FormFault::RepeatedPackage { place, earlier } => {
-                write!(
-                    f,
-                    "13 RepeatedPackage at record {place}, earlier bid {earlier}"
-                )
-            }
-            FormFault::TooManyBids { place } => write!(f, "14 TooManyBids at record {place}"),
-            FormFault::OutOfMemory => write!(f, "out of memory"),
-        }
+        self.wording().fmt(f)
     }
 }
 
@@ -147,7 +158,7 @@ fn is_header(categories: &[Category], row: &ByteRecord) -> bool
 }
 
 // The bidder that the header names.
-fn read_header(rules: &Rules, row: &ByteRecord) -> Result<u16, FormFault>
+pub(crate) fn read_header(rules: &Rules, row: &ByteRecord) -> Result<u16, FormFault>
     ensures answer { Answers is_form_memory result (bidder_told rules.now (fields_of row.now)) }
     ensures some { IfOk result (λ bidder. 1 ≤ bidder) }
     ensures known { IfOk result (λ bidder. bidder ≤ length rules.now.bidders) }
@@ -163,7 +174,7 @@ fn read_header(rules: &Rules, row: &ByteRecord) -> Result<u16, FormFault>
 }
 
 // The amount of a record.
-fn read_amount(step: u64, place: u32, row: &ByteRecord) -> Result<u64, FormFault>
+pub(crate) fn read_amount(step: u64, place: u32, row: &ByteRecord) -> Result<u64, FormFault>
     requires { 1 ≤ step }
     ensures answer { Tells is_form_memory result
         (first_failed (amount_checks step place (fields_of row.now)))
@@ -180,7 +191,7 @@ fn read_amount(step: u64, place: u32, row: &ByteRecord) -> Result<u64, FormFault
 }
 
 // The quantities of a record.
-fn read_quantities(place: u32, row: &ByteRecord) -> Result<Quantities, FormFault>
+pub(crate) fn read_quantities(place: u32, row: &ByteRecord) -> Result<Quantities, FormFault>
     requires { length (fields_of row.now) ≤ MOST_CATEGORIES + 1 }
     ensures answer { TellsFault is_form_memory result
         (first_failed (quantity_checks place (fields_of row.now))) }
@@ -203,38 +214,98 @@ fn read_quantities(place: u32, row: &ByteRecord) -> Result<Quantities, FormFault
     Ok(quantities)
 }
 
-// Refuses a package that the rules don't allow at this amount.
-fn check_package(
-    rules: &Rules,
+// The fault of a record with another number of fields than there are categories, and one.
+pub(crate) fn count_fault(rules: &Rules, place: u32, row: &ByteRecord) -> Option<FormFault>
+    ensures { result ≡ first_failed (count_checks rules.now place (fields_of row.now)) }
+{
+    if row.len() != rules.categories().len() + 1 {
+        return Some(FormFault::FieldCount { place });
+    }
+    None
+}
+
+// The fault of a package that the rules don't allow a bidder with this eligibility.
+pub(crate) fn package_fault(
+    categories: &[Category],
     eligibility: u64,
     place: u32,
     quantities: &[u16],
-    amount: u64,
-) -> Result<(), FormFault>
-    requires sized { length quantities.now ≡ length rules.now.categories }
+) -> Option<FormFault>
+    requires few { length categories.now ≤ MOST_CATEGORIES }
+    requires sized { length quantities.now ≡ length categories.now }
+    requires each { All IsCategory categories.now }
     requires quantities { All (λ quantity. quantity ≤ GREATEST_QUANTITY) quantities.now }
-    ensures { Tells is_form_memory result
-        (first_failed (package_checks rules.now.categories eligibility place quantities.now amount))
-        tt }
+    ensures { result ≡ first_failed (package_checks categories.now eligibility place
+        quantities.now) }
 {
-    let categories = rules.categories();
-    refuse!(
-        is_empty_package(quantities),
-        FormFault::EmptyPackage { place }
-    );
-    refuse!(
-        points_of(categories, quantities) > eligibility,
-        FormFault::OverEligibility { place }
-    );
-    refuse!(
-        reserve_of(categories, quantities) > amount,
-        FormFault::BelowReserve { place }
-    );
-    Ok(())
+    if is_empty_package(quantities) {
+        return Some(FormFault::EmptyPackage { place });
+    }
+    if points_of(categories, quantities) > eligibility {
+        return Some(FormFault::OverEligibility { place });
+    }
+    None
+}
+
+// The fault of an amount below the reserve of the package.
+pub(crate) fn reserve_fault(
+    categories: &[Category],
+    place: u32,
+    quantities: &[u16],
+    amount: u64,
+) -> Option<FormFault>
+    requires few { length categories.now ≤ MOST_CATEGORIES }
+    requires sized { length quantities.now ≡ length categories.now }
+    requires each { All IsCategory categories.now }
+    requires quantities { All (λ quantity. quantity ≤ GREATEST_QUANTITY) quantities.now }
+    ensures { result ≡ first_failed (reserve_checks categories.now place quantities.now amount) }
+{
+    if reserve_of(categories, quantities) > amount {
+        return Some(FormFault::BelowReserve { place });
+    }
+    None
+}
+
+// The fault of a package that an earlier bid has. It is among those seen from now on.
+pub(crate) fn repeat_fault(
+    seen: &mut Seen,
+    place: u32,
+    before: &[Bid],
+    quantities: &[u16],
+) -> Result<Option<FormFault>, AllocError>
+    requires seen { AreSeen seen.old.multiplier seen.old.prints.keys before.now }
+    requires few { length before.now ≤ MOST_BIDS }
+    ensures fault { IfOk result (λ fault. fault
+        ≡ first_failed (repeat_checks place before.now quantities.now)) }
+    ensures seen { IfOk result (λ _. (bid : Bid) → bid.package ≡ quantities.now
+        → AreSeen seen.new.multiplier seen.new.prints.keys (before.now ++ bid ∷ [])) }
+{
+    match earlier(seen, before, quantities)? {
+        Some(earlier) => Ok(Some(FormFault::RepeatedPackage { place, earlier })),
+        None => Ok(None),
+    }
+}
+
+// The fault of a bid behind the last one that may be.
+pub(crate) fn room_fault(place: u32, before: &[Bid]) -> Option<FormFault>
+    ensures { result ≡ first_failed (form_room_checks place before.now) }
+{
+    if before.len() >= MOST_BIDS {
+        return Some(FormFault::TooManyBids { place });
+    }
+    None
+}
+
+macro_rules! refuse_if {
+    ($fault:expr) => {
+        if let Some(fault) = $fault {
+            return Err(fault);
+        }
+    };
 }
 
 // The bid of a record, after those before it.
-fn read_bid(
+pub(crate) fn read_bid(
     rules: &Rules,
     eligibility: u64,
     place: u32,
@@ -253,18 +324,18 @@ fn read_bid(
     ensures room { OnOk result (length before.now < MOST_BIDS) }
     ensures seen { IfOk result (λ bid. AreSeen seen.new.multiplier seen.new.prints.keys
         (before.now ++ bid ∷ [])) }
+    ensures kept { IfErr result (λ f. is_form_memory f ≡ false
+        → AreSeen seen.new.multiplier seen.new.prints.keys before.now) }
 {
-    refuse!(
-        row.len() != rules.categories().len() + 1,
-        FormFault::FieldCount { place }
-    );
+    let categories = rules.categories();
+    refuse_if!(count_fault(rules, place, row));
     let amount = read_amount(rules.step(), place, row)?;
     let quantities = read_quantities(place, row)?;
-    check_package(rules, eligibility, place, quantities.as_slice(), amount)?;
-    if let Some(earlier) = earlier(seen, before, quantities.as_slice())? {
-        return Err(FormFault::RepeatedPackage { place, earlier });
-    }
-    refuse!(before.len() >= MOST_BIDS, FormFault::TooManyBids { place });
+    let lots = quantities.as_slice();
+    refuse_if!(package_fault(categories, eligibility, place, lots));
+    refuse_if!(reserve_fault(categories, place, lots, amount));
+    refuse_if!(repeat_fault(seen, place, before, lots)?);
+    refuse_if!(room_fault(place, before));
     let package = Package::of(quantities);
     Ok(Bid { package, amount })
 }

@@ -1,27 +1,26 @@
 -- Laws of what workers draw.
-use Rattle.std.proofs.Common.{◌≡◌, inl, inr, ℕ, zero, suc, ◌+◌, ◌<◌, ◌≤◌, Bool, true, cond, ◌==◌, nat_lt, ⊎_elim, ltb-true, eq-eqb, ne_eqb, List, [], ◌∷◌, ◌++◌, length, map, sym, refl, ap, ap₂, ◌∙◌, subst, arith, append-nil, lt-ltb, le-ltb, length-append, slice_index_or}
+use Rattle.std.proofs.Common.{◌≡◌, inl, inr, ℕ, zero, suc, ◌+◌, ◌<◌, ◌≤◌, Bool, true, cond, max, ◌==◌, nat_lt, ⊎_elim, ltb-true, eq-eqb, ne_eqb, List, [], ◌∷◌, ◌++◌, length, map, sym, refl, ap, ap₂, ◌∙◌, subst, arith, append-nil, lt-ltb, le-ltb, length-append, slice_index_or}
 use Rattle.std.specs.Prelude.{All, Any, Contains, filter}
 use Rattle.std.specs.List.{AllByRecursion}
 use Rattle.std.proofs.lemmas.Bool.{cond-true, cond-false, cond_both, cases_eq, cases_lt}
+use Rattle.std.proofs.Math.Nat.{le-max_left, le-max_right}
 use Rattle.std.proofs.lemmas.List.Sums.{sum_by-cons}
 use Rattle.group_compiler.specs.Claims.{times_drawn, once_below, IsEachBelow}
 use Rattle.std.proofs.lemmas.List.Elements.{recursion_from_All, All-from_recursion, filter-append, filter_passes}
+use Rattle.group_compiler.specs.Gates.{AreAllPast}
 use Rattle.group_compiler.specs.declared.work.Numbered.{Numbered}
 use Rattle.group_compiler.specs.inside.Works.{IsFinished}
 
-filter_below : (count : ℕ) (xs : List ℕ) → AllByRecursion (λ n. n < count) xs → filter (λ n. nat_lt n count) xs ≡ xs
-filter_below count [] a = refl
-filter_below count (x ∷ xs) a = cond-true (nat_lt x count) (x ∷ filter (λ n. nat_lt n count) xs) (filter (λ n. nat_lt n count) xs) (lt-ltb x count a.0) ∙ ap (λ (ys : List ℕ). x ∷ ys) (filter_below count xs a.1)
+-- a number below the count is kept
+pub kept_one_more : (count n : ℕ) (xs : List ℕ) → n < count → filter (λ n. nat_lt n count) (xs ++ n ∷ []) ≡ filter (λ n. nat_lt n count) xs ++ n ∷ []
+kept_one_more count n xs below =
+    filter-append (λ n. nat_lt n count) xs (n ∷ []) ∙ ap (λ (ys : List ℕ). filter (λ n. nat_lt n count) xs ++ ys) (cond-true (nat_lt n count) (n ∷ []) [] (lt-ltb n count below))
 
--- all are groups' numbers
-pub kept_all : (count : ℕ) (xs : List ℕ) → All (λ n. n < count) xs → filter (λ n. nat_lt n count) xs ≡ xs
-kept_all count xs a = filter_below count xs (recursion_from_All (λ n. n < count) xs a)
-
--- all but the last
-pub kept_but_last : (count n : ℕ) (xs : List ℕ) → All (λ n. n < count) xs → count ≤ n → filter (λ n. nat_lt n count) (xs ++ n ∷ []) ≡ xs
-kept_but_last count n xs a above =
+-- and no other
+pub kept_no_more : (count n : ℕ) (xs : List ℕ) → count ≤ n → filter (λ n. nat_lt n count) (xs ++ n ∷ []) ≡ filter (λ n. nat_lt n count) xs
+kept_no_more count n xs above =
     filter-append (λ n. nat_lt n count) xs (n ∷ []) ∙ ap (λ (ys : List ℕ). filter (λ n. nat_lt n count) xs ++ ys) (cond-false (nat_lt n count) (n ∷ []) [] (le-ltb n count above))
-    ∙ append-nil (filter (λ n. nat_lt n count) xs) ∙ kept_all count xs a
+    ∙ append-nil (filter (λ n. nat_lt n count) xs)
 
 last_at : (xs : List ℕ) (n d : ℕ) → slice_index_or (xs ++ n ∷ []) (length xs) d ≡ n
 last_at [] n d = refl
@@ -108,7 +107,7 @@ below_some x n h = ⊎_elim
     (λ g. let z : once_below x n ≡ 0 = cond-false (nat_lt x n) 1 0 (le-ltb x n g) in absurd (omega arith))
     (cases_lt x n)
 
--- the workers are finished only where every group's number was drawn
+-- the workers are finished only where every number was drawn
 above_count : (count w : ℕ) (xs : List ℕ) → IsEachBelow w xs → length xs ≡ w → IsFinished count xs → count ≤ w
 above_count count w xs each long f = elim f [
   | inl more ↦ omega arith
@@ -122,14 +121,27 @@ above_count count w xs each long f = elim f [
       omega arith
 ]
 
-pub all_drawn : (count w : ℕ) (xs ns : List ℕ) → IsEachBelow w xs → length xs ≡ w → IsFinished count xs → ns ≡ filter (λ n. nat_lt n count) xs → (k : ℕ) → k < count → Contains ns k
-all_drawn count w xs ns each long f e k below =
-    let all = above_count count w xs each long f in
+all_drawn : (end w : ℕ) (xs : List ℕ) → IsEachBelow w xs → length xs ≡ w → IsFinished end xs → (k : ℕ) → k < end → Contains xs k
+all_drawn end w xs each long f k below =
+    let all = above_count end w xs each long f in
     let n : ℕ = once_below k w in
     let one : n ≡ 1 = cond-true (nat_lt k w) 1 0 (lt-ltb k w (omega arith)) in
     let t : times_drawn k xs ≡ n = each k in
     let some : 0 < times_drawn k xs = omega arith in
-    subst (λ (ys : List ℕ). Contains ys k) (sym e) (in_filter count k xs below (stands_once k xs some))
+    stands_once k xs some
+
+-- something is made of every number below the count
+pub all_made : (count groups w : ℕ) (xs ns : List ℕ) → IsEachBelow w xs → length xs ≡ w → IsFinished (max count groups) xs → ns ≡ filter (λ n. nat_lt n count) xs → (k : ℕ) → k < count → Contains ns k
+all_made count groups w xs ns each long f e k below =
+    let most = le-max_left count groups in
+    subst (λ (ys : List ℕ). Contains ys k) (sym e) (in_filter count k xs below (all_drawn (max count groups) w xs each long f k (omega arith)))
+
+-- and every group has come past the gate
+pub all_past : (count groups w : ℕ) (is_past : ℕ → Type 0) (xs : List ℕ) → IsEachBelow w xs → length xs ≡ w → IsFinished (max count groups) xs → All (λ n. n < groups → is_past (n + 1)) xs → AreAllPast groups is_past
+all_past count groups w is_past xs each long f past n below =
+    let most = le-max_right count groups in
+    let at = all_drawn (max count groups) w xs each long f n (omega arith) in
+    subst (λ (m : ℕ). m < groups → is_past (m + 1)) at.2 (past at.0 n at.1) below
 
 module _ {T : Type 0} where
   below_each : (count : ℕ) (rs : List (Numbered T)) → AllByRecursion (λ n. nat_lt n count ≡ true) (map (λ (r : Numbered T). r.number) rs) → AllByRecursion (λ (r : Numbered T). r.number < count) rs

@@ -162,9 +162,15 @@ impl<'b, 'g> Maker for Compiler<'b, 'g> {
 
     ghost count_of = { λ c. length c.groups };
 
+    ghost groups_of = { λ c. length c.groups };
+
     ghost makes = { λ c n made. made ≡ compiled c.book (slice_index_or c.groups n []) };
 
     fn count(&self) -> usize {
+        Compiler::count(self)
+    }
+
+    fn groups(&self) -> usize {
         Compiler::count(self)
     }
 

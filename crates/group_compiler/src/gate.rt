@@ -1,11 +1,18 @@
-//! Where a worker may be held before it compiles a group.
+//! Where a worker may be held before it makes anything of a group's number.
+
+ghost use Rattle.std.specs.Prelude.{ℕ, ⊤};
 
 use std::sync::Wait;
 
-/// Each worker calls it with the number of a group, from 1, before it compiles the group.
+/// Where workers come with the numbers of groups, each number once. A worker comes with a number that it drew, and before
+/// it makes what is made of that number: in `compile_all` the program of that group.
 pub trait Gate {
-    /// It may wait, so that a test can hold a worker.
-    fn arrive<R: Wait>(&self, rt: &R, group: usize);
+    // Holds of a group that has come past. Only a gate that keeps an account of groups says what that means.
+    ghost is_past: { Self → ℕ → Type 0 } = { λ _ _. ⊤ };
+
+    /// Lets a group past, by its number, from 1. It may wait, so that a test can hold a worker.
+    fn arrive<R: Wait>(&self, rt: &R, group: usize)
+        ensures { is_past self.now group };
 }
 
 /// Holds nobody.

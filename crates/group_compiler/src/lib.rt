@@ -19,6 +19,6 @@ pub use claims::Claims;
 pub use compiled::Compiled;
 pub use compiling::{Compiler, compile_one};
 pub use gate::{Gate, OpenGate};
-pub use limits::{ALL_DRAWS, MOST_WORKERS, WORKER_DRAWS};
+pub use limits::{ALL_DRAWS, WORKER_DRAWS};
 pub use maker::Maker;
 pub use pool::{compile_all, make_all};

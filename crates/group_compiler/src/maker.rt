@@ -1,6 +1,6 @@
 //! What workers make, number by number.
 
-ghost use Rattle.std.specs.Prelude.{◌≡◌, ◌<◌, ◌≤◌, ℕ, IfOk};
+ghost use Rattle.std.specs.Prelude.{◌≡◌, ◌<◌, ◌≤◌, ℕ, ⊤, IfOk};
 ghost use Rattle.auction_terms.specs.declared.limits.TheConstants.{MOST_GROUPS};
 
 use std::alloc::{AllocError, Global};
@@ -13,6 +13,12 @@ pub trait Maker {
     // How many numbers there are.
     ghost count_of: { Self → ℕ };
 
+    // How many groups come to the gate.
+    ghost groups_of: { Self → ℕ };
+
+    // Holds of a number of which something may be made.
+    ghost is_due: { Self → ℕ → Type 0 } = { λ _ _. ⊤ };
+
     // Holds of a number and what may be made of it.
     ghost makes: { Self → ℕ → Self.Made → Type 0 };
 
@@ -21,8 +27,14 @@ pub trait Maker {
         ensures count { result ≡ count_of self.now }
         ensures few { result ≤ MOST_GROUPS };
 
+    /// How many groups come to the gate, whose numbers are from 1 on there.
+    fn groups(&self) -> usize
+        ensures groups { result ≡ groups_of self.now }
+        ensures few { result ≤ MOST_GROUPS };
+
     /// What is made of a number.
     fn make(&self, alloc: Global, number: usize) -> Result<Self::Made, AllocError>
-        requires { number < count_of self.now }
+        requires below { number < count_of self.now }
+        requires due { is_due self.now number }
         ensures { IfOk result (λ made. makes self.now number made) };
 }

@@ -2,15 +2,18 @@
 //!
 //! The workers start by recursion on their number, so that each proof has two claims in hand and never a list of them:
 //! the one that goes on and the one whose thread is started. Once all are joined, the one claim that is left has drawn
-//! every number that was drawn; each worker stopped at a number of which nothing is made, so none is left out.
+//! every number that was drawn; each worker stopped at a number of which nothing is made and that is no group's, so none is
+//! left out.
 
 ghost use Rattle.std.specs.Thread.{IsSync};
-ghost use Rattle.std.specs.Prelude.{◌≡◌, ◌+◌, ◌-◌, ◌*◌, ◌<◌, ◌≤◌, [], map, IfOk};
+ghost use Rattle.std.specs.Prelude.{◌≡◌, ◌+◌, ◌-◌, ◌*◌, ◌<◌, ◌≤◌, [], length, map, IfOk};
 ghost use Rattle.std.specs.List.{AllZip, range_with_len};
 ghost use Rattle.group_compiler.specs.Claimed.{IsOf};
 ghost use Rattle.group_compiler.specs.Compiled.{compiled};
+ghost use Rattle.group_compiler.specs.Gates.{AreAllPast, IsDueOncePast};
 ghost use Rattle.group_compiler.specs.inside.Works.{IsWork, draws};
-ghost use Rattle.group_compiler.specs.declared.limits.TheConstants.{MOST_WORKERS, WORKER_DRAWS};
+ghost use Rattle.group_compiler.specs.declared.limits.TheConstants.{WORKER_DRAWS};
+ghost use Rattle.auction_terms.specs.declared.limits.TheConstants.{MOST_WORKERS};
 
 use crate::claim::Claim;
 use crate::claims::Claims;
@@ -30,30 +33,34 @@ use std::thread::{Promise, Threads};
 
 /// What a worker's thread promises: its work from a claim with the draws of one worker.
 #[derive(Drop)]
-pub struct WorkOfOneClaim<M> {
+pub struct WorkOfOneClaim<G, M> {
     pub claims: Snapshot<Claims>,
+    pub gate: Snapshot<G>,
     pub maker: Snapshot<M>,
 }
 
-impl<M: Maker> Promise<Result<Work<M::Made>, AllocError>> for WorkOfOneClaim<M> {
+impl<G: Gate, M: Maker> Promise<Result<Work<M::Made>, AllocError>> for WorkOfOneClaim<G, M> {
     ghost use Rattle.std.specs.Prelude.{IfOk};
     ghost use Rattle.group_compiler.specs.inside.Works.{IsWork, draws};
     ghost use Rattle.group_compiler.specs.declared.limits.TheConstants.{WORKER_DRAWS};
 
-    ghost kept_by = { λ p r. IfOk r (λ work. IsWork p.claims.value (M.count_of p.maker.value) (M.makes p.maker.value) work × (draws work ≡ WORKER_DRAWS)) };
+    ghost kept_by = { λ p r. IfOk r (λ work. IsWork p.claims.value (M.count_of p.maker.value) (M.groups_of p.maker.value) (M.makes p.maker.value) (G.is_past p.gate.value) work × (draws work ≡ WORKER_DRAWS)) };
 }
 
 // The work of two claims, as that of one.
-fn join_works<M: Maker>(
+fn join_works<G: Gate, M: Maker>(
     claims: &Claims,
+    gate: &G,
     maker: &M,
     mut mine: Work<M::Made>,
     theirs: Work<M::Made>,
 ) -> Result<Work<M::Made>, AllocError>
-    requires mine { IsWork claims.now (M.count_of maker.now) (M.makes maker.now) mine }
-    requires theirs { IsWork claims.now (M.count_of maker.now) (M.makes maker.now) theirs }
-    ensures { IfOk result (λ both. IsWork claims.now (M.count_of maker.now) (M.makes maker.now) both
-        × (draws both ≡ draws mine + draws theirs)) }
+    requires mine { IsWork claims.now (M.count_of maker.now) (M.groups_of maker.now)
+        (M.makes maker.now) (G.is_past gate.now) mine }
+    requires theirs { IsWork claims.now (M.count_of maker.now) (M.groups_of maker.now)
+        (M.makes maker.now) (G.is_past gate.now) theirs }
+    ensures { IfOk result (λ both. IsWork claims.now (M.count_of maker.now) (M.groups_of maker.now)
+        (M.makes maker.now) (G.is_past gate.now) both × (draws both ≡ draws mine + draws theirs)) }
 {
     // Its contract says how many numbers there may be, so that the draws of both claims add up to no number too great.
     let _known = maker.count();
@@ -77,8 +84,9 @@ fn run_workers<R: Threads + Wait + Sync, G: Gate + Sync, M: Maker + Sync>(
     requires fresh { claim.drawn ≡ [] }
     requires room { WORKER_DRAWS * workers ≤ claim.room }
     requires workers { 0 < workers }
-    ensures { IfOk result (λ work. IsWork claims.now (M.count_of maker.now) (M.makes maker.now) work
-        × (draws work ≡ claim.room)) }
+    requires due { IsDueOncePast (M.groups_of maker.now) (G.is_past gate.now) (M.is_due maker.now) }
+    ensures { IfOk result (λ work. IsWork claims.now (M.count_of maker.now) (M.groups_of maker.now)
+        (M.makes maker.now) (G.is_past gate.now) work × (draws work ≡ claim.room)) }
 {
     if workers == 1 {
         return make_drawn(rt, alloc, claims, gate, maker, claim);
@@ -96,24 +104,30 @@ fn run_workers<R: Threads + Wait + Sync, G: Gate + Sync, M: Maker + Sync>(
         >
             requires { IsSync R.row × IsSync G.row × IsSync M.row × IsOf claims.now other
                 × (other.drawn ≡ []) × (other.room ≡ WORKER_DRAWS) × IsOf claims.now claim
-                × (claim.drawn ≡ []) × (WORKER_DRAWS * (workers - 1) ≤ claim.room) × (1 < workers) }
+                × (claim.drawn ≡ []) × (WORKER_DRAWS * (workers - 1) ≤ claim.room) × (1 < workers)
+                × IsDueOncePast (M.groups_of maker.now) (G.is_past gate.now) (M.is_due maker.now) }
             ensures { IfOk result (λ r. IfOk r.0
                 (λ work. IsWork claims.entry.now (M.count_of maker.entry.now)
-                (M.makes maker.entry.now) work × (draws work ≡ claim.room))
+                (M.groups_of maker.entry.now) (M.makes maker.entry.now) (G.is_past gate.entry.now) work
+                × (draws work ≡ claim.room))
                 × IfOk r.1 (λ work. IsWork claims.entry.now (M.count_of maker.entry.now)
-                (M.makes maker.entry.now) work × (draws work ≡ WORKER_DRAWS))) }
+                (M.groups_of maker.entry.now) (M.makes maker.entry.now) (G.is_past gate.entry.now) work
+                × (draws work ≡ WORKER_DRAWS))) }
         {
             let promise = WorkOfOneClaim {
                 claims: Snapshot::of(claims),
+                gate: Snapshot::of(gate),
                 maker: Snapshot::of(maker),
             };
             let child = scope.spawn_with(
                 promise,
                 move || -> Result<Work<M::Made>, AllocError>
                     requires { IsSync R.row × IsSync G.row × IsSync M.row × IsOf claims.now other
-                        × (other.drawn ≡ []) × (other.room ≡ WORKER_DRAWS) }
+                        × (other.drawn ≡ []) × (other.room ≡ WORKER_DRAWS)
+                        × IsDueOncePast (M.groups_of maker.now) (G.is_past gate.now) (M.is_due maker.now) }
                     ensures { IfOk result (λ work. IsWork claims.entry.now
-                        (M.count_of maker.entry.now) (M.makes maker.entry.now) work
+                        (M.count_of maker.entry.now) (M.groups_of maker.entry.now)
+                        (M.makes maker.entry.now) (G.is_past gate.entry.now) work
                         × (draws work ≡ WORKER_DRAWS)) }
                 { make_drawn(rt, alloc, claims, gate, maker, other) },
             )?;
@@ -121,12 +135,13 @@ fn run_workers<R: Threads + Wait + Sync, G: Gate + Sync, M: Maker + Sync>(
             Ok((mine, child.join(rt)))
         },
     )?;
-    join_works(claims, maker, mine?, theirs?)
+    join_works(claims, gate, maker, mine?, theirs?)
 }
 
 /// What is made of each number, in order, with 1 to 64 workers, which draw the numbers from one counter. No more than one
-/// thing a worker is being made at once. A number is that of a group at the gate, counted from 1. Where memory or the start
-/// of a thread is refused, nothing is given.
+/// thing a worker is being made at once. The groups' numbers are drawn, too: with each a worker stops at the gate, where it
+/// is counted from 1, and only then makes what is made of that number. So each group comes past, and nothing is made of a
+/// number before. Where memory or the start of a thread is refused, nothing is given.
 pub fn make_all<R: Threads + Wait + Sync, G: Gate + Sync, M: Maker + Sync>(
     rt: &R,
     alloc: Global,
@@ -136,8 +151,10 @@ pub fn make_all<R: Threads + Wait + Sync, G: Gate + Sync, M: Maker + Sync>(
 ) -> Result<Vec<M::Made>, AllocError>
     requires some { 1 ≤ workers }
     requires few { workers ≤ MOST_WORKERS }
-    ensures { IfOk result (λ all. AllZip (M.makes maker.now)
+    requires due { IsDueOncePast (M.groups_of maker.now) (G.is_past gate.now) (M.is_due maker.now) }
+    ensures made { IfOk result (λ all. AllZip (M.makes maker.now)
         (range_with_len 0 (M.count_of maker.now)) all.items) }
+    ensures past { IfOk result (λ _. AreAllPast (M.groups_of maker.now) (G.is_past gate.now)) }
 {
     let (claims, claim) = Claims::open(alloc)?;
     let work = run_workers(rt, alloc, &claims, workers, gate, maker, claim)?;
@@ -147,7 +164,8 @@ pub fn make_all<R: Threads + Wait + Sync, G: Gate + Sync, M: Maker + Sync>(
 }
 
 /// Compiles all groups with 1 to 64 workers, which draw the groups' numbers from one counter, and gives in order what
-/// `compile_one` gives for each. Where memory or the start of a thread is refused, nothing is given.
+/// `compile_one` gives for each. A worker stops at the gate with the group's number that it drew, and then compiles that
+/// group. Where memory or the start of a thread is refused, nothing is given.
 pub fn compile_all<'g, R: Threads + Wait + Sync, G: Gate + Sync>(
     rt: &R,
     alloc: Global,
@@ -158,7 +176,8 @@ pub fn compile_all<'g, R: Threads + Wait + Sync, G: Gate + Sync>(
 ) -> Result<Vec<Compiled<'g>>, AllocError>
     requires some { 1 ≤ workers }
     requires few { workers ≤ MOST_WORKERS }
-    ensures { IfOk result (λ all. all.items ≡ map (compiled book.now) groups.now) }
+    ensures compiled { IfOk result (λ all. all.items ≡ map (compiled book.now) groups.now) }
+    ensures past { IfOk result (λ _. AreAllPast (length groups.now) (G.is_past gate.now)) }
 {
     let compiler = Compiler::new(rt, alloc, book, groups)?;
     make_all(rt, alloc, workers, gate, &compiler)

@@ -3,4 +3,4 @@ pub mod BidLines
 pub mod Joined
 mod Outside
 mod PageLines
-mod Slots
+mod InOrder

@@ -2,12 +2,11 @@
 #![tactic(auto)]
 
 pub mod laws;
-mod ordering;
 mod page;
+mod page_maker;
 mod pages;
 mod rendering;
 mod section;
-mod workers;
 mod writing;
 
 pub use page::Page;

@@ -1,15 +1,13 @@
 //! The pages of an auction.
 
-use crate::ordering::{empty_slots, fill, in_order};
 use crate::page::Page;
-use crate::workers::make_by_workers;
+use crate::page_maker::PageMaker;
 use bid_desk::ClosedBook;
-use group_compiler::Gate;
+use group_compiler::{Gate, make_all};
 use presolve::Flags;
 use std::alloc::{AllocError, Global};
 use std::marker::Model;
 use std::sync::Wait;
-use std::sync::atomic::AtomicU64;
 use std::thread::Threads;
 
 /// A page for each bidder, and that of the lots.
@@ -35,12 +33,14 @@ impl Pages {
     ghost use Rattle.std.specs.Prelude.{◌≡◌, ◌≤◌, IfOk, length};
     ghost use Rattle.auction_terms.specs.Terms.{lots_in};
     ghost use Rattle.bid_desk.specs.Closing.{book_of};
-    ghost use Rattle.group_compiler.specs.declared.limits.TheConstants.{MOST_WORKERS};
+    ghost use Rattle.group_compiler.specs.Gates.{AreAllPast};
+    ghost use Rattle.auction_terms.specs.declared.limits.TheConstants.{MOST_WORKERS};
     ghost use Rattle.group_pages.specs.Pages.{pages_of};
-    ghost use Rattle.auction_terms.specs.declared.limits.TheConstants.{MOST_BIDDERS};
+    ghost use Rattle.auction_terms.specs.declared.limits.TheConstants.{MOST_BIDDERS, MOST_GROUPS};
 
-    /// The pages of a closed book, made by 1 to 64 workers, which draw numbers from one counter. Each group's number is drawn,
-    /// too, and the worker that drew it stops at the gate with it. Where memory is refused, nothing is given.
+    /// The pages of a closed book, made by 1 to 64 workers, which draw numbers from one counter: a worker stops at the gate
+    /// with the group that has the number, if there is one, and then makes the page of the bidder who has it. So each group has
+    /// come past once there are pages. Where memory or the start of a thread is refused, nothing is given.
     pub fn of_book<R: Threads + Wait + Sync, G: Gate + Sync>(
         rt: &R,
         alloc: Global,
@@ -51,17 +51,19 @@ impl Pages {
     ) -> Result<Pages, AllocError>
         requires some { 1 ≤ workers }
         requires few { workers ≤ MOST_WORKERS }
-        ensures { IfOk result (λ pages. pages
+        requires groups { groups ≤ MOST_GROUPS }
+        ensures pages { IfOk result (λ pages. pages
             ≡ pages_of (lots_in book.now.rules) (book_of book.now)) }
+        ensures past { IfOk result (λ _. AreAllPast groups (G.is_past gate.now)) }
     {
         let flags = Flags::new(rt, alloc, book)?;
-        let drawn = AtomicU64::new(0);
-        let made = make_by_workers(rt, alloc, book, &flags, groups, &drawn, workers, gate)?;
-        let rules = book.rules();
-        let mut slots = empty_slots(alloc, rules.bidders().len())?;
-        fill(&mut slots, made);
-        let forms = in_order(alloc, book, &flags, slots)?;
-        let lots = Page::of_lots(alloc, rules)?;
+        let maker = PageMaker {
+            book,
+            flags,
+            groups,
+        };
+        let forms = make_all(rt, alloc, workers, gate, &maker)?;
+        let lots = Page::of_lots(alloc, book.rules())?;
         Ok(Pages { forms, lots })
     }
 

@@ -1,14 +1,14 @@
 //! What is ordered and kept of worked forms and of forms of 4,000 bids, beside a plain comparison of all pairs.
 
-use crate::worked::books::book_of;
+use crate::worked::books::{book_of, on_groups};
 use crate::worked::{
     ALPHA, BETA, GAMMA, RULES, RULES_OF_20, RULES_OF_40, RULES_OF_A_POOL, WIDE_RULES,
 };
-use auction_terms::{Bid, GREATEST_AMOUNT, Rules, read_groups, read_rules};
+use auction_terms::{Bid, GREATEST_AMOUNT, Groups, KeptBid, Rules, read_rules};
 use bid_desk::ClosedBook;
 use bid_forms::read_form;
 use presolve::{Flags, by_size};
-use std::alloc::Global;
+use std::alloc::{AllocError, Global};
 use std::fmt::Write;
 use std::sync::Wait;
 use std::test::Fail;
@@ -80,11 +80,8 @@ fn text_of_all_packages(alloc: Global) -> Result<String, Fail> {
     text.push_str("Alpha,A,B,C,D,E\n")?;
     for j in 1..1024u32 {
         let amount = j * 37 % 101 + 1;
-        write!(text, "{amount}")?;
-        for place in [256u32, 64, 16, 4, 1] {
-            write!(text, ",{}", j / place % 4)?;
-        }
-        text.push_str("\n")?;
+        let (a, b, c, d, e) = (j / 256 % 4, j / 64 % 4, j / 16 % 4, j / 4 % 4, j % 4);
+        write!(text, "{amount},{a},{b},{c},{d},{e}\n")?;
     }
     Ok(text)
 }
@@ -153,24 +150,6 @@ fn kept_by_all_pairs(alloc: Global, plain: Plain, bids: &[Bid]) -> Result<Vec<u1
     Ok(kept)
 }
 
-// The numbers of the bids that the flags keep of a book's one form.
-fn kept_by_flags<R: Threads + Sync>(
-    rt: &R,
-    alloc: Global,
-    book: &ClosedBook,
-) -> Result<Vec<u16>, Fail> {
-    let groups = read_groups(alloc, b"-\n", book.rules())?;
-    if groups.count() != 1 {
-        return Err(Fail::from("groups"));
-    }
-    let flags = Flags::new(rt, alloc, book)?;
-    let mut numbers = Vec::new(alloc);
-    for kept in flags.kept(alloc, book, groups.group(1))?.bids() {
-        numbers.push(kept.bid)?;
-    }
-    Ok(numbers)
-}
-
 // The bids of a book's first bidder.
 fn first_bids(book: &ClosedBook) -> &[Bid] {
     match book.form(1) {
@@ -179,31 +158,65 @@ fn first_bids(book: &ClosedBook) -> &[Bid] {
     }
 }
 
+fn have_numbers(bids: &[KeptBid<'_>], numbers: &[u16]) -> bool {
+    bids.len() == numbers.len()
+        && bids
+            .iter()
+            .zip(numbers.iter())
+            .all(|(kept, number)| kept.bid == *number)
+}
+
+// Whether the flags keep the bids with these numbers of a book's one form, in order.
+fn flags_keep_numbers<R: Threads + Sync>(
+    rt: &R,
+    alloc: Global,
+    book: &ClosedBook,
+    groups: &Groups,
+    numbers: &[u16],
+) -> Result<bool, Fail> {
+    if groups.count() != 1 {
+        return Ok(false);
+    }
+    let flags = Flags::new(rt, alloc, book)?;
+    let kept = flags.kept(alloc, book, groups.group(1))?;
+    Ok(have_numbers(kept.bids(), numbers))
+}
+
 // Whether the flags keep the same of the first bidder's bids, of which there are so many, as comparing all pairs does.
 fn keeps_as_all_pairs<R: Threads + Sync>(
     rt: &R,
     alloc: Global,
     book: &ClosedBook,
+    groups: &Groups,
     plain: Plain,
     count: usize,
 ) -> Result<bool, Fail> {
-    let kept = kept_by_flags(rt, alloc, book)?;
     let bids = first_bids(book);
-    let plain = kept_by_all_pairs(alloc, plain, bids)?;
-    Ok(bids.len() == count && plain.as_slice() == kept.as_slice())
+    let kept = kept_by_all_pairs(alloc, plain, bids)?;
+    Ok(bids.len() == count && flags_keep_numbers(rt, alloc, book, groups, kept.as_slice())?)
 }
 
-// Whether the flags keep so many of the largest form of a kind, the first bid among them.
+// The numbers from 1 to this one.
+fn numbers_to(alloc: Global, most: u16) -> Result<Vec<u16>, AllocError> {
+    let mut numbers = Vec::new(alloc);
+    for number in 0..most {
+        numbers.push(number + 1)?;
+    }
+    Ok(numbers)
+}
+
+// Whether the flags keep so many of the largest form of a kind, from the first bid on.
 fn keeps_so_many<R: Threads + Wait + Sync>(
     rt: &R,
     alloc: Global,
     many: Many,
-    count: usize,
+    count: u16,
 ) -> Result<bool, Fail> {
     let text = text_of_many(alloc, many, 4000)?;
-    let book = book_of(rt, alloc, WIDE_RULES, &[text.as_bytes()])?;
-    let kept = kept_by_flags(rt, alloc, &book)?;
-    Ok(kept.len() == count && kept.first() == Some(&1))
+    let numbers = numbers_to(alloc, count)?;
+    on_form(rt, alloc, WIDE_RULES, text.as_bytes(), |book, groups| {
+        flags_keep_numbers(rt, alloc, book, groups, numbers.as_slice())
+    })
 }
 
 // Whether the flags keep the same of a form of 200 bids of a kind as comparing all pairs does.
@@ -213,37 +226,45 @@ fn keeps_few_as_all_pairs<R: Threads + Wait + Sync>(
     many: Many,
 ) -> Result<bool, Fail> {
     let text = text_of_many(alloc, many, 200)?;
-    let book = book_of(rt, alloc, WIDE_RULES, &[text.as_bytes()])?;
-    keeps_as_all_pairs(rt, alloc, &book, WIDE, 200)
+    on_form(rt, alloc, WIDE_RULES, text.as_bytes(), |book, groups| {
+        keeps_as_all_pairs(rt, alloc, book, groups, WIDE, 200)
+    })
 }
 
-fn ordered(alloc: Global, rules: &Rules, text: &[u8]) -> Result<Vec<u16>, Fail> {
+// What a trial of the book of one form tells, with the group that leaves nobody out.
+fn on_form<R: Wait, F: FnOnce(&ClosedBook, &Groups) -> Result<bool, Fail> + Drop>(
+    rt: &R,
+    alloc: Global,
+    rules: &[u8],
+    form: &[u8],
+    trial: F,
+) -> Result<bool, Fail>
+    requires { F.IsAlwaysCallable trial }
+{
+    let book = book_of(rt, alloc, rules, &[form])?;
+    on_groups(alloc, &book, b"-\n", trial)
+}
+
+// Whether the bids of a form are ordered so by size.
+fn has_order(alloc: Global, rules: &Rules, text: &[u8], numbers: &[u16]) -> Result<bool, Fail> {
     let form = read_form(alloc, text, rules)?;
-    Ok(by_size(alloc, &form, rules)?)
+    let ordered = by_size(alloc, &form, rules)?;
+    Ok(ordered.as_slice() == numbers)
+}
+
+fn orders(alloc: Global, rules: &[u8], text: &[u8], numbers: &[u16]) -> Result<bool, Fail> {
+    let rules = read_rules(alloc, rules)?;
+    has_order(alloc, &rules, text, numbers)
 }
 
 #[test]
 fn bids_are_ordered_by_size(rt: HostRuntime) -> Result<(), Fail> {
-    let rules = read_rules(rt.alloc(), RULES)?;
-    assert_eq!(rt;
-        ordered(rt.alloc(), &rules, ALPHA)?.as_slice(),
-        [1u16, 3, 2].as_slice()
-    );
-    assert_eq!(rt;
-        ordered(rt.alloc(), &rules, BETA)?.as_slice(),
-        [1u16].as_slice()
-    );
-    assert_eq!(rt; ordered(rt.alloc(), &rules, NO_BID)?.len(), 0);
-    let rules = read_rules(rt.alloc(), RULES_OF_40)?;
-    assert_eq!(rt;
-        ordered(rt.alloc(), &rules, ALPHA)?.as_slice(),
-        [1u16, 3, 2].as_slice()
-    );
-    let rules = read_rules(rt.alloc(), RULES_OF_A_POOL)?;
-    assert_eq!(rt;
-        ordered(rt.alloc(), &rules, ALPHA)?.as_slice(),
-        [1u16, 3].as_slice()
-    );
+    let alloc = rt.alloc();
+    assert!(rt; orders(alloc, RULES, ALPHA, &[1, 3, 2])?);
+    assert!(rt; orders(alloc, RULES, BETA, &[1])?);
+    assert!(rt; orders(alloc, RULES, NO_BID, &[])?);
+    assert!(rt; orders(alloc, RULES_OF_40, ALPHA, &[1, 3, 2])?);
+    assert!(rt; orders(alloc, RULES_OF_A_POOL, ALPHA, &[1, 3])?);
     Ok(())
 }
 
@@ -272,9 +293,13 @@ const KEPT: [(&[u8], &[u8], &[u16]); 19] = [
 
 #[test]
 fn small_forms_keep_what_none_dominates(rt: HostRuntime) -> Result<(), Fail> {
-    for (rules, form, kept) in &KEPT {
-        let book = book_of(&rt, rt.alloc(), *rules, &[*form])?;
-        assert_eq!(rt; kept_by_flags(&rt, rt.alloc(), &book)?.as_slice(), *kept);
+    let alloc = rt.alloc();
+    for (rules, form, numbers) in &KEPT {
+        assert!(rt;
+            on_form(&rt, alloc, *rules, *form, |book, groups| {
+                flags_keep_numbers(&rt, alloc, book, groups, *numbers)
+            })?
+        );
     }
     Ok(())
 }
@@ -296,13 +321,17 @@ fn large_forms_keep_what_none_dominates(rt: HostRuntime) -> Result<(), Fail> {
 
 #[test]
 fn forms_with_peaks_everywhere_keep_what_none_dominates(rt: HostRuntime) -> Result<(), Fail> {
-    let text = text_of_all_packages(rt.alloc())?;
+    let alloc = rt.alloc();
+    let text = text_of_all_packages(alloc)?;
     for (rules, plain) in &[
         (FIVE_RULES, FIVE),
         (FIVE_RULES_WITH_VALUES, FIVE_WITH_VALUES),
     ] {
-        let book = book_of(&rt, rt.alloc(), *rules, &[text.as_bytes()])?;
-        assert!(rt; keeps_as_all_pairs(&rt, rt.alloc(), &book, *plain, 1023)?);
+        assert!(rt;
+            on_form(&rt, alloc, *rules, text.as_bytes(), |book, groups| {
+                keeps_as_all_pairs(&rt, alloc, book, groups, *plain, 1023)
+            })?
+        );
     }
     Ok(())
 }

@@ -1,12 +1,13 @@
 //! Pages of a worked auction, and the texts that are joined from them.
 
-use crate::worked::books::worked_book;
-use auction_terms::{Group, Groups, read_groups};
+use crate::worked::books::{on_worked_book, on_worked_groups};
+use auction_terms::{Group, Groups};
 use bid_desk::ClosedBook;
 use group_compiler::{OpenGate, compile_one};
 use group_pages::{Page, Pages, Section, add_group_text};
 use mps_text::{MemorySink, Writer};
 use std::alloc::Global;
+use std::sync::Wait;
 use std::test::Fail;
 use std::thread::Threads;
 
@@ -51,48 +52,70 @@ fn are_texts_of_programs(
     Ok(true)
 }
 
-#[test]
-fn a_page_has_the_lines_of_kept_bids(rt: HostRuntime) -> Result<(), Fail> {
-    let book = worked_book(&rt, rt.alloc())?;
-    let pages = Pages::of_book(&rt, rt.alloc(), &book, 0, 1, &OpenGate)?;
-    let Some(beta) = pages.forms().get(1) else {
-        return Err(Fail::from("forms"));
-    };
-    assert!(rt;
-        has_lines(
+/// Whether the page of the second form has the lines of Beta's kept bid.
+fn has_lines_of_beta(pages: &Pages) -> bool {
+    match pages.forms().get(1) {
+        Some(beta) => has_lines(
             beta,
             b" L B2\n",
             b" X2_1 OBJ -20\n X2_1 B2 1\n X2_1 C1 1\n",
             b" RHS B2 1\n",
             b" UP BND X2_1 1\n",
-        )
-    );
-    assert!(rt;
-        has_lines(
-            pages.lots(),
-            b" L C1\n L C2\n",
-            b"",
-            b" RHS C1 2\n RHS C2 1\n",
-            b"",
-        )
-    );
+        ),
+        None => false,
+    }
+}
+
+fn has_lines_of_lots(pages: &Pages) -> bool {
+    has_lines(
+        pages.lots(),
+        b" L C1\n L C2\n",
+        b"",
+        b" RHS C1 2\n RHS C2 1\n",
+        b"",
+    )
+}
+
+fn has_worked_lines<R: Threads + Wait + Sync>(
+    rt: &R,
+    alloc: Global,
+    book: &ClosedBook,
+) -> Result<bool, Fail> {
+    let pages = Pages::of_book(rt, alloc, book, 0, 1, &OpenGate)?;
+    Ok(has_lines_of_beta(&pages) && has_lines_of_lots(&pages))
+}
+
+#[test]
+fn a_page_has_the_lines_of_kept_bids(rt: HostRuntime) -> Result<(), Fail> {
+    let alloc = rt.alloc();
+    assert!(rt; on_worked_book(&rt, alloc, |book| has_worked_lines(&rt, alloc, book))?);
     Ok(())
+}
+
+/// Whether the texts that are joined from the pages of so many workers are those of the programs.
+fn joins_texts_of_programs<R: Threads + Wait + Sync>(
+    rt: &R,
+    alloc: Global,
+    book: &ClosedBook,
+    groups: &Groups,
+    workers: usize,
+) -> Result<bool, Fail> {
+    if workers < 1 || workers > 64 {
+        return Ok(false);
+    }
+    let pages = Pages::of_book(rt, alloc, book, groups.count(), workers, &OpenGate)?;
+    are_texts_of_programs(rt, alloc, book, groups, &pages)
 }
 
 #[test]
 fn texts_from_pages_are_those_of_programs(rt: HostRuntime) -> Result<(), Fail> {
-    let book = worked_book(&rt, rt.alloc())?;
-    let groups = read_groups(
-        rt.alloc(),
-        b"-\nBeta\nAlpha+Beta\nAlpha+Beta+Gamma\n",
-        book.rules(),
-    )?;
+    let alloc = rt.alloc();
     for workers in [1usize, 2, 64] {
-        let pages = Pages::of_book(&rt, rt.alloc(), &book, groups.count(), workers, &OpenGate)?;
-        assert!(rt;
-            are_texts_of_programs(&rt, rt.alloc(), &book, &groups, &pages)?,
-            "by {workers}"
-        );
+        let lines = b"-\nBeta\nAlpha+Beta\nAlpha+Beta+Gamma\n";
+        let are_joined = on_worked_groups(&rt, alloc, lines, |book, groups| {
+            joins_texts_of_programs(&rt, alloc, book, groups, workers)
+        })?;
+        assert!(rt; are_joined, "by {workers}");
     }
     Ok(())
 }

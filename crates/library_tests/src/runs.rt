@@ -1,11 +1,13 @@
 //! What a run answers and leaves where its words are wrong, and where its input or its output fails at any byte.
 
 use answers::{RunFault, run, run_compile};
-use auction_input::{Auction, Request, Source, read_auction};
+use auction_input::{Auction, Source, read_auction};
 use group_compiler::OpenGate;
 use mps_text::{LimitSink, MemorySink};
-use std::alloc::Global;
+use requests::Request;
+use std::alloc::{AllocError, Global};
 use std::cell::Cell;
+use std::env::Args;
 use std::io;
 use std::io::Read;
 use std::sync::Wait;
@@ -103,11 +105,20 @@ impl Read for Interrupted<'_> {
     }
 }
 
+/// The words as std tells them.
+fn told(alloc: Global, words: &[&str]) -> io::Result<Args> {
+    let mut list = Vec::new(alloc);
+    for word in words {
+        list.push(String::from_str(alloc, word)?)?;
+    }
+    Ok(list.into_iter())
+}
+
 /// Whether a run, whose output is to be `whole`, ends as it has to on a sink that takes so many bytes a put and has so
 /// much room: the output's front went out, and the line tells how many bytes of it.
-fn ends_as_told<'w, R: Threads + Wait + Sync + AllocGlobal>(
+fn ends_as_told<R: Threads + Wait + Sync + AllocGlobal>(
     rt: &R,
-    words: &'w [&'w str],
+    words: &[&str],
     input: &[u8],
     whole: &[u8],
     room: usize,
@@ -117,29 +128,48 @@ fn ends_as_told<'w, R: Threads + Wait + Sync + AllocGlobal>(
     let mut input = Source::new(input);
     let mut out = LimitSink::new(alloc, room, most)?;
     let mut faults = MemorySink::new(alloc);
+    let words = told(alloc, words);
     let status = run(rt, words, &mut input, &mut out, &mut faults);
     if room >= whole.len() {
         return Ok(status == 0 && out.bytes() == whole && faults.bytes().is_empty());
     }
-    let line = format!(in alloc; "wdp: write failed after {room} bytes\n")?;
-    Ok(status == 1 && out.bytes() == &whole[..room] && faults.bytes() == line.as_bytes())
+    let is_front = out.bytes().len() == room && whole.starts_with(out.bytes());
+    Ok(status == 1 && is_front && is_line_after(alloc, faults.bytes(), room)?)
+}
+
+/// Whether a line tells that a write failed after so many bytes.
+fn is_line_after(alloc: Global, line: &[u8], room: usize) -> Result<bool, AllocError> {
+    let told = format!(in alloc; "wdp: write failed after {room} bytes\n")?;
+    Ok(line == told.as_bytes())
+}
+
+/// Whether a run on this input ends with status 1, this line, and nothing put.
+fn is_refused<R: Threads + Wait + Sync + AllocGlobal, I: Read>(
+    rt: &R,
+    input: &mut Source<I>,
+    line: &[u8],
+) -> bool {
+    let alloc: Global = rt.alloc();
+    let mut out = MemorySink::new(alloc);
+    let mut faults = MemorySink::new(alloc);
+    let words = told(alloc, &["wdp"]);
+    let status = run(rt, words, input, &mut out, &mut faults);
+    status == 1 && faults.bytes() == line && out.bytes().is_empty()
 }
 
 #[test]
-fn a_failing_input_is_refused_at_every_byte(rt: HostRuntime) -> Result<(), Fail> {
+fn a_failing_input_is_refused_at_every_byte(rt: HostRuntime) {
     assert_eq!(rt; ONE_FORM.len(), 130);
     for room in 0..131usize {
         let mut input = Source::new(LimitReader {
             rest: ONE_FORM,
             room,
         });
-        let mut out = MemorySink::new(rt.alloc());
-        let mut faults = MemorySink::new(rt.alloc());
-        assert_eq!(rt; run(&rt, &["wdp"], &mut input, &mut out, &mut faults), 1);
-        assert_eq!(rt; faults.bytes(), b"wdp: input: read failed\n".as_slice());
-        assert_eq!(rt; out.bytes().len(), 0);
+        assert!(rt;
+            is_refused(&rt, &mut input, b"wdp: input: read failed\n"),
+            "at {room}"
+        );
     }
-    Ok(())
 }
 
 #[test]
@@ -154,15 +184,10 @@ fn an_interrupted_read_is_a_failed_read(rt: HostRuntime) {
 }
 
 #[test]
-fn an_input_without_an_end_is_refused(rt: HostRuntime) -> Result<(), Fail> {
+fn an_input_without_an_end_is_refused(rt: HostRuntime) {
     let mut input = Source::new(Endless { given: 0 });
-    let mut out = MemorySink::new(rt.alloc());
-    let mut faults = MemorySink::new(rt.alloc());
-    assert_eq!(rt; run(&rt, &["wdp"], &mut input, &mut out, &mut faults), 1);
-    assert_eq!(rt; faults.bytes(), b"wdp: input: too large\n".as_slice());
-    assert_eq!(rt; out.bytes().len(), 0);
-    assert_eq!(rt; input.reader.given, 134_217_729);
-    Ok(())
+    assert!(rt; is_refused(&rt, &mut input, b"wdp: input: too large\n"));
+    assert!(rt; input.reader.given == 134_217_729);
 }
 
 #[test]
@@ -225,21 +250,51 @@ fn a_verified_report_fails_at_every_byte(rt: HostRuntime) -> Result<(), Fail> {
     Ok(())
 }
 
-/// The fault of two programs on a sink with so much room, where its front went out.
-fn fault_at<R: Threads + Wait + Sync>(
+/// Whether the two programs on a sink with so much room end with the fault that names the group of the next byte, and their
+/// front went out.
+fn fails_at<R: Threads + Wait + Sync>(
     rt: &R,
     alloc: Global,
     auction: &Auction<'_>,
     room: usize,
-) -> Option<RunFault> {
-    let mut out = LimitSink::new(alloc, room, 7).ok()?;
-    let Auction { book, groups, .. } = auction;
-    let ended = run_compile(rt, alloc, book, groups, 2, &OpenGate, &mut out);
-    if room < TWO_PROGRAMS.len() && out.bytes() == &TWO_PROGRAMS[..room] {
-        ended.err()
-    } else {
-        None
+) -> Result<bool, Fail> {
+    let mut out = LimitSink::new(alloc, room, 7)?;
+    let ended = run_compile(
+        rt,
+        alloc,
+        &auction.book,
+        &auction.groups,
+        2,
+        &OpenGate,
+        &mut out,
+    );
+    Ok(is_told(ended.err(), room) && is_front(out.bytes(), room))
+}
+
+/// Whether a fault names the group whose program has the byte behind so many.
+fn is_told(fault: Option<RunFault>, room: usize) -> bool {
+    let group = if room < 90 { 1 } else { 2 };
+    let written = room as u64;
+    fault == Some(RunFault::Sink { group, written })
+}
+
+/// Whether these bytes are the first so many of the two programs.
+fn is_front(bytes: &[u8], room: usize) -> bool {
+    bytes.len() == room && TWO_PROGRAMS.starts_with(bytes)
+}
+
+/// Whether they do so at each byte.
+fn fails_at_each<R: Threads + Wait + Sync>(
+    rt: &R,
+    alloc: Global,
+    auction: &Auction<'_>,
+) -> Result<bool, Fail> {
+    for room in 0..294usize {
+        if !fails_at(rt, alloc, auction, room)? {
+            return Ok(false);
+        }
     }
+    Ok(true)
 }
 
 #[test]
@@ -248,60 +303,28 @@ fn a_fault_names_the_group_of_the_next_byte(rt: HostRuntime) -> Result<(), Fail>
     let auction = read_auction(&rt, &request, TWO_GROUPS)
         .ok()
         .ok_or("auction")?;
-    for room in 0..294usize {
-        let group = if room < 90 { 1 } else { 2 };
-        let written = room as u64;
-        let told = RunFault::Sink { group, written };
-        assert_eq!(rt; fault_at(&rt, rt.alloc(), &auction, room), Some(told));
-    }
+    assert!(rt; fails_at_each(&rt, rt.alloc(), &auction)?);
     Ok(())
 }
 
-#[test]
-fn wrong_words_are_refused(rt: HostRuntime) -> Result<(), Fail> {
-    let rows: [&[&str]; 5] = [
-        &["wdp", "solve"],
-        &["wdp", "map"],
-        &["wdp", "compile", "--workers", "65"],
-        &["wdp", "report", "--workers", "0"],
-        &["wdp", "map", "--group", "1025"],
-    ];
-    for words in rows {
-        let mut input = Source::new(LimitReader { rest: b"", room: 0 });
-        let mut out = MemorySink::new(rt.alloc());
-        let mut faults = MemorySink::new(rt.alloc());
-        assert_eq!(rt; run(&rt, words, &mut input, &mut out, &mut faults), 2);
-        assert_eq!(rt; out.bytes().len(), 0);
-        assert!(rt; faults.bytes().len() > 0);
-    }
-    Ok(())
-}
-
-#[test]
-fn help_goes_to_the_output(rt: HostRuntime) -> Result<(), Fail> {
-    let mut input = Source::new(LimitReader { rest: b"", room: 0 });
+/// Whether a run on an empty input ends with this status and puts nothing, on a sink of faults that takes no more.
+fn ends_untold<R: Threads + Wait + Sync + AllocGlobal>(
+    rt: &R,
+    words: &[&str],
+    faults: &mut LimitSink,
+    status: u8,
+) -> bool {
     let mut out = MemorySink::new(rt.alloc());
-    let mut faults = MemorySink::new(rt.alloc());
-    assert_eq!(rt;
-        run(&rt, &["wdp", "--help"], &mut input, &mut out, &mut faults),
-        0
-    );
-    assert!(rt; out.bytes().len() > 0);
-    assert_eq!(rt; faults.bytes().len(), 0);
-    Ok(())
+    let mut input = Source::new(b"".as_slice());
+    let words = told(rt.alloc(), words);
+    run(rt, words, &mut input, &mut out, faults) == status && out.bytes().is_empty()
 }
 
 #[test]
 fn a_refused_line_changes_no_status(rt: HostRuntime) -> Result<(), Fail> {
-    let mut input = Source::new(b"".as_slice());
-    let mut out = MemorySink::new(rt.alloc());
     let mut faults = LimitSink::new(rt.alloc(), 5, 3)?;
-    assert_eq!(rt; run(&rt, &["wdp"], &mut input, &mut out, &mut faults), 1);
-    assert_eq!(rt; faults.bytes(), b"wdp: ".as_slice());
-    assert_eq!(rt;
-        run(&rt, &["wdp", "solve"], &mut input, &mut out, &mut faults),
-        2
-    );
-    assert_eq!(rt; out.bytes().len(), 0);
+    assert!(rt; ends_untold(&rt, &["wdp"], &mut faults, 1));
+    assert!(rt; faults.bytes() == b"wdp: ".as_slice());
+    assert!(rt; ends_untold(&rt, &["wdp", "solve"], &mut faults, 2));
     Ok(())
 }

@@ -1,13 +1,11 @@
 //! What workers compile of a worked auction, and that they work side by side, each on whatever group comes next.
 
-ghost use Rattle.std.specs.Prelude.{◌≤◌};
-
 use crate::worked::RULES;
-use crate::worked::books::{book_of, worked_book};
+use crate::worked::books::{on_book, on_groups, on_worked_groups};
 use answers::run_compile;
-use auction_terms::{Groups, Rules, read_groups};
+use auction_terms::Groups;
 use bid_desk::ClosedBook;
-use group_compiler::{Claims, Compiled, Gate, OpenGate, compile_all, compile_one};
+use group_compiler::{Compiled, Gate, OpenGate, compile_all, compile_one};
 use mps_text::MemorySink;
 use std::alloc::{AllocError, Global};
 use std::sync::Wait;
@@ -125,12 +123,12 @@ fn compiles_without_beta(
     rt: &(impl Threads + Sync),
     alloc: Global,
     book: &ClosedBook,
+    groups: &Groups,
 ) -> Result<bool, Fail> {
-    let groups = read_groups(alloc, b"-\nBeta\n", book.rules())?;
-    if groups.count() < 2 {
+    if groups.count() != 2 {
         return Ok(false);
     }
-    let compiled = compile_one(rt, alloc, book, &groups, 2)?;
+    let compiled = compile_one(rt, alloc, book, groups, 2)?;
     Ok(
         compiled.group().numbers() == [2u16].as_slice()
             && compiled.program().column_count() == 3
@@ -157,10 +155,10 @@ fn compiles_the_worked_programs<R: Threads + Wait + Sync>(
     book: &ClosedBook,
     groups: &Groups,
     workers: usize,
-) -> Result<bool, Fail>
-    requires some { 1 ≤ workers }
-    requires few { workers ≤ 64 }
-{
+) -> Result<bool, Fail> {
+    if workers < 1 || workers > 64 {
+        return Ok(false);
+    }
     let all = compile_all(rt, alloc, book, groups, workers, &OpenGate)?;
     Ok(are_worked(alloc, all.as_slice()))
 }
@@ -178,10 +176,10 @@ fn compiles_each_once<R: Threads + Wait + Sync>(
     groups: &Groups,
     count: usize,
     workers: usize,
-) -> Result<bool, Fail>
-    requires some { 1 ≤ workers }
-    requires few { workers ≤ 64 }
-{
+) -> Result<bool, Fail> {
+    if workers < 1 || workers > 64 {
+        return Ok(false);
+    }
     let gate = Counts::new(alloc, count)?;
     let all = compile_all(rt, alloc, book, groups, workers, &gate)?;
     Ok(all.len() == count && are_of_four_groups(all.as_slice()) && gate.are_each_one())
@@ -222,165 +220,191 @@ fn frees_pages<R: Threads + Wait + Sync>(
     ended.is_ok() && gate.freed.load(SeqCst) == 1
 }
 
-/// How many of two workers come past the gate at which each waits for the other one.
-fn met<R: Threads + Wait + Sync>(
+/// Whether these are the first two worked programs, in order.
+fn are_first_worked(alloc: Global, all: &[Compiled<'_>]) -> bool {
+    match all {
+        [one, two] => is_text(alloc, one, ALL) && is_text(alloc, two, WITHOUT_BETA),
+        _ => false,
+    }
+}
+
+/// Whether both of two workers come past the gate at which each waits for the other one.
+fn meet<R: Threads + Wait + Sync>(
     rt: &R,
     alloc: Global,
     book: &ClosedBook,
     groups: &Groups,
-) -> Result<u64, Fail> {
+) -> Result<bool, Fail> {
     let gate = Meeting {
         first: AtomicU64::new(0),
         second: AtomicU64::new(0),
         met: AtomicU64::new(0),
     };
     let all = compile_all(rt, alloc, book, groups, 2, &gate)?;
-    if all.len() != 2 || !is_text(alloc, &all[0], ALL) || !is_text(alloc, &all[1], WITHOUT_BETA) {
-        return Ok(0);
-    }
-    Ok(gate.met.load(SeqCst))
+    Ok(are_first_worked(alloc, all.as_slice()) && gate.met.load(SeqCst) == 2)
 }
 
 /// The same of two workers that make the pages of the texts of two groups.
-fn met_at_pages<R: Threads + Wait + Sync>(
+fn meet_at_pages<R: Threads + Wait + Sync>(
     rt: &R,
     alloc: Global,
     book: &ClosedBook,
     groups: &Groups,
-) -> u64 {
+) -> bool {
     let gate = Meeting {
         first: AtomicU64::new(0),
         second: AtomicU64::new(0),
         met: AtomicU64::new(0),
     };
     let mut out = MemorySink::new(alloc);
-    match run_compile(rt, alloc, book, groups, 2, &gate, &mut out) {
-        Ok(()) => gate.met.load(SeqCst),
-        Err(_) => 0,
-    }
+    let ended = run_compile(rt, alloc, book, groups, 2, &gate, &mut out);
+    ended.is_ok() && gate.met.load(SeqCst) == 2
 }
 
-#[test]
-fn two_claims_draw_each_number_once(rt: HostRuntime) -> Result<(), Fail> {
-    let (claims, mut first) = Claims::open(rt.alloc())?;
-    let mut second = claims.split(&mut first)?;
-    assert_eq!(rt; claims.draw(&mut second), 0);
-    assert_eq!(rt; claims.draw(&mut first), 1);
-    claims.join(&mut first, second);
-    assert_eq!(rt; claims.close(first), 2);
-    Ok(())
+/// Whether 64 workers compile the programs of 1,024 groups of a book without a form, each once.
+fn compiles_each_without_a_form<R: Threads + Wait + Sync>(
+    rt: &R,
+    alloc: Global,
+    book: &ClosedBook,
+    groups: &Groups,
+) -> Result<bool, Fail> {
+    let gate = Counts::new(alloc, 1024)?;
+    let all = compile_all(rt, alloc, book, groups, 64, &gate)?;
+    Ok(all.len() == 1024 && gate.are_each_one() && are_all_empty(alloc, all.as_slice()))
+}
+
+fn are_all_empty(alloc: Global, all: &[Compiled<'_>]) -> bool {
+    all.iter()
+        .all(|compiled| is_text(alloc, compiled, WITHOUT_ALL))
+}
+
+/// These lines, again and again.
+fn repeated(alloc: Global, lines: &[u8], times: u32) -> Result<Vec<u8>, AllocError> {
+    let mut text = Vec::new(alloc);
+    for _ in 0..times {
+        text.extend_from_slice(lines)?;
+    }
+    Ok(text)
 }
 
 #[test]
 fn one_group_is_compiled(rt: HostRuntime) -> Result<(), Fail> {
-    let book = worked_book(&rt, rt.alloc())?;
-    assert!(rt; compiles_without_beta(&rt, rt.alloc(), &book)?);
+    let alloc = rt.alloc();
+    assert!(rt;
+        on_worked_groups(&rt, alloc, b"-\nBeta\n", |book, groups| {
+            compiles_without_beta(&rt, alloc, book, groups)
+        })?
+    );
     Ok(())
 }
 
 #[test]
 fn two_workers_meet(rt: HostRuntime) -> Result<(), Fail> {
-    let book = worked_book(&rt, rt.alloc())?;
-    let groups = read_groups(rt.alloc(), b"-\nBeta\n", book.rules())?;
-    assert_eq!(rt; met(&rt, rt.alloc(), &book, &groups)?, 2);
+    let alloc = rt.alloc();
+    assert!(rt;
+        on_worked_groups(
+            &rt,
+            alloc,
+            b"-\nBeta\n",
+            |book, groups| meet(&rt, alloc, book, groups)
+        )?
+    );
     Ok(())
 }
 
 #[test]
 fn two_workers_meet_at_pages(rt: HostRuntime) -> Result<(), Fail> {
-    let book = worked_book(&rt, rt.alloc())?;
-    let groups = read_groups(rt.alloc(), b"-\nBeta\n", book.rules())?;
-    assert_eq!(rt; met_at_pages(&rt, rt.alloc(), &book, &groups), 2);
+    let alloc = rt.alloc();
+    assert!(rt;
+        on_worked_groups(&rt, alloc, b"-\nBeta\n", |book, groups| {
+            Ok(meet_at_pages(&rt, alloc, book, groups))
+        })?
+    );
     Ok(())
 }
 
 #[test]
 fn no_worker_keeps_a_share(rt: HostRuntime) -> Result<(), Fail> {
-    let book = worked_book(&rt, rt.alloc())?;
-    let groups = read_groups(rt.alloc(), b"-\nAlpha\nBeta\n", book.rules())?;
+    let alloc = rt.alloc();
     for held in [1usize, 2, 3] {
-        assert!(rt; frees(&rt, rt.alloc(), &book, &groups, held)?, "at {held}");
+        let is_freed = on_worked_groups(&rt, alloc, b"-\n-\n-\n", |book, groups| {
+            frees(&rt, alloc, book, groups, held)
+        })?;
+        assert!(rt; is_freed, "at {held}");
     }
     Ok(())
 }
 
 #[test]
 fn no_worker_keeps_a_share_of_pages(rt: HostRuntime) -> Result<(), Fail> {
-    let book = worked_book(&rt, rt.alloc())?;
-    let groups = read_groups(rt.alloc(), b"-\nAlpha\nBeta\n", book.rules())?;
+    let alloc = rt.alloc();
     for held in [1usize, 2, 3] {
-        assert!(rt;
-            frees_pages(&rt, rt.alloc(), &book, &groups, held),
-            "at {held}"
-        );
+        let is_freed = on_worked_groups(&rt, alloc, b"-\nAlpha\nBeta\n", |book, groups| {
+            Ok(frees_pages(&rt, alloc, book, groups, held))
+        })?;
+        assert!(rt; is_freed, "at {held}");
     }
     Ok(())
 }
 
-/// The four groups, again and again.
-fn thousand_groups(alloc: Global, rules: &Rules) -> Result<Groups, Fail> {
-    let mut text = Vec::new(alloc);
-    for _ in 0..256 {
-        text.extend_from_slice(FOUR_GROUPS)?;
-    }
-    Ok(read_groups(alloc, text.as_slice(), rules)?)
-}
-
 #[test]
 fn a_thousand_groups_by_64_workers(rt: HostRuntime) -> Result<(), Fail> {
-    let book = worked_book(&rt, rt.alloc())?;
-    let groups = thousand_groups(rt.alloc(), book.rules())?;
-    assert!(rt; compiles_each_once(&rt, rt.alloc(), &book, &groups, 1024, 64)?);
+    let alloc = rt.alloc();
+    let lines = repeated(alloc, FOUR_GROUPS, 256)?;
+    assert!(rt;
+        on_worked_groups(&rt, alloc, lines.as_slice(), |book, groups| {
+            compiles_each_once(&rt, alloc, book, groups, 1024, 64)
+        })?
+    );
     Ok(())
 }
 
 #[test]
 fn a_thousand_groups_without_a_form_by_64_workers(rt: HostRuntime) -> Result<(), Fail> {
-    let book = book_of(&rt, rt.alloc(), RULES, &[])?;
-    let mut text = Vec::new(rt.alloc());
-    for _ in 0..1024 {
-        text.extend_from_slice(b"-\n")?;
-    }
-    let groups = read_groups(rt.alloc(), text.as_slice(), book.rules())?;
-    let gate = Counts::new(rt.alloc(), 1024)?;
-    let all = compile_all(&rt, rt.alloc(), &book, &groups, 64, &gate)?;
-    assert!(rt; all.len() == 1024 && gate.are_each_one());
-    for compiled in &all {
-        assert!(rt; is_text(rt.alloc(), compiled, WITHOUT_ALL));
-    }
+    let alloc = rt.alloc();
+    let lines = repeated(alloc, b"-\n", 1024)?;
+    assert!(rt;
+        on_book(&rt, alloc, RULES, &[], |book| {
+            on_groups(alloc, book, lines.as_slice(), |book, groups| {
+                compiles_each_without_a_form(&rt, alloc, book, groups)
+            })
+        })?
+    );
     Ok(())
 }
 
 #[test]
 fn few_groups_by_64_workers(rt: HostRuntime) -> Result<(), Fail> {
-    let book = worked_book(&rt, rt.alloc())?;
-    let two = read_groups(rt.alloc(), b"-\nAlpha\n", book.rules())?;
-    assert!(rt; compiles_each_once(&rt, rt.alloc(), &book, &two, 2, 64)?);
+    let alloc = rt.alloc();
+    assert!(rt;
+        on_worked_groups(&rt, alloc, b"-\nAlpha\n", |book, two| {
+            compiles_each_once(&rt, alloc, book, two, 2, 64)
+        })?
+    );
     Ok(())
 }
 
 #[test]
 fn no_group_by_any_workers(rt: HostRuntime) -> Result<(), Fail> {
-    let book = worked_book(&rt, rt.alloc())?;
-    let none = read_groups(rt.alloc(), b"", book.rules())?;
+    let alloc = rt.alloc();
     for workers in [1usize, 64] {
-        assert!(rt;
-            compiles_each_once(&rt, rt.alloc(), &book, &none, 0, workers)?,
-            "by {workers}"
-        );
+        let is_compiled = on_worked_groups(&rt, alloc, b"", |book, none| {
+            compiles_each_once(&rt, alloc, book, none, 0, workers)
+        })?;
+        assert!(rt; is_compiled, "by {workers}");
     }
     Ok(())
 }
 
 #[test]
 fn any_workers_compile_the_same_programs(rt: HostRuntime) -> Result<(), Fail> {
-    let book = worked_book(&rt, rt.alloc())?;
-    let groups = read_groups(rt.alloc(), b"-\nBeta\nGamma+Alpha+Beta\n", book.rules())?;
+    let alloc = rt.alloc();
     for workers in [1usize, 2, 3, 64] {
-        assert!(rt;
-            compiles_the_worked_programs(&rt, rt.alloc(), &book, &groups, workers)?,
-            "by {workers}"
-        );
+        let lines = b"-\nBeta\nGamma+Alpha+Beta\n";
+        let are_compiled = on_worked_groups(&rt, alloc, lines, |book, groups| {
+            compiles_the_worked_programs(&rt, alloc, book, groups, workers)
+        })?;
+        assert!(rt; are_compiled, "by {workers}");
     }
     Ok(())
 }

@@ -22,7 +22,6 @@ pub mod laws;
 mod limits;
 mod lines;
 mod markers;
-mod mps_fault;
 mod names;
 mod open_column;
 mod reader;
@@ -38,5 +37,4 @@ mod values;
 mod words;
 
 pub use limits::PROGRAM_LIMIT;
-pub use mps_fault::MpsFault;
 pub use reader::read_program;

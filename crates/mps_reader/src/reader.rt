@@ -9,10 +9,10 @@ ghost use Rattle.program_rows.specs.declared.fault.FaultKind.TheVariants.{TooLar
 
 use crate::finishing::finished;
 use crate::limits::PROGRAM_LIMIT;
-use crate::mps_fault::MpsFault;
 use crate::reading::{start, take_line};
 use crate::refusal::Refusal;
 use auction_terms::LineReader;
+use program_faults::MpsFault;
 use program_rows::{FaultKind, Program, Seeded};
 use std::alloc::Global;
 

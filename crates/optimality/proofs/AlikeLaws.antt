@@ -10,8 +10,8 @@ use Rattle.auction_terms.specs.Stages.{and_then}
 use Rattle.program_rows.specs.Program.{Table}
 use Rattle.program_rows.specs.Points.{coefficient_at}
 use Rattle.program_rows.specs.Lines.{fields, is_skipped}
-use Rattle.optimality.specs.declared.fault.FaultKind.{FaultKind}
-use Rattle.optimality.specs.declared.fault.FaultKind.TheVariants.{Beyond, NotShown}
+use Rattle.program_faults.specs.declared.certificate_fault.FaultKind.{FaultKind}
+use Rattle.program_faults.specs.declared.certificate_fault.FaultKind.TheVariants.{Beyond, NotShown}
 use Rattle.optimality.specs.Certificates.{Form, Cut, number_in, side, sum_of}
 use Rattle.optimality.specs.Reduced.{reduced, right_side_at}
 use Rattle.optimality.specs.Shows.{leaf_value}

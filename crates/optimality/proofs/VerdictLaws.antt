@@ -8,9 +8,9 @@ use Rattle.auction_terms.specs.Lines.{lines_of}
 use Rattle.program_rows.specs.Program.{Table}
 use Rattle.program_rows.specs.Lines.{fields, is_skipped}
 use Rattle.program_rows.proofs.NamedItems.{all_true}
-use Rattle.optimality.specs.declared.fault.FaultKind.{FaultKind}
-use Rattle.optimality.specs.declared.fault.FaultKind.TheVariants.{Beyond, Fields, NotShown, Sign}
-use Rattle.optimality.specs.declared.fault.CertificateFault.{CertificateFault}
+use Rattle.program_faults.specs.declared.certificate_fault.FaultKind.{FaultKind}
+use Rattle.program_faults.specs.declared.certificate_fault.FaultKind.TheVariants.{Beyond, Fields, NotShown, Sign}
+use Rattle.program_faults.specs.declared.certificate_fault.CertificateFault.{CertificateFault}
 use Rattle.optimality.specs.Answers.{IsLimit, IsVerdict}
 use Rattle.optimality.specs.Certificates.{Form, Certificate, Bound, Split, side}
 use Rattle.optimality.specs.Shows.{may_have, leaf_value, LeafShows, ShowsWithin}

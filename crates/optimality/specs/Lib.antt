@@ -8,6 +8,5 @@ pub mod Telling
 pub mod Answers
 pub mod Branches
 pub mod Verdict
-pub mod CertificateFaultText
 pub mod Only
 pub mod inside

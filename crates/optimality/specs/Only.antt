@@ -12,7 +12,7 @@ use Rattle.optimality.specs.Lines.{telling_lines}
 use Rattle.optimality.specs.Shows.{ShowsWithin}
 use Rattle.optimality.specs.Telling.{TellsCertificate}
 use Rattle.optimality.specs.Verdict.{fault_from}
-use Rattle.optimality.specs.declared.fault.FaultKind.{FaultKind}
+use Rattle.program_faults.specs.declared.certificate_fault.FaultKind.{FaultKind}
 
 -- a column that may be 0 or 1
 abbrev pub is_zero_or_one : Bounds → Bool

@@ -4,8 +4,8 @@ use Rattle.std.specs.Option.{ok_or, option_map}
 use Rattle.auction_terms.specs.Lines.{lines_of}
 use Rattle.program_rows.specs.Program.{Table}
 use Rattle.program_rows.specs.Lines.{fields, is_skipped}
-use Rattle.optimality.specs.declared.fault.FaultKind.{FaultKind}
-use Rattle.optimality.specs.declared.fault.FaultKind.TheVariants.{NotShown, NoEnd, Beyond}
+use Rattle.program_faults.specs.declared.certificate_fault.FaultKind.{FaultKind}
+use Rattle.program_faults.specs.declared.certificate_fault.FaultKind.TheVariants.{NotShown, NoEnd, Beyond}
 use Rattle.optimality.specs.Shows.{leaf_value}
 use Rattle.auction_terms.specs.Stages.{and_then}
 use Rattle.optimality.specs.LineMeaning.{Told, BoundLine, SplitLine, line_told}

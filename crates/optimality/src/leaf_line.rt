@@ -9,12 +9,12 @@ ghost use Rattle.optimality.specs.Shows as shows;
 ghost use Rattle.optimality.specs.LineMeaning.{BoundLine, bound_told};
 
 use crate::checker::Checker;
-use crate::fault::FaultKind;
 use crate::leaf::Leaf;
 use crate::naturals::take_naturals;
 use crate::numbers::take_natural;
 use crate::refusal::Refusal;
 use crate::terms::take_row_terms;
+use program_faults::FaultKind;
 use program_rows::{Program, RowKind, next_field};
 
 /// Whether there is a row at this place that may have the multiplier.

@@ -6,7 +6,6 @@ mod arithmetic;
 mod checker;
 mod closing;
 mod cuts;
-mod fault;
 mod forms;
 pub mod laws;
 mod leaf;
@@ -30,7 +29,6 @@ mod split_line;
 mod sums;
 mod terms;
 
-pub use fault::{CertificateFault, FaultKind};
 pub use only::check_only;
 pub use optimum::check_optimum;
 pub use reader::check_certificate;

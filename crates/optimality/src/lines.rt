@@ -2,7 +2,7 @@
 
 ghost use Rattle.std.specs.Prelude.{◌≡◌, ◌==◌, ◌-ℤ◌, ◌*ℤ◌, IfOk, Ok, bytes_eq, if◌then◌else◌, int_lt, length, not, pos, slice_index};
 ghost use Rattle.std.specs.Option.{ok_or};
-ghost use Rattle.optimality.specs.declared.fault.FaultKind.TheVariants.{Beyond};
+ghost use Rattle.program_faults.specs.declared.certificate_fault.FaultKind.TheVariants.{Beyond};
 ghost use Rattle.program_rows.specs.Lines.{fields, is_skipped};
 ghost use Rattle.optimality.specs.inside.Answers.{AnswersSeen};
 ghost use Rattle.optimality.specs.inside.Branches.{AnswersAlike, branches_of, opened};
@@ -15,7 +15,6 @@ ghost use Rattle.optimality.specs.Verdict.{taken};
 
 use crate::checker::Checker;
 use crate::closing::close;
-use crate::fault::FaultKind;
 use crate::leaf::Leaf;
 use crate::leaf_line::take_leaf;
 use crate::leaf_value::is_above;
@@ -24,6 +23,7 @@ use crate::open_split::OpenSplit;
 use crate::refusal::Refusal;
 use crate::split_line::{opened_split, take_split};
 use crate::sums::Sums;
+use program_faults::FaultKind;
 use program_rows::next_field;
 
 fn is_word(text: &[u8], word: &[u8]) -> bool

@@ -11,12 +11,12 @@ ghost use Rattle.program_rows.specs.Points.{IsPoint, objective};
 
 use crate::arithmetic::plus;
 use crate::checker::Checker;
-use crate::fault::CertificateFault;
 use crate::forms::WideForm;
 use crate::limit::Limit;
 use crate::open_split::OpenSplit;
 use crate::reader::{check_lines, new_checker, refused};
 use crate::refusal::Refusal;
+use program_faults::CertificateFault;
 use program_rows::{Bounds, Point, Program};
 use std::alloc::{AllocError, Global};
 

@@ -11,7 +11,6 @@ ghost use Rattle.optimality.specs.inside.Branches.{branches_of};
 ghost use Rattle.auction_terms.specs.Lines.{lines_of};
 
 use crate::checker::Checker;
-use crate::fault::{CertificateFault, FaultKind};
 use crate::limit::Limit;
 use crate::lines::take_any;
 use crate::names::{column_names, row_names};
@@ -21,6 +20,7 @@ use crate::refusal::Refusal;
 use crate::row_forms::row_forms;
 use crate::sums::Sums;
 use auction_terms::LineReader;
+use program_faults::{CertificateFault, FaultKind};
 use program_rows::{Program, Seeded};
 use std::alloc::Global;
 use std::cell::Cell;

@@ -9,7 +9,6 @@ ghost use Rattle.optimality.specs.LineMeaning.{SplitLine, split_told};
 
 use crate::added_up::added_up;
 use crate::checker::Checker;
-use crate::fault::FaultKind;
 use crate::limit::Limit;
 use crate::numbers::take_number;
 use crate::open_split::OpenSplit;
@@ -17,6 +16,7 @@ use crate::refusal::Refusal;
 use crate::row_forms::Form;
 use crate::sums::Sums;
 use crate::terms::take_column_terms;
+use program_faults::FaultKind;
 use program_rows::next_field;
 use std::alloc::Global;
 

@@ -12,13 +12,13 @@ use Rattle.auction_terms.specs.Allocations.{Book}
 use Rattle.auction_terms.specs.Keeping.{kept_of}
 use Rattle.program_rows.specs.Program.{Table}
 use Rattle.program_rows.specs.Rows.{program_of}
-use Rattle.outcome.specs.declared.fault.ValueFault.TheVariants as value
-use Rattle.outcome.specs.declared.fault.SolutionFault.TheVariants as fault
+use Rattle.outcome.specs.declared.value_fault.ValueFault.TheVariants as value
+use Rattle.program_faults.specs.declared.solution_fault.SolutionFault.TheVariants as fault
 use Rattle.outcome.specs.Values.{is_near}
 use Rattle.outcome.specs.inside.Values.{token_value}
 use Rattle.outcome.specs.Solution.{solution}
 use Rattle.outcome.specs.PointAllocation.{allocation_of}
-use Rattle.outcome.specs.Sale.{Sale}
+use Rattle.bid_desk.specs.Sale.{Sale}
 use Rattle.outcome.specs.Report.{allocation_text, report_text}
 use Rattle.outcome.proofs.Worked.{fixed, three, winners}
 

@@ -11,8 +11,8 @@ use Rattle.program_rows.specs.Program.{Table, TableColumn}
 use Rattle.program_rows.specs.Points.{allows, meets, row_sum, broken_row, AreAllowed, IsPoint}
 use Rattle.auction_terms.specs.Lines.{lines_of}
 use Rattle.outcome.specs.declared.limits.TheConstants.{SOLUTION_LIMIT}
-use Rattle.outcome.specs.declared.fault.SolutionFault.{SolutionFault}
-use Rattle.outcome.specs.declared.fault.SolutionFault.TheVariants as fault
+use Rattle.program_faults.specs.declared.solution_fault.SolutionFault.{SolutionFault}
+use Rattle.program_faults.specs.declared.solution_fault.SolutionFault.TheVariants as fault
 use Rattle.auction_terms.specs.Stages.{and_then, unless}
 use Rattle.program_rows.specs.ProgramNames.{column_names}
 use Rattle.outcome.specs.Solution.{solution, point_fault, is_one, solution_line_fault}

@@ -14,9 +14,9 @@ use Rattle.auction_terms.specs.FirstFault.{first_failed}
 use Rattle.program_rows.specs.Lines.{field, fields, is_skipped}
 use Rattle.outcome.specs.Values.{is_near}
 use Rattle.outcome.specs.inside.Values.{token_value, value_fault}
-use Rattle.outcome.specs.declared.fault.ValueFault.{ValueFault}
-use Rattle.outcome.specs.declared.fault.SolutionFault.{SolutionFault}
-use Rattle.outcome.specs.declared.fault.SolutionFault.TheVariants as fault
+use Rattle.outcome.specs.declared.value_fault.ValueFault.{ValueFault}
+use Rattle.program_faults.specs.declared.solution_fault.SolutionFault.{SolutionFault}
+use Rattle.program_faults.specs.declared.solution_fault.SolutionFault.TheVariants as fault
 use Rattle.auction_terms.specs.Stages.{unless}
 use Rattle.outcome.specs.Solution.{names_column, is_one}
 use Rattle.auction_terms.specs.Borrowed.{bytes_of}

@@ -29,7 +29,7 @@ use Rattle.outcome.specs.Coming.{SomeBidsSuffice}
 use Rattle.outcome.specs.inside.Reading.{pair_checks}
 use Rattle.outcome.specs.inside.Winning.{by_bidder}
 use Rattle.outcome.specs.Solution.{is_one, names_column, point_fault, solution, solution_line_fault}
-use Rattle.outcome.specs.declared.fault.SolutionFault.TheVariants as fault
+use Rattle.program_faults.specs.declared.solution_fault.SolutionFault.TheVariants as fault
 use Rattle.outcome.specs.declared.limits.TheConstants.{SOLUTION_LIMIT}
 use Rattle.outcome.proofs.PointLaws.{both_none, map_map, solutions_are_points, told_parts}
 use Rattle.outcome.proofs.SaidLaws.{none_one}

@@ -13,8 +13,8 @@ use Rattle.auction_terms.specs.Stages.{Answers, unless, and_then}
 use Rattle.auction_terms.proofs.FirstFaultFacts.{answers-more, answers-told}
 use Rattle.auction_terms.specs.Lines.{is_line_feed, lines_of, without_empty_last}
 use Rattle.outcome.specs.declared.limits.TheConstants.{SOLUTION_LIMIT}
-use Rattle.outcome.specs.declared.fault.SolutionFault.{SolutionFault}
-use Rattle.outcome.specs.declared.fault.SolutionFault.TheVariants as fault
+use Rattle.program_faults.specs.declared.solution_fault.SolutionFault.{SolutionFault}
+use Rattle.program_faults.specs.declared.solution_fault.SolutionFault.TheVariants as fault
 use Rattle.program_rows.specs.Program.{Table}
 use Rattle.program_rows.specs.ProgramNames.{column_names}
 use Rattle.outcome.specs.Solution.{is_one, is_solution_memory, solution_line_fault, point_fault, solution}

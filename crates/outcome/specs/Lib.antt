@@ -2,10 +2,8 @@ pub mod Values
 pub mod Solution
 pub mod PointAllocation
 pub mod Coming
-pub mod Sale
 pub mod Report
 pub mod Uniqueness
 pub mod Costs
 pub mod Ties
-pub mod SolutionFaultText
 pub mod inside

@@ -6,7 +6,7 @@ use Rattle.auction_terms.specs.Groups.{has}
 use Rattle.auction_terms.specs.declared.choices.Choice.{Choice}
 use Rattle.auction_terms.specs.Packages.{Lots}
 use Rattle.auction_terms.specs.Allocations.{Book, amount_of, total}
-use Rattle.outcome.specs.Sale.{Sale, bidder_name}
+use Rattle.bid_desk.specs.Sale.{Sale, bidder_name}
 
 -- name, bid and amount of a winner
 abbrev pub winner_line : Sale → Choice → List ℕ

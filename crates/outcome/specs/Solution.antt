@@ -11,8 +11,8 @@ use Rattle.program_rows.specs.Points.{allows, broken_row}
 use Rattle.program_rows.specs.Lines.{field, fields, is_skipped}
 use Rattle.program_rows.specs.Numbers.{is_number_token, is_too_long}
 use Rattle.outcome.specs.declared.limits.TheConstants.{SOLUTION_LIMIT}
-use Rattle.outcome.specs.declared.fault.SolutionFault.{SolutionFault}
-use Rattle.outcome.specs.declared.fault.SolutionFault.TheVariants as fault
+use Rattle.program_faults.specs.declared.solution_fault.SolutionFault.{SolutionFault}
+use Rattle.program_faults.specs.declared.solution_fault.SolutionFault.TheVariants as fault
 use Rattle.outcome.specs.Values.{is_near}
 
 -- ---- lines

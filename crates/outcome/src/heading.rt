@@ -2,7 +2,7 @@
 
 ghost use Rattle.std.specs.Prelude.{◌≡◌, ◌∷◌, ◌++◌, [], codes, decimal, flat_map};
 ghost use Rattle.mps_text.specs.Adds.{Adds};
-ghost use Rattle.outcome.specs.Sale.{bidder_name, sale_of};
+ghost use Rattle.bid_desk.specs.Sale.{bidder_name, sale_of};
 ghost use Rattle.outcome.specs.Report.{group_names, heading};
 
 use crate::sale::name_of;

@@ -4,7 +4,6 @@
 mod allocation;
 mod columns;
 mod costs;
-mod fault;
 mod heading;
 pub mod laws;
 mod limits;
@@ -17,6 +16,7 @@ mod sale;
 mod tolerance;
 mod uniqueness;
 mod unsold;
+mod value_fault;
 mod values;
 mod winners;
 mod winning;
@@ -24,11 +24,11 @@ mod writing;
 
 pub use allocation::{Allocation, same_winners};
 pub use costs::total;
-pub use fault::{SolutionFault, ValueFault};
 pub use heading::add_names_line;
 pub use limits::{SOLUTION_LIMIT, TOLERANCE_PARTS};
 pub use reading::read_solution;
 pub use rivals::with_rival;
 pub use uniqueness::Uniqueness;
+pub use value_fault::ValueFault;
 pub use winning::map_back;
 pub use writing::{report, report_with, write_allocation};

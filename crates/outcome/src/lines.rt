@@ -12,9 +12,9 @@ ghost use Rattle.auction_terms.specs.Borrowed.{bytes_of};
 ghost use Rattle.outcome.specs.inside.Reading.{pair_checks, said_by};
 
 use crate::columns::ColumnFinder;
-use crate::fault::SolutionFault;
 use crate::values::{at_line, value_of};
 use auction_terms::LineReader;
+use program_faults::SolutionFault;
 use program_rows::next_field;
 
 /// Notes the value that a line gives a column.

@@ -6,7 +6,7 @@ ghost use Rattle.program_rows.specs.Points.{allows};
 ghost use Rattle.auction_terms.specs.Stages.{unless};
 ghost use Rattle.outcome.specs.Solution.{point_fault};
 
-use crate::fault::SolutionFault;
+use program_faults::SolutionFault;
 use program_rows::{Bounds, Point, Program};
 
 /// Whether the bounds allow a value.

@@ -6,16 +6,16 @@ ghost use Rattle.auction_terms.specs.FirstFault.{first_fault};
 ghost use Rattle.auction_terms.specs.Lines.{lines_of};
 ghost use Rattle.auction_terms.specs.Stages.{Answers, unless};
 ghost use Rattle.program_rows.specs.Points.{IsPoint};
-ghost use Rattle.outcome.specs.declared.fault.SolutionFault.TheVariants as fault;
+ghost use Rattle.program_faults.specs.declared.solution_fault.SolutionFault.TheVariants as fault;
 ghost use Rattle.outcome.specs.declared.limits.TheConstants.{SOLUTION_LIMIT};
 ghost use Rattle.program_rows.specs.ProgramNames.{column_names};
 ghost use Rattle.outcome.specs.Solution.{is_solution_memory, is_one, solution_line_fault, solution};
 
 use crate::columns::finder_of;
-use crate::fault::SolutionFault;
 use crate::limits::SOLUTION_LIMIT;
 use crate::lines::take_lines;
 use crate::point::check_point;
+use program_faults::SolutionFault;
 use program_rows::{Point, Program};
 use std::alloc::{AllocError, Global};
 

@@ -4,7 +4,7 @@ ghost use Rattle.std.specs.Prelude.{◌≡◌, slice_index};
 ghost use Rattle.std.specs.Option.{option_map_or};
 ghost use Rattle.auction_terms.specs.Allocations.{amount_of, bid_at, quantity_of};
 ghost use Rattle.bid_desk.specs.Closing.{book_of};
-ghost use Rattle.outcome.specs.Sale.{bidder_name, sale_of};
+ghost use Rattle.bid_desk.specs.Sale.{bidder_name, sale_of};
 
 use auction_terms::{Bid, Choice};
 use bid_desk::ClosedBook;

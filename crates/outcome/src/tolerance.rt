@@ -4,8 +4,8 @@ ghost use Rattle.std.specs.Prelude.{◌≡◌, ◌<◌, ◌≤◌, ◌^◌, ◌*
 ghost use Rattle.program_rows.specs.Numbers.{signed};
 ghost use Rattle.outcome.specs.inside.Values.{near_of};
 
-use crate::fault::ValueFault;
 use crate::limits::TOLERANCE_PARTS;
+use crate::value_fault::ValueFault;
 
 /// What digits with the point moved count as.
 pub fn near(minus: bool, digits: u128, up: u32, down: u32) -> Result<bool, ValueFault>

@@ -3,7 +3,7 @@
 ghost use Rattle.std.specs.Prelude.{◌≡◌};
 ghost use Rattle.mps_text.specs.Adds.{Adds};
 ghost use Rattle.outcome.specs.Report.{allocation_text};
-ghost use Rattle.outcome.specs.Sale.{sale_of};
+ghost use Rattle.bid_desk.specs.Sale.{sale_of};
 ghost use Rattle.outcome.specs.Uniqueness.{tie_text, uniqueness_text};
 
 use crate::allocation::Allocation;

@@ -3,8 +3,9 @@
 ghost use Rattle.std.specs.Prelude.{◌≡◌};
 ghost use Rattle.outcome.specs.inside.Values.{token_value, value_fault};
 
-use crate::fault::{SolutionFault, ValueFault};
 use crate::tolerance::near;
+use crate::value_fault::ValueFault;
+use program_faults::SolutionFault;
 use program_rows::read_token;
 
 /// What a token counts as: 0 or 1.

@@ -2,7 +2,7 @@
 
 ghost use Rattle.std.specs.Prelude.{◌≡◌, ◌∷◌, ◌++◌, [], codes, decimal, flat_map};
 ghost use Rattle.mps_text.specs.Adds.{Adds};
-ghost use Rattle.outcome.specs.Sale.{sale_of};
+ghost use Rattle.bid_desk.specs.Sale.{sale_of};
 ghost use Rattle.outcome.specs.Report.{allocation_text, winner_line};
 
 use crate::costs::total_of;

@@ -9,7 +9,7 @@ ghost use Rattle.bid_desk.specs.Closing.{book_of};
 ghost use Rattle.mps_text.specs.Sinks.{HasFailed, SentFront};
 ghost use Rattle.mps_text.specs.Adds.{Adds};
 ghost use Rattle.mps_text.specs.Written.{written_of};
-ghost use Rattle.outcome.specs.Sale.{sale_of};
+ghost use Rattle.bid_desk.specs.Sale.{sale_of};
 ghost use Rattle.outcome.specs.Report.{allocation_text, report_text};
 ghost use Rattle.outcome.specs.Uniqueness.{uniqueness_text};
 

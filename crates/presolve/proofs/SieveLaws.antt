@@ -1,11 +1,9 @@
 -- Laws of the sieve: its levels mark every rival that beats the bid.
 use Rattle.std.proofs.Common.{◌≡◌, ◌≢◌, ⊎_elim, ◌+◌, ◌-◌, ◌/◌, ◌%◌, ◌<◌, ◌≤◌, ℕ, ◌&&◌, Bool, true, false, nat_lt, List, [], ◌∷◌, ◌++◌, length, map, slice_index, slice_index_or, slice_set, arith, sym, ap, ◌∙◌, subst}
-use Rattle.std.specs.Prelude.{All, AllPairs, int_le, min}
+use Rattle.std.specs.Prelude.{All, AllPairs, int_le}
 use Rattle.std.specs.List.Sorted.{IsNonDecreasing}
 use Rattle.std.specs.Int.{bit_at}
-use Rattle.std.proofs.Math.Nat.{div-mul-le_self}
 use Rattle.std.proofs.lemmas.Bool.{and_parts, cases_eq, cases_lt, false≢true, le-ltb}
-use Rattle.std.proofs.lemmas.Nat.{le-div}
 use Rattle.std.proofs.lemmas.Nat.Bits.{bit_at-zero}
 use Rattle.std.proofs.lemmas.List.{get_or-map, get_or-set_other, get_or-set_same, get_or_default, get_or_past, length-map}
 use Rattle.std.proofs.lemmas.List.Elements.{All-push}
@@ -87,18 +85,12 @@ places_ranked sorted numbers places count lower = record {
   rising = λ i k within inside less. lower_rises sorted (slice_index numbers i) (slice_index numbers k) (slice_index places i) (slice_index places k) less (lower i within) (lower k inside);
 }
 
--- the next rank of a list that rises, by so many as are counted from a number on
-pub next_rank : (ranks : List ℕ) (step low middle high : ℕ) → 1 ≤ step → low ≤ middle → middle ≤ high → IsNonDecreasing ranks → All (λ r. r ≤ min (low / step) 31) ranks
-    → IsNonDecreasing (ranks ++ min (middle / step) 31 ∷ []) × All (λ r. r ≤ min (high / step) 31) (ranks ++ min (middle / step) 31 ∷ [])
-next_rank ranks step low middle high some up more rising below =
-    let first : low / step ≤ middle / step = rises low middle up in
-    let second : middle / step ≤ high / step = rises middle high more in (
-      IsNonDecreasingBy-push (λ (r : ℕ). r) ranks (min (middle / step) 31) rising (λ d inside. let b = below (length ranks - 1) d (omega arith) in omega arith),
-      All-push (λ r. r ≤ min (high / step) 31) ranks (min (middle / step) 31) (λ k d inside. (let b = below k d inside in omega arith)) (omega arith),
-    )
-  where
-    rises : (a b : ℕ) → a ≤ b → a / step ≤ b / step
-    rises a b less = let within = div-mul-le_self a step in le-div (a / step) b step some (omega arith)
+-- the next rank of a list that rises, none above the one before
+pub next_rank : (ranks : List ℕ) (last next : ℕ) → last ≤ next → IsNonDecreasing ranks → All (λ r. r ≤ last) ranks → IsNonDecreasing (ranks ++ next ∷ []) × All (λ r. r ≤ next) (ranks ++ next ∷ [])
+next_rank ranks last next up rising below = (
+  IsNonDecreasingBy-push (λ (r : ℕ). r) ranks next rising (λ d inside. let b = below (length ranks - 1) d (omega arith) in omega arith),
+  All-push (λ r. r ≤ next) ranks next (λ k d inside. (let b = below k d inside in omega arith)) (omega arith),
+)
 
 -- a rival that beats a bid has at most its quantity of a category
 pub fewer_at : (place : ℕ) (x s : SizedBid) → beats x s ≡ true → slice_index s.bid.now.package place ≤ slice_index x.bid.now.package place

@@ -8,6 +8,7 @@ mod flags;
 mod form_flags;
 mod keeping;
 mod order;
+mod ranks;
 mod sieve;
 
 pub use few_bids::{FEW_BIDS, has_few_bids};

@@ -14,27 +14,21 @@
 //!
 //! What to mind when changing it: the levels only have to be sound, that is, to have the bit of every rival that dominates
 //! the bid (`Sifts`). One that has too many bits costs time and changes no answer, since each candidate is compared. So the
-//! ranks, which come from counts of all numbers, may be any that rise with them, a sieve may be left out, and the order of
-//! the sieves doesn't matter. Ranks that don't rise aren't sound, nor is a bit that is left out.
+//! ranks (`ranks`) may be any that rise with the numbers, a sieve may be left out, and the order of the sieves doesn't
+//! matter. Ranks that don't rise aren't sound, nor is a bit that is left out.
 
-ghost use Rattle.std.specs.Prelude.{◌≡◌, ◌+◌, ◌/◌, ◌^◌, ◌<◌, ◌≤◌, ℕ, List, true, false, nat_lt, slice_index, slice_index_or, All, length, map, IfOk, IsTrue};
+ghost use Rattle.std.specs.Prelude.{◌≡◌, ◌+◌, ◌/◌, ◌<◌, ◌≤◌, ℕ, List, true, false, slice_index, slice_index_or, All, length, map, IfOk, IsTrue};
 ghost use Rattle.std.specs.Int.{bit_at, div_ceil};
 ghost use Rattle.std.specs.List.{list_any};
-ghost use Rattle.std.specs.List.Sorted.{IsNonDecreasing};
 ghost use Rattle.auction_terms.specs.declared.limits.TheConstants.{MOST_BIDS, MOST_CATEGORIES};
 ghost use Rattle.presolve.specs.declared.order.SizedBid.{SizedBid};
-ghost use Rattle.presolve.specs.inside.Sieves.{AreLevels, AreLower, AreRanked, AreSieved, HasPlace, IsMarked, IsSieve, Sifts, shortfall};
+ghost use Rattle.presolve.specs.inside.Sieves.{AreLevels, AreSieved, HasPlace, IsMarked, IsSieve, Sifts, shortfall};
 ghost use Rattle.presolve.specs.inside.Sizes.{AreRivals, beats};
 
 use crate::order::SizedBid;
+use crate::ranks::ranks_of;
 use auction_terms::MOST_BIDS;
 use std::alloc::{AllocError, Global};
-
-/// How many ranks there are at most.
-const RANKS: u32 = 32;
-
-/// Of numbers up to so many times as many as there are of them each value is counted.
-const SPREAD: u64 = 16;
 
 /// The most words that hold a bit for each rival.
 const MOST_WORDS: usize = MOST_BIDS / 64 + 1;
@@ -50,106 +44,6 @@ pub(crate) struct Level {
 pub(crate) struct Sieve {
     pub(crate) ranks: Vec<u8>,
     pub(crate) levels: Vec<Level>,
-}
-
-// How many of the sorted numbers are lower.
-fn count_lower(sorted: &[u64], number: u64) -> usize
-    requires { IsNonDecreasing sorted.now }
-    ensures { AreLower sorted.now number result }
-{
-    sorted.partition_point(
-        |other: &u64| -> bool
-            ensures { result ≡ nat_lt other.now number }
-        { *other < number },
-    )
-}
-
-// How many of the numbers are lower than each.
-fn places_of(alloc: Global, numbers: &[u64]) -> Result<Vec<u64>, AllocError>
-    ensures ranked { IfOk result (λ places. AreRanked numbers.now places.items) }
-    ensures within { IfOk result (λ places. All (λ place. place ≤ length numbers.now)
-        places.items) }
-{
-    let mut sorted = numbers.to_vec(alloc)?;
-    sorted.sort_unstable();
-    let mut places = Vec::with_capacity(alloc, numbers.len())?;
-    for number in numbers {
-        places.push(count_lower(&sorted, *number) as u64)?;
-    }
-    Ok(places)
-}
-
-// How often each number up to the greatest is there.
-fn counts_of(alloc: Global, numbers: &[u64], greatest: u64) -> Result<Vec<u32>, AllocError>
-    requires few { length numbers.now ≤ MOST_BIDS }
-    requires small { greatest < 2 ^ 32 }
-    requires within { All (λ number. number ≤ greatest) numbers.now }
-    ensures { IfOk result (λ counts. length counts.items ≡ greatest + 1) }
-{
-    let mut counts = vec![in alloc; 0; greatest as usize + 1]?;
-    for number in numbers {
-        counts[*number as usize] += 1;
-    }
-    Ok(counts)
-}
-
-// The rank of each number that is counted: how many are lower and how many are at most as great, together, in steps. So a
-// number that many are equal to shares its rank with none, and others share theirs with less than a step.
-fn ranks_by_counts(alloc: Global, counts: &[u32], step: u32) -> Result<Vec<u8>, AllocError>
-    requires { 1 ≤ step }
-    ensures count { IfOk result (λ ranks. length ranks.items ≡ length counts.now) }
-    ensures rising { IfOk result (λ ranks. IsNonDecreasing ranks.items) }
-{
-    let mut ranks = Vec::with_capacity(alloc, counts.len())?;
-    let mut lower_twice: u32 = 0;
-    for count in counts {
-        let middle = lower_twice.saturating_add(*count);
-        ranks.push((middle / step).min(RANKS - 1) as u8)?;
-        lower_twice = middle.saturating_add(*count);
-    }
-    Ok(ranks)
-}
-
-// The rank of each number, none of which is above the greatest.
-fn ranks_up_to(alloc: Global, numbers: &[u64], greatest: u64) -> Result<Vec<u8>, AllocError>
-    requires few { length numbers.now ≤ MOST_BIDS }
-    requires small { greatest < 2 ^ 32 }
-    requires within { All (λ number. number ≤ greatest) numbers.now }
-    ensures { IfOk result (λ ranks. AreRanked numbers.now ranks.items) }
-{
-    let step = (2 * numbers.len() as u32).div_ceil(RANKS).max(1);
-    let counts = counts_of(alloc, numbers, greatest)?;
-    let by_number = ranks_by_counts(alloc, &counts, step)?;
-    let mut ranks = vec![in alloc; 0; numbers.len()]?;
-    for place in 0..numbers.len() {
-        ranks[place] = by_number[numbers[place] as usize];
-    }
-    Ok(ranks)
-}
-
-// The greatest of the numbers.
-fn greatest_of(numbers: &[u64]) -> u64
-    ensures { All (λ number. number ≤ result) numbers.now }
-{
-    let mut greatest = 0;
-    for number in numbers {
-        greatest = greatest.max(*number);
-    }
-    greatest
-}
-
-// The rank of each number. Numbers that are great beside how many there are, as nets, are ranked by their places.
-fn ranks_of(alloc: Global, numbers: &[u64]) -> Result<Vec<u8>, AllocError>
-    requires { length numbers.now ≤ MOST_BIDS }
-    ensures { IfOk result (λ ranks. AreRanked numbers.now ranks.items) }
-{
-    let count = numbers.len() as u64;
-    let greatest = greatest_of(numbers);
-    if greatest <= SPREAD * count {
-        return ranks_up_to(alloc, numbers, greatest);
-    }
-    let places = places_of(alloc, numbers)?;
-    ranks_up_to(alloc, &places, count)
 }
 
 // The greatest of the ranks.

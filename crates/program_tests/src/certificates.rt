@@ -1,5 +1,6 @@
 use crate::worked::row;
-use optimality::{FaultKind, check_certificate, check_only, check_optimum};
+use optimality::{check_certificate, check_only, check_optimum};
+use program_faults::FaultKind;
 use program_rows::{Bounds, Columns, Point, Program, ProgramParts};
 use std::alloc::{AllocError, Global};
 use std::test::Fail;
@@ -27,11 +28,28 @@ fn odd_cycle(alloc: Global) -> Result<Program, AllocError> {
     }))
 }
 
-fn fault(rt: &HostRuntime, text: &[u8], least: i128) -> Result<Option<(usize, FaultKind)>, Fail> {
-    let program = odd_cycle(rt.alloc())?;
-    Ok(match check_certificate(rt.alloc(), text, &program, least) {
-        Ok(()) => None,
-        Err(fault) => Some((fault.line, fault.kind)),
+/// What a trial of the odd cycle tells. Where the program stands in a function of its own, what the test goes on with is
+/// proved without it (docs/DEVELOPING.md, "Add a test").
+fn on_odd_cycle<F: FnOnce(&Program) -> Result<bool, Fail> + Drop>(
+    alloc: Global,
+    trial: F,
+) -> Result<bool, Fail>
+    requires { F.IsAlwaysCallable trial }
+{
+    let program = odd_cycle(alloc)?;
+    trial(&program)
+}
+
+/// Whether a certificate that no point lies below a number is answered so.
+fn is_answered(
+    alloc: Global,
+    text: &[u8],
+    least: i128,
+    told: Option<(usize, FaultKind)>,
+) -> Result<bool, Fail> {
+    on_odd_cycle(alloc, |program| {
+        let fault = check_certificate(alloc, text, program, least).err();
+        Ok(fault.map(|fault| (fault.line, fault.kind)) == told)
     })
 }
 
@@ -43,26 +61,42 @@ fn a_certificate_shows_the_optimum_and_no_more(rt: HostRuntime) -> Result<(), Fa
         (4, Some((4, FaultKind::NotShown))),
         (i128::MIN, Some((4, FaultKind::TooLarge))),
     ] {
-        assert!(rt; fault(&rt, SHOWN, least)? == told);
+        assert!(rt; is_answered(rt.alloc(), SHOWN, least, told)?);
     }
     Ok(())
 }
 
+/// The first and the fixed column at 1.
+fn best(alloc: Global) -> Result<Point, AllocError> {
+    Ok(Point::new([true, false, false, true].to_vec(alloc)?))
+}
+
+/// Whether a text shows that this point is the best one.
+fn is_best(alloc: Global, program: &Program, point: &Point, text: &[u8]) -> Result<bool, Fail> {
+    if point.values().len() != program.column_count() {
+        return Ok(false);
+    }
+    check_optimum(alloc, text, program, point)?;
+    Ok(true)
+}
+
+fn is_shown_the_best(alloc: Global, program: &Program) -> Result<bool, Fail> {
+    let point = best(alloc)?;
+    is_best(alloc, program, &point, SHOWN)
+}
+
 #[test]
 fn a_point_of_the_optimum_is_the_best(rt: HostRuntime) -> Result<(), Fail> {
-    let program = odd_cycle(rt.alloc())?;
-    let best = Point::new([true, false, false, true].to_vec(rt.alloc())?);
-    if best.values().len() == program.column_count() {
-        assert!(rt; check_optimum(rt.alloc(), SHOWN, &program, &best).is_ok());
-    }
+    let alloc = rt.alloc();
+    assert!(rt; on_odd_cycle(alloc, |program| is_shown_the_best(alloc, program))?);
     Ok(())
 }
 
 #[test]
 fn the_fractions_show_less(rt: HostRuntime) -> Result<(), Fail> {
     let text = b"bound 1 A1 1 A2 1 B 1\n".as_slice();
-    assert!(rt; fault(&rt, text, 2)? == None);
-    assert!(rt; fault(&rt, text, 3)? == Some((1, FaultKind::NotShown)));
+    assert!(rt; is_answered(rt.alloc(), text, 2, None)?);
+    assert!(rt; is_answered(rt.alloc(), text, 3, Some((1, FaultKind::NotShown)))?);
     Ok(())
 }
 
@@ -70,18 +104,30 @@ fn the_fractions_show_less(rt: HostRuntime) -> Result<(), Fail> {
 fn a_side_without_points_is_shown_at_scale_0(rt: HostRuntime) -> Result<(), Fail> {
     let text =
         b"split 3 X1 1 X2 1 X3 1\nsplit 0 X1 1\nbound 1 0 2 B 2\nbound 1 0 2 A1 2 A2 2\nbound 0 1\n";
-    assert!(rt; fault(&rt, text, 3)? == None);
+    assert!(rt; is_answered(rt.alloc(), text, 3, None)?);
     Ok(())
+}
+
+/// Whether the certificate of the point isn't one that it is the only one.
+fn is_not_the_only_one(alloc: Global, program: &Program, point: &Point) -> bool {
+    if point.values().len() != program.column_count() {
+        return false;
+    }
+    let text = b"split 0 X1 1\nbound 1 0 2 B 2\nbound 1 0 2 A1 2 A2 2\n";
+    match check_only(alloc, text, program, point) {
+        Ok(()) => false,
+        Err(fault) => fault.line == 2 && fault.kind == FaultKind::NotShown,
+    }
+}
+
+fn has_another_one(alloc: Global, program: &Program) -> Result<bool, Fail> {
+    let point = best(alloc)?;
+    Ok(is_not_the_only_one(alloc, program, &point))
 }
 
 #[test]
 fn a_point_that_ties_isnt_shown_to_be_the_only_one(rt: HostRuntime) -> Result<(), Fail> {
-    let program = odd_cycle(rt.alloc())?;
-    let best = Point::new([true, false, false, true].to_vec(rt.alloc())?);
-    if best.values().len() == program.column_count() {
-        let text = b"split 0 X1 1\nbound 1 0 2 B 2\nbound 1 0 2 A1 2 A2 2\n".as_slice();
-        let fault = check_only(rt.alloc(), text, &program, &best).err();
-        assert!(rt; fault.map(|fault| (fault.line, fault.kind)) == Some((2, FaultKind::NotShown)));
-    }
+    let alloc = rt.alloc();
+    assert!(rt; on_odd_cycle(alloc, |program| has_another_one(alloc, program))?);
     Ok(())
 }

@@ -4,7 +4,8 @@ ghost use Rattle.outcome.specs.PointAllocation.{IsMap};
 
 use crate::worked::row;
 use auction_terms::Choice;
-use outcome::{SolutionFault, map_back, read_solution};
+use outcome::{map_back, read_solution};
+use program_faults::SolutionFault;
 use program_rows::{Bounds, Columns, Point, Program, ProgramParts};
 use std::alloc::{AllocError, Global};
 use std::test::Fail;
@@ -35,46 +36,77 @@ fn program_of_three(alloc: Global) -> Result<Program, AllocError>
     }))
 }
 
+/// What a trial of that program tells. Where the program stands in a function of its own, what the test goes on with is proved
+/// without it (docs/DEVELOPING.md, "Add a test").
+fn on_three<F: FnOnce(&Program) -> Result<bool, Fail> + Drop>(
+    alloc: Global,
+    trial: F,
+) -> Result<bool, Fail>
+    requires { F.IsAlwaysCallable trial }
+{
+    let program = program_of_three(alloc)?;
+    trial(&program)
+}
+
+/// A program of one column, which is fixed.
+fn fixed_program(alloc: Global) -> Result<Program, AllocError> {
+    let mut columns = Columns::new(alloc);
+    columns.push(b"X1_1", Bounds::One, 0, &[])?;
+    Ok(Program::from_parts(ProgramParts {
+        objective_name: Vec::from_slice(alloc, b"OBJ")?,
+        rows: Vec::new(alloc),
+        columns,
+    }))
+}
+
 fn fault(alloc: Global, program: &Program, text: &[u8]) -> Option<SolutionFault> {
     read_solution(alloc, text, program).err()
 }
 
 #[test]
 fn a_fixed_column_is_not_left_out(rt: HostRuntime) -> Result<(), Fail> {
-    let mut columns = Columns::new(rt.alloc());
-    columns.push(b"X1_1", Bounds::One, 0, &[])?;
-    let program = Program::from_parts(ProgramParts {
-        objective_name: Vec::from_slice(rt.alloc(), b"OBJ")?,
-        rows: Vec::new(rt.alloc()),
-        columns,
-    });
+    let program = fixed_program(rt.alloc())?;
     let told = SolutionFault::BoundBroken { column: 0 };
-    assert_eq!(rt; fault(rt.alloc(), &program, b""), Some(told));
+    assert!(rt; fault(rt.alloc(), &program, b"") == Some(told));
     Ok(())
+}
+
+fn is_too_large(alloc: Global, program: &Program) -> Result<bool, Fail> {
+    let text = vec![in alloc; b'#'; 67_108_865]?;
+    Ok(fault(alloc, program, &text) == Some(SolutionFault::TooLarge))
 }
 
 #[test]
 fn refuses_a_text_above_the_limit(rt: HostRuntime) -> Result<(), Fail> {
-    let program = program_of_three(rt.alloc())?;
-    let text = vec![in rt.alloc(); b'#'; 67_108_865]?;
-    assert_eq!(rt;
-        fault(rt.alloc(), &program, &text),
-        Some(SolutionFault::TooLarge)
-    );
+    let alloc = rt.alloc();
+    assert!(rt; on_three(alloc, |program| is_too_large(alloc, program))?);
     Ok(())
+}
+
+/// Whether the winners of a point are the first bids of three bidders.
+fn are_first_bids(choices: &[Choice]) -> bool {
+    match choices {
+        [alpha, beta, gamma] => {
+            is_first_bid(alpha, 1) && is_first_bid(beta, 2) && is_first_bid(gamma, 3)
+        }
+        _ => false,
+    }
+}
+
+fn is_first_bid(choice: &Choice, bidder: u16) -> bool {
+    choice.bidder == bidder && choice.bid == 1
+}
+
+/// Whether a point of these values wins 62 by the first bids of three bidders.
+fn wins_by_first_bids(alloc: Global) -> Result<bool, Fail> {
+    let program = program_of_three(alloc)?;
+    let point = Point::new(Vec::from_array(alloc, [true, false, true, true])?);
+    let allocation = map_back(alloc, &program, &point)?;
+    Ok(are_first_bids(allocation.choices()) && program.objective(&point) == -62)
 }
 
 #[test]
 fn maps_a_point_back(rt: HostRuntime) -> Result<(), Fail> {
-    let program = program_of_three(rt.alloc())?;
-    let point = Point::new(Vec::from_array(rt.alloc(), [true, false, true, true])?);
-    let allocation = map_back(rt.alloc(), &program, &point)?;
-    let winners = [
-        Choice { bidder: 1, bid: 1 },
-        Choice { bidder: 2, bid: 1 },
-        Choice { bidder: 3, bid: 1 },
-    ];
-    assert_eq!(rt; allocation.choices(), winners.as_slice());
-    assert_eq!(rt; program.objective(&point), -62);
+    assert!(rt; wins_by_first_bids(rt.alloc())?);
     Ok(())
 }

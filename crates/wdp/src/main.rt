@@ -1,58 +1,42 @@
 //! The winner determination compiler: the words and the standard streams, handed to `run`.
 #![tactic(auto)]
 
-use answers::{run, tell, write_pieces};
-use auction_input::{Refusal, Source};
+mod stack;
+
+use crate::stack::touch;
+use answers::run;
+use auction_input::Source;
 use mps_text::{Sink, StdSink};
-use std::alloc::{AllocError, Global};
-use std::io::ErrorKind;
+use std::env::Args;
+use std::io::Read;
 use std::process::ExitCode;
+use std::sync::Wait;
+use std::thread::Threads;
 use std::{env, io};
 
-fn words(rt: &HostRuntime) -> io::Result<Vec<String>> {
-    let words: Vec<String> = env::args(rt)?.collect(rt.alloc())?;
-    Ok(words)
-}
-
-fn texts<'a>(alloc: Global, words: &'a [String]) -> Result<Vec<&'a str>, AllocError> {
-    let mut texts = Vec::new(alloc);
-    for word in words {
-        texts.push(word.as_str())?;
-    }
-    Ok(texts)
-}
-
-// Tells that memory is short.
-fn without_memory<F: Sink>(faults: &mut F) -> ExitCode {
-    tell(&Refusal::OutOfMemory, faults);
-    ExitCode::from(1)
-}
-
-// Tells that a word can't be read.
-fn without_words<F: Sink>(faults: &mut F) -> ExitCode {
-    let line: [&[u8]; 1] = [b"wdp: a word is no text\n"];
-    let _ = write_pieces(&line, faults);
-    ExitCode::from(2)
+// Does what the words ask for, and gives the exit status. A call of its own, so that `main` has next to no stack before that
+// is looked at.
+#[inline(never)]
+fn work<R: Threads + Wait + Sync + AllocGlobal, I: Read, S: Sink, F: Sink>(
+    rt: &R,
+    words: io::Result<Args>,
+    input: &mut Source<I>,
+    out: &mut S,
+    faults: &mut F,
+) -> ExitCode {
+    ExitCode::from(run(rt, words, input, out, faults))
 }
 
 fn main(rt: HostRuntime) -> ExitCode {
-    let mut out = StdSink::new(rt.stdout());
-    let mut faults = StdSink::new(rt.stderr());
-    let words = match words(&rt) {
-        Ok(words) => words,
-        Err(error) if error.kind() == ErrorKind::OutOfMemory => {
-            return without_memory(&mut faults);
-        }
-        Err(_) => return without_words(&mut faults),
-    };
-    match texts(rt.alloc(), words.as_slice()) {
-        Ok(words) => ExitCode::from(run(
-            &rt,
-            words.as_slice(),
-            &mut Source::new(rt.stdin()),
-            &mut out,
-            &mut faults,
-        )),
-        Err(AllocError) => without_memory(&mut faults),
+    if let Err(lack) = touch(&rt) {
+        stack::tell(&rt, lack);
+        return ExitCode::from(1);
     }
+    work(
+        &rt,
+        env::args(&rt),
+        &mut Source::new(rt.stdin()),
+        &mut StdSink::new(rt.stdout()),
+        &mut StdSink::new(rt.stderr()),
+    )
 }

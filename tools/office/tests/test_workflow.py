@@ -336,10 +336,29 @@ class Ties(Folder):
         self.assertIn("whether others reach the same total wasn't decided in group 1\n", messages)
         self.assertIn("Whether others reach the same total wasn't decided", self.page())
         self.assertEqual((self.told()["tie_query"], self.told()["proof"]), ("not decided", "none"))
+
+    def test_a_proof_settles_what_a_tie_query_left_open(self):
+        """The query runs out of time, and the certificate that the winners are the only ones is there: nothing is missing."""
+        self.stand_in(TIE_TAKES_TOO_LONG)
         status, messages = self.run_it("--ties")
-        self.assertEqual(status, 1, messages)
+        self.assertEqual(status, 0, messages)
+        self.assertNotIn("missing:", messages)
+        self.assertNotIn("goes on with what is missing", messages)
         self.assertNotIn("wasn't decided", messages + self.page())
+        self.assertIn("proved: nobody else can win with the total of group 1\n", messages)
         self.assertEqual((self.told()["tie_query"], self.told()["proof"]), ("not decided", "only"))
+        self.assertEqual(self.verified(), content(EXAMPLES, "worked.report.txt") + b"unique\n")
+        calls = len(self.called())
+        status, messages = self.run_it("--ties")
+        self.assertEqual((status, len(self.called())), (0, calls), messages)
+
+    def test_a_proof_settles_its_own_group_alone(self):
+        self.stand_in(TIE_TAKES_TOO_LONG)
+        status, messages = self.run_it("--ties", "all")
+        self.assertEqual(status, 1, messages)
+        self.assertIn("missing: group 2: cbc's tie isn't known: out of time", messages)
+        self.assertNotIn("missing: group 1", messages)
+        self.assertIn("proved: nobody else can win with the total of group 1\n", messages)
 
     def page(self):
         return content(self.folder, "results", "cbc", "results.html").decode()

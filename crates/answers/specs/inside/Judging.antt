@@ -6,12 +6,12 @@ use Rattle.auction_terms.specs.Stages.{each_in_turn}
 use Rattle.auction_input.specs.declared.refusal.Refusal.TheVariants as refusal
 use Rattle.auction_terms.specs.declared.choices.Choice.{Choice}
 use Rattle.bid_desk.specs.Closing.{Closing}
-use Rattle.outcome.specs.Sale.{sale_of}
+use Rattle.bid_desk.specs.Sale.{sale_of}
 use Rattle.group_compiler.specs.Compiled.{program_without}
 use Rattle.optimality.specs.Answers.{IsVerdict}
 use Rattle.program_rows.specs.Program.{Table}
 use Rattle.optimality.specs.Verdict.{certificate_fault}
-use Rattle.optimality.specs.declared.fault.CertificateFault.{CertificateFault}
+use Rattle.program_faults.specs.declared.certificate_fault.CertificateFault.{CertificateFault}
 use Rattle.answers.specs.Certified.{bound_of, shown}
 use Rattle.answers.specs.declared.certified.ClaimedBound as declared
 

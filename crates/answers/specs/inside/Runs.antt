@@ -1,15 +1,16 @@
--- What a run leaves of its input and its output.
+-- What a run leaves of its output where its words ask for no answer.
 use Rattle.std.specs.Prelude.{◌≡◌, ◌⊎◌, ℕ, List, Option, Ok}
+use Rattle.std.specs.Io.KnownBytes.{Appends}
 use Rattle.auction_input.specs.declared.refusal.Refusal.{Refusal}
 use Rattle.auction_input.specs.declared.refusal.Refusal.TheVariants as refusal
-use Rattle.clap.specs.declared.error.kind.ErrorKind.{ErrorKind}
-use Rattle.answers.specs.Asked.{IsShown}
+use Rattle.requests.specs.Asked.{Asked}
 use Rattle.answers.specs.Exact.{Ends}
+use Rattle.answers.specs.Runs.{IsShown}
 
--- a text of help could not be written
-abbrev pub IsUnshown : Option (List ℕ) → Option (List ℕ) → ℕ → ℕ → Refusal → Type 0
-IsUnshown taken taken' failures failures' r = (help : List ℕ) × Ends (Ok help) taken taken' failures failures' r
+-- help or the version, which is asked for, went out
+abbrev pub HasShown : Asked → Option (List ℕ) → Option (List ℕ) → Type 0
+HasShown asked taken taken' = (text : List ℕ) × IsShown asked text × Appends taken taken' text
 
--- why help, or the version, isn't shown: it could not be written, or memory was short
-abbrev pub IsUntold : ErrorKind → Option (List ℕ) → Option (List ℕ) → ℕ → ℕ → Refusal → Type 0
-IsUntold k taken taken' failures failures' r = (IsShown k × IsUnshown taken taken' failures failures' r) ⊎ ((r ≡ refusal.OutOfMemory) × (taken' ≡ taken))
+-- why they didn't: they could not be written, or memory was short
+abbrev pub IsUntold : Asked → Option (List ℕ) → Option (List ℕ) → ℕ → ℕ → Refusal → Type 0
+IsUntold asked taken taken' failures failures' r = ((text : List ℕ) × IsShown asked text × Ends (Ok text) taken taken' failures failures' r) ⊎ ((r ≡ refusal.OutOfMemory) × (taken' ≡ taken))

@@ -6,7 +6,7 @@ use Rattle.auction_input.specs.Refused.{Refuses}
 use Rattle.auction_input.specs.declared.refusal.Refusal.{Refusal}
 use Rattle.auction_terms.specs.declared.choices.Choice.{Choice}
 use Rattle.group_compiler.specs.Compiled.{Compiling}
-use Rattle.outcome.specs.Sale.{Sale, sale_of}
+use Rattle.bid_desk.specs.Sale.{Sale, sale_of}
 use Rattle.auction_input.specs.BookLeft.{program_for}
 use Rattle.answers.specs.SolutionWinners.{winners_by}
 

@@ -1,17 +1,18 @@
 //! The command `compile`: the programs of all groups.
 
-ghost use Rattle.std.specs.Prelude.{◌≤◌, IfErr, OnOk};
+ghost use Rattle.std.specs.Prelude.{◌≡◌, ◌≤◌, IfErr, OnOk};
 ghost use Rattle.answers.specs.Exact.{Ends, IsUnwritten, Writes};
 ghost use Rattle.answers.specs.Answer.{answer, output_of};
 ghost use Rattle.auction_input.specs.Settled.{held};
 ghost use Rattle.auction_input.specs.Sold.{HasSold};
-ghost use Rattle.group_compiler.specs.declared.limits.TheConstants.{MOST_WORKERS};
+ghost use Rattle.auction_terms.specs.declared.limits.TheConstants.{MOST_WORKERS};
 
 use crate::compile_run::run_compile;
 use crate::run_fault::RunFault;
-use auction_input::{Auction, Refusal, Request, read_auction};
+use auction_input::{Auction, Refusal, read_auction};
 use group_compiler::OpenGate;
 use mps_text::{Sink, WriteFault};
+use requests::Request;
 use std::sync::Wait;
 use std::thread::Threads;
 
@@ -27,6 +28,7 @@ pub fn compile<R: Threads + Wait + Sync + AllocGlobal, S: Sink>(
     ensures written { OnOk result (Writes (answer (Request.Compile workers) text.now)
         (S.taken out.old) (S.taken out.new)) }
     ensures sold { OnOk result (HasSold (Request.Compile workers) text.now) }
+    ensures succeeded { OnOk result (S.failures out.new ≡ S.failures out.old) }
     ensures refused { IfErr result (IsUnwritten (Request.Compile workers) text.now (S.taken out.old)
         (S.taken out.new) (S.failures out.old) (S.failures out.new)) }
 {
@@ -45,6 +47,7 @@ fn write_programs_of<R: Threads + Wait + Sync + AllocGlobal, S: Sink>(
     requires few { workers ≤ MOST_WORKERS }
     ensures written { OnOk result (Writes (output_of (Request.Compile workers) (held auction.now))
         (S.taken out.old) (S.taken out.new)) }
+    ensures succeeded { OnOk result (S.failures out.new ≡ S.failures out.old) }
     ensures refused { IfErr result (Ends (output_of (Request.Compile workers) (held auction.now))
         (S.taken out.old) (S.taken out.new) (S.failures out.old) (S.failures out.new)) }
 {

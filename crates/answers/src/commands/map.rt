@@ -13,12 +13,13 @@ ghost use Rattle.bid_desk.specs.Closing.{book_of};
 ghost use Rattle.group_compiler.specs.Compiled.{program_without};
 
 use crate::winning::won_without;
-use auction_input::{Auction, Refusal, Request, only_text, read_auction};
+use auction_input::{Auction, Refusal, only_text, read_auction};
 use auction_terms::Groups;
 use bid_desk::ClosedBook;
 use group_compiler::Compiler;
 use mps_text::Sink;
 use outcome::{Allocation, write_allocation};
+use requests::Request;
 use std::alloc::Global;
 use std::sync::Wait;
 use std::thread::Threads;
@@ -34,6 +35,7 @@ pub fn map<R: Threads + Wait + Sync + AllocGlobal, S: Sink>(
     ensures written { OnOk result (Writes (answer (Request.Map k) text.now) (S.taken out.old)
         (S.taken out.new)) }
     ensures sold { OnOk result (HasSold (Request.Map k) text.now) }
+    ensures succeeded { OnOk result (S.failures out.new ≡ S.failures out.old) }
     ensures refused { IfErr result (IsUnwritten (Request.Map k) text.now (S.taken out.old)
         (S.taken out.new) (S.failures out.old) (S.failures out.new)) }
 {
@@ -51,6 +53,7 @@ fn write_winners<R: Threads + Wait + Sync + AllocGlobal, S: Sink>(
     requires { 1 ≤ k }
     ensures written { OnOk result (Writes (output_of (Request.Map k) (held auction.now))
         (S.taken out.old) (S.taken out.new)) }
+    ensures succeeded { OnOk result (S.failures out.new ≡ S.failures out.old) }
     ensures refused { IfErr result (Ends (output_of (Request.Map k) (held auction.now))
         (S.taken out.old) (S.taken out.new) (S.failures out.old) (S.failures out.new)) }
 {

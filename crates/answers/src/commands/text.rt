@@ -1,23 +1,24 @@
 //! The command `text`: the program with nobody left out.
 
-ghost use Rattle.std.specs.Prelude.{◌≤◌, [], IfErr, OnOk};
+ghost use Rattle.std.specs.Prelude.{◌≡◌, ◌≤◌, [], IfErr, OnOk};
 ghost use Rattle.answers.specs.Exact.{Ends, IsUnwritten, Writes};
 ghost use Rattle.answers.specs.FaithfulAnswers.{IsFaithfulToSale};
 ghost use Rattle.answers.specs.Answer.{answer, output_of};
 ghost use Rattle.auction_input.specs.Settled.{held};
 ghost use Rattle.auction_input.specs.Sold.{HasSold};
-ghost use Rattle.group_compiler.specs.declared.limits.TheConstants.{MOST_WORKERS};
-ghost use Rattle.outcome.specs.Sale.{sale_of};
+ghost use Rattle.auction_terms.specs.declared.limits.TheConstants.{MOST_WORKERS};
+ghost use Rattle.bid_desk.specs.Sale.{sale_of};
 
 use crate::group_texts::write_program_without;
-use auction_input::{Auction, Refusal, Request, read_auction};
-use auction_terms::Groups;
+use auction_input::{Auction, Refusal, read_auction};
+use auction_terms::{Groups, MOST_WORKERS};
 use bid_desk::ClosedBook;
-use group_compiler::{MOST_WORKERS, OpenGate};
+use group_compiler::OpenGate;
 use group_pages::Pages;
 use mps_text::Sink;
 use presolve::has_few_bids;
 use rayon::current_num_threads;
+use requests::Request;
 use std::alloc::Global;
 use std::sync::Wait;
 use std::thread::Threads;
@@ -31,6 +32,7 @@ pub fn write_text<R: Threads + Wait + Sync + AllocGlobal, S: Sink>(
     ensures written { OnOk result (Writes (answer Request.Text text.now) (S.taken out.old)
         (S.taken out.new)) }
     ensures sold { OnOk result (HasSold Request.Text text.now) }
+    ensures succeeded { OnOk result (S.failures out.new ≡ S.failures out.old) }
     ensures refused { IfErr result (IsUnwritten Request.Text text.now (S.taken out.old)
         (S.taken out.new) (S.failures out.old) (S.failures out.new)) }
 {
@@ -58,6 +60,7 @@ fn write_program_of_all<R: Threads + Wait + Sync + AllocGlobal, S: Sink>(
     ensures written { OnOk result (Writes (output_of Request.Text (held auction.now))
         (S.taken out.old) (S.taken out.new)) }
     ensures faithful { OnOk result (IsFaithfulToSale (sale_of auction.now.book) []) }
+    ensures succeeded { OnOk result (S.failures out.new ≡ S.failures out.old) }
     ensures refused { IfErr result (Ends (output_of Request.Text (held auction.now))
         (S.taken out.old) (S.taken out.new) (S.failures out.old) (S.failures out.new)) }
 {

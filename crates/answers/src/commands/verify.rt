@@ -1,7 +1,7 @@
 //! The command `verify`: a report of solutions that certificates show to be optimal, and what comes of a claim that they are the only ones.
 
 ghost use Rattle.std.specs.Prelude.{◌≡◌, ◌⊎◌, ◌≤◌, IfErr, OnOk};
-ghost use Rattle.group_compiler.specs.declared.limits.TheConstants.{MOST_WORKERS};
+ghost use Rattle.auction_terms.specs.declared.limits.TheConstants.{MOST_WORKERS};
 ghost use Rattle.answers.specs.Answer.{answer, output_of};
 ghost use Rattle.auction_input.specs.Settled.{held};
 ghost use Rattle.answers.specs.Exact.{Ends, IsBeyondSums, IsUnwritten, Writes};
@@ -11,9 +11,10 @@ ghost use Rattle.answers.specs.Verified.{WritesTrueReport};
 use crate::certified::check_certificates;
 use crate::claimed::claim_of;
 use crate::report_run::won_by_groups;
-use auction_input::{Auction, Refusal, Request, read_auction};
+use auction_input::{Auction, Refusal, read_auction};
 use mps_text::Sink;
 use outcome::report_with;
+use requests::Request;
 use std::sync::Wait;
 use std::thread::Threads;
 
@@ -32,6 +33,7 @@ pub fn verify<R: Threads + Wait + Sync + AllocGlobal, S: Sink>(
     ensures sold { OnOk result (HasSold (Request.Verify workers) text.now) }
     ensures true_report { OnOk result (WritesTrueReport workers text.now (S.taken out.old)
         (S.taken out.new)) }
+    ensures succeeded { OnOk result (S.failures out.new ≡ S.failures out.old) }
     ensures refused { IfErr result (IsUnwritten (Request.Verify workers) text.now (S.taken out.old)
         (S.taken out.new) (S.failures out.old) (S.failures out.new)) }
 {
@@ -50,6 +52,7 @@ fn write_verified<R: Threads + Wait + Sync + AllocGlobal, S: Sink>(
     requires few { workers ≤ MOST_WORKERS }
     ensures written { OnOk result (Writes (output_of (Request.Verify workers) (held auction.now))
         (S.taken out.old) (S.taken out.new)) }
+    ensures succeeded { OnOk result (S.failures out.new ≡ S.failures out.old) }
     ensures refused { IfErr result (λ r. Ends (output_of (Request.Verify workers)
         (held auction.now)) (S.taken out.old) (S.taken out.new) (S.failures out.old)
         (S.failures out.new) r ⊎ (IsBeyondSums (held auction.now) r × (S.taken out.new ≡ S.taken out.old))) }

@@ -1,5 +1,5 @@
 -- The forms of the input: by bidder, as the bidders' threads submit them, and as the closed book holds them.
-use Rattle.std.specs.Prelude.{◌≡◌, ◌≢◌, ◌∷◌, ◌++◌, ℕ, List, [], Result, All, OnOk, map, slice_index_or}
+use Rattle.std.specs.Prelude.{◌≡◌, ◌≢◌, ◌∷◌, ◌++◌, ℕ, List, [], Result, Err, All, OnOk, map, slice_index_or, true}
 use Rattle.std.specs.Arc.{arc_value}
 use Rattle.std.specs.declared.alloc.Global.{Global}
 use Rattle.std.specs.declared.sync.Arc.{Arc}
@@ -8,6 +8,12 @@ use Rattle.auction_terms.specs.Terms.{Terms}
 use Rattle.bid_desk.specs.Holding.{SessionOwn}
 use Rattle.bid_forms.specs.Offers.{Meets, Offers}
 use Rattle.auction_input.specs.Submissions.{AreAccepted, forms_of}
+use Rattle.auction_input.specs.declared.round.RoundFault.TheVariants.{WrongAnswer}
+use Rattle.auction_input.specs.declared.round.RoundFault.{RoundFault}
+use Rattle.bid_book.specs.declared.call.Call.TheVariants.{Close}
+use Rattle.bid_book.specs.declared.call.Call.{Call}
+use Rattle.bid_book.specs.declared.reply.Reply.TheVariants.{Closed}
+use Rattle.bid_book.specs.declared.reply.Reply.{Reply}
 
 -- a form of this bidder that meets the rules
 pub record IsFormOf (t : Terms) (bidder : ℕ) (form : Offers) : Type 0 where
@@ -43,11 +49,12 @@ pub record IsFirstJob (lists : List (Vec (Arc Offers Global) Global)) (job : Job
   pub first : job.session.session ≡ 1
   pub forms : job.forms ≡ forms_in lists job.session.bidder
 
--- what a job came to: its session submitted its forms, in order, each accepted, unless it ended in a fault
-pub record ComesTo {E : Type 0} (job : JobOwn) (session : SessionOwn) (ended : Result (Unit {0}) E) : Type 0 where
+-- what a job came to: its session submitted its forms, in order, each accepted, unless it ended in a fault; where that is a wrong answer, the session's own calls show that not each was
+pub record ComesTo (job : JobOwn) (session : SessionOwn) (ended : Result (Unit {0}) RoundFault) : Type 0 where
   pub bidder_is : session.bidder ≡ job.session.bidder
   pub session_is : session.session ≡ job.session.session
   pub accepted : OnOk ended (AreAccepted job.forms session.pairs)
+  pub wrong : ended ≡ Err WrongAnswer → ¬ (AreAccepted job.forms session.pairs)
 
 -- a session that made no call; if it is a first one, the list of its bidder is empty
 pub record IsIdle (lists : List (Vec (Arc Offers Global) Global)) (session : SessionOwn) : Type 0 where
@@ -58,3 +65,7 @@ pub record IsIdle (lists : List (Vec (Arc Offers Global) Global)) (session : Ses
 pub record HasSubmitted (forms : List Offers) (session : SessionOwn) : Type 0 where
   pub first : session.session ≡ 1 → AreAccepted (forms_of session.bidder forms) session.pairs
   pub other : session.session ≢ 1 → session.pairs ≡ []
+
+-- the chair has closed a round that was open
+abbrev pub HasClosed : List (Call Offers × Reply Offers) → List (Call Offers × Reply Offers) → Type 0
+HasClosed own own' = own' ≡ own ++ (Close, Closed true) ∷ []

@@ -1,5 +1,5 @@
 -- What workers have drawn and made.
-use Rattle.std.specs.Prelude.{◌≡◌, ℕ, ◌+◌, ◌<◌, ◌≤◌, ◌⊎◌, nat_lt, List, length, map, filter, All, Any}
+use Rattle.std.specs.Prelude.{◌≡◌, ℕ, ◌+◌, ◌<◌, ◌≤◌, ◌⊎◌, max, nat_lt, List, length, map, filter, All, Any}
 use Rattle.atomic_table.specs.Seated.{TableId}
 use Rattle.group_compiler.specs.declared.work.Work.{Work}
 use Rattle.group_compiler.specs.Claimed.{IsOf}
@@ -12,9 +12,10 @@ IsFinished count numbers = (count < length numbers) ⊎ Any (λ n. count ≤ n) 
 abbrev pub draws : {T : Type 0} → Work T → ℕ
 draws work = work.claim.room + length work.claim.drawn
 
--- of each number below the count that was drawn there is what it makes, and no more need be drawn
-pub record IsWork {T : Type 0} (claims : TableId) (count : ℕ) (makes : ℕ → T → Type 0) (work : Work T) : Type 0 where
+-- of each number below the count that was drawn there is what it makes, each group whose number was drawn has come past the gate, and no more need be drawn
+pub record IsWork {T : Type 0} (claims : TableId) (count groups : ℕ) (makes : ℕ → T → Type 0) (is_past : ℕ → Type 0) (work : Work T) : Type 0 where
   pub same : IsOf claims work.claim
   pub numbers : map (λ r. r.number) work.results.items ≡ filter (λ n. nat_lt n count) work.claim.drawn
   pub results : All (λ r. makes r.number r.made) work.results.items
-  pub finished : IsFinished count work.claim.drawn
+  pub past : All (λ n. n < groups → is_past (n + 1)) work.claim.drawn
+  pub finished : IsFinished (max count groups) work.claim.drawn

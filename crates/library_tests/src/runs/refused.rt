@@ -5,12 +5,14 @@ ghost use Rattle.std.specs.Prelude.{ℕ, List, Option, None};
 
 use super::{
     CERTIFIED, ONE_FORM, ONE_FORM_TEXT, REPORT, SIZES, SOLVED, SOLVED_TWICE, TWO_GROUPS,
-    TWO_PROGRAMS, VERIFIED, WINNERS,
+    TWO_PROGRAMS, VERIFIED, WINNERS, told,
 };
 use answers::{RunFault, run, run_compile, tell};
-use auction_input::{PartFault, Refusal, Request, Source, read_auction, split_parts};
+use auction_input::{Auction, PartFault, Parts, Refusal, Source, read_auction, split_parts};
 use group_compiler::OpenGate;
 use mps_text::{Sink, SinkFailed};
+use requests::Request;
+use std::alloc::Global;
 use std::sync::Wait;
 use std::test::Fail;
 use std::thread::Threads;
@@ -71,14 +73,15 @@ fn failure(refusal: &Refusal) -> Fail {
 }
 
 /// Runs the program: the output is to be this one; or else nothing is put, and one line tells that memory was short.
-fn answers<'w, R: Threads + Wait + Sync + AllocGlobal>(
+fn answers<R: Threads + Wait + Sync + AllocGlobal>(
     rt: &R,
-    words: &'w [&'w str],
+    words: &[&str],
     input: &[u8],
     output: &'static [u8],
 ) -> Result<(), Fail> {
     let mut out = Expected::new(output);
     let mut faults = Expected::new(SHORT);
+    let words = told(rt.alloc(), words);
     match run(rt, words, &mut Source::new(input), &mut out, &mut faults) {
         0 if out.is_whole() && faults.is_untouched() => Ok(()),
         1 if out.is_untouched() && faults.is_whole() => Err(Fail::from("out of memory")),
@@ -86,48 +89,46 @@ fn answers<'w, R: Threads + Wait + Sync + AllocGlobal>(
     }
 }
 
-#[test]
-fn parts_or_want_of_memory(rt: HostRuntime) -> Result<(), Fail> {
-    let parts = match split_parts(rt.alloc(), &Request::Text, TWO_GROUPS) {
-        Ok(parts) => parts,
-        Err(PartFault::OutOfMemory) => return Err(Fail::from("out of memory")),
-        Err(_) => return Err(Fail::from("parts")),
-    };
-    assert_eq!(rt; parts.rules.len(), 1);
-    assert_eq!(rt;
-        parts.forms.as_slice(),
-        [b"Gamma,A,B\n12,0,1\n".as_slice()].as_slice()
-    );
-    assert_eq!(rt;
-        parts.groups.as_slice(),
-        [b"Gamma\n-\n".as_slice()].as_slice()
-    );
-    assert_eq!(rt; parts.solutions.len(), 0);
-    Ok(())
+/// Whether these are the parts of the text of two groups.
+fn are_parts(parts: &Parts<'_>) -> bool {
+    parts.rules.len() == 1
+        && parts.forms.as_slice() == [b"Gamma,A,B\n12,0,1\n".as_slice()].as_slice()
+        && parts.groups.as_slice() == [b"Gamma\n-\n".as_slice()].as_slice()
+        && parts.solutions.is_empty()
 }
 
 #[test]
-fn programs_or_want_of_memory(rt: HostRuntime) -> Result<(), Fail> {
-    let auction = match read_auction(&rt, &Request::Compile { workers: 2 }, TWO_GROUPS) {
-        Ok(auction) => auction,
-        Err(refusal) => return Err(failure(&refusal)),
-    };
+fn parts_or_want_of_memory(rt: HostRuntime) -> Result<(), Fail> {
+    match split_parts(rt.alloc(), &Request::Text, TWO_GROUPS) {
+        Ok(parts) => assert!(rt; are_parts(&parts)),
+        Err(PartFault::OutOfMemory) => return Err(Fail::from("out of memory")),
+        Err(_) => return Err(Fail::from("parts")),
+    }
+    Ok(())
+}
+
+/// Compiles the two programs: they are put; or else nothing is put, and memory was short.
+fn compiles<R: Threads + Wait + Sync>(
+    rt: &R,
+    alloc: Global,
+    auction: &Auction<'_>,
+) -> Result<(), Fail> {
     let mut out = Expected::new(TWO_PROGRAMS);
-    let ended = run_compile(
-        &rt,
-        rt.alloc(),
-        &auction.book,
-        &auction.groups,
-        2,
-        &OpenGate,
-        &mut out,
-    );
-    match ended {
+    let (book, groups) = (&auction.book, &auction.groups);
+    match run_compile(rt, alloc, book, groups, 2, &OpenGate, &mut out) {
         Ok(()) if out.is_whole() => Ok(()),
         Err(RunFault::OutOfMemory { written: 0 }) if out.is_untouched() => {
             Err(Fail::from("out of memory"))
         }
         _ => Err(Fail::from("another end")),
+    }
+}
+
+#[test]
+fn programs_or_want_of_memory(rt: HostRuntime) -> Result<(), Fail> {
+    match read_auction(&rt, &Request::Compile { workers: 2 }, TWO_GROUPS) {
+        Ok(auction) => compiles(&rt, rt.alloc(), &auction),
+        Err(refusal) => Err(failure(&refusal)),
     }
 }
 

@@ -4,7 +4,7 @@ ghost use Rattle.std.specs.Prelude.{◌≡◌, ◌+◌, IfOk};
 ghost use Rattle.auction_terms.specs.Terms.{session_count};
 
 use super::{ALPHA, BETA, GAMMA, RULES, form_of};
-use auction_terms::{Rules, read_rules};
+use auction_terms::{Groups, Rules, read_groups, read_rules};
 use bid_desk::{ClosedBook, Desk, Round, Session};
 use bid_forms::Form;
 use std::alloc::Global;
@@ -23,6 +23,20 @@ pub fn blank(rules: &Rules) -> Result<Blank, Fail>
     Ok(Blank::new(parts))
 }
 
+/// Submits a form if it is one of the first session's bidder, and tells whether memory sufficed.
+fn submits_one<L: Round, R: Wait>(
+    rt: &R,
+    desk: &Desk<L>,
+    session: &mut Session<L>,
+    form: &Arc<Form, Global>,
+) -> bool {
+    if session.session() == 1 && form.bidder() == session.bidder() && form.meets(desk.rules()) {
+        desk.enter(rt).submit(session, form, None).is_ok()
+    } else {
+        true
+    }
+}
+
 /// Submits the forms of the session's bidder through its first session, and tells whether memory sufficed.
 fn submits<L: Round, R: Wait>(
     rt: &R,
@@ -31,10 +45,8 @@ fn submits<L: Round, R: Wait>(
     forms: &[Arc<Form, Global>],
 ) -> bool {
     for form in forms {
-        if session.session() == 1 && form.bidder() == session.bidder() && form.meets(desk.rules()) {
-            if desk.enter(rt).submit(session, form, None).is_err() {
-                return false;
-            }
+        if !submits_one(rt, desk, session, form) {
+            return false;
         }
     }
     true
@@ -80,7 +92,59 @@ pub fn book_of<R: Wait>(
     Ok(book.ok_or("out of memory")?)
 }
 
-/// The book of the worked auction.
-pub fn worked_book<R: Wait>(rt: &R, alloc: Global) -> Result<ClosedBook, Fail> {
+fn worked_book<R: Wait>(rt: &R, alloc: Global) -> Result<ClosedBook, Fail> {
     book_of(rt, alloc, RULES, &[ALPHA, BETA, GAMMA])
+}
+
+/// What a trial of a book of rules and forms tells. Where the book stands in a function of its own, what the test goes on
+/// with is proved without it (docs/DEVELOPING.md, "Add a test").
+pub fn on_book<R: Wait, F: FnOnce(&ClosedBook) -> Result<bool, Fail> + Drop>(
+    rt: &R,
+    alloc: Global,
+    rules: &[u8],
+    texts: &[&[u8]],
+    trial: F,
+) -> Result<bool, Fail>
+    requires { F.IsAlwaysCallable trial }
+{
+    let book = book_of(rt, alloc, rules, texts)?;
+    trial(&book)
+}
+
+/// What a trial of the book of the worked auction tells.
+pub fn on_worked_book<R: Wait, F: FnOnce(&ClosedBook) -> Result<bool, Fail> + Drop>(
+    rt: &R,
+    alloc: Global,
+    trial: F,
+) -> Result<bool, Fail>
+    requires { F.IsAlwaysCallable trial }
+{
+    let book = worked_book(rt, alloc)?;
+    trial(&book)
+}
+
+/// What a trial of a book and of a text's groups tells.
+pub fn on_groups<F: FnOnce(&ClosedBook, &Groups) -> Result<bool, Fail> + Drop>(
+    alloc: Global,
+    book: &ClosedBook,
+    lines: &[u8],
+    trial: F,
+) -> Result<bool, Fail>
+    requires { F.IsAlwaysCallable trial }
+{
+    let groups = read_groups(alloc, lines, book.rules())?;
+    trial(book, &groups)
+}
+
+/// What a trial of the book of the worked auction and of a text's groups tells.
+pub fn on_worked_groups<R: Wait, F: FnOnce(&ClosedBook, &Groups) -> Result<bool, Fail> + Drop>(
+    rt: &R,
+    alloc: Global,
+    lines: &[u8],
+    trial: F,
+) -> Result<bool, Fail>
+    requires { F.IsAlwaysCallable trial }
+{
+    let book = worked_book(rt, alloc)?;
+    on_groups(alloc, &book, lines, trial)
 }

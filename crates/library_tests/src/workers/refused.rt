@@ -2,12 +2,15 @@
 //! tools/refuse_calls), they tell that memory was short, or the same.
 
 use super::{ALL, WITHOUT_ALL, WITHOUT_BETA};
-use crate::worked::books::worked_book;
-use auction_terms::{Choice, read_groups};
+use crate::worked::books::on_worked_groups;
+use auction_terms::{Choice, Groups};
+use bid_desk::ClosedBook;
 use group_compiler::{Claims, Compiled, Compiler, OpenGate, compile_all, compile_one};
 use mps_text::{MemorySink, WriteFault};
 use std::alloc::Global;
+use std::sync::Wait;
 use std::test::Fail;
+use std::thread::Threads;
 
 /// Whether the text of a program is this one. Where memory is short the sink holds as many bytes of it as the fault tells.
 fn is_text(alloc: Global, compiled: &Compiled<'_>, text: &[u8]) -> Result<bool, Fail> {
@@ -23,41 +26,92 @@ fn is_text(alloc: Global, compiled: &Compiled<'_>, text: &[u8]) -> Result<bool, 
     }
 }
 
+/// Whether the program of the second of two groups is the one without Beta.
+fn compiles_one<R: Threads + Sync>(
+    rt: &R,
+    alloc: Global,
+    book: &ClosedBook,
+    groups: &Groups,
+) -> Result<bool, Fail> {
+    if groups.count() != 2 {
+        return Ok(false);
+    }
+    let compiled = compile_one(rt, alloc, book, groups, 2)?;
+    is_text(alloc, &compiled, WITHOUT_BETA)
+}
+
 #[test]
 fn one_program_or_want_of_memory(rt: HostRuntime) -> Result<(), Fail> {
-    let book = worked_book(&rt, rt.alloc())?;
-    let groups = read_groups(rt.alloc(), b"-\nBeta\n", book.rules())?;
-    if groups.count() != 2 {
-        return Err(Fail::from("groups"));
-    }
-    let compiled = compile_one(&rt, rt.alloc(), &book, &groups, 2)?;
-    assert!(rt; is_text(rt.alloc(), &compiled, WITHOUT_BETA)?);
+    let alloc = rt.alloc();
+    assert!(rt;
+        on_worked_groups(&rt, alloc, b"-\nBeta\n", |book, groups| {
+            compiles_one(&rt, alloc, book, groups)
+        })?
+    );
     Ok(())
+}
+
+/// Whether of two bids one is in the program of the second of two groups.
+fn is_one_among(alloc: Global, compiler: &Compiler<'_, '_>) -> Result<bool, Fail> {
+    if compiler.count() != 2 {
+        return Ok(false);
+    }
+    let choices = vec![in alloc; Choice { bidder: 2, bid: 1 }, Choice { bidder: 3, bid: 1 }]?;
+    let program = compiler.program_among(alloc, compiler.group(2), choices)?;
+    Ok(program.column_count() == 1)
+}
+
+fn compiles_one_among<R: Threads + Sync>(
+    rt: &R,
+    alloc: Global,
+    book: &ClosedBook,
+    groups: &Groups,
+) -> Result<bool, Fail> {
+    let compiler = Compiler::new(rt, alloc, book, groups)?;
+    is_one_among(alloc, &compiler)
 }
 
 #[test]
 fn the_program_of_a_choice_or_want_of_memory(rt: HostRuntime) -> Result<(), Fail> {
-    let book = worked_book(&rt, rt.alloc())?;
-    let groups = read_groups(rt.alloc(), b"-\nBeta\n", book.rules())?;
-    if groups.count() != 2 {
-        return Err(Fail::from("groups"));
-    }
-    let compiler = Compiler::new(&rt, rt.alloc(), &book, &groups)?;
-    let choices = vec![in rt.alloc(); Choice { bidder: 2, bid: 1 }, Choice { bidder: 3, bid: 1 }]?;
-    let program = compiler.program_among(rt.alloc(), compiler.group(2), choices)?;
-    assert_eq!(rt; program.column_count(), 1);
+    let alloc = rt.alloc();
+    assert!(rt;
+        on_worked_groups(&rt, alloc, b"-\nBeta\n", |book, groups| {
+            compiles_one_among(&rt, alloc, book, groups)
+        })?
+    );
     Ok(())
+}
+
+/// Whether these are the three worked programs, in order.
+fn are_worked(alloc: Global, all: &[Compiled<'_>]) -> Result<bool, Fail> {
+    match all {
+        [one, two, three] => Ok(
+            is_text(alloc, one, ALL)?
+                && is_text(alloc, two, WITHOUT_BETA)?
+                && is_text(alloc, three, WITHOUT_ALL)?,
+        ),
+        _ => Ok(false),
+    }
+}
+
+fn compiles_three<R: Threads + Wait + Sync>(
+    rt: &R,
+    alloc: Global,
+    book: &ClosedBook,
+    groups: &Groups,
+) -> Result<bool, Fail> {
+    let all = compile_all(rt, alloc, book, groups, 2, &OpenGate)?;
+    are_worked(alloc, all.as_slice())
 }
 
 #[test]
 fn three_programs_or_want_of_memory(rt: HostRuntime) -> Result<(), Fail> {
-    let book = worked_book(&rt, rt.alloc())?;
-    let groups = read_groups(rt.alloc(), b"-\nBeta\nGamma+Alpha+Beta\n", book.rules())?;
-    let all = compile_all(&rt, rt.alloc(), &book, &groups, 2, &OpenGate)?;
-    assert_eq!(rt; all.len(), 3);
-    for (compiled, text) in all.iter().zip([ALL, WITHOUT_BETA, WITHOUT_ALL].iter()) {
-        assert!(rt; is_text(rt.alloc(), compiled, *text)?);
-    }
+    let alloc = rt.alloc();
+    assert!(rt;
+        on_worked_groups(&rt, alloc, b"-\nBeta\nGamma+Alpha+Beta\n", |book, groups| {
+            compiles_three(&rt, alloc, book, groups)
+        })?
+    );
     Ok(())
 }
 

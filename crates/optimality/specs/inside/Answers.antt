@@ -1,8 +1,8 @@
 -- What the code answers, as the definitions say it.
 use Rattle.std.specs.Prelude.{◌≡◌, ℕ, Result, Ok, Err}
-use Rattle.optimality.specs.declared.fault.FaultKind.{FaultKind}
-use Rattle.optimality.specs.declared.fault.FaultKind.TheVariants.{OutOfMemory, TooLarge}
-use Rattle.optimality.specs.declared.fault.CertificateFault.{CertificateFault}
+use Rattle.program_faults.specs.declared.certificate_fault.FaultKind.{FaultKind}
+use Rattle.program_faults.specs.declared.certificate_fault.FaultKind.TheVariants.{OutOfMemory, TooLarge}
+use Rattle.program_faults.specs.declared.certificate_fault.CertificateFault.{CertificateFault}
 use Rattle.optimality.specs.declared.limit.Limit.TheVariants as limits
 use Rattle.optimality.specs.declared.refusal.Refusal.{Refusal}
 use Rattle.optimality.specs.declared.refusal.Refusal.TheVariants.{Stopped, Fault}

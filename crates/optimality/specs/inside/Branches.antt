@@ -1,7 +1,7 @@
 -- The open splits above a line, nearest first.
 use Rattle.std.specs.Prelude.{◌≡◌, ℕ, Bool, List, map, reverse, ℤ, Option, Some, None, Result, Ok, Err, if◌then◌else◌}
 use Rattle.program_rows.specs.Program.{Table}
-use Rattle.optimality.specs.declared.fault.FaultKind.{FaultKind}
+use Rattle.program_faults.specs.declared.certificate_fault.FaultKind.{FaultKind}
 use Rattle.optimality.specs.declared.open_split.OpenSplit.{OpenSplit}
 use Rattle.optimality.specs.declared.refusal.Refusal.{Refusal}
 use Rattle.optimality.specs.declared.refusal.Refusal.TheVariants.{Stopped, Fault}

@@ -2,10 +2,10 @@
 use Rattle.std.specs.Prelude.{ℕ, ◌*◌, Bool, true, false, not, ◌||◌, nat_le, List, if◌then◌else◌, ℤ, pos, ◌-ℤ◌, nat_abs, Option, None, Some, Result, Ok, Err}
 use Rattle.outcome.specs.declared.limits.TheConstants.{TOLERANCE_PARTS}
 use Rattle.program_rows.specs.Numbers.{is_minus, is_number_token, is_too_long, scaled_up, scale, signed}
-use Rattle.outcome.specs.declared.fault.SolutionFault.{SolutionFault}
-use Rattle.outcome.specs.declared.fault.SolutionFault.TheVariants as fault
-use Rattle.outcome.specs.declared.fault.ValueFault.{ValueFault}
-use Rattle.outcome.specs.declared.fault.ValueFault.TheVariants.{ValueText, NotZeroOne}
+use Rattle.program_faults.specs.declared.solution_fault.SolutionFault.{SolutionFault}
+use Rattle.program_faults.specs.declared.solution_fault.SolutionFault.TheVariants as fault
+use Rattle.outcome.specs.declared.value_fault.ValueFault.{ValueFault}
+use Rattle.outcome.specs.declared.value_fault.ValueFault.TheVariants.{ValueText, NotZeroOne}
 
 -- numerator / scale is away from a whole number by at most the tolerance
 abbrev pub is_around : ℕ → ℤ → ℕ → Bool

@@ -1,10 +1,10 @@
 use Rattle.std.proofs.Common.{List, Option, Result, inl, inr, map, refl, subst, sym}
 use Rattle.std.specs.List.{AllZip}
-use Rattle.optimality.specs.declared.fault.CertificateFault.{CertificateFault}
+use Rattle.program_faults.specs.declared.certificate_fault.CertificateFault.{CertificateFault}
 use Rattle.answers.specs.inside.Judging.{IsJudgedIfBegun, bound_held}
 use Rattle.auction_input.specs.declared.refusal.Refusal.TheVariants as refusal
 use Rattle.answers.proofs.CertifiedFacts.{EndsChecks, all-checked, checks-ended}
-use Rattle.auction_input.proofs.RefusalFacts.{if-err-of}
+use Rattle.requests.proofs.StepFacts.{if-err-of}
 use Rattle.answers.proofs.certified.check_each.Goals as goal
 
 abbrev Verdicts : Type 0

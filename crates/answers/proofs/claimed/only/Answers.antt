@@ -2,7 +2,7 @@ use Rattle.std.proofs.Common.{◌≡◌, ◌∙◌, [], ℕ, List, Ok, ap, subst
 use Rattle.std.specs.Prelude.{◌⊎◌, slice_index_or}
 use Rattle.group_compiler.specs.Compiled.{Compiling, program_without}
 use Rattle.outcome.specs.Solution.{solution}
-use Rattle.outcome.specs.Sale.{sale_of}
+use Rattle.bid_desk.specs.Sale.{sale_of}
 use Rattle.optimality.specs.Answers.{IsLimit}
 use Rattle.optimality.specs.Only.{only_fault}
 use Rattle.program_rows.specs.Program.{Table}

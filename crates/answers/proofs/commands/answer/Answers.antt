@@ -1,7 +1,7 @@
 use Rattle.std.proofs.Common.{refl}
 use Rattle.answers.specs.Runs.{IsRefused, by_input}
 use Rattle.auction_input.specs.declared.refusal.Refusal.TheVariants as refusal
-use Rattle.auction_input.proofs.RefusalFacts.{if-err-of}
+use Rattle.requests.proofs.StepFacts.{if-err-of}
 use Rattle.answers.proofs.RunFacts.{answered, sold, unanswered}
 use Rattle.answers.proofs.commands.answer.Goals as goal
 

@@ -2,9 +2,9 @@ use Rattle.std.proofs.Common.{◌≡◌, ◌<◌, ◌≤◌, ◌+◌, ◌-◌, �
 use Rattle.std.proofs.lemmas.List.{length-map}
 use Rattle.auction_terms.specs.declared.choices.Choice.{Choice}
 use Rattle.auction_terms.specs.Borrowed.{bytes_of}
-use Rattle.outcome.specs.Sale.{sale_of}
+use Rattle.bid_desk.specs.Sale.{sale_of}
 use Rattle.auction_input.specs.Refused.{Refuses}
-use Rattle.auction_input.proofs.RefusalFacts.{if-err-of}
+use Rattle.requests.proofs.StepFacts.{if-err-of}
 use Rattle.answers.specs.inside.SolutionWinners.{winners_at, winners_told}
 use Rattle.answers.specs.declared.report_run.Winning.{Winning}
 use Rattle.answers.proofs.ReportFacts.{IsLeftFrom, IsMade, MadeFrom, left-ends, left-first-of, left-on, left-whole, made-all, made-next}

@@ -8,7 +8,7 @@ use Rattle.auction_input.specs.Refused.{Refuses}
 use Rattle.answers.specs.SolutionWinners.{winners_by}
 use Rattle.auction_input.specs.declared.refusal.Refusal.TheVariants as refusal
 use Rattle.answers.proofs.FaultFacts.{solution-refuses}
-use Rattle.auction_input.proofs.RefusalFacts.{if-err-of}
+use Rattle.requests.proofs.StepFacts.{if-err-of}
 use Rattle.auction_input.proofs.StageFacts.{stop}
 use Rattle.answers.proofs.WinningFacts.{allowed-length, won-by}
 use Rattle.answers.proofs.winning.allocation_won.Goals as goal

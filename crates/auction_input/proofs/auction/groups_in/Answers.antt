@@ -10,7 +10,7 @@ use Rattle.auction_input.specs.TextsTold.{groups_told}
 use Rattle.auction_input.specs.declared.refusal.Refusal.TheVariants as refusal
 use Rattle.auction_input.proofs.FaultFacts.{groups-refuse}
 use Rattle.auction_input.proofs.InputTextFacts.{groups-faulted, groups-tell, sized}
-use Rattle.auction_input.proofs.RefusalFacts.{if-err-of}
+use Rattle.requests.proofs.StepFacts.{if-err-of}
 use Rattle.auction_input.proofs.auction.groups_in.Goals as goal
 
 pub returns-clause-told : goal.returns-clause-told

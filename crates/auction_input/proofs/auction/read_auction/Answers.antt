@@ -18,7 +18,7 @@ use Rattle.auction_terms.specs.Stages.{each_in_turn}
 use Rattle.std.specs.Prelude.{[], None, Some, codes}
 use Rattle.auction_input.specs.declared.refusal.Refusal.TheVariants as refusal
 use Rattle.auction_input.proofs.AuctionFacts.{auction-held, auction-is, calls-refused, forms-are, forms-refused, groups-refused, rest_held, round-refused, rules-are, terms-refused}
-use Rattle.auction_input.proofs.RefusalFacts.{if-err-of}
+use Rattle.requests.proofs.StepFacts.{if-err-of}
 use Rattle.auction_input.proofs.StageFacts.{stop}
 use Rattle.auction_input.proofs.auction.read_auction.Goals as goal
 

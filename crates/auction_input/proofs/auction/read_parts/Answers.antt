@@ -3,7 +3,7 @@ use Rattle.auction_input.specs.Refused.{Refuses}
 use Rattle.auction_input.specs.PartsTold.{parts_told}
 use Rattle.auction_input.specs.declared.refusal.Refusal.TheVariants as refusal
 use Rattle.auction_input.proofs.AuctionFacts.{parts-are, parts-miscounted, parts-refused}
-use Rattle.auction_input.proofs.RefusalFacts.{if-err-of}
+use Rattle.requests.proofs.StepFacts.{if-err-of}
 use Rattle.auction_input.proofs.auction.read_parts.Goals as goal
 
 pub returns-in_err-parts-clause-refuses : goal.returns-in_err-parts-clause-refuses

@@ -11,7 +11,7 @@ use Rattle.auction_input.specs.TextsTold.{terms_told}
 use Rattle.auction_input.specs.declared.refusal.Refusal.TheVariants as refusal
 use Rattle.auction_input.proofs.FaultFacts.{rules-refuse}
 use Rattle.auction_input.proofs.InputTextFacts.{rules-faulted, rules-tell, sized}
-use Rattle.auction_input.proofs.RefusalFacts.{if-err-of}
+use Rattle.requests.proofs.StepFacts.{if-err-of}
 use Rattle.auction_input.proofs.auction.rules_in.Goals as goal
 
 pub returns-clause-told : goal.returns-clause-told

@@ -4,7 +4,7 @@ use Rattle.auction_input.specs.ReadInput.{IsUntaken}
 use Rattle.auction_input.specs.declared.input.InputFault.TheVariants as fault
 use Rattle.auction_input.specs.declared.input.TheConstants.{INPUT_LIMIT}
 use Rattle.auction_input.proofs.ReadFacts.{Consumes-then}
-use Rattle.auction_input.proofs.RefusalFacts.{if-err-of}
+use Rattle.requests.proofs.StepFacts.{if-err-of}
 use Rattle.auction_input.proofs.input.read_input.Goals as goal
 
 pub returns-in_err-extend_from_slice-clause-untaken : goal.returns-in_err-extend_from_slice-clause-untaken

@@ -1,6 +1,7 @@
 use Rattle.std.proofs.Common.{◌∙◌, ap, sym}
 use Rattle.bid_book.specs.History.{reply_value}
-use Rattle.auction_input.proofs.SubmissionFacts.{accepted-here, form-here}
+use Rattle.bid_desk.specs.Holding.{SessionOwn}
+use Rattle.auction_input.proofs.SubmissionFacts.{accepted-here, form-here, unaccepted-here}
 use Rattle.auction_input.proofs.job.submit_each.Goals as goal
 
 pub submit-requires-clause-bidder : goal.submit-requires-clause-bidder
@@ -18,6 +19,11 @@ loop-place-preserved g c =
     let invariant = c.loop-place.invariant in (
       same.0 ∙ invariant.0,
       same.1 ∙ invariant.1,
-      accepted-here c.args.forms.now c.loop-place.place c.index-forms-place.result c.loop-place-test.true c.index-forms-place.is _ _ _ _ _ _ _ _ (reply_value c.in-Ok-Accepted.field-0) c.in-Ok-Accepted.number
-          invariant.2 (ap reply_value c.in-Ok-Accepted.field-0-is) c.in-Ok-Accepted.ensures.recorded,
+      accepted-here c.args.forms.now c.loop-place.place c.index-forms-place.result c.loop-place-test.true c.index-forms-place.is _ _ _ _ _ _ _ _ (reply_value c.in-Ok.reply) c.in-Some.number
+          invariant.2 c.in-Some.ensures.accepted c.in-Ok.ensures.recorded,
     )
+
+pub returns-in-None-clause-wrong : goal.returns-in-None-clause-wrong
+returns-in-None-clause-wrong g c = λ wrong.
+    unaccepted-here c.args.forms.now c.loop-place.place c.index-forms-place.result c.loop-place-test.true c.index-forms-place.is _ _ _ _ _ _ _ _ (reply_value c.in-Ok.reply) c.loop-place.invariant.2 c.in-None.ensures.other c.in-Ok.ensures.recorded
+    (λ limit. ap (λ (s : SessionOwn). s.pairs) (c.in-Ok.ensures.limit limit).1)

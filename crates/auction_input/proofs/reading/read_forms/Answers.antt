@@ -3,7 +3,7 @@ use Rattle.auction_input.specs.Refused.{Refuses}
 use Rattle.auction_terms.specs.Borrowed.{bytes_of}
 use Rattle.auction_input.specs.TextsTold.{form_told}
 use Rattle.auction_terms.specs.Stages.{each_in_turn}
-use Rattle.auction_input.proofs.RefusalFacts.{if-err-of}
+use Rattle.requests.proofs.StepFacts.{if-err-of}
 use Rattle.auction_input.proofs.FormStageFacts.{all-read, none-read, stage-read, stage-refused}
 use Rattle.auction_input.proofs.reading.read_forms.Goals as goal
 

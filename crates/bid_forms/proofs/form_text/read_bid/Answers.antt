@@ -1,5 +1,12 @@
-use Rattle.std.proofs.Common.{◌∙◌, sym}
+use Rattle.std.proofs.Common.{refl, rules}
+use Rattle.bid_forms.proofs.PackageFacts.{seen-before}
 use Rattle.bid_forms.proofs.form_text.read_bid.Goals as goal
 
+pub returns-in-Some-2-clause-kept : goal.returns-in-Some-2-clause-kept
+returns-in-Some-2-clause-kept c not_memory = seen-before _ _ c.args.before.now (record { «package» = _; amount = 0 }) (c.in_ok-fault.ensures.seen (record { «package» = _; amount = 0 }) refl)
+
+pub returns-in-Some-room_fault-clause-kept : goal.returns-in-Some-room_fault-clause-kept
+returns-in-Some-room_fault-clause-kept c not_memory = seen-before _ _ c.args.before.now (record { «package» = _; amount = 0 }) (c.in_ok-fault.ensures.seen (record { «package» = _; amount = 0 }) refl)
+
 pub returns-clause-seen : goal.returns-clause-seen
-returns-clause-seen c = c.in_ok-earlier.ensures.seen (record { «package» = c.of-package.result; amount = c.in_ok-amount.amount }) (c.of-package.ensures ∙ sym c.as_slice-2.ensures.value)
+returns-clause-seen c = c.in_ok-fault.ensures.seen (record { «package» = c.of-package.result; amount = c.in_ok-amount.amount }) (search rules)

@@ -1,4 +1,4 @@
-use Rattle.std.proofs.Common.{◌≡◌, ◌+◌, ◌++◌, length, ℕ, List, map, filter, nat_lt, sym, ◌∙◌, ap, subst, arith, length-append}
+use Rattle.std.proofs.Common.{◌≡◌, ◌+◌, ◌<◌, ◌++◌, length, max, ℕ, List, map, filter, nat_lt, sym, ◌∙◌, ap, subst, arith, length-append}
 use Rattle.std.specs.Prelude.{All}
 use Rattle.std.proofs.lemmas.List.Elements.{All-append}
 use Rattle.group_compiler.specs.inside.Works.{IsFinished}
@@ -8,7 +8,9 @@ use Rattle.group_compiler.proofs.pool.join_works.Goals as goal
 pub returns : goal.returns
 returns g c =
     let count = g.M.Maker.count_of c.args.maker.now in
+    let groups = g.M.Maker.groups_of c.args.maker.now in
     let makes = g.M.Maker.makes c.args.maker.now in
+    let is_past = g.G.Gate.is_past c.args.gate.now in
     let a = c.requires.mine in
     let b = c.requires.theirs in
     let mine = c.args.mine.claim.drawn in
@@ -23,7 +25,8 @@ returns g c =
             ∙ numbers_append count c.args.mine.results.items c.args.theirs.results.items mine theirs a.numbers b.numbers
             ∙ ap (λ (xs : List ℕ). filter (λ n. nat_lt n count) xs) (sym new);
         results = subst (λ rs. All (λ r. makes r.number r.made) rs) (sym items) (All-append (λ r. makes r.number r.made) c.args.mine.results.items c.args.theirs.results.items a.results b.results);
-        finished = subst (λ (xs : List ℕ). IsFinished count xs) (sym new) (finished_left count mine theirs a.finished);
+        past = subst (λ (xs : List ℕ). All (λ n. n < groups → is_past (n + 1)) xs) (sym new) (All-append (λ (n : ℕ). n < groups → is_past (n + 1)) mine theirs a.past b.past);
+        finished = subst (λ (xs : List ℕ). IsFinished (max count groups) xs) (sym new) (finished_left (max count groups) mine theirs a.finished);
       },
       omega arith,
     )

@@ -1,7 +1,7 @@
 use Rattle.std.proofs.Common.{◌<◌, ◌∷◌, length, arith}
 use Rattle.mps_text.proofs.Adding.{Adds-then, Adds-to}
 use Rattle.mps_text.proofs.Known.{flat_map-next_or}
-use Rattle.outcome.specs.Sale.{bidder_name, sale_of}
+use Rattle.bid_desk.specs.Sale.{bidder_name, sale_of}
 use Rattle.outcome.proofs.heading.add_more_names.Goals as goal
 
 pub loop-bidder-preserved : goal.loop-bidder-preserved

@@ -1,7 +1,7 @@
 use Rattle.std.proofs.Common.{◌∷◌, take}
 use Rattle.std.specs.Prelude.{flat_map}
 use Rattle.mps_text.specs.Adds.{Adds}
-use Rattle.outcome.specs.Sale.{bidder_name, sale_of}
+use Rattle.bid_desk.specs.Sale.{bidder_name, sale_of}
 use Rattle.outcome.proofs.heading.add_more_names.Given as goal
 
 -- the names so far are added

@@ -9,11 +9,12 @@ use Rattle.program_rows.specs.declared.fault.FaultKind.TheVariants as kind
 use Rattle.answers.specs.Sizes.{sizes_text}
 use Rattle.auction_terms.specs.Stages.{and_then, refused_as}
 use Rattle.auction_input.specs.declared.refusal.Refusal.TheVariants as refusal
-use Rattle.auction_input.specs.declared.request.Request.TheVariants as request
+use Rattle.requests.specs.declared.request.Request.TheVariants as request
 use Rattle.answers.proofs.CommandFacts.{cut-short}
 use Rattle.answers.proofs.FaultFacts.{program-refuses, program_refused}
-use Rattle.auction_input.proofs.InputTextFacts.{program-refused, program-told, sized}
-use Rattle.auction_input.proofs.RefusalFacts.{if-err-of}
+use Rattle.auction_input.proofs.InputTextFacts.{sized}
+use Rattle.answers.proofs.ProgramTextFacts.{program-refused, program-told}
+use Rattle.requests.proofs.StepFacts.{if-err-of}
 use Rattle.auction_input.proofs.StageFacts.{stop}
 use Rattle.answers.proofs.commands.check.check.Goals as goal
 

@@ -4,9 +4,9 @@ use Rattle.answers.specs.Answer.{output_of}
 use Rattle.auction_input.specs.Settled.{held, IsUnsettled}
 use Rattle.answers.specs.Exact.{IsUnwritten, MeetsLimit}
 use Rattle.std.specs.Prelude.{◌⊎◌}
-use Rattle.auction_input.specs.declared.request.Request.TheVariants as request
+use Rattle.requests.specs.declared.request.Request.TheVariants as request
 use Rattle.answers.proofs.CommandFacts.{ends-behind, ends-so, no-auction, writes-behind}
-use Rattle.auction_input.proofs.RefusalFacts.{if-err-of, on-ok-given}
+use Rattle.requests.proofs.StepFacts.{if-err-of, on-ok-given}
 use Rattle.answers.proofs.commands.map.map.Goals as goal
 
 pub returns-in_err-auction-clause-refused : goal.returns-in_err-auction-clause-refused

@@ -8,7 +8,7 @@ use Rattle.std.specs.Prelude.{false}
 use Rattle.auction_input.specs.Refused.{Refuses}
 use Rattle.answers.specs.SolutionWinners.{winners_by}
 use Rattle.auction_input.specs.declared.refusal.Refusal.TheVariants as refusal
-use Rattle.auction_input.proofs.RefusalFacts.{if-err-of}
+use Rattle.requests.proofs.StepFacts.{if-err-of}
 use Rattle.answers.proofs.WinningFacts.{feasible-for_all, if-ok-weaker}
 use Rattle.answers.proofs.commands.map.won_by_group.Goals as goal
 

@@ -2,9 +2,9 @@ use Rattle.auction_input.specs.Auction.{auction_told}
 use Rattle.answers.specs.Answer.{output_of}
 use Rattle.auction_input.specs.Settled.{held}
 use Rattle.answers.specs.Exact.{IsUnwritten}
-use Rattle.auction_input.specs.declared.request.Request.TheVariants as request
+use Rattle.requests.specs.declared.request.Request.TheVariants as request
 use Rattle.answers.proofs.CommandFacts.{no-auction, writes-behind}
-use Rattle.auction_input.proofs.RefusalFacts.{if-err-of, on-ok-given}
+use Rattle.requests.proofs.StepFacts.{if-err-of, on-ok-given}
 use Rattle.answers.proofs.VerifiedFacts.{writes-true}
 use Rattle.answers.proofs.VerifyFacts.{unwritten}
 use Rattle.answers.proofs.commands.verify.verify.Goals as goal

@@ -2,15 +2,15 @@ use Rattle.std.proofs.Common.{◌≡◌, ◌++◌, ◌∙◌, List, Ok, ap, inl,
 use Rattle.std.specs.Prelude.{◌⊎◌}
 use Rattle.auction_terms.specs.declared.choices.Choice.{Choice}
 use Rattle.outcome.specs.Report.{report_text}
-use Rattle.outcome.specs.Sale.{sale_of}
+use Rattle.bid_desk.specs.Sale.{sale_of}
 use Rattle.outcome.specs.Uniqueness.{uniqueness_text}
 use Rattle.answers.specs.Answer.{output_of}
-use Rattle.auction_input.specs.declared.request.Request.TheVariants as request
+use Rattle.requests.specs.declared.request.Request.TheVariants as request
 use Rattle.auction_input.specs.Settled.{held}
 use Rattle.answers.specs.Exact.{Ends, IsBeyondSums, by_refusal}
 use Rattle.auction_input.specs.declared.refusal.Refusal.TheVariants as refusal
 use Rattle.answers.proofs.CommandFacts.{cut-short}
-use Rattle.auction_input.proofs.RefusalFacts.{if-err-of}
+use Rattle.requests.proofs.StepFacts.{if-err-of}
 use Rattle.auction_input.proofs.StageFacts.{next, stop}
 use Rattle.answers.proofs.VerifyFacts.{unclaimed, unshown}
 use Rattle.answers.proofs.commands.verify.write_verified.Goals as goal

@@ -1,0 +1,52 @@
+"""Files that an enemy chose for tools/gather and tools/explain, and the words that a run on them takes.
+
+rows, quotes, fields, empty, quoted: one form of rows of one package, of doubled quotes in one field, of one row's commas, of
+  rows without anything, and of one row's quoted fields; tools/gather refuses it.
+untrue: one form of rows with three faults each, which tools/gather tells.
+bids: a form for which tools/explain --bids tells what is left out, of so many bids over 32 categories, of which those at
+  places that a sample may take ask for 10,000 lots.
+gathered, explained: a form of so many bids as bench/make_input makes it, for either tool.
+"""
+import os
+import sys
+
+import measuring
+
+sys.path.insert(0, os.path.join(measuring.ROOT, "tools"))
+from office.tests.inputs_of_tests import far_apart_at_places  # noqa: E402
+
+HEADER = b"Ant,Low,High\n"
+RULES = b"rules,1,1,,\ncategory,Low,6,0,0\ncategory,High,4,0,0\nbidder,Ant,20,1,\n"
+ROWS = {"rows": b"5000,2,1\n", "fields": b",", "empty": b",,\n", "quoted": b'"",', "untrue": b"x,y,z\n"}
+
+
+def written(path, text):
+    os.makedirs(os.path.dirname(path), exist_ok=True)
+    with open(path, "wb") as file:
+        file.write(text)
+    return path
+
+
+def gather_words(folder, rules, form):
+    where = written(os.path.join(folder, "forms", "Ant.csv"), form)
+    return ["gather", written(os.path.join(folder, "rules.csv"), rules), os.path.dirname(where),
+            written(os.path.join(folder, "groups.txt"), b"-\n")], len(form)
+
+
+def form_of(kind, size):
+    """The bytes of a form that tools/gather refuses."""
+    if kind == "quotes":
+        return HEADER + b'"' + b'""' * (size // 2) + b'",1,1\n'
+    return HEADER + ROWS[kind] * (size // len(ROWS[kind])) + b"1\n"
+
+
+def made(kind, size, folder):
+    """Leaves the files of a run in a folder, and gives the tool, its words, and the bytes of the form."""
+    if kind in ("bids", "explained"):
+        text = far_apart_at_places(size) if kind == "bids" else measuring.make_input(1, size, 32, 1)
+        text = text.split(b"%groups")[0]
+        return ["explain", "--command", "text", "--bids", written(os.path.join(folder, "input.txt"), text)], len(text)
+    if kind == "gathered":
+        rules, form = measuring.make_input(1, size, 32, 1).split(b"%groups")[0].removeprefix(b"%rules\n").split(b"%form\n")
+        return gather_words(folder, rules, form)
+    return gather_words(folder, RULES, form_of(kind, size))

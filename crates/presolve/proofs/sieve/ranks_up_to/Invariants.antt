@@ -1,9 +1,0 @@
-use Rattle.std.proofs.Common.{◌≡◌, ◌<◌, ℕ, length, slice_index}
-use Rattle.presolve.proofs.sieve.ranks_up_to.Given as goal
-
--- the ranks of the numbers so far
-abbrev pub invariant-loop-place : goal.invariant-loop-place
-invariant-loop-place l = record {
-  count : length l.ranks.items ≡ length l.numbers;
-  own : (k : ℕ) → k < l.place → slice_index l.ranks.items k ≡ slice_index l.by_number.items (slice_index l.numbers k);
-}

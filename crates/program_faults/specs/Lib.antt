@@ -1,0 +1,3 @@
+pub mod CertificateFaultText
+pub mod MpsFaultText
+pub mod SolutionFaultText
