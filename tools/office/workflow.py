@@ -211,6 +211,12 @@ def settled_groups(given, solver):
     return folder.numbers_done(given.folder, "only", solver) & set(only_groups(given))
 
 
+def asked_groups(given, solver, groups):
+    """The groups whose ties the solver is asked for: one that is settled isn't asked for any more, and counts where it was."""
+    settled = settled_groups(given, solver) - folder.numbers_done(given.folder, "ties", solver)
+    return [group for group in tied_groups(given, groups) if group not in settled]
+
+
 def kinds_of(given, solvers, groups):
     """The steps that groups have, each with its solver, and the groups that have it."""
     main, each = solvers[0].name, list(range(1, groups + 1))
@@ -218,7 +224,7 @@ def kinds_of(given, solvers, groups):
     if given.certify:
         kinds["certify", main] = each
     if given.ties:
-        kinds["ties", main] = [group for group in tied_groups(given, groups) if group not in settled_groups(given, main)]
+        kinds["ties", main] = asked_groups(given, main, groups)
     if only_groups(given):
         kinds["only", main] = only_groups(given)
     return kinds

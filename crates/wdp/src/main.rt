@@ -1,12 +1,10 @@
 //! The winner determination compiler: the words and the standard streams, handed to `run`.
 #![tactic(auto)]
 
-mod stack;
-
-use crate::stack::touch;
 use answers::run;
 use auction_input::Source;
 use mps_text::{Sink, StdSink};
+use stack_room::{tell, touch};
 use std::env::Args;
 use std::io::Read;
 use std::process::ExitCode;
@@ -29,7 +27,7 @@ fn work<R: Threads + Wait + Sync + AllocGlobal, I: Read, S: Sink, F: Sink>(
 
 fn main(rt: HostRuntime) -> ExitCode {
     if let Err(lack) = touch(&rt) {
-        stack::tell(&rt, lack);
+        tell(&rt, lack);
         return ExitCode::from(1);
     }
     work(
