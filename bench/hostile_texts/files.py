@@ -8,6 +8,7 @@ bids: a form for which tools/explain --bids tells what is left out, of so many b
 gathered, explained: a form of so many bids as bench/make_input makes it, for either tool.
 """
 import os
+import shutil
 import sys
 
 import measuring
@@ -27,8 +28,9 @@ def written(path, text):
     return path
 
 
-def gather_words(folder, rules, form):
-    where = written(os.path.join(folder, "forms", "Ant.csv"), form)
+def gather_words(folder, rules, form, bidder="Ant"):
+    shutil.rmtree(os.path.join(folder, "forms"), ignore_errors=True)
+    where = written(os.path.join(folder, "forms", bidder + ".csv"), form)
     return ["gather", written(os.path.join(folder, "rules.csv"), rules), os.path.dirname(where),
             written(os.path.join(folder, "groups.txt"), b"-\n")], len(form)
 
@@ -48,5 +50,5 @@ def made(kind, size, folder):
         return ["explain", "--command", "text", "--bids", written(os.path.join(folder, "input.txt"), text)], len(text)
     if kind == "gathered":
         rules, form = measuring.make_input(1, size, 32, 1).split(b"%groups")[0].removeprefix(b"%rules\n").split(b"%form\n")
-        return gather_words(folder, rules, form)
+        return gather_words(folder, rules, form, form.split(b",", 1)[0].decode("ascii"))
     return gather_words(folder, RULES, form_of(kind, size))
