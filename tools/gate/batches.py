@@ -40,7 +40,7 @@ pub %s_spec : {M : Type 1} → stated.statement M
 %s_spec = ?
 """
 PROOF = "/Proof.antt"
-NO_HOLE = re.compile(r"^(?:\./)?proofs/\S+/Proof\.antt:\d+:\d+: error", re.M)
+NO_HOLE = re.compile(r"^(?:\./)?(proofs/\S+/Proof\.antt):(?:\d+:\d+:)? error", re.M)
 # What is proved, where holes are allowed in what it stands on.
 PROVED = ("proved", "no holes", "depends on a hole")
 # What a goal is of, by its name: `returns-in-Some-clause-answer`, `loop-row-preserved`, `push-requires`, `invariant_of-result`.
@@ -163,6 +163,11 @@ def module_of(file):
     return [] if parts in (["lib"], ["main"]) else parts
 
 
+def proof_of(name):
+    """Where the proof of a function stands, by its name behind the crate's."""
+    return "proofs/%s%s" % (name.replace("::", "/"), PROOF)
+
+
 def goals_in(said):
     """What a check says of each function, by its name behind the crate's; nothing, where it was ended before its verdict."""
     told = {}
@@ -257,19 +262,20 @@ class Trial:
             parts = name.split("::")
             # (closures are proved with their function, and what is let go has no file)
             if name not in edited and "fn" not in parts and "++" not in name:
-                folder = "proofs/" + "/".join(parts)
-                texts[folder + PROOF] = HOLE % (self.crate, ".".join(parts), parts[-1], parts[-1])
-                texts.update({folder + file: None for file in ("/Answers.antt", "/Invariants.antt")})
+                proof = proof_of(name)
+                texts[proof] = HOLE % (self.crate, ".".join(parts), parts[-1], parts[-1])
+                texts.update({proof.replace(PROOF, file): None for file in ("/Answers.antt", "/Invariants.antt")})
         return texts
 
     def said_of(self, texts, functions, edits):
         """What a check says of these functions, with holes for the others where it takes them."""
-        holes = self.holes(edits)
-        said = self.check({**holes, **texts}, functions)
-        if holes and NO_HOLE.search(said):
-            self.proved = []
-            said = self.check(texts, functions)
-        return said
+        while holes := self.holes(edits):
+            said = self.check({**holes, **texts}, functions)
+            untaken = {path for path in NO_HOLE.findall(said) if path in holes}
+            if not untaken:
+                return said
+            self.proved = [name for name in self.proved if proof_of(name) not in untaken]
+        return self.check(texts, functions)
 
     def checked(self, texts, edits):
         """What a check says of the functions of these edits and of those that they call, or of their modules' where a
