@@ -396,7 +396,7 @@ class Trial:
 
 
 def checked(rt, crate, texts, flags, kept):
-    """What a check of a copy of the crate says, with these texts in place of its own."""
+    """What a check of a copy of the crate says, with these texts in place of its own, and the processor time that it took."""
     with tempfile.TemporaryDirectory(prefix="rt-edit-") as room:
         for part in rt.rtlib.PARTS:
             if os.path.isdir(os.path.join(crate.folder, part)):
@@ -410,26 +410,33 @@ def checked(rt, crate, texts, flags, kept):
             elif os.path.exists(path):
                 os.remove(path)
         words = [*rt.rtlib.guarded(), rt.rtlib.RATTLE, "check", *crate.words(flags, keeps=False), "--incremental", kept]
-        return subprocess.run(words, cwd=room, stdin=subprocess.DEVNULL, stdout=subprocess.PIPE, stderr=subprocess.STDOUT, errors="replace").stdout
+        with subprocess.Popen(words, cwd=room, stdin=subprocess.DEVNULL, stdout=subprocess.PIPE, stderr=subprocess.STDOUT, errors="replace") as run:
+            said = run.stdout.read()
+            _, status, used = os.wait4(run.pid, 0)
+            run.returncode = os.waitstatus_to_exitcode(status)
+        return said, used.ru_utime + used.ru_stime
 
 
 def trial_of(rt, is_proved=False, share=None, proved_in=lambda crate: ()):
     """What takes the place of rt's own trial of a crate's edits, each in turn. The gate tries those of a crate that it just proved,
     whose functions it knows (`proved_in(crate)`), each check on as many processors as it may use then (`share()`)."""
     def must_fail_all(crate, edits, flags):
+        spent = []
         with tempfile.TemporaryDirectory(prefix="rt-edits-") as kept:
             def check(texts, functions):
                 jobs = ["--jobs", str(share())] if share else flags
                 only = [word for name in functions for word in ("--only", name)]
                 holes = ["--allow-holes"] if any(path.endswith(PROOF) for path in texts) else []
-                return checked(rt, crate, texts, [*jobs, *only, *holes], kept)
+                said, seconds = checked(rt, crate, texts, [*jobs, *only, *holes], kept)
+                spent.append(seconds)
+                return said
 
             trial = Trial(crate.name, crate.folder, edits, check, lambda path: rt.read_edit(path, crate.folder)[1], is_proved,
                           lambda path: is_proved and is_refused(rt, crate, path, flags), proved_in(crate))
             started, answers = time.time(), trial.run()
         told = sum(is_refused for is_refused, _ in answers)
-        rt.say("%s: %d of %d edits refused, in %d checks of many and %d of one, %d s"
-               % (crate.name, told, len(edits), trial.checks, trial.tried_alone, time.time() - started))
+        rt.say("%s: %d of %d edits refused, in %d checks of many and %d of one, %d s, and of processor time %s"
+               % (crate.name, told, len(edits), trial.checks, trial.tried_alone, time.time() - started, " + ".join("%d" % it for it in spent)))
         return answers
 
     return must_fail_all
