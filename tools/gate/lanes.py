@@ -47,13 +47,16 @@ class Lanes:
     """Runs tasks side by side. Proofs of crates come first, those with the longest chain behind them before others; tests and
     edits, which none waits for, run beside them at a low priority, on what they leave idle.
 
-    Parts of each check are done by one process, so the proofs at work may have twice as many as there are processors.
+    Each further process of a check reads the crate anew (`bid_book` takes 76 s of processor time with one, 103 with four), and
+    parts of a check are done by one alone. So proofs have as many processes as there are processors where tests and edits use what
+    they leave idle, and twice as many where nothing does.
     A task is what it waits for, its work in lines, its memory, and a call that gets what was given and how many jobs it may use.
     """
 
     def __init__(self, tasks, processors, memory):
         self.tasks, self.processors, self.memory = tasks, processors, memory
         self.behind = chains(tasks)
+        self.has_fillers = any(is_filler(key) and tasks[key][1] for key in tasks)
         # (a line of tests takes longer than one of a crate whose edits are tried)
         self.left = sorted(tasks, key=lambda key: (key[1] == "edits", -self.behind[key]))
         self.running, self.given = {}, {}
@@ -102,7 +105,7 @@ class Lanes:
     def run(self):
         with ThreadPoolExecutor(len(self.tasks)) as proofs, ThreadPoolExecutor(len(self.tasks), initializer=step_back) as fillers:
             while self.left or self.running:
-                self.start_all(proofs, False, 2 * self.processors)
+                self.start_all(proofs, False, self.processors * (1 if self.has_fillers else 2))
                 self.start_all(fillers, True, self.processors)
                 if not self.running:
                     raise ValueError("tasks that wait for one another: %s" % self.left)
