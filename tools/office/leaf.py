@@ -113,12 +113,13 @@ class Leaf:
         return sorted((place, number) for place, number in multipliers.items() if number)
 
     def fits(self):
-        """Whether each number is at most 10^18, and no sum of the checker's reaches 2^126."""
+        """Whether each number is at most 10^18, and the size of the leaf (docs/FORMATS.md) is below 2^126."""
         rows, scale = self.rows(), self.bound.scale
         if max([scale, *self.cuts, *(abs(number) for _, number in rows)]) > MOST:
             return False
         widest = dict(zip(self.layout.shared, self.layout.largest_loads))
-        column = scale * self.layout.largest_cost + sum(abs(number) * widest.get(row, 1) for row, number in rows)
+        # the bound is as large as all costs, and one more
+        column = 2 * scale * (self.layout.largest_cost + 1) + sum(abs(number) * widest.get(row, 1) for row, number in rows)
         column += sum(number * len(cut.places) for number, cut in zip(self.cuts, self.node.path))
         right = sum(abs(number * self.layout.program.rows[row].right_side) for row, number in rows) + 2 * sum(self.cuts)
         # the checker counts each column of a split's form, and one more on its right side

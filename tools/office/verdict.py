@@ -29,13 +29,13 @@ class Refused(Exception):
 class Split:
     """An open split: places of columns with numbers, the greatest sum on the first side, and which side is told."""
 
-    __slots__ = ("form", "most", "is_high", "widest")
+    __slots__ = ("form", "most", "is_high", "size")
 
     def __init__(self, form, most, is_high=False):
         self.form = form
         self.most = most
         self.is_high = is_high
-        self.widest = max((abs(number) for _, number in form), default=0)
+        self.size = sum(abs(number) for _, number in form)
 
 
 class Leaf(NamedTuple):
@@ -47,10 +47,10 @@ class Leaf(NamedTuple):
 
 
 class Verdict(NamedTuple):
-    """The first fault, if there is one. A checker that adds up in 128 bits may stop at `large_line` as `TooLarge`."""
+    """The first fault, if there is one. A checker that adds up in 128 bits may stop at one of `large_lines` as `TooLarge`."""
 
     fault: Optional[Fault]
-    large_line: Optional[int]
+    large_lines: list
 
 
 class Checker:
@@ -67,8 +67,9 @@ class Checker:
         for place, column in enumerate(program.columns):
             for row, coefficient in column.entries:
                 self.entries[row].setdefault(coefficient, []).append(place)
-        self.widest_cost = max(map(abs, self.costs), default=0)
-        self.widest = [max(map(abs, row), default=0) for row in self.entries]
+        self.costs_size = sum(map(abs, self.costs))
+        self.row_sizes = [sum(abs(number) * len(places) for number, places in entries.items()) + abs(row.right_side)
+                          for row, entries in zip(program.rows, self.entries)]
 
     def verdict(self, least, text):
         """What the text comes to as a certificate that no point has an objective below `least`."""
@@ -94,7 +95,7 @@ class Reading:
         self.least = least
         self.splits = splits
         self.is_whole = False
-        self.large_line = None
+        self.large_lines = []
 
     def verdict(self, text):
         number = 0
@@ -108,10 +109,10 @@ class Reading:
                 return self.ended(number, "NumberText" if fault.kind == "NotWhole" else fault.kind)
             except Refused as refused:
                 return self.ended(number, str(refused))
-        return Verdict(None, self.large_line) if self.is_whole else self.ended(number, "NoEnd")
+        return Verdict(None, self.large_lines) if self.is_whole else self.ended(number, "NoEnd")
 
     def ended(self, number, kind):
-        return Verdict(Fault(number, kind), self.large_line)
+        return Verdict(Fault(number, kind), self.large_lines)
 
     def take(self, number, words):
         """Takes a line that is neither a comment nor blank."""
@@ -121,8 +122,8 @@ class Reading:
             self.splits.append(self.split_told(words[1:]))
         elif words[0] == b"bound":
             leaf = self.leaf_told(words[1:])
-            if self.large_line is None and self.may_be_large(leaf):
-                self.large_line = number
+            if self.size(leaf) >= WIDEST:
+                self.large_lines.append(number)
             if not leaf.scale * (self.least - 1) < self.value(leaf):
                 raise Refused("NotShown")
             self.close()
@@ -192,17 +193,14 @@ class Reading:
         bounds = zip(reduced, self.checker.may_be_zero, self.checker.may_be_one)
         return sum(number for number, zero, one in bounds if one and (number < 0 or not zero))
 
-    def may_be_large(self, leaf):
-        """Whether a checker in 128 bits may stop: a bound on all sizes together reaches 2^126."""
-        column = leaf.scale * self.checker.widest_cost
-        right = leaf.scale * (abs(self.least) + 1)
+    def size(self, leaf):
+        """All that a leaf adds up, each number without its sign: only from 2^126 on a checker in 128 bits may stop."""
+        size = leaf.scale * (self.checker.costs_size + abs(self.least - 1))
         for multiplier, split in zip(leaf.multipliers, self.splits):
-            column += multiplier * split.widest * len(split.form)
-            right += multiplier * (abs(split.most) + 1)
+            size += multiplier * (split.size + abs(split.most + split.is_high))
         for place, multiplier in leaf.rows:
-            column += abs(multiplier) * self.checker.widest[place]
-            right += abs(multiplier) * abs(self.program.rows[place].right_side)
-        return column * max(1, len(self.checker.costs)) + right >= WIDEST
+            size += abs(multiplier) * self.checker.row_sizes[place]
+        return size
 
 
 def natural(word):

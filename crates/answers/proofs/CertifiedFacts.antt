@@ -1,6 +1,6 @@
 -- What certificates come to, one after the other.
 use Rattle.std.proofs.Common.{◌≡◌, ◌≢◌, ◌<◌, ◌≤◌, ◌+◌, ◌∷◌, ◌∙◌, [], ⊎_elim, ℕ, zero, suc, true, false, List, Option, Some, Result, Ok, Err, ap, arith, length, map, refl, replicate, slice_index_or, subst, sym, take, inl, inr}
-use Rattle.std.specs.Prelude.{◌==◌, ◌⊎◌, IfErr, OnOk, ℤ}
+use Rattle.std.specs.Prelude.{◌==◌, ◌⊎◌, IfErr, OnOk, slice_get, ℤ}
 use Rattle.std.specs.List.{AllZip}
 use Rattle.std.specs.Option.{option_map}
 use Rattle.std.proofs.lemmas.Bool.{cases_lt, eq-eqb, ne_eqb}
@@ -10,6 +10,7 @@ use Rattle.auction_terms.specs.declared.choices.Choice.{Choice}
 use Rattle.bid_desk.specs.Closing.{Closing}
 use Rattle.group_compiler.specs.Compiled.{program_without}
 use Rattle.optimality.specs.Answers.{IsLimit}
+use Rattle.optimality.specs.Sizes.{IsLargeAt}
 use Rattle.optimality.specs.Verdict.{certificate_fault}
 use Rattle.program_rows.specs.Program.{Table}
 use Rattle.program_faults.specs.declared.certificate_fault.CertificateFault.{CertificateFault}
@@ -54,21 +55,21 @@ all-shown book n (b ∷ bounds) fine = rw (shown-ok book n b (fine 0 b (omega ar
 -- how a list of bounds ends at the first fault, which has number m
 data Stops (n : ℕ) (bounds : List Bound) (before : ℕ) (f : CertificateFault) : Type 0 where
   by_memory : f.kind ≡ kind.OutOfMemory → Stops n bounds before f
-  by_width : f.kind ≡ kind.TooLarge → before < length bounds → each_in_turn shown n (take before bounds) ≡ Ok (replicate before tt) → Stops n bounds before f
+  by_width : f.kind ≡ kind.TooLarge → (bound : Bound) → slice_get bounds before ≡ Some bound → IsLargeAt bound.0 bound.1 bound.2 f.line → each_in_turn shown n (take before bounds) ≡ Ok (replicate before tt) → Stops n bounds before f
   by_fault : each_in_turn shown n bounds ≡ Err (refusal.Certificate (n + before) f) → Stops n bounds before f
 
 first-stops : (book : Closing) (n : ℕ) (b : code.ClaimedBound) (bounds : List Bound) (f : CertificateFault) → IsLimit f.kind ⊎ (certificate_fault (program_without book b.group.now) b.least b.certificate.now ≡ Some (f.line, f.kind))
-    → Stops n (bound_held book b ∷ bounds) 0 f
-first-stops book n b bounds f (inl (inl memory)) = by_memory memory
-first-stops book n b bounds f (inl (inr large)) = by_width large (omega arith) refl
-first-stops book n b bounds f (inr found) =
+    → (f.kind ≡ kind.TooLarge → IsLargeAt (program_without book b.group.now) b.least b.certificate.now f.line) → Stops n (bound_held book b ∷ bounds) 0 f
+first-stops book n b bounds f (inl (inl memory)) large = by_memory memory
+first-stops book n b bounds f (inl (inr wide)) large = by_width wide (bound_held book b) refl (large wide) refl
+first-stops book n b bounds f (inr found) large =
     let told : shown n (bound_held book b) ≡ Err (refusal.Certificate n f) = ap (λ (o : Option (ℕ × FaultKind)). unless (option_map (λ (f : ℕ × FaultKind). refusal.Certificate n (record { line = f.0; kind = f.1 })) o) (Ok tt)) found in
     let here : n + 0 ≡ n = omega arith in
     by_fault (rw (told, here) refl)
 
 later-stops : (book : Closing) (n : ℕ) (b : code.ClaimedBound) (bounds : List Bound) (before : ℕ) (f : CertificateFault) → IsJudged book b ok → Stops (n + 1) bounds before f → Stops n (bound_held book b ∷ bounds) (suc before) f
 later-stops book n b bounds before f first (by_memory memory) = by_memory memory
-later-stops book n b bounds before f first (by_width large few all) = by_width large (omega arith) (rw (shown-ok book n b first, all) refl)
+later-stops book n b bounds before f first (by_width wide bound at large all) = by_width wide bound at large (rw (shown-ok book n b first, all) refl)
 later-stops book n b bounds before f first (by_fault told) =
     let count : n + 1 + before ≡ n + suc before = omega arith in
     by_fault (rw (shown-ok book n b first, told, count) refl)
@@ -76,7 +77,7 @@ later-stops book n b bounds before f first (by_fault told) =
 stops : (book : Closing) (n : ℕ) (bounds : List code.ClaimedBound) (before : ℕ) (f : CertificateFault) → before < length bounds → AreFine book bounds before → ((d : code.ClaimedBound) → IsJudged book (slice_index_or bounds before d) (Err f))
     → Stops n (map (bound_held book) bounds) before f
 stops book n [] before f within fine faulty = absurd (omega arith)
-stops book n (b ∷ bounds) zero f within fine faulty = first-stops book n b (map (bound_held book) bounds) f (faulty b).is
+stops book n (b ∷ bounds) zero f within fine faulty = first-stops book n b (map (bound_held book) bounds) f (faulty b).is (faulty b).large
 stops book n (b ∷ bounds) (suc before) f within fine faulty =
     later-stops book n b (map (bound_held book) bounds) before f (fine 0 b (omega arith)) (stops book (n + 1) bounds before f (omega arith) (fine-behind book b bounds before fine) faulty)
 
@@ -85,7 +86,7 @@ EndsChecks bounds r = Refuses (each_in_turn shown 1 bounds) r ⊎ IsTooWide boun
 
 refusal-at : (bounds : List Bound) (before : ℕ) (line : ℕ) (k : FaultKind) → Stops 1 bounds before (record { line = line; kind = k }) → EndsChecks bounds (refusal.Certificate (before + 1) (record { line = line; kind = k }))
 refusal-at bounds before line k (by_memory memory) = inl (inr (rw memory refl))
-refusal-at bounds before line k (by_width large few all) = inr (before, line, few, (replicate before tt, all), rw large refl)
+refusal-at bounds before line k (by_width wide bound at large all) = inr (before, line, bound, at, (replicate before tt, all), large, rw wide refl)
 refusal-at bounds before line k (by_fault told) =
     let count : 1 + before ≡ before + 1 = omega arith in
     inl (inl (rw count at told))

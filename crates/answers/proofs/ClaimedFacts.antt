@@ -21,9 +21,10 @@ use Rattle.auction_input.specs.declared.refusal.Refusal.{Refusal}
 use Rattle.auction_input.proofs.AnswerFacts.{ok-behind, ok-is}
 use Rattle.auction_input.proofs.StageFacts.{next}
 use Rattle.optimality.specs.Answers.{IsLimit, IsVerdict}
-use Rattle.optimality.specs.Only.{only_fault}
+use Rattle.optimality.specs.Only.{IsLargeOnlyAt, only_fault}
 use Rattle.program_faults.specs.declared.certificate_fault.CertificateFault.{CertificateFault}
 use Rattle.program_faults.specs.declared.certificate_fault.FaultKind.{FaultKind}
+use Rattle.program_faults.specs.declared.certificate_fault.FaultKind.TheVariants as kind
 use Rattle.bid_desk.specs.Sale.{Sale}
 use Rattle.outcome.specs.Solution.{solution}
 use Rattle.program_faults.specs.declared.solution_fault.SolutionFault.TheVariants as fault
@@ -143,15 +144,15 @@ module _ (auction : Auction) (first : List Choice) (text : List ℕ) (point : Li
   pub only-told : only_fault (first_program auction) point text ≡ None → only_told auction first text ≡ Ok (only_or_rival auction.sale first)
   only-told none = goes-on ∙ ap judged none
 
-  refused-so : (line : ℕ) (k : FaultKind) → IsLimit k ⊎ (only_fault (first_program auction) point text ≡ Some (line, k)) → auction.uniques ≡ text ∷ [] → auction.ties ≡ []
+  refused-so : (line : ℕ) (k : FaultKind) → IsLimit k ⊎ (only_fault (first_program auction) point text ≡ Some (line, k)) → (k ≡ kind.TooLarge → IsLargeOnlyAt (first_program auction) point text line) → auction.uniques ≡ text ∷ [] → auction.ties ≡ []
       → Refuses (only_told auction first text) (refusal.Unique (record { line = line; kind = k })) ⊎ IsTooWideClaim auction (refusal.Unique (record { line = line; kind = k }))
-  refused-so line k (inl (inl memory)) one alone = inl (inr (rw memory refl))
-  refused-so line k (inl (inr large)) one alone = inr (text, line, one, alone, rw large refl)
-  refused-so line k (inr found) one alone = inl (inl (goes-on ∙ ap judged found))
+  refused-so line k (inl (inl memory)) large one alone = inl (inr (rw memory refl))
+  refused-so line k (inl (inr wide)) large one alone = inr (text, line, one, alone, (point, solved, large wide), rw wide refl)
+  refused-so line k (inr found) large one alone = inl (inl (goes-on ∙ ap judged found))
 
-  pub only-refused : (f : CertificateFault) → IsLimit f.kind ⊎ (only_fault (first_program auction) point text ≡ Some (f.line, f.kind)) → auction.uniques ≡ text ∷ [] → auction.ties ≡ []
+  pub only-refused : (f : CertificateFault) → IsLimit f.kind ⊎ (only_fault (first_program auction) point text ≡ Some (f.line, f.kind)) → (f.kind ≡ kind.TooLarge → IsLargeOnlyAt (first_program auction) point text f.line) → auction.uniques ≡ text ∷ [] → auction.ties ≡ []
       → Refuses (only_told auction first text) (refusal.Unique f) ⊎ IsTooWideClaim auction (refusal.Unique f)
-  only-refused f found one alone = refused-so f.line f.kind found one alone
+  only-refused f found large one alone = refused-so f.line f.kind found large one alone
 
 -- a verdict that is no fault
 pub no-fault : (verdict : Result (Unit {0}) CertificateFault) (first : Option (ℕ × FaultKind)) → ((f : CertificateFault) → verdict ≡ Err f → ⊥) → IsVerdict verdict first → first ≡ None

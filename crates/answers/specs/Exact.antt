@@ -1,5 +1,5 @@
 -- What a command leaves, by what is told: the whole output, or the first refusal.
-use Rattle.std.specs.Prelude.{◌≡◌, ◌⊎◌, ◌+◌, ◌<◌, ◌∷◌, ℕ, List, [], ℤ, Option, Result, Ok, length, take}
+use Rattle.std.specs.Prelude.{◌≡◌, ◌⊎◌, ◌+◌, ◌∷◌, ℕ, Bool, List, [], ℤ, Option, Some, Result, Ok, length, slice_get, slice_index_or, take}
 use Rattle.std.specs.Io.KnownBytes.{Appends}
 use Rattle.auction_input.specs.Auction.{Auction, auction_told}
 use Rattle.auction_input.specs.Refused.{Refuses}
@@ -13,9 +13,13 @@ use Rattle.auction_terms.specs.declared.choices.Choice.{Choice}
 use Rattle.mps_text.specs.Sinks.{HasFailed, SentFront}
 use Rattle.mps_text.specs.declared.write_fault.WriteFault.TheVariants as write
 use Rattle.program_faults.specs.declared.certificate_fault.FaultKind.TheVariants as certificate
+use Rattle.optimality.specs.Only.{IsLargeOnlyAt}
+use Rattle.optimality.specs.Sizes.{IsLargeAt}
+use Rattle.outcome.specs.Solution.{solution}
 use Rattle.program_rows.specs.Program.{Table}
 use Rattle.answers.specs.Answer.{answer}
 use Rattle.answers.specs.Certified.{bounds_of, certified, shown}
+use Rattle.answers.specs.Claimed.{first_program}
 use Rattle.answers.specs.SolutionWinners.{winners_of_groups}
 
 -- the output that is told was written, and nothing else
@@ -27,16 +31,17 @@ pub data Ends (told : Result (List ℕ) Refusal) (taken taken' : Option (List �
   by_refusal : {r : Refusal} → Refuses told r → taken' ≡ taken → Ends told taken taken' failures failures' r
   by_put : {written : ℕ} → (out : List ℕ) → told ≡ Ok out → SentFront taken taken' out written → HasFailed failures failures' → Ends told taken taken' failures failures' (refusal.Write (write.Sink written))
 
--- behind some certificates that show what they are to comes one that can't be judged, since a sum may leave 128 bits
+-- behind some certificates that show what they are to comes one that isn't judged, since the leaf at this line has a size of 2^126 or more
 abbrev pub IsTooWide : List (Table × ℤ × List ℕ) → Refusal → Type 0
 IsTooWide bounds r =
-    (before : ℕ) × (line : ℕ) × (before < length bounds) × ((all : List (Unit {0})) × (each_in_turn shown 1 (take before bounds) ≡ Ok all))
-    × (r ≡ refusal.Certificate (before + 1) (record { line = line; kind = certificate.TooLarge }))
+    (before : ℕ) × (line : ℕ) × (bound : Table × ℤ × List ℕ) × (slice_get bounds before ≡ Some bound) × ((all : List (Unit {0})) × (each_in_turn shown 1 (take before bounds) ≡ Ok all))
+    × IsLargeAt bound.0 bound.1 bound.2 line × (r ≡ refusal.Certificate (before + 1) (record { line = line; kind = certificate.TooLarge }))
 
 -- the same of the one certificate that is to show the winners to be the only ones
 abbrev pub IsTooWideClaim : Auction → Refusal → Type 0
 IsTooWideClaim auction r =
-    (text : List ℕ) × (line : ℕ) × (auction.uniques ≡ text ∷ []) × (auction.ties ≡ []) × (r ≡ refusal.Unique (record { line = line; kind = certificate.TooLarge }))
+    (text : List ℕ) × (line : ℕ) × (auction.uniques ≡ text ∷ []) × (auction.ties ≡ [])
+    × ((point : List Bool) × (solution (first_program auction) (slice_index_or auction.solutions 0 []) ≡ Ok point) × IsLargeOnlyAt (first_program auction) point text line) × (r ≡ refusal.Unique (record { line = line; kind = certificate.TooLarge }))
 
 -- behind solutions that are taken it is a certificate of the groups, or behind all of these that of the claim
 abbrev pub IsBeyondSums : Auction → Refusal → Type 0

@@ -1,6 +1,8 @@
 -- Forms that give each place the same can stand for one another.
-use Rattle.std.proofs.Common.{◌≡◌, ℕ, zero, suc, ◌+◌, ◌<◌, ◌≤◌, Bool, true, false, cond, List, [], ◌∷◌, ◌++◌, Option, Some, None, Result, Ok, Err, length, refl, subst, sym, ap, ap₂, ◌∙◌, arith, ℤ, pos, neg_ℤ, ◌+ℤ◌}
-use Rattle.std.specs.Prelude.{◌*ℤ◌, ◌-ℤ◌, ◌==◌, if◌then◌else◌, int_lt}
+use Rattle.std.proofs.Common.{◌≡◌, ℕ, zero, suc, ◌+◌, ◌<◌, ◌≤◌, Bool, true, false, cond, List, [], ◌∷◌, ◌++◌, Option, Some, None, Result, Ok, Err, inl, inr, length, refl, subst, sym, ap, ap₂, ◌∙◌, arith, ℤ, pos, neg_ℤ, ◌+ℤ◌}
+use Rattle.std.specs.Prelude.{◌*◌, ◌^◌, ◌*ℤ◌, ◌-ℤ◌, ◌==◌, if◌then◌else◌, int_lt, unsigned_abs}
+use Rattle.std.specs.List.{zip}
+use native.Mathlib.Nat.{mul-le-mul_left}
 use Rattle.std.specs.Option.{ok_or}
 use Rattle.std.proofs.lemmas.Int.{ints}
 use Rattle.std.proofs.lemmas.Bool.Decides.{nat_tests}
@@ -17,14 +19,17 @@ use Rattle.optimality.specs.Reduced.{reduced, right_side_at}
 use Rattle.optimality.specs.Shows.{leaf_value}
 use Rattle.optimality.specs.LineMeaning.{Told, BoundLine, SplitLine, line_told}
 use Rattle.optimality.specs.Branches.{Branch, At, cuts_above, closed}
-use Rattle.optimality.specs.Verdict.{taken, fault_from}
+use Rattle.optimality.specs.Sizes.{IsLargeFrom, IsLargeLine, IsLargeTold, cut_size, form_size, leaf_size, size_of}
+use Rattle.optimality.specs.Verdict.{behind as after_line, taken, fault_from}
 use Rattle.optimality.specs.declared.open_split.OpenSplit.{OpenSplit}
-use Rattle.optimality.specs.inside.Adding.{AreAlike}
+use Rattle.optimality.specs.inside.Adding.{AreAlike, AreNoLarger}
 use Rattle.optimality.specs.inside.Branches.{branch_of, GoOnAlike}
 use Rattle.optimality.proofs.ColumnSums.{cuts_number, cuts_right, least_sum, rows_number, rows_right}
 use Rattle.optimality.proofs.LeafLaws.{least-same}
 use Rattle.optimality.proofs.PlaceLaws.{negated-in}
+use Rattle.optimality.proofs.PlaceSizes.{form-no-larger, top}
 use Rattle.optimality.proofs.Products.{times-sum}
+use Rattle.optimality.proofs.SizeLaws.{negated-size}
 
 -- ---------- sums over places ----------
 
@@ -82,11 +87,6 @@ weighed-more (suc m) place n s h l = by (weighed-more m place n s h) (place == m
         ap₂ (λ (a b : ℤ). a +ℤ b *ℤ h m) (later below) (elsewhere place m n s e)
         ∙ join (n *ℤ h place) (s m *ℤ h m) (weighed m s h)
 
--- all places of a form are below this
-abbrev top : Form → ℕ
-top [] = 0
-top (t ∷ form) = suc t.0 + top form
-
 weighed-form : (m : ℕ) (form : Form) (h : ℕ → ℤ) → top form ≤ m → sum_of (λ t. t.1 *ℤ h t.0) form ≡ weighed m (number_in form) h
 weighed-form m [] h l = sym (weighed-none m h)
 weighed-form m (t ∷ form) h l =
@@ -139,19 +139,19 @@ value-alike p cuts others scale ys rows alike =
 
 abbrev pub BranchesAlike : List Branch → List Branch → Type 0
 BranchesAlike [] [] = Unit {0}
-BranchesAlike (At is_second form most ∷ above) (At other_second other other_most ∷ others) = (is_second ≡ other_second) × (most ≡ other_most) × AreAlike form other × BranchesAlike above others
+BranchesAlike (At is_second form most ∷ above) (At other_second other other_most ∷ others) = (is_second ≡ other_second) × (most ≡ other_most) × AreAlike form other × AreNoLarger other form × BranchesAlike above others
 BranchesAlike [] (b ∷ others) = ⊥
 BranchesAlike (b ∷ above) [] = ⊥
 
 pub branches-themselves : (branches : List Branch) → BranchesAlike branches branches
 branches-themselves [] = tt
-branches-themselves (At is_second form most ∷ above) = (refl, refl, λ _. refl, branches-themselves above)
+branches-themselves (At is_second form most ∷ above) = (refl, refl, λ _. refl, λ _. omega arith, branches-themselves above)
 
 lengths-alike : (branches others : List Branch) → BranchesAlike branches others → length branches ≡ length others
 lengths-alike [] [] alike = refl
 lengths-alike [] (b ∷ others) alike = absurd alike
 lengths-alike (b ∷ above) [] alike = absurd alike
-lengths-alike (At is_second form most ∷ above) (At other_second other other_most ∷ others) alike = ap suc (lengths-alike above others alike.3)
+lengths-alike (At is_second form most ∷ above) (At other_second other other_most ∷ others) alike = ap suc (lengths-alike above others alike.4)
 
 sides-alike : (is_second : Bool) (form other : Form) (most : ℤ) → AreAlike form other → CutsAlike (side is_second form most ∷ []) (side is_second other most ∷ [])
 sides-alike false form other most alike = (refl, alike, tt)
@@ -171,7 +171,7 @@ cuts-above-alike (At is_second form most ∷ above) (At other_second other other
     let last : CutsAlike (side is_second form most ∷ []) (side other_second other other_most ∷ []) =
     subst (λ (s : Bool). CutsAlike (side is_second form most ∷ []) (side s other other_most ∷ [])) alike.0
     (subst (λ (k : ℤ). CutsAlike (side is_second form most ∷ []) (side is_second other k ∷ [])) alike.1 (sides-alike is_second form other most alike.2)) in
-    cuts-joined (cuts_above above) (cuts_above others) (side is_second form most ∷ []) (side other_second other other_most ∷ []) (cuts-above-alike above others alike.3) last
+    cuts-joined (cuts_above above) (cuts_above others) (side is_second form most ∷ []) (side other_second other other_most ∷ []) (cuts-above-alike above others alike.4) last
 
 -- ---------- behind a line ----------
 
@@ -191,13 +191,13 @@ closed-alike : (branches others : List Branch) → BranchesAlike branches others
 closed-alike [] [] alike = tt
 closed-alike [] (b ∷ others) alike = absurd alike
 closed-alike (b ∷ above) [] alike = absurd alike
-closed-alike (At true form most ∷ above) (At true other other_most ∷ others) alike = closed-alike above others alike.3
-closed-alike (At false form most ∷ above) (At false other other_most ∷ others) alike = (refl, alike.1, alike.2, alike.3)
+closed-alike (At true form most ∷ above) (At true other other_most ∷ others) alike = closed-alike above others alike.4
+closed-alike (At false form most ∷ above) (At false other other_most ∷ others) alike = (refl, alike.1, alike.2, alike.3, alike.4)
 closed-alike (At true form most ∷ above) (At false other other_most ∷ others) alike = let apart = alike.0 in absurd cc
 closed-alike (At false form most ∷ above) (At true other other_most ∷ others) alike = let apart = alike.0 in absurd cc
 
 taken-alike : (p : Table) (least : ℤ) (branches others : List Branch) (told : Told) → BranchesAlike branches others → OpenAlike (taken p least branches told) (taken p least others told)
-taken-alike p least branches others (SplitLine form most) alike = (refl, refl, λ _. refl, alike)
+taken-alike p least branches others (SplitLine form most) alike = (refl, refl, λ _. refl, λ _. omega arith, alike)
 taken-alike p least branches others (BoundLine scale ys rows) alike =
     let same : leaf_value p (cuts_above branches) scale ys rows ≡ leaf_value p (cuts_above others) scale ys rows = value-alike p (cuts_above branches) (cuts_above others) scale ys rows (cuts-above-alike branches others alike) in
     subst (λ (n : ℤ). OpenAlike (taken p least branches (BoundLine scale ys rows)) (if int_lt (pos scale *ℤ (least -ℤ pos 1)) n then Ok (closed others) else Err NotShown)) same
@@ -243,10 +243,90 @@ fault-alike p least place (line ∷ lines) (Ok branches) (Ok others) alike =
     by skipped told true = skipped
     by skipped told false = told
 
--- a split that is opened with another form than the line tells, which gives each column the same
-pub split-opened : (p : Table) (least : ℤ) (branches after : List Branch) (told : Result Told FaultKind) (form : Form) (most : ℤ) (split : OpenSplit) → told ≡ Ok (SplitLine form most) → AreAlike split.form.items form → split.most ≡ most
+-- ---------- sizes ----------
+
+-- cuts that are no larger
+abbrev CutsNoLarger : List Cut → List Cut → Type 0
+CutsNoLarger [] [] = Unit {0}
+CutsNoLarger (other ∷ others) (cut ∷ cuts) = (cut_size other ≤ cut_size cut) × CutsNoLarger others cuts
+CutsNoLarger [] (cut ∷ cuts) = ⊥
+CutsNoLarger (other ∷ others) [] = ⊥
+
+cuts-size : (ys : List ℕ) (others cuts : List Cut) → CutsNoLarger others cuts → size_of (λ e. e.0 * cut_size e.1) (zip ys others) ≤ size_of (λ e. e.0 * cut_size e.1) (zip ys cuts)
+cuts-size [] others cuts h = omega arith
+cuts-size (y ∷ ys) [] [] h = omega arith
+cuts-size (y ∷ ys) [] (cut ∷ cuts) h = absurd h
+cuts-size (y ∷ ys) (other ∷ others) [] h = absurd h
+cuts-size (y ∷ ys) (other ∷ others) (cut ∷ cuts) h =
+    let first : y * cut_size other ≤ y * cut_size cut = mul-le-mul_left y h.0 in
+    let later = cuts-size ys others cuts h.1 in
+    omega arith
+
+larger-joined : (others cuts more_others more_cuts : List Cut) → CutsNoLarger others cuts → CutsNoLarger more_others more_cuts → CutsNoLarger (others ++ more_others) (cuts ++ more_cuts)
+larger-joined [] [] more_others more_cuts h more = more
+larger-joined [] (cut ∷ cuts) more_others more_cuts h more = absurd h
+larger-joined (other ∷ others) [] more_others more_cuts h more = absurd h
+larger-joined (other ∷ others) (cut ∷ cuts) more_others more_cuts h more = (h.0, larger-joined others cuts more_others more_cuts h.1 more)
+
+side-size : (is_second : Bool) (form : Form) (most : ℤ) → cut_size (side is_second form most) ≡ form_size form + unsigned_abs (side is_second [] most).most
+side-size true form most = ap (λ (n : ℕ). n + unsigned_abs (neg_ℤ (most +ℤ pos 1))) (negated-size form most)
+side-size false form most = refl
+
+cuts-above-size : (branches others : List Branch) → BranchesAlike branches others → CutsNoLarger (cuts_above others) (cuts_above branches)
+cuts-above-size [] [] alike = tt
+cuts-above-size [] (b ∷ others) alike = absurd alike
+cuts-above-size (b ∷ above) [] alike = absurd alike
+cuts-above-size (At is_second form most ∷ above) (At other_second other other_most ∷ others) alike =
+    let left = side-size is_second form most in
+    let right = side-size other_second other other_most in
+    let same : unsigned_abs (side is_second [] most).most ≡ unsigned_abs (side other_second [] other_most).most = ap₂ (λ (s : Bool) (k : ℤ). unsigned_abs (side s [] k).most) alike.0 alike.1 in
+    let less = form-no-larger other form alike.3 in
+    let last : cut_size (side other_second other other_most) ≤ cut_size (side is_second form most) = omega arith in
+    larger-joined (cuts_above others) (cuts_above above) (side other_second other other_most ∷ []) (side is_second form most ∷ []) (cuts-above-size above others alike.4) (last, tt)
+
+told-large : (p : Table) (least : ℤ) (branches others : List Branch) (told : Result Told FaultKind) → BranchesAlike branches others → IsLargeTold p least others told → IsLargeTold p least branches told
+told-large p least branches others (Err kind) alike h = absurd h
+told-large p least branches others (Ok (SplitLine form most)) alike h = absurd h
+told-large p least branches others (Ok (BoundLine scale ys rows)) alike h =
+    let less = cuts-size ys (cuts_above others) (cuts_above branches) (cuts-above-size branches others alike) in
+    let large : 2 ^ 126 ≤ leaf_size p least (cuts_above others) scale ys rows = h in
+    omega arith
+
+line-large : (p : Table) (least : ℤ) (line : List ℕ) (branches others : Option (List Branch)) → OpenAlike (Ok branches) (Ok others) → IsLargeLine p least others line → IsLargeLine p least branches line
+line-large p least line None None alike h = absurd h
+line-large p least line None (Some others) alike h = absurd alike
+line-large p least line (Some branches) None alike h = absurd alike
+line-large p least line (Some branches) (Some others) alike h =
+    let moved : IsLargeTold p least others (line_told p (length branches) (fields line)) = subst (λ (depth : ℕ). IsLargeTold p least others (line_told p depth (fields line))) (sym (lengths-alike branches others alike)) h in
+    told-large p least branches others (line_told p (length branches) (fields line)) alike moved
+
+passed-alike : (p : Table) (least : ℤ) (line : List ℕ) (branches others : Option (List Branch)) → OpenAlike (Ok branches) (Ok others) → OpenAlike (after_line p least branches line) (after_line p least others line)
+passed-alike p least line branches others alike = by (is_skipped line)
+  where
+    by : (b : Bool) → OpenAlike (if b then Ok branches else behind p least line branches) (if b then Ok others else behind p least line others)
+    by true = alike
+    by false = behind-alike p least line branches others alike
+
+-- a line that is large by the code's splits is so by the told ones
+pub large-alike : (p : Table) (least : ℤ) (place : ℕ) (lines : List (List ℕ)) (told other : Opened) (number : ℕ) → OpenAlike told other → IsLargeFrom p least other place lines number → IsLargeFrom p least told place lines number
+large-alike p least place lines (Err kind) (Err other) number alike h = absurd h
+large-alike p least place lines (Err kind) (Ok o) number alike h = absurd alike
+large-alike p least place lines (Ok o) (Err kind) number alike h = absurd h
+large-alike p least place [] (Ok branches) (Ok others) number alike h = absurd h
+large-alike p least place (line ∷ lines) (Ok branches) (Ok others) number alike (inl h) = inl (h.0, line-large p least line branches others alike h.1)
+large-alike p least place (line ∷ lines) (Ok branches) (Ok others) number alike (inr h) = inr (large-alike p least (suc place) lines (after_line p least branches line) (after_line p least others line) number (passed-alike p least line branches others alike) h)
+
+-- a split that is opened with another form than the line tells, which gives each column the same and is no larger
+pub split-opened : (p : Table) (least : ℤ) (branches after : List Branch) (told : Result Told FaultKind) (form : Form) (most : ℤ) (split : OpenSplit) → told ≡ Ok (SplitLine form most) → AreAlike split.form.items form → AreNoLarger split.form.items form → split.most ≡ most
     → split.is_high ≡ false → after ≡ branch_of split ∷ branches → GoOnAlike p least (and_then told (taken p least branches)) (Ok (Some after))
-split-opened p least branches after told form most split t alike m low a place lines =
-    ap (λ (r : Result Told FaultKind). fault_from p least (and_then r (taken p least branches)) place lines) t
-    ∙ fault-alike p least place lines (Ok (Some (At false form most ∷ branches))) (Ok (Some (branch_of split ∷ branches))) (sym low, sym m, λ q. sym (alike q), branches-themselves branches)
-    ∙ ap (λ (bs : List Branch). fault_from p least (Ok (Some bs)) place lines) (sym a)
+split-opened p least branches after told form most split t alike less m low a place lines = (
+  ap (λ (r : Result Told FaultKind). fault_from p least (and_then r (taken p least branches)) place lines) t
+      ∙ fault-alike p least place lines (Ok (Some (At false form most ∷ branches))) (Ok (Some (branch_of split ∷ branches))) opened
+      ∙ ap (λ (bs : List Branch). fault_from p least (Ok (Some bs)) place lines) (sym a),
+  λ number h.
+      subst (λ (r : Result Told FaultKind). IsLargeFrom p least (and_then r (taken p least branches)) place lines number) (sym t)
+      (large-alike p least place lines (Ok (Some (At false form most ∷ branches))) (Ok (Some (branch_of split ∷ branches))) number opened (subst (λ (bs : List Branch). IsLargeFrom p least (Ok (Some bs)) place lines number) a h)),
+)
+  where
+    opened : BranchesAlike (At false form most ∷ branches) (branch_of split ∷ branches)
+    opened = (sym low, sym m, λ q. sym (alike q), less, branches-themselves branches)

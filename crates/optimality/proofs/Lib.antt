@@ -11,3 +11,9 @@ pub mod BranchLaws
 pub mod VerdictLaws
 pub mod OnlyLaws
 pub mod ProductBounds
+pub mod SizeLaws
+pub mod PlaceSizes
+pub mod RowSizes
+pub mod ColumnSizes
+pub mod StopLaws
+pub mod LargeLaws

@@ -6,7 +6,7 @@ use Rattle.std.proofs.lemmas.Int.{ints}
 use Rattle.program_rows.specs.declared.bounds.Bounds.{Bounds}
 use Rattle.program_rows.specs.declared.bounds.Bounds.TheVariants.{ZeroOrOne, Zero, One}
 use Rattle.program_rows.specs.Program.{TableColumn}
-use Rattle.program_rows.specs.Points.{AreAllowed, allows, objective}
+use Rattle.program_rows.specs.Points.{AreAllowed, allows, objective, sum_at_one}
 use Rattle.optimality.specs.Branches.{cuts_above}
 use Rattle.optimality.specs.Certificates.{Form, side}
 use Rattle.optimality.specs.inside.Certificates.{form_sum}
@@ -125,3 +125,18 @@ free_ones-at zero (c ∷ cs) (w ∷ vs) b v e f =
 free_ones-at (suc i) [] vs b v e f = cc e
 free_ones-at (suc i) (c ∷ cs) [] b v e f = cc f
 free_ones-at (suc i) (c ∷ cs) (w ∷ vs) b v e f = free_ones-at i cs vs b v e f
+
+-- the cost of the column at a place, if it is 1, and those behind it
+pub cost-at : (i : ℕ) (cs : List TableColumn) (vs : List Bool) (n : ℤ) (v : Bool) → option_map (λ c. c.cost) (slice_get cs i) ≡ Some n → slice_get vs i ≡ Some v
+    → sum_at_one (λ c. c.cost) (drop i cs) (drop i vs) ≡ cond v n (pos 0) +ℤ sum_at_one (λ c. c.cost) (drop (suc i) cs) (drop (suc i) vs)
+cost-at i [] vs n v of_cost of_value = absurd cc
+cost-at i (c ∷ cs) [] n v of_cost of_value = absurd cc
+cost-at zero (c ∷ cs) (w ∷ vs) n v of_cost of_value =
+    let cost : c.cost ≡ n = cc in
+    let value : w ≡ v = cc in
+    by w ∙ ap₂ (λ (b : Bool) (k : ℤ). cond b k (pos 0) +ℤ sum_at_one (λ d. d.cost) cs vs) value cost
+  where
+    by : (b : Bool) → sum_at_one (λ d. d.cost) (c ∷ cs) (b ∷ vs) ≡ cond b c.cost (pos 0) +ℤ sum_at_one (λ d. d.cost) cs vs
+    by true = refl
+    by false = omega (arith, ints)
+cost-at (suc i) (c ∷ cs) (w ∷ vs) n v of_cost of_value = cost-at i cs vs n v of_cost of_value

@@ -6,7 +6,7 @@ use Rattle.std.proofs.lemmas.Int.{ints, unsigned_abs-mul}
 use mir.Syntax.{w64}
 use mir.Val.{SFits}
 
-abs-within : (n : ℤ) → SFits w64 n → unsigned_abs n ≤ 2 ^ 63
+pub abs-within : (n : ℤ) → SFits w64 n → unsigned_abs n ≤ 2 ^ 63
 abs-within (pos n) f = let below : n < 2 ^ 63 = f.sfits in omega arith
 abs-within (negsuc n) f = let below : n < 2 ^ 63 = f.sfits in omega arith
 

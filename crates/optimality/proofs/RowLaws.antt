@@ -52,14 +52,14 @@ number-more : (form : Form) (t : ℕ × ℤ) (i : ℕ) → number_in (form ++ t 
 number-more [] t i = omega (arith, ints)
 number-more (s ∷ form) t i = let later = number-more form t i in omega (arith, ints)
 
-length-term : (row : ℕ) (t : ℕ × ℤ) (forms : List Form) → length (with_term row t forms) ≡ length forms
+pub length-term : (row : ℕ) (t : ℕ × ℤ) (forms : List Form) → length (with_term row t forms) ≡ length forms
 length-term row t forms = length-set forms row (form_at forms row ++ t ∷ [])
 
-length-entries : (place : ℕ) (es : List (ℕ × ℤ)) (forms : List Form) → length (with_entries place es forms) ≡ length forms
+pub length-entries : (place : ℕ) (es : List (ℕ × ℤ)) (forms : List Form) → length (with_entries place es forms) ≡ length forms
 length-entries place [] forms = refl
 length-entries place (e ∷ es) forms = length-entries place es (with_term e.0 (place, e.1) forms) ∙ length-term e.0 (place, e.1) forms
 
-length-columns : (place : ℕ) (cs : List TableColumn) (forms : List Form) → length (with_columns place cs forms) ≡ length forms
+pub length-columns : (place : ℕ) (cs : List TableColumn) (forms : List Form) → length (with_columns place cs forms) ≡ length forms
 length-columns place [] forms = refl
 length-columns place (c ∷ cs) forms = length-columns (suc place) cs (with_entries place c.entries forms) ∙ length-entries place c.entries forms
 

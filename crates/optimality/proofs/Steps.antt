@@ -10,7 +10,7 @@ use Rattle.optimality.specs.Certificates.{Form, side, number_in}
 use Rattle.optimality.specs.Reduced.{right_side_at}
 use Rattle.optimality.specs.inside.Adding.{AreGivenMore, number_at, cuts_given, form_at, form_given, rows_given}
 use Rattle.optimality.specs.inside.Holding.{cut_of, cuts_of}
-use Rattle.optimality.proofs.ColumnSums.{rows_right}
+use Rattle.optimality.proofs.ColumnSums.{cuts_right, rows_right}
 use Rattle.optimality.proofs.PlaceLaws.{rest, given-step, negated-in}
 
 pub right-step : (table : List TableRow) (rows : Form) (i : ℕ) (d : ℕ × ℤ) (sum next all : ℤ) → i < length rows → next ≡ sum +ℤ (get_or rows i d).1 *ℤ right_side_at table (get_or rows i d).0
@@ -49,6 +49,13 @@ pub cuts-step : (ys : List ℕ) (splits : List OpenSplit) (i : ℕ) (e : ℕ) (d
 cuts-step ys splits i e d start before after l m more h =
     given-step (cuts_given (drop i ys) (cuts_of (drop i splits))) (form_given (pos (get_or ys i e)) (cut_of (get_or splits i d)).form) (cuts_given (drop (i + 1) ys) (cuts_of (drop (i + 1) splits))) start before after (cuts_given ys (cuts_of splits))
     (λ q. cuts-rest ys splits i e d q l m) more h
+
+pub cuts-right-step : (ys : List ℕ) (splits : List OpenSplit) (i : ℕ) (e : ℕ) (d : OpenSplit) (sum next all : ℤ) → i < length ys → i < length splits → next ≡ sum +ℤ pos (get_or ys i e) *ℤ (cut_of (get_or splits i d)).most
+    → sum +ℤ cuts_right (drop i ys) (cuts_of (drop i splits)) ≡ all → next +ℤ cuts_right (drop (i + 1) ys) (cuts_of (drop (i + 1) splits)) ≡ all
+cuts-right-step ys splits i e d sum next all l m s h =
+    let first = pos (get_or ys i e) *ℤ (cut_of (get_or splits i d)).most in
+    let split : cuts_right (drop i ys) (cuts_of (drop i splits)) ≡ first +ℤ cuts_right (drop (i + 1) ys) (cuts_of (drop (i + 1) splits)) = ap₂ (λ (ms : List ℕ) (ss : List OpenSplit). cuts_right ms (cuts_of ss)) (rest ys i e l) (rest splits i d m) in
+    omega (arith, ints)
 
 -- ---------- rows ----------
 

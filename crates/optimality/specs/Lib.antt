@@ -8,5 +8,6 @@ pub mod Telling
 pub mod Answers
 pub mod Branches
 pub mod Verdict
+pub mod Sizes
 pub mod Only
 pub mod inside

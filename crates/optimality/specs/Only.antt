@@ -10,6 +10,7 @@ use Rattle.optimality.specs.Branches.{Branch, At, cuts_above}
 use Rattle.optimality.specs.Certificates.{Certificate, Form}
 use Rattle.optimality.specs.Lines.{telling_lines}
 use Rattle.optimality.specs.Shows.{ShowsWithin}
+use Rattle.optimality.specs.Sizes.{IsLargeFrom}
 use Rattle.optimality.specs.Telling.{TellsCertificate}
 use Rattle.optimality.specs.Verdict.{fault_from}
 use Rattle.program_faults.specs.declared.certificate_fault.FaultKind.{FaultKind}
@@ -49,6 +50,10 @@ IsShownOnlyBy p values text = (certificate : Certificate) × TellsCertificate p 
 -- the first fault of a text that is to show it
 abbrev pub only_fault : Table → List Bool → List ℕ → Option (ℕ × FaultKind)
 only_fault p values text = fault_from p (objective p values +ℤ pos 1) (Ok (Some (all_others p values ∷ []))) 0 (lines_of text)
+
+-- the line of this number tells a leaf of size 2^126 or more, and no line before it has a fault
+abbrev pub IsLargeOnlyAt : Table → List Bool → List ℕ → ℕ → Type 0
+IsLargeOnlyAt p values text number = IsLargeFrom p (objective p values +ℤ pos 1) (Ok (Some (all_others p values ∷ []))) 0 (lines_of text) number
 
 -- a text has no fault exactly where it tells a certificate that shows it
 abbrev pub OnlyFaultIsExact : Type 0

@@ -17,13 +17,16 @@ taken p least branches (SplitLine form most) = Ok (Some (At false form most ∷ 
 taken p least branches (BoundLine scale ys rows) =
     if int_lt (pos scale *ℤ (least -ℤ pos 1)) (leaf_value p (cuts_above branches) scale ys rows) then Ok (closed branches) else Err NotShown
 
--- the fault of the line at this place, or else the first one behind it; nothing may be told behind the last subtree, and the text may not end before it
+-- what is open behind a line; nothing may be told behind the last subtree
+abbrev pub behind : Table → ℤ → Option (List Branch) → List ℕ → Result (Option (List Branch)) FaultKind
+behind p least branches line =
+    if is_skipped line then Ok branches else and_then (ok_or branches Beyond) (λ above. and_then (line_told p (length above) (fields line)) (taken p least above))
+
+-- the fault of the line at this place, or else the first one behind it; the text may not end before the last subtree
 abbrev pub fault_from : Table → ℤ → Result (Option (List Branch)) FaultKind → ℕ → List (List ℕ) → Option (ℕ × FaultKind)
 fault_from p least (Err kind) place lines = Some (place, kind)
 fault_from p least (Ok branches) place [] = option_map (λ b. (place, NoEnd)) branches
-fault_from p least (Ok branches) place (line ∷ lines) = fault_from p least
-    (if is_skipped line then Ok branches else and_then (ok_or branches Beyond) (λ above. and_then (line_told p (length above) (fields line)) (taken p least above)))
-    (suc place) lines
+fault_from p least (Ok branches) place (line ∷ lines) = fault_from p least (behind p least branches line) (suc place) lines
 
 -- the first fault of a text that is to show `least`
 abbrev pub certificate_fault : Table → ℤ → List ℕ → Option (ℕ × FaultKind)

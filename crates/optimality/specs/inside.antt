@@ -5,3 +5,4 @@ pub mod Certificates
 pub mod Checking
 pub mod Holding
 pub mod RowForms
+pub mod Stopping

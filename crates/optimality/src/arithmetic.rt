@@ -1,6 +1,7 @@
 //! Exact arithmetic in 128 bits.
 
-ghost use Rattle.std.specs.Prelude.{◌≡◌, ◌^◌, ◌≤ℤ◌, ◌+ℤ◌, ◌-ℤ◌, ◌*ℤ◌, IfOk, if◌then◌else◌, neg_ℤ, pos};
+ghost use Rattle.std.specs.Prelude.{◌≡◌, ◌+◌, ◌*◌, ◌^◌, ◌≤◌, ◌≤ℤ◌, ◌+ℤ◌, ◌-ℤ◌, ◌*ℤ◌, IfOk, if◌then◌else◌, neg_ℤ, pos, unsigned_abs};
+ghost use Rattle.optimality.specs.inside.Stopping.{TooLargeOnly};
 
 use crate::limit::Limit;
 
@@ -8,19 +9,22 @@ use crate::limit::Limit;
 const MOST: i128 = 85_070_591_730_234_615_865_843_651_857_942_052_864;
 
 pub fn plus(a: i128, b: i128) -> Result<i128, Limit>
-    ensures { IfOk result (λ n. n ≡ a +ℤ b) }
+    ensures value { IfOk result (λ n. n ≡ a +ℤ b) }
+    ensures too_large { TooLargeOnly (2 ^ 127 ≤ unsigned_abs a + unsigned_abs b) result }
 {
     a.checked_add(b).ok_or(Limit::TooLarge)
 }
 
 pub fn minus(a: i128, b: i128) -> Result<i128, Limit>
-    ensures { IfOk result (λ n. n ≡ a -ℤ b) }
+    ensures value { IfOk result (λ n. n ≡ a -ℤ b) }
+    ensures too_large { TooLargeOnly (2 ^ 127 ≤ unsigned_abs (a -ℤ b)) result }
 {
     a.checked_sub(b).ok_or(Limit::TooLarge)
 }
 
 pub fn times(a: i128, b: i128) -> Result<i128, Limit>
-    ensures { IfOk result (λ n. n ≡ a *ℤ b) }
+    ensures value { IfOk result (λ n. n ≡ a *ℤ b) }
+    ensures too_large { TooLargeOnly (2 ^ 127 ≤ unsigned_abs (a *ℤ b)) result }
 {
     a.checked_mul(b).ok_or(Limit::TooLarge)
 }
@@ -36,7 +40,8 @@ pub fn product(a: i64, b: i64) -> i128
 pub fn plus_product(number: i128, product: i128) -> Result<i128, Limit>
     requires low { neg_ℤ (pos (2 ^ 126)) ≤ℤ product }
     requires high { product ≤ℤ pos (2 ^ 126) }
-    ensures { IfOk result (λ n. n ≡ number +ℤ product) }
+    ensures value { IfOk result (λ n. n ≡ number +ℤ product) }
+    ensures too_large { TooLargeOnly (2 ^ 126 ≤ unsigned_abs number) result }
 {
     if number < -MOST || number >= MOST {
         return Err(Limit::TooLarge);
@@ -46,7 +51,8 @@ pub fn plus_product(number: i128, product: i128) -> Result<i128, Limit>
 
 /// A product of numbers that mostly fit 64 bits.
 pub fn wide_product(a: i128, b: i128) -> Result<i128, Limit>
-    ensures { IfOk result (λ n. n ≡ a *ℤ b) }
+    ensures value { IfOk result (λ n. n ≡ a *ℤ b) }
+    ensures too_large { TooLargeOnly (2 ^ 127 ≤ unsigned_abs (a *ℤ b)) result }
 {
     let (Ok(left), Ok(right)) = (i64::try_from(a), i64::try_from(b)) else {
         return times(a, b);
@@ -54,13 +60,17 @@ pub fn wide_product(a: i128, b: i128) -> Result<i128, Limit>
     Ok(product(left, right))
 }
 
-/// A multiplier in 64 bits, with the sign that it is to have.
-pub fn signed(is_negative: bool, multiplier: u64) -> Result<i64, Limit>
-    ensures { IfOk result (λ n. n ≡ (if is_negative then neg_ℤ (pos multiplier) else pos
-        multiplier)) }
+/// The product of a scale and a number of 64 bits, which never leaves 128 bits either.
+pub fn scaled(scale: u64, number: i64) -> i128
+    ensures { result ≡ pos scale *ℤ number }
 {
-    let Ok(number) = i64::try_from(multiplier) else {
-        return Err(Limit::TooLarge);
-    };
-    if is_negative { Ok(-number) } else { Ok(number) }
+    i128::from(scale) * i128::from(number)
+}
+
+/// A multiplier with the sign that it is to have. There is room for each in 128 bits.
+pub fn signed(is_negative: bool, multiplier: u64) -> i128
+    ensures { result ≡ (if is_negative then neg_ℤ (pos multiplier) else pos multiplier) }
+{
+    let number = i128::from(multiplier);
+    if is_negative { -number } else { number }
 }

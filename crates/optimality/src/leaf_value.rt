@@ -1,6 +1,6 @@
 //! What a leaf comes to.
 
-ghost use Rattle.std.specs.Prelude.{◌≡◌, ◌-ℤ◌, ◌*ℤ◌, ◌+ℤ◌, ℕ, IfOk, OnOk, int_lt, length, pos};
+ghost use Rattle.std.specs.Prelude.{◌≡◌, ◌≤◌, ◌+◌, ◌*◌, ◌^◌, ◌-ℤ◌, ◌*ℤ◌, ◌+ℤ◌, ℕ, IfOk, OnOk, int_lt, length, pos, unsigned_abs};
 ghost use Rattle.std.specs.List.{enumerate_from, zip};
 ghost use Rattle.optimality.specs.inside.Adding.{cuts_given, number_at, rows_given};
 ghost use Rattle.optimality.specs.inside.Checking.{IsPrepared};
@@ -8,10 +8,12 @@ ghost use Rattle.optimality.specs.inside.Holding.{cuts_of};
 ghost use Rattle.optimality.specs.Certificates.{sum_of};
 ghost use Rattle.optimality.specs.Reduced as reduced;
 ghost use Rattle.optimality.specs.inside.RowForms.{row_forms};
+ghost use Rattle.optimality.specs.inside.Stopping.{TooLargeOnly, given_size, right_size};
+ghost use Rattle.optimality.specs.Sizes.{costs_size, leaf_size};
 ghost use Rattle.optimality.specs.Shows as shows;
 
 use crate::added_up::added_up;
-use crate::arithmetic::{minus, plus, signed, times};
+use crate::arithmetic::{minus, plus, times};
 use crate::checker::Checker;
 use crate::cuts::{add_cuts, cuts_right};
 use crate::leaf::Leaf;
@@ -32,10 +34,14 @@ fn reduce(
 ) -> Result<(), Limit>
     requires prepared { IsPrepared checker.now }
     requires count { length leaf.now.multipliers.items ≡ length splits.now }
-    ensures { OnOk result ((q : ℕ) → number_at sums.new.numbers.items q
+    ensures value { OnOk result ((q : ℕ) → number_at sums.new.numbers.items q
         ≡ cuts_given leaf.now.multipliers.items (cuts_of splits.now) q +ℤ rows_given rows.now
         (row_forms checker.now.program.now) q) }
+    ensures too_large { TooLargeOnly (2 ^ 126 ≤ given_size checker.now.program.now.columns
+        leaf.now.multipliers.items (cuts_of splits.now) rows.now) result }
 {
+    // The places of entries lie within the rows.
+    checker.program.well_formed();
     sums.clear();
     add_cuts(sums, leaf.multipliers.as_slice(), splits)?;
     add_rows(sums, checker.row_forms.as_slice(), rows)
@@ -51,16 +57,23 @@ fn least_of(
 ) -> Result<i128, Limit>
     requires prepared { IsPrepared checker.now }
     requires count { length leaf.now.multipliers.items ≡ length splits.now }
-    ensures { IfOk result (λ n. n ≡ sum_of (λ e. reduced.least_part e.1.bounds
+    ensures value { IfOk result (λ n. n ≡ sum_of (λ e. reduced.least_part e.1.bounds
         (reduced.reduced leaf.now.scale leaf.now.multipliers.items (cuts_of splits.now) rows.now
         e.0 e.1)) (enumerate_from 0 checker.now.program.now.columns)) }
+    ensures size { IfOk result (λ n. unsigned_abs n ≤ leaf.now.scale
+        * costs_size checker.now.program.now.columns
+        + given_size checker.now.program.now.columns leaf.now.multipliers.items (cuts_of splits.now)
+        rows.now) }
+    ensures too_large { TooLargeOnly (2 ^ 126 ≤ leaf.now.scale
+        * costs_size checker.now.program.now.columns
+        + given_size checker.now.program.now.columns leaf.now.multipliers.items (cuts_of splits.now)
+        rows.now) result }
 {
     // The places of entries lie within the rows.
     checker.program.well_formed();
-    let factor = signed(false, leaf.scale)?;
-    let alone = times(i128::from(factor), checker.alone)?;
+    let alone = times(i128::from(leaf.scale), checker.alone)?;
     reduce(checker, sums, splits, leaf, rows)?;
-    least_total(checker.program, factor, alone, sums)
+    least_total(checker.program, leaf.scale, alone, sums)
 }
 
 /// The right sides of cuts and rows, each times its multiplier.
@@ -71,9 +84,11 @@ fn right_of(
     rows: &[(usize, i128)],
 ) -> Result<i128, Limit>
     requires { length leaf.now.multipliers.items ≡ length splits.now }
-    ensures { IfOk result (λ n. n ≡ sum_of (λ e. pos e.0 *ℤ e.1.most)
+    ensures value { IfOk result (λ n. n ≡ sum_of (λ e. pos e.0 *ℤ e.1.most)
         (zip leaf.now.multipliers.items (cuts_of splits.now)) +ℤ sum_of (λ t. t.1
         *ℤ reduced.right_side_at program.now.rows t.0) rows.now) }
+    ensures too_large { TooLargeOnly (2 ^ 126 ≤ right_size program.now.rows
+        leaf.now.multipliers.items (cuts_of splits.now) rows.now) result }
 {
     let of_cuts = cuts_right(leaf.multipliers.as_slice(), splits)?;
     let of_rows = rows_right(program, rows)?;
@@ -88,8 +103,11 @@ fn leaf_value(
 ) -> Result<i128, Limit>
     requires prepared { IsPrepared checker.now }
     requires count { length leaf.now.multipliers.items ≡ length splits.now }
-    ensures { IfOk result (λ n. n ≡ shows.leaf_value checker.now.program.now (cuts_of splits.now)
-        leaf.now.scale leaf.now.multipliers.items leaf.now.rows.items) }
+    ensures value { IfOk result (λ n. n ≡ shows.leaf_value checker.now.program.now
+        (cuts_of splits.now) leaf.now.scale leaf.now.multipliers.items leaf.now.rows.items) }
+    ensures too_large { TooLargeOnly (2 ^ 126 ≤ leaf_size checker.now.program.now checker.now.least
+        (cuts_of splits.now) leaf.now.scale leaf.now.multipliers.items leaf.now.rows.items)
+        result }
 {
     let rows = added_up(checker.alloc, sums, leaf.rows.as_slice())?;
     let bottom = least_of(checker, sums, splits, leaf, rows.as_slice())?;
@@ -98,8 +116,13 @@ fn leaf_value(
 }
 
 fn scaled_before(scale: u64, least: i128) -> Result<i128, Limit>
-    ensures { IfOk result (λ n. n ≡ pos scale *ℤ (least -ℤ pos 1)) }
+    ensures value { IfOk result (λ n. n ≡ pos scale *ℤ (least -ℤ pos 1)) }
+    ensures too_large { TooLargeOnly (2 ^ 126 ≤ scale * unsigned_abs (least -ℤ pos 1)) result }
 {
+    // No bound is too large for a leaf of scale 0.
+    if scale == 0 {
+        return Ok(0);
+    }
     let before = minus(least, 1)?;
     times(i128::from(scale), before)
 }
@@ -113,10 +136,13 @@ pub fn is_above(
 ) -> Result<bool, Limit>
     requires prepared { IsPrepared checker.now }
     requires count { length leaf.now.multipliers.items ≡ length splits.now }
-    ensures { IfOk result (λ above. above
+    ensures value { IfOk result (λ above. above
         ≡ int_lt (pos leaf.now.scale *ℤ (checker.now.least -ℤ pos 1))
         (shows.leaf_value checker.now.program.now (cuts_of splits.now) leaf.now.scale
         leaf.now.multipliers.items leaf.now.rows.items)) }
+    ensures too_large { TooLargeOnly (2 ^ 126 ≤ leaf_size checker.now.program.now checker.now.least
+        (cuts_of splits.now) leaf.now.scale leaf.now.multipliers.items leaf.now.rows.items)
+        result }
 {
     let value = leaf_value(checker, sums, splits, leaf)?;
     let before = scaled_before(leaf.scale, checker.least)?;

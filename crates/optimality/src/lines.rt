@@ -1,17 +1,17 @@
 //! One line of a certificate.
 
-ghost use Rattle.std.specs.Prelude.{◌≡◌, ◌==◌, ◌-ℤ◌, ◌*ℤ◌, IfOk, Ok, bytes_eq, if◌then◌else◌, int_lt, length, not, pos, slice_index};
-ghost use Rattle.std.specs.Option.{ok_or};
-ghost use Rattle.program_faults.specs.declared.certificate_fault.FaultKind.TheVariants.{Beyond};
+ghost use Rattle.std.specs.Prelude.{◌≡◌, ◌≤◌, ◌==◌, ◌^◌, ◌-ℤ◌, ◌*ℤ◌, IfOk, bytes_eq, int_lt, length, not, pos, slice_index};
 ghost use Rattle.program_rows.specs.Lines.{fields, is_skipped};
-ghost use Rattle.optimality.specs.inside.Answers.{AnswersSeen};
+ghost use Rattle.optimality.specs.inside.Answers.{AnswersClosed};
 ghost use Rattle.optimality.specs.inside.Branches.{AnswersAlike, branches_of, opened};
 ghost use Rattle.optimality.specs.Branches.{cuts_above};
 ghost use Rattle.optimality.specs.inside.Checking.{IsPrepared};
+ghost use Rattle.optimality.specs.inside.Stopping.{RefusedLargeOnly, TooLargeOnly};
 ghost use Rattle.auction_terms.specs.Stages.{and_then};
 ghost use Rattle.optimality.specs.LineMeaning.{bound_told, line_told, split_told};
 ghost use Rattle.optimality.specs.Shows.{leaf_value};
-ghost use Rattle.optimality.specs.Verdict.{taken};
+ghost use Rattle.optimality.specs.Sizes.{IsLargeLine, IsLargeTold, leaf_size};
+ghost use Rattle.optimality.specs.Verdict.{behind, taken};
 
 use crate::checker::Checker;
 use crate::closing::close;
@@ -39,9 +39,10 @@ fn take_split_line(
     text: &[u8],
 ) -> Result<bool, Refusal>
     requires { IsPrepared checker.now }
-    ensures { AnswersAlike checker.now.program.now checker.now.least splits.new.items result
+    ensures value { AnswersAlike checker.now.program.now checker.now.least splits.new.items result
         (and_then (split_told checker.now.program.now (fields text.now))
         (taken checker.now.program.now checker.now.least (branches_of splits.old.items))) }
+    ensures too_large { RefusedLargeOnly ⊥ result }
 {
     let told = take_split(checker, text)?;
     let split = opened_split(checker.alloc, sums, &told)?;
@@ -57,10 +58,13 @@ fn leaf_shows(
 ) -> Result<bool, Limit>
     requires prepared { IsPrepared checker.now }
     requires count { length leaf.now.multipliers.items ≡ length splits.now }
-    ensures { IfOk result (λ shows. shows
+    ensures value { IfOk result (λ shows. shows
         ≡ int_lt (pos leaf.now.scale *ℤ (checker.now.least -ℤ pos 1))
         (leaf_value checker.now.program.now (cuts_above (branches_of splits.now)) leaf.now.scale
         leaf.now.multipliers.items leaf.now.rows.items)) }
+    ensures too_large { TooLargeOnly (2 ^ 126 ≤ leaf_size checker.now.program.now checker.now.least
+        (cuts_above (branches_of splits.now)) leaf.now.scale leaf.now.multipliers.items
+        leaf.now.rows.items) result }
 {
     is_above(checker, sums, splits, leaf)
 }
@@ -72,9 +76,12 @@ fn take_leaf_line(
     text: &[u8],
 ) -> Result<bool, Refusal>
     requires { IsPrepared checker.now }
-    ensures { AnswersSeen (λ is_last. opened is_last splits.new.items) result
+    ensures value { AnswersClosed (λ is_last. opened is_last splits.new.items) result
         (and_then (bound_told checker.now.program.now (length splits.old.items) (fields text.now))
         (taken checker.now.program.now checker.now.least (branches_of splits.old.items))) }
+    ensures too_large { RefusedLargeOnly (IsLargeTold checker.now.program.now checker.now.least
+        (branches_of splits.old.items) (bound_told checker.now.program.now (length splits.old.items)
+        (fields text.now))) result }
 {
     let leaf = take_leaf(checker, splits.len(), text)?;
     if !leaf_shows(checker, sums, splits.as_slice(), &leaf)? {
@@ -91,10 +98,13 @@ fn take_line(
     line: &[u8],
 ) -> Result<bool, Refusal>
     requires { IsPrepared checker.now }
-    ensures { AnswersAlike checker.now.program.now checker.now.least splits.new.items result
+    ensures value { AnswersAlike checker.now.program.now checker.now.least splits.new.items result
         (and_then (line_told checker.now.program.now (length (branches_of splits.old.items))
         (fields line.now)) (taken checker.now.program.now checker.now.least
         (branches_of splits.old.items))) }
+    ensures too_large { RefusedLargeOnly (IsLargeTold checker.now.program.now checker.now.least
+        (branches_of splits.old.items) (line_told checker.now.program.now
+        (length (branches_of splits.old.items)) (fields line.now))) result }
 {
     let Some(word) = next_field(line) else {
         return Err(Refusal::Fault(FaultKind::Fields));
@@ -138,11 +148,11 @@ pub fn take_any(
     line: &[u8],
 ) -> Result<bool, Refusal>
     requires { IsPrepared checker.now }
-    ensures { AnswersAlike checker.now.program.now checker.now.least splits.new.items result
-        (if is_skipped line.now then Ok (opened is_last splits.old.items) else and_then
-        (ok_or (opened is_last splits.old.items) Beyond) (λ above. and_then
-        (line_told checker.now.program.now (length above) (fields line.now))
-        (taken checker.now.program.now checker.now.least above))) }
+    ensures value { AnswersAlike checker.now.program.now checker.now.least splits.new.items result
+        (behind checker.now.program.now checker.now.least (opened is_last splits.old.items)
+        line.now) }
+    ensures too_large { RefusedLargeOnly (IsLargeLine checker.now.program.now checker.now.least
+        (opened is_last splits.old.items) line.now) result }
 {
     if !is_telling(line) {
         return Ok(is_last);

@@ -3,13 +3,13 @@
 ghost use Rattle.std.specs.Prelude.{◌≡◌, ◌⊎◌, ◌+◌, ◌+ℤ◌, ◌++◌, ◌∷◌, ◌<◌, ◌≤◌, [], IfErr, IfOk, OnOk, drop, if◌then◌else◌, length, neg_ℤ, pos};
 ghost use Rattle.optimality.specs.Answers.{IsLimit, IsVerdict};
 ghost use Rattle.optimality.specs.Only as only;
-ghost use Rattle.optimality.specs.Only.{IsShownOnlyBy, all_others, free_ones, only_fault};
+ghost use Rattle.optimality.specs.Only.{IsLargeOnlyAt, IsShownOnlyBy, all_others, free_ones, only_fault};
 ghost use Rattle.optimality.specs.inside.Branches.{branch_of, branches_of};
 ghost use Rattle.optimality.specs.inside.Checking.{IsPrepared};
+ghost use Rattle.program_faults.specs.declared.certificate_fault.FaultKind.TheVariants.{TooLarge};
 ghost use Rattle.program_rows.specs.Only.{IsOnlyLeast};
-ghost use Rattle.program_rows.specs.Points.{IsPoint, objective};
+ghost use Rattle.program_rows.specs.Points.{IsPoint, objective, sum_at_one};
 
-use crate::arithmetic::plus;
 use crate::checker::Checker;
 use crate::forms::WideForm;
 use crate::limit::Limit;
@@ -88,29 +88,54 @@ fn free_one(program: &Program, values: &Point, column: usize) -> usize
 }
 
 /// How many of the columns that may be 0 or 1 are 1.
-fn free_ones(program: &Program, values: &Point) -> Result<i64, Limit>
+fn free_ones(program: &Program, values: &Point) -> usize
     requires { length values.now ≡ length program.now.columns }
-    ensures { IfOk result (λ ones. ones ≡ pos (free_ones program.now.columns values.now)) }
+    ensures { result ≡ free_ones program.now.columns values.now }
 {
     let mut ones: usize = 0;
     for column in 0..program.column_count() {
         ones += free_one(program, values, column);
     }
-    i64::try_from(ones).map_err(|_| Limit::TooLarge)
+    ones
 }
 
 /// The split from a point, at the side of all others.
-fn all_others(alloc: Global, program: &Program, values: &Point) -> Result<OpenSplit, Limit>
+fn all_others(alloc: Global, program: &Program, values: &Point) -> Result<OpenSplit, AllocError>
     requires { length values.now ≡ length program.now.columns }
     ensures { IfOk result (λ split. branch_of split ≡ all_others program.now values.now) }
 {
     let form = distance(alloc, program, values)?;
-    let ones = free_ones(program, values)?;
+    let ones = free_ones(program, values) as i128;
     Ok(OpenSplit {
         form,
         most: -ones,
         is_high: true,
     })
+}
+
+/// The cost of a column, if it is 1.
+fn cost_at(program: &Program, values: &Point, column: usize) -> i64
+    requires sized { length values.now ≡ length program.now.columns }
+    requires within { column < length program.now.columns }
+    ensures { sum_at_one (λ c. c.cost) (drop column program.now.columns) (drop column values.now)
+        ≡ result +ℤ sum_at_one (λ c. c.cost) (drop (column + 1) program.now.columns)
+        (drop (column + 1) values.now) }
+{
+    let value = values.value(column);
+    let cost = program.cost(column);
+    if value { cost } else { 0 }
+}
+
+/// One more than the objective of the values. It is added up here from 1 on, which shows that there is room for it in 128 bits.
+fn one_above(program: &Program, values: &Point) -> i128
+    requires { length values.now ≡ length program.now.columns }
+    ensures { result ≡ objective program.now values.now +ℤ pos 1 }
+{
+    let mut sum: i128 = 1;
+    for column in 0..program.column_count() {
+        sum += i128::from(cost_at(program, values, column));
+    }
+    sum
 }
 
 /// What a certificate is checked against, and the splits that are open above it.
@@ -124,7 +149,7 @@ fn behind_split<'p>(
     alloc: Global,
     program: &'p Program,
     values: &Point,
-) -> Result<BehindSplit<'p>, Limit>
+) -> Result<BehindSplit<'p>, AllocError>
     requires { length values.now ≡ length program.now.columns }
     ensures prepared { IfOk result (λ start. IsPrepared start.checker) }
     ensures program { IfOk result (λ start. start.checker.program.now ≡ program.now) }
@@ -133,7 +158,7 @@ fn behind_split<'p>(
     ensures splits { IfOk result (λ start. branches_of start.splits.items
         ≡ all_others program.now values.now ∷ []) }
 {
-    let least = plus(program.objective(values), 1)?;
+    let least = one_above(program, values);
     let split = all_others(alloc, program, values)?;
     let checker = new_checker(alloc, program, least)?;
     let mut splits = Vec::new(alloc);
@@ -156,9 +181,11 @@ pub fn check_only(
     ensures refused { IfErr result (λ fault. IsLimit fault.kind
         ⊎ ¬ IsShownOnlyBy program.now values.now text.now) }
     ensures first { IsVerdict result (only_fault program.now values.now text.now) }
+    ensures too_large { IfErr result (λ fault. fault.kind ≡ TooLarge → IsLargeOnlyAt program.now
+        values.now text.now fault.line) }
 {
     match behind_split(alloc, program, values) {
         Ok(BehindSplit { checker, splits }) => check_lines(&checker, splits, text),
-        Err(limit) => Err(refused(0, Refusal::Stopped(limit))),
+        Err(_) => Err(refused(0, Refusal::Stopped(Limit::Memory))),
     }
 }

@@ -5,7 +5,7 @@ use crate::forms::WideForm;
 pub struct OpenSplit {
     /// Columns with their numbers, each once.
     pub form: WideForm,
-    pub most: i64,
+    pub most: i128,
     /// Whether it is the second side, where the sum is above `most`.
     pub is_high: bool,
 }

@@ -5,6 +5,8 @@ ghost use Rattle.optimality.specs.Answers.{IsLimit, IsVerdict};
 ghost use Rattle.optimality.specs.inside.Answers.{IsRefusedCertificate};
 ghost use Rattle.optimality.specs.inside.Checking.{IsPrepared};
 ghost use Rattle.optimality.specs.Laws.{IsBound};
+ghost use Rattle.optimality.specs.Sizes.{IsLargeAt, IsLargeFrom};
+ghost use Rattle.program_faults.specs.declared.certificate_fault.FaultKind.TheVariants.{TooLarge};
 ghost use Rattle.optimality.specs.Telling.{IsShownBy};
 ghost use Rattle.optimality.specs.Verdict.{certificate_fault, fault_from};
 ghost use Rattle.optimality.specs.inside.Branches.{branches_of};
@@ -22,7 +24,7 @@ use crate::sums::Sums;
 use auction_terms::LineReader;
 use program_faults::{CertificateFault, FaultKind};
 use program_rows::{Program, Seeded};
-use std::alloc::Global;
+use std::alloc::{AllocError, Global};
 use std::cell::Cell;
 
 pub fn refused(line: usize, refusal: Refusal) -> CertificateFault
@@ -43,8 +45,11 @@ pub fn check_lines(
     text: &[u8],
 ) -> Result<(), CertificateFault>
     requires { IsPrepared checker.now }
-    ensures { IsVerdict result (fault_from checker.now.program.now checker.now.least
+    ensures first { IsVerdict result (fault_from checker.now.program.now checker.now.least
         (Ok (Some (branches_of open_splits.items))) 0 (lines_of text.now)) }
+    ensures too_large { IfErr result (λ fault. fault.kind ≡ TooLarge → IsLargeFrom
+        checker.now.program.now checker.now.least (Ok (Some (branches_of open_splits.items))) 0
+        (lines_of text.now) fault.line) }
 {
     let mut sums = Sums::new(checker.alloc);
     let mut splits = open_splits;
@@ -67,7 +72,7 @@ pub fn check_lines(
     })
 }
 
-pub fn new_checker(alloc: Global, program: &Program, least: i128) -> Result<Checker<'_>, Limit>
+pub fn new_checker(alloc: Global, program: &Program, least: i128) -> Result<Checker<'_>, AllocError>
     ensures prepared { IfOk result (λ checker. IsPrepared checker) }
     ensures program { IfOk result (λ checker. checker.program.now ≡ program.now) }
     ensures least { IfOk result (λ checker. checker.least ≡ least) }
@@ -76,7 +81,7 @@ pub fn new_checker(alloc: Global, program: &Program, least: i128) -> Result<Chec
     let columns = column_names(alloc, program, seed)?;
     let rows = row_names(alloc, program, seed)?;
     let forms = row_forms(alloc, program)?;
-    let alone = least_alone(program)?;
+    let alone = least_alone(program);
     Ok(Checker {
         alloc,
         program,
@@ -102,9 +107,11 @@ pub fn check_certificate(
     ensures refused { IfErr result (λ fault. IsLimit fault.kind
         ⊎ ¬ IsShownBy program.now least text.now) }
     ensures first { IsVerdict result (certificate_fault program.now least text.now) }
+    ensures too_large { IfErr result (λ fault. fault.kind ≡ TooLarge → IsLargeAt program.now least
+        text.now fault.line) }
 {
     match new_checker(alloc, program, least) {
         Ok(checker) => check_lines(&checker, Vec::new(alloc), text),
-        Err(limit) => Err(refused(0, Refusal::Stopped(limit))),
+        Err(_) => Err(refused(0, Refusal::Stopped(Limit::Memory))),
     }
 }

@@ -1,12 +1,14 @@
 //! The least that the columns come to: what the costs alone come to, and what cuts and rows change of that.
 
-ghost use Rattle.std.specs.Prelude.{◌≡◌, ◌<◌, Some, IfOk, ◌+ℤ◌, ◌*ℤ◌, length, pos, slice_get};
+ghost use Rattle.std.specs.Prelude.{◌≡◌, ◌⊎◌, ◌<◌, ◌≤◌, ◌+◌, ◌*◌, ◌^◌, Some, IfOk, ◌+ℤ◌, ◌*ℤ◌, length, pos, slice_get, unsigned_abs};
 ghost use Rattle.std.specs.Option.{option_map};
 ghost use Rattle.optimality.specs.inside.Adding as adding;
-ghost use Rattle.optimality.specs.inside.Adding.{change_at, least_with, number_at};
+ghost use Rattle.optimality.specs.inside.Adding.{change_at, least_with, number_at, sizes_below};
+ghost use Rattle.optimality.specs.inside.Stopping.{TooLargeOnly};
 ghost use Rattle.optimality.specs.Reduced as reduced;
+ghost use Rattle.optimality.specs.Sizes.{costs_size};
 
-use crate::arithmetic::{minus, plus, product};
+use crate::arithmetic::{minus, plus, scaled};
 use crate::limit::Limit;
 use crate::sums::Sums;
 use program_rows::{Bounds, Program};
@@ -23,32 +25,36 @@ fn least_part(bounds: Bounds, number: i128) -> i128
 
 fn cost_part(program: &Program, column: usize) -> i128
     requires { column < length program.now.columns }
-    ensures { option_map (λ c. reduced.least_part c.bounds c.cost)
+    ensures part { option_map (λ c. reduced.least_part c.bounds c.cost)
         (slice_get program.now.columns column) ≡ Some result }
+    ensures size { unsigned_abs result ≤ 2 ^ 63 }
 {
     least_part(program.bounds(column), i128::from(program.cost(column)))
 }
 
-/// The least that the costs alone come to. A scale is a factor of it, so that it is added up once for all leaves.
-pub fn least_alone(program: &Program) -> Result<i128, Limit>
-    ensures { IfOk result (λ n. n ≡ adding.least_alone program.now.columns) }
+/// The least that the costs alone come to. A scale is a factor of it, so that it is added up once for all leaves. There is room in
+/// 128 bits for as many costs of 64 bits as there are places.
+pub fn least_alone(program: &Program) -> i128
+    ensures { result ≡ adding.least_alone program.now.columns }
 {
     let mut sum: i128 = 0;
     for column in 0..program.column_count() {
-        sum = plus(sum, cost_part(program, column))?;
+        sum += cost_part(program, column);
     }
-    Ok(sum)
+    sum
 }
 
 /// By how much a number changes what a column contributes at least.
-fn change(program: &Program, factor: i64, column: usize, number: i128) -> Result<i128, Limit>
-    ensures { IfOk result (λ n. n ≡ change_at program.now.columns factor column number) }
+fn change(program: &Program, scale: u64, column: usize, number: i128) -> Result<i128, Limit>
+    ensures value { IfOk result (λ n. n ≡ change_at program.now.columns (pos scale) column number) }
+    ensures too_large { TooLargeOnly ((column < length program.now.columns)
+        × (2 ^ 126 ≤ scale * costs_size program.now.columns + unsigned_abs number)) result }
 {
     if column >= program.column_count() {
         return Ok(0);
     }
     let bounds = program.bounds(column);
-    let cost = product(factor, program.cost(column));
+    let cost = scaled(scale, program.cost(column));
     let reduced = plus(cost, number)?;
     minus(least_part(bounds, reduced), least_part(bounds, cost))
 }
@@ -56,29 +62,39 @@ fn change(program: &Program, factor: i64, column: usize, number: i128) -> Result
 fn with_change(
     sum: i128,
     program: &Program,
-    factor: i64,
+    scale: u64,
     column: usize,
     number: i128,
 ) -> Result<i128, Limit>
-    ensures { IfOk result (λ n. n ≡ sum +ℤ change_at program.now.columns factor column number) }
+    ensures value { IfOk result (λ n. n ≡ sum +ℤ change_at program.now.columns (pos scale) column
+        number) }
+    ensures too_large { TooLargeOnly (((column < length program.now.columns)
+        × (2 ^ 126 ≤ scale * costs_size program.now.columns + unsigned_abs number)) ⊎ (2 ^ 126
+        ≤ unsigned_abs sum + unsigned_abs (change_at program.now.columns (pos scale) column
+        number))) result }
 {
-    plus(sum, change(program, factor, column, number)?)
+    plus(sum, change(program, scale, column, number)?)
 }
 
 /// The least that the columns contribute, given what their scaled costs alone come to. Takes the sums: a column that has none costs
 /// nothing.
 pub fn least_total(
     program: &Program,
-    factor: i64,
+    scale: u64,
     alone: i128,
     sums: &mut Sums,
 ) -> Result<i128, Limit>
-    ensures { IfOk result (λ n. n +ℤ least_with factor (λ _. pos 0) program.now.columns
-        ≡ alone +ℤ least_with factor (number_at sums.old.numbers.items) program.now.columns) }
+    requires { unsigned_abs alone ≤ scale * costs_size program.now.columns }
+    ensures value { IfOk result (λ n. n +ℤ least_with (pos scale) (λ _. pos 0) program.now.columns
+        ≡ alone +ℤ least_with (pos scale) (number_at sums.old.numbers.items) program.now.columns) }
+    ensures size { IfOk result (λ n. unsigned_abs n ≤ scale * costs_size program.now.columns
+        + sizes_below (length program.now.columns) sums.old.numbers.items) }
+    ensures too_large { TooLargeOnly (2 ^ 126 ≤ scale * costs_size program.now.columns + sizes_below
+        (length program.now.columns) sums.old.numbers.items) result }
 {
     let mut total = alone;
     while let Some((column, number)) = sums.take() {
-        total = with_change(total, program, factor, column, number)?;
+        total = with_change(total, program, scale, column, number)?;
     }
     Ok(total)
 }

@@ -1,10 +1,12 @@
 //! Multiples of rows: what they give the columns, and their right sides.
 
-ghost use Rattle.std.specs.Prelude.{◌≡◌, IfOk, OnOk, ◌+ℤ◌, ◌*ℤ◌};
+ghost use Rattle.std.specs.Prelude.{◌≡◌, ◌≤◌, ◌+◌, ◌*◌, ◌^◌, IfOk, OnOk, unsigned_abs, ◌+ℤ◌, ◌*ℤ◌};
 ghost use Rattle.optimality.specs.inside.Adding.{AreGivenMore, form_at, form_given, rows_given};
 ghost use Rattle.optimality.specs.Certificates.{sum_of};
 ghost use Rattle.optimality.specs.Reduced as reduced;
 ghost use Rattle.optimality.specs.inside.RowForms.{forms_held};
+ghost use Rattle.optimality.specs.inside.Stopping.{ReachesLimit, TooLargeOnly};
+ghost use Rattle.optimality.specs.Sizes.{form_size, size_of};
 
 use crate::arithmetic::{plus, wide_product};
 use crate::forms::add_form;
@@ -14,8 +16,10 @@ use crate::sums::Sums;
 use program_rows::Program;
 
 fn add_row(sums: &mut Sums, forms: &[Form], row: usize, multiplier: i128) -> Result<(), Limit>
-    ensures { OnOk result (AreGivenMore (form_given multiplier (form_at (forms_held forms.now) row))
-        sums.old.numbers.items sums.new.numbers.items) }
+    ensures value { OnOk result (AreGivenMore (form_given multiplier
+        (form_at (forms_held forms.now) row)) sums.old.numbers.items sums.new.numbers.items) }
+    ensures too_large { TooLargeOnly (ReachesLimit sums.old.numbers.items (unsigned_abs multiplier
+        * form_size (form_at (forms_held forms.now) row))) result }
 {
     if row >= forms.len() {
         return Ok(());
@@ -25,8 +29,11 @@ fn add_row(sums: &mut Sums, forms: &[Form], row: usize, multiplier: i128) -> Res
 
 /// Adds the rows, each times its multiplier. A row that isn't named costs nothing.
 pub fn add_rows(sums: &mut Sums, forms: &[Form], rows: &[(usize, i128)]) -> Result<(), Limit>
-    ensures { OnOk result (AreGivenMore (rows_given rows.now (forms_held forms.now))
+    ensures value { OnOk result (AreGivenMore (rows_given rows.now (forms_held forms.now))
         sums.old.numbers.items sums.new.numbers.items) }
+    ensures too_large { TooLargeOnly (ReachesLimit sums.old.numbers.items
+        (size_of (λ t. unsigned_abs t.1 * form_size (form_at (forms_held forms.now) t.0)) rows.now))
+        result }
 {
     for i in 0..rows.len() {
         let (row, multiplier) = rows[i];
@@ -47,8 +54,10 @@ fn right_side_at(program: &Program, row: usize) -> i64
 }
 
 fn add_right_side(sum: i128, program: &Program, row: usize, multiplier: i128) -> Result<i128, Limit>
-    ensures { IfOk result (λ n. n ≡ sum +ℤ multiplier *ℤ reduced.right_side_at program.now.rows
-        row) }
+    ensures value { IfOk result (λ n. n ≡ sum +ℤ multiplier
+        *ℤ reduced.right_side_at program.now.rows row) }
+    ensures too_large { TooLargeOnly (2 ^ 126 ≤ unsigned_abs sum + unsigned_abs multiplier
+        * unsigned_abs (reduced.right_side_at program.now.rows row)) result }
 {
     let right_side = i128::from(right_side_at(program, row));
     let multiple = wide_product(multiplier, right_side)?;
@@ -57,8 +66,10 @@ fn add_right_side(sum: i128, program: &Program, row: usize, multiplier: i128) ->
 
 /// The sum of the right sides of rows, each times its multiplier.
 pub fn rows_right(program: &Program, rows: &[(usize, i128)]) -> Result<i128, Limit>
-    ensures { IfOk result (λ n. n ≡ sum_of (λ t. t.1 *ℤ reduced.right_side_at program.now.rows
-        t.0) rows.now) }
+    ensures value { IfOk result (λ n. n ≡ sum_of (λ t. t.1
+        *ℤ reduced.right_side_at program.now.rows t.0) rows.now) }
+    ensures too_large { TooLargeOnly (2 ^ 126 ≤ size_of (λ t. unsigned_abs t.1 * unsigned_abs
+        (reduced.right_side_at program.now.rows t.0)) rows.now) result }
 {
     let mut sum: i128 = 0;
     for i in 0..rows.len() {

@@ -2,9 +2,10 @@
 
 ghost use Rattle.std.specs.Prelude.{◌≡◌, IfOk, false};
 ghost use Rattle.program_rows.specs.Lines.{fields};
-ghost use Rattle.optimality.specs.inside.Adding.{AreAlike};
+ghost use Rattle.optimality.specs.inside.Adding.{AreAlike, AreNoLarger};
 ghost use Rattle.optimality.specs.inside.Answers.{AnswersSeen};
 ghost use Rattle.optimality.specs.inside.Checking.{IsPrepared};
+ghost use Rattle.optimality.specs.inside.Stopping.{TooLargeOnly};
 ghost use Rattle.optimality.specs.LineMeaning.{SplitLine, split_told};
 
 use crate::added_up::added_up;
@@ -44,13 +45,15 @@ pub fn take_split(checker: &Checker, text: &[u8]) -> Result<ToldSplit, Refusal>
 /// Opens a split at its first side, with the numbers of each column added up: a leaf below it goes over each column once.
 pub fn opened_split(alloc: Global, sums: &mut Sums, told: &ToldSplit) -> Result<OpenSplit, Limit>
     ensures alike { IfOk result (λ split. AreAlike split.form.items told.now.form.items) }
+    ensures size { IfOk result (λ split. AreNoLarger split.form.items told.now.form.items) }
     ensures most { IfOk result (λ split. split.most ≡ told.now.most) }
     ensures low { IfOk result (λ split. split.is_high ≡ false) }
+    ensures too_large { TooLargeOnly ⊥ result }
 {
     let form = added_up(alloc, sums, told.form.as_slice())?;
     Ok(OpenSplit {
         form,
-        most: told.most,
+        most: i128::from(told.most),
         is_high: false,
     })
 }

@@ -1,8 +1,9 @@
 //! Sums by place, of which those that may differ from 0 are listed.
 
-ghost use Rattle.std.specs.Prelude.{◌≡◌, ◌<◌, ◌^◌, ◌-ℤ◌, ◌≤ℤ◌, IfSome, OnOk, neg_ℤ, pos, vec_len};
+ghost use Rattle.std.specs.Prelude.{◌≡◌, ◌<◌, ◌≤◌, ◌+◌, ◌^◌, ◌-ℤ◌, ◌≤ℤ◌, IfSome, OnOk, neg_ℤ, pos, unsigned_abs, vec_len};
 ghost use Rattle.optimality.specs.inside.Adding as adding;
 ghost use Rattle.optimality.specs.inside.Adding.{AreGivenMore, AreListed, AreNone, IsTaken, at_place};
+ghost use Rattle.optimality.specs.inside.Stopping.{TooLargeOnly};
 
 use crate::arithmetic::{plus, plus_product};
 use crate::limit::Limit;
@@ -30,8 +31,9 @@ impl Sums {
     /// Sets the sum of a place, which had another one before.
     fn put(&mut self, place: usize, before: i128, sum: i128) -> Result<(), Limit>
         requires { before ≡ adding.number_at self.old.numbers.items place }
-        ensures { OnOk result (AreGivenMore (at_place place (sum -ℤ before)) self.old.numbers.items
-            self.new.numbers.items) }
+        ensures value { OnOk result (AreGivenMore (at_place place (sum -ℤ before))
+            self.old.numbers.items self.new.numbers.items) }
+        ensures too_large { TooLargeOnly ⊥ result }
     {
         reach(&mut self.numbers, place)?;
         list_new(&mut self.places, place, before)?;
@@ -41,8 +43,10 @@ impl Sums {
 
     /// Adds a number at a place.
     pub fn add(&mut self, place: usize, number: i128) -> Result<(), Limit>
-        ensures { OnOk result (AreGivenMore (at_place place number) self.old.numbers.items
+        ensures value { OnOk result (AreGivenMore (at_place place number) self.old.numbers.items
             self.new.numbers.items) }
+        ensures too_large { TooLargeOnly (2 ^ 127 ≤ unsigned_abs
+            (adding.number_at self.old.numbers.items place) + unsigned_abs number) result }
     {
         let before = number_at(self.numbers.as_slice(), place);
         let sum = plus(before, number)?;
@@ -53,8 +57,10 @@ impl Sums {
     pub fn add_product(&mut self, place: usize, product: i128) -> Result<(), Limit>
         requires low { neg_ℤ (pos (2 ^ 126)) ≤ℤ product }
         requires high { product ≤ℤ pos (2 ^ 126) }
-        ensures { OnOk result (AreGivenMore (at_place place product) self.old.numbers.items
+        ensures value { OnOk result (AreGivenMore (at_place place product) self.old.numbers.items
             self.new.numbers.items) }
+        ensures too_large { TooLargeOnly (2 ^ 126 ≤ unsigned_abs
+            (adding.number_at self.old.numbers.items place)) result }
     {
         let before = number_at(self.numbers.as_slice(), place);
         let sum = plus_product(before, product)?;

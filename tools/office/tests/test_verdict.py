@@ -228,8 +228,14 @@ class Only(unittest.TestCase):
 class Sizes(unittest.TestCase):
     def test_sums_beyond_128_bits_are_said(self):
         checker = Checker(read_program(ODD_CYCLE, "program"))
-        self.assertIsNone(checker.verdict(-2, SHOWN).large_line)
-        self.assertEqual(checker.verdict(-2 ** 127, b"bound 2 A1 0\n").large_line, 1)
+        self.assertEqual(checker.verdict(-2, SHOWN).large_lines, [])
+        self.assertEqual(checker.verdict(-2 ** 127, b"bound 2 A1 0\n").large_lines, [1])
+
+    def test_the_size_of_a_leaf_is_all_that_it_adds_up(self):
+        # the first leaf: costs 6, the split 2 * (1 + 0), the row 2 * (2 + 1); the second: 6, 2 * (1 + 1), and two rows
+        checker = Checker(read_program(ODD_CYCLE, "program"))
+        for bound, lines in ((14, [4, 5]), (15, [5]), (22, [5]), (23, [])):
+            self.assertEqual(checker.verdict(1 - (2 ** 126 - bound), SHOWN), (None, lines))
 
     def test_deep_splits(self):
         depth = 100000

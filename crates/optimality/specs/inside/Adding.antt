@@ -1,10 +1,11 @@
 -- The numbers of a leaf by place: forms are added to them, and taken from them place by place.
-use Rattle.std.specs.Prelude.{◌≡◌, ℕ, ◌==◌, ◌||◌, Bool, false, cond, List, [], ◌∷◌, Option, Some, None, slice_get, slice_index_or, ℤ, pos, ◌+ℤ◌, ◌-ℤ◌, ◌*ℤ◌}
+use Rattle.std.specs.Prelude.{◌≡◌, ℕ, zero, suc, ◌+◌, ◌≤◌, ◌==◌, ◌||◌, Bool, false, cond, List, [], ◌∷◌, Option, Some, None, slice_get, slice_index_or, unsigned_abs, ℤ, pos, ◌+ℤ◌, ◌-ℤ◌, ◌*ℤ◌}
 use Rattle.std.specs.List.{enumerate_from, zip}
 use Rattle.std.specs.Option.{option_map_or}
 use Rattle.program_rows.specs.Program.{TableColumn}
 use Rattle.optimality.specs.Certificates.{Form, Cut, number_in, sum_of}
 use Rattle.optimality.specs.Reduced.{least_part}
+use Rattle.optimality.specs.Sizes.{size_of}
 
 -- the number of a place, 0 behind the last one
 abbrev pub number_at : List ℤ → ℕ → ℤ
@@ -61,6 +62,19 @@ IsTaken (Some t) before after = (number_at after t.0 ≡ pos 0) × ((q : ℕ) �
 -- what a form gives
 abbrev pub AreOf : Form → List ℤ → Type 0
 AreOf form numbers = (q : ℕ) → number_at numbers q ≡ number_in form q
+
+-- the numbers that a form gives a place, each without its sign
+abbrev pub size_in : Form → ℕ → ℕ
+size_in form place = size_of (λ t. cond (t.0 == place) (unsigned_abs t.1) 0) form
+
+-- it gives no place larger numbers than another
+abbrev pub AreNoLarger : Form → Form → Type 0
+AreNoLarger form other = (place : ℕ) → size_in form place ≤ size_in other place
+
+-- the numbers of the first places, each without its sign
+abbrev pub sizes_below : ℕ → List ℤ → ℕ
+sizes_below zero numbers = 0
+sizes_below (suc place) numbers = sizes_below place numbers + unsigned_abs (number_at numbers place)
 
 -- two forms that give each place the same
 abbrev pub AreAlike : Form → Form → Type 0

@@ -7,18 +7,26 @@ use Rattle.optimality.specs.declared.limit.Limit.TheVariants as limits
 use Rattle.optimality.specs.declared.refusal.Refusal.{Refusal}
 use Rattle.optimality.specs.declared.refusal.Refusal.TheVariants.{Stopped, Fault}
 
--- the value, as it is seen, or the fault; where a limit stops the code it says nothing
+-- the value, as it is seen, or the fault; where memory is short the code says nothing
 abbrev pub AnswersSeen : {X Y : Type 0} → (X → Y) → Result X Refusal → Result Y FaultKind → Type 0
 AnswersSeen view (Ok x) told = told ≡ Ok (view x)
-AnswersSeen view (Err (Stopped limit)) told = Unit {0}
+AnswersSeen view (Err (Stopped limits.Memory)) told = Unit {0}
+AnswersSeen view (Err (Stopped limits.TooLarge)) told = ⊥
 AnswersSeen view (Err (Fault kind)) told = told ≡ Err kind
 
+-- the same where a number may be too large
+abbrev pub AnswersClosed : {X Y : Type 0} → (X → Y) → Result X Refusal → Result Y FaultKind → Type 0
+AnswersClosed view (Ok x) told = told ≡ Ok (view x)
+AnswersClosed view (Err (Stopped limit)) told = Unit {0}
+AnswersClosed view (Err (Fault kind)) told = told ≡ Err kind
+
 abbrev pub IsStopped : Refusal → Type 0
-IsStopped (Stopped limit) = Unit {0}
+IsStopped (Stopped limits.Memory) = Unit {0}
+IsStopped (Stopped limits.TooLarge) = ⊥
 IsStopped (Fault kind) = ⊥
 
 -- the fault of a line that is not taken
 abbrev pub IsRefusedCertificate : ℕ → Refusal → CertificateFault → Type 0
 IsRefusedCertificate line (Stopped limits.Memory) fault = fault.kind ≡ OutOfMemory
-IsRefusedCertificate line (Stopped limits.TooLarge) fault = fault.kind ≡ TooLarge
+IsRefusedCertificate line (Stopped limits.TooLarge) fault = fault ≡ record { line = line; kind = TooLarge }
 IsRefusedCertificate line (Fault kind) fault = fault ≡ record { line = line; kind = kind }

@@ -6,6 +6,7 @@ use Rattle.optimality.specs.declared.open_split.OpenSplit.{OpenSplit}
 use Rattle.optimality.specs.declared.refusal.Refusal.{Refusal}
 use Rattle.optimality.specs.declared.refusal.Refusal.TheVariants.{Stopped, Fault}
 use Rattle.optimality.specs.Branches.{Branch, At}
+use Rattle.optimality.specs.Sizes.{IsLargeFrom}
 use Rattle.optimality.specs.Verdict.{fault_from}
 
 abbrev pub branch_of : OpenSplit → Branch
@@ -19,9 +20,10 @@ branches_of splits = reverse (map branch_of splits)
 abbrev pub opened : Bool → List OpenSplit → Option (List Branch)
 opened is_last splits = if is_last then None else Some (branches_of splits)
 
--- whatever lines follow, they have the same first fault
+-- whatever lines follow, they have the same first fault, and none has a leaf of size 2^126 by the second that has a smaller one by the first
 abbrev pub GoOnAlike : Table → ℤ → Result (Option (List Branch)) FaultKind → Result (Option (List Branch)) FaultKind → Type 0
-GoOnAlike p least told other = (place : ℕ) (lines : List (List ℕ)) → fault_from p least told place lines ≡ fault_from p least other place lines
+GoOnAlike p least told other = (place : ℕ) (lines : List (List ℕ)) → (fault_from p least told place lines ≡ fault_from p least other place lines)
+    × ((number : ℕ) → IsLargeFrom p least other place lines number → IsLargeFrom p least told place lines number)
 
 -- what is open behind a line, but that the code may hold other forms which give each column the same; or the line's fault; or a limit
 abbrev pub AnswersAlike : Table → ℤ → List OpenSplit → Result Bool Refusal → Result (Option (List Branch)) FaultKind → Type 0

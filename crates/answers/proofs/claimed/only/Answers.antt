@@ -4,7 +4,8 @@ use Rattle.group_compiler.specs.Compiled.{Compiling, program_without}
 use Rattle.outcome.specs.Solution.{solution}
 use Rattle.bid_desk.specs.Sale.{sale_of}
 use Rattle.optimality.specs.Answers.{IsLimit}
-use Rattle.optimality.specs.Only.{only_fault}
+use Rattle.optimality.specs.Only.{IsLargeOnlyAt, only_fault}
+use Rattle.program_faults.specs.declared.certificate_fault.FaultKind.TheVariants.{TooLarge}
 use Rattle.program_rows.specs.Program.{Table}
 use Rattle.std.specs.Prelude.{None, Some}
 use Rattle.auction_input.specs.Settled.{held}
@@ -29,7 +30,8 @@ returns-in-Err-clause-refuses g c =
     let solved : solution (program_without auction.book []) (slice_index_or (bytes_of auction.solutions.items) 0 []) ≡ Ok point = sym (subst (λ (t : List ℕ). Ok point ≡ solution (program_without auction.book []) t) text (subst (λ (p : Table). Ok point ≡ solution p c.index.result.now.now) same c.in-Ok.ensures.answer)) in
     let (claimed, one, alone) = one-unique auction c.args.first.now c.index-2.result.now c.requires.one c.requires.alone c.index-2.ensures in
     let found = subst (λ (p : Table). IsLimit c.in-Err.fault.kind ⊎ (only_fault p point c.index-2.result.now.now ≡ Some (c.in-Err.fault.line, c.in-Err.fault.kind))) same c.in-Err.ensures.first in
-    rw claimed (only-refused (held auction) c.args.first.now c.index-2.result.now.now point solved c.in-Err.fault found one alone)
+    let large = subst (λ (p : Table). c.in-Err.fault.kind ≡ TooLarge → IsLargeOnlyAt p point c.index-2.result.now.now c.in-Err.fault.line) same c.in-Err.ensures.too_large in
+    rw claimed (only-refused (held auction) c.args.first.now c.index-2.result.now.now point solved c.in-Err.fault found large one alone)
 
 pub only_or_rival-requires : goal.only_or_rival-requires
 only_or_rival-requires g c =

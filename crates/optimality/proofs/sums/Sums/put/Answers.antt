@@ -24,8 +24,8 @@ invariant_of-self-2 c =
 whole : (before was sum : ℤ) → before ≡ was → sum ≡ was +ℤ (sum -ℤ before)
 whole before was sum e = omega (arith, ints)
 
-pub returns : goal.returns
-returns c =
+pub returns-clause-value : goal.returns-clause-value
+returns-clause-value c =
     let fits_sum : SFits w128 c.args.sum = c.ranges.sum in
     let old = c.args.self.now in
     let grown = c.reach.new.numbers.items in

@@ -1,0 +1,144 @@
+-- Which lines are told to be too large: no fault that a line tells is, and a refused one is a leaf of that size.
+use Rattle.std.proofs.Common.{◌≡◌, ◌≢◌, ℕ, zero, suc, ◌+◌, Bool, true, false, List, [], ◌∷◌, Option, Some, None, Result, Ok, Err, inl, inr, arith, ap, length, subst, sym, ◌∙◌, ℤ, pos, ◌*ℤ◌}
+use Rattle.std.specs.Prelude.{◌-ℤ◌, bytes_eq, codes, if◌then◌else◌, int_lt, nat_abs, position}
+use Rattle.std.specs.List.{list_all}
+use Rattle.std.specs.Option.{ok_or}
+use Rattle.auction_terms.specs.Stages.{and_then}
+use Rattle.program_rows.specs.Lines.{fields, is_skipped}
+use Rattle.program_rows.specs.Numbers.{number}
+use Rattle.program_rows.specs.Program.{Table}
+use Rattle.program_rows.specs.ProgramNames.{column_names, row_names}
+use Rattle.program_rows.specs.declared.number.NumberFault.{NumberFault}
+use Rattle.program_rows.specs.declared.number.NumberFault.TheVariants as numbers
+use Rattle.program_faults.specs.declared.certificate_fault.CertificateFault.{CertificateFault}
+use Rattle.program_faults.specs.declared.certificate_fault.FaultKind.{FaultKind}
+use Rattle.program_faults.specs.declared.certificate_fault.FaultKind.TheVariants.{Beyond, Fields, NotShown, Sign, TooLarge, UnknownColumn, UnknownRow}
+use Rattle.optimality.specs.Branches.{Branch, At, closed, cuts_above}
+use Rattle.optimality.specs.LineMeaning.{Told, BoundLine, SplitLine, integer_told, natural_told, naturals_told, named_numbers, bound_told, split_told, line_told}
+use Rattle.optimality.specs.Shows.{leaf_value, may_have}
+use Rattle.optimality.specs.Sizes.{IsLargeFrom, IsLargeLine}
+use Rattle.optimality.specs.Verdict.{behind, fault_from, taken}
+use Rattle.optimality.specs.declared.limit.Limit.TheVariants as limits
+use Rattle.optimality.specs.declared.open_split.OpenSplit.{OpenSplit}
+use Rattle.optimality.specs.declared.refusal.Refusal.{Refusal}
+use Rattle.optimality.specs.declared.refusal.Refusal.TheVariants.{Stopped, Fault}
+use Rattle.optimality.specs.inside.Answers.{IsRefusedCertificate}
+use Rattle.optimality.specs.inside.Branches.{AnswersAlike, GoOnAlike}
+use Rattle.optimality.specs.inside.Stopping.{RefusedLargeOnly}
+
+-- ---------- what is told ----------
+
+abbrev NotLarge : {X : Type 0} → Result X FaultKind → Type 0
+NotLarge (Ok x) = Unit {0}
+NotLarge (Err kind) = kind ≢ TooLarge
+
+in-turn : {X Y : Type 0} (r : Result X FaultKind) (f : X → Result Y FaultKind) → NotLarge r → ((x : X) → NotLarge (f x)) → NotLarge (and_then r f)
+in-turn (Ok x) f h later = later x
+in-turn (Err kind) f h later = h
+
+of-option : {X : Type 0} (o : Option X) (kind : FaultKind) → kind ≢ TooLarge → NotLarge (ok_or o kind)
+of-option (Some x) kind h = tt
+of-option None kind h = h
+
+integer-not : (r : Result ℤ NumberFault) → NotLarge (integer_told r)
+integer-not (Ok n) = tt
+integer-not (Err numbers.NumberText) = λ e. absurd cc
+integer-not (Err numbers.NumberRange) = λ e. absurd cc
+integer-not (Err numbers.NotWhole) = λ e. absurd cc
+
+natural-not : (token : List ℕ) → NotLarge (natural_told token)
+natural-not token = in-turn (integer_told (number token)) (λ n. if int_lt n (pos 0) then Err Sign else Ok (nat_abs n)) (integer-not (number token)) (λ n. by (int_lt n (pos 0)) (nat_abs n))
+  where
+    by : (b : Bool) (n : ℕ) → NotLarge (if b then Err Sign else Ok n)
+    by true n = λ e. absurd cc
+    by false n = tt
+
+naturals-not : (count : ℕ) (fs : List (List ℕ)) → NotLarge (naturals_told count fs)
+naturals-not zero fs = tt
+naturals-not (suc count) [] = λ e. absurd cc
+naturals-not (suc count) (token ∷ fs) =
+    in-turn (natural_told token) (λ n. and_then (naturals_told count fs) (λ ns. Ok (n ∷ ns.0, ns.1))) (natural-not token)
+    (λ n. in-turn (naturals_told count fs) (λ ns. Ok (n ∷ ns.0, ns.1)) (naturals-not count fs) (λ ns. tt))
+
+named-not : (names : List (List ℕ)) (unknown : FaultKind) → unknown ≢ TooLarge → (fs : List (List ℕ)) → NotLarge (named_numbers names unknown fs)
+named-not names unknown h [] = tt
+named-not names unknown h (name ∷ []) = λ e. absurd cc
+named-not names unknown h (name ∷ token ∷ fs) =
+    in-turn (and_then (ok_or (position (bytes_eq name) names) unknown) (λ place. and_then (integer_told (number token)) (λ n. Ok (place, n)))) (λ term. and_then (named_numbers names unknown fs) (λ form. Ok (term ∷ form)))
+    (in-turn (ok_or (position (bytes_eq name) names) unknown) (λ place. and_then (integer_told (number token)) (λ n. Ok (place, n))) (of-option (position (bytes_eq name) names) unknown h)
+    (λ place. in-turn (integer_told (number token)) (λ n. Ok (place, n)) (integer-not (number token)) (λ n. tt)))
+    (λ term. in-turn (named_numbers names unknown fs) (λ form. Ok (term ∷ form)) (named-not names unknown h fs) (λ form. tt))
+
+bound-not : (p : Table) (depth : ℕ) (fs : List (List ℕ)) → NotLarge (bound_told p depth fs)
+bound-not p depth [] = λ e. absurd cc
+bound-not p depth (token ∷ fs) =
+    in-turn (natural_told token) _ (natural-not token)
+    (λ scale. in-turn (naturals_told depth fs) _ (naturals-not depth fs)
+    (λ ys. in-turn (named_numbers (row_names p) UnknownRow ys.1) _ (named-not (row_names p) UnknownRow (λ e. absurd cc) ys.1)
+    (λ rows. by (list_all (may_have p.rows) rows) (BoundLine scale ys.0 rows))))
+  where
+    by : (b : Bool) (told : Told) → NotLarge (if b then Ok told else Err Sign)
+    by true told = tt
+    by false told = λ e. absurd cc
+
+split-not : (p : Table) (fs : List (List ℕ)) → NotLarge (split_told p fs)
+split-not p [] = λ e. absurd cc
+split-not p (token ∷ fs) =
+    in-turn (integer_told (number token)) _ (integer-not (number token))
+    (λ most. in-turn (named_numbers (column_names p) UnknownColumn fs) _ (named-not (column_names p) UnknownColumn (λ e. absurd cc) fs) (λ form. tt))
+
+line-not : (p : Table) (depth : ℕ) (fs : List (List ℕ)) → NotLarge (line_told p depth fs)
+line-not p depth [] = λ e. absurd cc
+line-not p depth (word ∷ fs) = by (bytes_eq word (codes "split")) (bytes_eq word (codes "bound"))
+  where
+    by : (a b : Bool) → NotLarge (if a then split_told p fs else (if b then bound_told p depth fs else Err Fields))
+    by true b = split-not p fs
+    by false true = bound-not p depth fs
+    by false false = λ e. absurd cc
+
+taken-not : (p : Table) (least : ℤ) (branches : List Branch) (told : Told) → NotLarge (taken p least branches told)
+taken-not p least branches (SplitLine form most) = tt
+taken-not p least branches (BoundLine scale ys rows) = by (int_lt (pos scale *ℤ (least -ℤ pos 1)) (leaf_value p (cuts_above branches) scale ys rows))
+  where
+    by : (b : Bool) → NotLarge (if b then Ok (closed branches) else Err NotShown)
+    by true = tt
+    by false = λ e. absurd cc
+
+behind-not : (p : Table) (least : ℤ) (branches : Option (List Branch)) (line : List ℕ) → NotLarge (behind p least branches line)
+behind-not p least branches line = by (is_skipped line)
+  where
+    by : (b : Bool) → NotLarge (if b then Ok branches else and_then (ok_or branches Beyond) (λ above. and_then (line_told p (length above) (fields line)) (taken p least above)))
+    by true = tt
+    by false = in-turn (ok_or branches Beyond) (λ above. and_then (line_told p (length above) (fields line)) (taken p least above)) (of-option branches Beyond (λ e. absurd cc))
+        (λ above. in-turn (line_told p (length above) (fields line)) (taken p least above) (line-not p (length above) (fields line)) (taken-not p least above))
+
+told-not : {X : Type 0} (r : Result X FaultKind) (kind : FaultKind) → NotLarge r → r ≡ Err kind → kind ≢ TooLarge
+told-not (Ok x) kind h e = absurd cc
+told-not (Err other) kind h e = λ same. let is : other ≡ kind = cc in h (is ∙ same)
+
+-- ---------- what is refused ----------
+
+-- the line that is refused as too large
+pub refused-large : (p : Table) (least : ℤ) (branches : Option (List Branch)) (place : ℕ) (line : List ℕ) (lines : List (List ℕ)) (splits : List OpenSplit) (refusal : Refusal) (fault : CertificateFault)
+    → IsRefusedCertificate (place + 1) refusal fault → AnswersAlike p least splits (Err refusal) (behind p least branches line) → RefusedLargeOnly {X = Bool} (IsLargeLine p least branches line) (Err refusal)
+    → fault.kind ≡ TooLarge → IsLargeFrom p least (Ok branches) place (line ∷ lines) fault.line
+refused-large p least branches place line lines splits (Stopped limits.Memory) fault refused told large e = absurd cc
+refused-large p least branches place line lines splits (Stopped limits.TooLarge) fault refused told large e =
+    let at : fault.line ≡ place + 1 = ap (λ (f : CertificateFault). f.line) refused in
+    inl (omega arith, large)
+refused-large p least branches place line lines splits (Fault kind) fault refused told large e =
+    let of_fault : fault.kind ≡ kind = ap (λ (f : CertificateFault). f.kind) refused in
+    absurd (told-not (behind p least branches line) kind (behind-not p least branches line) told (sym of_fault ∙ e))
+
+-- a line more
+pub line-passed : (p : Table) (least : ℤ) (branches after : Option (List Branch)) (place : ℕ) (line : List ℕ) (lines rest : List (List ℕ)) (first : Option (ℕ × FaultKind)) (IsLarge : ℕ → Type 0) → lines ≡ line ∷ rest
+    → GoOnAlike p least (behind p least branches line) (Ok after) → fault_from p least (Ok branches) place lines ≡ first → ((number : ℕ) → IsLargeFrom p least (Ok branches) place lines number → IsLarge number)
+    → (fault_from p least (Ok after) (place + 1) rest ≡ first) × ((number : ℕ) → IsLargeFrom p least (Ok after) (place + 1) rest number → IsLarge number)
+line-passed p least branches after place line lines rest first IsLarge e alike before large =
+    let next : place + 1 ≡ suc place = omega arith in
+    let now : fault_from p least (behind p least branches line) (suc place) rest ≡ first = subst (λ (ls : List (List ℕ)). fault_from p least (Ok branches) place ls ≡ first) e before in (
+      subst (λ (k : ℕ). fault_from p least (Ok after) k rest ≡ first) (sym next) (sym (alike (suc place) rest).0 ∙ now),
+      λ number h.
+          large number (subst (λ (ls : List (List ℕ)). IsLargeFrom p least (Ok branches) place ls number) (sym e)
+          (inr ((alike (suc place) rest).1 number (subst (λ (k : ℕ). IsLargeFrom p least (Ok after) k rest number) next h)))),
+    )
