@@ -3,8 +3,7 @@ ghost use Rattle.std.specs.Arc.{arc_value};
 ghost use Rattle.bid_book.specs.History.{MayMake, call_value};
 
 use crate::worked;
-use crate::worked::{GAMMA, RULES, form_of, shown};
-use auction_terms::read_rules;
+use crate::worked::{GAMMA, on_form, shown};
 use bid_book::{Book, CALL_LIMIT, Call, Caller, Reply};
 use bid_forms::Form;
 use std::alloc::Global;
@@ -45,42 +44,58 @@ const ALPHA: Caller = Caller::Session {
     session: 1,
 };
 
+/// Whether a book withdraws what stands with number 1, and then finds nothing to withdraw.
+fn withdraws(book: &mut Book) -> bool {
+    let withdrawn = Reply::Withdrawn { number: 2 };
+    let stale = Reply::Stale { standing: None };
+    answers(book, ALPHA, Call::Withdraw { over: 1 }, withdrawn)
+        && answers(book, ALPHA, Call::Withdraw { over: 1 }, stale)
+}
+
 /// Whether an open book answers a submission, a withdrawal and another submission in turn.
 fn submits_and_withdraws(book: &mut Book, form: &Arc<Form, Global>) -> Result<bool, Fail> {
-    let over = Call::Withdraw { over: 1 };
-    let again = Call::Withdraw { over: 1 };
     Ok(
         answers_form(book, form, None, Reply::Accepted { number: 1 })?
             && answers(book, ALPHA, Call::Show, shown(form, 1)?)
-            && answers(book, ALPHA, over, Reply::Withdrawn { number: 2 })
-            && answers(book, ALPHA, again, Reply::Stale { standing: None })
+            && withdraws(book)
             && book.standing(1).is_none()
             && answers_form(book, form, None, Reply::Accepted { number: 3 })?,
     )
 }
 
+fn answers_close(book: &mut Book, was_open: bool) -> bool {
+    answers(book, Caller::Chair, Call::Close, Reply::Closed { was_open })
+}
+
 /// Whether a book in which the form stands with number 3 closes, and takes no form after that.
 fn closes(book: &mut Book, form: &Arc<Form, Global>) -> Result<bool, Fail> {
-    let first = Reply::Closed { was_open: true };
-    let second = Reply::Closed { was_open: false };
     Ok(
-        answers(book, Caller::Chair, Call::Close, first)
+        answers_close(book, true)
             && answers_form(book, form, Some(3), Reply::RoundOver)?
             && answers(book, ALPHA, Call::Show, shown(form, 3)?)
-            && answers(book, Caller::Chair, Call::Close, second),
+            && answers_close(book, false),
+    )
+}
+
+/// Whether a new book comes to nine entries, and is open until the close.
+fn comes_to_nine_entries(book: &mut Book, form: &Arc<Form, Global>) -> Result<bool, Fail> {
+    Ok(
+        submits_and_withdraws(book, form)?
+            && book.is_open()
+            && closes(book, form)?
+            && !book.is_open()
+            && book.history().len() == 9,
     )
 }
 
 #[test]
 fn a_session_in_order(rt: HostRuntime) -> Result<(), Fail> {
-    let rules = read_rules(rt.alloc(), RULES)?;
-    let form = form_of(rt.alloc(), &rules, worked::ALPHA)?;
-    let mut book = Book::new(rt.alloc());
-    assert!(rt; submits_and_withdraws(&mut book, &form)?);
-    assert!(rt; book.is_open());
-    assert!(rt; closes(&mut book, &form)?);
-    assert!(rt; !book.is_open());
-    assert_eq!(rt; book.history().len(), 9);
+    let alloc = rt.alloc();
+    assert!(rt;
+        on_form(alloc, worked::ALPHA, |_, form| {
+            comes_to_nine_entries(&mut Book::new(alloc), form)
+        })?
+    );
     Ok(())
 }
 
@@ -97,14 +112,25 @@ fn answers_all_of_alpha(book: &mut Book) -> bool {
     are_shown
 }
 
+/// Whether a new book comes to the limit of Alpha's calls, and goes on for another bidder.
+fn comes_to_the_limit(book: &mut Book, form: &Arc<Form, Global>) -> Result<bool, Fail> {
+    Ok(
+        answers_all_of_alpha(book)
+            && answers(book, ALPHA, Call::Show, Reply::CallLimit)
+            && book.history().len() == 1000
+            && answers_form(book, form, None, Reply::Accepted { number: 1 })?,
+    )
+}
+
 #[test]
 fn a_limit_of_calls(rt: HostRuntime) -> Result<(), Fail> {
-    let mut book = Book::new(rt.alloc());
-    assert!(rt; answers_all_of_alpha(&mut book));
-    assert!(rt; answers(&mut book, ALPHA, Call::Show, Reply::CallLimit));
-    assert_eq!(rt; book.history().len(), 1000);
-    let rules = read_rules(rt.alloc(), RULES)?;
-    let form = form_of(rt.alloc(), &rules, GAMMA)?;
-    assert!(rt; answers_form(&mut book, &form, None, Reply::Accepted { number: 1 })?);
+    let alloc = rt.alloc();
+    assert!(rt;
+        on_form(
+            alloc,
+            GAMMA,
+            |_, form| comes_to_the_limit(&mut Book::new(alloc), form)
+        )?
+    );
     Ok(())
 }

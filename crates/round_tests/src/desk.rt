@@ -1,8 +1,8 @@
 ghost use Rattle.std.specs.Prelude.{◌≡◌, ◌+◌};
 ghost use Rattle.auction_terms.specs.Terms.{session_count};
 
-use crate::worked::{ALPHA, GAMMA, RULES, blank, form_of};
-use auction_terms::{Rules, read_rules};
+use crate::worked::{ALPHA, GAMMA, blank, on_form};
+use auction_terms::Rules;
 use bid_book::{Entry, Reply};
 use bid_desk::{ClosedBook, Desk, Round, Session};
 use bid_forms::Form;
@@ -102,23 +102,38 @@ fn submitted<L: Round + Send + Sync, R: Threads + Wait + Sync>(
     desk.stop().settle(alloc, chair, sessions).ok()
 }
 
+/// Whether one submission was accepted, which stands, and the other one told of it.
+fn is_one_of_both(closed: &ClosedBook, form: &Form) -> bool {
+    let replies = [
+        Reply::Accepted { number: 1 },
+        Reply::Stale { standing: Some(1) },
+        Reply::Closed { was_open: true },
+    ];
+    replies_are(closed.history(), &replies)
+        && closed.form(1).is_some_and(|stands| stands.is_same(form))
+}
+
+fn takes_one_of_both<R: Threads + Wait + Sync>(
+    rt: &R,
+    alloc: Global,
+    rules: Rules,
+    form: &Arc<Form, Global>,
+) -> Result<bool, Fail> {
+    let blank = blank(&rules)?;
+    let closed = submitted::<Brand, _>(rt, alloc, blank, rules, form);
+    Ok(closed.is_some_and(|closed| is_one_of_both(&closed, form)))
+}
+
 #[test]
 fn both_sessions_submit(rt: HostRuntime) -> Result<(), Fail> {
-    let rules = read_rules(rt.alloc(), RULES)?;
-    let form = form_of(rt.alloc(), &rules, ALPHA)?;
-    let blank = blank(&rules)?;
-    let closed = submitted::<Brand, _>(&rt, rt.alloc(), blank, rules, &form).ok_or("settled")?;
+    let alloc = rt.alloc();
     assert!(rt;
-        replies_are(
-            closed.history(),
-            &[
-                Reply::Accepted { number: 1 },
-                Reply::Stale { standing: Some(1) },
-                Reply::Closed { was_open: true },
-            ],
-        )
+        on_form(
+            alloc,
+            ALPHA,
+            |rules, form| takes_one_of_both(&rt, alloc, rules, form)
+        )?
     );
-    assert!(rt; closed.form(1).is_some_and(|stands| stands.is_same(&form)));
     Ok(())
 }
 
@@ -143,12 +158,8 @@ fn withdrawn<L: Round + Send + Sync, R: Threads + Wait + Sync>(
     desk.stop().settle(alloc, chair, sessions).ok()
 }
 
-#[test]
-fn both_sessions_submit_and_withdraw(rt: HostRuntime) -> Result<(), Fail> {
-    let rules = read_rules(rt.alloc(), RULES)?;
-    let form = form_of(rt.alloc(), &rules, ALPHA)?;
-    let blank = blank(&rules)?;
-    let closed = withdrawn::<Brand, _>(&rt, rt.alloc(), blank, rules, &form).ok_or("settled")?;
+/// Whether one session called twice and then the other one, or both submitted first.
+fn is_one_order(closed: &ClosedBook) -> bool {
     let one_after_the_other = [
         Reply::Accepted { number: 1 },
         Reply::Withdrawn { number: 2 },
@@ -163,9 +174,30 @@ fn both_sessions_submit_and_withdraw(rt: HostRuntime) -> Result<(), Fail> {
         Reply::Stale { standing: None },
         Reply::Closed { was_open: true },
     ];
+    replies_are(closed.history(), &one_after_the_other)
+        || replies_are(closed.history(), &both_first)
+}
+
+fn takes_one_order<R: Threads + Wait + Sync>(
+    rt: &R,
+    alloc: Global,
+    rules: Rules,
+    form: &Arc<Form, Global>,
+) -> Result<bool, Fail> {
+    let blank = blank(&rules)?;
+    let closed = withdrawn::<Brand, _>(rt, alloc, blank, rules, form);
+    Ok(closed.is_some_and(|closed| is_one_order(&closed)))
+}
+
+#[test]
+fn both_sessions_submit_and_withdraw(rt: HostRuntime) -> Result<(), Fail> {
+    let alloc = rt.alloc();
     assert!(rt;
-        replies_are(closed.history(), &one_after_the_other)
-            || replies_are(closed.history(), &both_first)
+        on_form(
+            alloc,
+            ALPHA,
+            |rules, form| takes_one_order(&rt, alloc, rules, form)
+        )?
     );
     Ok(())
 }
@@ -224,13 +256,26 @@ fn ends_at_the_limit(last: &Reply, closed: &ClosedBook) -> bool {
     }
 }
 
+fn settles_at_the_limit<R: Wait>(
+    rt: &R,
+    alloc: Global,
+    rules: Rules,
+    form: &Arc<Form, Global>,
+) -> Result<bool, Fail> {
+    let blank = blank(&rules)?;
+    let settled = at_the_limit::<Brand, _>(rt, alloc, blank, rules, form);
+    Ok(settled.is_some_and(|(last, closed)| ends_at_the_limit(&last, &closed)))
+}
+
 #[test]
 fn most_calls_settle(rt: HostRuntime) -> Result<(), Fail> {
-    let rules = read_rules(rt.alloc(), RULES)?;
-    let form = form_of(rt.alloc(), &rules, GAMMA)?;
-    let blank = blank(&rules)?;
-    let settled = at_the_limit::<Brand, _>(&rt, rt.alloc(), blank, rules, &form);
-    let (last, closed) = settled.ok_or("settled")?;
-    assert!(rt; ends_at_the_limit(&last, &closed));
+    let alloc = rt.alloc();
+    assert!(rt;
+        on_form(
+            alloc,
+            GAMMA,
+            |rules, form| settles_at_the_limit(&rt, alloc, rules, form)
+        )?
+    );
     Ok(())
 }

@@ -1,6 +1,6 @@
-use crate::worked::{ALPHA, BETA, GAMMA, RULES, WIDE_RULES};
-use auction_terms::{Rules, read_rules};
-use bid_forms::{FormFault, read_form};
+use crate::worked::{ALPHA, BETA, GAMMA, RULES, WIDE_RULES, on_rules};
+use auction_terms::Rules;
+use bid_forms::{Form, FormFault, read_form};
 use std::alloc::Global;
 use std::fmt::Write;
 use std::test::Fail;
@@ -20,26 +20,55 @@ const FORMS: [(&[u8], u16, usize); 9] = [
     (b"Alpha,A,B\n1000000000000,1,0", 1, 1),
 ];
 
+/// Whether a text is a form of this bidder, with so many bids, under rules that it meets.
+fn is_form(
+    alloc: Global,
+    rules: &Rules,
+    text: &[u8],
+    bidder: u16,
+    count: usize,
+) -> Result<bool, Fail> {
+    let form = read_form(alloc, text, rules)?;
+    Ok(form.bidder() == bidder && form.bids().len() == count && form.meets(rules))
+}
+
 #[test]
 fn reads_forms(rt: HostRuntime) -> Result<(), Fail> {
-    let rules = read_rules(rt.alloc(), RULES)?;
+    let alloc = rt.alloc();
     for (text, bidder, count) in FORMS {
-        let form = read_form(rt.alloc(), text, &rules)?;
-        assert_eq!(rt; form.bidder(), bidder);
-        assert_eq!(rt; form.bids().len(), count);
-        assert!(rt; form.meets(&rules));
+        let is_read = on_rules(
+            alloc,
+            RULES,
+            |rules| is_form(alloc, rules, text, bidder, count),
+        )?;
+        assert!(rt; is_read, "{count} bids of bidder {bidder}");
     }
     Ok(())
 }
 
+/// Whether a text is read as this form.
+fn is_read_as(alloc: Global, rules: &Rules, text: &[u8], form: &Form) -> Result<bool, Fail> {
+    Ok(read_form(alloc, text, rules)?.is_same(form))
+}
+
+/// Whether two texts are the same form.
+fn are_same(alloc: Global, rules: &Rules, text: &[u8], other: &[u8]) -> Result<bool, Fail> {
+    let form = read_form(alloc, text, rules)?;
+    is_read_as(alloc, rules, other, &form)
+}
+
+fn tells_bids_apart(alloc: Global, rules: &Rules) -> Result<bool, Fail> {
+    let text = b"Alpha,A,B\n15,1,1".as_slice();
+    Ok(
+        are_same(alloc, rules, text, b"Alpha,A,B\n0015,01,1\n")?
+            && !are_same(alloc, rules, text, b"Alpha,A,B\n15,0,1")?,
+    )
+}
+
 #[test]
 fn same_bid_in_other_digits(rt: HostRuntime) -> Result<(), Fail> {
-    let rules = read_rules(rt.alloc(), RULES)?;
-    let form = read_form(rt.alloc(), b"Alpha,A,B\n15,1,1", &rules)?;
-    let same = read_form(rt.alloc(), b"Alpha,A,B\n0015,01,1\n", &rules)?;
-    let other = read_form(rt.alloc(), b"Alpha,A,B\n15,0,1", &rules)?;
-    assert!(rt; form.is_same(&same));
-    assert!(rt; !form.is_same(&other));
+    let alloc = rt.alloc();
+    assert!(rt; on_rules(alloc, RULES, |rules| tells_bids_apart(alloc, rules))?);
     Ok(())
 }
 
@@ -54,29 +83,44 @@ fn form_text(alloc: Global, count: u32) -> Result<String, Fail> {
     Ok(text)
 }
 
+fn fault(alloc: Global, rules: &Rules, text: &[u8]) -> Option<FormFault> {
+    read_form(alloc, text, rules).err()
+}
+
+fn reads_the_most_bids(alloc: Global, rules: &Rules) -> Result<bool, Fail> {
+    let text = form_text(alloc, 4000)?;
+    is_form(alloc, rules, text.as_bytes(), 1, 4000)
+}
+
+fn refuses_one_more(alloc: Global, rules: &Rules) -> Result<bool, Fail> {
+    let text = form_text(alloc, 4001)?;
+    let told = FormFault::TooManyBids { place: 4002 };
+    Ok(fault(alloc, rules, text.as_bytes()) == Some(told))
+}
+
 #[test]
 fn counts_bids(rt: HostRuntime) -> Result<(), Fail> {
-    let rules = read_rules(rt.alloc(), WIDE_RULES)?;
-    let most = form_text(rt.alloc(), 4000)?;
-    assert_eq!(rt;
-        read_form(rt.alloc(), most.as_bytes(), &rules)?.bids().len(),
-        4000
-    );
-    let more = form_text(rt.alloc(), 4001)?;
-    assert!(rt;
-        read_form(rt.alloc(), more.as_bytes(), &rules).err()
-            == Some(FormFault::TooManyBids { place: 4002 })
-    );
+    let alloc = rt.alloc();
+    assert!(rt; on_rules(alloc, WIDE_RULES, |rules| reads_the_most_bids(alloc, rules))?);
+    assert!(rt; on_rules(alloc, WIDE_RULES, |rules| refuses_one_more(alloc, rules))?);
     Ok(())
+}
+
+/// Whether a text, or all of it but its first byte, is refused by its size and by what it holds.
+fn is_at_the_limit(alloc: Global, rules: &Rules, text: &[u8]) -> bool {
+    !text.is_empty()
+        && fault(alloc, rules, text) == Some(FormFault::TooLarge)
+        && fault(alloc, rules, &text[1..]) == Some(FormFault::Header { place: 1 })
+}
+
+fn refuses_by_size(alloc: Global, rules: &Rules) -> Result<bool, Fail> {
+    let text = vec![in alloc; b','; 4_194_305]?;
+    Ok(is_at_the_limit(alloc, rules, &text))
 }
 
 #[test]
 fn bounds_the_text(rt: HostRuntime) -> Result<(), Fail> {
-    let rules = read_rules(rt.alloc(), RULES)?;
-    let text = vec![in rt.alloc(); b','; 4_194_305]?;
-    assert!(rt; read_form(rt.alloc(), &text, &rules).err() == Some(FormFault::TooLarge));
-    assert!(rt;
-        read_form(rt.alloc(), &text[1..], &rules).err() == Some(FormFault::Header { place: 1 })
-    );
+    let alloc = rt.alloc();
+    assert!(rt; on_rules(alloc, RULES, |rules| refuses_by_size(alloc, rules))?);
     Ok(())
 }

@@ -1,82 +1,139 @@
 ghost use Rattle.std.specs.Prelude.{◌≡◌, ◌≤◌, IfOk, length};
 
-use crate::worked::{RULES, RULES_OF_20};
+use crate::worked::{RULES, RULES_OF_20, on_rules};
 use auction_terms::{
-    Bid, GroupFault, Groups, LineReader, Package, Quantities, RecordReader, RulesFault, Weights,
-    field, number, read_groups, read_rules,
+    Bid, Bidder, Category, GroupFault, Groups, LineReader, Package, Quantities, RecordReader,
+    Rules, RulesFault, Weights, field, number, read_groups, read_rules,
 };
 use csv::ByteRecord;
+use std::alloc::Global;
 use std::test::Fail;
 
 mod refused;
 
-#[test]
-fn reads_rules(rt: HostRuntime) -> Result<(), Fail> {
-    let rules = read_rules(rt.alloc(), RULES)?;
-    assert_eq!(rt; rules.step(), 1);
-    assert_eq!(rt; rules.categories().len(), 2);
-    assert_eq!(rt; rules.bidders().len(), 3);
-    assert_eq!(rt; rules.session_count(), 4);
-    assert_eq!(rt; rules.bidder_number(b"Gamma"), Some(3));
-    assert_eq!(rt; rules.bidder_number(b"Delta"), None);
-    let first = &rules.categories()[0];
-    assert_eq!(rt; first.name.as_bytes(), b"A".as_slice());
-    assert_eq!(rt; (first.supply, first.reserve, first.points), (2, 10, 1));
-    let last = &rules.bidders()[2];
-    assert_eq!(rt; last.name.as_bytes(), b"Gamma".as_slice());
-    assert_eq!(rt; (last.eligibility, last.sessions), (9, 1));
-    Ok(())
+/// Whether the rules have as many of each as the worked ones.
+fn have_worked_counts(rules: &Rules) -> bool {
+    rules.step() == 1
+        && rules.categories().len() == 2
+        && rules.bidders().len() == 3
+        && rules.session_count() == 4
 }
 
-fn fault(rt: &HostRuntime, text: &[u8]) -> Option<RulesFault> {
-    read_rules(rt.alloc(), text).err()
+fn have_worked_bidders(rules: &Rules) -> bool {
+    rules.bidder_number(b"Gamma") == Some(3)
+        && rules.bidder_number(b"Delta").is_none()
+        && rules.bidders().get(2).is_some_and(is_gamma)
+}
+
+fn is_gamma(bidder: &Bidder) -> bool {
+    bidder.name.as_bytes() == b"Gamma".as_slice() && bidder.eligibility == 9 && bidder.sessions == 1
+}
+
+fn is_first_category(category: &Category) -> bool {
+    category.name.as_bytes() == b"A".as_slice()
+        && (category.supply, category.reserve, category.points) == (2, 10, 1)
+}
+
+/// Whether the rules are the worked ones, by what tells them apart.
+fn are_worked(rules: &Rules) -> bool {
+    have_worked_counts(rules)
+        && have_worked_bidders(rules)
+        && rules.categories().get(0).is_some_and(is_first_category)
+}
+
+#[test]
+fn reads_rules(rt: HostRuntime) -> Result<(), Fail> {
+    assert!(rt; on_rules(rt.alloc(), RULES, |rules| Ok(are_worked(rules)))?);
+    Ok(())
 }
 
 // The pool with a weight of 2 for a lot of A, and a cap of 3.
 const POOLED_BY_WEIGHT: &[u8] =
     b"rules,3,1,,,\ncategory,A,2,10,1,0\ncategory,B,1,5,1,0\npool,Low,3,,,\nmember,Low,A,2,,\nmember,Low,B,1,,\nbidder,Alpha,9,2,,\nbidder,Beta,9,1,,\nbidder,Gamma,9,1,,\n";
 
+/// What a trial of a text's groups of the worked bidders tells.
+fn on_groups<F: FnOnce(&Groups) -> Result<bool, Fail> + Drop>(
+    alloc: Global,
+    lines: &[u8],
+    trial: F,
+) -> Result<bool, Fail>
+    requires { F.IsAlwaysCallable trial }
+{
+    let rules = read_rules(alloc, RULES)?;
+    let groups = read_groups(alloc, lines, &rules)?;
+    trial(&groups)
+}
+
+/// Whether the second of three groups, of which the first is empty, is that of Alpha and Gamma.
+fn are_three_groups(groups: &Groups) -> bool {
+    if groups.count() != 3 {
+        return false;
+    }
+    let second = groups.group(2);
+    groups.starts_empty() && second.has(3) && second.has(1) && !second.has(2)
+}
+
+fn is_only_empty(groups: &Groups) -> bool {
+    groups.count() == 1 && groups.starts_empty()
+}
+
 #[test]
 fn reads_groups(rt: HostRuntime) -> Result<(), Fail> {
-    let rules = read_rules(rt.alloc(), RULES)?;
-    let groups = read_groups(rt.alloc(), b"-\r\nGamma+Alpha\n-", &rules)?;
-    assert_eq!(rt; groups.count(), 3);
-    assert!(rt; groups.starts_empty());
-    let second = groups.group(2);
-    assert!(rt; second.has(3) && second.has(1) && !second.has(2));
-    assert_eq!(rt; read_groups(rt.alloc(), b"", &rules)?.count(), 0);
-    let only = Groups::only_empty(rt.alloc())?;
-    assert!(rt; only.count() == 1 && only.starts_empty());
+    let alloc = rt.alloc();
+    let lines = b"-\r\nGamma+Alpha\n-".as_slice();
+    assert!(rt; on_groups(alloc, lines, |groups| Ok(are_three_groups(groups)))?);
+    assert!(rt; on_groups(alloc, b"", |groups| Ok(groups.count() == 0))?);
+    assert!(rt; is_only_empty(&Groups::only_empty(alloc)?));
     Ok(())
+}
+
+fn fault(alloc: Global, text: &[u8]) -> Option<RulesFault> {
+    read_rules(alloc, text).err()
+}
+
+/// Whether rules and groups of this text, or of all but its first byte, are refused by its size and by what it holds.
+fn is_at_the_limit(alloc: Global, rules: &Rules, text: &[u8]) -> bool {
+    !text.is_empty()
+        && fault(alloc, text) == Some(RulesFault::TooLarge)
+        && fault(alloc, &text[1..]) == Some(RulesFault::Header { place: 1 })
+        && read_groups(alloc, text, rules).err() == Some(GroupFault::TooLarge)
+}
+
+fn refuses_by_size(alloc: Global, rules: &Rules) -> Result<bool, Fail> {
+    let text = vec![in alloc; b'x'; 4_194_305]?;
+    Ok(is_at_the_limit(alloc, rules, &text))
 }
 
 #[test]
 fn refuses_texts_above_four_mebibytes(rt: HostRuntime) -> Result<(), Fail> {
-    let text = vec![in rt.alloc(); b'x'; 4_194_305]?;
-    let rules = read_rules(rt.alloc(), RULES)?;
-    assert!(rt; fault(&rt, &text) == Some(RulesFault::TooLarge));
-    assert!(rt; fault(&rt, &text[1..]) == Some(RulesFault::Header { place: 1 }));
-    let told = read_groups(rt.alloc(), &text, &rules).err();
-    assert!(rt; told == Some(GroupFault::TooLarge));
+    let alloc = rt.alloc();
+    assert!(rt; on_rules(alloc, RULES, |rules| refuses_by_size(alloc, rules))?);
     Ok(())
 }
 
-fn package(rt: &HostRuntime, first: u32, second: u32) -> Result<Package, Fail>
+fn package(alloc: Global, first: u32, second: u32) -> Result<Package, Fail>
     requires within { (first ≤ 10000) × (second ≤ 10000) }
     ensures { IfOk result (λ made. length made ≡ 2) }
 {
-    Ok(Package::new(vec![in rt.alloc(); first, second]?))
+    Ok(Package::new(vec![in alloc; first, second]?))
+}
+
+/// Whether the one of two packages has 3 lots, 2 of them of A, and covers the other one, which covers itself alone.
+fn are_large_and_small(large: &Package, small: &Package) -> bool
+    requires { (length large.now ≡ 2) × (length small.now ≡ 2) }
+{
+    large.size() == 3
+        && large.quantity(1) == 2
+        && large.covers(small)
+        && !small.covers(large)
+        && small.covers(small)
 }
 
 #[test]
 fn compares_packages(rt: HostRuntime) -> Result<(), Fail> {
-    let small = package(&rt, 1, 1)?;
-    let large = package(&rt, 2, 1)?;
-    assert_eq!(rt; large.size(), 3);
-    assert_eq!(rt; large.quantity(1), 2);
-    assert!(rt; large.covers(&small));
-    assert!(rt; !small.covers(&large));
-    assert!(rt; small.covers(&small));
+    let small = package(rt.alloc(), 1, 1)?;
+    let large = package(rt.alloc(), 2, 1)?;
+    assert!(rt; are_large_and_small(&large, &small));
     Ok(())
 }
 
@@ -90,45 +147,68 @@ fn makes_a_package_of_quantities(rt: HostRuntime) -> Result<(), Fail> {
     Ok(())
 }
 
+/// Whether all lots are worth 40, and a bid of 50 for two lots of A and one of B is worth 10 above what these are.
+fn are_worth_40(alloc: Global, rules: &Rules) -> Result<bool, Fail> {
+    if rules.categories().len() != 2 {
+        return Ok(false);
+    }
+    let package = package(alloc, 2, 1)?;
+    let fits = package.fits(rules);
+    let bid = Bid {
+        package,
+        amount: 50,
+    };
+    Ok(fits && rules.worth_of_all() == 40 && rules.net(&bid) == 10)
+}
+
 #[test]
 fn bids_and_lots_are_worth_what_the_rules_say(rt: HostRuntime) -> Result<(), Fail> {
-    let rules = read_rules(rt.alloc(), RULES_OF_20)?;
-    assert_eq!(rt; rules.worth_of_all(), 40);
-    assert!(rt; rules.categories().len() == 2);
-    let package = package(&rt, 2, 1)?;
-    assert!(rt; package.fits(&rules));
-    assert_eq!(rt;
-        rules.net(&Bid {
-            package,
-            amount: 50
-        }),
-        10
-    );
+    let alloc = rt.alloc();
+    assert!(rt; on_rules(alloc, RULES_OF_20, |rules| are_worth_40(alloc, rules))?);
     Ok(())
+}
+
+/// Whether two lots of A and one of B load the one pool with 5, and don't fit.
+fn is_loaded_with_5(alloc: Global, rules: &Rules) -> Result<bool, Fail> {
+    if rules.pools().len() != 1 || rules.categories().len() != 2 {
+        return Ok(false);
+    }
+    let package = package(alloc, 2, 1)?;
+    Ok(rules.pools()[0].load(&package) == 5 && !package.fits(rules))
 }
 
 #[test]
 fn pools_are_loaded_by_weights(rt: HostRuntime) -> Result<(), Fail> {
-    let rules = read_rules(rt.alloc(), POOLED_BY_WEIGHT)?;
-    assert!(rt; rules.pools().len() == 1 && rules.categories().len() == 2);
-    let package = package(&rt, 2, 1)?;
-    assert_eq!(rt; rules.pools()[0].load(&package), 5);
-    assert!(rt; !package.fits(&rules));
+    let alloc = rt.alloc();
+    assert!(rt;
+        on_rules(
+            alloc,
+            POOLED_BY_WEIGHT,
+            |rules| is_loaded_with_5(alloc, rules)
+        )?
+    );
     let mut weights = Quantities::new();
     weights.push(7);
     assert!(rt; Weights::new(weights).as_slice() == [7].as_slice());
     Ok(())
 }
 
+/// Whether there are two records, the first with these fields behind its first one.
+fn takes_two(records: &mut RecordReader<'_>, row: &mut ByteRecord) -> Result<bool, Fail> {
+    Ok(
+        records.next(row)?
+            && field(row, 2) == b"b\"c".as_slice()
+            && field(row, 3) == b"".as_slice()
+            && records.next(row)?
+            && !records.next(row)?,
+    )
+}
+
 #[test]
 fn takes_records(rt: HostRuntime) -> Result<(), Fail> {
     let mut records = RecordReader::new(rt.alloc(), b"a,\"b\"\"c\"\r\n\nd");
     let mut row = ByteRecord::new(rt.alloc());
-    assert!(rt; records.next(&mut row)?);
-    assert_eq!(rt; field(&row, 2), b"b\"c".as_slice());
-    assert_eq!(rt; field(&row, 3), b"".as_slice());
-    assert!(rt; records.next(&mut row)?);
-    assert!(rt; !records.next(&mut row)?);
+    assert!(rt; takes_two(&mut records, &mut row)?);
     Ok(())
 }
 

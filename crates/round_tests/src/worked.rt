@@ -3,7 +3,7 @@
 ghost use Rattle.std.specs.Prelude.{◌≡◌, ◌+◌, IfOk};
 ghost use Rattle.auction_terms.specs.Terms.{session_count};
 
-use auction_terms::Rules;
+use auction_terms::{Rules, read_rules};
 use bid_book::{Reply, Standing};
 use bid_forms::{Form, read_form};
 use std::alloc::Global;
@@ -28,8 +28,34 @@ pub const BETA: &[u8] = b"Beta,A,B\n20,1,0\n45,3,0\n";
 
 pub const GAMMA: &[u8] = b"Gamma,A,B\n12,0,1\n";
 
-pub fn form_of(alloc: Global, rules: &Rules, text: &[u8]) -> Result<Arc<Form, Global>, Fail> {
+fn form_of(alloc: Global, rules: &Rules, text: &[u8]) -> Result<Arc<Form, Global>, Fail> {
     Ok(Arc::new(alloc, read_form(alloc, text, rules)?)?)
+}
+
+/// What a trial of a text's rules tells. Where the rules stand in a function of its own, what the test goes on with is
+/// proved without them (docs/DEVELOPING.md, "Add a test").
+pub fn on_rules<F: FnOnce(&Rules) -> Result<bool, Fail> + Drop>(
+    alloc: Global,
+    text: &[u8],
+    trial: F,
+) -> Result<bool, Fail>
+    requires { F.IsAlwaysCallable trial }
+{
+    let rules = read_rules(alloc, text)?;
+    trial(&rules)
+}
+
+/// What a trial of the worked rules and of a form tells.
+pub fn on_form<F: FnOnce(Rules, &Arc<Form, Global>) -> Result<bool, Fail> + Drop>(
+    alloc: Global,
+    text: &[u8],
+    trial: F,
+) -> Result<bool, Fail>
+    requires { F.IsAlwaysCallable trial }
+{
+    let rules = read_rules(alloc, RULES)?;
+    let form = form_of(alloc, &rules, text)?;
+    trial(rules, &form)
 }
 
 /// The reply that a form stands.

@@ -5,8 +5,7 @@ ghost use Rattle.bid_book.specs.History.{MayMake, call_value};
 
 use super::ALPHA;
 use crate::worked;
-use crate::worked::{RULES, form_of, shown};
-use auction_terms::read_rules;
+use crate::worked::{on_form, shown};
 use bid_book::{Book, Call, Caller, Reply, Standing, StepError};
 use bid_forms::Form;
 use std::alloc::Global;
@@ -44,55 +43,78 @@ fn takes_at_last(
     Ok(answers_at_last(book, ALPHA, Call::Submit { form, over }, reply))
 }
 
+fn withdraws(book: &mut Book) -> bool {
+    let withdrawn = Reply::Withdrawn { number: 2 };
+    let stale = Reply::Stale { standing: None };
+    answers_at_last(book, ALPHA, Call::Withdraw { over: 1 }, withdrawn)
+        && answers_at_last(book, ALPHA, Call::Withdraw { over: 1 }, stale)
+}
+
 fn submits_and_withdraws(book: &mut Book, form: &Arc<Form, Global>) -> Result<bool, Fail> {
-    let over = Call::Withdraw { over: 1 };
-    let again = Call::Withdraw { over: 1 };
     Ok(
         takes_at_last(book, form, None, Reply::Accepted { number: 1 })?
             && answers_at_last(book, ALPHA, Call::Show, shown(form, 1)?)
-            && answers_at_last(book, ALPHA, over, Reply::Withdrawn { number: 2 })
-            && answers_at_last(book, ALPHA, again, Reply::Stale { standing: None })
+            && withdraws(book)
             && takes_at_last(book, form, None, Reply::Accepted { number: 3 })?,
     )
 }
 
+fn answers_close(book: &mut Book, was_open: bool) -> bool {
+    answers_at_last(book, Caller::Chair, Call::Close, Reply::Closed { was_open })
+}
+
 fn closes(book: &mut Book, form: &Arc<Form, Global>) -> Result<bool, Fail> {
-    let first = Reply::Closed { was_open: true };
-    let second = Reply::Closed { was_open: false };
     Ok(
-        answers_at_last(book, Caller::Chair, Call::Close, first)
+        answers_close(book, true)
             && takes_at_last(book, form, Some(3), Reply::RoundOver)?
             && answers_at_last(book, ALPHA, Call::Show, shown(form, 3)?)
-            && answers_at_last(book, Caller::Chair, Call::Close, second),
+            && answers_close(book, false),
     )
+}
+
+/// Whether a new book comes to nine entries.
+fn comes_to_nine_entries(book: &mut Book, form: &Arc<Form, Global>) -> Result<bool, Fail> {
+    Ok(submits_and_withdraws(book, form)? && closes(book, form)? && book.history().len() == 9)
 }
 
 #[test]
 fn nine_entries(rt: HostRuntime) -> Result<(), Fail> {
-    let rules = read_rules(rt.alloc(), RULES)?;
-    let form = form_of(rt.alloc(), &rules, worked::ALPHA)?;
-    let mut book = Book::new(rt.alloc());
-    assert!(rt; submits_and_withdraws(&mut book, &form)?);
-    assert!(rt; closes(&mut book, &form)?);
-    assert_eq!(rt; book.history().len(), 9);
+    let alloc = rt.alloc();
+    assert!(rt;
+        on_form(alloc, worked::ALPHA, |_, form| {
+            comes_to_nine_entries(&mut Book::new(alloc), form)
+        })?
+    );
     Ok(())
+}
+
+fn shares_a_reply(form: &Arc<Form, Global>) -> Result<bool, Fail> {
+    let reply = shown(form, 7)?;
+    Ok(reply.share()?.is_same(&reply))
+}
+
+fn shares_what_stands(form: &Arc<Form, Global>) -> Result<bool, Fail> {
+    let standing = Standing {
+        number: 7,
+        form: Arc::try_clone(form)?,
+    };
+    Ok(standing.share()?.is_same(&standing))
+}
+
+fn shares_a_call(form: &Arc<Form, Global>) -> Result<bool, Fail> {
+    let call = Call::Submit {
+        form: Arc::try_clone(form)?,
+        over: Some(7),
+    };
+    Ok(call.share()?.is_same(&call))
 }
 
 #[test]
 fn another_owner_or_want_of_memory(rt: HostRuntime) -> Result<(), Fail> {
-    let rules = read_rules(rt.alloc(), RULES)?;
-    let form = form_of(rt.alloc(), &rules, worked::ALPHA)?;
-    let reply = shown(&form, 7)?;
-    assert!(rt; reply.share()?.is_same(&reply));
-    let standing = Standing {
-        number: 7,
-        form: Arc::try_clone(&form)?,
-    };
-    assert!(rt; standing.share()?.is_same(&standing));
-    let call = Call::Submit {
-        form,
-        over: Some(7),
-    };
-    assert!(rt; call.share()?.is_same(&call));
+    assert!(rt;
+        on_form(rt.alloc(), worked::ALPHA, |_, form| {
+            Ok(shares_a_reply(form)? && shares_what_stands(form)? && shares_a_call(form)?)
+        })?
+    );
     Ok(())
 }

@@ -4,8 +4,8 @@ ghost use Rattle.std.specs.Prelude.{◌≡◌, ◌+◌};
 ghost use Rattle.auction_terms.specs.Terms.{session_count};
 
 use super::{replies_are, submit};
-use crate::worked::{ALPHA, RULES, blank, form_of};
-use auction_terms::{Rules, read_rules};
+use crate::worked::{ALPHA, blank, on_form};
+use auction_terms::Rules;
 use bid_book::Reply;
 use bid_desk::{Chair, ClosedBook, Desk, Round, Session};
 use bid_forms::Form;
@@ -78,14 +78,25 @@ fn is_one_or_the_other(closed: &ClosedBook, form: &Form) -> bool {
     }
 }
 
+fn settles_one_or_the_other<R: Threads + Wait + Sync>(
+    rt: &R,
+    alloc: Global,
+    rules: Rules,
+    form: &Arc<Form, Global>,
+) -> Result<bool, Fail> {
+    let blank = blank(&rules)?;
+    let closed = raced::<Brand, _>(rt, alloc, blank, rules, form);
+    Ok(closed.is_some_and(|closed| is_one_or_the_other(&closed, form)))
+}
+
 #[test]
 fn a_thousand_submissions_against_the_close(rt: HostRuntime) -> Result<(), Fail> {
+    let alloc = rt.alloc();
     for round in 0..1000u32 {
-        let rules = read_rules(rt.alloc(), RULES)?;
-        let form = form_of(rt.alloc(), &rules, ALPHA)?;
-        let blank = blank(&rules)?;
-        let closed = raced::<Brand, _>(&rt, rt.alloc(), blank, rules, &form).ok_or("settled")?;
-        assert!(rt; is_one_or_the_other(&closed, &form), "round {round}");
+        let is_settled = on_form(alloc, ALPHA, |rules, form| {
+            settles_one_or_the_other(&rt, alloc, rules, form)
+        })?;
+        assert!(rt; is_settled, "round {round}");
     }
     Ok(())
 }

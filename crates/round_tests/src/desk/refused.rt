@@ -5,7 +5,7 @@ ghost use Rattle.std.specs.Prelude.{◌≡◌, ◌+◌};
 ghost use Rattle.auction_terms.specs.Terms.{session_count};
 
 use super::replies_are;
-use crate::worked::{ALPHA, RULES, blank, form_of, shown};
+use crate::worked::{ALPHA, RULES, blank, on_form, shown};
 use auction_terms::{Rules, read_rules};
 use bid_book::{Entry, Reply};
 use bid_desk::{Cause, Chair, ClosedBook, Desk, OpenError, Round, Session, Stopped, Unsettled};
@@ -207,16 +207,44 @@ fn round<L: Round, R: Wait>(
     settled(alloc, desk.stop(), chair, sessions)
 }
 
+/// Whether a book has these replies, and the form stands in it.
+fn holds(closed: &ClosedBook, replies: &[Reply; 9], form: &Form) -> bool {
+    replies_are(closed.history(), replies)
+        && closed.form(1).is_some_and(|stands| stands.is_same(form))
+}
+
+fn settles_with<R: Wait>(
+    rt: &R,
+    alloc: Global,
+    rules: Rules,
+    form: &Arc<Form, Global>,
+    replies: &[Reply; 9],
+) -> Result<bool, Fail> {
+    let blank = blank(&rules)?;
+    let closed = round::<Brand, _>(rt, alloc, blank, rules, form, replies);
+    Ok(closed.is_some_and(|closed| holds(&closed, replies, form)))
+}
+
+fn settles_nine_entries<R: Wait>(
+    rt: &R,
+    alloc: Global,
+    rules: Rules,
+    form: &Arc<Form, Global>,
+) -> Result<bool, Fail> {
+    let replies = answers_of(form)?;
+    settles_with(rt, alloc, rules, form, &replies)
+}
+
 #[test]
 fn a_round_of_nine_entries(rt: HostRuntime) -> Result<(), Fail> {
-    let rules = read_rules(rt.alloc(), RULES)?;
-    let form = form_of(rt.alloc(), &rules, ALPHA)?;
-    let blank = blank(&rules)?;
-    let replies = answers_of(&form)?;
-    let closed = round::<Brand, _>(&rt, rt.alloc(), blank, rules, &form, &replies);
-    let closed = closed.ok_or("settled")?;
-    assert!(rt; replies_are(closed.history(), &replies));
-    assert!(rt; closed.form(1).is_some_and(|stands| stands.is_same(&form)));
+    let alloc = rt.alloc();
+    assert!(rt;
+        on_form(
+            alloc,
+            ALPHA,
+            |rules, form| settles_nine_entries(&rt, alloc, rules, form)
+        )?
+    );
     Ok(())
 }
 
@@ -335,26 +363,29 @@ fn causes<L: Round, R: Wait>(
     Some(([open, second, gamma], closed))
 }
 
+/// What the settlement waits for in turn.
+const CAUSES: [Cause; 3] = [
+    Cause::StillOpen,
+    Cause::Sessions {
+        bidder: 1,
+        session: 2,
+    },
+    Cause::Sessions {
+        bidder: 3,
+        session: 1,
+    },
+];
+
+fn settles_at_last<R: Wait>(rt: &R, alloc: Global) -> Result<bool, Fail> {
+    let rules = read_rules(alloc, RULES)?;
+    let blank = blank(&rules)?;
+    let settled = causes::<Brand, _>(rt, alloc, blank, rules);
+    Ok(settled.is_some_and(|(causes, closed)| causes == CAUSES && closed.history().len() == 1))
+}
+
 #[test]
 fn settlement_is_refused(rt: HostRuntime) -> Result<(), Fail> {
-    let rules = read_rules(rt.alloc(), RULES)?;
-    let blank = blank(&rules)?;
-    let (causes, closed) = causes::<Brand, _>(&rt, rt.alloc(), blank, rules).ok_or("settled")?;
-    assert!(rt;
-        causes
-            == [
-                Cause::StillOpen,
-                Cause::Sessions {
-                    bidder: 1,
-                    session: 2
-                },
-                Cause::Sessions {
-                    bidder: 3,
-                    session: 1
-                },
-            ]
-    );
-    assert_eq!(rt; closed.history().len(), 1);
+    assert!(rt; settles_at_last(&rt, rt.alloc())?);
     Ok(())
 }
 
@@ -384,17 +415,18 @@ fn cause_without_both<L: Round, R: Wait>(
     Some(cause)
 }
 
+fn misses_the_first_session<R: Wait>(rt: &R, alloc: Global) -> Result<bool, Fail> {
+    let rules = read_rules(alloc, RULES)?;
+    let blank = blank(&rules)?;
+    let missing = Cause::Sessions {
+        bidder: 1,
+        session: 1,
+    };
+    Ok(cause_without_both::<Brand, _>(rt, alloc, blank, rules) == Some(missing))
+}
+
 #[test]
 fn settlement_without_a_bidder(rt: HostRuntime) -> Result<(), Fail> {
-    let rules = read_rules(rt.alloc(), RULES)?;
-    let blank = blank(&rules)?;
-    let cause = cause_without_both::<Brand, _>(&rt, rt.alloc(), blank, rules);
-    assert!(rt;
-        cause
-            == Some(Cause::Sessions {
-                bidder: 1,
-                session: 1
-            })
-    );
+    assert!(rt; misses_the_first_session(&rt, rt.alloc())?);
     Ok(())
 }

@@ -1,53 +1,73 @@
 //! What is read where any one growth is refused (see tools/refuse_calls): nothing, since memory was short, or what is read with
 //! ample memory.
 
-use crate::worked::RULES;
-use auction_terms::read_rules;
+use super::is_read_as;
+use crate::worked::{RULES, on_rules};
+use auction_terms::Rules;
 use bid_forms::{FormFault, read_form};
+use std::alloc::Global;
 use std::test::Fail;
+
+/// Whether a text is the same form time after time, of this bidder, with so many bids.
+fn is_read_twice(
+    alloc: Global,
+    rules: &Rules,
+    text: &[u8],
+    bidder: u16,
+    count: usize,
+) -> Result<bool, Fail> {
+    let form = read_form(alloc, text, rules)?;
+    if form.bidder() != bidder || form.bids().len() != count || !form.meets(rules) {
+        return Ok(false);
+    }
+    is_read_as(alloc, rules, text, &form)
+}
+
+fn reads_forms(alloc: Global, rules: &Rules) -> Result<bool, Fail> {
+    let six = b"Alpha,A,B\n30,1,0\n50,2,1\n28,1,1\n15,0,1\n21,0,2\n40,1,2\n".as_slice();
+    Ok(
+        is_read_twice(alloc, rules, six, 1, 6)?
+            && is_read_twice(alloc, rules, b"\"Gamma\",\"A\",\"B\"\n12,0,1\n", 3, 1)?
+            && is_read_twice(alloc, rules, b"Beta,A,B\n", 2, 0)?,
+    )
+}
 
 #[test]
 fn a_form_or_want_of_memory(rt: HostRuntime) -> Result<(), Fail> {
-    let rules = read_rules(rt.alloc(), RULES)?;
-    for (text, bidder, count) in [
-        (
-            b"Alpha,A,B\n30,1,0\n50,2,1\n28,1,1\n15,0,1\n21,0,2\n40,1,2\n".as_slice(),
-            1u16,
-            6usize,
-        ),
-        (b"\"Gamma\",\"A\",\"B\"\n12,0,1\n".as_slice(), 3, 1),
-        (b"Beta,A,B\n".as_slice(), 2, 0),
-    ] {
-        let form = read_form(rt.alloc(), text, &rules)?;
-        let again = read_form(rt.alloc(), text, &rules)?;
-        assert_eq!(rt; form.bidder(), bidder);
-        assert_eq!(rt; form.bids().len(), count);
-        assert!(rt; form.is_same(&again) && form.meets(&rules));
-    }
+    let alloc = rt.alloc();
+    assert!(rt; on_rules(alloc, RULES, |rules| reads_forms(alloc, rules))?);
     Ok(())
+}
+
+/// Whether a text is refused so.
+fn is_refused(alloc: Global, rules: &Rules, text: &[u8], told: FormFault) -> Result<bool, Fail> {
+    match read_form(alloc, text, rules).err() {
+        Some(FormFault::OutOfMemory) => Err(Fail::from("out of memory")),
+        fault => Ok(fault == Some(told)),
+    }
+}
+
+fn refuses(alloc: Global, rules: &Rules) -> Result<bool, Fail> {
+    let repeated = FormFault::RepeatedPackage {
+        place: 4,
+        earlier: 1,
+    };
+    let below = FormFault::BelowReserve { place: 3 };
+    let head = FormFault::Header { place: 1 };
+    Ok(
+        is_refused(
+            alloc,
+            rules,
+            b"Alpha,A,B\n30,1,0\n50,2,1\n31,1,0\n",
+            repeated,
+        )? && is_refused(alloc, rules, b"Alpha,A,B\n30,1,0\n14,1,1\n", below)?
+            && is_refused(alloc, rules, b"Alpha,B,A\n", head)?,
+    )
 }
 
 #[test]
 fn a_fault_or_want_of_memory(rt: HostRuntime) -> Result<(), Fail> {
-    let rules = read_rules(rt.alloc(), RULES)?;
-    for (text, told) in [
-        (
-            b"Alpha,A,B\n30,1,0\n50,2,1\n31,1,0\n".as_slice(),
-            FormFault::RepeatedPackage {
-                place: 4,
-                earlier: 1,
-            },
-        ),
-        (
-            b"Alpha,A,B\n30,1,0\n14,1,1\n".as_slice(),
-            FormFault::BelowReserve { place: 3 },
-        ),
-        (b"Alpha,B,A\n".as_slice(), FormFault::Header { place: 1 }),
-    ] {
-        match read_form(rt.alloc(), text, &rules).err() {
-            Some(FormFault::OutOfMemory) => return Err(Fail::from("out of memory")),
-            fault => assert!(rt; fault == Some(told)),
-        }
-    }
+    let alloc = rt.alloc();
+    assert!(rt; on_rules(alloc, RULES, |rules| refuses(alloc, rules))?);
     Ok(())
 }

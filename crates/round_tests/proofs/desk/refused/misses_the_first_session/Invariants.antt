@@ -1,4 +1,4 @@
-use Rattle.round_tests.proofs.desk.refused.settlement_without_a_bidder.Given as goal
+use Rattle.round_tests.proofs.desk.refused.misses_the_first_session.Given as goal
 
 abbrev pub ghosts-cause_without_both-L-Ledger : goal.ghosts-cause_without_both-L-Ledger
 ghosts-cause_without_both-L-Ledger g a = record { name = a.blank.name; parts = a.blank.parts }

@@ -1,4 +1,4 @@
-use Rattle.round_tests.proofs.desk.most_calls_settle.Given as goal
+use Rattle.round_tests.proofs.desk.settles_at_the_limit.Given as goal
 
 abbrev pub ghosts-at_the_limit-L-Ledger : goal.ghosts-at_the_limit-L-Ledger
 ghosts-at_the_limit-L-Ledger g a = record { name = a.blank.name; parts = a.blank.parts }

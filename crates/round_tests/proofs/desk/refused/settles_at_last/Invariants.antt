@@ -1,4 +1,4 @@
-use Rattle.round_tests.proofs.desk.refused.settlement_is_refused.Given as goal
+use Rattle.round_tests.proofs.desk.refused.settles_at_last.Given as goal
 
 abbrev pub ghosts-causes-L-Ledger : goal.ghosts-causes-L-Ledger
 ghosts-causes-L-Ledger g a = record { name = a.blank.name; parts = a.blank.parts }

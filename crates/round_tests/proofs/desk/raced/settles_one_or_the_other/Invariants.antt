@@ -1,4 +1,4 @@
-use Rattle.round_tests.proofs.desk.raced.a_thousand_submissions_against_the_close.Given as goal
+use Rattle.round_tests.proofs.desk.raced.settles_one_or_the_other.Given as goal
 
 abbrev pub ghosts-raced-L-Ledger : goal.ghosts-raced-L-Ledger
 ghosts-raced-L-Ledger g a = record { name = a.blank.name; parts = a.blank.parts }

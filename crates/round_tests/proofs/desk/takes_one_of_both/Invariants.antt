@@ -1,4 +1,4 @@
-use Rattle.round_tests.proofs.desk.both_sessions_submit.Given as goal
+use Rattle.round_tests.proofs.desk.takes_one_of_both.Given as goal
 
 abbrev pub ghosts-submitted-L-Ledger : goal.ghosts-submitted-L-Ledger
 ghosts-submitted-L-Ledger g a = record { name = a.blank.name; parts = a.blank.parts }

@@ -1,4 +1,4 @@
-use Rattle.round_tests.proofs.desk.both_sessions_submit_and_withdraw.Given as goal
+use Rattle.round_tests.proofs.desk.takes_one_order.Given as goal
 
 abbrev pub ghosts-withdrawn-L-Ledger : goal.ghosts-withdrawn-L-Ledger
 ghosts-withdrawn-L-Ledger g a = record { name = a.blank.name; parts = a.blank.parts }
