@@ -1,7 +1,7 @@
 -- What is told of all faults.
 use Rattle.std.proofs.Common.{◌≡◌, ◌∷◌, ℕ, Bool, true, false, List, [], Result, Ok, Err, ap, length, refl}
 use Rattle.std.specs.Prelude.{◌↔◌, IsErr, IsTrue, Option, not}
-use Rattle.auction_input.specs.Auction.{auction_told}
+use Rattle.auction_input.specs.Auction.{Auction, auction_told}
 use Rattle.auction_input.specs.declared.refusal.Refusal.{Refusal}
 use Rattle.auction_input.specs.declared.refusal.Refusal.TheVariants as refusal
 use Rattle.auction_terms.proofs.AllFaultsFacts.{none-kept}
@@ -10,7 +10,7 @@ use Rattle.auction_terms.specs.declared.faults.Faults.{Faults}
 use Rattle.auction_terms.specs.declared.faults.Found.{Found}
 use Rattle.input_faults.proofs.InputBegins.{begin-input}
 use Rattle.input_faults.specs.Explained.{IsCutShort, by_put}
-use Rattle.input_faults.specs.FaultLines.{fault_lines}
+use Rattle.input_faults.specs.FaultLines.{explanation, fault_lines}
 use Rattle.input_faults.specs.FaultsAs.{faults_as}
 use Rattle.input_faults.specs.InputFaults.{input_faults, refusal_of}
 use Rattle.input_faults.specs.declared.fault.Fault.{Fault}
@@ -42,3 +42,15 @@ faulty held (at ∷ more) (Err r) true keeps are none some = (let nothing = none
 pub is-faulty : (asked : Request) (input : List ℕ) (held : Faults Fault) (empty : Bool) → Keeps held (input_faults asked input) → (empty ≡ true → length held.kept.items ≡ 0) → (empty ≡ false → length held.kept.items ≡ 0 → ⊥)
     → IsTrue (not empty) ↔ IsErr (auction_told asked input)
 is-faulty asked input held empty keeps none some = faulty held (input_faults asked input) (auction_told asked input) empty keeps (begin-input asked input) none some
+
+-- nothing is told of an input that tells an auction
+lines-of-none : (faults : List (Found Fault)) → faults_as refusal_of faults ≡ [] → fault_lines faults ≡ []
+lines-of-none [] none = refl
+lines-of-none (at ∷ more) none = cc
+
+of-told : (faults : List (Found Fault)) (told : Result Auction Refusal) (auction : Auction) → AreFaultsOf (faults_as refusal_of faults) told → told ≡ Ok auction → fault_lines faults ≡ []
+of-told faults (Ok a) auction are is = lines-of-none faults are
+of-told faults (Err r) auction are is = cc
+
+pub nothing-explained : (asked : Request) (input : List ℕ) (auction : Auction) → auction_told asked input ≡ Ok auction → explanation asked input ≡ []
+nothing-explained asked input auction is = of-told (input_faults asked input) (auction_told asked input) auction (begin-input asked input) is

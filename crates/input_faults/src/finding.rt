@@ -1,9 +1,8 @@
 //! Finding all faults of an input.
 
-ghost use Rattle.std.specs.Prelude.{◌≡◌, ◌≢◌, ◌∷◌, [], IfOk, List, MatchOption, OnOk, length};
+ghost use Rattle.std.specs.Prelude.{◌≡◌, ◌≢◌, ◌∷◌, [], IfOk, List, MatchOption, OnOk};
 ghost use Rattle.auction_input.specs.Parts.{Hold, cut_lines, parts_in};
 ghost use Rattle.auction_input.specs.PartsTold.{only_text};
-ghost use Rattle.auction_input.specs.Plan.{miscounted, parts_taken};
 ghost use Rattle.auction_terms.specs.AllFaults.{Keeps, KeepsMore};
 ghost use Rattle.auction_terms.specs.Borrowed.{bytes_of};
 ghost use Rattle.auction_terms.specs.declared.faults.Found.{Found};
@@ -13,40 +12,10 @@ ghost use Rattle.input_faults.specs.declared.fault.Fault as declared;
 use crate::fault::Fault;
 use crate::merging::add_call;
 use crate::reading::{take_forms, take_groups, take_rules};
-use auction_input::{CountedPart, PartFault, Parts, only_text, split_parts};
+use auction_input::{PartFault, Parts, miscounted, only_text, split_parts};
 use auction_terms::{Faults, Rules};
 use requests::Request;
 use std::alloc::{AllocError, Global};
-
-// How many parts of groups a request takes, and of solutions, where that is known before they are read.
-fn parts_taken(request: &Request) -> (usize, Option<usize>)
-    ensures { result ≡ parts_taken request.now }
-{
-    match request {
-        Request::Text => (0, Some(0)),
-        Request::Map { group: _ } => (1, Some(1)),
-        Request::Report { workers: _ } | Request::Verify { workers: _ } => (1, None),
-        _ => (1, Some(0)),
-    }
-}
-
-// The first kind of which there are too few parts or too many.
-fn count_fault(request: &Request, parts: &Parts<'_>) -> Option<CountedPart>
-    ensures { result ≡ miscounted request.now (length parts.now.rules.items)
-        (length parts.now.groups.items) (length parts.now.solutions.items) }
-{
-    let (groups, solutions) = parts_taken(request);
-    if parts.rules.len() != 1 {
-        return Some(CountedPart::Rules);
-    }
-    if parts.groups.len() != groups {
-        return Some(CountedPart::Groups);
-    }
-    match solutions {
-        Some(count) if parts.solutions.len() != count => Some(CountedPart::Solutions),
-        _ => None,
-    }
-}
 
 // Tests that a fault of parts isn't that memory was refused.
 fn check_part_fault(fault: PartFault) -> Result<(), AllocError>
@@ -80,7 +49,7 @@ fn take_parts<'t>(
             return Ok(None);
         }
     };
-    match count_fault(request, &parts) {
+    match miscounted(request, &parts) {
         None => Ok(Some(parts)),
         Some(part) => {
             faults.add(0, Fault::PartCount(part))?;

@@ -16,12 +16,12 @@ returns-in-Err c =
 pub returns-in-None : goal.returns-in-None
 returns-in-None c =
     let (none, hold) = c.in-Ok.ensures in
-    let is = parts-counted c.args.request.now c.args.text.now c.in-Ok.parts none hold None (sym c.count_fault.ensures ∙ c.in-None.is) in
+    let is = parts-counted c.args.request.now c.args.text.now c.in-Ok.parts none hold None (sym c.miscounted.ensures ∙ c.in-None.is) in
     record { faults = rw is (keeps-none c.args.faults.now); parts = (is, hold) }
 
 pub returns : goal.returns
 returns c =
     let (none, hold) = c.in-Ok.ensures in
     let part = c.in-Some.part in
-    let is = parts-counted c.args.request.now c.args.text.now c.in-Ok.parts none hold (Some part) (sym c.count_fault.ensures ∙ c.in-Some.is) in
+    let is = parts-counted c.args.request.now c.args.text.now c.in-Ok.parts none hold (Some part) (sym c.miscounted.ensures ∙ c.in-Some.is) in
     record { faults = rw is c.in_ok-add-in-Some.ensures; parts = (found 0 (fault.PartCount part), is) }
