@@ -9,7 +9,7 @@
 # (what is no command goes to the program, which tells the nearest one)
 are_plain() {
     case ${1-} in
-        text | compile | check | map | report | verify) shift ;;
+        text | compile | check | map | report | verify | explain) shift ;;
         - | -o* | --o*) return 1 ;;
         help | -*) return 0 ;;
         *) [ $# = 0 ] || [ ! -f "$1" ]; return ;;
@@ -28,7 +28,7 @@ are_plain() {
 # Whether a command's output goes into a pipe.
 is_piped() {
     case ${1-text} in
-        text | compile | check | map | report | verify) [ -p /dev/stdout ] ;;
+        text | compile | check | map | report | verify | explain) [ -p /dev/stdout ] ;;
         *) return 1 ;;
     esac
 }

@@ -2,6 +2,7 @@ pub mod CertifiedFacts
 pub mod ClaimedFacts
 pub mod CommandFacts
 pub mod EndFacts
+pub mod ExplainingFacts
 pub mod FaithfulFacts
 pub mod FaultFacts
 pub mod FeasibleFacts

@@ -1,6 +1,6 @@
 //! The commands: the input is read, and the command that is asked for answers.
 
-ghost use Rattle.std.specs.Prelude.{◌≡◌, IfErr, OnOk};
+ghost use Rattle.std.specs.Prelude.{◌≡◌, ◌≢◌, IfErr, OnOk};
 ghost use Rattle.answers.specs.Answer.{answer};
 ghost use Rattle.answers.specs.Exact.{IsUnwritten, Writes};
 ghost use Rattle.requests.specs.Requests.{IsRequestWithinLimits};
@@ -9,10 +9,13 @@ ghost use Rattle.auction_input.specs.Sold.{HasReadSold, HasSold};
 
 mod check;
 mod compile;
+mod explain;
 mod map;
 mod report;
 mod text;
 pub mod verify;
+
+pub use explain::explain_input;
 
 use crate::commands::check::check;
 use crate::commands::compile::compile;
@@ -27,14 +30,15 @@ use std::io::Read;
 use std::sync::Wait;
 use std::thread::Threads;
 
-/// Reads the input, and writes what is asked for.
+/// Reads the input, and writes what is asked for, unless that is `explain`.
 pub fn answer<R: Threads + Wait + Sync + AllocGlobal, I: Read, S: Sink>(
     rt: &R,
     request: Request,
     input: &mut Source<I>,
     out: &mut S,
 ) -> Result<(), Refusal>
-    requires { IsRequestWithinLimits request }
+    requires limits { IsRequestWithinLimits request }
+    requires answered { request ≢ Request.Explain }
     ensures answered { OnOk result (IsAnswered request (I.remaining input.old.reader)
         (I.remaining input.new.reader) (S.taken out.old) (S.taken out.new)) }
     ensures sold { OnOk result (HasReadSold request (I.remaining input.old.reader)
@@ -56,7 +60,8 @@ fn answer_text<R: Threads + Wait + Sync + AllocGlobal, S: Sink>(
     text: &[u8],
     out: &mut S,
 ) -> Result<(), Refusal>
-    requires { IsRequestWithinLimits request }
+    requires limits { IsRequestWithinLimits request }
+    requires answered { request ≢ Request.Explain }
     ensures written { OnOk result (Writes (answer request text.now) (S.taken out.old)
         (S.taken out.new)) }
     ensures sold { OnOk result (HasSold request text.now) }
@@ -71,5 +76,6 @@ fn answer_text<R: Threads + Wait + Sync + AllocGlobal, S: Sink>(
         Request::Map { group } => map(rt, text, group, out),
         Request::Report { workers } => write_report(rt, text, workers, out),
         Request::Verify { workers } => verify(rt, text, workers, out),
+        Request::Explain => unreachable!(),
     }
 }

@@ -1,19 +1,19 @@
 //! The program on its words, its input and two sinks.
 
-ghost use Rattle.std.specs.Prelude.{◌≡◌, ◌≢◌, ◌<◌, ◌≤◌, IfErr, IfSome, IsSome, Ok, codes, flat_map, length};
+ghost use Rattle.std.specs.Prelude.{◌≡◌, ◌≢◌, ◌⊎◌, ◌<◌, ◌≤◌, IfErr, IfSome, IsSome, Ok, codes, flat_map, length};
 ghost use Rattle.std.specs.Io.KnownBytes.{Appends};
 ghost use Rattle.std.specs.IoError.{error_kind};
 ghost use Rattle.std.specs.declared.io.ErrorKind.TheVariants as io_kind;
 ghost use Rattle.clap.specs.Words.{kind_of};
 ghost use Rattle.auction_input.specs.Line.{IsToldWhy, Puts, line};
 ghost use Rattle.auction_input.specs.declared.refusal.Refusal.TheVariants as refusal;
-ghost use Rattle.requests.specs.Asked.{asked_of, by_fault, for_nothing};
+ghost use Rattle.requests.specs.Asked.{asked_of, by_fault, for_answer, for_nothing};
 ghost use Rattle.answers.specs.Exact.{Ends};
 ghost use Rattle.requests.specs.Requests.{IsRequestWithinLimits};
-ghost use Rattle.answers.specs.Runs.{IsAnswered, IsDone, IsRefused, IsUnasked, IsUndone, PutsSome};
+ghost use Rattle.answers.specs.Runs.{HasExplained, IsAnswered, IsDone, IsRefused, IsUnasked, IsUndone, PutsSome};
 ghost use Rattle.answers.specs.inside.Runs.{IsUntold, HasShown};
 
-use crate::commands::answer;
+use crate::commands::{answer, explain_input};
 use crate::pieces::write_pieces;
 use crate::telling::tell;
 use auction_input::{Refusal, Source};
@@ -29,7 +29,7 @@ use std::sync::Wait;
 use std::thread::Threads;
 
 /// The whole program on its words as std tells them, its own name first: the result is its exit status. It is 0 where the
-/// output is whole, 1 where the run is refused, and 2 where the words are.
+/// output is whole, 1 where the run is refused, or `explain` tells faults, and 2 where the words are.
 pub fn run<R: Threads + Wait + Sync + AllocGlobal, I: Read, S: Sink, F: Sink>(
     rt: &R,
     words: io::Result<Args>,
@@ -48,7 +48,10 @@ pub fn run<R: Threads + Wait + Sync + AllocGlobal, I: Read, S: Sink, F: Sink>(
         (I.remaining input.old.reader) (I.remaining input.new.reader) input.old.failures
         input.new.failures (S.taken out.old) (S.taken out.new) (S.failures out.old)
         (S.failures out.new)) (F.taken faults.old) (F.taken faults.new) (F.failures faults.old)
-        (F.failures faults.new) }
+        (F.failures faults.new) ⊎ HasExplained (asked_of words) (I.remaining input.old.reader)
+        (I.remaining input.new.reader) input.old.failures input.new.failures (S.taken out.old)
+        (S.taken out.new) (S.failures out.old) (S.failures out.new) (F.taken faults.old)
+        (F.taken faults.new) (F.failures faults.old) (F.failures faults.new) }
     ensures unasked { result ≡ 2 → IsUnasked (asked_of words) (I.remaining input.old.reader)
         (I.remaining input.new.reader) (S.taken out.old) (S.taken out.new) }
     ensures told { result ≡ 2 → PutsSome (F.taken faults.old) (F.taken faults.new)
@@ -117,10 +120,51 @@ fn answer_request<R: Threads + Wait + Sync + AllocGlobal, I: Read, S: Sink, F: S
     ensures refused { result ≡ 1 → IsToldWhy (IsRefused request (I.remaining input.old.reader)
         (I.remaining input.new.reader) input.old.failures input.new.failures (S.taken out.old)
         (S.taken out.new) (S.failures out.old) (S.failures out.new)) (F.taken faults.old)
+        (F.taken faults.new) (F.failures faults.old) (F.failures faults.new)
+        ⊎ HasExplained (for_answer request) (I.remaining input.old.reader)
+        (I.remaining input.new.reader) input.old.failures input.new.failures (S.taken out.old)
+        (S.taken out.new) (S.failures out.old) (S.failures out.new) (F.taken faults.old)
         (F.taken faults.new) (F.failures faults.old) (F.failures faults.new) }
 {
-    match answer(rt, request, input, out) {
-        Ok(()) => 0,
+    match request {
+        Request::Explain => explain_request(rt.alloc(), input, out, faults),
+        request => match answer(rt, request, input, out) {
+            Ok(()) => 0,
+            Err(refusal) => {
+                tell(&refusal, faults);
+                1
+            }
+        },
+    }
+}
+
+// Explains an input, or tells why not.
+fn explain_request<I: Read, S: Sink, F: Sink>(
+    alloc: Global,
+    input: &mut Source<I>,
+    out: &mut S,
+    faults: &mut F,
+) -> u8
+    ensures status { result ≤ 1 }
+    ensures answered { result ≡ 0 → IsAnswered Request.Explain (I.remaining input.old.reader)
+        (I.remaining input.new.reader) (S.taken out.old) (S.taken out.new) }
+    ensures quiet { result ≡ 0 → (F.taken faults.new ≡ F.taken faults.old)
+        × (F.failures faults.new ≡ F.failures faults.old) }
+    ensures succeeded { result ≡ 0 → (S.failures out.new ≡ S.failures out.old)
+        × (input.new.failures ≡ input.old.failures) }
+    ensures refused { result ≡ 1 → IsToldWhy (IsRefused Request.Explain
+        (I.remaining input.old.reader) (I.remaining input.new.reader) input.old.failures
+        input.new.failures (S.taken out.old) (S.taken out.new) (S.failures out.old)
+        (S.failures out.new)) (F.taken faults.old) (F.taken faults.new) (F.failures faults.old)
+        (F.failures faults.new) ⊎ HasExplained (for_answer Request.Explain)
+        (I.remaining input.old.reader) (I.remaining input.new.reader) input.old.failures
+        input.new.failures (S.taken out.old) (S.taken out.new) (S.failures out.old)
+        (S.failures out.new) (F.taken faults.old) (F.taken faults.new) (F.failures faults.old)
+        (F.failures faults.new) }
+{
+    match explain_input(alloc, input, out) {
+        Ok(false) => 0,
+        Ok(true) => 1,
         Err(refusal) => {
             tell(&refusal, faults);
             1

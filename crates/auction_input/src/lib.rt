@@ -22,7 +22,7 @@ pub use input::{INPUT_LIMIT, InputFault, read_input};
 pub use name::Name;
 pub use part_kind::PartKind;
 pub use parts::{PartFault, Parts, split_parts};
-pub use reading::only_text;
+pub use reading::{miscounted, only_text};
 pub use refusal::{CountedPart, Refusal};
 pub use round::RoundFault;
 pub use source::{ReadFailed, Source};

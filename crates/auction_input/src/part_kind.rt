@@ -17,12 +17,12 @@ pub enum PartKind {
     Tie,
 }
 
-// A kind that is one for `verify` alone.
+// A kind that is one for `verify`, and for `explain`, which lets it be.
 fn for_verify(request: &Request, kind: PartKind) -> Option<PartKind>
     ensures { result ≡ for_verify request.now kind }
 {
     match request {
-        Request::Verify { workers: _ } => Some(kind),
+        Request::Verify { workers: _ } | Request::Explain => Some(kind),
         _ => None,
     }
 }

@@ -7,7 +7,7 @@ ghost use Rattle.auction_input.specs.Refused.{Refuses};
 ghost use Rattle.auction_input.specs.inside.InputTexts.{AreAdded, IsAnswer, IsFirstErr};
 ghost use Rattle.auction_terms.specs.Borrowed.{bytes_of};
 ghost use Rattle.auction_input.specs.PartsTold.{only_text};
-ghost use Rattle.auction_input.specs.Plan.{miscounted, parts_taken};
+ghost use Rattle.auction_input.specs.Plan.{miscounted, solutions_taken, takes_groups};
 ghost use Rattle.auction_input.specs.inside.TextsTold.{HaveMore, more_told};
 ghost use Rattle.auction_input.specs.TextsTold.{form_told};
 ghost use Rattle.auction_terms.specs.Stages.{each_in_turn};
@@ -21,15 +21,25 @@ use requests::Request;
 use std::alloc::{AllocError, Global};
 use std::thread::{Threads, join};
 
-// How many parts of groups a command takes, and of solutions. Whether there is one for each group is tested once these are read.
-fn parts_taken(request: &Request) -> (usize, Option<usize>)
-    ensures { result ≡ parts_taken request.now }
+// Whether a command takes so many parts of groups.
+fn takes_groups(request: &Request, count: usize) -> bool
+    ensures { result ≡ takes_groups request.now count }
 {
     match request {
-        Request::Text => (0, Some(0)),
-        Request::Map { group: _ } => (1, Some(1)),
-        Request::Report { workers: _ } | Request::Verify { workers: _ } => (1, None),
-        _ => (1, Some(0)),
+        Request::Text => count == 0,
+        Request::Explain => count <= 1,
+        _ => count == 1,
+    }
+}
+
+// How many parts of solutions a command takes. Whether there is one for each group is tested once these are read.
+fn solutions_taken(request: &Request) -> Option<usize>
+    ensures { result ≡ solutions_taken request.now }
+{
+    match request {
+        Request::Map { group: _ } => Some(1),
+        Request::Report { workers: _ } | Request::Verify { workers: _ } | Request::Explain => None,
+        _ => Some(0),
     }
 }
 
@@ -38,14 +48,13 @@ pub fn miscounted(request: &Request, parts: &Parts<'_>) -> Option<CountedPart>
     ensures { result ≡ miscounted request.now (length parts.now.rules.items)
         (length parts.now.groups.items) (length parts.now.solutions.items) }
 {
-    let (groups, solutions) = parts_taken(request);
     if parts.rules.len() != 1 {
         return Some(CountedPart::Rules);
     }
-    if parts.groups.len() != groups {
+    if !takes_groups(request, parts.groups.len()) {
         return Some(CountedPart::Groups);
     }
-    match solutions {
+    match solutions_taken(request) {
         Some(count) if parts.solutions.len() != count => Some(CountedPart::Solutions),
         _ => None,
     }

@@ -33,6 +33,7 @@ wdp = fold (λ (app command : App). with_subcommand app command.top) (on_top (λ
     with_rule (new_app (codes "map")) group ∷
     with_rule (new_app (codes "report")) workers ∷
     with_rule (new_app (codes "verify")) workers ∷
+    new_app (codes "explain") ∷
     new_app (codes "help") ∷ [])
 
 -- the number that an option writes, from 1 to the most; where it writes none, 1
@@ -48,6 +49,7 @@ named (Some (name, rows)) =
     else if bytes_eq name (codes "map") then request.Map (option_number (codes "group") MOST_GROUPS rows)
     else if bytes_eq name (codes "report") then request.Report (option_number (codes "workers") MOST_WORKERS rows)
     else if bytes_eq name (codes "verify") then request.Verify (option_number (codes "workers") MOST_WORKERS rows)
+    else if bytes_eq name (codes "explain") then request.Explain
     else request.Text
 
 -- what words ask for: that a request is answered, help, the version; or nothing, since they have a fault

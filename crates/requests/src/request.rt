@@ -9,6 +9,8 @@ pub enum Request {
     Check,
     /// The programs of all groups, by so many workers.
     Compile { workers: usize },
+    /// All faults of an input.
+    Explain,
     /// What a solution wins without a group, which counts from 1.
     Map { group: usize },
     /// What the solutions of all groups win, and the groups' opportunity costs, by so many workers.

@@ -65,6 +65,9 @@ const REPORT_HELP: &str =
 const VERIFY_HELP: &str =
     "Input: as of report, and a %certificate for each group; perhaps a %unique or a %tie\nOutput: as of report, and what is shown of other outcomes\nExample: wdp verify < examples/verified.txt";
 
+const EXPLAIN_HELP: &str =
+    "Input: %rules, a %form for each form, perhaps %groups; other parts are let be\nOutput: a line for each fault, none where nothing is wrong; status 1 where there is one\nExample: wdp explain < examples/worked.txt";
+
 fn text_command<'a>(alloc: Global) -> Command<'a>
     ensures { app_of result ≡ new_app (codes "text") }
 {
@@ -121,6 +124,14 @@ fn verify_command<'a>(alloc: Global) -> Result<Command<'a>, AllocError>
         .arg(workers_option(alloc))
 }
 
+fn explain_command<'a>(alloc: Global) -> Command<'a>
+    ensures { app_of result ≡ new_app (codes "explain") }
+{
+    Command::new(alloc, "explain")
+        .about("Prints all faults of an input")
+        .after_help(EXPLAIN_HELP)
+}
+
 // The words of `help` are spelled otherwise before they are parsed: it stands here to be listed among the commands.
 fn help_command<'a>(alloc: Global) -> Command<'a>
     ensures { app_of result ≡ new_app (codes "help") }
@@ -156,6 +167,7 @@ fn command<'a>(alloc: Global) -> Result<Command<'a>, AllocError>
         .subcommand(map_command(alloc)?)?
         .subcommand(report_command(alloc)?)?
         .subcommand(verify_command(alloc)?)?
+        .subcommand(explain_command(alloc))?
         .subcommand(help_command(alloc))
 }
 
@@ -203,6 +215,7 @@ fn read(matches: &ArgMatches<'_>) -> Request
         Some(("verify", found)) => Request::Verify {
             workers: number_of(found, "workers", MOST_WORKERS),
         },
+        Some(("explain", _)) => Request::Explain,
         _ => Request::Text,
     }
 }

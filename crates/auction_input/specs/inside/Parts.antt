@@ -17,9 +17,10 @@ part_name head = slice_index_or (lines_of head) 0 []
 abbrev pub part : List ℕ → List ℕ → Part
 part head bytes = record { name = part_name head; bytes = bytes }
 
--- a kind that is one for `verify` alone
+-- a kind that is one for `verify`, and for `explain`
 abbrev pub for_verify : Request → PartKind → Option PartKind
 for_verify (request.Verify workers) k = Some k
+for_verify request.Explain k = Some k
 for_verify asked k = None
 
 -- the kind that a name tells to a request

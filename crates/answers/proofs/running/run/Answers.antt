@@ -1,4 +1,4 @@
-use Rattle.std.proofs.Common.{◌∙◌, ap, arith, refl}
+use Rattle.std.proofs.Common.{◌∙◌, ap, arith, inl, inr, refl}
 use Rattle.clap.specs.Words.{kind_of}
 use Rattle.auction_input.specs.declared.refusal.Refusal.TheVariants as refusal
 use Rattle.requests.specs.Asked.{asked_of}
@@ -7,17 +7,20 @@ use Rattle.answers.proofs.RunFacts.{untold}
 use Rattle.answers.proofs.running.run.Goals as goal
 
 pub returns-in-Err-clause-refused : goal.returns-in-Err-clause-refused
-returns-in-Err-clause-refused g c = λ one. (refusal.OutOfMemory, by_memory refl refl, c.without_words.ensures.refused one)
+returns-in-Err-clause-refused g c = λ one. inl (refusal.OutOfMemory, by_memory refl refl, c.without_words.ensures.refused one)
 
 pub returns-in-Err-clause-told : goal.returns-in-Err-clause-told
 returns-in-Err-clause-told g c = λ two. (_, omega arith, c.without_words.ensures.told two)
 
 pub returns-in-Ok-request_of-clause-refused : goal.returns-in-Ok-request_of-clause-refused
 returns-in-Ok-request_of-clause-refused g c = λ one.
-    let why = c.answer_request.ensures.refused one in
-    (why.0, by_request c.in-Ok-request_of.request (ap asked_of c.in-Ok.is ∙ c.in-Ok-request_of.ensures.request) why.1, why.2)
+    let asked = ap asked_of c.in-Ok.is ∙ c.in-Ok-request_of.ensures.request in
+    elim (c.answer_request.ensures.refused one) [
+      | inl why ↦ inl (why.0, by_request c.in-Ok-request_of.request asked why.1, why.2)
+      | inr explained ↦ inr (asked ∙ explained.0, explained.1, explained.2, explained.3, explained.4, explained.5)
+    ]
 
 pub returns-in-Err-request_of-clause-refused : goal.returns-in-Err-request_of-clause-refused
 returns-in-Err-request_of-clause-refused g c = λ one.
     let why = c.tell_words.ensures.refused one in
-    (why.0, untold _ _ (kind_of c.in-Err-request_of.error) (ap asked_of c.in-Ok.is) c.in-Err-request_of.ensures.faults _ _ _ _ _ _ why.0 why.1, why.2)
+    inl (why.0, untold _ _ (kind_of c.in-Err-request_of.error) (ap asked_of c.in-Ok.is) c.in-Err-request_of.ensures.faults _ _ _ _ _ _ why.0 why.1, why.2)

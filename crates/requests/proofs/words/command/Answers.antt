@@ -10,4 +10,5 @@ returns c =
     let four = added _ _ _ c.in_ok-subcommand-4.ensures _ _ three c.in_ok-map_command.ensures refl in
     let five = added _ _ _ c.in_ok-subcommand-5.ensures _ _ four c.in_ok-report_command.ensures refl in
     let six = added _ _ _ c.in_ok-subcommand-6.ensures _ _ five c.in_ok-verify_command.ensures refl in
-    last_added _ _ _ _ _ c.subcommand-7.ensures six c.help_command.ensures refl
+    let seven = added _ _ _ c.in_ok-subcommand-7.ensures _ _ six c.explain_command.ensures refl in
+    last_added _ _ _ _ _ c.subcommand-8.ensures seven c.help_command.ensures refl

@@ -1,0 +1,56 @@
+-- What is told of all faults.
+use Rattle.std.proofs.Common.{◌≡◌, ◌∷◌, ℕ, Bool, true, false, List, [], Result, Ok, Err, ap, length, refl}
+use Rattle.std.specs.Prelude.{◌↔◌, IsErr, IsTrue, Option, not}
+use Rattle.auction_input.specs.Auction.{Auction, auction_told}
+use Rattle.auction_input.specs.declared.refusal.Refusal.{Refusal}
+use Rattle.auction_input.specs.declared.refusal.Refusal.TheVariants as refusal
+use Rattle.auction_terms.proofs.AllFaultsFacts.{none-kept}
+use Rattle.auction_terms.specs.AllFaults.{AreFaultsOf, Keeps}
+use Rattle.auction_terms.specs.declared.faults.Faults.{Faults}
+use Rattle.auction_terms.specs.declared.faults.Found.{Found}
+use Rattle.input_faults.proofs.InputBegins.{begin-input}
+use Rattle.input_faults.specs.Explained.{IsCutShort, by_put}
+use Rattle.input_faults.specs.FaultLines.{explanation, fault_lines}
+use Rattle.input_faults.specs.FaultsAs.{faults_as}
+use Rattle.input_faults.specs.InputFaults.{input_faults, refusal_of}
+use Rattle.input_faults.specs.declared.fault.Fault.{Fault}
+use Rattle.input_faults.specs.inside.HeldLines.{held_lines}
+use Rattle.mps_text.specs.Sinks.{HasFailed, SentFront}
+use Rattle.mps_text.specs.Written.{written_of}
+use Rattle.mps_text.specs.declared.write_fault.WriteFault.{WriteFault}
+use Rattle.mps_text.specs.declared.write_fault.WriteFault.TheVariants as write
+use Rattle.requests.specs.declared.request.Request.{Request}
+
+-- the lines of what is kept are those of the first faults
+pub held-lines : (held : Faults Fault) (faults : List (Found Fault)) → Keeps held faults → held_lines held ≡ fault_lines faults
+held-lines held faults keeps = rw (keeps.kept, keeps.more) refl
+
+pub cut-short : (lines : List ℕ) (taken taken' : Option (List ℕ)) (failures failures' : ℕ) (f : WriteFault) → SentFront taken taken' lines (written_of f) → HasFailed failures failures'
+    → IsCutShort lines taken taken' failures failures' (refusal.Write f)
+cut-short lines taken taken' failures failures' (write.Sink written) sent failed = by_put sent failed
+
+-- there is a fault just where no auction is told
+faulty : {A : Type 0} (held : Faults Fault) (faults : List (Found Fault)) (told : Result A Refusal) (empty : Bool) → Keeps held faults → AreFaultsOf (faults_as refusal_of faults) told
+    → (empty ≡ true → length held.kept.items ≡ 0) → (empty ≡ false → length held.kept.items ≡ 0 → ⊥) → IsTrue (not empty) ↔ IsErr told
+faulty held [] (Ok x) true keeps are none some = (λ is. is, λ is. is)
+faulty held [] (Ok x) false keeps are none some = (λ is. absurd (some refl (ap length keeps.kept)), λ _. refl)
+faulty held (at ∷ more) (Ok x) empty keeps are none some = cc
+faulty held [] (Err r) empty keeps (field, more, are) none some = cc
+faulty held (at ∷ more) (Err r) false keeps are none some = (λ _. refl, λ _. refl)
+faulty held (at ∷ more) (Err r) true keeps are none some = (let nothing = none-kept held (at ∷ more) keeps (none refl) in cc)
+
+pub is-faulty : (asked : Request) (input : List ℕ) (held : Faults Fault) (empty : Bool) → Keeps held (input_faults asked input) → (empty ≡ true → length held.kept.items ≡ 0) → (empty ≡ false → length held.kept.items ≡ 0 → ⊥)
+    → IsTrue (not empty) ↔ IsErr (auction_told asked input)
+is-faulty asked input held empty keeps none some = faulty held (input_faults asked input) (auction_told asked input) empty keeps (begin-input asked input) none some
+
+-- nothing is told of an input that tells an auction
+lines-of-none : (faults : List (Found Fault)) → faults_as refusal_of faults ≡ [] → fault_lines faults ≡ []
+lines-of-none [] none = refl
+lines-of-none (at ∷ more) none = cc
+
+of-told : (faults : List (Found Fault)) (told : Result Auction Refusal) (auction : Auction) → AreFaultsOf (faults_as refusal_of faults) told → told ≡ Ok auction → fault_lines faults ≡ []
+of-told faults (Ok a) auction are is = lines-of-none faults are
+of-told faults (Err r) auction are is = cc
+
+pub nothing-explained : (asked : Request) (input : List ℕ) (auction : Auction) → auction_told asked input ≡ Ok auction → explanation asked input ≡ []
+nothing-explained asked input auction is = of-told (input_faults asked input) (auction_told asked input) auction (begin-input asked input) is

@@ -1,0 +1,24 @@
+use Rattle.input_faults.proofs.TextFacts.{form-read, form-refused, form-without, keeps-sized}
+use Rattle.auction_input.specs.declared.refusal.Refusal.TheVariants as refusal
+use Rattle.bid_forms.specs.declared.form_text.FormFault.TheVariants as form
+use Rattle.input_faults.proofs.reading.take_form.Goals as goal
+
+pub returns-in-Ok : goal.returns-in-Ok
+returns-in-Ok c =
+    let text = c.args.text.now in
+    let t = c.args.rules.now in
+    let n = c.args.number in
+    let told = form-read t n text c.in-Ok.form c.in-Ok.ensures.too_large c.in-Ok.ensures.answer in
+    record { faults = form-without c.args.faults.now t n text c.in-Ok.form told; form = told }
+
+pub returns-in_ok-add_form-in-Err : goal.returns-in_ok-add_form-in-Err
+returns-in_ok-add_form-in-Err c =
+    let text = c.args.text.now in
+    let t = c.args.rules.now in
+    let n = c.args.number in
+    let found = c.in_ok-found-in-Err in
+    let f = c.in-Err.fault in
+    record {
+      faults = c.in_ok-add_form-in-Err.ensures _ (keeps-sized found.found form.TooLarge text _ found.ensures.too_large found.ensures.all);
+      form = (refusal.Form n f, form-refused t n text f c.in_ok-check_form_fault-in-Err.ensures c.in-Err.ensures.too_large c.in-Err.ensures.answer);
+    }

@@ -1,0 +1,14 @@
+use Rattle.std.proofs.Common.{◌≡◌, ◌+◌, ◌++◌, ℕ, List, drop}
+use Rattle.auction_terms.specs.AllFaults.{KeepsMore, all_faults}
+use Rattle.auction_terms.specs.Borrowed.{bytes_of}
+use Rattle.auction_terms.specs.declared.faults.Found.{Found}
+use Rattle.input_faults.proofs.FormsFacts.{HasRead}
+use Rattle.input_faults.specs.InputFaults.{faults_of_form, faults_of_forms}
+use Rattle.input_faults.specs.declared.fault.Fault.{Fault}
+use Rattle.input_faults.proofs.reading.take_forms.Given as goal
+
+abbrev pub invariant-loop-place : goal.invariant-loop-place
+invariant-loop-place l = (so_far : List (Found Fault)) × (accepted : List (List ℕ))
+    × (faults_of_forms l.rules (bytes_of l.texts) ≡ so_far ++ all_faults (λ number before text. faults_of_form l.rules number text) (l.place + 1) accepted (bytes_of (drop l.place l.texts)))
+    × KeepsMore l.initial.faults l.faults so_far
+    × HasRead l.all_read l.rules l.texts l.place l.calls

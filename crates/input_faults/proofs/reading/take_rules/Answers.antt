@@ -1,0 +1,20 @@
+use Rattle.input_faults.proofs.TextFacts.{keeps-sized, rules-read, rules-refused, rules-without}
+use Rattle.auction_input.specs.declared.refusal.Refusal.TheVariants as refusal
+use Rattle.auction_terms.specs.declared.rules_text.RulesFault.TheVariants as rules
+use Rattle.input_faults.proofs.reading.take_rules.Goals as goal
+
+pub returns-in-Ok : goal.returns-in-Ok
+returns-in-Ok c =
+    let text = c.args.text.now in
+    let told = rules-read text c.in-Ok.rules c.in-Ok.ensures.too_large c.in-Ok.ensures.answer in
+    record { faults = rules-without c.args.faults.now text c.in-Ok.rules told; rules = told }
+
+pub returns-in_ok-add_rules-in-Err : goal.returns-in_ok-add_rules-in-Err
+returns-in_ok-add_rules-in-Err c =
+    let text = c.args.text.now in
+    let found = c.in_ok-found-in-Err in
+    let f = c.in-Err.fault in
+    record {
+      faults = c.in_ok-add_rules-in-Err.ensures _ (keeps-sized found.found rules.TooLarge text _ found.ensures.too_large found.ensures.all);
+      rules = (refusal.Rules f, rules-refused text f c.in_ok-check_rules_fault-in-Err.ensures c.in-Err.ensures.too_large c.in-Err.ensures.answer);
+    }

@@ -1,0 +1,2 @@
+pub mod CountedCalls
+pub mod HeldLines

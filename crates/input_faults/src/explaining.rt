@@ -1,0 +1,35 @@
+//! Telling all faults of an input.
+
+ghost use Rattle.std.specs.Prelude.{◌≡◌, ◌↔◌, IfErr, IfOk, IsErr, IsTrue, OnOk};
+ghost use Rattle.std.specs.Io.KnownBytes.{Appends};
+ghost use Rattle.auction_input.specs.Auction.{auction_told};
+ghost use Rattle.input_faults.specs.Explained.{IsCutShort};
+ghost use Rattle.input_faults.specs.FaultLines.{explanation};
+
+use crate::finding::input_faults;
+use crate::lines::write_lines;
+use auction_input::Refusal;
+use mps_text::Sink;
+use requests::Request;
+use std::alloc::Global;
+
+/// Writes a line for each fault of the input of a request, up to `MOST_FAULTS` lines, and how many more there are. Tells
+/// whether there is a fault.
+pub fn explain<S: Sink>(
+    alloc: Global,
+    request: &Request,
+    text: &[u8],
+    out: &mut S,
+) -> Result<bool, Refusal>
+    ensures written { OnOk result (Appends (S.taken out.old) (S.taken out.new)
+        (explanation request.now text.now)) }
+    ensures faulty { IfOk result (λ faulty. IsTrue faulty
+        ↔ IsErr (auction_told request.now text.now)) }
+    ensures succeeded { OnOk result (S.failures out.new ≡ S.failures out.old) }
+    ensures refused { IfErr result (IsCutShort (explanation request.now text.now)
+        (S.taken out.old) (S.taken out.new) (S.failures out.old) (S.failures out.new)) }
+{
+    let faults = input_faults(alloc, request, text)?;
+    write_lines(&faults, out)?;
+    Ok(!faults.kept.is_empty())
+}

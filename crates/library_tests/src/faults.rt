@@ -1,0 +1,77 @@
+//! All faults of an input, as another crate asks for them.
+
+use auction_input::Refusal;
+use input_faults::{explain, input_faults};
+use mps_text::{LimitSink, MemorySink, WriteFault};
+use requests::Request;
+use std::alloc::Global;
+use std::test::Fail;
+
+const FAULTY: &[u8] =
+    b"%rules\nrules,1,5,,\ncategory,A,2,10,1\ncategory,B,1,5,1\nbidder,Alpha,9,2,\nbidder,Beta,2,1,\n%form\nAlpha,A,B\n31,1,x\n7,0,0\n%form\nBeta,B,A\n30,1,0\n%form\nGamma,A,B\n30,1,10001\n%groups\n-\nBeta+Delta+Beta\n\n";
+
+const LINES: &[u8] =
+    b"form 1: 7 AmountStep at record 2, field 1\nform 1: 8 QuantityText at record 2, field 3\nform 1: 7 AmountStep at record 3, field 1\nform 1: 10 EmptyPackage at record 3\nform 2: 2 Header at record 1\nform 3: 3 UnknownBidder at record 1, field 1\nform 3: 9 QuantityRange at record 2, field 3\ngroups: 3 UnknownBidder at line 2, name 2\ngroups: 4 RepeatedBidder at line 2, name 3\ngroups: 2 EmptyLine at line 3\n";
+
+const SOUND: &[u8] =
+    b"%rules\nrules,1,5,,\ncategory,A,2,10,1\nbidder,Alpha,9,2,\n%form\nAlpha,A\n30,1\n%groups\n-\n";
+
+const COMPILE: Request = Request::Compile { workers: 1 };
+
+// The bytes of a head, and so many bids with one fault each.
+fn bids(alloc: Global, count: usize) -> Result<Vec<u8>, Fail> {
+    let mut text = Vec::from_slice(
+        alloc,
+        b"%rules\nrules,1,5,,\ncategory,A,2,10,1\nbidder,Alpha,9,2,\n%groups\n-\n%form\nAlpha,A\n",
+    )?;
+    for _ in 0..count {
+        text.extend_from_slice(b"1,1\n")?;
+    }
+    Ok(text)
+}
+
+#[test]
+fn each_fault_has_its_line(rt: HostRuntime) -> Result<(), Fail> {
+    let mut out = MemorySink::new(rt.alloc());
+    match explain(rt.alloc(), &COMPILE, FAULTY, &mut out) {
+        Ok(faulty) => assert!(rt; faulty && out.bytes() == LINES),
+        Err(_) => return Err(Fail::from("out of memory")),
+    }
+    Ok(())
+}
+
+#[test]
+fn a_sound_input_has_none(rt: HostRuntime) -> Result<(), Fail> {
+    let mut out = MemorySink::new(rt.alloc());
+    match explain(rt.alloc(), &COMPILE, SOUND, &mut out) {
+        Ok(faulty) => assert!(rt; !faulty && out.bytes().is_empty()),
+        Err(_) => return Err(Fail::from("out of memory")),
+    }
+    Ok(())
+}
+
+#[test]
+fn lines_end_where_a_put_fails(rt: HostRuntime) -> Result<(), Fail> {
+    let mut out = LimitSink::new(rt.alloc(), 50, 7)?;
+    match explain(rt.alloc(), &COMPILE, FAULTY, &mut out) {
+        Err(Refusal::Write(WriteFault::Sink { written: 50 })) => {
+            assert!(rt; out.bytes().len() == 50 && LINES.starts_with(out.bytes()));
+            Ok(())
+        }
+        _ => Err(Fail::from("another end")),
+    }
+}
+
+#[test]
+fn what_comes_after_ten_thousand_faults_is_counted(rt: HostRuntime) -> Result<(), Fail> {
+    let text = bids(rt.alloc(), 10_003)?;
+    let faults = input_faults(rt.alloc(), &COMPILE, text.as_slice())?;
+    assert!(rt; faults.kept.len() == 10_000 && faults.more == 3);
+    let mut out = MemorySink::new(rt.alloc());
+    let end = b"form 1: 7 AmountStep at record 10001, field 1\nand 3 more\n";
+    match explain(rt.alloc(), &COMPILE, text.as_slice(), &mut out) {
+        Ok(_) => assert!(rt; out.bytes().ends_with(end.as_slice())),
+        Err(_) => return Err(Fail::from("out of memory")),
+    }
+    Ok(())
+}
