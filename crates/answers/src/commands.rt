@@ -15,8 +15,6 @@ mod report;
 mod text;
 pub mod verify;
 
-pub use explain::explain_input;
-
 use crate::commands::check::check;
 use crate::commands::compile::compile;
 use crate::commands::map::map;
@@ -24,6 +22,7 @@ use crate::commands::report::write_report;
 use crate::commands::text::write_text;
 use crate::commands::verify::verify;
 use auction_input::{Refusal, Source, read_input};
+pub use explain::explain_input;
 use mps_text::Sink;
 use requests::Request;
 use std::io::Read;
