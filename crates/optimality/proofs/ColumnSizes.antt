@@ -1,17 +1,16 @@
 -- Sizes of what columns contribute.
-use Rattle.std.proofs.Common.{◌≡◌, ℕ, zero, suc, ◌+◌, ◌*◌, ◌^◌, ◌<◌, ◌≤◌, Bool, true, false, List, [], ◌∷◌, Some, inl, inr, length, slice_get, refl, subst, sym, ap, ◌∙◌, arith, ℤ, pos, ◌+ℤ◌}
+use Rattle.std.proofs.Common.{◌≡◌, ℕ, zero, suc, ◌+◌, ◌*◌, ◌^◌, ◌<◌, ◌≤◌, Bool, true, false, List, [], ◌∷◌, Some, inl, inr, length, slice_get, refl, ap, arith, ℤ, pos, ◌+ℤ◌}
 use Rattle.std.specs.Prelude.{◌⊎◌, ◌*ℤ◌, ◌-ℤ◌, Option, None, FitsSigned, int_lt, if◌then◌else◌, unsigned_abs}
 use Rattle.std.specs.List.{zip}
 use Rattle.std.specs.Option.{option_map, option_map_or}
 use native.Mathlib.Nat.{mul-le-mul_left}
-use lib.Signed.{mag}
 use mir.Syntax.{w128}
 use Rattle.std.proofs.lemmas.Int.{fits_signed_from_abs, ints, unsigned_abs-mul}
 use Rattle.program_rows.specs.declared.bounds.Bounds.{Bounds}
 use Rattle.program_rows.specs.declared.bounds.Bounds.TheVariants.{ZeroOrOne, Zero, One}
 use Rattle.program_rows.specs.Program.{Table, TableRow, TableColumn}
 use Rattle.program_rows.specs.Parts.{IsProgram}
-use Rattle.optimality.specs.Certificates.{Form, Cut, number_in, sum_of}
+use Rattle.optimality.specs.Certificates.{Form, Cut, number_in}
 use Rattle.optimality.specs.Reduced.{least_part, right_side_at}
 use Rattle.optimality.specs.Sizes.{coefficients_size, costs_size, cut_size, form_size, leaf_size, row_size, size_of}
 use Rattle.optimality.specs.inside.Adding.{number_at, AreNoLarger, IsTaken, change_at, cuts_given, form_at, least_alone, rows_given, sizes_below}

@@ -13,7 +13,7 @@ use Rattle.program_rows.specs.declared.number.NumberFault.TheVariants as numbers
 use Rattle.program_faults.specs.declared.certificate_fault.CertificateFault.{CertificateFault}
 use Rattle.program_faults.specs.declared.certificate_fault.FaultKind.{FaultKind}
 use Rattle.program_faults.specs.declared.certificate_fault.FaultKind.TheVariants.{Beyond, Fields, NotShown, Sign, TooLarge, UnknownColumn, UnknownRow}
-use Rattle.optimality.specs.Branches.{Branch, At, closed, cuts_above}
+use Rattle.optimality.specs.Branches.{Branch, closed, cuts_above}
 use Rattle.optimality.specs.LineMeaning.{Told, BoundLine, SplitLine, integer_told, natural_told, naturals_told, named_numbers, bound_told, split_told, line_told}
 use Rattle.optimality.specs.Shows.{leaf_value, may_have}
 use Rattle.optimality.specs.Sizes.{IsLargeFrom, IsLargeLine}

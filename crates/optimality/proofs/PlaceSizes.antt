@@ -1,11 +1,11 @@
 -- Sizes by place: of forms that are added up, and of what all places hold.
-use Rattle.std.proofs.Common.{◌≡◌, ℕ, zero, suc, ◌+◌, ◌*◌, ◌<◌, ◌≤◌, Bool, true, false, cond, List, [], ◌∷◌, ◌++◌, length, refl, subst, sym, ap, ap₂, ◌∙◌, arith, ℤ, pos, ◌+ℤ◌}
+use Rattle.std.proofs.Common.{◌≡◌, ℕ, zero, suc, ◌+◌, ◌*◌, ◌<◌, ◌≤◌, Bool, true, false, cond, List, [], ◌∷◌, ◌++◌, refl, sym, ap, ap₂, ◌∙◌, arith, ℤ, pos, ◌+ℤ◌}
 use Rattle.std.specs.Prelude.{◌*ℤ◌, ◌==◌, Some, unsigned_abs}
 use Rattle.std.specs.List.{zip}
 use native.Mathlib.Nat.{mul-le-mul_left}
 use Rattle.std.proofs.lemmas.Int.{ints, unsigned_abs-mul}
 use Rattle.std.proofs.lemmas.Bool.Decides.{nat_tests}
-use Rattle.optimality.specs.Certificates.{Form, Cut, number_in, sum_of}
+use Rattle.optimality.specs.Certificates.{Form, Cut, number_in}
 use Rattle.optimality.specs.Sizes.{size_of, form_size}
 use Rattle.optimality.specs.inside.Adding.{number_at, AreNoLarger, AreGivenMore, IsTaken, at_place, size_in, sizes_below, cuts_given, form_at, rows_given}
 use Rattle.optimality.proofs.SizeLaws.{abs-sum, sum-within}

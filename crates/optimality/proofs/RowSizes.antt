@@ -1,5 +1,5 @@
 -- The rows of a program as forms: the numbers of each are no larger than its coefficients.
-use Rattle.std.proofs.Common.{◌≡◌, ℕ, zero, suc, ◌+◌, ◌<◌, ◌≤◌, Bool, true, false, cond, List, [], ◌∷◌, ◌++◌, Some, length, refl, sym, ap, ◌∙◌, arith, get_or-set_other, ℤ, pos, ◌≢◌}
+use Rattle.std.proofs.Common.{◌≡◌, ℕ, suc, ◌+◌, ◌<◌, ◌≤◌, Bool, true, false, cond, List, [], ◌∷◌, ◌++◌, Some, length, refl, sym, ap, ◌∙◌, arith, get_or-set_other, ℤ, pos, ◌≢◌}
 use Rattle.std.specs.Prelude.{◌==◌, find, replicate, unsigned_abs}
 use Rattle.std.specs.Option.{option_map_or}
 use Rattle.std.specs.List.{AllByRecursion}
@@ -8,7 +8,6 @@ use Rattle.std.proofs.lemmas.Grind.{get_or-set_at}
 use Rattle.std.proofs.lemmas.Int.{ints, by_lt_z}
 use Rattle.std.proofs.lemmas.Bool.Decides.{nat_tests}
 use Rattle.program_rows.specs.Program.{Table, TableColumn}
-use Rattle.program_rows.specs.Points.{coefficient_at}
 use Rattle.program_rows.specs.Parts.{AreEntries, IsProgram}
 use Rattle.optimality.specs.Certificates.{Form}
 use Rattle.optimality.specs.Sizes.{coefficients_size, form_size, size_of}

@@ -9,7 +9,7 @@ use mir.Val.{SFits}
 use Rattle.optimality.specs.Certificates.{Form}
 use Rattle.optimality.specs.inside.Adding.{number_at, form_given}
 use Rattle.optimality.proofs.Steps.{side-given}
-use Rattle.optimality.proofs.SizeLaws.{reach, side-size, signed-size}
+use Rattle.optimality.proofs.SizeLaws.{side-size, signed-size}
 use Rattle.optimality.proofs.StopLaws.{too-large-weaker}
 use Rattle.optimality.proofs.cuts.add_cut.Goals as goal
 
