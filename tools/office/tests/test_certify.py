@@ -161,7 +161,7 @@ class Examples(unittest.TestCase):
             search = Search(Layout(program), set(), Limits(None, None), True, lambda text: None)
             certificate = search.certificate()
             self.assertEqual((search.least, program.objective(search.ones)), (-total, -total))
-            self.assertEqual(Checker(program).verdict(-total, certificate), (None, None))
+            self.assertEqual(Checker(program).verdict(-total, certificate), (None, []))
 
     def test_worked(self):
         self.certify_example("worked")

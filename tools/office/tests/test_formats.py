@@ -21,7 +21,7 @@ def pieces(heading):
 class Formats(unittest.TestCase):
     def check(self, program, text, least):
         checker = Checker(program)
-        self.assertEqual(checker.verdict(least, text), (None, None))
+        self.assertEqual(checker.verdict(least, text), (None, []))
         self.assertEqual(checker.verdict(least + 1, text).fault.kind, "NotShown")
 
     def test_the_smallest_certificate(self):
@@ -34,7 +34,7 @@ class Formats(unittest.TestCase):
     def test_the_one_that_a_solution_is_the_only_one(self):
         checker = Checker(read_program(pieces(b"Written programs")[0], "program"))
         only = pieces(b"Certificates")[2]
-        self.assertEqual(checker.only_verdict({0}, only), (None, None))
+        self.assertEqual(checker.only_verdict({0}, only), (None, []))
         self.assertEqual(checker.only_verdict(set(), only).fault, (1, "NotShown"))
         # as a certificate of optimality it ends between a name and its number
         self.assertEqual(checker.verdict(-12, only).fault, (1, "Fields"))

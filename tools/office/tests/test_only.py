@@ -25,7 +25,7 @@ class Asked(unittest.TestCase):
     def certify(self, program, ones):
         """Certifies that a point is the only one of its objective; the certificate shows it of no worse point."""
         text = search_of(program, ones).certificate()
-        self.assertEqual(Checker(program).only_verdict(ones, text), (None, None))
+        self.assertEqual(Checker(program).only_verdict(ones, text), (None, []))
         return text
 
     def tie(self, program, ones):

@@ -22,7 +22,7 @@ class Certified(unittest.TestCase):
         text = search_of(program, ones).certificate()
         least = program.objective(ones)
         checker = Checker(program)
-        self.assertEqual(checker.verdict(least, text), (None, None))
+        self.assertEqual(checker.verdict(least, text), (None, []))
         self.assertIsNotNone(checker.verdict(least + 1, text).fault)
         return text
 
@@ -39,7 +39,7 @@ class Certified(unittest.TestCase):
         search = search_of(program, ones, improves=True)
         text = search.certificate()
         self.assertEqual((search.least, program.objective(search.ones)), (least, least))
-        self.assertEqual(Checker(program).verdict(least, text), (None, None))
+        self.assertEqual(Checker(program).verdict(least, text), (None, []))
 
 
 class SmallPrograms(Certified):
