@@ -25,6 +25,11 @@ def is_filler(key):
     return key[1] in ("edits", "tests")
 
 
+def most_jobs(key):
+    """With how many jobs a task is begun at most: each check of edits asks anew how many processors it may use."""
+    return 1 if key[1] == "edits" else MOST_JOBS
+
+
 def step_back():
     """Has what this thread starts wait for what others start: a priority is a thread's, and its children's. (A run that was
     started at a lower one mayn't raise it.)"""
@@ -96,9 +101,9 @@ class Lanes:
         ready = [key for key in ready if self.tasks[key][1]]
         while ready and (idle := most - sum(self.at_work(fills))) > 0 and (places := self.processors - len(self.at_work(fills))) > 0:
             # the one with the most behind it gets what is left over
-            wanted = min(MOST_JOBS, self.processors, -(-idle // min(len(ready), places)))
+            wanted = min(self.processors, -(-idle // min(len(ready), places)))
             key = ready.pop(0)
-            jobs = self.fitting(key, wanted)
+            jobs = self.fitting(key, min(most_jobs(key), wanted))
             if jobs:
                 self.start(pool, key, jobs)
 
