@@ -200,11 +200,20 @@ def told_of(goal):
     return "%s (goal `%s`)" % (what, goal)
 
 
-def batch_of(edits):
-    """The next batch: at most one edit of each function."""
+def names_in(function, text):
+    """Whether a text calls a function by its name: a method behind a dot, or behind its type."""
+    if not function.owner:
+        return re.search(r"\b%s\b" % function.name, text) is not None
+    return re.search(r"(?:\.|\bSelf::|\b%s::)%s\b" % (re.escape(function.owner), function.name), text) is not None
+
+
+def batch_of(edits, is_called):
+    """The next batch: at most one edit of each function, and none of one that another one of the batch calls, since a check tells
+    nothing of a function whose callee isn't proved. (`is_called(edit, other)`: whether the function of an edit calls that of another.)"""
     batch = {}
     for edit in edits:
-        batch.setdefault(edit.place, edit)
+        if edit.place not in batch and not any(is_called(edit, other) or is_called(other, edit) for other in batch.values()):
+            batch[edit.place] = edit
     return list(batch.values())
 
 
@@ -251,6 +260,11 @@ class Trial:
         functions = functions_of(read(os.path.join(self.folder, file)))
         alike = sum((it.name, it.owner) == (edit.function.name, edit.function.owner) for it in functions)
         return names[0] if len(names) == 1 and alike == 1 else None
+
+    def calls(self, edit, other):
+        """Whether the function of an edit calls that of another one, by its text."""
+        lines = read(os.path.join(self.folder, edit.place[0])).split("\n")
+        return names_in(other.function, "\n".join(lines[edit.function.start:edit.function.end]))
 
     def holes(self, edits):
         """Files that put a hole in the place of the proof of each function that is proved, but for those of these edits."""
@@ -383,7 +397,7 @@ class Trial:
         if not self.is_proved:
             self.try_without()
         left = [edit for edit in self.edits if edit.is_in_one_body and edit.path not in self.answers]
-        while len(batch := batch_of(left)) > 1:
+        while len(batch := batch_of(left, self.calls)) > 1:
             self.try_batch(batch)
             waiting = [edit for edit in batch if edit.path not in self.answers and edit.path not in self.apart]
             if len(waiting) == len(batch):
