@@ -55,7 +55,7 @@ class Trials(unittest.TestCase):
                 judging.program_of(words, "tool WDP")
 
     def test_the_tools_end_cleanly_without_a_program(self):
-        for tool in ("damage_test", "ends_test"):
+        for tool in ("damage_test", "ends_test", "explain_test"):
             ended = subprocess.run([os.path.join(TOOLS, tool), "/no such file"], capture_output=True)
             self.assertEqual((ended.returncode, ended.stderr), (2, b"%s: /no such file: no program\n" % tool.encode()))
 
