@@ -5,7 +5,6 @@ use Rattle.group_compiler.specs.Compiled.{GroupProgram}
 use Rattle.mps_text.specs.Sinks.{HasFailed}
 use Rattle.mps_text.specs.Text.{text}
 use Rattle.outcome.specs.Report.{heading, in_turn}
-use Rattle.program_rows.specs.Program.{Table}
 use Rattle.auction_input.specs.BookLeft.{program_for}
 use Rattle.bid_desk.specs.Sale.{Sale, sale_of}
 use Rattle.answers.specs.declared.run_fault.RunFault.TheVariants as fault
