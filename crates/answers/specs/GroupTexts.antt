@@ -17,7 +17,8 @@ program_text sale k group =
 
 -- those of what was compiled for group k
 abbrev pub program_bytes : Closing → ℕ → GroupProgram → List ℕ
-program_bytes book k c = heading (codes "* program ") (sale_of book).names k c.group ++ text c.program
+program_bytes book k c =
+    heading (codes "* program ") (sale_of book).names k c.group ++ text c.program
 
 -- those of all groups
 abbrev pub programs_bytes : Closing → List GroupProgram → List ℕ
