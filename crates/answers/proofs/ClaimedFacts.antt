@@ -30,12 +30,12 @@ use Rattle.outcome.specs.Solution.{solution}
 use Rattle.program_faults.specs.declared.solution_fault.SolutionFault.TheVariants as fault
 use Rattle.outcome.specs.declared.uniqueness.Uniqueness.{Uniqueness}
 use Rattle.outcome.specs.declared.uniqueness.Uniqueness.TheVariants as uniqueness
-use Rattle.answers.specs.Claimed.{claim_told, claims_told, first_program, of_tie, only_or_rival, only_told, tie_told, tied}
+use Rattle.answers.specs.Claimed.{claims_told, first_program, of_tie, only_or_rival, tie_told, tied}
 use Rattle.answers.specs.Exact.{IsTooWideClaim}
 use Rattle.answers.specs.SolutionWinners.{solution_refused, winners_by, winners_of_groups}
 use Rattle.answers.specs.inside.Claiming.{IsWonFirst}
 use Rattle.answers.specs.inside.SolutionWinners.{winners}
-use Rattle.answers.proofs.FeasibleFacts.{when-counted}
+use Rattle.answers.proofs.FeasibleFacts.{when-both}
 
 -- ---- what the first solution wins
 
@@ -53,8 +53,7 @@ first-of sale n ((b ∷ group) ∷ groups) (text ∷ texts) won starts count win
 pub wins-first : (auction : Auction) (won : List (List Choice)) → winners_of_groups auction ≡ Ok won
     → (starts_empty auction.groups ≡ true) × (1 ≤ length auction.solutions) × (1 ≤ length won) × (winners_by (first_program auction) 1 (slice_index_or auction.solutions 0 []) ≡ Ok (slice_index_or won 0 []))
 wins-first auction won told =
-    let (starts, counted_wins) = when-counted (starts_empty auction.groups) _ refusal.FirstGroupNotEmpty won told in
-    let (count, each) = when-counted (length auction.solutions == length auction.groups) _ (refusal.PartCount counted.Solutions) won counted_wins in
+    let (starts, count, each) = when-both refusal.FirstGroupNotEmpty (refusal.PartCount counted.Solutions) (starts_empty auction.groups) (length auction.solutions == length auction.groups) _ won told in
     let (some, few, is) = first-of auction.sale 1 auction.groups auction.solutions won starts (eqb-true _ _ count) each in
     (starts, some, few, is)
 
@@ -88,7 +87,7 @@ module _ (auction : declared.Auction) (first : List Choice) where
   abbrev claims : List Text → List Text → Result Uniqueness Refusal
   claims uniques ties = claims_told (held auction) first (bytes_of uniques) (bytes_of ties)
 
-  pub many-claims : 1 < length auction.uniques.items + length auction.ties.items → claim_told (held auction) first ≡ Err (refusal.PartCount counted.Claims)
+  pub many-claims : 1 < length auction.uniques.items + length auction.ties.items → claims_told (held auction) first (held auction).uniques (held auction).ties ≡ Err (refusal.PartCount counted.Claims)
   many-claims many = by auction.uniques.items auction.ties.items many
     where
       by : (uniques ties : List Text) → 1 < length uniques + length ties → claims uniques ties ≡ Err (refusal.PartCount counted.Claims)
@@ -99,7 +98,7 @@ module _ (auction : declared.Auction) (first : List Choice) where
       by (u ∷ []) (t ∷ ties) many = refl
       by (u ∷ v ∷ uniques) ties many = refl
 
-  pub no-claim : length auction.uniques.items ≡ 0 → length auction.ties.items ≡ 0 → claim_told (held auction) first ≡ Ok uniqueness.Unasked
+  pub no-claim : length auction.uniques.items ≡ 0 → length auction.ties.items ≡ 0 → claims_told (held auction) first (held auction).uniques (held auction).ties ≡ Ok uniqueness.Unasked
   no-claim none alone = by auction.uniques.items auction.ties.items none alone
     where
       by : (uniques ties : List Text) → length uniques ≡ 0 → length ties ≡ 0 → claims uniques ties ≡ Ok uniqueness.Unasked
@@ -109,7 +108,7 @@ module _ (auction : declared.Auction) (first : List Choice) where
 
   -- one text of each kind, and none of the other
   pub one-tie : (text : Text) → length auction.ties.items ≡ 1 → length auction.uniques.items ≡ 0 → text ≡ slice_index_or auction.ties.items 0 text
-      → claim_told (held auction) first ≡ tie_told (held auction) first text.now
+      → claims_told (held auction) first (held auction).uniques (held auction).ties ≡ tie_told (held auction) first text.now
   one-tie text one alone is = by auction.uniques.items auction.ties.items one alone is
     where
       by : (uniques ties : List Text) → length ties ≡ 1 → length uniques ≡ 0 → text ≡ slice_index_or ties 0 text → claims uniques ties ≡ tie_told (held auction) first text.now
@@ -119,13 +118,13 @@ module _ (auction : declared.Auction) (first : List Choice) where
       by (u ∷ uniques) ties one alone is = absurd (omega arith)
 
   pub one-unique : (text : Text) → length auction.uniques.items ≡ 1 → length auction.ties.items ≡ 0 → text ≡ slice_index_or auction.uniques.items 0 text
-      → (claim_told (held auction) first ≡ only_told (held auction) first text.now) × (bytes_of auction.uniques.items ≡ text.now ∷ []) × (bytes_of auction.ties.items ≡ [])
+      → (claims_told (held auction) first (held auction).uniques (held auction).ties ≡ claims_told (held auction) first (text.now ∷ []) []) × (bytes_of auction.uniques.items ≡ text.now ∷ []) × (bytes_of auction.ties.items ≡ [])
   one-unique text one alone is = by auction.uniques.items auction.ties.items one alone is
     where
       by : (uniques ties : List Text) → length uniques ≡ 1 → length ties ≡ 0 → text ≡ slice_index_or uniques 0 text
-          → (claims uniques ties ≡ only_told (held auction) first text.now) × (bytes_of uniques ≡ text.now ∷ []) × (bytes_of ties ≡ [])
+          → (claims uniques ties ≡ claims_told (held auction) first (text.now ∷ []) []) × (bytes_of uniques ≡ text.now ∷ []) × (bytes_of ties ≡ [])
       by [] ties one alone is = absurd (omega arith)
-      by (u ∷ []) [] one alone is = (ap (λ (x : Text). only_told (held auction) first x.now) (sym is), ap (λ (x : Text). x.now ∷ []) (sym is), refl)
+      by (u ∷ []) [] one alone is = (ap (λ (x : Text). claims_told (held auction) first (x.now ∷ []) []) (sym is), ap (λ (x : Text). x.now ∷ []) (sym is), refl)
       by (u ∷ []) (t ∷ ties) one alone is = absurd (omega arith)
       by (u ∷ v ∷ uniques) ties one alone is = absurd (omega arith)
 
@@ -138,20 +137,20 @@ module _ (auction : Auction) (first : List Choice) (text : List ℕ) (point : Li
   abbrev judged : Option (ℕ × FaultKind) → Result Uniqueness Refusal
   judged found = unless (option_map unique_refused found) (Ok (only_or_rival auction.sale first))
 
-  goes-on : only_told auction first text ≡ judged (only_fault (first_program auction) point text)
+  goes-on : claims_told auction first (text ∷ []) [] ≡ judged (only_fault (first_program auction) point text)
   goes-on = next _ point _ _ (ap (λ (r : Result (List Bool) _). refused_as (solution_refused (first_program auction) 1) r) solved) refl
 
-  pub only-told : only_fault (first_program auction) point text ≡ None → only_told auction first text ≡ Ok (only_or_rival auction.sale first)
+  pub only-told : only_fault (first_program auction) point text ≡ None → claims_told auction first (text ∷ []) [] ≡ Ok (only_or_rival auction.sale first)
   only-told none = goes-on ∙ ap judged none
 
   refused-so : (line : ℕ) (k : FaultKind) → IsLimit k ⊎ (only_fault (first_program auction) point text ≡ Some (line, k)) → (k ≡ kind.TooLarge → IsLargeOnlyAt (first_program auction) point text line) → auction.uniques ≡ text ∷ [] → auction.ties ≡ []
-      → Refuses (only_told auction first text) (refusal.Unique (record { line = line; kind = k })) ⊎ IsTooWideClaim auction (refusal.Unique (record { line = line; kind = k }))
+      → Refuses (claims_told auction first (text ∷ []) []) (refusal.Unique (record { line = line; kind = k })) ⊎ IsTooWideClaim auction (refusal.Unique (record { line = line; kind = k }))
   refused-so line k (inl (inl memory)) large one alone = inl (inr (rw memory refl))
   refused-so line k (inl (inr wide)) large one alone = inr (text, line, one, alone, (point, solved, large wide), rw wide refl)
   refused-so line k (inr found) large one alone = inl (inl (goes-on ∙ ap judged found))
 
   pub only-refused : (f : CertificateFault) → IsLimit f.kind ⊎ (only_fault (first_program auction) point text ≡ Some (f.line, f.kind)) → (f.kind ≡ kind.TooLarge → IsLargeOnlyAt (first_program auction) point text f.line) → auction.uniques ≡ text ∷ [] → auction.ties ≡ []
-      → Refuses (only_told auction first text) (refusal.Unique f) ⊎ IsTooWideClaim auction (refusal.Unique f)
+      → Refuses (claims_told auction first (text ∷ []) []) (refusal.Unique f) ⊎ IsTooWideClaim auction (refusal.Unique f)
   only-refused f found large one alone = refused-so f.line f.kind found large one alone
 
 -- a verdict that is no fault

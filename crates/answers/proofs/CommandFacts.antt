@@ -35,6 +35,7 @@ use Rattle.auction_input.specs.declared.refusal.Refusal.TheVariants as refusal
 use Rattle.requests.specs.declared.request.Request.TheVariants as request
 use Rattle.requests.specs.declared.request.Request.{Request}
 use Rattle.auction_input.proofs.StageFacts.{next, refuses-as, stop}
+use Rattle.answers.proofs.FeasibleFacts.{first-refuses, none-refuses, second-refuses}
 
 abbrev Text : Type 0
 Text = Bor (List ℕ)
@@ -113,7 +114,7 @@ no-group auction k few = elim (leb_tells k (length auction.groups)) [ inl (_, mo
 -- ---- what the solutions win, group by group
 
 pub not-empty : (auction : declared.Auction) → starts_empty auction.groups ≡ false → Refuses (winners_of_groups (held auction)) refusal.FirstGroupNotEmpty
-not-empty auction some = inl (rw some refl)
+not-empty auction some = inl (first-refuses refusal.FirstGroupNotEmpty (refusal.PartCount counted.Solutions) (starts_empty auction.groups) _ _ some)
 
 module _ (auction : declared.Auction) (starts : starts_empty auction.groups ≡ true) where
   abbrev texts : List (List ℕ)
@@ -122,10 +123,11 @@ module _ (auction : declared.Auction) (starts : starts_empty auction.groups ≡ 
   pub solutions-miscounted : length auction.solutions.items ≢ length auction.groups → Refuses (winners_of_groups (held auction)) (refusal.PartCount counted.Solutions)
   solutions-miscounted other =
       let differ : (length texts == length auction.groups) ≡ false = ne_eqb _ _ (λ same. other (sym (length-map auction.solutions.items (λ (text : Text). text.now)) ∙ same)) in
-      inl (rw (starts, differ) refl)
+      inl (second-refuses refusal.FirstGroupNotEmpty (refusal.PartCount counted.Solutions) (starts_empty auction.groups) (length texts == length auction.groups) _ starts differ)
 
   pub goes-over : (solutions : List Text) → length auction.solutions.items ≡ length auction.groups → solutions ≡ auction.solutions.items
       → winners_of_groups (held auction) ≡ each_in_turn (winners (sale_of auction.book)) 1 (zip auction.groups (bytes_of solutions))
   goes-over solutions each same =
       let equal : (length texts == length auction.groups) ≡ true = eq-eqb _ _ (length-map auction.solutions.items (λ (text : Text). text.now) ∙ each) in
-      rw (starts, equal) (ap (λ (xs : List Text). each_in_turn (winners (sale_of auction.book)) 1 (zip auction.groups (bytes_of xs))) (sym same))
+      none-refuses refusal.FirstGroupNotEmpty (refusal.PartCount counted.Solutions) (starts_empty auction.groups) (length texts == length auction.groups) _ starts equal
+      ∙ ap (λ (xs : List Text). each_in_turn (winners (sale_of auction.book)) 1 (zip auction.groups (bytes_of xs))) (sym same)

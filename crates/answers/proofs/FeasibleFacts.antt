@@ -5,7 +5,8 @@ use Rattle.std.specs.List.{AllZip, zip}
 use Rattle.auction_terms.specs.Allocations.{IsFeasible}
 use Rattle.auction_terms.specs.Groups.{has, starts_empty}
 use Rattle.auction_terms.specs.Limits.{IsBook}
-use Rattle.auction_terms.specs.Stages.{each_in_turn, refused_as}
+use Rattle.auction_terms.specs.FirstFault.{first_failed}
+use Rattle.auction_terms.specs.Stages.{each_in_turn, refused_as, unless}
 use Rattle.auction_terms.specs.declared.choices.Choice.{Choice}
 use Rattle.auction_input.specs.Auction.{auction_told}
 use Rattle.auction_input.specs.BookLeft.{program_for}
@@ -23,13 +24,37 @@ use Rattle.outcome.specs.Solution.{solution}
 use Rattle.outcome.proofs.BackLaws.{solutions_come_back}
 use Rattle.program_rows.specs.Program.{Table}
 use Rattle.answers.specs.FeasibleAnswers.{IsFeasibleWithout, MappedIsFeasible, ReportedIsFeasible}
-use Rattle.answers.specs.SolutionWinners.{report_of, solution_refused, winners_of_groups}
+use Rattle.answers.specs.SolutionWinners.{solution_refused, winners_of_groups}
 use Rattle.answers.specs.inside.SolutionWinners.{winners}
 use Rattle.answers.specs.Answer.{output_of}
 
 pub when-counted : {A : Type 0} (test : Bool) (r : Result A Refusal) (e : Refusal) (x : A) → cond test r (Err e) ≡ Ok x → (test ≡ true) × (r ≡ Ok x)
 when-counted true r e x told = (refl, told)
 when-counted false r e x told = cc
+
+-- two checks, in order
+module _ {A : Type 0} (e f : Refusal) where
+  abbrev checked : Bool → Bool → Result A Refusal → Result A Refusal
+  checked first second r = unless (first_failed ((first, e) ∷ (second, f) ∷ [])) r
+
+  pub when-both : (first second : Bool) (r : Result A Refusal) (x : A) → checked first second r ≡ Ok x → (first ≡ true) × (second ≡ true) × (r ≡ Ok x)
+  when-both true true r x told = (refl, refl, told)
+  when-both true false r x told = cc
+  when-both false second r x told = cc
+
+  pub first-refuses : (first second : Bool) (r : Result A Refusal) → first ≡ false → checked first second r ≡ Err e
+  first-refuses true second r failed = cc
+  first-refuses false second r failed = refl
+
+  pub second-refuses : (first second : Bool) (r : Result A Refusal) → first ≡ true → second ≡ false → checked first second r ≡ Err f
+  second-refuses true true r passed failed = cc
+  second-refuses true false r passed failed = refl
+  second-refuses false second r passed failed = cc
+
+  pub none-refuses : (first second : Bool) (r : Result A Refusal) → first ≡ true → second ≡ true → checked first second r ≡ r
+  none-refuses true true r passed passed_too = refl
+  none-refuses true false r passed passed_too = cc
+  none-refuses false second r passed passed_too = cc
 
 -- what a solution wins without a group is feasible
 pub feasible-of : (sale : Sale) (number : ℕ) (group text : List ℕ) (a : List Choice) → IsBook sale.lots sale.book → winners sale number (group, text) ≡ Ok a → IsFeasibleWithout sale group a
@@ -56,9 +81,8 @@ pub reported-is-feasible : ReportedIsFeasible
 reported-is-feasible workers input out told =
     let (auction, auction_is, made) = ok-behind (auction_told (request.Report workers) input) (output_of (request.Report workers)) out told in
     let within = (auction-within (request.Report workers) input auction auction_is).1 in
-    let (won, wins, written) = ok-behind (winners_of_groups auction) (report_of auction) out made in
-    let (starts, counted_wins) = when-counted (starts_empty auction.groups) _ refusal.FirstGroupNotEmpty won wins in
-    let (count, each) = when-counted (length auction.solutions == length auction.groups) _ (refusal.PartCount counted.Solutions) won counted_wins in
+    let (won, wins, written) = ok-behind (winners_of_groups auction) _ out made in
+    let (starts, count, each) = when-both refusal.FirstGroupNotEmpty (refusal.PartCount counted.Solutions) (starts_empty auction.groups) (length auction.solutions == length auction.groups) _ won wins in
     let text : report_text auction.sale auction.groups won ≡ out = ok-is _ (report_text auction.sale auction.groups won) out refl written in
     (auction, auction_is, record { won = won; text = sym text; feasible = each-feasible auction.sale 1 auction.groups auction.solutions won within (eqb-true _ _ count) each })
 

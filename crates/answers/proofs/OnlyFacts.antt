@@ -33,7 +33,7 @@ use Rattle.program_rows.proofs.FaithfulLaws.{same_choice}
 use Rattle.program_rows.proofs.OnlyPointLaws.{as-often, only_least_is_only}
 use Rattle.program_rows.specs.Faithful.{IsGreatest, back}
 use Rattle.program_rows.specs.Program.{Table}
-use Rattle.answers.specs.Claimed.{claims_told, first_program, of_tie, only_told, only_or_rival, tie_told, tied}
+use Rattle.answers.specs.Claimed.{claims_told, first_program, of_tie, only_or_rival, tie_told, tied}
 use Rattle.answers.specs.SolutionWinners.{solution_refused, winners_by}
 use Rattle.answers.specs.Verified.{Holds, IsGreatestWithout, IsSettledCost}
 use Rattle.answers.proofs.FeasibleFacts.{feasible-of}
@@ -91,7 +91,7 @@ module _ (auction : Auction) (within : IsBook auction.sale.lots auction.sale.boo
   wins : (point : List Bool) → solution p solved ≡ Ok point → allocation_of p point ≡ first
   wins point told = ok-is (winners_by p 1 solved) (allocation_of p point) first (won-by p 1 solved point _ (sym told) refl) won
 
-  only-holds : (text : List ℕ) (claim : Uniqueness) → only_told auction first text ≡ Ok claim → Holds sale first claim
+  only-holds : (text : List ℕ) (claim : Uniqueness) → claims_told auction first (text ∷ []) [] ≡ Ok claim → Holds sale first claim
   only-holds text claim told =
       let (point, point_is, judged) = ok-behind (refused_as (solution_refused p 1) (solution p solved)) _ claim told in
       let point_told = ok-refused_as (solution_refused p 1) (solution p solved) point point_is in

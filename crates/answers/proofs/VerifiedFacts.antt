@@ -27,10 +27,9 @@ use Rattle.answers.specs.Certified.{bound_of, bounds_of, certified, shown}
 use Rattle.answers.specs.Answer.{answer, output_of}
 use Rattle.auction_terms.specs.Stages.{and_then, each_in_turn}
 use Rattle.answers.specs.Exact.{Writes}
-use Rattle.answers.specs.Claimed.{claim_told}
+use Rattle.answers.specs.Claimed.{claims_told}
 use Rattle.answers.specs.Verified.{Holds, IsGreatestWithout, IsOnlyOutcome, IsOwnCost, IsTrueReport, UniqueIsOnly, VerifiedIsTrue, WritesTrueReport}
 use Rattle.answers.specs.SolutionWinners.{winners_of_groups}
-use Rattle.answers.specs.commands.Verify.{report_and_claim}
 use Rattle.answers.specs.inside.SolutionWinners.{winners}
 use Rattle.auction_input.specs.declared.refusal.CountedPart.TheVariants as counted
 use Rattle.auction_input.specs.declared.refusal.Refusal.TheVariants as refusal
@@ -39,7 +38,7 @@ use Rattle.auction_input.proofs.AnswerFacts.{ok-behind, ok-is, unless-ok}
 use Rattle.auction_input.proofs.WithinFacts.{auction-within}
 use Rattle.answers.proofs.ClaimedFacts.{some-group, wins-first}
 use Rattle.answers.proofs.EndFacts.{no-report, no-tie}
-use Rattle.answers.proofs.FeasibleFacts.{feasible-of, when-counted}
+use Rattle.answers.proofs.FeasibleFacts.{feasible-of, when-both, when-counted}
 use Rattle.answers.proofs.OnlyFacts.{claim-holds, settled-costs}
 
 -- ---- one group
@@ -118,18 +117,17 @@ first-greatest sale ((b ∷ group) ∷ groups) (a ∷ won) starts each = (let no
 
 true-report : (workers : ℕ) (auction : Auction) (out : List ℕ) → IsBook auction.sale.lots auction.sale.book → output_of (request.Verify workers) auction ≡ Ok out → IsTrueReport auction out
 true-report workers auction out within told =
-    let (won, won_is, behind) = ok-behind (and_then (winners_of_groups auction) (certified auction)) (report_and_claim auction) out told in
-    let (claim, claim_is, written) = ok-behind (claim_told auction (slice_index_or won 0 [])) _ out behind in
+    let (won, won_is, behind) = ok-behind (and_then (winners_of_groups auction) (certified auction)) _ out told in
+    let (claim, claim_is, written) = ok-behind (claims_told auction (slice_index_or won 0 []) auction.uniques auction.ties) _ out behind in
     let (allocations, wins, certifies) = ok-behind (winners_of_groups auction) (certified auction) won won_is in
-    let (starts, counted_wins) = when-counted (starts_empty auction.groups) _ refusal.FirstGroupNotEmpty allocations wins in
-    let (count, each) = when-counted (length auction.solutions == length auction.groups) _ (refusal.PartCount counted.Solutions) allocations counted_wins in
+    let (starts, count, each) = when-both refusal.FirstGroupNotEmpty (refusal.PartCount counted.Solutions) (starts_empty auction.groups) (length auction.solutions == length auction.groups) _ allocations wins in
     let (counts, all_told) = when-counted (length auction.certificates == length auction.groups) _ (refusal.PartCount counted.Certificates) won certifies in
     let (all, shown_are, same) = ok-behind (each_in_turn shown 1 (bounds_of auction allocations)) _ won all_told in
     let is : allocations ≡ won = ok-is _ allocations won refl same in
     let greatest = all-greatest auction.sale 1 auction.groups auction.solutions auction.certificates allocations all within (eqb-true _ _ count) (eqb-true _ _ counts) each shown_are in
     let first = first-greatest auction.sale auction.groups allocations starts greatest in
     let text : report_text auction.sale auction.groups won ++ uniqueness_text auction.sale claim ≡ out = ok-is _ (report_text auction.sale auction.groups won ++ uniqueness_text auction.sale claim) out refl written in
-    let claimed = subst (λ (xs : List (List Choice)). claim_told auction (slice_index_or xs 0 []) ≡ Ok claim) (sym is) claim_is in
+    let claimed = subst (λ (xs : List (List Choice)). claims_told auction (slice_index_or xs 0 []) auction.uniques auction.ties ≡ Ok claim) (sym is) claim_is in
     record {
       won = allocations;
       claim = claim;
@@ -161,7 +159,7 @@ only-outcome auction before some won (uniqueness.Tie other) is greatest holds = 
 
 some-groups : (workers : ℕ) (auction : Auction) (out : List ℕ) → output_of (request.Verify workers) auction ≡ Ok out → 1 ≤ length auction.groups
 some-groups workers auction out told =
-    let (won, won_is, behind) = ok-behind (and_then (winners_of_groups auction) (certified auction)) (report_and_claim auction) out told in
+    let (won, won_is, behind) = ok-behind (and_then (winners_of_groups auction) (certified auction)) _ out told in
     let (allocations, wins, certifies) = ok-behind (winners_of_groups auction) (certified auction) won won_is in
     some-group auction.groups (wins-first auction allocations wins).0
 

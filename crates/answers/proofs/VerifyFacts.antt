@@ -8,7 +8,7 @@ use Rattle.answers.specs.SolutionWinners.{winners_of_groups}
 use Rattle.answers.specs.Answer.{output_of}
 use Rattle.auction_input.specs.Refused.{Refuses}
 use Rattle.auction_input.specs.declared.refusal.Refusal.{Refusal}
-use Rattle.answers.specs.Claimed.{claim_told}
+use Rattle.answers.specs.Claimed.{claims_told}
 use Rattle.answers.specs.Exact.{Ends, IsBeyondSums, IsTooWide, IsTooWideClaim, IsUnwritten, by_refusal}
 use Rattle.auction_terms.specs.Stages.{and_then}
 use Rattle.requests.specs.declared.request.Request.TheVariants as request
@@ -33,7 +33,7 @@ unshown workers auction won taken failures r told (inr (each, wide)) = inr ((won
 
 -- solutions and certificates that are taken, and a claim of which nothing comes
 pub unclaimed : (workers : ℕ) (auction : Auction) (won : List (List Choice)) (taken : Option (List ℕ)) (failures : ℕ) (r : Refusal) → winners_of_groups auction ≡ Ok won → certified auction won ≡ Ok won
-    → Refuses (claim_told auction (slice_index_or won 0 [])) r ⊎ IsTooWideClaim auction r
+    → Refuses (claims_told auction (slice_index_or won 0 []) auction.uniques auction.ties) r ⊎ IsTooWideClaim auction r
     → Ends (output_of (request.Verify workers) auction) taken taken failures failures r ⊎ (IsBeyondSums auction r × (taken ≡ taken))
 unclaimed workers auction won taken failures r told certifies (inl refused) = inl (by_refusal (behind _ won _ r (next _ won _ _ told certifies) (stop _ _ r refused)) refl)
 unclaimed workers auction won taken failures r told certifies (inr wide) = inr ((won, told, inr (certifies, wide)), refl)

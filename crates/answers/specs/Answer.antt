@@ -1,26 +1,45 @@
 -- The program as one function: what goes to standard output, or the first refusal.
-use Rattle.std.specs.Prelude.{ℕ, List, [], Result, Ok}
+use Rattle.std.specs.Prelude.{◌-◌, ◌++◌, ℕ, List, [], Result, Ok, Err, if◌then◌else◌, length, nat_le, slice_index_or}
 use Rattle.auction_input.specs.Auction.{Auction, auction_told}
+use Rattle.auction_input.specs.BookLeft.{program_for}
+use Rattle.auction_input.specs.PartsTold.{only_text}
+use Rattle.auction_input.specs.declared.refusal.Refusal.TheVariants as refusal
 use Rattle.auction_input.specs.declared.refusal.Refusal.{Refusal}
 use Rattle.requests.specs.declared.request.Request.TheVariants.{Check, Compile, Explain, Map, Report, Verify}
 use Rattle.requests.specs.declared.request.Request.{Request}
 use Rattle.auction_terms.specs.Stages.{and_then}
-use Rattle.answers.specs.commands.Check.{sizes_told}
-use Rattle.answers.specs.commands.Compile.{texts_of_groups}
-use Rattle.answers.specs.commands.Map.{winners_text}
-use Rattle.answers.specs.commands.Report.{costs_text}
-use Rattle.answers.specs.commands.Text.{text_of_all}
-use Rattle.answers.specs.commands.Verify.{verified_text}
+use Rattle.mps_text.specs.Text.{text}
+use Rattle.outcome.specs.Report.{allocation_text, in_turn, report_text}
+use Rattle.outcome.specs.Uniqueness.{uniqueness_text}
+use Rattle.answers.specs.Certified.{certified}
+use Rattle.answers.specs.Claimed.{claims_told}
+use Rattle.answers.specs.GroupTexts.{program_text}
+use Rattle.answers.specs.Sizes.{program_told, sizes_text}
+use Rattle.answers.specs.SolutionWinners.{winners_by, winners_of_groups}
 
 -- what a command writes of an auction; where none is named, it is `text`. `explain` writes nothing of one, since nothing is wrong
 abbrev pub output_of : Request → Auction → Result (List ℕ) Refusal
-output_of (Compile workers) auction = texts_of_groups auction
-output_of (Map k) auction = winners_text k auction
-output_of (Report workers) auction = costs_text auction
-output_of (Verify workers) auction = verified_text auction
+-- the line and the program of each group
+output_of (Compile workers) auction = Ok (in_turn (program_text auction.sale) 1 auction.groups)
+-- what the one solution wins without group k
+output_of (Map k) auction =
+    if nat_le k (length auction.groups) then
+    and_then (winners_by (program_for auction.sale (slice_index_or auction.groups (k - 1) [])) 1 (only_text auction.solutions)) (λ won.
+    Ok (allocation_text auction.sale won))
+    else Err (refusal.NoGroup k)
+-- what the solutions win, group by group, and what each group costs the others
+output_of (Report workers) auction =
+    and_then (winners_of_groups auction) (λ won. Ok (report_text auction.sale auction.groups won))
+-- the same where certificates show that no allocation has a higher total, and behind it what comes of the claim
+output_of (Verify workers) auction =
+    and_then (and_then (winners_of_groups auction) (certified auction)) (λ won.
+    and_then (claims_told auction (slice_index_or won 0 []) auction.uniques auction.ties) (λ claim.
+    Ok (report_text auction.sale auction.groups won ++ uniqueness_text auction.sale claim)))
 output_of Explain auction = Ok []
-output_of asked auction = text_of_all auction
+-- the program with nobody left out
+output_of asked auction = Ok (text (program_for auction.sale []))
 
+-- `check` writes the sizes of the program that its input is the text of; the others answer by the auction that theirs tells
 abbrev pub answer : Request → List ℕ → Result (List ℕ) Refusal
-answer Check input = sizes_told input
+answer Check input = and_then (program_told input) (λ program. Ok (sizes_text program))
 answer asked input = and_then (auction_told asked input) (output_of asked)

@@ -29,13 +29,6 @@ first_program auction = program_for auction.sale []
 abbrev pub only_or_rival : Sale → List Choice → Uniqueness
 only_or_rival sale first = option_map_or (λ rival. uniqueness.Tie (with_bid rival first)) (first_rival sale.lots sale.book first) uniqueness.Only
 
--- a certificate that no other point of that program has an objective as low as the point of the first solution
-abbrev pub only_told : Auction → List Choice → List ℕ → Result Uniqueness Refusal
-only_told auction first text =
-    let refused : ℕ × FaultKind → Refusal = λ f. refusal.Unique (record { line = f.0; kind = f.1 }) in
-    and_then (refused_as (solution_refused (first_program auction) 1) (solution (first_program auction) (slice_index_or auction.solutions 0 []))) (λ point.
-    unless (option_map refused (only_fault (first_program auction) point text)) (Ok (only_or_rival auction.sale first)))
-
 -- what is told of the solution of a tie, in place of a numbered one
 abbrev pub of_tie : Refusal → Refusal
 of_tie (refusal.Solution number f) = refusal.Tie f
@@ -54,13 +47,13 @@ tied sale first other =
 abbrev pub tie_told : Auction → List Choice → List ℕ → Result Uniqueness Refusal
 tie_told auction first text = and_then (refused_as of_tie (winners_by (first_program auction) 1 text)) (tied auction.sale first)
 
--- by the texts of both kinds, of which there is one at most
+-- what comes of the claim, where this is won with nobody left out: by the texts of both kinds, of which there is one at most
 abbrev pub claims_told : Auction → List Choice → List (List ℕ) → List (List ℕ) → Result Uniqueness Refusal
 claims_told auction first [] [] = Ok uniqueness.Unasked
-claims_told auction first (text ∷ []) [] = only_told auction first text
+-- a certificate that no other point of that program has an objective as low as the point of the first solution
+claims_told auction first (text ∷ []) [] =
+    let refused : ℕ × FaultKind → Refusal = λ f. refusal.Unique (record { line = f.0; kind = f.1 }) in
+    and_then (refused_as (solution_refused (first_program auction) 1) (solution (first_program auction) (slice_index_or auction.solutions 0 []))) (λ point.
+    unless (option_map refused (only_fault (first_program auction) point text)) (Ok (only_or_rival auction.sale first)))
 claims_told auction first [] (text ∷ []) = tie_told auction first text
 claims_told auction first uniques ties = Err (refusal.PartCount counted.Claims)
-
--- what comes of the claim, where this is won with nobody left out
-abbrev pub claim_told : Auction → List Choice → Result Uniqueness Refusal
-claim_told auction first = claims_told auction first auction.uniques auction.ties

@@ -5,23 +5,20 @@ use Rattle.group_compiler.specs.Compiled.{GroupProgram}
 use Rattle.mps_text.specs.Sinks.{HasFailed}
 use Rattle.mps_text.specs.Text.{text}
 use Rattle.outcome.specs.Report.{heading, in_turn}
-use Rattle.program_rows.specs.Program.{Table}
 use Rattle.auction_input.specs.BookLeft.{program_for}
 use Rattle.bid_desk.specs.Sale.{Sale, sale_of}
 use Rattle.answers.specs.declared.run_fault.RunFault.TheVariants as fault
 use Rattle.answers.specs.declared.run_fault.RunFault.{RunFault}
 
--- the line of group k of a sale, and the text of a program
-abbrev pub headed_program : Sale → ℕ → List ℕ → Table → List ℕ
-headed_program sale k group program = heading (codes "* program ") sale.names k group ++ text program
-
 -- the line and the program of group k of a sale
 abbrev pub program_text : Sale → ℕ → List ℕ → List ℕ
-program_text sale k group = headed_program sale k group (program_for sale group)
+program_text sale k group =
+    heading (codes "* program ") sale.names k group ++ text (program_for sale group)
 
 -- those of what was compiled for group k
 abbrev pub program_bytes : Closing → ℕ → GroupProgram → List ℕ
-program_bytes book k c = headed_program (sale_of book) k c.group c.program
+program_bytes book k c =
+    heading (codes "* program ") (sale_of book).names k c.group ++ text c.program
 
 -- those of all groups
 abbrev pub programs_bytes : Closing → List GroupProgram → List ℕ

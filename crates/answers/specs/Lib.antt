@@ -9,5 +9,4 @@ pub mod Runs
 pub mod Sizes
 pub mod Verified
 pub mod SolutionWinners
-pub mod commands
 pub mod inside

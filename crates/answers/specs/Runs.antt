@@ -10,9 +10,8 @@ use Rattle.requests.specs.declared.request.Request.{Request}
 use Rattle.requests.specs.declared.request.Request.TheVariants.{Explain}
 use Rattle.input_faults.specs.Explained.{IsCutShort}
 use Rattle.input_faults.specs.FaultLines.{explanation}
-use Rattle.auction_input.specs.Line.{Puts}
 use Rattle.answers.specs.Answer.{answer}
-use Rattle.requests.specs.Asked.{Asked, for_answer, for_help, for_nothing, for_version}
+use Rattle.requests.specs.Asked.{Asked, for_answer, for_help, for_version}
 use Rattle.answers.specs.Exact.{Ends, IsUnwritten, Writes}
 
 -- from what a reader had left and a sink had taken before to those after: the input was read, and what was asked for is written
@@ -51,11 +50,3 @@ pub data IsUndone (asked : Asked) (left left' : Option (List ℕ)) (reads reads'
 abbrev pub HasExplained : Asked → Option (List ℕ) → Option (List ℕ) → ℕ → ℕ → Option (List ℕ) → Option (List ℕ) → ℕ → ℕ → Option (List ℕ) → Option (List ℕ) → ℕ → ℕ → Type 0
 HasExplained asked left left' reads reads' taken taken' failures failures' told told' untold untold' =
     (asked ≡ for_answer Explain) × IsExplained left left' taken taken' × (reads' ≡ reads) × (failures' ≡ failures) × (told' ≡ told) × (untold' ≡ untold)
-
--- nothing is asked for, and nothing is read or written
-abbrev pub IsUnasked : Asked → Option (List ℕ) → Option (List ℕ) → Option (List ℕ) → Option (List ℕ) → Type 0
-IsUnasked asked left left' taken taken' = (asked ≡ for_nothing) × (left' ≡ left) × (taken' ≡ taken)
-
--- some bytes are put, one at least
-abbrev pub PutsSome : Option (List ℕ) → Option (List ℕ) → ℕ → ℕ → Type 0
-PutsSome taken taken' failures failures' = (text : List ℕ) × (0 < length text) × Puts text taken taken' failures failures'

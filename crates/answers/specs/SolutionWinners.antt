@@ -1,5 +1,5 @@
 -- What a solution of the program without a group wins, and what the solutions of all groups win; or why they are refused.
-use Rattle.std.specs.Prelude.{◌==◌, ℕ, List, [], Result, Ok, Err, if◌then◌else◌, length, slice_get}
+use Rattle.std.specs.Prelude.{◌==◌, ◌∷◌, ℕ, List, [], Result, Ok, length, slice_get}
 use Rattle.std.specs.List.{zip}
 use Rattle.std.specs.Option.{option_map_or}
 use Rattle.auction_input.specs.BookLeft.{program_for}
@@ -7,8 +7,8 @@ use Rattle.auction_input.specs.declared.refusal.Refusal.{Refusal}
 use Rattle.auction_input.specs.Auction.{Auction}
 use Rattle.auction_input.specs.declared.refusal.CountedPart.TheVariants as counted
 use Rattle.auction_terms.specs.Groups.{starts_empty}
-use Rattle.auction_terms.specs.Stages.{and_then, each_in_turn, refused_as}
-use Rattle.outcome.specs.Report.{report_text}
+use Rattle.auction_terms.specs.FirstFault.{first_failed}
+use Rattle.auction_terms.specs.Stages.{and_then, each_in_turn, refused_as, unless}
 use Rattle.auction_input.specs.declared.refusal.Refusal.TheVariants as refusal
 use Rattle.auction_terms.specs.declared.choices.Choice.{Choice}
 use Rattle.outcome.specs.Solution.{solution}
@@ -31,12 +31,7 @@ winners_by p number text = and_then (refused_as (solution_refused p number) (sol
 -- what the solutions win, group by group
 abbrev pub winners_of_groups : Auction → Result (List (List Choice)) Refusal
 winners_of_groups auction =
-    if starts_empty auction.groups then
-    if length auction.solutions == length auction.groups then
-    each_in_turn (λ number (item : List ℕ × List ℕ). winners_by (program_for auction.sale item.0) number item.1) 1 (zip auction.groups auction.solutions)
-    else Err (refusal.PartCount counted.Solutions)
-    else Err refusal.FirstGroupNotEmpty
-
--- the report on what groups win: the allocations, and what each group costs the others
-abbrev pub report_of : Auction → List (List Choice) → Result (List ℕ) Refusal
-report_of auction won = Ok (report_text auction.sale auction.groups won)
+    unless (first_failed (
+    (starts_empty auction.groups, refusal.FirstGroupNotEmpty) ∷
+    (length auction.solutions == length auction.groups, refusal.PartCount counted.Solutions) ∷ []))
+    (each_in_turn (λ number (item : List ℕ × List ℕ). winners_by (program_for auction.sale item.0) number item.1) 1 (zip auction.groups auction.solutions))

@@ -8,7 +8,7 @@ ghost use Rattle.bid_desk.specs.Sale.{sale_of};
 ghost use Rattle.auction_input.specs.Refused.{Refuses};
 ghost use Rattle.auction_input.specs.Settled.{held};
 ghost use Rattle.answers.specs.Claimed as claimed;
-ghost use Rattle.answers.specs.Claimed.{claim_told};
+ghost use Rattle.answers.specs.Claimed.{claims_told};
 ghost use Rattle.answers.specs.Exact.{IsTooWideClaim};
 ghost use Rattle.answers.specs.SolutionWinners.{winners_of_groups};
 ghost use Rattle.answers.specs.inside.Claiming.{IsWonFirst};
@@ -31,9 +31,11 @@ pub fn claim_of(
 ) -> Result<Uniqueness, Refusal>
     requires { winners_of_groups (held auction.now) ≡ Ok won.now }
     ensures told { IfOk result (λ claim.
-        claim_told (held auction.now) (slice_index_or won.now 0 []) ≡ Ok claim) }
+        claims_told (held auction.now) (slice_index_or won.now 0 []) (held auction.now).uniques
+        (held auction.now).ties ≡ Ok claim) }
     ensures refuses { IfErr result (λ r.
-        Refuses (claim_told (held auction.now) (slice_index_or won.now 0 [])) r
+        Refuses (claims_told (held auction.now) (slice_index_or won.now 0 [])
+        (held auction.now).uniques (held auction.now).ties) r
         ⊎ IsTooWideClaim (held auction.now) r) }
 {
     let uniques = auction.uniques.len();
@@ -60,9 +62,11 @@ fn only(
     requires won { IsWonFirst auction.now first.now }
     requires one { length auction.now.uniques.items ≡ 1 }
     requires alone { length auction.now.ties.items ≡ 0 }
-    ensures told { IfOk result (λ claim. claim_told (held auction.now) first.now ≡ Ok claim) }
+    ensures told { IfOk result (λ claim. claims_told (held auction.now) first.now
+        (held auction.now).uniques (held auction.now).ties ≡ Ok claim) }
     ensures refuses { IfErr result (λ r.
-        Refuses (claim_told (held auction.now) first.now) r
+        Refuses (claims_told (held auction.now) first.now (held auction.now).uniques
+        (held auction.now).ties) r
         ⊎ IsTooWideClaim (held auction.now) r) }
 {
     // Its contract says that the book is within limits.
@@ -104,8 +108,10 @@ fn tie(
     requires won { IsWonFirst auction.now first.now }
     requires one { length auction.now.ties.items ≡ 1 }
     requires alone { length auction.now.uniques.items ≡ 0 }
-    ensures told { IfOk result (λ claim. claim_told (held auction.now) first.now ≡ Ok claim) }
-    ensures refuses { IfErr result (Refuses (claim_told (held auction.now) first.now)) }
+    ensures told { IfOk result (λ claim. claims_told (held auction.now) first.now
+        (held auction.now).uniques (held auction.now).ties ≡ Ok claim) }
+    ensures refuses { IfErr result (Refuses (claims_told (held auction.now) first.now
+        (held auction.now).uniques (held auction.now).ties)) }
 {
     let compiler = Compiler::new(rt, alloc, &auction.book, &auction.groups)?;
     match won_without(

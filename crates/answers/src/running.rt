@@ -1,17 +1,17 @@
 //! The program on its words, its input and two sinks.
 
-ghost use Rattle.std.specs.Prelude.{◌≡◌, ◌≢◌, ◌⊎◌, ◌<◌, ◌≤◌, IfErr, IfSome, IsSome, Ok, codes, flat_map, length};
+ghost use Rattle.std.specs.Prelude.{◌≡◌, ◌≢◌, ◌⊎◌, ◌<◌, ◌≤◌, IfErr, IfSome, IsSome, List, Ok, codes, flat_map, length, ℕ};
 ghost use Rattle.std.specs.Io.KnownBytes.{Appends};
 ghost use Rattle.std.specs.IoError.{error_kind};
 ghost use Rattle.std.specs.declared.io.ErrorKind.TheVariants as io_kind;
 ghost use Rattle.clap.specs.Words.{kind_of};
-ghost use Rattle.auction_input.specs.Line.{IsToldWhy, Puts, line};
+ghost use Rattle.auction_input.specs.Line.{Puts, line};
 ghost use Rattle.auction_input.specs.declared.refusal.Refusal.TheVariants as refusal;
 ghost use Rattle.requests.specs.Asked.{asked_of, by_fault, for_answer, for_nothing};
 ghost use Rattle.answers.specs.Exact.{Ends};
 ghost use Rattle.requests.specs.Requests.{IsRequestWithinLimits};
-ghost use Rattle.answers.specs.Runs.{HasExplained, IsAnswered, IsDone, IsRefused, IsUnasked, IsUndone, PutsSome};
-ghost use Rattle.answers.specs.inside.Runs.{IsUntold, HasShown};
+ghost use Rattle.answers.specs.Runs.{HasExplained, IsAnswered, IsDone, IsRefused, IsUndone};
+ghost use Rattle.answers.specs.inside.Runs.{HasShown, IsToldWhy, IsUntold};
 
 use crate::commands::{answer, explain_input};
 use crate::pieces::write_pieces;
@@ -44,18 +44,20 @@ pub fn run<R: Threads + Wait + Sync + AllocGlobal, I: Read, S: Sink, F: Sink>(
         × (F.failures faults.new ≡ F.failures faults.old) }
     ensures succeeded { result ≢ 1 → (S.failures out.new ≡ S.failures out.old)
         × (input.new.failures ≡ input.old.failures) }
-    ensures refused { result ≡ 1 → IsToldWhy (IsUndone (asked_of words)
+    ensures refused { result ≡ 1 → ((r : Refusal) × IsUndone (asked_of words)
         (I.remaining input.old.reader) (I.remaining input.new.reader) input.old.failures
         input.new.failures (S.taken out.old) (S.taken out.new) (S.failures out.old)
-        (S.failures out.new)) (F.taken faults.old) (F.taken faults.new) (F.failures faults.old)
-        (F.failures faults.new) ⊎ HasExplained (asked_of words) (I.remaining input.old.reader)
-        (I.remaining input.new.reader) input.old.failures input.new.failures (S.taken out.old)
-        (S.taken out.new) (S.failures out.old) (S.failures out.new) (F.taken faults.old)
-        (F.taken faults.new) (F.failures faults.old) (F.failures faults.new) }
-    ensures unasked { result ≡ 2 → IsUnasked (asked_of words) (I.remaining input.old.reader)
-        (I.remaining input.new.reader) (S.taken out.old) (S.taken out.new) }
-    ensures told { result ≡ 2 → PutsSome (F.taken faults.old) (F.taken faults.new)
-        (F.failures faults.old) (F.failures faults.new) }
+        (S.failures out.new) r × Puts (line r) (F.taken faults.old) (F.taken faults.new)
+        (F.failures faults.old) (F.failures faults.new)) ⊎ HasExplained (asked_of words)
+        (I.remaining input.old.reader) (I.remaining input.new.reader) input.old.failures
+        input.new.failures (S.taken out.old) (S.taken out.new) (S.failures out.old)
+        (S.failures out.new) (F.taken faults.old) (F.taken faults.new) (F.failures faults.old)
+        (F.failures faults.new) }
+    ensures unasked { result ≡ 2 → (asked_of words ≡ for_nothing)
+        × (I.remaining input.new.reader ≡ I.remaining input.old.reader)
+        × (S.taken out.new ≡ S.taken out.old) }
+    ensures told { result ≡ 2 → ((text : List ℕ) × (0 < length text) × Puts text
+        (F.taken faults.old) (F.taken faults.new) (F.failures faults.old) (F.failures faults.new)) }
     // Where std tells no words, memory was short, or one of them is no text.
     ensures wordless { IfErr words (λ e. (error_kind e ≡ io_kind.OutOfMemory → result ≡ 1)
         × (error_kind e ≢ io_kind.OutOfMemory → (result ≡ 2)
@@ -197,8 +199,8 @@ fn tell_words<S: Sink, F: Sink>(alloc: Global, error: &Error, out: &mut S, fault
         (F.taken faults.old) (F.taken faults.new) (F.failures faults.old) (F.failures faults.new) }
     ensures unasked { result ≡ 2 → (by_fault (kind_of error.now) ≡ for_nothing)
         × (kind_of error.now ≢ ErrorKind.OutOfMemory) × (S.taken out.new ≡ S.taken out.old) }
-    ensures told { result ≡ 2 → PutsSome (F.taken faults.old) (F.taken faults.new)
-        (F.failures faults.old) (F.failures faults.new) }
+    ensures told { result ≡ 2 → ((text : List ℕ) × (0 < length text) × Puts text
+        (F.taken faults.old) (F.taken faults.new) (F.failures faults.old) (F.failures faults.new)) }
 {
     if error.kind() == ErrorKind::DisplayVersion {
         return show(&[b"wdp ", VERSION.as_bytes(), b"\n"], out, faults);

@@ -1,6 +1,6 @@
 -- What records of rules have, of which none has a fault.
-use Rattle.std.proofs.Common.{◌≡◌, ◌≤◌, ◌<◌, ◌++◌, ◌∷◌, [], ℕ, Bool, true, false, List, Option, None, Some, Result, Ok, Err, append_assoc, arith, length, length-append, refl, subst}
-use Rattle.std.specs.Prelude.{◌+◌, ◌==◌, cond, ok_or}
+use Rattle.std.proofs.Common.{◌≡◌, ◌≤◌, ◌<◌, ◌++◌, ◌∷◌, [], ℕ, Bool, true, false, List, Option, None, Some, Result, Ok, append_assoc, arith, length, length-append, refl, subst}
+use Rattle.std.specs.Prelude.{◌+◌, ok_or}
 use Rattle.std.specs.List.{AllByRecursion}
 use Rattle.std.specs.Option.{option_or}
 use Rattle.std.proofs.lemmas.List.{append-nil}

@@ -70,7 +70,3 @@ line r = codes "wdp: " ++ (refusal_text r ++ 10 ∷ [])
 -- bytes went out, or the first of them and a put failed
 abbrev pub Puts : List ℕ → Option (List ℕ) → Option (List ℕ) → ℕ → ℕ → Type 0
 Puts bytes taken taken' failures failures' = Appends taken taken' bytes ⊎ ((n : ℕ) × SentFront taken taken' bytes n × HasFailed failures failures')
-
--- a refusal for this reason is told by its line
-abbrev pub IsToldWhy : (Refusal → Type 0) → Option (List ℕ) → Option (List ℕ) → ℕ → ℕ → Type 0
-IsToldWhy Why taken taken' failures failures' = (r : Refusal) × Why r × Puts (line r) taken taken' failures failures'

@@ -1,5 +1,5 @@
 -- The parts of the input. A line that begins with a percent sign heads a part, whose bytes run up to the next such line.
-use Rattle.std.specs.Prelude.{◌≡◌, ◌==◌, ◌+◌, ◌++◌, Bool, false, ⊤, ℕ, List, [], ◌∷◌, Option, None, Some, Result, Ok, Err, codes, filter, if◌then◌else◌, length, map, slice_index_or}
+use Rattle.std.specs.Prelude.{◌≡◌, ◌==◌, ◌+◌, ◌++◌, Bool, ⊤, ℕ, List, [], ◌∷◌, Option, None, Some, Result, Ok, Err, codes, filter, if◌then◌else◌, length, map, slice_index, slice_index_or}
 use Rattle.std.specs.Option.{option_or}
 use Rattle.std.specs.List.{list_any}
 use Rattle.std.specs.Str.{bytes_eq}
@@ -23,8 +23,7 @@ cut_lines (b ∷ rest) = if is_line_feed b then (b ∷ []) ∷ cut_lines rest el
 
 -- a line that heads a part
 abbrev pub heads_part : List ℕ → Bool
-heads_part [] = false
-heads_part (b ∷ line) = b == 37
+heads_part line = slice_index line 0 == 37
 
 -- the name in the line that heads a part, and the bytes after that line
 pub record Part : Type 0 where

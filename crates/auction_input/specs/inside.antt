@@ -1,4 +1,5 @@
 pub mod InputTexts
 pub mod Parts
+pub mod Plan
 pub mod Submissions
 pub mod TextsTold

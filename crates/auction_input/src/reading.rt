@@ -7,7 +7,8 @@ ghost use Rattle.auction_input.specs.Refused.{Refuses};
 ghost use Rattle.auction_input.specs.inside.InputTexts.{AreAdded, IsAnswer, IsFirstErr};
 ghost use Rattle.auction_terms.specs.Borrowed.{bytes_of};
 ghost use Rattle.auction_input.specs.PartsTold.{only_text};
-ghost use Rattle.auction_input.specs.Plan.{miscounted, solutions_taken, takes_groups};
+ghost use Rattle.auction_input.specs.Plan.{miscounted};
+ghost use Rattle.auction_input.specs.inside.Plan.{solutions_taken, takes_groups};
 ghost use Rattle.auction_input.specs.inside.TextsTold.{HaveMore, more_told};
 ghost use Rattle.auction_input.specs.TextsTold.{form_told};
 ghost use Rattle.auction_terms.specs.Stages.{each_in_turn};
@@ -44,6 +45,7 @@ fn solutions_taken(request: &Request) -> Option<usize>
 }
 
 /// The first kind of which there are too few parts or too many: one with rules, and as many with groups and with solutions as the command takes.
+#[tactic(auto, using(crate::proofs::PlanFacts::plan_is))]
 pub fn miscounted(request: &Request, parts: &Parts<'_>) -> Option<CountedPart>
     ensures { result ≡ miscounted request.now (length parts.now.rules.items)
         (length parts.now.groups.items) (length parts.now.solutions.items) }

@@ -19,7 +19,8 @@ use Rattle.optimality.specs.Reduced.{reduced, right_side_at}
 use Rattle.optimality.specs.Shows.{leaf_value}
 use Rattle.optimality.specs.LineMeaning.{Told, BoundLine, SplitLine, line_told}
 use Rattle.optimality.specs.Branches.{Branch, At, cuts_above, closed}
-use Rattle.optimality.specs.Sizes.{IsLargeFrom, IsLargeLine, IsLargeTold, cut_size, form_size, leaf_size, size_of}
+use Rattle.optimality.specs.Sizes.{IsLargeFrom, IsLargeLine, IsLargeTold, cut_size, leaf_size, size_of}
+use Rattle.optimality.specs.inside.Sizes.{form_size}
 use Rattle.optimality.specs.Verdict.{behind as after_line, taken, fault_from}
 use Rattle.optimality.specs.declared.open_split.OpenSplit.{OpenSplit}
 use Rattle.optimality.specs.inside.Adding.{AreAlike, AreNoLarger}

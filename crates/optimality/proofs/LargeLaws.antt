@@ -14,7 +14,9 @@ use Rattle.program_faults.specs.declared.certificate_fault.CertificateFault.{Cer
 use Rattle.program_faults.specs.declared.certificate_fault.FaultKind.{FaultKind}
 use Rattle.program_faults.specs.declared.certificate_fault.FaultKind.TheVariants.{Beyond, Fields, NotShown, Sign, TooLarge, UnknownColumn, UnknownRow}
 use Rattle.optimality.specs.Branches.{Branch, closed, cuts_above}
-use Rattle.optimality.specs.LineMeaning.{Told, BoundLine, SplitLine, integer_told, natural_told, naturals_told, named_numbers, bound_told, split_told, line_told}
+use Rattle.optimality.specs.LineMeaning.{Told, BoundLine, SplitLine, integer_told, natural_told, naturals_told, named_numbers, line_told}
+use Rattle.optimality.specs.inside.LineMeaning.{bound_behind, split_behind}
+use Rattle.optimality.proofs.LineLaws.{line_by_word}
 use Rattle.optimality.specs.Shows.{leaf_value, may_have}
 use Rattle.optimality.specs.Sizes.{IsLargeFrom, IsLargeLine}
 use Rattle.optimality.specs.Verdict.{behind, fault_from, taken}
@@ -69,7 +71,7 @@ named-not names unknown h (name ∷ token ∷ fs) =
     (λ place. in-turn (integer_told (number token)) (λ n. Ok (place, n)) (integer-not (number token)) (λ n. tt)))
     (λ term. in-turn (named_numbers names unknown fs) (λ form. Ok (term ∷ form)) (named-not names unknown h fs) (λ form. tt))
 
-bound-not : (p : Table) (depth : ℕ) (fs : List (List ℕ)) → NotLarge (bound_told p depth fs)
+bound-not : (p : Table) (depth : ℕ) (fs : List (List ℕ)) → NotLarge (bound_behind p depth fs)
 bound-not p depth [] = λ e. absurd cc
 bound-not p depth (token ∷ fs) =
     in-turn (natural_told token) _ (natural-not token)
@@ -81,7 +83,7 @@ bound-not p depth (token ∷ fs) =
     by true told = tt
     by false told = λ e. absurd cc
 
-split-not : (p : Table) (fs : List (List ℕ)) → NotLarge (split_told p fs)
+split-not : (p : Table) (fs : List (List ℕ)) → NotLarge (split_behind p fs)
 split-not p [] = λ e. absurd cc
 split-not p (token ∷ fs) =
     in-turn (integer_told (number token)) _ (integer-not (number token))
@@ -89,9 +91,9 @@ split-not p (token ∷ fs) =
 
 line-not : (p : Table) (depth : ℕ) (fs : List (List ℕ)) → NotLarge (line_told p depth fs)
 line-not p depth [] = λ e. absurd cc
-line-not p depth (word ∷ fs) = by (bytes_eq word (codes "split")) (bytes_eq word (codes "bound"))
+line-not p depth (word ∷ fs) = subst NotLarge (sym (line_by_word p depth word fs)) (by (bytes_eq word (codes "split")) (bytes_eq word (codes "bound")))
   where
-    by : (a b : Bool) → NotLarge (if a then split_told p fs else (if b then bound_told p depth fs else Err Fields))
+    by : (a b : Bool) → NotLarge (if a then split_behind p fs else (if b then bound_behind p depth fs else Err Fields))
     by true b = split-not p fs
     by false true = bound-not p depth fs
     by false false = λ e. absurd cc

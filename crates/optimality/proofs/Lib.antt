@@ -7,6 +7,7 @@ pub mod RowLaws
 pub mod LeafLaws
 pub mod AlikeLaws
 pub mod TermLaws
+pub mod LineLaws
 pub mod BranchLaws
 pub mod VerdictLaws
 pub mod OnlyLaws

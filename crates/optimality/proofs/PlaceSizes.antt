@@ -6,7 +6,8 @@ use native.Mathlib.Nat.{mul-le-mul_left}
 use Rattle.std.proofs.lemmas.Int.{ints, unsigned_abs-mul}
 use Rattle.std.proofs.lemmas.Bool.Decides.{nat_tests}
 use Rattle.optimality.specs.Certificates.{Form, Cut, number_in}
-use Rattle.optimality.specs.Sizes.{size_of, form_size}
+use Rattle.optimality.specs.Sizes.{size_of}
+use Rattle.optimality.specs.inside.Sizes.{form_size}
 use Rattle.optimality.specs.inside.Adding.{number_at, AreNoLarger, AreGivenMore, IsTaken, at_place, size_in, sizes_below, cuts_given, form_at, rows_given}
 use Rattle.optimality.proofs.SizeLaws.{abs-sum, sum-within}
 

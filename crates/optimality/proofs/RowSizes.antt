@@ -10,7 +10,8 @@ use Rattle.std.proofs.lemmas.Bool.Decides.{nat_tests}
 use Rattle.program_rows.specs.Program.{Table, TableColumn}
 use Rattle.program_rows.specs.Parts.{AreEntries, IsProgram}
 use Rattle.optimality.specs.Certificates.{Form}
-use Rattle.optimality.specs.Sizes.{coefficients_size, form_size, size_of}
+use Rattle.optimality.specs.Sizes.{coefficients_size, size_of}
+use Rattle.optimality.specs.inside.Sizes.{form_size}
 use Rattle.optimality.specs.inside.Adding.{form_at, size_in}
 use Rattle.optimality.specs.inside.RowForms.{with_term, with_entries, with_columns, row_forms}
 use Rattle.optimality.proofs.RowLaws.{length-term, length-entries, length-columns}

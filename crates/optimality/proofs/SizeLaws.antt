@@ -4,7 +4,8 @@ use Rattle.std.specs.Prelude.{◌*ℤ◌, ◌==◌, if◌then◌else◌, unsigne
 use native.Mathlib.Nat.{mul-le-mul_left}
 use Rattle.std.proofs.lemmas.Int.{ints, unsigned_abs-mul}
 use Rattle.optimality.specs.Certificates.{Form, Cut, number_in, side, sum_of}
-use Rattle.optimality.specs.Sizes.{size_of, form_size}
+use Rattle.optimality.specs.Sizes.{size_of}
+use Rattle.optimality.specs.inside.Sizes.{form_size}
 use Rattle.optimality.specs.inside.Adding.{form_at, form_given}
 use Rattle.optimality.specs.inside.Holding.{cut_of, cuts_of}
 use Rattle.optimality.specs.Reduced.{right_side_at}

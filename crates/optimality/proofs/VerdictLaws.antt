@@ -18,7 +18,9 @@ use Rattle.optimality.specs.Lines.{telling_lines}
 use Rattle.auction_terms.specs.Stages.{and_then}
 use Rattle.program_rows.specs.Numbers.{number}
 use Rattle.program_rows.specs.ProgramNames.{row_names, column_names}
-use Rattle.optimality.specs.LineMeaning.{Told, BoundLine, SplitLine, natural_told, naturals_told, integer_told, named_numbers, bound_told, split_told, line_told}
+use Rattle.optimality.specs.LineMeaning.{Told, BoundLine, SplitLine, natural_told, naturals_told, integer_told, named_numbers, line_told}
+use Rattle.optimality.specs.inside.LineMeaning.{bound_behind, split_behind}
+use Rattle.optimality.proofs.LineLaws.{line_by_word}
 use Rattle.optimality.specs.Telling.{TellsCertificate, IsShownBy}
 use Rattle.optimality.specs.Branches.{Branch, At, cuts_above, closed}
 use Rattle.optimality.specs.Verdict.{taken, fault_from, certificate_fault}
@@ -107,7 +109,7 @@ signed p found rows s scale y ys e = by (list_all (may_have p.rows) found) refl 
     by true t e = let same : found ≡ rows = cc in subst (λ (f : Form). list_all (may_have p.rows) f ≡ true) same t
     by false t e = absurd cc
 
-bound-signed : (p : Table) (depth : ℕ) (fs : List (List ℕ)) (scale : ℕ) (ys : List ℕ) (rows : Form) → bound_told p depth fs ≡ Ok (BoundLine scale ys rows) → list_all (may_have p.rows) rows ≡ true
+bound-signed : (p : Table) (depth : ℕ) (fs : List (List ℕ)) (scale : ℕ) (ys : List ℕ) (rows : Form) → bound_behind p depth fs ≡ Ok (BoundLine scale ys rows) → list_all (may_have p.rows) rows ≡ true
 bound-signed p depth [] scale ys rows e = absurd cc
 bound-signed p depth (token ∷ fs) scale ys rows e =
     let a = passed (natural_told token) (λ s. and_then (naturals_told depth fs) (λ m. and_then (named_numbers (row_names p) _ m.1) (λ r. if list_all (may_have p.rows) r then Ok (BoundLine s m.0 r) else Err Sign))) (BoundLine scale ys rows) e in
@@ -115,7 +117,7 @@ bound-signed p depth (token ∷ fs) scale ys rows e =
     let d = passed (named_numbers (row_names p) _ b.0.1) (λ r. if list_all (may_have p.rows) r then Ok (BoundLine a.0 b.0.0 r) else Err Sign) (BoundLine scale ys rows) b.1 in
     signed p d.0 rows a.0 scale b.0.0 ys d.1
 
-split-apart : (p : Table) (fs : List (List ℕ)) (scale : ℕ) (ys : List ℕ) (rows : Form) → split_told p fs ≡ Ok (BoundLine scale ys rows) → ⊥
+split-apart : (p : Table) (fs : List (List ℕ)) (scale : ℕ) (ys : List ℕ) (rows : Form) → split_behind p fs ≡ Ok (BoundLine scale ys rows) → ⊥
 split-apart p [] scale ys rows e = cc
 split-apart p (token ∷ fs) scale ys rows e =
     let a = passed (integer_told (number token)) (λ most. and_then (named_numbers (column_names p) _ fs) (λ form. Ok (SplitLine form most))) (BoundLine scale ys rows) e in
@@ -124,9 +126,9 @@ split-apart p (token ∷ fs) scale ys rows e =
 
 line-signed : (p : Table) (depth : ℕ) (fs : List (List ℕ)) (scale : ℕ) (ys : List ℕ) (rows : Form) → line_told p depth fs ≡ Ok (BoundLine scale ys rows) → list_all (may_have p.rows) rows ≡ true
 line-signed p depth [] scale ys rows e = absurd cc
-line-signed p depth (word ∷ fs) scale ys rows e = by (bytes_eq word (codes "split")) (bytes_eq word (codes "bound")) e
+line-signed p depth (word ∷ fs) scale ys rows e = by (bytes_eq word (codes "split")) (bytes_eq word (codes "bound")) (sym (line_by_word p depth word fs) ∙ e)
   where
-    by : (b d : Bool) → (if b then split_told p fs else (if d then bound_told p depth fs else Err Fields)) ≡ Ok (BoundLine scale ys rows) → list_all (may_have p.rows) rows ≡ true
+    by : (b d : Bool) → (if b then split_behind p fs else (if d then bound_behind p depth fs else Err Fields)) ≡ Ok (BoundLine scale ys rows) → list_all (may_have p.rows) rows ≡ true
     by true d e = absurd (split-apart p fs scale ys rows e)
     by false true e = bound-signed p depth fs scale ys rows e
     by false false e = absurd cc

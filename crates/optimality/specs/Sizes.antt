@@ -1,5 +1,5 @@
 -- How large the numbers of a leaf get: all that its value adds up, each number without its sign.
-use Rattle.std.specs.Prelude.{◌≡◌, ◌⊎◌, ℕ, suc, ◌+◌, ◌*◌, ◌^◌, ◌≤◌, List, [], ◌∷◌, length, ℤ, pos, ◌-ℤ◌, Option, Some, None, Result, Ok, Err, unsigned_abs}
+use Rattle.std.specs.Prelude.{◌≡◌, ◌⊎◌, ℕ, suc, ◌+◌, ◌*◌, ◌^◌, ◌≤◌, List, [], ◌∷◌, length, ℤ, pos, ◌-ℤ◌, Option, Some, None, Result, Ok, unsigned_abs}
 use Rattle.std.specs.List.{zip}
 use Rattle.auction_terms.specs.Lines.{lines_of}
 use Rattle.program_rows.specs.Lines.{fields}
@@ -8,7 +8,7 @@ use Rattle.program_rows.specs.Program.{Table, TableColumn}
 use Rattle.program_faults.specs.declared.certificate_fault.FaultKind.{FaultKind}
 use Rattle.optimality.specs.Branches.{Branch, cuts_above}
 use Rattle.optimality.specs.Certificates.{Form, Cut}
-use Rattle.optimality.specs.LineMeaning.{Told, BoundLine, SplitLine, line_told}
+use Rattle.optimality.specs.LineMeaning.{Told, BoundLine, line_told}
 use Rattle.optimality.specs.Reduced.{right_side_at}
 use Rattle.optimality.specs.Verdict.{behind}
 
@@ -17,13 +17,9 @@ abbrev pub size_of : {X : Type 0} → (X → ℕ) → List X → ℕ
 size_of f [] = 0
 size_of f (x ∷ xs) = f x + size_of f xs
 
--- of the numbers of a form
-abbrev pub form_size : Form → ℕ
-form_size form = size_of (λ t. unsigned_abs t.1) form
-
--- of a cut: its form and its right side
+-- of a cut: the numbers of its form, and its right side
 abbrev pub cut_size : Cut → ℕ
-cut_size cut = form_size cut.form + unsigned_abs cut.most
+cut_size cut = size_of (λ t. unsigned_abs t.1) cut.form + unsigned_abs cut.most
 
 -- of the row at a place: its coefficients, and with its right side
 abbrev pub coefficients_size : List TableColumn → ℕ → ℕ
@@ -46,8 +42,7 @@ leaf_size p least cuts scale ys rows =
 -- what a line tells below these splits is a leaf of size 2^126 or more
 abbrev pub IsLargeTold : Table → ℤ → List Branch → Result Told FaultKind → Type 0
 IsLargeTold p least above (Ok (BoundLine scale ys rows)) = 2 ^ 126 ≤ leaf_size p least (cuts_above above) scale ys rows
-IsLargeTold p least above (Ok (SplitLine form most)) = ⊥
-IsLargeTold p least above (Err kind) = ⊥
+IsLargeTold p least above told = ⊥
 
 abbrev pub IsLargeLine : Table → ℤ → Option (List Branch) → List ℕ → Type 0
 IsLargeLine p least None line = ⊥
@@ -55,9 +50,8 @@ IsLargeLine p least (Some above) line = IsLargeTold p least above (line_told p (
 
 -- the line of this number is such a leaf, and no line before it has a fault; `place` lines were before these
 abbrev pub IsLargeFrom : Table → ℤ → Result (Option (List Branch)) FaultKind → ℕ → List (List ℕ) → ℕ → Type 0
-IsLargeFrom p least (Err kind) place lines number = ⊥
-IsLargeFrom p least (Ok branches) place [] number = ⊥
 IsLargeFrom p least (Ok branches) place (line ∷ lines) number = ((suc place ≡ number) × IsLargeLine p least branches line) ⊎ IsLargeFrom p least (behind p least branches line) (suc place) lines number
+IsLargeFrom p least told place lines number = ⊥
 
 -- the line of this number in a text that is to show `least`
 abbrev pub IsLargeAt : Table → ℤ → List ℕ → ℕ → Type 0

@@ -4,5 +4,7 @@ pub mod Branches
 pub mod Certificates
 pub mod Checking
 pub mod Holding
+pub mod LineMeaning
 pub mod RowForms
+pub mod Sizes
 pub mod Stopping

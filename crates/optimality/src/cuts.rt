@@ -6,7 +6,8 @@ ghost use Rattle.optimality.specs.inside.Adding.{AreGivenMore, cuts_given, form_
 ghost use Rattle.optimality.specs.inside.Holding.{cut_of, cuts_of};
 ghost use Rattle.optimality.specs.inside.Stopping.{ReachesLimit, TooLargeOnly};
 ghost use Rattle.optimality.specs.Certificates.{sum_of};
-ghost use Rattle.optimality.specs.Sizes.{form_size, size_of};
+ghost use Rattle.optimality.specs.Sizes.{size_of};
+ghost use Rattle.optimality.specs.inside.Sizes.{form_size};
 
 use crate::arithmetic::{plus, signed, times};
 use crate::forms::add_wide_form;

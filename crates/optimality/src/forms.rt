@@ -3,7 +3,7 @@
 ghost use Rattle.std.specs.Prelude.{OnOk, ◌*ℤ◌, ◌*◌, ◌+◌, ◌^◌, ◌≤◌, unsigned_abs};
 ghost use Rattle.optimality.specs.inside.Adding.{AreGivenMore, at_place, form_given, number_at};
 ghost use Rattle.optimality.specs.inside.Stopping.{ReachesLimit, TooLargeOnly};
-ghost use Rattle.optimality.specs.Sizes.{form_size};
+ghost use Rattle.optimality.specs.inside.Sizes.{form_size};
 
 use crate::arithmetic::{product, wide_product};
 use crate::limit::Limit;

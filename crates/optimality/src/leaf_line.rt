@@ -6,7 +6,8 @@ ghost use Rattle.program_rows.specs.Lines.{fields};
 ghost use Rattle.optimality.specs.inside.Answers.{AnswersSeen};
 ghost use Rattle.optimality.specs.inside.Checking.{IsPrepared};
 ghost use Rattle.optimality.specs.Shows as shows;
-ghost use Rattle.optimality.specs.LineMeaning.{BoundLine, bound_told};
+ghost use Rattle.optimality.specs.LineMeaning.{BoundLine};
+ghost use Rattle.optimality.specs.inside.LineMeaning.{bound_behind};
 
 use crate::checker::Checker;
 use crate::leaf::Leaf;
@@ -41,7 +42,7 @@ fn are_signed(program: &Program, rows: &[(usize, i64)]) -> bool
 pub fn take_leaf(checker: &Checker, depth: usize, text: &[u8]) -> Result<Leaf, Refusal>
     requires { IsPrepared checker.now }
     ensures told { AnswersSeen (λ leaf. BoundLine leaf.scale leaf.multipliers.items leaf.rows.items)
-        result (bound_told checker.now.program.now depth (fields text.now)) }
+        result (bound_behind checker.now.program.now depth (fields text.now)) }
     ensures count { IfOk result (λ leaf. length leaf.multipliers.items ≡ depth) }
 {
     let Some(token) = next_field(text) else {

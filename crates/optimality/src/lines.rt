@@ -8,7 +8,8 @@ ghost use Rattle.optimality.specs.Branches.{cuts_above};
 ghost use Rattle.optimality.specs.inside.Checking.{IsPrepared};
 ghost use Rattle.optimality.specs.inside.Stopping.{RefusedLargeOnly, TooLargeOnly};
 ghost use Rattle.auction_terms.specs.Stages.{and_then};
-ghost use Rattle.optimality.specs.LineMeaning.{bound_told, line_told, split_told};
+ghost use Rattle.optimality.specs.LineMeaning.{line_told};
+ghost use Rattle.optimality.specs.inside.LineMeaning.{bound_behind, split_behind};
 ghost use Rattle.optimality.specs.Shows.{leaf_value};
 ghost use Rattle.optimality.specs.Sizes.{IsLargeLine, IsLargeTold, leaf_size};
 ghost use Rattle.optimality.specs.Verdict.{behind, taken};
@@ -40,7 +41,7 @@ fn take_split_line(
 ) -> Result<bool, Refusal>
     requires { IsPrepared checker.now }
     ensures value { AnswersAlike checker.now.program.now checker.now.least splits.new.items result
-        (and_then (split_told checker.now.program.now (fields text.now))
+        (and_then (split_behind checker.now.program.now (fields text.now))
         (taken checker.now.program.now checker.now.least (branches_of splits.old.items))) }
     ensures too_large { RefusedLargeOnly ⊥ result }
 {
@@ -77,11 +78,11 @@ fn take_leaf_line(
 ) -> Result<bool, Refusal>
     requires { IsPrepared checker.now }
     ensures value { AnswersClosed (λ is_last. opened is_last splits.new.items) result
-        (and_then (bound_told checker.now.program.now (length splits.old.items) (fields text.now))
+        (and_then (bound_behind checker.now.program.now (length splits.old.items) (fields text.now))
         (taken checker.now.program.now checker.now.least (branches_of splits.old.items))) }
     ensures too_large { RefusedLargeOnly (IsLargeTold checker.now.program.now checker.now.least
-        (branches_of splits.old.items) (bound_told checker.now.program.now (length splits.old.items)
-        (fields text.now))) result }
+        (branches_of splits.old.items) (bound_behind checker.now.program.now
+        (length splits.old.items) (fields text.now))) result }
 {
     let leaf = take_leaf(checker, splits.len(), text)?;
     if !leaf_shows(checker, sums, splits.as_slice(), &leaf)? {
@@ -90,7 +91,7 @@ fn take_leaf_line(
     close(splits)
 }
 
-#[tactic(auto, using(crate::proofs::BranchLaws::length_branches))]
+#[tactic(auto, using(crate::proofs::BranchLaws::length_branches, crate::proofs::LineLaws::line_by_word))]
 fn take_line(
     checker: &Checker,
     sums: &mut Sums,

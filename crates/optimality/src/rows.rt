@@ -6,7 +6,8 @@ ghost use Rattle.optimality.specs.Certificates.{sum_of};
 ghost use Rattle.optimality.specs.Reduced as reduced;
 ghost use Rattle.optimality.specs.inside.RowForms.{forms_held};
 ghost use Rattle.optimality.specs.inside.Stopping.{ReachesLimit, TooLargeOnly};
-ghost use Rattle.optimality.specs.Sizes.{form_size, size_of};
+ghost use Rattle.optimality.specs.Sizes.{size_of};
+ghost use Rattle.optimality.specs.inside.Sizes.{form_size};
 
 use crate::arithmetic::{plus, wide_product};
 use crate::forms::add_form;

@@ -6,7 +6,8 @@ ghost use Rattle.optimality.specs.inside.Adding.{AreAlike, AreNoLarger};
 ghost use Rattle.optimality.specs.inside.Answers.{AnswersSeen};
 ghost use Rattle.optimality.specs.inside.Checking.{IsPrepared};
 ghost use Rattle.optimality.specs.inside.Stopping.{TooLargeOnly};
-ghost use Rattle.optimality.specs.LineMeaning.{SplitLine, split_told};
+ghost use Rattle.optimality.specs.LineMeaning.{SplitLine};
+ghost use Rattle.optimality.specs.inside.LineMeaning.{split_behind};
 
 use crate::added_up::added_up;
 use crate::checker::Checker;
@@ -32,7 +33,7 @@ pub struct ToldSplit {
 pub fn take_split(checker: &Checker, text: &[u8]) -> Result<ToldSplit, Refusal>
     requires { IsPrepared checker.now }
     ensures { AnswersSeen (λ split. SplitLine split.form.items split.most) result
-        (split_told checker.now.program.now (fields text.now)) }
+        (split_behind checker.now.program.now (fields text.now)) }
 {
     let Some(token) = next_field(text) else {
         return Err(Refusal::Fault(FaultKind::Fields));

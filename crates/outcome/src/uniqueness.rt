@@ -1,10 +1,10 @@
 //! What is known of other outcomes that are as good.
 
-ghost use Rattle.std.specs.Prelude.{◌≡◌};
+ghost use Rattle.std.specs.Prelude.{◌≡◌, ◌++◌, codes};
 ghost use Rattle.mps_text.specs.Adds.{Adds};
 ghost use Rattle.outcome.specs.Report.{allocation_text};
 ghost use Rattle.bid_desk.specs.Sale.{sale_of};
-ghost use Rattle.outcome.specs.Uniqueness.{tie_text, uniqueness_text};
+ghost use Rattle.outcome.specs.Uniqueness.{uniqueness_text};
 
 use crate::allocation::Allocation;
 use crate::winners::add_allocation;
@@ -25,7 +25,7 @@ pub enum Uniqueness {
 /// Adds the line of a tie, and the other allocation.
 fn add_tie<S: Sink>(writer: &mut Writer<'_, S>, book: &ClosedBook, other: &Allocation)
     ensures { Adds S.taken S.failures writer.old writer.new
-        (tie_text (sale_of book.now) other.now) }
+        (codes "tie\n" ++ allocation_text (sale_of book.now) other.now) }
 {
     writer.add(b"tie\n");
     add_allocation(writer, book, other.choices());

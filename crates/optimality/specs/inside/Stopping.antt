@@ -4,7 +4,8 @@ use Rattle.std.specs.List.{zip}
 use Rattle.program_rows.specs.Program.{TableRow, TableColumn}
 use Rattle.optimality.specs.Certificates.{Form, Cut}
 use Rattle.optimality.specs.Reduced.{right_side_at}
-use Rattle.optimality.specs.Sizes.{coefficients_size, form_size, size_of}
+use Rattle.optimality.specs.Sizes.{coefficients_size, size_of}
+use Rattle.optimality.specs.inside.Sizes.{form_size}
 use Rattle.optimality.specs.declared.limit.Limit.{Limit}
 use Rattle.optimality.specs.declared.limit.Limit.TheVariants.{Memory, TooLarge}
 use Rattle.optimality.specs.declared.refusal.Refusal.{Refusal}

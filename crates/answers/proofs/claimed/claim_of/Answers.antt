@@ -3,7 +3,7 @@ use Rattle.std.specs.Prelude.{◌⊎◌, IfErr, IfOk, slice_index_or}
 use Rattle.auction_terms.specs.declared.choices.Choice.{Choice}
 use Rattle.auction_input.specs.Refused.{Refuses}
 use Rattle.auction_input.specs.Settled.{held}
-use Rattle.answers.specs.Claimed.{claim_told}
+use Rattle.answers.specs.Claimed.{claims_told}
 use Rattle.answers.specs.Exact.{IsTooWideClaim}
 use Rattle.answers.specs.inside.Claiming.{IsWonFirst}
 use Rattle.answers.proofs.ClaimedFacts.{first-at, is-won-first, many-claims, refused-or-wide, wins-first}
@@ -30,14 +30,14 @@ returns-then-uniques-eq1-clause-told g c =
     let auction = c.args.auction.now in
     let won = c.args.won.now in
     let some = (wins-first (held auction) won c.requires).2 in
-    subst (λ (first : Winners). IfOk c.only.result (λ claim. claim_told (held auction) first ≡ Ok claim)) (sym (first-at won c.index-won-0.result some c.index-won-0.is)) c.only.ensures.told
+    subst (λ (first : Winners). IfOk c.only.result (λ claim. claims_told (held auction) first (held auction).uniques (held auction).ties ≡ Ok claim)) (sym (first-at won c.index-won-0.result some c.index-won-0.is)) c.only.ensures.told
 
 pub returns-then-uniques-eq1-clause-refuses : goal.returns-then-uniques-eq1-clause-refuses
 returns-then-uniques-eq1-clause-refuses g c =
     let auction = c.args.auction.now in
     let won = c.args.won.now in
     let some = (wins-first (held auction) won c.requires).2 in
-    subst (λ (first : Winners). IfErr c.only.result (λ r. Refuses (claim_told (held auction) first) r ⊎ IsTooWideClaim (held auction) r)) (sym (first-at won c.index-won-0.result some c.index-won-0.is)) c.only.ensures.refuses
+    subst (λ (first : Winners). IfErr c.only.result (λ r. Refuses (claims_told (held auction) first (held auction).uniques (held auction).ties) r ⊎ IsTooWideClaim (held auction) r)) (sym (first-at won c.index-won-0.result some c.index-won-0.is)) c.only.ensures.refuses
 
 pub tie-requires-clause-won : goal.tie-requires-clause-won
 tie-requires-clause-won g c κs within =
@@ -51,12 +51,12 @@ returns-then-ties-eq1-clause-told g c =
     let auction = c.args.auction.now in
     let won = c.args.won.now in
     let some = (wins-first (held auction) won c.requires).2 in
-    subst (λ (first : Winners). IfOk c.tie.result (λ claim. claim_told (held auction) first ≡ Ok claim)) (sym (first-at won c.index-won-0-then-ties-eq1.result some c.index-won-0-then-ties-eq1.is)) c.tie.ensures.told
+    subst (λ (first : Winners). IfOk c.tie.result (λ claim. claims_told (held auction) first (held auction).uniques (held auction).ties ≡ Ok claim)) (sym (first-at won c.index-won-0-then-ties-eq1.result some c.index-won-0-then-ties-eq1.is)) c.tie.ensures.told
 
 pub returns-then-ties-eq1-clause-refuses : goal.returns-then-ties-eq1-clause-refuses
 returns-then-ties-eq1-clause-refuses g c =
     let auction = c.args.auction.now in
     let won = c.args.won.now in
     let some = (wins-first (held auction) won c.requires).2 in
-    refused-or-wide c.tie.result (claim_told (held auction) (slice_index_or won 0 [])) (IsTooWideClaim (held auction))
-    (subst (λ (first : Winners). IfErr c.tie.result (Refuses (claim_told (held auction) first))) (sym (first-at won c.index-won-0-then-ties-eq1.result some c.index-won-0-then-ties-eq1.is)) c.tie.ensures.refuses)
+    refused-or-wide c.tie.result (claims_told (held auction) (slice_index_or won 0 []) (held auction).uniques (held auction).ties) (IsTooWideClaim (held auction))
+    (subst (λ (first : Winners). IfErr c.tie.result (Refuses (claims_told (held auction) first (held auction).uniques (held auction).ties))) (sym (first-at won c.index-won-0-then-ties-eq1.result some c.index-won-0-then-ties-eq1.is)) c.tie.ensures.refuses)

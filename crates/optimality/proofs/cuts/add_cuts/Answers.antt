@@ -1,7 +1,7 @@
 use Rattle.std.proofs.Common.{◌<◌, ◌≤◌, ◌+◌, ◌*◌, ◌^◌, get_or, length, pos, rules, subst, ℕ}
 use Rattle.std.specs.Prelude.{◌*ℤ◌, unsigned_abs}
 use Rattle.optimality.specs.Certificates.{Cut, number_in}
-use Rattle.optimality.specs.Sizes.{form_size}
+use Rattle.optimality.specs.inside.Sizes.{form_size}
 use Rattle.optimality.specs.declared.open_split.OpenSplit.{OpenSplit}
 use Rattle.optimality.specs.inside.Adding.{AreGivenMore, form_given, number_at}
 use Rattle.optimality.specs.inside.Holding.{cut_of}

@@ -6,7 +6,8 @@ use Rattle.optimality.specs.Certificates.{Form}
 use Rattle.optimality.specs.inside.Adding.{number_at, cuts_given, form_at, rows_given}
 use Rattle.optimality.specs.inside.Holding.{cuts_of}
 use Rattle.optimality.specs.inside.RowForms.{forms_held, row_forms}
-use Rattle.optimality.specs.Sizes.{form_size, size_of}
+use Rattle.optimality.specs.Sizes.{size_of}
+use Rattle.optimality.specs.inside.Sizes.{form_size}
 use Rattle.optimality.proofs.ColumnSizes.{given-reached}
 use Rattle.optimality.proofs.StopLaws.{too-large-weaker}
 use Rattle.optimality.proofs.leaf_value.reduce.Goals as goal

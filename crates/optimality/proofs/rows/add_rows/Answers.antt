@@ -1,7 +1,7 @@
 use Rattle.std.proofs.Common.{◌*◌, get_or, pos, rules, ℕ, ℤ}
 use Rattle.std.specs.Prelude.{◌*ℤ◌, unsigned_abs}
 use Rattle.optimality.specs.Certificates.{number_in}
-use Rattle.optimality.specs.Sizes.{form_size}
+use Rattle.optimality.specs.inside.Sizes.{form_size}
 use Rattle.optimality.specs.inside.Adding.{form_at, number_at}
 use Rattle.std.proofs.lemmas.Int.{to_z-of_z}
 use mir.Syntax.{w128}
