@@ -1,11 +1,11 @@
 """Edits that must fail, tried many at a time.
 
 A proof goes by the contracts of what a function calls, so a wrong body opens goals of its own function alone. A batch has at
-most one edit of each function, in one check of these functions and of those that they call, which tells which goals of each
-are open. An edit is refused where its own function has an open goal of a promise: what it ensures, an invariant, or what a
-callee requires. Where a function without an edit has an open goal, or the check tells nothing of one with an edit, a batch tells
-nothing, and its halves are tried. What a batch doesn't tell, as of a function whose callee has an edit too, is tried with the
-next one, and at last alone.
+most one edit of each function, and none of one that another function of the batch calls. One check of these functions and of
+those that they call tells which goals of each are open. An edit is refused where its own function has an open goal of a
+promise: what it ensures, an invariant, or what a callee requires. Where a function without an edit has an open goal, or the
+check tells nothing of one with an edit, a batch tells nothing, and its halves are tried. What a batch doesn't tell is tried
+alone.
 
 The other functions of a crate that was just proved aren't proved once more: what they state is taken, by a hole in the place of
 each one's proof. A wrong body changes no contract, so none of them can break by it.
@@ -248,8 +248,6 @@ class Trial:
         self.faults = {path: fault_of(path) for path in edits}
         self.edits = [edit_of(path, folder, self.faults[path]) for path in edits]
         self.answers, self.checks, self.tried_alone = {}, 0, 0
-        # what the halves of batches left over: tried with none again
-        self.apart = set()
 
     def name_of(self, edit, told):
         """The check's name of an edit's function, where it has just one."""
@@ -314,7 +312,6 @@ class Trial:
                 texts = changed
                 tried.append(edit)
         if len(tried) < 2:
-            self.apart.update(edit.path for edit in tried)
             return
         self.checks += 1
         told = goals_in(self.checked(texts, tried))
@@ -397,12 +394,10 @@ class Trial:
         if not self.is_proved:
             self.try_without()
         left = [edit for edit in self.edits if edit.is_in_one_body and edit.path not in self.answers]
+        # (what a batch doesn't tell, another one wouldn't tell either)
         while len(batch := batch_of(left, self.calls)) > 1:
             self.try_batch(batch)
-            waiting = [edit for edit in batch if edit.path not in self.answers and edit.path not in self.apart]
-            if len(waiting) == len(batch):
-                break
-            left = waiting + [edit for edit in left if edit not in batch]
+            left = [edit for edit in left if edit not in batch]
         for edit in self.edits:
             if edit.path not in self.answers:
                 self.try_alone(edit)
