@@ -1,8 +1,8 @@
-use crate::worked::RULES_OF_ONE;
-use auction_terms::{Choice, Kept, read_rules};
+use crate::worked::{RULES_OF_ONE, without_bids};
+use auction_terms::Choice;
 use indexmap::IndexSet;
 use mps_reader::read_program;
-use program_rows::{Bounds, Columns, NameSet, Point, Seeded, build, place_of, same_program};
+use program_rows::{Bounds, Columns, NameSet, Point, Program, Seeded, place_of, same_program};
 use std::cell::Cell;
 use std::test::Fail;
 
@@ -13,14 +13,19 @@ const TWO_BIDS: &[u8] =
 
 #[test]
 fn without_bids_the_categories_have_their_rows(rt: HostRuntime) -> Result<(), Fail> {
-    let Ok(rules) = read_rules(rt.alloc(), RULES_OF_ONE) else {
-        return Err(Fail::from("the rules"));
-    };
-    let program = build(rt.alloc(), &rules, &Kept::new(Vec::new(rt.alloc())))?;
-    assert_eq!(rt; program.row_count(), 2);
-    assert_eq!(rt; program.row_name(1), b"C2".as_slice());
+    let program = without_bids(rt.alloc(), RULES_OF_ONE)?;
+    assert!(rt; program.row_count() == 2 && program.row_name(1) == b"C2".as_slice());
     assert!(rt; same_program(&program, &program));
     Ok(())
+}
+
+/// Whether each name has its place, whichever is looked for first, and a name that isn't there none.
+fn are_found(names: &NameSet) -> bool {
+    let next = Cell::new(0);
+    place_of(names, &next, b"X1_2") == Some(1)
+        && place_of(names, &next, b"X2_1") == Some(2)
+        && place_of(names, &next, b"X1_1") == Some(0)
+        && place_of(names, &next, b"X3_1").is_none()
 }
 
 #[test]
@@ -29,11 +34,7 @@ fn names_are_found_in_any_order(rt: HostRuntime) -> Result<(), Fail> {
     names.insert(b"X1_1")?;
     names.insert(b"X1_2")?;
     names.insert(b"X2_1")?;
-    let next = Cell::new(0);
-    assert_eq!(rt; place_of(&names, &next, b"X1_2"), Some(1));
-    assert_eq!(rt; place_of(&names, &next, b"X2_1"), Some(2));
-    assert_eq!(rt; place_of(&names, &next, b"X1_1"), Some(0));
-    assert_eq!(rt; place_of(&names, &next, b"X3_1"), None);
+    assert!(rt; are_found(&names));
     Ok(())
 }
 
@@ -42,8 +43,7 @@ fn columns_lie_side_by_side(rt: HostRuntime) -> Result<(), Fail> {
     let mut columns = Columns::new(rt.alloc());
     columns.push(b"X1_1", Bounds::ZeroOrOne, -30, &[(0, 1), (2, 1)])?;
     columns.push(b"K", Bounds::One, 7, &[])?;
-    assert_eq!(rt; columns.len(), 2);
-    assert_eq!(rt; columns.column(1).name, b"K".as_slice());
+    assert!(rt; columns.len() == 2 && columns.column(1).name == b"K".as_slice());
     Ok(())
 }
 
@@ -54,6 +54,13 @@ fn a_point_tells_its_values(rt: HostRuntime) -> Result<(), Fail> {
     Ok(())
 }
 
+/// Whether a column of this name spells this bid, or none.
+fn spells(program: &Program, column: usize, name: &[u8], bid: Option<Choice>) -> bool {
+    column < program.column_count()
+        && program.column_name(column) == name
+        && program.column_bid(column) == bid
+}
+
 #[test]
 fn names_spell_bids(rt: HostRuntime) -> Result<(), Fail> {
     let greatest = Choice {
@@ -61,10 +68,7 @@ fn names_spell_bids(rt: HostRuntime) -> Result<(), Fail> {
         bid: 4000,
     };
     let program = read_program(rt.alloc(), TWO_BIDS)?;
-    assert_eq!(rt; program.column_count(), 2);
-    assert_eq!(rt; program.column_name(0), b"X256_4000".as_slice());
-    assert!(rt; program.column_bid(0) == Some(greatest));
-    assert_eq!(rt; program.column_name(1), b"X01_1".as_slice());
-    assert!(rt; program.column_bid(1).is_none());
+    assert!(rt; spells(&program, 0, b"X256_4000", Some(greatest)));
+    assert!(rt; program.column_count() == 2 && spells(&program, 1, b"X01_1", None));
     Ok(())
 }

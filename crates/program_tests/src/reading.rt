@@ -1,5 +1,6 @@
 use mps_reader::read_program;
 use program_rows::{FaultKind, same_program};
+use std::alloc::Global;
 use std::test::Fail;
 
 mod refused;
@@ -37,26 +38,33 @@ fn reads_a_program(rt: HostRuntime) -> Result<(), Fail> {
     Ok(())
 }
 
+/// Whether a text tells the same program as another one.
+fn are_alike(alloc: Global, text: &[u8], other: &[u8]) -> Result<bool, Fail> {
+    let program = read_program(alloc, text)?;
+    let other = read_program(alloc, other)?;
+    Ok(same_program(&program, &other))
+}
+
+/// Whether the program of a text has so many rows, and first the one of this name.
+fn begins_with(alloc: Global, text: &[u8], rows: usize, name: &[u8]) -> Result<bool, Fail> {
+    let program = read_program(alloc, text)?;
+    Ok(0 < program.row_count() && program.row_count() == rows && program.row_name(0) == name)
+}
+
 #[test]
 fn reads_a_text_made_elsewhere(rt: HostRuntime) -> Result<(), Fail> {
-    let program = read_program(rt.alloc(), FOREIGN)?;
-    let plain = read_program(rt.alloc(), PLAIN)?;
-    assert!(rt; same_program(&program, &plain));
-    assert!(rt; same_program(&plain, &program));
+    assert!(rt; are_alike(rt.alloc(), FOREIGN, PLAIN)?);
+    assert!(rt; are_alike(rt.alloc(), PLAIN, FOREIGN)?);
     Ok(())
 }
 
 #[test]
 fn reads_one_program_in_any_order(rt: HostRuntime) -> Result<(), Fail> {
-    let program = read_program(rt.alloc(), TWO_COLUMNS)?;
-    let turned = read_program(rt.alloc(), TWO_COLUMNS_TURNED)?;
-    assert!(rt; program.row_count() == 3 && turned.row_count() == 3);
-    assert_eq!(rt; program.row_name(0), b"B1".as_slice());
-    assert_eq!(rt; turned.row_name(0), b"C1".as_slice());
-    assert!(rt; same_program(&program, &turned));
-    let other = read_program(rt.alloc(), OTHER_COLUMNS)?;
-    assert!(rt; !same_program(&program, &other));
-    assert!(rt; !same_program(&other, &program));
+    assert!(rt; begins_with(rt.alloc(), TWO_COLUMNS, 3, b"B1")?);
+    assert!(rt; begins_with(rt.alloc(), TWO_COLUMNS_TURNED, 3, b"C1")?);
+    assert!(rt; are_alike(rt.alloc(), TWO_COLUMNS, TWO_COLUMNS_TURNED)?);
+    assert!(rt; !are_alike(rt.alloc(), TWO_COLUMNS, OTHER_COLUMNS)?);
+    assert!(rt; !are_alike(rt.alloc(), OTHER_COLUMNS, TWO_COLUMNS)?);
     Ok(())
 }
 

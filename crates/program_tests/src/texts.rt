@@ -1,11 +1,10 @@
 ghost use Rattle.std.specs.Prelude.{None};
 
-use crate::worked::RULES_OF_ONE;
-use auction_terms::{Kept, Rules, read_rules};
+use crate::worked::{RULES_OF_ONE, without_bids};
 use mps_text::{
     BLOCK_LEN, LimitSink, MemorySink, Sink, SinkFailed, StdSink, WriteFault, Writer, write_program,
 };
-use program_rows::build;
+use program_rows::Program;
 use std::alloc::Global;
 use std::cell::Cell;
 use std::io;
@@ -48,54 +47,55 @@ impl Sink for Lengths {
 const TEXT: &[u8] =
     b"NAME wdp\nROWS\n N OBJ\n L C1\n L C2\nCOLUMNS\nRHS\n RHS C1 2\n RHS C2 1\nENDATA\n";
 
-fn rules(alloc: Global) -> Result<Rules, Fail> {
-    match read_rules(alloc, RULES_OF_ONE) {
-        Ok(rules) => Ok(rules),
-        Err(_) => Err(Fail::from("rules")),
-    }
+/// Whether a sink with room for so many bytes, and so many at a time, takes just the first bytes of the text of a program, which
+/// is `TEXT`.
+fn is_cut_short(alloc: Global, program: &Program, room: usize, each: usize) -> Result<bool, Fail> {
+    let mut sink = LimitSink::new(alloc, room, each)?;
+    let told = write_program(program, &mut sink);
+    Ok(
+        told == Err(WriteFault::Sink {
+            written: room as u64,
+        }) && room < TEXT.len()
+            && sink.bytes() == &TEXT[..room],
+    )
+}
+
+/// Whether a sink with room for the whole text of a program, which is `TEXT`, takes it.
+fn is_taken(alloc: Global, program: &Program) -> Result<bool, Fail> {
+    let mut sink = LimitSink::new(alloc, TEXT.len(), 7)?;
+    Ok(write_program(program, &mut sink).is_ok() && sink.bytes() == TEXT)
+}
+
+/// Whether that text is written into a sink that grows.
+fn is_written(alloc: Global, program: &Program) -> bool {
+    let mut sink = MemorySink::new(alloc);
+    write_program(program, &mut sink).is_ok() && sink.bytes() == TEXT
 }
 
 #[test]
 fn a_program_without_columns_is_written(rt: HostRuntime) -> Result<(), Fail> {
-    let rules = rules(rt.alloc())?;
-    let program = build(rt.alloc(), &rules, &Kept::new(Vec::new(rt.alloc())))?;
-    let mut sink = MemorySink::new(rt.alloc());
-    assert!(rt; write_program(&program, &mut sink).is_ok());
-    assert_eq!(rt; sink.bytes(), TEXT);
+    let program = without_bids(rt.alloc(), RULES_OF_ONE)?;
+    assert!(rt; is_written(rt.alloc(), &program));
     Ok(())
 }
 
 #[test]
 fn a_sink_that_fails_holds_the_front(rt: HostRuntime) -> Result<(), Fail> {
-    let rules = rules(rt.alloc())?;
-    let program = build(rt.alloc(), &rules, &Kept::new(Vec::new(rt.alloc())))?;
-    let mut sink = LimitSink::new(rt.alloc(), 12, 3)?;
-    assert_eq!(rt;
-        write_program(&program, &mut sink),
-        Err(WriteFault::Sink { written: 12 })
-    );
-    assert_eq!(rt; sink.bytes(), b"NAME wdp\nROW".as_slice());
+    let program = without_bids(rt.alloc(), RULES_OF_ONE)?;
+    assert!(rt; is_cut_short(rt.alloc(), &program, 12, 3)?);
     Ok(())
 }
 
 #[test]
 fn a_sink_fails_after_each_number_of_bytes(rt: HostRuntime) -> Result<(), Fail> {
-    let rules = rules(rt.alloc())?;
-    let program = build(rt.alloc(), &rules, &Kept::new(Vec::new(rt.alloc())))?;
+    let program = without_bids(rt.alloc(), RULES_OF_ONE)?;
     for room in 0..TEXT.len() {
-        let mut sink = LimitSink::new(rt.alloc(), room, 7)?;
-        let told = write_program(&program, &mut sink);
         assert!(rt;
-            told == Err(WriteFault::Sink {
-                written: room as u64
-            }),
+            is_cut_short(rt.alloc(), &program, room, 7)?,
             "room for {room}"
         );
-        assert_eq!(rt; sink.bytes(), &TEXT[..room]);
     }
-    let mut sink = LimitSink::new(rt.alloc(), TEXT.len(), 7)?;
-    assert!(rt; write_program(&program, &mut sink).is_ok());
-    assert_eq!(rt; sink.bytes(), TEXT);
+    assert!(rt; is_taken(rt.alloc(), &program)?);
     Ok(())
 }
 

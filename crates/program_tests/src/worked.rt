@@ -4,8 +4,10 @@ ghost use Rattle.std.specs.Prelude.{◌≡◌, IfOk};
 ghost use Rattle.program_rows.specs.declared.row.RowKind.TheVariants.{AtMost};
 ghost use Rattle.program_rows.specs.Parts.{shown_row};
 
-use program_rows::{Row, RowKind};
+use auction_terms::{Kept, read_rules};
+use program_rows::{Program, Row, RowKind, build};
 use std::alloc::{AllocError, Global};
+use std::test::Fail;
 
 /// The worked rules of the first bidder alone.
 pub const RULES_OF_ONE: &[u8] =
@@ -21,4 +23,10 @@ pub fn row(alloc: Global, name: &[u8], most: i64) -> Result<Row, AllocError>
         kind: RowKind::AtMost,
         right_side: most,
     })
+}
+
+/// The program of rules, without a bid.
+pub fn without_bids(alloc: Global, rules: &[u8]) -> Result<Program, Fail> {
+    let rules = read_rules(alloc, rules)?;
+    Ok(build(alloc, &rules, &Kept::new(Vec::new(alloc)))?)
 }

@@ -1,8 +1,8 @@
 //! What is built where any one growth is refused (see tools/refuse_calls): nothing, since memory was short, or what is built
 //! with ample memory. Programs with bids are built so by group_compiler's tests.
 
-use auction_terms::{Kept, read_rules};
-use program_rows::{Bounds, Columns, Program, RowKind, build};
+use crate::worked::without_bids;
+use program_rows::{Bounds, Columns, Program, RowKind};
 use std::test::Fail;
 
 const WITH_VALUES: &[u8] =
@@ -19,27 +19,32 @@ fn is_row(program: &Program, place: usize, name: &[u8], most: i64) -> bool {
         && program.right_side(place) == most
 }
 
+/// Whether the first rows are those of the two categories.
+fn begins_with_categories(program: &Program) -> bool {
+    is_row(program, 0, b"C1", 2) && is_row(program, 1, b"C2", 1)
+}
+
+/// Whether the only column is the fixed one of the value of all lots.
+fn has_the_column_of_values(program: &Program) -> bool {
+    program.column_count() == 1
+        && program.column_name(0) == b"K".as_slice()
+        && program.bounds(0) == Bounds::One
+        && program.cost(0) == -80
+}
+
 #[test]
 fn a_program_with_values_or_want_of_memory(rt: HostRuntime) -> Result<(), Fail> {
-    let rules = read_rules(rt.alloc(), WITH_VALUES)?;
-    let program = build(rt.alloc(), &rules, &Kept::new(Vec::new(rt.alloc())))?;
-    assert_eq!(rt; program.row_count(), 2);
-    assert!(rt; is_row(&program, 0, b"C1", 2) && is_row(&program, 1, b"C2", 1));
-    assert_eq!(rt; program.column_count(), 1);
-    assert_eq!(rt; program.column_name(0), b"K".as_slice());
-    assert_eq!(rt; program.bounds(0), Bounds::One);
-    assert_eq!(rt; program.cost(0), -80);
+    let program = without_bids(rt.alloc(), WITH_VALUES)?;
+    assert!(rt; program.row_count() == 2 && begins_with_categories(&program));
+    assert!(rt; has_the_column_of_values(&program));
     Ok(())
 }
 
 #[test]
 fn a_program_with_pools_or_want_of_memory(rt: HostRuntime) -> Result<(), Fail> {
-    let rules = read_rules(rt.alloc(), WITH_POOLS)?;
-    let program = build(rt.alloc(), &rules, &Kept::new(Vec::new(rt.alloc())))?;
-    assert_eq!(rt; program.row_count(), 3);
-    assert!(rt; is_row(&program, 0, b"C1", 2) && is_row(&program, 1, b"C2", 1));
-    assert!(rt; is_row(&program, 2, b"P1", 2));
-    assert_eq!(rt; program.column_count(), 0);
+    let program = without_bids(rt.alloc(), WITH_POOLS)?;
+    assert!(rt; program.row_count() == 3 && begins_with_categories(&program));
+    assert!(rt; is_row(&program, 2, b"P1", 2) && program.column_count() == 0);
     Ok(())
 }
 
@@ -55,18 +60,18 @@ fn is_appended(columns: &mut Columns, name: &[u8], cost: i64, entries: &[(usize,
         }
         let _ = columns.push(name, Bounds::ZeroOrOne, cost, entries);
     }
-    is_last(columns, count, name, cost, entries)
+    columns.len().wrapping_sub(1) == count && is_column(columns, count, name, cost, entries)
 }
 
-/// Whether this column stands at a place, and none behind it.
-fn is_last(
+/// Whether this column stands at a place.
+fn is_column(
     columns: &Columns,
     place: usize,
     name: &[u8],
     cost: i64,
     entries: &[(usize, i64)],
 ) -> bool {
-    if columns.len().wrapping_sub(1) != place || place >= columns.len() {
+    if place >= columns.len() {
         return false;
     }
     let column = columns.column(place);
@@ -86,9 +91,6 @@ fn columns_or_want_of_memory(rt: HostRuntime) -> Result<(), Fail> {
             "at {cost}"
         );
     }
-    assert_eq!(rt; columns.len(), 20);
-    let first = columns.column(0);
-    assert_eq!(rt; first.name, b"X1_1".as_slice());
-    assert!(rt; first.cost == 0 && first.entries == [(0usize, 1i64), (3, 2)].as_slice());
+    assert!(rt; columns.len() == 20 && is_column(&columns, 0, b"X1_1", 0, &[(0, 1), (3, 2)]));
     Ok(())
 }

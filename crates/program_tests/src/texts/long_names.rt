@@ -39,15 +39,28 @@ fn long_named(alloc: Global, count: usize) -> Result<Program, AllocError>
     }))
 }
 
+/// Whether a text tells a program.
+fn tells(alloc: Global, text: &[u8], program: &Program) -> Result<bool, Fail> {
+    let again = read_program(alloc, text)?;
+    Ok(same_program(program, &again))
+}
+
+/// Whether a program is written in pieces of a block at most, in so many bytes in all, and read again.
+fn is_read_again(alloc: Global, program: &Program, bytes: usize) -> Result<bool, Fail> {
+    let mut sink = Lengths::new(alloc);
+    Ok(
+        write_program(program, &mut sink).is_ok()
+            && sink.shortest >= 1
+            && sink.longest <= 65_536
+            && sink.text.bytes().len() == bytes
+            && tells(alloc, sink.text.bytes(), program)?,
+    )
+}
+
 #[test]
 fn a_name_of_70000_letters_is_read_again(rt: HostRuntime) -> Result<(), Fail> {
     let program = long_named(rt.alloc(), 70_000)?;
-    let mut sink = Lengths::new(rt.alloc());
-    assert!(rt; write_program(&program, &mut sink).is_ok());
-    assert!(rt; sink.shortest >= 1 && sink.longest <= 65_536);
     // The name stands in three lines, and 141 bytes beside it.
-    assert_eq!(rt; sink.text.bytes().len(), 210_141);
-    let again = read_program(rt.alloc(), sink.text.bytes())?;
-    assert!(rt; same_program(&program, &again));
+    assert!(rt; is_read_again(rt.alloc(), &program, 210_141)?);
     Ok(())
 }
