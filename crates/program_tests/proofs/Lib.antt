@@ -1,4 +1,3 @@
 mod Named
-mod OddCycle
 mod ThreeBidders
 mod LongName

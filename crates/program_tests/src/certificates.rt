@@ -1,7 +1,7 @@
-use crate::worked::row;
+use mps_reader::read_program;
 use optimality::{check_certificate, check_only, check_optimum};
 use program_faults::FaultKind;
-use program_rows::{Bounds, Columns, Point, Program, ProgramParts};
+use program_rows::{Point, Program};
 use std::alloc::{AllocError, Global};
 use std::test::Fail;
 
@@ -10,23 +10,9 @@ mod refused;
 // That no point of the odd cycle lies below 3.
 const SHOWN: &[u8] = b"# X1 is 0, or it is 1\nsplit 0 X1 1\n\nbound 1 2 B 2\nbound 1 2 A1 2 A2 2\n";
 
-/// Three columns, any two of which exclude one another, and a fixed one: half of each is the best of the fractions, at 2.
-fn odd_cycle(alloc: Global) -> Result<Program, AllocError> {
-    let mut rows = Vec::new(alloc);
-    rows.push(row(alloc, b"A1", 1)?)?;
-    rows.push(row(alloc, b"A2", 1)?)?;
-    rows.push(row(alloc, b"B", 1)?)?;
-    let mut columns = Columns::new(alloc);
-    columns.push(b"X1", Bounds::ZeroOrOne, -2, &[(0, 1), (1, 1)])?;
-    columns.push(b"X2", Bounds::ZeroOrOne, -2, &[(0, 1), (2, 1)])?;
-    columns.push(b"X3", Bounds::ZeroOrOne, -2, &[(1, 1), (2, 1)])?;
-    columns.push(b"K", Bounds::One, 5, &[])?;
-    Ok(Program::from_parts(ProgramParts {
-        objective_name: Vec::from_slice(alloc, b"OBJ")?,
-        rows,
-        columns,
-    }))
-}
+// Three columns, any two of which exclude one another, and a fixed one: half of each is the best of the fractions, at 2.
+const ODD_CYCLE: &[u8] =
+    b"NAME odd\nROWS\n N OBJ\n L A1\n L A2\n L B\nCOLUMNS\n M1 'MARKER' 'INTORG'\n X1 OBJ -2\n X1 A1 1\n X1 A2 1\n X2 OBJ -2\n X2 A1 1\n X2 B 1\n X3 OBJ -2\n X3 A2 1\n X3 B 1\n K OBJ 5\n M2 'MARKER' 'INTEND'\nRHS\n RHS A1 1\n RHS A2 1\n RHS B 1\nBOUNDS\n BV BND X1\n BV BND X2\n BV BND X3\n FX BND K 1\nENDATA\n";
 
 /// What a trial of the odd cycle tells. Where the program stands in a function of its own, what the test goes on with is
 /// proved without it (docs/DEVELOPING.md, "Add a test").
@@ -36,7 +22,7 @@ fn on_odd_cycle<F: FnOnce(&Program) -> Result<bool, Fail> + Drop>(
 ) -> Result<bool, Fail>
     requires { F.IsAlwaysCallable trial }
 {
-    let program = odd_cycle(alloc)?;
+    let program = read_program(alloc, ODD_CYCLE)?;
     trial(&program)
 }
 
