@@ -6,15 +6,19 @@ from concurrent.futures import FIRST_COMPLETED, ThreadPoolExecutor, wait
 
 # A check splits its work well among so many processes.
 MOST_JOBS = 4
+# The proof of the crate with the longest chain behind it is begun with so many at least.
+LEAST_JOBS_OF_THE_LONGEST = 3
 # What each further process of a check takes of the memory of the first.
 MEMORY_OF_A_JOB = 0.6
+# What a check takes before it proves anything, in lines: it reads the crate and all libraries below it.
+LINES_OF_A_START = 400
 
 
 def chains(tasks):
     """How much work is behind each task: its own, and that of the longest chain of tasks that wait for it."""
     behind = dict.fromkeys(tasks, 0)
     for key in reversed([*tasks]):
-        behind[key] += tasks[key][1]
+        behind[key] += tasks[key][1] and tasks[key][1] + LINES_OF_A_START
         for it in tasks[key][0]:
             behind[it] = max(behind[it], behind[key])
     return behind
@@ -52,16 +56,15 @@ class Lanes:
     """Runs tasks side by side. Proofs of crates come first, those with the longest chain behind them before others; tests and
     edits, which none waits for, run beside them at a low priority, on what they leave idle.
 
-    Each further process of a check reads the crate anew (`bid_book` takes 76 s of processor time with one, 103 with four), and
-    parts of a check are done by one alone. So proofs have as many processes as there are processors where tests and edits use what
-    they leave idle, and twice as many where nothing does.
+    Each further process of a check reads the crate anew (`bid_book` takes 76 s of processor time with one, 103 with four). So
+    proofs have as many processes as there are processors; but what the longest chain waits for is begun with three at least, as if
+    it had its share.
     A task is what it waits for, its work in lines, its memory, and a call that gets what was given and how many jobs it may use.
     """
 
     def __init__(self, tasks, processors, memory):
         self.tasks, self.processors, self.memory = tasks, processors, memory
         self.behind = chains(tasks)
-        self.has_fillers = any(is_filler(key) and tasks[key][1] for key in tasks)
         # (a line of tests takes longer than one of a crate whose edits are tried)
         self.left = sorted(tasks, key=lambda key: (key[1] == "edits", -self.behind[key]))
         self.running, self.given = {}, {}
@@ -87,30 +90,38 @@ class Lanes:
     def needed(self, key, jobs):
         return self.tasks[key][2] * (1 + MEMORY_OF_A_JOB * (jobs - 1))
 
-    def start(self, pool, key, jobs):
+    def start(self, pool, key, jobs, share):
         _, work, _, call = self.tasks[key]
         self.left.remove(key)
         run = timed(key, call) if work else call
-        self.running[pool.submit(run, self.given, max(jobs, 1))] = key, jobs if work else 0, self.needed(key, jobs) if work else 0
+        self.running[pool.submit(run, self.given, max(jobs, 1))] = key, share if work else 0, self.needed(key, jobs) if work else 0
+
+    def is_longest(self, key):
+        """Whether a proof has a longer chain behind it than those at work and those that wait."""
+        at_work = [it for it, _, _ in self.running.values() if not is_filler(it)]
+        waiting = [it for it in self.left if not is_filler(it)]
+        return not is_filler(key) and self.behind[key] >= max((self.behind[it] for it in waiting), default=0) and (
+            self.behind[key] > max((self.behind[it] for it in at_work), default=0))
 
     def start_all(self, pool, fills, most):
         """Starts what is ready, as many tasks as there are processors, with so many jobs in all at most."""
         ready = self.ready(fills)
         for key in [key for key in ready if not self.tasks[key][1]]:
-            self.start(pool, key, 1)
+            self.start(pool, key, 1, 1)
         ready = [key for key in ready if self.tasks[key][1]]
         while ready and (idle := most - sum(self.at_work(fills))) > 0 and (places := self.processors - len(self.at_work(fills))) > 0:
             # the one with the most behind it gets what is left over
             wanted = min(self.processors, -(-idle // min(len(ready), places)))
             key = ready.pop(0)
-            jobs = self.fitting(key, min(most_jobs(key), wanted))
+            least = LEAST_JOBS_OF_THE_LONGEST if self.is_longest(key) else 1
+            jobs = self.fitting(key, min(most_jobs(key), self.processors, max(wanted, least)))
             if jobs:
-                self.start(pool, key, jobs)
+                self.start(pool, key, jobs, min(jobs, wanted))
 
     def run(self):
         with ThreadPoolExecutor(len(self.tasks)) as proofs, ThreadPoolExecutor(len(self.tasks), initializer=step_back) as fillers:
             while self.left or self.running:
-                self.start_all(proofs, False, self.processors * (1 if self.has_fillers else 2))
+                self.start_all(proofs, False, self.processors)
                 self.start_all(fillers, True, self.processors)
                 if not self.running:
                     raise ValueError("tasks that wait for one another: %s" % self.left)
