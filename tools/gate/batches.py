@@ -1,9 +1,11 @@
 """Edits that must fail, tried many at a time.
 
-A proof goes by the contracts of what a function calls, so a wrong body opens goals of its own function alone. A batch has at
-most one edit of each function, and none of one that another function of the batch calls. One check of these functions and of
-those that they call tells which goals of each are open. An edit is refused where its own function has an open goal of a
-promise: what it ensures, an invariant, or what a callee requires. Where a function without an edit has an open goal, or the
+A proof goes by the contracts of what a function calls, so a wrong body opens goals of its own function alone. Each edit is tried
+in a copy of its function (gate.copies), many copies in one check, which tells which goals of each are open. An edit is refused
+where its own function has an open goal of a promise: what it ensures, an invariant, or what a callee requires.
+
+What has no copy, or what a check of copies doesn't tell, is tried in its place, in batches: a batch has at most one edit of each
+function, and none of one that another function of the batch calls. Where a function without an edit has an open goal, or the
 check tells nothing of one with an edit, a batch tells nothing, and its halves are tried. What a batch doesn't tell is tried
 alone.
 
@@ -19,8 +21,10 @@ import shutil
 import subprocess
 import tempfile
 import time
+from collections import Counter
 from dataclasses import dataclass, field
 
+from gate.copies import copy_of, proofs_of, with_copies
 from gate.sources import functions_of
 from gate.toolchain import is_refused
 
@@ -43,6 +47,8 @@ PROOF = "/Proof.antt"
 NO_HOLE = re.compile(r"^(?:\./)?(proofs/\S+/Proof\.antt):(?:\d+:\d+:)? error", re.M)
 # What is proved, where holes are allowed in what it stands on.
 PROVED = ("proved", "no holes", "depends on a hole")
+# So many copies stand in one check: with more, a crate's last check would go on with the processors that it began with.
+MOST_COPIES = 24
 # What a goal is of, by its name: `returns-in-Some-clause-answer`, `loop-row-preserved`, `push-requires`, `invariant_of-result`.
 PROMISES = re.compile(r"^(returns|loop-|invariant_of|decreases)|-requires(-|$)")
 
@@ -69,6 +75,8 @@ class Told:
     goals: list = field(default_factory=list)
     # the goals whose answers name what is gone
     lost: list = field(default_factory=list)
+    # the lines of answers that do
+    gone: list = field(default_factory=list)
 
 
 def read(path):
@@ -235,15 +243,35 @@ def without(text, goals):
     return text
 
 
+def lines_of_what_is_gone(said, name):
+    """The lines of a function's answers that name what isn't there."""
+    error = re.compile(r"^(?:\./)?proofs/%s/Answers\.antt:(\d+):\d+: error: (.*)$" % re.escape(name.replace("::", "/")), re.M)
+    return [int(line) for line, why in error.findall(said) if LOST.search(re.sub(r"`[^`]*`", "``", why))]
+
+
+def without_lines(text, lines):
+    """Answers without those that have one of these lines."""
+    kept, at = [], 1
+    for piece in re.split(r"(?m)^(?=pub |use )", text):
+        behind = at + piece.count("\n")
+        if not any(at <= line < max(behind, at + 1) for line in lines) or piece.startswith("use "):
+            kept.append(piece)
+        at = behind
+    return "".join(kept)
+
+
 class Trial:
     """The trial of a crate's edits. `check(texts, functions)` is what a check of the crate says with these texts in place of its
     own (None for a file that isn't there), of these functions and what they call, or of all where none is named; `fault_of(path)`
     says why an edit can't be applied, or nothing. Where the crate wasn't proved just before, a check without edits has to prove
     the edited functions. `proved` are the check's names of functions that are proved without edits, behind the crate's. Where the
-    toolchain is asked, an edit that it refuses counts as refused although no promise is seen to refuse it, and says so."""
+    toolchain is asked, an edit that it refuses counts as refused although no promise is seen to refuse it, and says so. Copies are
+    made of functions that are proved."""
 
-    def __init__(self, crate, folder, edits, check, fault_of, is_proved=False, is_refused_by_toolchain=lambda path: False, proved=()):
+    def __init__(self, crate, folder, edits, check, fault_of, is_proved=False, is_refused_by_toolchain=lambda path: False, proved=(),
+                 in_copies=False):
         self.crate, self.folder, self.check, self.is_proved, self.proved = crate, folder, check, is_proved, list(proved)
+        self.in_copies, self.has_stubs = in_copies, True
         self.is_refused_by_toolchain = is_refused_by_toolchain
         self.faults = {path: fault_of(path) for path in edits}
         self.edits = [edit_of(path, folder, self.faults[path]) for path in edits]
@@ -251,12 +279,14 @@ class Trial:
 
     def name_of(self, edit, told):
         """The check's name of an edit's function, where it has just one."""
-        file, _ = edit.place
-        names = ([name for name in told if is_of(edit.function, module_of(file), name)]
-                 or [name for name in told if is_of(edit.function, None, name)])
+        return self.name_in(edit.place[0], edit.function, told)
+
+    def name_in(self, file, function, told):
+        """The check's name of a function of a file, where it has just one."""
+        names = [name for name in told if is_of(function, module_of(file), name)] or [name for name in told if is_of(function, None, name)]
         # (two blocks may have one name, if what their traits are given has)
         functions = functions_of(read(os.path.join(self.folder, file)))
-        alike = sum((it.name, it.owner) == (edit.function.name, edit.function.owner) for it in functions)
+        alike = sum((it.name, it.owner) == (function.name, function.owner) for it in functions)
         return names[0] if len(names) == 1 and alike == 1 else None
 
     def calls(self, edit, other):
@@ -279,15 +309,16 @@ class Trial:
                 texts.update({proof.replace(PROOF, file): None for file in ("/Answers.antt", "/Invariants.antt")})
         return texts
 
-    def said_of(self, texts, functions, edits):
-        """What a check says of these functions, with holes for the others where it takes them."""
+    def said_of(self, texts_of, functions, edits):
+        """What a check says of these functions, with holes for the others where it takes them. (`texts_of()` may go by what is
+        known to be proved.)"""
         while holes := self.holes(edits):
-            said = self.check({**holes, **texts}, functions)
+            said = self.check({**holes, **texts_of()}, functions)
             untaken = {path for path in NO_HOLE.findall(said) if path in holes}
             if not untaken:
                 return said
             self.proved = [name for name in self.proved if proof_of(name) not in untaken]
-        return self.check(texts, functions)
+        return self.check(texts_of(), functions)
 
     def checked(self, texts, edits):
         """What a check says of the functions of these edits and of those that they call, or of their modules' where a
@@ -298,7 +329,7 @@ class Trial:
                        for edit in edits)
         said = ""
         for paths in (names, modules if all(modules) else [], []):
-            said = self.said_of(texts, paths, edits)
+            said = self.said_of(lambda: texts, paths, edits)
             if SAID.search(said):
                 break
         return said
@@ -325,16 +356,72 @@ class Trial:
         for edit in tried:
             self.judge(edit, functions[edit.path], told)
 
+    def copies(self):
+        """A copy for each edit that can have one."""
+        made, numbers = [], Counter()
+        for edit in self.edits:
+            of = self.name_of(edit, self.proved) if edit.is_in_one_body and edit.path not in self.answers else None
+            if of:
+                numbers[of] += 1
+                made.append(copy_of(edit, of, numbers[of], self.folder))
+        return [copy for copy in made if copy]
+
+    def said_of_copies(self, copies, shorter):
+        """What a check says of copies, with these answers in place of theirs. What is unchanged has its statement alone, where the
+        check takes that."""
+        def is_stated(file, function):
+            return self.name_in(file, function, self.proved) is not None
+
+        names = [copy.name for copy in copies]
+        if self.has_stubs:
+            said = self.said_of(lambda: {**with_copies(copies, self.folder, is_stated), **shorter}, names, [])
+            if VERDICT.search(said):
+                return said
+        said = self.said_of(lambda: {**with_copies(copies, self.folder), **shorter}, names, [])
+        self.has_stubs = self.has_stubs and not VERDICT.search(said)
+        return said
+
+    def try_copies(self, copies):
+        """Judges the edits of copies by one check. Where it doesn't tell of each, halves are tried."""
+        self.checks += 1
+        told = self.judge_copies(copies, {})
+        if all(copy.name in told for copy in copies):
+            self.try_without_what_is_gone(copies, told)
+        elif len(copies) > 1:
+            # (what one of them stops isn't the fault of what is left out)
+            self.try_copies(copies[: len(copies) // 2])
+            self.try_copies(copies[len(copies) // 2:])
+
+    def judge_copies(self, copies, shorter):
+        said = self.said_of_copies(copies, shorter)
+        told = goals_in(said)
+        for copy in copies:
+            if copy.name in told:
+                told[copy.name].gone = lines_of_what_is_gone(said, copy.name)
+                self.judge(copy.edit, copy.name, told, copy.of)
+        return told
+
+    def try_without_what_is_gone(self, copies, told):
+        """Judges the copies whose answers name what their edit took away once more, without these answers."""
+        again = [copy for copy in copies if copy.edit.path not in self.answers and told[copy.name].gone]
+        shorter = {}
+        for copy in again:
+            path = "proofs/%s/Answers.antt" % copy.name.replace("::", "/")
+            shorter[path] = without_lines(proofs_of(copy, self.folder).get(path, ""), told[copy.name].gone)
+        if again:
+            self.checks += 1
+            self.judge_copies(again, shorter)
+
     def answer(self, edit, is_refused, why):
         label = "must-fail %s/%s" % (self.crate, os.path.basename(edit.path))
         self.answers[edit.path] = is_refused, "%s: %s" % (label, why)
 
-    def judge(self, edit, function, told):
-        """Says that an edit is refused, where a check tells so."""
+    def judge(self, edit, function, told, of=None):
+        """Says that an edit is refused, where a check tells so of its function, or of a copy of it."""
         promised = [goal for goal in goals_within(function, told) if PROMISES.search(goal)]
         if promised:
             more = ", and %d more" % (len(promised) - 1) if len(promised) > 1 else ""
-            self.answer(edit, True, "refused, as it must be, in %s: %s%s" % (function, told_of(promised[0]), more))
+            self.answer(edit, True, "refused, as it must be, in %s: %s%s" % (of or function, told_of(promised[0]), more))
 
     def try_alone(self, edit):
         """Judges an edit by a check of its own."""
@@ -393,6 +480,10 @@ class Trial:
                 self.answer(edit, False, "BAD EDIT: %s" % fault)
         if not self.is_proved:
             self.try_without()
+        copies = self.copies() if self.in_copies else []
+        while copies:
+            self.try_copies(copies[:MOST_COPIES])
+            copies = copies[MOST_COPIES:]
         left = [edit for edit in self.edits if edit.is_in_one_body and edit.path not in self.answers]
         # (what a batch doesn't tell, another one wouldn't tell either)
         while len(batch := batch_of(left, self.calls)) > 1:
@@ -441,7 +532,7 @@ def trial_of(rt, is_proved=False, share=None, proved_in=lambda crate: ()):
                 return said
 
             trial = Trial(crate.name, crate.folder, edits, check, lambda path: rt.read_edit(path, crate.folder)[1], is_proved,
-                          lambda path: is_proved and is_refused(rt, crate, path, flags), proved_in(crate))
+                          lambda path: is_proved and is_refused(rt, crate, path, flags), proved_in(crate), in_copies=True)
             started, answers = time.time(), trial.run()
         told = sum(is_refused for is_refused, _ in answers)
         rt.say("%s: %d of %d edits refused, in %d checks of many and %d of one, %d s, and of processor time %s"
