@@ -11,10 +11,10 @@ import sys
 # A check holds one to three GB, and takes a tenth less time where these lie in large pages.
 LARGE_PAGES = "MIMALLOC_ALLOW_LARGE_OS_PAGES", "1"
 # What is used of rt. A toolchain whose rt lacks one of them runs its gate as it is.
-USED = ("main", "in_lanes", "processors", "free", "must_fail", "read_edit", "edits_of", "say", "Crate.ci", "Crate.compile_by",
+USED = ("main", "in_lanes", "processors", "free", "must_fail", "read_edit", "edits_of", "say", "STORE", "own_sum", "Crate.ci", "Crate.compile_by",
         "rtlib.help_of", "rtlib.PARTS", "rtlib.RATTLE", "rtlib.guarded")
 # And what is used of one that makes tasks of edits.
-USED_FOR_TASKS = ("add_edits", "need", "REFUSED", "AT_LIMIT", "MISSED")
+USED_FOR_TASKS = ("add_edits", "need", "REFUSED", "AT_LIMIT", "MISSED", "Kept.key", "Kept.of_edit", "Kept.tried", "Kept.keep_tried", "Kept.is_untouched")
 
 
 def load():
@@ -53,11 +53,21 @@ def replace_trial(rt, must_fail_all):
 
 
 def one_task(rt, must_fail_all):
-    """What takes the place of `add_edits`: one task for all edits of a crate, once it is proved with its tests. Nothing is taken
-    from earlier trials."""
+    """What takes the place of `add_edits`: one task for all edits of a crate, once it is proved with its tests. An edit that an earlier
+    run on this machine refused, in the same crate over the same libraries, isn't tried again, as with the toolchain's own trial."""
     def add_edits(tasks, crate, edits, first, waits, is_well, kept, start=None, in_ci=True):
         def try_all(given, jobs):
-            return must_fail_all(crate, edits, ["--jobs", str(jobs)]) if edits and is_well(given, len(edits)) else []
+            if not edits or not is_well(given, len(edits)):
+                return []
+            names = {edit: name_of_trial(crate, edit, kept) for edit in edits}
+            known = {edit: kept.tried(name) for edit, name in names.items() if name}
+            left = [edit for edit in edits if not known.get(edit)]
+            tried = dict(zip(left, must_fail_all(crate, left, ["--jobs", str(jobs)]) if left else []))
+            if kept.is_untouched(crate):
+                for edit, (is_refused, text) in tried.items():
+                    if is_refused and names[edit]:
+                        kept.keep_tried(names[edit], rt.REFUSED, text)
+            return [tried[edit] if edit in tried else (True, known[edit][1]) for edit in edits]
 
         def results(given):
             return [(rt.REFUSED if refused else rt.MISSED, text) for refused, text in given[crate.name, "edits"]]
@@ -66,6 +76,15 @@ def one_task(rt, must_fail_all):
         return results, dict
 
     return add_edits
+
+
+def name_of_trial(crate, edit, kept):
+    """The name under which it is kept that an edit was refused: by all that the proof of its crate reads, and apart from what the
+    toolchain's own trial keeps. None where a file can't be read."""
+    try:
+        return kept.of_edit(edit, "tried with others, %s" % kept.key(crate))
+    except OSError:
+        return None
 
 
 def has(made, name):
