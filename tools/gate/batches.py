@@ -47,6 +47,8 @@ PROOF = "/Proof.antt"
 NO_HOLE = re.compile(r"^(?:\./)?(proofs/\S+/Proof\.antt):(?:\d+:\d+:)? error", re.M)
 # What is proved, where holes are allowed in what it stands on.
 PROVED = ("proved", "no holes", "depends on a hole")
+# How often answers that name what is gone are made shorter.
+MOST_TIMES = 4
 # So many copies stand in one check: with more, a crate's last check would go on with the processors that it began with.
 MOST_COPIES = 24
 # What a goal is of, by its name: `returns-in-Some-clause-answer`, `loop-row-preserved`, `push-requires`, `invariant_of-result`.
@@ -75,8 +77,8 @@ class Told:
     goals: list = field(default_factory=list)
     # the goals whose answers name what is gone
     lost: list = field(default_factory=list)
-    # the lines of answers that do
-    gone: list = field(default_factory=list)
+    # the lines of answers that do, and what imports name so
+    gone: tuple = ((), ())
 
 
 def read(path):
@@ -243,18 +245,23 @@ def without(text, goals):
     return text
 
 
-def lines_of_what_is_gone(said, name):
-    """The lines of a function's answers that name what isn't there."""
+def what_is_gone(said, name):
+    """The lines of a function's answers that name what isn't there, and what a line of imports names so."""
     error = re.compile(r"^(?:\./)?proofs/%s/Answers\.antt:(\d+):\d+: error: (.*)$" % re.escape(name.replace("::", "/")), re.M)
-    return [int(line) for line, why in error.findall(said) if LOST.search(re.sub(r"`[^`]*`", "``", why))]
+    lost = [(int(line), why) for line, why in error.findall(said) if LOST.search(re.sub(r"`[^`]*`", "``", why))]
+    return [line for line, _ in lost], [found[1] for _, why in lost if (found := re.match(r"module `[^`]+` has no `([^`]+)`$", why))]
 
 
-def without_lines(text, lines):
-    """Answers without those that have one of these lines."""
+def without_what_is_gone(text, lines, names):
+    """Answers without those that have one of these lines or names, and imports without these names."""
     kept, at = [], 1
     for piece in re.split(r"(?m)^(?=pub |use )", text):
         behind = at + piece.count("\n")
-        if not any(at <= line < max(behind, at + 1) for line in lines) or piece.startswith("use "):
+        if piece.startswith("use "):
+            named = re.match(r"(?s)(use [^{]*\{)([^}]*)(\}.*)", piece)
+            left = [it for it in named[2].split(", ") if it not in names] if named else []
+            kept.append(named[1] + ", ".join(left) + named[3] if left else "" if named else piece)
+        elif not any(at <= line < max(behind, at + 1) for line in lines) and not any(name in piece for name in names):
             kept.append(piece)
         at = behind
     return "".join(kept)
@@ -397,20 +404,25 @@ class Trial:
         told = goals_in(said)
         for copy in copies:
             if copy.name in told:
-                told[copy.name].gone = lines_of_what_is_gone(said, copy.name)
+                told[copy.name].gone = what_is_gone(said, copy.name)
                 self.judge(copy.edit, copy.name, told, copy.of)
         return told
 
     def try_without_what_is_gone(self, copies, told):
-        """Judges the copies whose answers name what their edit took away once more, without these answers."""
-        again = [copy for copy in copies if copy.edit.path not in self.answers and told[copy.name].gone]
+        """Judges the copies whose answers name what their edit took away once more, without these answers. (Of imports a check tells
+        one at a time.)"""
         shorter = {}
-        for copy in again:
-            path = "proofs/%s/Answers.antt" % copy.name.replace("::", "/")
-            shorter[path] = without_lines(proofs_of(copy, self.folder).get(path, ""), told[copy.name].gone)
-        if again:
+        for _ in range(MOST_TIMES):
+            copies = [copy for copy in copies if copy.edit.path not in self.answers and told[copy.name].gone[0]]
+            if not copies:
+                return
+            for copy in copies:
+                path = "proofs/%s/Answers.antt" % copy.name.replace("::", "/")
+                answers = shorter[path] if path in shorter else proofs_of(copy, self.folder).get(path, "")
+                shorter[path] = without_what_is_gone(answers, *told[copy.name].gone)
             self.checks += 1
-            self.judge_copies(again, shorter)
+            told = self.judge_copies(copies, shorter)
+            copies = [copy for copy in copies if copy.name in told]
 
     def answer(self, edit, is_refused, why):
         label = "must-fail %s/%s" % (self.crate, os.path.basename(edit.path))
