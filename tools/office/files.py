@@ -1,4 +1,7 @@
-"""An auction's files: the rules, a folder with a form of each bidder, and the groups; read as spreadsheets write them."""
+"""An auction's files: the rules, a folder with a form of each bidder, and the groups; read as spreadsheets write them.
+
+They are joined into one input, and what is wrong with that is wdp's word; here stands what only files have.
+"""
 from __future__ import annotations
 
 import hashlib
@@ -6,20 +9,22 @@ import os
 import re
 from dataclasses import dataclass, field
 
-from office import expected, forms, groups, limits, reading, rules, tables, texts, versions
+from office import accepted, expected, explaining, judge, limits, reading, tables, texts, versions
 from office.faults import Fault, Place, counted, shown
 
 ENDINGS = (".csv", ".tsv", ".txt")
 WORKBOOKS = (".xlsx", ".xlsm", ".xls", ".ods", ".numbers")
 # of all files of forms together: what an input may have, as UTF-16
 ALL_FORMS = 2 * limits.INPUT
+# how many fields a record of the rules has, by their version
+WIDTHS = {b"1": 5, b"2": 6, b"3": 6}
 WINNER = re.compile(rb"([A-Za-z][A-Za-z0-9]{0,15}) [0-9]+ [0-9]+")
 TOTAL = re.compile(rb"total [0-9]+")
 
 
 @dataclass
 class File:
-    """A file of the auction: its bytes while they are needed, and what they are turned into."""
+    """A file of the auction: its bytes, as long as places in it may be asked for, and what they are turned into."""
 
     path: str
     data: bytes = b""
@@ -32,28 +37,40 @@ class File:
     # the records as wdp reads them
     text: bytes = b""
 
+    def table(self, width_of, most):
+        return texts.table(self.data, width_of, most)
+
     def take(self, table):
-        """Keeps what the table's records are as wdp reads them, and gives the records."""
+        """Keeps what the table's records are as wdp reads them."""
         self.changes = table.changes
-        self.text = b"".join(tables.written([cell.text for cell in record]) for record in table.records)
-        self.data = b""
-        return table.records
+        self.text = b"".join(tables.written(row.values) for row in table.rows)
 
 
 @dataclass
 class Entry:
-    """The file of a bidder that counts, and its form, or None where that has a fault."""
+    """The file of a bidder that counts, and how many bids it has, None where wdp finds a fault in it."""
 
     file: File
-    form: forms.Form | None
+    bids: int | None = None
+
+
+@dataclass
+class Counting:
+    """A form's file that counts, and what is told of its end."""
+
+    file: File
+    faults: list = field(default_factory=list)
 
 
 @dataclass
 class Auction:
     """What the files tell, as far as they could be read, and everything that is wrong with them."""
 
+    wdp: str
     rules_file: File | None = None
-    rules: rules.Rules | None = None
+    rules: accepted.Rules | None = None
+    # the forms that count, in the order of the input: by their bidders' numbers, those of nobody behind them
+    counting: list = field(default_factory=list)
     # of each bidder, by its number, what counts
     forms: dict = field(default_factory=dict)
     # files that don't count since a later one does
@@ -61,14 +78,19 @@ class Auction:
     # names in the folder that aren't taken for forms
     not_read: list = field(default_factory=list)
     groups_file: File | None = None
-    groups_text: bytes = b""
+    # of each line that can stand in an input its number and its bytes
+    groups: list = field(default_factory=list)
     faults: list = field(default_factory=list)
+    # of each bid that is in no program the bidder's name and a line that tells why, where that is asked for
+    left_out: list = field(default_factory=list)
+    # the input that wdp explained
+    text: bytes = b""
 
     def fault(self, place, words):
         self.faults.append(Fault(place, words))
 
     def add(self, faults):
-        """Faults of a text, without the lines that wdp would have for them in one input."""
+        """Faults of a file, without the lines that wdp would have for them in one input."""
         self.faults += [Fault(fault.place, fault.words, count=fault.count) for fault in faults]
 
 
@@ -76,16 +98,23 @@ def file_of(path, data, modified=0):
     return File(path, data, modified, hashlib.sha256(data).hexdigest())
 
 
+def rules_width(first):
+    return WIDTHS.get(first[1] if len(first) > 1 else b"", len(first))
+
+
 def read_rules(path, auction):
     try:
         file = file_of(path, reading.content(path, texts.LARGEST_FILE))
-        records = file.take(texts.table(file.data, rules.width_of, rules.RECORDS))
+        table = file.table(rules_width, limits.RULES)
     except (reading.Unreadable, texts.NotText) as why:
         auction.fault(Place(path), str(why))
         return
+    file.take(table)
     auction.rules_file = file
-    auction.rules, faults = rules.read_rules(records, path)
-    auction.add(faults)
+    explained = judge.explained(auction.wdp, b"%rules\n" + file.text)
+    auction.add(explaining.faults_of(explained.faults, lambda line: explaining.Source(Place(path), lambda: table.rows), path, explained.more))
+    if not auction.faults:
+        auction.rules = accepted.rules_of(table.rows)
 
 
 def form_paths(folder, auction):
@@ -123,11 +152,11 @@ def read_form_file(path, width, auction):
     """A file of a form with its heading, or None with a fault where it can't be read."""
     try:
         file = file_of(path, *reading.regular(path, texts.LARGEST_FILE))
-        first = texts.table(file.data, lambda first: width, most=1).records
+        first = file.table(lambda first: width, most=1).rows
     except (reading.Unreadable, texts.NotText) as why:
         auction.fault(Place(path), str(why))
         return None
-    file.heading = first[0][0].text if first else b""
+    file.heading = first[0].values[0] if first else b""
     return file
 
 
@@ -189,38 +218,41 @@ def last_forms(found, choices, auction):
     return counting
 
 
-def check_end(file, table, choices, auction):
-    """A form that may have been cut off in its last row."""
+def check_end(file, table, choices):
+    """The faults of a form that may have been cut off in its last row."""
     name = file.heading.decode("utf-8", "replace")
     if table.unclosed:
-        auction.fault(Place(file.path, table.unclosed.line, table.unclosed.column), "the field's quote isn't closed")
-    elif not table.is_ended and name not in choices.allow_unended:
-        auction.fault(Place(file.path, table.records[-1][0].line), "the last row has no line end, as in a file "
-                      "that was cut off; say --allow-unended %s where it is whole" % name[:40])
-    elif table.is_ended and name in choices.allow_unended:
-        auction.fault(Place(file.path), "the last row has its line end; --allow-unended names %s" % name)
+        return [Fault(Place(file.path, *table.unclosed), "the field's quote isn't closed")]
+    if not table.is_ended and name not in choices.allow_unended:
+        return [Fault(Place(file.path, table.rows[-1].line), "the last row has no line end, as in a file "
+                      "that was cut off; say --allow-unended %s where it is whole" % name[:40])]
+    if table.is_ended and name in choices.allow_unended:
+        return [Fault(Place(file.path), "the last row has its line end; --allow-unended names %s" % name)]
+    return []
 
 
-def check_bids(file, form, choices, auction):
+def check_bids(entry, choices, auction):
     """A form without bids has to be named, and no other."""
-    name = file.heading.decode()
-    if not form.bids and name not in choices.allow_empty:
+    file, name = entry.file, entry.file.heading.decode()
+    if not entry.bids and name not in choices.allow_empty:
         auction.fault(Place(file.path), "the form has no bid; say --allow-empty %s where it is to have none" % name)
-    elif form.bids and name in choices.allow_empty:
-        auction.fault(Place(file.path), "the form has %s; --allow-empty names %s" % (counted(len(form.bids), "bid"), name))
+    elif entry.bids and name in choices.allow_empty:
+        auction.fault(Place(file.path), "the form has %s; --allow-empty names %s" % (counted(entry.bids, "bid"), name))
 
 
-def read_form(file, choices, auction):
-    """Reads the form of a file that counts."""
-    table = texts.table(file.data, lambda first: len(auction.rules.categories) + 1, forms.RECORDS)
-    check_end(file, table, choices, auction)
-    form, faults = forms.read_form(file.take(table), auction.rules, 0, file.path)
-    auction.add(faults)
-    if form:
-        check_bids(file, form, choices, auction)
-    number = auction.rules.bidder_number(file.heading)
-    if number is not None:
-        auction.forms[number] = Entry(file, form)
+def form_table(file, auction):
+    return file.table(lambda first: len(auction.rules.categories) + 1, limits.FORM)
+
+
+def take_forms(files, choices, auction):
+    """Turns the forms that count into what wdp reads."""
+    number_of, nobody = auction.rules.bidder_number, len(auction.rules.bidders) + 1
+    for file in sorted(files, key=lambda file: number_of(file.heading) or nobody):
+        table = form_table(file, auction)
+        file.take(table)
+        auction.counting.append(Counting(file, check_end(file, table, choices)))
+        if number_of(file.heading):
+            auction.forms[number_of(file.heading)] = Entry(file)
 
 
 def check_words(choices, auction):
@@ -237,15 +269,17 @@ def check_words(choices, auction):
 
 
 def read_forms(folder, choices, auction):
-    """Reads each form that counts, and tells what lacks."""
+    """Finds the files of forms that count, and reads them."""
     width = len(auction.rules.categories) + 1
     found = [file for path in form_paths(folder, auction) if (file := read_form_file(path, width, auction))]
     names = Names(auction.rules)
     for file in found:
         check_name(file, names, choices, auction)
-    for file in last_forms(found, choices, auction):
-        read_form(file, choices, auction)
-    auction.forms = dict(sorted(auction.forms.items()))
+    take_forms(last_forms(found, choices, auction), choices, auction)
+
+
+def check_missing(folder, choices, auction):
+    """Tells which form lacks, and which hasn't the bids that are expected."""
     check_words(choices, auction)
     for number, bidder in enumerate(auction.rules.bidders, 1):
         name = bidder.name.decode()
@@ -275,57 +309,91 @@ def winners_of(text):
 
 
 def lines_of_groups(words, auction):
-    """The lines of the groups with their numbers, by a file, or by a rule: `each`, or `winners FILE`."""
+    """The lines of the groups, by a file, or by a rule: `each`, or `winners FILE`."""
     if words[0] == "each":
-        return list(enumerate(each_alone(bidder.name for bidder in auction.rules.bidders).splitlines(), 1))
+        return each_alone(bidder.name for bidder in auction.rules.bidders).splitlines()
     most = limits.INPUT if words[0] == "winners" else texts.LARGEST_FILE
     auction.groups_file = file_of(words[-1], reading.content(words[-1], most))
     if words[0] == "winners":
         auction.groups_file.changes = ["each winner alone"]
-        return list(enumerate(each_alone(winners_of(auction.groups_file.data)).splitlines(), 1))
+        return each_alone(winners_of(auction.groups_file.data)).splitlines()
     lines, auction.groups_file.changes = texts.lines(auction.groups_file.data)
     return lines
 
 
 def read_groups(words, auction):
     """Reads the groups, the first of which has to be that of nobody."""
-    path = words[-1]
+    path, faults = words[-1], []
     try:
         lines = lines_of_groups(words, auction)
     except (reading.Unreadable, texts.NotText) as why:
-        auction.fault(Place(path), str(why))
-        return
-    auction.groups_text = b"".join(line + b"\n" for _, line in lines)
-    lines = [(number, number, line) for number, line in lines[:limits.GROUPS + 1]]
-    if not lines or lines[0][2] != b"-":
-        auction.fault(Place(path, 1), "the first line has to be -, the group of nobody: costs are told against it")
-    auction.add(groups.read_groups(lines, auction.rules, path)[1])
+        return [Fault(Place(path), str(why))]
+    if not lines or lines[0] != b"-":
+        faults.append(Fault(Place(path, 1), "the first line has to be -, the group of nobody: costs are told against it"))
+    for number, line in enumerate(lines[:limits.GROUPS], 1):
+        if line.startswith(b"%"):
+            faults.append(Fault(Place(path, number), "the line begins with %, as the heads of parts do"))
+        else:
+            auction.groups.append((number, line))
+    return faults
 
 
-def check_sizes(auction):
-    """The texts that are above the limit of what wdp reads."""
-    sizes = [("rules", auction.rules_file)] + [("form", entry.file) for entry in auction.forms.values()]
-    for what, file in sizes:
-        if len(file.text) > limits.TEXT:
-            auction.fault(Place(file.path), "the %s would have more than %s bytes" % (what, "{:,}".format(limits.TEXT)))
+def join(auction, has_groups):
+    """Makes the input: the rules, the forms that count, and the groups."""
+    joined = [b"%rules\n", auction.rules_file.text]
+    for form in auction.counting:
+        joined += [b"%form\n", form.file.text]
+    joined += [b"%groups\n", *(line + b"\n" for _, line in auction.groups)] if has_groups else []
+    auction.text = b"".join(joined)
 
 
-def read_files(rules_path, folder, group_words, choices):
+def add_form_faults(explained, choices, auction):
+    """Tells what is wrong with each form, and counts the bids of the others."""
+    by_form = {}
+    for line in explained.faults:
+        by_form.setdefault(line.form, []).append(line)
+    for number, form in enumerate(auction.counting, 1):
+        file, lines = form.file, by_form.get(number, [])
+        source = explaining.Source(Place(file.path), lambda: form_table(file, auction).rows)
+        auction.add(form.faults + explaining.faults_of(lines, lambda line: source, file.path))
+        entry = auction.forms.get(auction.rules.bidder_number(file.heading))
+        if not lines and entry and entry.file is file:
+            entry.bids = len(accepted.rows_of_form(file.text)) - 1
+            check_bids(entry, choices, auction)
+        file.data = b""
+
+
+def add_group_faults(path, explained, auction):
+    lines = [line for line in explained.faults if line.part == "groups"]
+    source = explaining.Source(Place(path), lambda: (tables.Row(line.split(b"+"), number) for number, line in auction.groups))
+    auction.add(explaining.faults_of(lines, lambda line: source, path))
+
+
+def add_other_faults(folder, explained, auction):
+    """Tells what is wrong with all files together, and how many faults more there are."""
+    for line in explained.faults:
+        if line.part == "input":
+            auction.fault(Place(folder), "joined with the others: %s" % line.refusal)
+    if explained.more:
+        words = "%s in these files" % counted(explained.more, "more fault")
+        auction.faults.append(Fault(Place(folder), words, count=explained.more))
+
+
+def read_files(rules_path, folder, group_words, choices, wdp, with_bids=False):
     """The auction that the files tell."""
-    auction = Auction()
+    auction = Auction(wdp)
     read_rules(rules_path, auction)
     if auction.rules is None:
         return auction
     read_forms(folder, choices, auction)
+    of_groups = read_groups(group_words, auction) if group_words else []
+    join(auction, bool(group_words))
+    explained = judge.explained(wdp, auction.text, with_bids)
+    add_form_faults(explained, choices, auction)
+    check_missing(folder, choices, auction)
+    auction.faults += of_groups
     if group_words:
-        read_groups(group_words, auction)
-    check_sizes(auction)
+        add_group_faults(group_words[-1], explained, auction)
+    add_other_faults(folder, explained, auction)
+    auction.left_out = explained.left_out
     return auction
-
-
-def joined(auction):
-    """One input of wdp: the rules, the form of each bidder in the order of their numbers, and the groups."""
-    parts = [b"%rules\n", auction.rules_file.text]
-    for entry in auction.forms.values():
-        parts += [b"%form\n", entry.file.text]
-    return b"".join(parts + [b"%groups\n", auction.groups_text])

@@ -40,7 +40,7 @@ class Damaged(Office):
 
     def test_no_bytes(self):
         self.write("forms/Fox.csv", b"")
-        self.assertIn("Fox.csv: the first row has to be the bidder's name", "\n".join(self.refused("--allow-missing", "Fox")))
+        self.assertEqual(self.refused("--allow-missing", "Fox"), [self.path("forms/Fox.csv") + ": there is no record"])
 
     def test_a_last_row_that_may_have_been_cut_off(self):
         # 12 may have been 120
@@ -145,7 +145,8 @@ class Expected(Office):
         path = self.path("counts.csv")
         for row, told in (("Foks,3", ":10:1: 'Foks' is no bidder of the rules"), ("Ant,3", ":10:1: an earlier row is of 'Ant'"),
                           ("Ant", ":10:1: the row has 1 field; it is to have a bidder and a number of bids"),
-                          ("Ibis,three", ":10:6: number of bids 'three' isn't a whole number of digits alone")):
+                          ("Ibis,three", ":10:6: 'three' isn't a number of bids"),
+                          ("Ibis,3.0", ":10:6: '3.0' isn't a number of bids: it has a point; write digits alone")):
             text = self.COUNTS.replace("Ibis,3\n", "") if row.startswith("Ibis") else self.COUNTS
             told = told.replace(":10:", ":9:") if row.startswith("Ibis") else told
             self.assertEqual(self.refused(*self.expect(text + row + "\n")), [path + told])
