@@ -36,7 +36,8 @@ EXPORTS = [
 
 def run(tool, *words, **how):
     how = {"capture_output": True, "stdin": subprocess.DEVNULL, **how}
-    return subprocess.run([sys.executable, os.path.join(TOOLS, tool), "--wdp", WDP, *words], timeout=300, **how)
+    program = ["--wdp", WDP] if tool in ("gather", "explain") else []
+    return subprocess.run([sys.executable, os.path.join(TOOLS, tool), *program, *words], timeout=300, **how)
 
 
 class Office(unittest.TestCase):
