@@ -7,7 +7,7 @@ from __future__ import annotations
 from dataclasses import dataclass, field
 
 from office import explaining, judge, tables
-from office.parts import BYTE_ORDER_MARK, parts_of
+from office.parts import parts_of
 from office.running import Stopped
 
 
@@ -85,7 +85,7 @@ def rules_of(rows):
 
 def rows_of_form(text):
     """The bidder's row of a form, and those of its bids, as lists of bytes."""
-    lines = tables.LINE_END.split(text.removeprefix(BYTE_ORDER_MARK).replace(b'"', b""))
+    lines = tables.LINE_END.split(text.removeprefix(tables.BYTE_ORDER_MARK).replace(b'"', b""))
     return [line.split(b",") for line in lines if line]
 
 

@@ -6,7 +6,6 @@ from dataclasses import dataclass, field
 
 from office import tables
 
-BYTE_ORDER_MARK = b"\xef\xbb\xbf"
 HEAD = re.compile(rb"^%[^\n]*\n?", re.MULTILINE)
 
 
@@ -28,7 +27,7 @@ class Part:
         """The records of rules or a form, or the lines of groups, as wdp counts them."""
         if self.kind == b"%groups":
             return group_rows(self.lines(), self.line)
-        return tables.Records(self.text.removeprefix(BYTE_ORDER_MARK), first_line=self.line)
+        return tables.Records(self.text.removeprefix(tables.BYTE_ORDER_MARK), first_line=self.line)
 
     def lines(self):
         """The lines of groups, one carriage return dropped at the end of each."""

@@ -14,8 +14,10 @@ from office.faults import counted
 LINE_END = re.compile(rb"\r\n|\n|\r")
 WHOLE_LINE = re.compile(rb"[^\r\n]*")
 QUOTES = re.compile(rb'"+')
-NEEDS_QUOTES = re.compile(rb'[,"\r\n]|^%')
-NEEDS_QUOTES_SOMEWHERE = re.compile(rb'["\r\n%]')
+BYTE_ORDER_MARK = b"\xef\xbb\xbf"
+# what would be read as something else: the head of a part, and a mark that is dropped
+NEEDS_QUOTES = re.compile(rb'[,"\r\n]|^%|^' + BYTE_ORDER_MARK)
+NEEDS_QUOTES_SOMEWHERE = re.compile(rb'["\r\n%]|' + BYTE_ORDER_MARK)
 # of a record with more fields the others aren't kept
 FIELDS = 1_000
 

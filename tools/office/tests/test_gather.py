@@ -117,6 +117,13 @@ class Ends(Office):
         self.assert_stopped(run("explain", self.path("none")))
         self.assert_stopped(run("explain", self.path("forms")))
 
+    def test_a_program_that_is_not_there(self):
+        files = [self.path("rules.csv"), self.path("forms"), self.path("groups.txt")]
+        for tool, words in (("gather", files), ("explain", files), ("explain", files[:1])):
+            seen = run(tool, "--wdp", self.path("none"), *words)
+            self.assertEqual((seen.returncode, seen.stdout), (1, b""))
+            self.assertEqual(seen.stderr.decode(), "%s: %s doesn't start: No such file or directory\n" % (tool, self.path("none")))
+
     def test_wrong_words(self):
         for words in ([], [self.path("rules.csv"), self.path("forms")],
                       [self.path("rules.csv"), self.path("forms"), self.path("groups.txt"), "--groups", "each"],

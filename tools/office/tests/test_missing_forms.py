@@ -61,6 +61,13 @@ class Damaged(Office):
                 if not auction.faults:
                     self.assertIn(auction.forms[8].file.text, whole, text[:end])
 
+    def test_a_second_byte_order_mark_hides_no_form(self):
+        # wdp drops the mark at the beginning of a part, and would read the form of Fox, who is told to have none
+        for text in (b"\xef\xbb\xbf\xef\xbb\xbfFox,Low,High\n", b"sep=,\n\xef\xbb\xbfFox,Low,High\n", b',,\n"\xef\xbb\xbfFox",Low,High\n'):
+            self.write("forms/Fox.csv", text + b"5000,2,1\n")
+            line, = self.refused("--allow-missing", "Fox")
+            self.assertTrue(line.endswith(": '\\xef\\xbb\\xbfFox' is no bidder's name"), line)
+
     def test_a_quote_that_is_not_closed(self):
         self.write("forms/Fox.csv", b'Fox,Low,High\n5000,2,1\n12000,4,"12')
         self.assertEqual(self.refused("--allow-unended", "Fox"),

@@ -1,7 +1,9 @@
 """Records of comma separated values at their edges."""
+import random
 import unittest
 
 from office import tables, texts
+from office.tests import reference
 
 
 def values(text, delimiter=b","):
@@ -38,9 +40,19 @@ class Records(unittest.TestCase):
         self.assertEqual([second.place(at) for at in range(3)], [(7, 1), (7, 3), (7, 3)])
 
     def test_written_records_are_read_back(self):
-        rows = [[b"a", b"1,5", b'"'], [b"%form", b"\n"], [b"b", b""]]
+        rows = [[b"a", b"1,5", b'"'], [b"%form", b"\n"], [b"b", b""], [b"\xef\xbb\xbfFox", b"\xef\xbb\xbf"], [b"c", b"", b"\r"]]
         self.assertEqual(values(b"".join(map(tables.written, rows))), rows)
-        self.assertFalse(tables.written([b"%form"]).startswith(b"%"))
+        # neither a head of a part, nor a mark that is dropped
+        self.assertEqual(tables.written([b"%form", b"1"]), b'"%form",1\n')
+        self.assertEqual(tables.written([b"\xef\xbb\xbfFox"]), b'"\xef\xbb\xbfFox"\n')
+
+    def test_what_is_written_is_read_back_whatever_the_values_are(self):
+        draw = random.Random(5)
+        for _ in range(2_000):
+            row = [b"x"] + [bytes(draw.choices(b'ab,;"%\r\n\t \xef\xbb\xbf', k=draw.randrange(4))) for _ in range(draw.randrange(4))]
+            draw.shuffle(row)
+            for read in (values, lambda text: [[field.value for field in record] for record in reference.records(text)]):
+                self.assertEqual(read(tables.written(row)), [row])
 
 
 class Spreadsheets(unittest.TestCase):
