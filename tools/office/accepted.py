@@ -104,12 +104,9 @@ def read(data, source):
     parts = {kind: [part for part in parts_of(data) if part.kind == kind] for kind in (b"%rules", b"%form", b"%groups")}
     try:
         rules = rules_of(parts[b"%rules"][0].rows())
-        forms = {}
-        for part in parts[b"%form"]:
-            bidder = rules.bidder_number(rows_of_form(part.text)[0][0])
-            forms[bidder] = Form(bidder, bids_of(part.text))
+        last = {rules.bidder_number(next(iter(part.rows())).values[0]): part for part in parts[b"%form"]}
         groups = [group_of(line, rules) for part in parts[b"%groups"] for line in part.lines()]
-        return Auction(rules, [forms[bidder] for bidder in sorted(forms)], groups)
+        return Auction(rules, [Form(bidder, bids_of(last[bidder].text)) for bidder in sorted(last)], groups)
     except (IndexError, KeyError, StopIteration, TypeError, ValueError):
         raise Stopped("%s: it isn't an input that wdp has accepted" % source)
 

@@ -138,19 +138,34 @@ def of_parts(told, data, source):
     if number:
         part = next(part for place, part in enumerate(parts_of(data), 1) if place == int(number))
         return Fault(Place(source, part.line - 1), "%s is no head of a part: %%rules, %%form or %%groups" % shown(part.kind), told.refusal)
-    parts = [part for part in parts_of(data) if part.kind == b"%" + kind.encode()]
-    words = "there are %d parts %%%s; wdp takes one" % (len(parts), kind)
-    return Fault(Place(source, parts[1].line - 1 if parts[1:] else None), words, told.refusal)
+    count, line = 0, None
+    for part in parts_of(data):
+        count += part.kind == b"%" + kind.encode()
+        line = part.line - 1 if count == 2 and line is None else line
+    return Fault(Place(source, line), "there are %d parts %%%s; wdp takes one" % (count, kind), told.refusal)
+
+
+def parts_by_form(lines, data):
+    """The parts that lines are of, by what they say: `rules`, `groups` or `form`, and the form's number."""
+    wanted, found, forms = {(told.part, told.form) for told in lines}, {}, 0
+    parts = parts_of(data)
+    while len(found) < len(wanted):
+        part = next(parts)
+        forms += part.kind == b"%form"
+        name = part.kind[1:].decode("ascii", "replace"), forms if part.kind == b"%form" else None
+        if name in wanted:
+            found[name] = part
+    return found
 
 
 def faults_of_input(explained, data, source):
     """The faults of one input."""
     if explained.faults and explained.faults[0].part == "input":
         return [of_parts(explained.faults[0], data, source)]
-    parts = {kind: [part for part in parts_of(data) if part.kind == kind] for kind in (b"%rules", b"%form", b"%groups")}
+    parts = parts_by_form(explained.faults, data)
 
     def source_of(told):
-        part = parts[b"%" + told.part.encode()][(told.form or 1) - 1]
+        part = parts[told.part, told.form]
         return Source(Place(source, part.line - 1), part.rows)
 
     return faults_of(explained.faults, source_of, source, explained.more)

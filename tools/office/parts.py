@@ -26,7 +26,7 @@ class Part:
     def rows(self):
         """The records of rules or a form, or the lines of groups, as wdp counts them."""
         if self.kind == b"%groups":
-            return group_rows(self.lines(), self.line)
+            return group_rows(enumerate(self.lines(), self.line))
         return tables.Records(self.text.removeprefix(tables.BYTE_ORDER_MARK), first_line=self.line)
 
     def lines(self):
@@ -37,9 +37,9 @@ class Part:
         return [line.removesuffix(b"\r") for line in parted]
 
 
-def group_rows(lines, first_line=1):
-    """Lines of groups as rows of the names that they join."""
-    return (tables.Row(line.split(b"+"), number) for number, line in enumerate(lines, first_line))
+def group_rows(numbered):
+    """Lines of groups, each with its number, as rows of the names that they join."""
+    return (tables.Row(line.split(b"+"), number) for number, line in numbered)
 
 
 def parts_of(data):

@@ -133,6 +133,41 @@ class ByHand(Office):
                          [self.path("input.txt") + ":2009: a bidder has at most 1,000 forms (wdp: form 1001: CallLimit)", "1 fault"])
 
 
+# files of forms as spreadsheets write them, each with what is told of it
+FILES = {
+    "Ant.csv": ("Ant,Low,High,,\r\n,,,,\r\n\"5,000\",2,1,,\r\n\r\n9900,4,x,,\r\n".encode(),
+                ["3:1: '5,000' isn't 1 to 18 digits: it has a comma; write digits alone", "5:8: 'x' isn't 1 to 18 digits"]),
+    "Bee.txt": ("Bee\tLow\tHigh\n5000\t2\t1\n\u20ac9900\t4\t-1\n".encode("utf-16"),
+                ["3:1: '\\xe2\\x82\\xac9900' isn't 1 to 18 digits", "3:11: '-1' isn't 1 to 18 digits: it has a minus sign; write digits alone"]),
+    "Cat.csv": (b"sep=;\r\nCat;Low;High\r\n;;\r\n5000;2;1;;9\r\n\"98\n00\";4;0\r\n3050;0;3\r\n",
+                ["4:1: 5 fields in place of 3", "5:1: '98\\x0a00' isn't 1 to 18 digits", "7:1: '3050' isn't a multiple of 100"]),
+    "Dove.csv": (b"\xef\xbb\xbf\"Dove\",\"Low\",\"high\"\r5000,2,1\r", ["1:14: 'high' in place of High"]),
+    "Eel.csv": (b"\n\nEel,Low,High\n;;;;\n0,0,0\n5000,2,1\n,0\n,0,\n", ["4:1: the row has semicolons between its fields, and the first row hasn't",
+                "5:1: 2 rows from line 5 to line 8 hold nothing but zeros; delete those that are no bids",
+                "7:1: 2 fields in place of 3"]),
+    "Fox.csv": (b"Fox,Low\n", ["1:1: 2 fields in place of 3"])}
+
+
+class InFiles(Office):
+    def test_each_fault_of_each_file(self):
+        os.unlink(self.path("forms/Bee.csv"))
+        for name, (data, _) in FILES.items():
+            self.write("forms/" + name, data)
+        self.write("groups.txt", b"-\r\n%form\r\nAnt+Bees+Ant\r\n\r\nBee\r\n\r\n")
+        forms = [self.path("forms/%s:%s" % (name, told)) for name, (_, lines) in FILES.items() for told in lines]
+        groups = ["2: the line begins with %, as the heads of parts do", "3:5: 'Bees' is no bidder's name", "3:10: 'Ant' stands in the line already",
+                  "4:1: the line is empty; the group of nobody is written -"]
+        self.assertEqual(self.refused(), forms + [self.path("groups.txt:" + told) for told in groups])
+
+    def test_each_fault_of_the_rules(self):
+        self.write("rules.csv", "sep=;\nrules;2;1,5;;;;\n;;;;;;\ncategory;Low;6;1000;2;;\nbidder;Ant;20;1;;;\n".encode("utf-16"))
+        self.assert_stopped(self.gather())
+        self.assertEqual(self.explain().stdout.decode().splitlines(), [
+            self.path("rules.csv:2:9: '1,5' isn't 1 to 18 digits: it has a comma; write digits alone"),
+            self.path("rules.csv:4:23: '' isn't 1 to 18 digits: the field is empty"),
+            "the forms and groups are read once the parts and the rules are right", "2 faults"])
+
+
 class Damaged(unittest.TestCase):
     def compare(self, text):
         explained = judge.explained(WDP, text)
