@@ -11,7 +11,7 @@ from typing import Callable
 
 from office import limits
 from office.faults import TOLD, Fault, Place, counted, more_faults, shown
-from office.parts import parts_of
+from office.parts import count_of, head_of, parts_of
 
 SCIENTIFIC = re.compile(rb"[+-]?[0-9]+([.,][0-9]*)?[eE][+-]?[0-9]+")
 MARKS = ((b",", "a comma"), (b" ", "a space"), (b"\xc2\xa0", "a space"), (b"\xe2\x80\xaf", "a space"), (b".", "a point"),
@@ -136,12 +136,9 @@ def of_parts(told, data, source):
         return Fault(Place(source, 1), "it begins with something else than a line %rules, %form or %groups", told.refusal)
     number, kind = re.fullmatch("input: part ([0-9]+) not known|input: wrong number of ([a-z]+)", told.refusal).groups()
     if number:
-        part = next(part for place, part in enumerate(parts_of(data), 1) if place == int(number))
-        return Fault(Place(source, part.line - 1), "%s is no head of a part: %%rules, %%form or %%groups" % shown(part.kind), told.refusal)
-    count, line = 0, None
-    for part in parts_of(data):
-        count += part.kind == b"%" + kind.encode()
-        line = part.line - 1 if count == 2 and line is None else line
+        line, head = head_of(data, int(number))
+        return Fault(Place(source, line), "%s is no head of a part: %%rules, %%form or %%groups" % shown(head), told.refusal)
+    count, (line, _) = count_of(data, kind.encode()), head_of(data, 2, kind.encode())
     return Fault(Place(source, line), "there are %d parts %%%s; wdp takes one" % (count, kind), told.refusal)
 
 

@@ -3,6 +3,7 @@ from __future__ import annotations
 
 import re
 from dataclasses import dataclass, field
+from itertools import islice
 
 from office import tables
 
@@ -40,6 +41,21 @@ class Part:
 def group_rows(numbered):
     """Lines of groups, each with its number, as rows of the names that they join."""
     return (tables.Row(line.split(b"+"), number) for number, line in numbered)
+
+
+def heads_of(data, kind):
+    """The head lines of a kind of part, without their ends."""
+    return re.finditer(rb"^%%%b(?=\r?(?:\n|\Z))" % kind, data, re.MULTILINE)
+
+
+def count_of(data, kind):
+    return sum(1 for _ in heads_of(data, kind))
+
+
+def head_of(data, number, kind=rb"[^\n]*?"):
+    """The line and the bytes of the head of this number among those of a kind, or among all; None and none where there is none."""
+    head = next(islice(heads_of(data, kind), number - 1, None), None)
+    return (data.count(b"\n", 0, head.start()) + 1, head[0]) if head else (None, b"")
 
 
 def parts_of(data):

@@ -50,6 +50,9 @@ class Records:
         self.plain = re.compile(rb"[^\r\n" + re.escape(delimiter) + rb"]*")
         self.between = re.compile(rb"[\r\n" + (re.escape(delimiter) if drops_empty else b"") + rb"]+")
         self.delimiters = re.compile(re.escape(delimiter) + b"+")
+        # further fields of a record, with a quote in front and without, each taken as it is found
+        behind = rb"[^\r\n" + re.escape(delimiter) + rb"]*+"
+        self.rest = re.compile(rb'(?:%b(?:"(?:[^"]|"")*+(?:"%b|\Z)|(?!")%b))*+' % (re.escape(delimiter), behind, behind))
         self.line, self.line_start = first_line, 0
         self.empty = 0
         self.unclosed = None
@@ -107,12 +110,10 @@ class Records:
             row.is_too_wide = len(row.values) > FIELDS
         return row, end
 
-    def pass_rest(self, end):
+    def pass_rest(self, at):
         """Where a record ends that is too wide."""
-        while self.text[end:end + 1] == self.delimiter:
-            at = end + 1
-            end = self.field(at)[1]
-            self.pass_lines(at, end)
+        end = self.rest.match(self.text, at).end()
+        self.pass_lines(at, end)
         return end
 
     def field(self, at):
