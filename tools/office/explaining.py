@@ -134,7 +134,10 @@ def of_parts(told, data, source):
         return Fault(Place(source), TOO_LARGE.format(limits.INPUT), told.refusal)
     if told.refusal == "input: bytes before the first part":
         return Fault(Place(source, 1), "it begins with something else than a line %rules, %form or %groups", told.refusal)
-    number, kind = re.fullmatch("input: part ([0-9]+) not known|input: wrong number of ([a-z]+)", told.refusal).groups()
+    match = re.fullmatch("input: part ([0-9]+) not known|input: wrong number of (rules|groups)", told.refusal)
+    if not match:
+        return Fault(Place(source), told.refusal.removeprefix("input: "), told.refusal)
+    number, kind = match.groups()
     if number:
         line, head = head_of(data, int(number))
         return Fault(Place(source, line), "%s is no head of a part: %%rules, %%form or %%groups" % shown(head), told.refusal)

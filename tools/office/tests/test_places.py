@@ -142,9 +142,10 @@ FILES = {
     "Cat.csv": (b"sep=;\r\nCat;Low;High\r\n;;\r\n5000;2;1;;9\r\n\"98\n00\";4;0\r\n3050;0;3\r\n",
                 ["4:1: 5 fields in place of 3", "5:1: '98\\x0a00' isn't 1 to 18 digits", "7:1: '3050' isn't a multiple of 100"]),
     "Dove.csv": (b"\xef\xbb\xbf\"Dove\",\"Low\",\"high\"\r5000,2,1\r", ["1:14: 'high' in place of High"]),
-    "Eel.csv": (b"\n\nEel,Low,High\n;;;;\n0,0,0\n5000,2,1\n,0\n,0,\n", ["4:1: the row has semicolons between its fields, and the first row hasn't",
-                "5:1: 2 rows from line 5 to line 8 hold nothing but zeros; delete those that are no bids",
-                "7:1: 2 fields in place of 3"]),
+    "Eel.csv": (b"\n\nEel,Low,High\n;;;;\n0,0,0\n5000,2,1\n,0\n,0,\n",
+                ["4:1: the row has semicolons between its fields, and the first row hasn't",
+                 "5:1: 2 rows from line 5 to line 8 hold nothing but zeros; delete those that are no bids",
+                 "7:1: 2 fields in place of 3"]),
     "Fox.csv": (b"Fox,Low\n", ["1:1: 2 fields in place of 3"])}
 
 
