@@ -47,7 +47,7 @@ def made(kind, size, folder):
     if kind in ("bids", "explained"):
         text = far_apart_at_places(size) if kind == "bids" else measuring.make_input(1, size, 32, 1)
         text = text.split(b"%groups")[0]
-        return ["explain", "--command", "text", "--bids", written(os.path.join(folder, "input.txt"), text)], len(text)
+        return ["explain", "--bids", written(os.path.join(folder, "input.txt"), text)], len(text)
     if kind == "gathered":
         rules, form = measuring.make_input(1, size, 32, 1).split(b"%groups")[0].removeprefix(b"%rules\n").split(b"%form\n")
         return gather_words(folder, rules, form, form.split(b",", 1)[0].decode("ascii"))

@@ -8,7 +8,7 @@ import time
 from concurrent.futures import ThreadPoolExecutor
 from dataclasses import asdict
 
-from office import called, disproved, inputs, running
+from office import accepted, called, disproved, running
 from office.audit import printed, with_answers
 from office.claim import TIE, UNIQUE, Shown, shown_behind, with_shown
 from office.cut import columns_of, cut_off, other_of_same_total
@@ -313,7 +313,7 @@ def run(given, solvers, folder):
         raise running.Stopped("group 1 is not empty: the first line of %groups has to be `-`, since costs are told against "
                               "the winners among all bidders")
     tell(given, "%d programs compiled in %.2f s" % (len(names), time.monotonic() - start))
-    auction = inputs.read_input(content(folder, "input.txt"), "input")
+    auction = accepted.read(content(folder, "input.txt"), "input")
     made = [reported(folder, names, solver, given, auction) for solver in solvers]
     solutions, reports, answers = zip(*made)
     for solver, others in zip(solvers[1:], answers[1:]):

@@ -4,7 +4,7 @@ from __future__ import annotations
 import argparse
 from dataclasses import dataclass, fields
 
-from office import called, versions
+from office import called, judge, versions
 from office.printed import escaped
 
 
@@ -60,6 +60,7 @@ def add_words(parser):
         parser.add_argument("--allow-" + word, metavar="NAMES", type=names, action="extend", default=[],
                             help=text + "; names parted by commas")
     parser.add_argument("--expect", metavar="COUNTS", type=path, help="a file with a row `bidder,bids` for each form")
+    parser.add_argument("--wdp", default=judge.WDP, help=argparse.SUPPRESS)
 
 
 def choices_of(given):

@@ -1,4 +1,4 @@
-"""What is wrong with an input: each fault with its place, in words, and the line that wdp has for it."""
+"""What is wrong with an input or a file: each fault with its place, in words, and the line that wdp has for it."""
 from __future__ import annotations
 
 from dataclasses import dataclass
@@ -23,7 +23,7 @@ class Place:
 
 @dataclass(frozen=True)
 class Fault:
-    """A fault. `told` is the line of wdp for it, without its head `wdp: `; None where wdp sees no fault there."""
+    """A fault. `told` is the line by which wdp refuses for it, without its head `wdp: `; None where that isn't to be shown."""
 
     place: Place
     words: str
@@ -35,34 +35,9 @@ class Fault:
         return escaped("%s: %s" % (self.place, self.words) + (" (wdp: %s)" % self.told if self.told else ""))
 
 
-class Found:
-    """The faults of one file: the first hundred, by a key that sorts them, and how many there are beside these."""
-
-    def __init__(self, source):
-        self.source = source
-        self.keyed = []
-        self.more = 0
-
-    def __bool__(self):
-        return bool(self.keyed)
-
-    def add(self, key, fault):
-        """A fault. Of those that aren't told no key sorts before one that is, but for those within a record."""
-        if len(self.keyed) < TOLD:
-            self.keyed.append((key, fault))
-        else:
-            self.more += fault.count
-
-    def add_for_all(self, key, fault):
-        """A fault that is told once for many rows, wherever it stands."""
-        self.keyed.append((key, fault))
-
-    def sorted(self):
-        """The faults, the one that wdp tells first, and a line for those that aren't told."""
-        faults = [fault for _, fault in sorted(self.keyed, key=lambda keyed: keyed[0])]
-        if self.more:
-            faults.append(Fault(Place(self.source), "%s in this file" % counted(self.more, "more fault"), count=self.more))
-        return faults
+def more_faults(number, file):
+    """The line for faults of a file that aren't told one by one; none where there are none."""
+    return [Fault(Place(file), "%s in this file" % counted(number, "more fault"), count=number)] if number else []
 
 
 def shown(value):

@@ -1,189 +1,201 @@
-"""Forms: what a table of bids says under the rules, and everything that is wrong with it."""
-from dataclasses import dataclass, field
-from operator import mul
+"""The files of a folder of forms: which of them count, and what is wrong with them that only files have."""
+from __future__ import annotations
 
-from office import limits
-from office.faults import Fault, Found, Place, counted, shown
-from office.rules import number, number_words
-from office.tables import counted_fields
+import os
+import re
 
-# so many records are read: the header, the bids that a form may have, and the first one that is too many
-RECORDS = limits.BIDS + 2
-SEPARATORS = ((b";", "semicolons"), (b"\t", "tabs"), (b"|", "bars"), (b",", "commas"))
-# what is told of one row, and of many
-ZEROS = ("holds nothing but zeros; delete it where it is no bid", "hold nothing but zeros; delete those that are no bids")
-OTHER_SEPARATOR = {name: tuple(words % name for words in ("has %s between its fields, and the first row hasn't",
-                                                          "have %s between their fields, and the first row hasn't"))
-                   for _, name in SEPARATORS}
+from office import accepted, expected, explaining, limits, reading, texts, versions
+from office.faults import Fault, Place, counted, shown
+from office.gathered import Form, file_of
+
+ENDINGS = (".csv", ".tsv", ".txt")
+WORKBOOKS = (".xlsx", ".xlsm", ".xls", ".ods", ".numbers")
+# of all files of forms together: what an input may have, as UTF-16
+ALL_FORMS = 2 * limits.INPUT
 
 
-@dataclass(slots=True)
-class Bid:
-    amount: int
-    package: tuple
-
-
-@dataclass
-class Form:
-    bidder: int
-    bids: list
-
-
-@dataclass
-class Alike:
-    """Rows with the same fault, as a template leaves them: wdp's fault of the first one, and their lines."""
-
-    record: int
-    no: int
-    name: str
-    first: Place
-    lines: list = field(default_factory=list)
-
-    def rows(self):
-        if len(self.lines) == 1:
-            return "the row"
-        return "%s from line %d to line %d" % (counted(len(self.lines), "row"), self.lines[0], self.lines[-1])
-
-
-class Reader:
-    """Reads the records of one form, and gathers faults with the record and the refusal's number as their key."""
-
-    def __init__(self, rules, form, source):
-        self.rules = rules
-        self.form = form
-        self.source = source
-        self.faults = Found(source)
-        self.bids = []
-        self.bidder = None
-        self.packages = {}
-        self.points = [category.points for category in rules.categories]
-        self.reserves = [category.reserve for category in rules.categories]
-        # by what they have in common, in words for one row or for many
-        self.alike = {}
-
-    def fault(self, record, no, name, cell, words, more=""):
-        place = Place(self.source, cell.line, cell.column) if cell else Place(self.source)
-        self.faults.add((record, no), Fault(place, words, self.told(record, no, name) + more))
-
-    def told(self, record, no, name):
-        return "form %d: %d %s at record %d" % (self.form, no, name, record)
-
-    def header(self, records):
-        """Whether the columns are those of the rules, so that the bids can be read."""
-        names = [category.name for category in self.rules.categories]
-        first = records[0] if records else []
-        if [cell.text for cell in first[1:]] != names:
-            wanted = ", ".join(name.decode() for name in names)
-            found = ", ".join(cell.text[:40].decode("utf-8", "replace") for cell in first[1:limits.CATEGORIES + 2])
-            words = "the first row has to be the bidder's name and the categories %s" % wanted
-            words += "; after its first field it has %s" % found if found else "; it has no further field"
-            self.fault(1, 2, "Header", first[0] if first else None, words)
-            return False
-        self.bidder = self.rules.bidder_number(first[0].text)
-        if self.bidder is None:
-            self.fault(1, 3, "UnknownBidder", first[0], "%s is no bidder of the rules" % shown(first[0].text))
-        return True
-
-    def amount(self, record, cell):
-        value = number(cell.text)
-        if value is None:
-            self.fault(record, 5, "AmountText", cell, number_words("amount", cell.text))
-        elif not 1 <= value <= limits.AMOUNT:
-            words = "amount {} isn't between 1 and {:,}".format(shown(cell.text), limits.AMOUNT)
-            self.fault(record, 6, "AmountRange", cell, words)
-            value = None
-        elif value % self.rules.step:
-            words = "amount {} isn't a multiple of {:,}".format(shown(cell.text), self.rules.step)
-            self.fault(record, 7, "AmountStep", cell, words)
-        return value
-
-    def package(self, record, cells):
-        """The quantities, or None where one of them isn't within its limits."""
-        quantities = []
-        for category, cell in zip(self.rules.categories, cells):
-            value = number(cell.text)
-            if value is None:
-                words = number_words("quantity of %s" % category.name.decode(), cell.text)
-                self.fault(record, 8, "QuantityText", cell, words)
-            elif value > limits.QUANTITY:
-                words = "quantity of {} is {}, above {:,}".format(category.name.decode(), shown(cell.text), limits.QUANTITY)
-                self.fault(record, 9, "QuantityRange", cell, words)
-                value = None
-            quantities.append(value)
-        return None if None in quantities else tuple(quantities)
-
-    def terms(self, record, cell, amount, package):
-        """Tests a package against the bidder's points, the reserve and the bids before it."""
-        points = sum(map(mul, package, self.points))
-        reserve = sum(map(mul, package, self.reserves))
-        if not any(package):
-            self.fault(record, 10, "EmptyPackage", cell, "the bid asks for no lot")
-        if self.bidder is not None and points > self.rules.bidders[self.bidder - 1].eligibility:
-            words = "the package has {:,} points, above the eligibility of {:,}".format(
-                points, self.rules.bidders[self.bidder - 1].eligibility)
-            self.fault(record, 11, "OverEligibility", cell, words)
-        if amount is not None and amount < reserve:
-            words = "amount {:,} is below the package's reserve of {:,}".format(amount, reserve)
-            self.fault(record, 12, "BelowReserve", cell, words)
-        if package in self.packages:
-            words = "bid %d has the same package" % self.packages[package]
-            self.fault(record, 13, "RepeatedPackage", cell, words, ", earlier bid %d" % self.packages[package])
-        self.packages.setdefault(package, record - 1)
-
-    def bid(self, record, cells):
-        if len(cells) != 1 + len(self.rules.categories):
-            self.wrong_count(record, cells)
-        elif not any(cell.text.strip(b"0") for cell in cells):
-            no, name = (6, "AmountRange") if number(cells[0].text) == 0 else (5, "AmountText")
-            self.is_alike(ZEROS, record, no, name, cells)
+def form_paths(folder, auction):
+    """The files of a folder that are taken for forms; hidden ones, and those that end in ~, are named in the receipt."""
+    try:
+        names = sorted(os.listdir(folder))
+    except OSError as error:
+        auction.fault(Place(folder), error.strerror or str(error))
+        return []
+    paths, all_sizes = [], 0
+    for name in names:
+        if name.startswith(".") or name.endswith("~"):
+            auction.not_read.append(name)
+            continue
+        path, ending = os.path.join(folder, name), os.path.splitext(name)[1].lower()
+        try:
+            size = reading.status(path).st_size
+            all_sizes += size if size <= texts.LARGEST_FILE else 0
+        except reading.Unreadable as why:
+            auction.fault(Place(path), str(why))
+            continue
+        if ending in ENDINGS:
+            paths.append(path)
+        elif ending in WORKBOOKS:
+            auction.fault(Place(path), "it is a workbook; export it as CSV")
         else:
-            self.whole_bid(record, cells)
-        if record == RECORDS:
-            words = "a form has at most {:,} bids".format(limits.BIDS)
-            self.fault(record, 14, "TooManyBids", cells[0], words)
-
-    def wrong_count(self, record, cells):
-        wanted = 1 + len(self.rules.categories)
-        for mark, separator in SEPARATORS:
-            if sum(cell.text.count(mark) for cell in cells) >= wanted - 1:
-                self.is_alike(OTHER_SEPARATOR[separator], record, 4, "FieldCount", cells)
-                return
-        words = "the row has %s; a bid has %d, its amount and a quantity for each category" % (counted_fields(cells), wanted)
-        self.fault(record, 4, "FieldCount", cells[0], words)
-
-    def is_alike(self, words, record, no, name, cells):
-        """A row whose fault is told once for all rows that have it."""
-        first = Place(self.source, cells[0].line, cells[0].column)
-        self.alike.setdefault(words, Alike(record, no, name, first)).lines.append(cells[0].line)
-
-    def whole_bid(self, record, cells):
-        amount, package = self.amount(record, cells[0]), self.package(record, cells[1:])
-        if package is not None:
-            self.terms(record, cells[0], amount, package)
-        self.bids.append(Bid(amount, package))
-
-    def end(self):
-        """Tells the faults that many rows have."""
-        for (of_one, of_many), alike in self.alike.items():
-            words = "%s %s" % (alike.rows(), of_one if len(alike.lines) == 1 else of_many)
-            told = self.told(alike.record, alike.no, alike.name)
-            self.faults.add_for_all((alike.record, alike.no), Fault(alike.first, words, told))
+            auction.fault(Place(path), "its name doesn't end in %s; take it away where it is no form" % ", ".join(ENDINGS))
+    if all_sizes > ALL_FORMS:
+        auction.fault(Place(folder), "its files have {:,} bytes together, more than {:,}".format(all_sizes, ALL_FORMS))
+        return []
+    return paths
 
 
-def read_form(records, rules, form, source):
-    """The form of this number, or None where there is a fault; and all faults, the one that wdp tells first.
+def read_form_file(path, width, auction):
+    """A file of a form with its heading, or None with a fault where it can't be read."""
+    try:
+        file = file_of(path, *reading.regular(path, texts.LARGEST_FILE))
+        first = file.table(lambda first: width, most=1).rows
+    except (reading.Unreadable, texts.NotText) as why:
+        auction.fault(Place(path), str(why))
+        return None
+    file.heading = first[0].values[0] if first else b""
+    return file
 
-    Of the records no more than `RECORDS` are read: the last of them is a bid too many.
-    """
-    reader = Reader(rules, form, source)
-    if reader.header(records):
-        for place, cells in enumerate(records[1:RECORDS], 2):
-            reader.bid(place, cells)
-        reader.end()
-    return (None if reader.faults else Form(reader.bidder, reader.bids)), reader.faults.sorted()
+
+class Names:
+    """The bidders by their names, and by these in small letters."""
+
+    def __init__(self, known):
+        self.exact, self.alike = {}, {}
+        for number, bidder in enumerate(known.bidders, 1):
+            self.exact[bidder.name.decode()] = number
+            self.alike.setdefault(bidder.name.decode().lower(), set()).add(number)
+
+    def among(self, path):
+        """The numbers of the bidders whose names are words of a file's name; where none is written alike, in any case."""
+        found = set()
+        for word in re.split(r"[^A-Za-z0-9]+", versions.stem(path)):
+            found |= {self.exact[word]} if word in self.exact else self.alike.get(word.lower(), set())
+        return found
 
 
-def too_large(form, source):
-    """The fault of a form above 4 MiB, which isn't read."""
-    words = "the form has more than {:,} bytes".format(limits.TEXT)
-    return Fault(Place(source), words, "form %d: 1 TooLarge" % form)
+def check_name(file, names, choices, auction):
+    """A file's name has to name the bidder of its first row, and no other."""
+    number = auction.rules.bidder_number(file.heading)
+    if number is None:
+        return
+    named, own = names.among(file.path), file.heading.decode()
+    others = " and ".join(auction.rules.bidders[other - 1].name.decode() for other in sorted(named - {number}))
+    place = Place(file.path, 1, 1)
+    if number in named and others:
+        auction.fault(place, "the file's name names %s beside %s, whose form its first row says it is" % (others, own))
+    elif others:
+        auction.fault(place, "the file's name doesn't name %s, whose form its first row says it is, but %s" % (own, others))
+    elif not named and not choices.any_file_name:
+        auction.fault(place, "the file's name doesn't name %s, whose form its first row says it is; "
+                             "say --any-file-name where it is right" % own)
+
+
+def last_forms(found, choices, auction):
+    """Of each bidder the file that counts, by the order that was chosen; all, with faults, where none can be told."""
+    by_heading, counting = {}, []
+    for file in found:
+        by_heading.setdefault(file.heading, []).append(file)
+    for heading, files in by_heading.items():
+        try:
+            if len(files) == 1 or auction.rules.bidder_number(heading) is None:
+                counting += files
+            elif choices.last_wins is None:
+                raise versions.Undecided("say --last-wins name or --last-wins time")
+            else:
+                last, replaced = versions.last_of(files, choices.last_wins)
+                counting.append(last)
+                auction.replaced += replaced
+        except versions.Undecided as why:
+            counting += files
+            begin = "another form of %s stands in %s" % (heading.decode(), files[0].path)
+            tried = "" if choices.last_wins is None else "--last-wins %s can't tell which is later: " % choices.last_wins
+            for file in files[1:]:
+                auction.fault(Place(file.path), "%s; %s%s" % (begin, tried, why))
+    return counting
+
+
+def check_end(file, table, choices):
+    """The faults of a form that may have been cut off in its last row."""
+    name = file.heading.decode("utf-8", "replace")
+    if table.unclosed:
+        return [Fault(Place(file.path, *table.unclosed), "the field's quote isn't closed")]
+    if not table.is_ended and name not in choices.allow_unended:
+        return [Fault(Place(file.path, table.rows[-1].line), "the last row has no line end, as in a file "
+                      "that was cut off; say --allow-unended %s where it is whole" % name[:40])]
+    if table.is_ended and name in choices.allow_unended:
+        return [Fault(Place(file.path), "the last row has its line end; --allow-unended names %s" % name)]
+    return []
+
+
+def check_bids(form, choices, auction):
+    """A form without bids has to be named, and no other."""
+    place, name = Place(form.file.path), form.file.heading.decode()
+    if not form.bids and name not in choices.allow_empty:
+        auction.fault(place, "the form has no bid; say --allow-empty %s where it is to have none" % name)
+    elif form.bids and name in choices.allow_empty:
+        auction.fault(place, "the form has %s; --allow-empty names %s" % (counted(form.bids, "bid"), name))
+
+
+def form_table(file, auction):
+    return file.table(lambda first: len(auction.rules.categories) + 1, limits.FORM)
+
+
+def take_forms(files, choices, auction):
+    """Turns the forms that count into what wdp reads."""
+    number_of, nobody = auction.rules.bidder_number, len(auction.rules.bidders) + 1
+    for file in sorted(files, key=lambda file: number_of(file.heading) or nobody):
+        table = form_table(file, auction)
+        file.take(table)
+        auction.counting.append(Form(file, check_end(file, table, choices)))
+        if number_of(file.heading):
+            auction.forms[number_of(file.heading)] = auction.counting[-1]
+
+
+def check_words(choices, auction):
+    """Each name in the words has to be a bidder's, and each word needed."""
+    for word, names in (("missing", choices.allow_missing), ("empty", choices.allow_empty), ("unended", choices.allow_unended)):
+        for name in names:
+            number = auction.rules.bidder_number(name.encode("utf-8", "replace"))
+            if number is None:
+                auction.fault(Place("--allow-" + word), "%s is no bidder of the rules" % shown(name))
+            elif word == "missing" and number in auction.forms:
+                auction.fault(Place(auction.forms[number].file.path), "this is a form of %s; --allow-missing names it" % name)
+            elif word != "missing" and number not in auction.forms:
+                auction.fault(Place("--allow-" + word), "there is no form of %s" % name)
+
+
+def read_forms(folder, choices, auction):
+    """Finds the files of forms that count, and reads them."""
+    width = len(auction.rules.categories) + 1
+    found = [file for path in form_paths(folder, auction) if (file := read_form_file(path, width, auction))]
+    names = Names(auction.rules)
+    for file in found:
+        check_name(file, names, choices, auction)
+    take_forms(last_forms(found, choices, auction), choices, auction)
+
+
+def add_faults(explained, choices, auction):
+    """Tells what is wrong with each form, and counts the bids of the others."""
+    by_form = {}
+    for line in explained.faults:
+        by_form.setdefault(line.form, []).append(line)
+    for number, form in enumerate(auction.counting, 1):
+        file, lines = form.file, by_form.get(number, [])
+        source = explaining.Source(Place(file.path), lambda: form_table(file, auction).rows)
+        auction.add(form.faults + explaining.faults_of(lines, lambda line: source, file.path))
+        if not lines and not explained.more:
+            form.bids = len(accepted.rows_of_form(file.text)) - 1
+            check_bids(form, choices, auction)
+        file.data = b""
+
+
+def check_missing(folder, choices, auction):
+    """Tells which form lacks, and which hasn't the bids that are expected."""
+    check_words(choices, auction)
+    for number, bidder in enumerate(auction.rules.bidders, 1):
+        name = bidder.name.decode()
+        if number not in auction.forms and name not in choices.allow_missing:
+            auction.fault(Place(folder), "there is no form of %s; say --allow-missing %s where it doesn't bid" % (name, name))
+    if choices.expect:
+        expected.compare(choices.expect, auction.rules, auction.forms, auction.faults)

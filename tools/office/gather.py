@@ -11,7 +11,7 @@ Exit status: 0 the input is written; 1 something is wrong; 2 the words are wrong
 """
 import os
 
-from office import choices, files, limits, printed, receipt, running
+from office import choices, files, printed, receipt, running
 from office.faults import all_counted
 
 
@@ -58,13 +58,10 @@ def write(given, text, told):
 
 def main():
     given = words()
-    auction = files.read_files(given.rules, given.forms, given.groups or [given.groups_file], choices.choices_of(given))
+    auction = files.read_files(given.rules, given.forms, given.groups or [given.groups_file], choices.choices_of(given), given.wdp)
     running.tell("".join(printed.line(str(fault)) for fault in auction.faults))
     if auction.faults:
         old = "; %s is what it was before" % given.output if given.output and os.path.exists(given.output) else ""
         raise running.Stopped("%s; nothing is written%s" % (all_counted(auction.faults), old))
-    text = files.joined(auction)
-    if len(text) > limits.INPUT:
-        raise running.Stopped("the input would have more than {:,} bytes; nothing is written".format(limits.INPUT))
-    write(given, text, receipt.receipt(auction, text))
+    write(given, auction.text, receipt.receipt(auction, auction.text))
     return 0

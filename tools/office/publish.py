@@ -15,7 +15,7 @@ import argparse
 import hashlib
 import os
 
-from office import called, inputs, running
+from office import accepted, called, judge, running
 from office.audit import printed
 from office.claim import Shown, shown_behind, with_shown
 from office.choosing import add_page_words
@@ -24,8 +24,6 @@ from office.plain import text_of
 from office.report import read_report
 from office.results import Audit, results_of, texts_of
 from office.run_record import GroupTold, Proof, RunTold, read_run
-
-ROOT = os.path.dirname(os.path.dirname(os.path.dirname(os.path.realpath(__file__))))
 
 
 def words():
@@ -38,7 +36,7 @@ def words():
     add_page_words(parser)
     parser.add_argument("--run", metavar="FILE", help="what is told of the run, as JSON")
     parser.add_argument("--audit", metavar="FILE", help="the input with solutions and certificates, as `wdp verify` reads it")
-    parser.add_argument("--wdp", default=os.path.join(ROOT, "wdp"), help=argparse.SUPPRESS)
+    parser.add_argument("--wdp", default=judge.WDP, help=argparse.SUPPRESS)
     given = parser.parse_args()
     if given.output is None and not given.text:
         parser.error("one of these words is needed: --output DIR, --text")
@@ -64,9 +62,7 @@ def audit_of(given, data, report):
 
 def results_from(data, report, told, given):
     """The figures of an input and its report; a Stopped where one of them is refused."""
-    auction = inputs.read_input(data, given.input)
-    if auction.faults:
-        raise running.Stopped(str(auction.faults[0]))
+    auction = accepted.judged(given.wdp, data, given.input)
     outcomes = read_report(report, auction, given.report)
     unknown = set(told.groups) - set(range(1, len(outcomes) + 1))
     if unknown:

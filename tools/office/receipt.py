@@ -1,7 +1,7 @@
 """The receipt of an input: what went into it, and a table from which each bidder is read what its form has."""
 import hashlib
 
-from office import printed
+from office import accepted, printed
 from office.faults import counted
 
 HEADINGS = ("Bidder", "Bids", "Highest", "Sum", "First bid", "Last bid")
@@ -20,7 +20,7 @@ def of_files(auction):
         name = bidder.name.decode()
         if number in auction.forms:
             entry = auction.forms[number]
-            yield line_of(name, entry.file, ", " + counted(len(entry.form.bids), "bid"))
+            yield line_of(name, entry.file, ", " + counted(entry.bids, "bid"))
         else:
             yield "%s: no form" % name
     for replaced in auction.replaced:
@@ -31,7 +31,7 @@ def of_files(auction):
 
 
 def of_groups(auction):
-    count = counted(auction.groups_text.count(b"\n"), "group")
+    count = counted(len(auction.groups), "group")
     return line_of("groups", auction.groups_file, ", " + count) if auction.groups_file else "groups: %s, each bidder alone" % count
 
 
@@ -46,7 +46,7 @@ def to_be_read_aloud(auction):
     """A row for each bidder; columns of numbers end at one place."""
     rows = [HEADINGS]
     for number, bidder in enumerate(auction.rules.bidders, 1):
-        bids = auction.forms[number].form.bids if number in auction.forms else []
+        bids = accepted.bids_of(auction.forms[number].file.text) if number in auction.forms else []
         amounts = [bid.amount for bid in bids]
         told = ["-"] * 4
         if bids:

@@ -15,7 +15,7 @@ import subprocess
 import sys
 import time
 
-from office import disproved, folder, inputs, running
+from office import accepted, disproved, folder, running
 from office.audit import printed, with_answers
 from office.choosing import solver_of
 from office.claim import TIE, UNIQUE, shown_behind
@@ -249,7 +249,7 @@ def find_ties(name, group):
 
 
 def auction_of_folder():
-    return inputs.read_input(running.content("input.txt"), "input.txt")
+    return accepted.read(running.content("input.txt"), "input.txt")
 
 
 def answers_of(solver, report, auction):
@@ -356,7 +356,7 @@ def results(solver):
              "Results made": time.strftime("%Y-%m-%d %H:%M %Z")}
     folder.write("run.json", text_of(given["versions"], times, groups))
     audit = folder.audit_path(solver)
-    words = ["--audit", audit, "--wdp", given["wdp"]] if os.path.exists(audit) else []
+    words = ["--wdp", given["wdp"]] + (["--audit", audit] if os.path.exists(audit) else [])
     words += ["--currency=" + given["currency"]] if given["currency"] else []
     status, _, messages = run_tool([os.path.join(TOOLS, "results"), "input.txt", folder.report_path(solver), "--run", "run.json",
                                     "--title=" + given["title"], "--output", "results/%s" % solver, *words])

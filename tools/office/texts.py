@@ -30,12 +30,12 @@ class Text:
 
 @dataclass
 class Table:
-    """The records of a file, each a list of fields, and what was changed to have them."""
+    """The records of a file as rows, and what was changed to have them."""
 
-    records: list
+    rows: list
     changes: list
-    # the field whose quote isn't closed, as where a file was cut off
-    unclosed: tables.Field | None
+    # the place of the field whose quote isn't closed, as where a file was cut off
+    unclosed: tuple | None
     # whether the last row ends as a row does, and not perhaps in the middle of a value
     is_ended: bool
 
@@ -109,46 +109,49 @@ def turned(delimiter):
     return [] if delimiter == b"," else [DELIMITERS[delimiter] + " turned into commas"]
 
 
-def holds_something(record):
-    return any(cell.text for cell in record)
-
-
-def within(records, width):
-    """The records without the empty fields behind the ones that they have to have."""
+def within(rows, width):
+    """Drops the empty fields behind those that a row has to have, and says so."""
     changed = 0
-    for place, record in enumerate(records):
-        if len(record) > width and not holds_something(record[width:]):
-            records[place] = record[:width]
+    for row in rows:
+        if len(row.values) > width and not any(row.values[width:]):
+            del row.values[width:]
             changed += 1
     return ["empty fields at the end of rows dropped: %d" % changed] if changed else []
 
 
+def refuse_unwritable(row):
+    """Ends where a row can't be a record of an input."""
+    if row.is_too_wide:
+        raise NotText("the row in line {} has more than {:,} fields".format(row.line, tables.FIELDS))
+    if row.places and any(b"\n%" in value for value in row.values):
+        raise NotText("in a field of the row in line {} a line begins with %, as the heads of parts do".format(row.line))
+
+
 def table(data, width_of, most=None):
-    """The records of a file's bytes, at most so many; `width_of` gives the fields of a record from the first one."""
+    """The records of a file's bytes, at most so many; `width_of` gives the fields of a record from the first one's values."""
     text = decoded(data)
     delimiter, begin, of_delimiter = delimiter_of(text.bytes)
-    rows = tables.Records(text.bytes[begin:], delimiter, first_line=2 if begin else 1, drops_empty=True)
-    records, empty = [], 0
-    for row in rows:
-        if holds_something(row):
-            records.append(row)
-            if len(records) == most:
+    records = tables.Records(text.bytes[begin:], delimiter, first_line=2 if begin else 1, drops_empty=True)
+    rows, empty = [], 0
+    for row in records:
+        refuse_unwritable(row)
+        if any(row.values):
+            rows.append(row)
+            if len(rows) == most:
                 break
         else:
             empty += 1
-    if rows.too_wide:
-        raise NotText("the row in line {} has more than {:,} fields".format(rows.too_wide, tables.FIELDS))
-    empty += rows.empty
+    empty += records.empty
     changes = text.changes + line_ends(text.bytes) + of_delimiter
     changes += ["empty rows dropped: %d" % empty] if empty else []
-    changes += within(records, width_of(records[0])) if records else []
-    return Table(records, changes, rows.unclosed, not records or is_ended(text.bytes, delimiter))
+    changes += within(rows, width_of(rows[0].values)) if rows else []
+    return Table(rows, changes, records.unclosed, not rows or is_ended(text.bytes, delimiter))
 
 
 def lines(data):
-    """The lines of a list, without the empty ones at its end, each with its number, and what was changed."""
+    """The lines of a list, without the empty ones at its end, and what was changed."""
     text = decoded(data)
     parted = tables.LINE_END.split(text.bytes)
     while parted and not parted[-1].strip():
         parted.pop()
-    return list(enumerate(parted, 1)), text.changes + line_ends(text.bytes)
+    return parted, text.changes + line_ends(text.bytes)

@@ -10,7 +10,7 @@ import sys
 import tempfile
 import time
 
-from office import called, disproved, engines, folder, inputs, running
+from office import accepted, called, disproved, engines, folder, running
 from office.ending import end_by_interrupt, end_with_parent
 from office.faults import counted
 from office.progress import FAILED, Progress, say
@@ -117,9 +117,7 @@ def take_input(given):
     if belongs != digest:
         raise running.Stopped("%s belongs to the input of SHA-256 %s, and this input's is %s; take another folder"
                               % (given.folder, belongs, digest))
-    auction = inputs.read_input(data, given.input or path)
-    if auction.faults:
-        raise running.Stopped(str(auction.faults[0]))
+    auction = accepted.judged(given.wdp, data, given.input or path)
     if not auction.groups or auction.groups[0]:
         raise running.Stopped("group 1 is not empty: the first line of %groups has to be `-`, since costs are told against "
                               "the winners among all bidders")

@@ -8,6 +8,7 @@ import unittest
 from office import choices, files
 
 TOOLS = os.path.dirname(os.path.dirname(os.path.dirname(os.path.abspath(__file__))))
+WDP = os.environ.get("WDP", os.path.join(os.path.dirname(TOOLS), "wdp"))
 BIDDERS = ["Ant", "Bee", "Cat", "Dove", "Eel", "Fox", "Gnat", "Heron", "Ibis"]
 RULES = ("rules,1,100,,\ncategory,Low,6,1000,2\ncategory,High,4,500,1\n"
          + "".join("bidder,%s,20,1,\n" % name for name in BIDDERS)).encode()
@@ -35,7 +36,8 @@ EXPORTS = [
 
 def run(tool, *words, **how):
     how = {"capture_output": True, "stdin": subprocess.DEVNULL, **how}
-    return subprocess.run([sys.executable, os.path.join(TOOLS, tool), *words], timeout=300, **how)
+    program = ["--wdp", WDP] if tool in ("gather", "explain") else []
+    return subprocess.run([sys.executable, os.path.join(TOOLS, tool), *program, *words], timeout=300, **how)
 
 
 class Office(unittest.TestCase):
@@ -72,7 +74,7 @@ class Office(unittest.TestCase):
 
     def read(self):
         """What the files tell, read without starting a tool."""
-        return files.read_files(self.path("rules.csv"), self.path("forms"), [self.path("groups.txt")], choices.Choices())
+        return files.read_files(self.path("rules.csv"), self.path("forms"), [self.path("groups.txt")], choices.Choices(), WDP)
 
     def gather(self, *words):
         return run("gather", self.path("rules.csv"), self.path("forms"), *(words or [self.path("groups.txt")]))

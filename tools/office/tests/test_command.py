@@ -4,7 +4,7 @@ import shutil
 import subprocess
 import unittest
 
-from office.tests.offices import TOOLS, Office, run
+from office.tests.offices import TOOLS, WDP, Office, run
 
 # each command with the tool that it runs
 TOOL_OF = {"gather": "gather", "explain": "explain", "auction": "auction", "results": "results", "solve": "solve",
@@ -40,7 +40,7 @@ class Command(Office):
         files = [self.path("rules.csv"), self.path("forms"), self.path("groups.txt")]
         for words in (["gather", *files], ["explain", *files], ["explain", "--bids", *files], ["explain", self.path("none")]):
             own = run(words[0], *words[1:])
-            self.assertEqual(self.seen(*words), (own.returncode, own.stdout.decode(), own.stderr.decode()))
+            self.assertEqual(self.seen(*words, "--wdp", WDP), (own.returncode, own.stdout.decode(), own.stderr.decode()))
 
     def test_it_names_itself_and_no_file_of_the_repository(self):
         for command, tool in TOOL_OF.items():
@@ -63,7 +63,7 @@ class Command(Office):
 
     def test_it_is_found_through_a_link_from_elsewhere(self):
         os.symlink(os.path.join(TOOLS, "wdp-office"), self.path("linked"))
-        done = subprocess.run([self.path("linked"), "gather", "rules.csv", "forms", "groups.txt"], capture_output=True,
+        done = subprocess.run([self.path("linked"), "gather", "--wdp", WDP, "rules.csv", "forms", "groups.txt"], capture_output=True,
                               cwd=self.folder, env={"PATH": "/usr/bin:/bin"}, timeout=300)
         self.assertEqual((done.returncode, done.stdout), (0, self.gather().stdout))
 

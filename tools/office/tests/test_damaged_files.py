@@ -1,4 +1,5 @@
-"""Folders of forms with damages of all kinds: refused in lines, or joined to an input that wdp takes, with no bid changed."""
+"""Folders of forms with damages of all kinds: refused in lines, each of wdp's once and at its place, or joined to an input that
+wdp takes, with no bid changed."""
 import os
 import random
 import shutil
@@ -6,12 +7,12 @@ import subprocess
 import tempfile
 import unittest
 
-from office import choices, files, inputs
+from office import accepted, choices, files, judge, texts
+from office.tests import reference
 from office.tests.damaged_inputs import damaged
-from office.tests.offices import TOOLS
+from office.tests.offices import TOOLS, WDP
 
 SAMPLE = os.path.join(os.path.dirname(TOOLS), "examples", "office")
-WDP = os.environ.get("WDP")
 DAMAGES = int(os.environ.get("DAMAGES", "1000"))
 NAMES = ["Heron.csv", "Heron (2).csv", "Wren.csv.bak", "Teal", "teal.csv", "Aster-Wren.csv", "x.csv", "Merlin-2.txt", "Linnet.xlsx", "a\nb.csv"]
 WORDS = {"last_wins": [None, "name", "time"], "any_file_name": [False, True], "allow_missing": [(), ("Teal",), ("Teal", "Wren"), ("nobody",)],
@@ -36,8 +37,23 @@ def damage(choice, folder):
                 file.write(text[:choice.randrange(len(text) + 1)] if what == 3 else damaged(text or b"x", choice.randrange(10 ** 9)))
 
 
-def bids_of(form):
-    return [(bid.amount, bid.package) for bid in form.bids]
+def bids_of(rows):
+    """The bids of a form's rows behind the first one."""
+    return [(int(amount), tuple(map(int, package))) for amount, *package in rows[1:]]
+
+
+def rows_of(path):
+    """The rows of a file by the other reader: those that hold something, with the places of their fields in the file."""
+    with open(path, "rb") as file:
+        text = texts.decoded(file.read()).bytes
+    delimiter, begin, _ = texts.delimiter_of(text)
+    return [row for row in reference.records(text[begin:], delimiter, 2 if begin else 1) if any(field.value for field in row)]
+
+
+def is_said(words, lines):
+    """Whether these are the words of one of wdp's lines, or those of rows that are alike."""
+    said = [line.detail or "bid %s has the same package" % line.earlier for line in lines]
+    return bool(reference.ALIKE.match(words)) or any(words == detail or words.startswith(detail + ": ") for detail in said)
 
 
 class Damaged(unittest.TestCase):
@@ -50,19 +66,31 @@ class Damaged(unittest.TestCase):
             forms = os.path.join(folder, "forms")
             shutil.copytree(os.path.join(SAMPLE, "forms"), forms)
             damage(choice, forms)
-            auction = files.read_files(os.path.join(SAMPLE, "rules.csv"), forms, [os.path.join(SAMPLE, "groups.txt")], words)
+            auction = files.read_files(os.path.join(SAMPLE, "rules.csv"), forms, [os.path.join(SAMPLE, "groups.txt")], words, WDP)
             for fault in auction.faults:
                 self.assertTrue(str(fault).isprintable() and len(str(fault)) < 1_000, str(fault))
             if auction.faults:
+                self.hold_places(auction)
                 return False
-            text = files.joined(auction)
-        read = inputs.read_input(text, "input")
-        self.assertEqual(list(map(str, read.faults)), [])
-        self.assertEqual({form.bidder: bids_of(form) for form in read.forms},
-                         {number: bids_of(entry.form) for number, entry in auction.forms.items()})
-        if WDP:
-            self.assertEqual(subprocess.run([WDP, "compile"], input=text, stdout=subprocess.DEVNULL).returncode, 0)
+            self.hold_bids(auction)
         return True
+
+    def hold_places(self, auction):
+        """What wdp explains of the input stands where the files have it."""
+        lines = judge.explained(WDP, auction.text).faults
+        for number, form in enumerate(auction.counting, 1):
+            path = form.file.path
+            rows, told = rows_of(path), [line for line in lines if line.form == number]
+            faults = [fault for fault in auction.faults if fault.place.file == path and is_said(fault.words, told)]
+            reference.hold(self, told, faults, lambda line: rows[line.at - 1] if line.at <= len(rows) else None)
+
+    def hold_bids(self, auction):
+        """The forms that wdp takes have the bids of the files."""
+        self.assertEqual(subprocess.run([WDP, "compile"], input=auction.text, stdout=subprocess.DEVNULL).returncode, 0)
+        read = accepted.read(auction.text, "input")
+        self.assertEqual({form.bidder: [(bid.amount, bid.package) for bid in form.bids] for form in read.forms},
+                         {number: bids_of([[field.value for field in row][:4] for row in rows_of(entry.file.path)])
+                          for number, entry in auction.forms.items()})
 
     def test_nothing_passes_that_wdp_refuses(self):
         passed = 0

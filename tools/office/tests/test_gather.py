@@ -6,20 +6,20 @@ import sys
 import time
 import unittest
 
-from office.tests.offices import BIDDERS, GROUPS, RULES, TOOLS, Office, form, run
+from office.tests.offices import BIDDERS, GROUPS, RULES, TOOLS, WDP, Office, form, run
 
-# Ten faults of one form: each line's row, and the words that it is told in.
+# Ten faults of one form: each line's row, and the column and the words in which it is told.
 FAULTY = [
-    ("9950,1,1", "amount 9,950 isn't a multiple of 100"),
-    ('"1,300",1,0', "amount '1,300' has a comma"),
-    ("12 000,1,2", "amount '12 000' has a space"),
-    ("1300.00,1,3", "has a point"),
-    ("0,2,0", "amount 0 isn't between 1 and 1,000,000,000,000"),
-    ("9000,two,0", "quantity of Low 'two' isn't a whole number"),
-    ("9000,1,10001", "quantity of High is 10,001, above 10,000"),
-    ("9000,0,0", "the bid asks for no lot"),
-    ("99000,10,1", "the package has 21 points, above the eligibility of 20"),
-    ("600,0,2", "amount 600 is below the package's reserve of 1,000"),
+    ("9950,1,1", "1: '9950' isn't a multiple of 100"),
+    ('"1,300",1,0', "1: '1,300' isn't 1 to 18 digits: it has a comma; write digits alone"),
+    ("12 000,1,2", "1: '12 000' isn't 1 to 18 digits: it has a space; write digits alone"),
+    ("1300.00,1,3", "1: '1300.00' isn't 1 to 18 digits: it has a point; write digits alone"),
+    ("0,2,0", "1: '0' isn't between 1 and 1000000000000"),
+    ("9000,two,0", "6: 'two' isn't 1 to 18 digits"),
+    ("9000,1,10001", "8: '10001' isn't between 0 and 10000"),
+    ("9000,0,0", "1: each quantity is 0"),
+    ("99000,10,1", "1: 21 points, above the eligibility of 20"),
+    ("600,0,2", "1: '600' is below the reserve of 1000"),
 ]
 
 
@@ -53,8 +53,8 @@ class Clean(Office):
         self.write("forms/Ant.csv", form("Ant", ["5000,2,1", "5000,3,1", "9900,7,0"]).encode())
         told = self.explain("--bids").stdout.decode().splitlines()
         self.assertEqual(told[:3], ["Ant: 3 bids, 1 kept",
-                                    "Ant: bid 2 is dominated by bid 1: that asks for no more of any category and pays 5,000",
-                                    "Ant: bid 3 asks for 7 of Low where there are 6"])
+                                    "Ant: bid 2 is dominated by bid 1",
+                                    "Ant: bid 3 asks for 7 of Low, where there are 6"])
 
 
 class Wrong(Office):
@@ -64,8 +64,7 @@ class Wrong(Office):
         told = seen.stderr.decode().splitlines()
         self.assertEqual((seen.returncode, seen.stdout, len(told)), (1, b"", 11))
         for line, (place, (_, words)) in zip(told, enumerate(FAULTY, 2)):
-            self.assertTrue(line.startswith(self.path("forms/Heron.csv") + ":%d:" % place), line)
-            self.assertIn(words, line)
+            self.assertEqual(line, "%s:%d:%s" % (self.path("forms/Heron.csv"), place, words))
         self.assertEqual(self.explain().stdout.decode().splitlines()[:10], told[:10])
 
     def test_a_copied_template(self):
@@ -102,9 +101,10 @@ class Wrong(Office):
 
     def test_faulty_rules_and_groups(self):
         self.write("groups.txt", b"-\nAnt+Ant\nDelta\n")
-        self.assert_stopped(self.gather(), "groups.txt:2:5: 'Ant' stands twice", "groups.txt:3:1: 'Delta' is no bidder")
+        self.assert_stopped(self.gather(), "groups.txt:2:5: 'Ant' stands in the line already", "groups.txt:3:1: 'Delta' is no bidder's name")
         self.write("rules.csv", RULES.replace(b"Low,6", b"Low,six").replace(b"Bee,20", b"Ant,20"))
-        self.assert_stopped(self.gather(), "rules.csv:2:14: supply 'six'", "rules.csv:5:8: an earlier bidder is named 'Ant'")
+        self.assert_stopped(self.gather(), "rules.csv:2:14: 'six' isn't 1 to 18 digits",
+                            "rules.csv:5:8: 'Ant' is the name of an earlier record of its kind")
 
 
 class Ends(Office):
@@ -116,6 +116,13 @@ class Ends(Office):
             self.assert_stopped(run("gather", *words))
         self.assert_stopped(run("explain", self.path("none")))
         self.assert_stopped(run("explain", self.path("forms")))
+
+    def test_a_program_that_is_not_there(self):
+        files = [self.path("rules.csv"), self.path("forms"), self.path("groups.txt")]
+        for tool, words in (("gather", files), ("explain", files), ("explain", files[:1])):
+            seen = run(tool, "--wdp", self.path("none"), *words)
+            self.assertEqual((seen.returncode, seen.stdout), (1, b""))
+            self.assertEqual(seen.stderr.decode(), "%s: %s doesn't start: No such file or directory\n" % (tool, self.path("none")))
 
     def test_wrong_words(self):
         for words in ([], [self.path("rules.csv"), self.path("forms")],
@@ -153,7 +160,7 @@ class Ends(Office):
         bids = ["99000,0,1"] + ["100,%d,%d" % (place % 100, place // 100 + 2) for place in range(3_900)]
         self.write("rules.csv", rules)
         self.write("forms/Ant.csv", form("Ant", bids).encode())
-        words = [sys.executable, os.path.join(TOOLS, "explain"), self.path("rules.csv"), self.path("forms"), "--bids"]
+        words = [sys.executable, os.path.join(TOOLS, "explain"), self.path("rules.csv"), self.path("forms"), "--bids", "--wdp", WDP]
         with subprocess.Popen(words, stdout=subprocess.PIPE, stderr=subprocess.PIPE) as tool:
             tool.stdout.read(10)
             tool.stdout.close()

@@ -3,7 +3,7 @@ import os
 import socket
 import unittest
 
-from office import forms, limits, reading, rules, tables, texts
+from office import files, limits, reading, tables, texts
 from office.tests.offices import BIDDERS, Office, form, run
 
 HEADER = b"Fox,Low,High\n"
@@ -31,7 +31,7 @@ class Splitting(unittest.TestCase):
         for pairs in (1_000, 100_000):
             for text, value in ((b'"' + b'""' * pairs + b'"', b'"' * pairs), (b'"' + b'a""' * pairs, b'a"' * pairs)):
                 copied, records = self.copied(text + b",1\n")
-                self.assertEqual(records[0][0].text[:2 * pairs], value)
+                self.assertEqual(records[0].values[0][:2 * pairs], value)
                 self.assertLess(copied, 3 * len(text))
 
     def test_no_more_is_read_than_is_asked_for(self):
@@ -39,29 +39,31 @@ class Splitting(unittest.TestCase):
         next(iter(tables.Records(Counting(HEADER + b"5000,2,1\n" * 100_000))))
         self.assertLess(Counting.copied, 100)
 
-    def test_a_row_of_a_million_fields_ends_the_table(self):
+    def test_of_a_row_of_a_million_fields_few_are_kept(self):
         for row in (b"1," * 1_000_000 + b"1", b'"1",' * 1_000_000 + b"1"):
             records = list(tables.Records(HEADER + row + b"\n5000,2,1\n"))
-            self.assertEqual((len(records), len(records[1])), (2, tables.FIELDS + 1))
+            self.assertEqual((len(records[1].values), records[1].is_too_wide), (tables.FIELDS + 1, True))
             self.assertEqual(tables.counted_fields(records[1]), "more than 1,000 fields")
+            # what stands behind it keeps its place
+            self.assertEqual((records[2].values, records[2].place(1), len(records)), ([b"5000", b"2", b"1"], (3, 6), 3))
 
     def test_no_row_behind_a_row_of_quoted_empty_fields_is_lost(self):
         for row in (b'"",' * 1_000 + b'""', b'"",' * 5_000 + b"1", b"1," * 5_000 + b"1"):
             with self.assertRaisesRegex(texts.NotText, "the row in line 3 has more than 1,000 fields"):
                 texts.table(HEADER + b"5000,2,1\n" + row + b"\n9900,4,0\n", lambda first: 3)
         table = texts.table(HEADER + b"5000,2,1\n" + b'"",' * 999 + b'""\n9900,4,0\n', lambda first: 3)
-        self.assertEqual([row[0].text for row in table.records], [b"Fox", b"5000", b"9900"])
+        self.assertEqual([row.values[0] for row in table.rows], [b"Fox", b"5000", b"9900"])
 
     def test_empty_fields_behind_a_row_do_not_end_the_table(self):
         more = b"," * 16_000
         table = texts.table(HEADER.strip() + more + b"\n5000,2,1" + more + b"\n9900,4,0\n", lambda first: 3)
-        self.assertEqual([[cell.text for cell in row] for row in table.records],
+        self.assertEqual([row.values for row in table.rows],
                          [[b"Fox", b"Low", b"High"], [b"5000", b"2", b"1"], [b"9900", b"4", b"0"]])
 
     def test_rows_without_anything_are_counted_and_keep_their_lines(self):
         table = texts.table(HEADER + b",,\n\r\n,\n" * 100_000 + b',"",\n,2,1\n,,', lambda first: 3)
-        self.assertEqual([[cell.text for cell in row] for row in table.records[1:]], [[b"", b"2", b"1"]])
-        self.assertEqual((table.records[1][1].line, table.records[1][1].column), (300_003, 2))
+        self.assertEqual([row.values for row in table.rows[1:]], [[b"", b"2", b"1"]])
+        self.assertEqual(table.rows[1].place(1), (300_003, 2))
         self.assertIn("empty rows dropped: 200,002".replace(",", ""), table.changes)
 
 
@@ -88,7 +90,7 @@ class Sizes(Office):
             self.assert_stopped(run(*words), "/dev/zero: it has more than 8,388,610 bytes")
         with open("/dev/zero", "rb") as endless:
             seen = run("explain", "-", stdin=endless)
-        self.assertIn(b"input: the input has more than 134,217,728 bytes (wdp: input: too large)\n", seen.stdout)
+        self.assertIn(b"input: it has more than 134,217,728 bytes (wdp: input: too large)\n", seen.stdout)
 
     def test_all_forms_together(self):
         for number in range(33):
@@ -97,19 +99,20 @@ class Sizes(Office):
         self.assertIn("forms: its files have 276,8", "\n".join(self.refused("--last-wins", "name")))
 
     def test_a_form_is_read_no_further_than_a_bid_too_many(self):
-        rows = b"".join(b"%d,1,0\n" % (1000 + 100 * number) for number in range(limits.BIDS + 1000))
+        rows = b"".join(b"%d,1,0\n" % (1000 + 100 * number) for number in range(limits.FORM + 1000))
         self.write("forms/Fox.csv", HEADER + rows)
         lines = self.refused()
-        # 4,000 packages like the first one's, and a bid too many
-        self.assertEqual(lines[100:], [self.path("forms/Fox.csv") + ": 3,901 more faults in this file"])
-        table = texts.table(HEADER + rows, lambda first: 3, forms.RECORDS)
-        self.assertEqual(len(table.records), 4_002)
+        # 4,000 packages like the first one's; a bid with a fault isn't one of those that are too many
+        self.assertEqual(lines[100:], [self.path("forms/Fox.csv") + ": 3,900 more faults in this file"])
+        table = texts.table(HEADER + rows, lambda first: 3, limits.FORM)
+        self.assertEqual(len(table.rows), 4_002)
 
     def test_rules_are_read_no_further_than_they_may_go(self):
         rows = b"rules,1,100,,\n" + b"bidder,Ant,20,1,\n" * 10_000
-        records = texts.table(rows, rules.width_of, rules.RECORDS).records
-        self.assertEqual(len(records), 1 + 32 + 256 + 16 + 16 * 32 + 1)
-        self.assertIn("an earlier bidder is named", rules.read_rules(records, "rules.csv")[1][0].words)
+        table = texts.table(rows, files.rules_width, limits.RULES)
+        self.assertEqual(len(table.rows), 1 + 32 + 256 + 16 + 16 * 32 + 1)
+        self.write("rules.csv", rows)
+        self.assert_stopped(self.gather(), "rules.csv:3:8: 'Ant' is the name of an earlier record of its kind\n")
 
 
 class Unread:
@@ -132,7 +135,7 @@ class Counted(Office):
         self.write("input.txt", b"%rules\nrules,1,1,,\ncategory,A,1,0,0\nbidder,Ant,1,1,\n" + b"%form\nAnt,A\nx,1\n" * 5_000 + b"%groups\n-\n")
         told = run("explain", self.path("input.txt")).stdout.decode().splitlines()
         self.assertEqual(len(told), 102)
-        self.assertTrue(told[0].endswith("input.txt:7:1: amount 'x' isn't a whole number of digits alone (wdp: form 1: 5 AmountText at record 2)"))
+        self.assertTrue(told[0].endswith("input.txt:7:1: 'x' isn't 1 to 18 digits (wdp: form 1: 5 AmountText at record 2)"))
         self.assertEqual(told[-2:], [self.path("input.txt") + ": 4,900 more faults in this file", "5,000 faults"])
 
 

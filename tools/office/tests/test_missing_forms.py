@@ -40,7 +40,7 @@ class Damaged(Office):
 
     def test_no_bytes(self):
         self.write("forms/Fox.csv", b"")
-        self.assertIn("Fox.csv: the first row has to be the bidder's name", "\n".join(self.refused("--allow-missing", "Fox")))
+        self.assertEqual(self.refused("--allow-missing", "Fox"), [self.path("forms/Fox.csv") + ": there is no record"])
 
     def test_a_last_row_that_may_have_been_cut_off(self):
         # 12 may have been 120
@@ -60,6 +60,13 @@ class Damaged(Office):
                 auction = self.read()
                 if not auction.faults:
                     self.assertIn(auction.forms[8].file.text, whole, text[:end])
+
+    def test_a_second_byte_order_mark_hides_no_form(self):
+        # wdp drops the mark at the beginning of a part, and would read the form of Fox, who is told to have none
+        for text in (b"\xef\xbb\xbf\xef\xbb\xbfFox,Low,High\n", b"sep=,\n\xef\xbb\xbfFox,Low,High\n", b',,\n"\xef\xbb\xbfFox",Low,High\n'):
+            self.write("forms/Fox.csv", text + b"5000,2,1\n")
+            line, = self.refused("--allow-missing", "Fox")
+            self.assertTrue(line.endswith(": '\\xef\\xbb\\xbfFox' is no bidder's name"), line)
 
     def test_a_quote_that_is_not_closed(self):
         self.write("forms/Fox.csv", b'Fox,Low,High\n5000,2,1\n12000,4,"12')
@@ -145,7 +152,8 @@ class Expected(Office):
         path = self.path("counts.csv")
         for row, told in (("Foks,3", ":10:1: 'Foks' is no bidder of the rules"), ("Ant,3", ":10:1: an earlier row is of 'Ant'"),
                           ("Ant", ":10:1: the row has 1 field; it is to have a bidder and a number of bids"),
-                          ("Ibis,three", ":10:6: number of bids 'three' isn't a whole number of digits alone")):
+                          ("Ibis,three", ":10:6: 'three' isn't a number of bids"),
+                          ("Ibis,3.0", ":10:6: '3.0' isn't a number of bids: it has a point; write digits alone")):
             text = self.COUNTS.replace("Ibis,3\n", "") if row.startswith("Ibis") else self.COUNTS
             told = told.replace(":10:", ":9:") if row.startswith("Ibis") else told
             self.assertEqual(self.refused(*self.expect(text + row + "\n")), [path + told])

@@ -74,7 +74,7 @@ class Values(Office):
         self.write("forms/Fox-2.csv", form(name).encode())
         lines = self.refused("--allow-missing", "Fox")
         self.assertEqual(len(lines), 2)
-        self.assertTrue(all("'Fox\\nHeron: 12 bids' is no bidder" in line for line in lines), lines)
+        self.assertTrue(all("'Fox\\x0aHeron: 12 bids' is no bidder" in line for line in lines), lines)
 
     def test_names_in_groups_and_counts(self):
         self.write("groups.txt", b"-\nFo\x1bx+\xff\n")

@@ -96,7 +96,7 @@ class Page(HTMLParser):
 
 
 def results(*words, **how):
-    return subprocess.run([os.path.join(TOOLS, "results"), *words], stdin=subprocess.DEVNULL, capture_output=True, timeout=300, **how)
+    return subprocess.run([os.path.join(TOOLS, "results"), "--wdp", WDP, *words], stdin=subprocess.DEVNULL, capture_output=True, timeout=300, **how)
 
 
 class Folder(unittest.TestCase):

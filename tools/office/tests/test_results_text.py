@@ -105,7 +105,7 @@ class Text(test_results.Folder):
     def test_a_full_disk_is_told(self):
         words = [self.write("input.txt", TIE), self.write("report.txt", TIE_REPORT), "--text"]
         with open("/dev/full", "wb") as full:
-            seen = subprocess.run([os.path.join(TOOLS, "results"), *words], stdout=full, stderr=subprocess.PIPE)
+            seen = subprocess.run([os.path.join(TOOLS, "results"), "--wdp", test_results.WDP, *words], stdout=full, stderr=subprocess.PIPE)
         self.assertEqual((seen.returncode, seen.stderr), (1, b"results: standard output: No space left on device\n"))
 
     def test_it_needs_python_alone(self):

@@ -1,11 +1,13 @@
 """Records of comma separated values at their edges."""
+import random
 import unittest
 
 from office import tables, texts
+from office.tests import reference
 
 
 def values(text, delimiter=b","):
-    return [[cell.text for cell in record] for record in tables.Records(text, delimiter)]
+    return [row.values for row in tables.Records(text, delimiter)]
 
 
 class Records(unittest.TestCase):
@@ -34,13 +36,23 @@ class Records(unittest.TestCase):
 
     def test_places(self):
         first, second = tables.Records(b'a,"b\r\nc",d\n\ne,f', first_line=4)
-        self.assertEqual([(cell.line, cell.column) for cell in first], [(4, 1), (4, 3), (5, 4)])
-        self.assertEqual([(cell.line, cell.column) for cell in second], [(7, 1), (7, 3)])
+        self.assertEqual([first.place(at) for at in range(3)], [(4, 1), (4, 3), (5, 4)])
+        self.assertEqual([second.place(at) for at in range(3)], [(7, 1), (7, 3), (7, 3)])
 
     def test_written_records_are_read_back(self):
-        rows = [[b"a", b"1,5", b'"'], [b"%form", b"\n"], [b"b", b""]]
+        rows = [[b"a", b"1,5", b'"'], [b"%form", b"\n"], [b"b", b""], [b"\xef\xbb\xbfFox", b"\xef\xbb\xbf"], [b"c", b"", b"\r"]]
         self.assertEqual(values(b"".join(map(tables.written, rows))), rows)
-        self.assertFalse(tables.written([b"%form"]).startswith(b"%"))
+        # neither a head of a part, nor a mark that is dropped
+        self.assertEqual(tables.written([b"%form", b"1"]), b'"%form",1\n')
+        self.assertEqual(tables.written([b"\xef\xbb\xbfFox"]), b'"\xef\xbb\xbfFox"\n')
+
+    def test_what_is_written_is_read_back_whatever_the_values_are(self):
+        draw = random.Random(5)
+        for _ in range(2_000):
+            row = [b"x"] + [bytes(draw.choices(b'ab,;"%\r\n\t \xef\xbb\xbf', k=draw.randrange(4))) for _ in range(draw.randrange(4))]
+            draw.shuffle(row)
+            for read in (values, lambda text: [[field.value for field in record] for record in reference.records(text)]):
+                self.assertEqual(read(tables.written(row)), [row])
 
 
 class Spreadsheets(unittest.TestCase):
@@ -62,14 +74,19 @@ class Spreadsheets(unittest.TestCase):
         for data, changes in self.WAYS:
             with self.subTest(data=data):
                 table = texts.table(data, lambda first: 3)
-                self.assertEqual([[cell.text for cell in record] for record in table.records],
+                self.assertEqual([row.values for row in table.rows],
                                  [[b"Alpha", b"A", b"B"], [b"30", b"1", b"0"]])
                 self.assertEqual(table.changes, changes)
 
     def test_a_value_is_never_changed(self):
         for value in (b'"1,234"', b"12 000", b" 5", b"1.0", b"12\xc2\xa0000"):
-            records = texts.table(b"Alpha,A,B\n" + value + b",1,0\n", lambda first: 3).records
-            self.assertEqual(records[1][0].text, value.strip(b'"'))
+            rows = texts.table(b"Alpha,A,B\n" + value + b",1,0\n", lambda first: 3).rows
+            self.assertEqual(rows[1].values[0], value.strip(b'"'))
+
+    def test_a_field_that_would_head_a_part(self):
+        for row in (b'"1\n%form\nBeta",1,0\n', b'1,"a\r\n%groups",0\n'):
+            with self.assertRaisesRegex(texts.NotText, "in a field of the row in line 2 a line begins with %"):
+                texts.table(b"Alpha,A,B\n" + row, lambda first: 3)
 
     def test_no_text(self):
         for data in (b"PK\x03\x04 a workbook", b"a\0b\0", b"\xff\xfea"):

@@ -4,7 +4,7 @@ import shutil
 import subprocess
 import unittest
 
-from office.tests.offices import TOOLS, Office, form, run
+from office.tests.offices import TOOLS, WDP, Office, form, run
 
 
 class OneForm(Office):
@@ -18,9 +18,17 @@ class OneForm(Office):
     def test_scientific_notation_is_called_so(self):
         for amount in ("1E+08", "1e8", '"1,5E+07"', "1.00E+08"):
             line, = self.rows(amount + ",1,1")
-            self.assertEqual(line, ":2:1: amount '%s' is in scientific notation, as spreadsheets show wide numbers; write digits alone"
-                             % amount.strip('"'))
-        self.assertIn("has a plus sign", self.rows("+8000,1,1")[0])
+            self.assertEqual(line, ":2:1: '%s' isn't 1 to 18 digits: it is in scientific notation, as spreadsheets show wide "
+                             "numbers; write digits alone" % amount.strip('"'))
+
+    def test_signs_in_a_number_are_named(self):
+        for row, told in (("+8000,1,1", ":2:1: '+8000' isn't 1 to 18 digits: it has a plus sign; write digits alone"),
+                          ("8000,-1,1", ":2:6: '-1' isn't 1 to 18 digits: it has a minus sign; write digits alone"),
+                          ("8000,1,", ":2:8: '' isn't 1 to 18 digits: the field is empty"),
+                          ("8\u00a0000,1,1", ":2:1: '8\\xc2\\xa0000' isn't 1 to 18 digits: it has a space; write digits alone"),
+                          ("1234567890123456789,1,1", ":2:1: '1234567890123456789' isn't 1 to 18 digits"),
+                          ("8000,many,1", ":2:6: 'many' isn't 1 to 18 digits")):
+            self.assertEqual(self.rows(row), [told])
 
     def test_a_wrong_separator_has_one_line_for_all_rows(self):
         for mark, name in ((";", "semicolons"), ("\t", "tabs"), ("|", "bars")):
@@ -36,14 +44,14 @@ class OneForm(Office):
         self.assertEqual(self.rows("5000,2,1", "0,0,0", "0,,", "3000,0,3", ",00,0"), [zeros])
         self.assertEqual(self.rows("0,0,0"), [":2:1: the row holds nothing but zeros; delete it where it is no bid"])
         self.assertEqual(self.rows("5000,2,1", "0,0,0", "x,0,3", "0,0,0", "0,0,0", "5000,0,0"),
-                         [zeros, ":4:1: amount 'x' isn't a whole number of digits alone", ":7:1: the bid asks for no lot"])
+                         [zeros, ":4:1: 'x' isn't 1 to 18 digits", ":7:1: each quantity is 0"])
 
-    def test_zeros_and_separators_are_told_first_where_they_stand_first(self):
+    def test_zeros_and_separators_are_told_where_the_first_of_them_stands(self):
         many = ["x,y,z"] * 60
-        lines = self.rows("5000;2;1", *many, "0,0,0")
-        self.assertTrue(lines[0].startswith(":2:1: the row has semicolons"))
-        self.assertEqual(lines[-1], ": 80 more faults in this file")
-        self.assertIn(":63:1: the row holds nothing but zeros; delete it where it is no bid", lines)
+        lines = self.rows("5000;2;1", *many, "0,0,0", "5000;2;1", "0,0,0")
+        self.assertEqual(lines[0], ":2:1: 2 rows from line 2 to line 64 have semicolons between their fields, and the first row hasn't")
+        # 180 faults of rows, and the rows of zeros, which are one more, less the 99 that are told
+        self.assertEqual((len(lines), lines[-1]), (101, ": 82 more faults in this file"))
 
     def test_a_line_that_tells_the_separator(self):
         by_hand = self.gather().stdout
@@ -55,7 +63,7 @@ class OneForm(Office):
         self.write("forms/Fox.csv", b"sep=,\n" + form("Fox").encode())
         self.assertEqual(self.gather().stdout, by_hand)
         # lines keep their numbers
-        self.assertIn(":3:1: amount 'x'", self.lines("sep=;\nFox;Low;High\nx;1;1\n")[0])
+        self.assertIn(":3:1: 'x'", self.lines("sep=;\nFox;Low;High\nx;1;1\n")[0])
 
     def test_a_line_that_tells_another_separator(self):
         for told in ("|", "", ";;", "¦"):
@@ -89,7 +97,7 @@ class Copied(Office):
 
     def test_a_link_does(self):
         os.symlink(os.path.join(TOOLS, "gather"), self.path("gather"))
-        seen = subprocess.run([self.path("gather"), "rules.csv", "forms", "groups.txt"], capture_output=True, cwd=self.folder, timeout=300)
+        seen = subprocess.run([self.path("gather"), "--wdp", WDP, "rules.csv", "forms", "groups.txt"], capture_output=True, cwd=self.folder, timeout=300)
         self.assertEqual((seen.returncode, seen.stdout), (0, self.gather().stdout))
 
 

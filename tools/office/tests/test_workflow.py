@@ -285,7 +285,7 @@ class Runs(Folder):
 
     def test_wrong_inputs_and_folders(self):
         self.put("input.txt", content(EXAMPLES, "worked.txt").replace(b"30,1,0", b"3,1,0"))
-        self.assertIn("below the package's reserve", self.run_it()[1])
+        self.assertIn("'3' is below the reserve of 10 (wdp: form 1: 12 BelowReserve at record 2)", self.run_it()[1])
         self.put("input.txt", content(EXAMPLES, "worked.txt").replace(b"\n-\n", b"\nAlpha+Beta\n"))
         self.assertIn("group 1 is not empty", self.run_it()[1])
         os.unlink(os.path.join(self.folder, "input.txt"))
