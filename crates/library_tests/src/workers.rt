@@ -162,8 +162,11 @@ fn compiles_each_once<R: Threads + Wait + Sync>(
     }
     let gate = Counts::new(alloc, groups.count())?;
     let all = compile_all(rt, alloc, book, groups, row.workers, &gate)?;
-    let count = row.times * row.texts.len();
-    Ok(all.len() == count && are_texts(alloc, all.as_slice(), row.texts) && gate.are_each_one())
+    Ok(
+        row.times.checked_mul(row.texts.len()) == Some(all.len())
+            && are_texts(alloc, all.as_slice(), row.texts)
+            && gate.are_each_one(),
+    )
 }
 
 /// Whether the worker of a group that is held comes past the gate, since the other one draws both others.

@@ -2,6 +2,7 @@
 
 use crate::worked::ONE_BID;
 use mps_reader::read_program;
+use program_faults::MpsFault;
 use program_rows::FaultKind;
 use std::alloc::Global;
 use std::test::Fail;
@@ -46,10 +47,11 @@ const FRONTS: [(usize, usize, FaultKind); 8] = [
 
 fn is_too_large(alloc: Global) -> Result<bool, Fail> {
     let text = vec![in alloc; b'\n'; 67_108_865]?;
-    match read_program(alloc, &text) {
-        Ok(_) => Ok(false),
-        Err(fault) => Ok(fault.line == 0 && fault.kind == FaultKind::TooLarge),
-    }
+    let told = MpsFault {
+        line: 0,
+        kind: FaultKind::TooLarge,
+    };
+    Ok(read_program(alloc, &text).err() == Some(told))
 }
 
 #[test]

@@ -4,6 +4,7 @@
 use super::{FRONTS, PAIRS};
 use crate::worked::{ONE_BID, on_program};
 use mps_reader::read_program;
+use program_faults::MpsFault;
 use program_rows::{FaultKind, Program, same_program};
 use std::alloc::Global;
 use std::test::Fail;
@@ -25,24 +26,19 @@ fn a_program_or_want_of_memory(rt: HostRuntime) -> Result<(), Fail> {
     Ok(())
 }
 
-/// Whether a text is refused at this line for this fault.
-fn is_refused(alloc: Global, text: &[u8], line: usize, kind: FaultKind) -> Result<bool, Fail> {
-    match read_program(alloc, text) {
-        Ok(_) => Ok(false),
-        Err(fault) if fault.kind == FaultKind::OutOfMemory && fault.line == 0 => {
-            Err(Fail::from("out of memory"))
-        }
-        Err(fault) => Ok(fault.line == line && fault.kind == kind),
+/// Whether a text is refused so.
+fn is_refused(alloc: Global, text: &[u8], told: MpsFault) -> Result<bool, Fail> {
+    match read_program(alloc, text).err() {
+        Some(fault) if fault.kind == FaultKind::OutOfMemory => Err(Fail::from("out of memory")),
+        fault => Ok(fault == Some(told)),
     }
 }
 
 #[test]
 fn a_fault_or_want_of_memory(rt: HostRuntime) -> Result<(), Fail> {
     for (end, line, kind) in FRONTS {
-        assert!(rt;
-            is_refused(rt.alloc(), &ONE_BID[..end], line, kind)?,
-            "at {end}"
-        );
+        let told = MpsFault { line, kind };
+        assert!(rt; is_refused(rt.alloc(), &ONE_BID[..end], told)?, "at {end}");
     }
     Ok(())
 }

@@ -11,3 +11,6 @@ map_back-requires c =
     let point = c.in_ok-point.ensures.point in
     let comes = points_come_back (lots_in c.args.book.now.rules) (book_of c.args.book.now) (has c.args.group.now) p c.in_ok-point.point c.requires point in
     record { sized = allowed-length p.columns c.in_ok-point.point point.allowed; map = comes.map }
+
+pub objective-requires : goal.objective-requires
+objective-requires c = allowed-length c.args.program.now.columns c.in_ok-point.point c.in_ok-point.ensures.point.allowed
