@@ -13,9 +13,6 @@ const FAULTY: &[u8] =
 const LINES: &[u8] =
     b"form 1: 7 AmountStep at record 2, field 1\nform 1: 8 QuantityText at record 2, field 3\nform 1: 7 AmountStep at record 3, field 1\nform 1: 10 EmptyPackage at record 3\nform 2: 2 Header at record 1\nform 3: 3 UnknownBidder at record 1, field 1\nform 3: 9 QuantityRange at record 2, field 3\ngroups: 3 UnknownBidder at line 2, name 2\ngroups: 4 RepeatedBidder at line 2, name 3\ngroups: 2 EmptyLine at line 3\n";
 
-const SOUND: &[u8] =
-    b"%rules\nrules,1,5,,\ncategory,A,2,10,1\nbidder,Alpha,9,2,\n%form\nAlpha,A\n30,1\n%groups\n-\n";
-
 const COMPILE: Request = Request::Compile { workers: 1 };
 
 // The bytes of a head, and so many bids with one fault each.
@@ -28,26 +25,6 @@ fn bids(alloc: Global, count: usize) -> Result<Vec<u8>, Fail> {
         text.extend_from_slice(b"1,1\n")?;
     }
     Ok(text)
-}
-
-#[test]
-fn each_fault_has_its_line(rt: HostRuntime) -> Result<(), Fail> {
-    let mut out = MemorySink::new(rt.alloc());
-    match explain(rt.alloc(), &COMPILE, FAULTY, &mut out) {
-        Ok(faulty) => assert!(rt; faulty && out.bytes() == LINES),
-        Err(_) => return Err(Fail::from("out of memory")),
-    }
-    Ok(())
-}
-
-#[test]
-fn a_sound_input_has_none(rt: HostRuntime) -> Result<(), Fail> {
-    let mut out = MemorySink::new(rt.alloc());
-    match explain(rt.alloc(), &COMPILE, SOUND, &mut out) {
-        Ok(faulty) => assert!(rt; !faulty && out.bytes().is_empty()),
-        Err(_) => return Err(Fail::from("out of memory")),
-    }
-    Ok(())
 }
 
 #[test]

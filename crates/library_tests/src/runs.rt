@@ -114,21 +114,72 @@ fn told(alloc: Global, words: &[&str]) -> io::Result<Args> {
     Ok(list.into_iter())
 }
 
-/// Whether a run, whose output is to be `whole`, ends as it has to on a sink that takes so many bytes a put and has so
-/// much room: the output's front went out, and the line tells how many bytes of it.
+/// A run with ample memory and room.
+#[derive(Clone, Copy)]
+struct Run {
+    words: &'static [&'static str],
+    input: &'static [u8],
+    output: &'static [u8],
+}
+
+impl Run {
+    fn without_a_command(words: &'static [&'static str]) -> Run {
+        Run {
+            words,
+            input: ONE_FORM,
+            output: ONE_FORM_TEXT,
+        }
+    }
+}
+
+/// One of each command that writes.
+const RUNS: [Run; 6] = [
+    Run {
+        words: &["wdp", "text"],
+        input: ONE_FORM,
+        output: ONE_FORM_TEXT,
+    },
+    Run {
+        words: &["wdp", "compile", "--workers", "2"],
+        input: TWO_GROUPS,
+        output: TWO_PROGRAMS,
+    },
+    Run {
+        words: &["wdp", "map", "--group", "1"],
+        input: SOLVED,
+        output: WINNERS,
+    },
+    Run {
+        words: &["wdp", "report", "--workers", "64"],
+        input: SOLVED_TWICE,
+        output: REPORT,
+    },
+    Run {
+        words: &["wdp", "check"],
+        input: ONE_FORM_TEXT,
+        output: SIZES,
+    },
+    Run {
+        words: &["wdp", "verify", "--workers", "2"],
+        input: CERTIFIED,
+        output: VERIFIED,
+    },
+];
+
+/// Whether such a run ends as it has to on a sink that takes so many bytes a put and has so much room: the output's front went
+/// out, and the line tells how many bytes of it.
 fn ends_as_told<R: Threads + Wait + Sync + AllocGlobal>(
     rt: &R,
-    words: &[&str],
-    input: &[u8],
-    whole: &[u8],
+    row: &Run,
     room: usize,
     most: usize,
 ) -> Result<bool, Fail> {
     let alloc: Global = rt.alloc();
-    let mut input = Source::new(input);
+    let whole = row.output;
+    let mut input = Source::new(row.input);
     let mut out = LimitSink::new(alloc, room, most)?;
     let mut faults = MemorySink::new(alloc);
-    let words = told(alloc, words);
+    let words = told(alloc, row.words);
     let status = run(rt, words, &mut input, &mut out, &mut faults);
     if room >= whole.len() {
         return Ok(status == 0 && out.bytes() == whole && faults.bytes().is_empty());
@@ -190,63 +241,29 @@ fn an_input_without_an_end_is_refused(rt: HostRuntime) {
     assert!(rt; input.reader.given == 134_217_729);
 }
 
-#[test]
-fn a_text_fails_at_every_byte(rt: HostRuntime) -> Result<(), Fail> {
-    for room in 0..191usize {
-        let ended = ends_as_told(&rt, &["wdp", "text"], ONE_FORM, ONE_FORM_TEXT, room, 7)?;
-        assert!(rt; ended, "at {room}");
+/// Whether such a run ends as it has to with room for each number of bytes, up to all of them.
+fn end_as_told<R: Threads + Wait + Sync + AllocGlobal>(rt: &R, row: &Run) -> Result<bool, Fail> {
+    for room in 0..row.output.len() {
+        if !ends_as_told(rt, row, room, 7)? {
+            return Ok(false);
+        }
     }
-    assert!(rt; ends_as_told(&rt, &["wdp"], ONE_FORM, ONE_FORM_TEXT, 12, 3)?);
-    assert!(rt; ends_as_told(&rt, &[], ONE_FORM, ONE_FORM_TEXT, 190, 7)?);
-    Ok(())
+    ends_as_told(rt, row, row.output.len(), 7)
 }
 
 #[test]
-fn programs_fail_at_every_byte(rt: HostRuntime) -> Result<(), Fail> {
-    let words: [&str; 4] = ["wdp", "compile", "--workers", "2"];
-    for room in 0..295usize {
-        let ended = ends_as_told(&rt, &words, TWO_GROUPS, TWO_PROGRAMS, room, 7)?;
-        assert!(rt; ended, "at {room}");
-    }
-    Ok(())
-}
-
-#[test]
-fn winners_fail_at_every_byte(rt: HostRuntime) -> Result<(), Fail> {
-    let words: [&str; 4] = ["wdp", "map", "--group", "1"];
-    for room in 0..42usize {
-        let ended = ends_as_told(&rt, &words, SOLVED, WINNERS, room, 7)?;
-        assert!(rt; ended, "at {room}");
+fn outputs_fail_at_every_byte(rt: HostRuntime) -> Result<(), Fail> {
+    for row in &RUNS {
+        let command = row.words.get(1).unwrap_or(&"no command");
+        assert!(rt; end_as_told(&rt, row)?, "{command}");
     }
     Ok(())
 }
 
 #[test]
-fn a_report_fails_at_every_byte(rt: HostRuntime) -> Result<(), Fail> {
-    let words: [&str; 4] = ["wdp", "report", "--workers", "64"];
-    for room in 0..102usize {
-        let ended = ends_as_told(&rt, &words, SOLVED_TWICE, REPORT, room, 7)?;
-        assert!(rt; ended, "at {room}");
-    }
-    Ok(())
-}
-
-#[test]
-fn sizes_fail_at_every_byte(rt: HostRuntime) -> Result<(), Fail> {
-    for room in 0..28usize {
-        let ended = ends_as_told(&rt, &["wdp", "check"], ONE_FORM_TEXT, SIZES, room, 7)?;
-        assert!(rt; ended, "at {room}");
-    }
-    Ok(())
-}
-
-#[test]
-fn a_verified_report_fails_at_every_byte(rt: HostRuntime) -> Result<(), Fail> {
-    let words: [&str; 4] = ["wdp", "verify", "--workers", "2"];
-    for room in 0..197usize {
-        let ended = ends_as_told(&rt, &words, CERTIFIED, VERIFIED, room, 7)?;
-        assert!(rt; ended, "at {room}");
-    }
+fn a_text_fails_where_no_command_is_given(rt: HostRuntime) -> Result<(), Fail> {
+    assert!(rt; ends_as_told(&rt, &Run::without_a_command(&["wdp"]), 12, 3)?);
+    assert!(rt; ends_as_told(&rt, &Run::without_a_command(&[]), 190, 7)?);
     Ok(())
 }
 

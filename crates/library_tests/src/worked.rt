@@ -33,6 +33,9 @@ pub const BETA: &[u8] = b"Beta,A,B\n20,1,0\n45,3,0\n";
 
 pub const GAMMA: &[u8] = b"Gamma,A,B\n12,0,1\n";
 
+/// The forms of the worked auction.
+pub const FORMS: [&[u8]; 3] = [ALPHA, BETA, GAMMA];
+
 pub fn form_of(alloc: Global, rules: &Rules, text: &[u8]) -> Result<Arc<Form, Global>, Fail> {
     Ok(Arc::new(alloc, read_form(alloc, text, rules)?)?)
 }

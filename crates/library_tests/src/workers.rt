@@ -1,11 +1,12 @@
 //! What workers compile of a worked auction, and that they work side by side, each on whatever group comes next.
 
-use crate::worked::RULES;
-use crate::worked::books::{on_book, on_groups, on_worked_groups};
+use crate::keeping::{Many, text_of_many};
+use crate::worked::books::on_groups;
+use crate::worked::{FORMS, RULES, WIDE_RULES};
 use answers::run_compile;
 use auction_terms::Groups;
 use bid_desk::ClosedBook;
-use group_compiler::{Compiled, Gate, OpenGate, compile_all, compile_one};
+use group_compiler::{Compiled, Gate, OpenGate, compile_all};
 use mps_text::MemorySink;
 use std::alloc::{AllocError, Global};
 use std::sync::Wait;
@@ -16,7 +17,6 @@ use std::thread;
 use std::thread::Threads;
 
 mod refused;
-mod wide;
 
 const ALL: &[u8] =
     b"NAME wdp\nROWS\n N OBJ\n L B1\n L B2\n L B3\n L C1\n L C2\nCOLUMNS\n M1 'MARKER' 'INTORG'\n X1_1 OBJ -30\n X1_1 B1 1\n X1_1 C1 1\n X1_2 OBJ -50\n X1_2 B1 1\n X1_2 C1 2\n X1_2 C2 1\n X2_1 OBJ -20\n X2_1 B2 1\n X2_1 C1 1\n X3_1 OBJ -12\n X3_1 B3 1\n X3_1 C2 1\n M2 'MARKER' 'INTEND'\nRHS\n RHS B1 1\n RHS B2 1\n RHS B3 1\n RHS C1 2\n RHS C2 1\nBOUNDS\n UP BND X1_1 1\n UP BND X1_2 1\n UP BND X2_1 1\n UP BND X3_1 1\nENDATA\n";
@@ -27,9 +27,6 @@ const WITHOUT_BETA: &[u8] =
 const WITHOUT_ALL: &[u8] =
     b"NAME wdp\nROWS\n N OBJ\n L C1\n L C2\nCOLUMNS\nRHS\n RHS C1 2\n RHS C2 1\nENDATA\n";
 
-/// Four groups, whose programs have 4, 2, 3 and no columns.
-const FOUR_GROUPS: &[u8] = b"-\nAlpha\nBeta\nAlpha+Beta+Gamma\n";
-
 const TURNS: u64 = 10_000_000;
 
 /// The first and the second group set their flags, and each waits for the other's.
@@ -38,6 +35,16 @@ struct Meeting {
     first: AtomicU64,
     second: AtomicU64,
     met: AtomicU64,
+}
+
+impl Meeting {
+    fn new() -> Meeting {
+        Meeting {
+            first: AtomicU64::new(0),
+            second: AtomicU64::new(0),
+            met: AtomicU64::new(0),
+        }
+    }
 }
 
 impl Gate for Meeting {
@@ -64,6 +71,16 @@ struct HeldGroup {
     held: usize,
     others: AtomicU64,
     freed: AtomicU64,
+}
+
+impl HeldGroup {
+    fn of(held: usize) -> HeldGroup {
+        HeldGroup {
+            held,
+            others: AtomicU64::new(0),
+            freed: AtomicU64::new(0),
+        }
+    }
 }
 
 impl Gate for HeldGroup {
@@ -113,79 +130,46 @@ impl Counts {
     }
 }
 
+/// What is put of a program.
 fn is_text(alloc: Global, compiled: &Compiled<'_>, text: &[u8]) -> bool {
     let mut sink = MemorySink::new(alloc);
     compiled.write_to(&mut sink).is_ok() && sink.bytes() == text
 }
 
-/// Whether the second of two groups is compiled as it has to be. It is not given `Wait`: no lock is taken for a group.
-fn compiles_without_beta(
-    rt: &(impl Threads + Sync),
-    alloc: Global,
-    book: &ClosedBook,
-    groups: &Groups,
-) -> Result<bool, Fail> {
-    if groups.count() != 2 {
-        return Ok(false);
-    }
-    let compiled = compile_one(rt, alloc, book, groups, 2)?;
-    Ok(
-        compiled.group().numbers() == [2u16].as_slice()
-            && compiled.program().column_count() == 3
-            && is_text(alloc, &compiled, WITHOUT_BETA),
-    )
-}
-
-/// Whether these are the three worked programs, in order.
-fn are_worked(alloc: Global, all: &[Compiled<'_>]) -> bool {
-    match all {
-        [one, two, three] => {
-            is_text(alloc, one, ALL)
-                && is_text(alloc, two, WITHOUT_BETA)
-                && is_text(alloc, three, WITHOUT_ALL)
-        }
-        _ => false,
+/// The text that a group at a place has, where these come again and again.
+fn text_at<'t>(texts: &[&'t [u8]], place: usize) -> &'t [u8] {
+    match place.checked_rem(texts.len()) {
+        Some(place) => texts[place],
+        None => b"",
     }
 }
 
-/// Whether so many workers compile the three worked programs, in order.
-fn compiles_the_worked_programs<R: Threads + Wait + Sync>(
-    rt: &R,
-    alloc: Global,
-    book: &ClosedBook,
-    groups: &Groups,
-    workers: usize,
-) -> Result<bool, Fail> {
-    if workers < 1 || workers > 64 {
-        return Ok(false);
-    }
-    let all = compile_all(rt, alloc, book, groups, workers, &OpenGate)?;
-    Ok(are_worked(alloc, all.as_slice()))
+/// Whether the programs have these texts, again and again.
+fn are_texts(alloc: Global, all: &[Compiled<'_>], texts: &[&[u8]]) -> bool {
+    (0..all.len()).all(|place| is_text(alloc, &all[place], text_at(texts, place)))
 }
 
-/// Whether the programs have as many columns as those of the four groups, again and again.
-fn are_of_four_groups(all: &[Compiled<'_>]) -> bool {
-    (0..all.len()).all(|place| all[place].program().column_count() == [4, 2, 3, 0][place % 4])
-}
-
-/// Whether so many workers compile so many groups, each once.
+/// Whether so many workers compile so many programs with these texts, again and again, each group once.
 fn compiles_each_once<R: Threads + Wait + Sync>(
     rt: &R,
     alloc: Global,
     book: &ClosedBook,
     groups: &Groups,
-    count: usize,
-    workers: usize,
+    row: &Row,
 ) -> Result<bool, Fail> {
-    if workers < 1 || workers > 64 {
+    if row.workers < 1 || row.workers > 64 {
         return Ok(false);
     }
-    let gate = Counts::new(alloc, count)?;
-    let all = compile_all(rt, alloc, book, groups, workers, &gate)?;
-    Ok(all.len() == count && are_of_four_groups(all.as_slice()) && gate.are_each_one())
+    let gate = Counts::new(alloc, groups.count())?;
+    let all = compile_all(rt, alloc, book, groups, row.workers, &gate)?;
+    Ok(
+        row.times.checked_mul(row.texts.len()) == Some(all.len())
+            && are_texts(alloc, all.as_slice(), row.texts)
+            && gate.are_each_one(),
+    )
 }
 
-/// Whether two workers come past the gate that holds one group of three until both others have come.
+/// Whether the worker of a group that is held comes past the gate, since the other one draws both others.
 fn frees<R: Threads + Wait + Sync>(
     rt: &R,
     alloc: Global,
@@ -193,11 +177,7 @@ fn frees<R: Threads + Wait + Sync>(
     groups: &Groups,
     held: usize,
 ) -> Result<bool, Fail> {
-    let gate = HeldGroup {
-        held,
-        others: AtomicU64::new(0),
-        freed: AtomicU64::new(0),
-    };
+    let gate = HeldGroup::of(held);
     let all = compile_all(rt, alloc, book, groups, 2, &gate)?;
     Ok(all.len() == 3 && gate.freed.load(SeqCst) == 1)
 }
@@ -210,22 +190,10 @@ fn frees_pages<R: Threads + Wait + Sync>(
     groups: &Groups,
     held: usize,
 ) -> bool {
-    let gate = HeldGroup {
-        held,
-        others: AtomicU64::new(0),
-        freed: AtomicU64::new(0),
-    };
+    let gate = HeldGroup::of(held);
     let mut out = MemorySink::new(alloc);
     let ended = run_compile(rt, alloc, book, groups, 2, &gate, &mut out);
     ended.is_ok() && gate.freed.load(SeqCst) == 1
-}
-
-/// Whether these are the first two worked programs, in order.
-fn are_first_worked(alloc: Global, all: &[Compiled<'_>]) -> bool {
-    match all {
-        [one, two] => is_text(alloc, one, ALL) && is_text(alloc, two, WITHOUT_BETA),
-        _ => false,
-    }
 }
 
 /// Whether both of two workers come past the gate at which each waits for the other one.
@@ -235,13 +203,10 @@ fn meet<R: Threads + Wait + Sync>(
     book: &ClosedBook,
     groups: &Groups,
 ) -> Result<bool, Fail> {
-    let gate = Meeting {
-        first: AtomicU64::new(0),
-        second: AtomicU64::new(0),
-        met: AtomicU64::new(0),
-    };
+    let gate = Meeting::new();
     let all = compile_all(rt, alloc, book, groups, 2, &gate)?;
-    Ok(are_first_worked(alloc, all.as_slice()) && gate.met.load(SeqCst) == 2)
+    let texts: [&[u8]; 2] = [ALL, WITHOUT_BETA];
+    Ok(are_texts(alloc, all.as_slice(), &texts) && gate.met.load(SeqCst) == 2)
 }
 
 /// The same of two workers that make the pages of the texts of two groups.
@@ -251,73 +216,18 @@ fn meet_at_pages<R: Threads + Wait + Sync>(
     book: &ClosedBook,
     groups: &Groups,
 ) -> bool {
-    let gate = Meeting {
-        first: AtomicU64::new(0),
-        second: AtomicU64::new(0),
-        met: AtomicU64::new(0),
-    };
+    let gate = Meeting::new();
     let mut out = MemorySink::new(alloc);
     let ended = run_compile(rt, alloc, book, groups, 2, &gate, &mut out);
     ended.is_ok() && gate.met.load(SeqCst) == 2
-}
-
-/// Whether 64 workers compile the programs of 1,024 groups of a book without a form, each once.
-fn compiles_each_without_a_form<R: Threads + Wait + Sync>(
-    rt: &R,
-    alloc: Global,
-    book: &ClosedBook,
-    groups: &Groups,
-) -> Result<bool, Fail> {
-    let gate = Counts::new(alloc, 1024)?;
-    let all = compile_all(rt, alloc, book, groups, 64, &gate)?;
-    Ok(all.len() == 1024 && gate.are_each_one() && are_all_empty(alloc, all.as_slice()))
-}
-
-fn are_all_empty(alloc: Global, all: &[Compiled<'_>]) -> bool {
-    all.iter()
-        .all(|compiled| is_text(alloc, compiled, WITHOUT_ALL))
-}
-
-/// These lines, again and again.
-fn repeated(alloc: Global, lines: &[u8], times: u32) -> Result<Vec<u8>, AllocError> {
-    let mut text = Vec::new(alloc);
-    for _ in 0..times {
-        text.extend_from_slice(lines)?;
-    }
-    Ok(text)
-}
-
-#[test]
-fn one_group_is_compiled(rt: HostRuntime) -> Result<(), Fail> {
-    let alloc = rt.alloc();
-    assert!(rt;
-        on_worked_groups(&rt, alloc, b"-\nBeta\n", |book, groups| {
-            compiles_without_beta(&rt, alloc, book, groups)
-        })?
-    );
-    Ok(())
 }
 
 #[test]
 fn two_workers_meet(rt: HostRuntime) -> Result<(), Fail> {
     let alloc = rt.alloc();
     assert!(rt;
-        on_worked_groups(
-            &rt,
-            alloc,
-            b"-\nBeta\n",
-            |book, groups| meet(&rt, alloc, book, groups)
-        )?
-    );
-    Ok(())
-}
-
-#[test]
-fn two_workers_meet_at_pages(rt: HostRuntime) -> Result<(), Fail> {
-    let alloc = rt.alloc();
-    assert!(rt;
-        on_worked_groups(&rt, alloc, b"-\nBeta\n", |book, groups| {
-            Ok(meet_at_pages(&rt, alloc, book, groups))
+        on_groups(&rt, alloc, RULES, &FORMS, b"-\nBeta\n", |book, groups| {
+            Ok(meet(&rt, alloc, book, groups)? && meet_at_pages(&rt, alloc, book, groups))
         })?
     );
     Ok(())
@@ -327,84 +237,144 @@ fn two_workers_meet_at_pages(rt: HostRuntime) -> Result<(), Fail> {
 fn no_worker_keeps_a_share(rt: HostRuntime) -> Result<(), Fail> {
     let alloc = rt.alloc();
     for held in [1usize, 2, 3] {
-        let is_freed = on_worked_groups(&rt, alloc, b"-\n-\n-\n", |book, groups| {
-            frees(&rt, alloc, book, groups, held)
+        let are_freed = on_groups(&rt, alloc, RULES, &FORMS, b"-\n-\n-\n", |book, groups| {
+            Ok(
+                frees(&rt, alloc, book, groups, held)?
+                    && frees_pages(&rt, alloc, book, groups, held),
+            )
         })?;
-        assert!(rt; is_freed, "at {held}");
+        assert!(rt; are_freed, "at {held}");
     }
     Ok(())
 }
 
-#[test]
-fn no_worker_keeps_a_share_of_pages(rt: HostRuntime) -> Result<(), Fail> {
-    let alloc = rt.alloc();
-    for held in [1usize, 2, 3] {
-        let is_freed = on_worked_groups(&rt, alloc, b"-\nAlpha\nBeta\n", |book, groups| {
-            Ok(frees_pages(&rt, alloc, book, groups, held))
-        })?;
-        assert!(rt; is_freed, "at {held}");
+/// Forms, the lines of groups, again and again, and the texts of their programs.
+#[derive(Clone, Copy)]
+struct Row {
+    forms: &'static [&'static [u8]],
+    lines: &'static [u8],
+    texts: &'static [&'static [u8]],
+    times: usize,
+    workers: usize,
+}
+
+impl Row {
+    /// The three worked groups of the worked forms.
+    fn of_three(times: usize, workers: usize) -> Row {
+        Row {
+            forms: &FORMS,
+            lines: b"-\nBeta\nGamma+Alpha+Beta\n",
+            texts: &[ALL, WITHOUT_BETA, WITHOUT_ALL],
+            times,
+            workers,
+        }
     }
-    Ok(())
 }
 
-#[test]
-fn a_thousand_groups_by_64_workers(rt: HostRuntime) -> Result<(), Fail> {
-    let alloc = rt.alloc();
-    let lines = repeated(alloc, FOUR_GROUPS, 256)?;
-    assert!(rt;
-        on_worked_groups(&rt, alloc, lines.as_slice(), |book, groups| {
-            compiles_each_once(&rt, alloc, book, groups, 1024, 64)
-        })?
-    );
-    Ok(())
-}
+/// 1,024 groups, where no form stands.
+const WITHOUT_FORMS: Row = Row {
+    forms: &[],
+    lines: b"-\n",
+    texts: &[WITHOUT_ALL],
+    times: 1024,
+    workers: 64,
+};
 
-#[test]
-fn a_thousand_groups_without_a_form_by_64_workers(rt: HostRuntime) -> Result<(), Fail> {
-    let alloc = rt.alloc();
-    let lines = repeated(alloc, b"-\n", 1024)?;
-    assert!(rt;
-        on_book(&rt, alloc, RULES, &[], |book| {
-            on_groups(alloc, book, lines.as_slice(), |book, groups| {
-                compiles_each_without_a_form(&rt, alloc, book, groups)
-            })
-        })?
-    );
-    Ok(())
-}
+/// Two groups, and many more workers.
+const TWO_GROUPS: Row = Row {
+    forms: &FORMS,
+    lines: b"-\nBeta\n",
+    texts: &[ALL, WITHOUT_BETA],
+    times: 1,
+    workers: 64,
+};
 
-#[test]
-fn few_groups_by_64_workers(rt: HostRuntime) -> Result<(), Fail> {
-    let alloc = rt.alloc();
-    assert!(rt;
-        on_worked_groups(&rt, alloc, b"-\nAlpha\n", |book, two| {
-            compiles_each_once(&rt, alloc, book, two, 2, 64)
-        })?
-    );
-    Ok(())
-}
+/// How often the three groups come, and by how many workers.
+const TIMES_AND_WORKERS: [(usize, usize); 7] = [
+    (1, 1),
+    (1, 2),
+    (1, 3),
+    (1, 64),
+    (0, 1),
+    (0, 64),
+    (341, 64),
+];
 
-#[test]
-fn no_group_by_any_workers(rt: HostRuntime) -> Result<(), Fail> {
-    let alloc = rt.alloc();
-    for workers in [1usize, 64] {
-        let is_compiled = on_worked_groups(&rt, alloc, b"", |book, none| {
-            compiles_each_once(&rt, alloc, book, none, 0, workers)
-        })?;
-        assert!(rt; is_compiled, "by {workers}");
+/// These lines, again and again.
+fn repeated(alloc: Global, lines: &[u8], times: usize) -> Result<Vec<u8>, AllocError> {
+    let mut text = Vec::new(alloc);
+    for _ in 0..times {
+        text.extend_from_slice(lines)?;
     }
-    Ok(())
+    Ok(text)
+}
+
+/// Whether the programs of a row are compiled.
+fn compiles<R: Threads + Wait + Sync>(rt: &R, alloc: Global, row: &Row) -> Result<bool, Fail> {
+    let lines = repeated(alloc, row.lines, row.times)?;
+    on_groups(
+        rt,
+        alloc,
+        RULES,
+        row.forms,
+        lines.as_slice(),
+        |book, groups| { compiles_each_once(rt, alloc, book, groups, row) },
+    )
 }
 
 #[test]
 fn any_workers_compile_the_same_programs(rt: HostRuntime) -> Result<(), Fail> {
-    let alloc = rt.alloc();
-    for workers in [1usize, 2, 3, 64] {
-        let lines = b"-\nBeta\nGamma+Alpha+Beta\n";
-        let are_compiled = on_worked_groups(&rt, alloc, lines, |book, groups| {
-            compiles_the_worked_programs(&rt, alloc, book, groups, workers)
-        })?;
-        assert!(rt; are_compiled, "by {workers}");
+    assert!(rt; compiles(&rt, rt.alloc(), &WITHOUT_FORMS)?);
+    assert!(rt; compiles(&rt, rt.alloc(), &TWO_GROUPS)?);
+    for (times, workers) in TIMES_AND_WORKERS {
+        let row = Row::of_three(times, workers);
+        assert!(rt;
+            compiles(&rt, rt.alloc(), &row)?,
+            "{times} times by {workers}"
+        );
     }
+    Ok(())
+}
+
+/// Whether there are three programs of so many columns.
+fn are_so_wide(all: &[Compiled<'_>], counts: [usize; 3]) -> bool {
+    match all {
+        [one, two, three] => {
+            [
+                one.program().column_count(),
+                two.program().column_count(),
+                three.program().column_count(),
+            ] == counts
+        }
+        _ => false,
+    }
+}
+
+fn compiles_so_wide<R: Threads + Wait + Sync>(
+    rt: &R,
+    alloc: Global,
+    book: &ClosedBook,
+    groups: &Groups,
+) -> Result<bool, Fail> {
+    let all = compile_all(rt, alloc, book, groups, 8, &OpenGate)?;
+    Ok(are_so_wide(all.as_slice(), [4000, 0, 4000]))
+}
+
+#[test]
+fn the_largest_form_by_8_workers(rt: HostRuntime) -> Result<(), Fail> {
+    let alloc = rt.alloc();
+    // None of the 4,000 bids dominates another.
+    let text = text_of_many(alloc, Many::AgainstEachOther)?;
+    let forms = [text.as_bytes()];
+    assert!(rt;
+        on_groups(
+            &rt,
+            alloc,
+            WIDE_RULES,
+            &forms,
+            b"-\nAlpha\n-\n",
+            |book, groups| { compiles_so_wide(&rt, alloc, book, groups) }
+        )?
+    );
     Ok(())
 }

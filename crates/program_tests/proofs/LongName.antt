@@ -1,8 +1,7 @@
--- A program of one column, and one row whose name is one letter again and again.
-use Rattle.std.proofs.Common.{◌≡◌, ℕ, zero, suc, ◌<◌, ◌≤◌, List, [], ◌∷◌, length, refl, sym, subst, arith, lit<, leb-true, pos, negsuc, replicate}
+-- A program of one row, whose name is one letter again and again, and no column.
+use Rattle.std.proofs.Common.{◌≡◌, ℕ, zero, suc, ◌<◌, ◌≤◌, List, [], ◌∷◌, length, refl, sym, subst, arith, leb-true, replicate}
 use Rattle.std.specs.Prelude.{codes}
 use Rattle.std.specs.List.{AllByRecursion}
-use Rattle.program_rows.specs.declared.bounds.Bounds.TheVariants.{ZeroOrOne}
 use Rattle.program_rows.specs.Program.{Table}
 use Rattle.program_rows.specs.Parts.{IsProgram}
 use Rattle.outcome.proofs.Worked.{at_most}
@@ -20,22 +19,18 @@ some : (n : ℕ) → 0 < length (letters (suc n))
 some n = omega arith
 
 abbrev pub long : ℕ → Table
-long n = record {
-  objective = codes "OBJ";
-  rows = at_most (letters n) 1 ∷ [];
-  columns = record { name = codes "X1_1"; bounds = ZeroOrOne; cost = negsuc 29; entries = (0, pos 1) ∷ [] } ∷ [];
-}
+long n = record { objective = codes "OBJ"; rows = at_most (letters n) 1 ∷ []; columns = [] }
 
 long_is_program : (n : ℕ) → IsProgram (long (suc n))
 long_is_program n = record {
   row_names = ((are_names (codes "OBJ" ∷ []) refl).0, ((some n, printable (suc n)), tt));
   rows_differ = distinct (codes "OBJ" ∷ letters (suc n) ∷ []) refl;
-  column_names = are_names (codes "X1_1" ∷ []) refl;
-  columns_differ = distinct (codes "X1_1" ∷ []) refl;
-  entries = ((lit< tt, (λ e. cc e), tt, tt), tt);
+  column_names = tt;
+  columns_differ = distinct [] refl;
+  entries = tt;
 }
 
-pub is_long_program : (n : ℕ) (p : Table) → 0 < n → p.objective ≡ codes "OBJ" → p.rows ≡ (long n).rows → p.columns ≡ (long n).columns → IsProgram p
+pub is_long_program : (n : ℕ) (p : Table) → 0 < n → p.objective ≡ codes "OBJ" → p.rows ≡ (long n).rows → p.columns ≡ [] → IsProgram p
 is_long_program zero p h e f g = absurd (omega arith)
 is_long_program (suc n) p h e f g =
     let same : long (suc n) ≡ record { objective = p.objective; rows = p.rows; columns = p.columns } = λ i. record { objective = (sym e) i; rows = (sym f) i; columns = (sym g) i } in

@@ -1,28 +1,26 @@
 //! What is made in more than one place.
 
-ghost use Rattle.std.specs.Prelude.{◌≡◌, IfOk};
-ghost use Rattle.program_rows.specs.declared.row.RowKind.TheVariants.{AtMost};
-ghost use Rattle.program_rows.specs.Parts.{shown_row};
-
 use auction_terms::{Kept, read_rules};
-use program_rows::{Program, Row, RowKind, build};
-use std::alloc::{AllocError, Global};
+use mps_reader::read_program;
+use program_rows::{Program, build};
+use std::alloc::Global;
 use std::test::Fail;
 
-/// The worked rules of the first bidder alone.
-pub const RULES_OF_ONE: &[u8] =
-    b"rules,1,1,,\ncategory,A,2,10,1\ncategory,B,1,5,1\nbidder,Alpha,9,2,\n";
+/// The program of one bid.
+pub const ONE_BID: &[u8] =
+    b"NAME wdp\nROWS\n N OBJ\n L B3\n L C1\n L C2\nCOLUMNS\n M1 'MARKER' 'INTORG'\n X3_1 OBJ -12\n X3_1 B3 1\n X3_1 C2 1\n M2 'MARKER' 'INTEND'\nRHS\n RHS B3 1\n RHS C1 2\n RHS C2 1\nBOUNDS\n UP BND X3_1 1\nENDATA\n";
 
-/// A row of at most so much.
-pub fn row(alloc: Global, name: &[u8], most: i64) -> Result<Row, AllocError>
-    ensures { IfOk result (λ r. shown_row r
-        ≡ record { name = name.now; kind = AtMost; right_side = most }) }
+/// What a trial of a text's program tells. Where the program stands in a function of its own, what the test goes on with is
+/// proved without it (docs/DEVELOPING.md, "Add a test").
+pub fn on_program<F: FnOnce(Global, &Program) -> Result<bool, Fail> + Drop>(
+    alloc: Global,
+    text: &[u8],
+    trial: F,
+) -> Result<bool, Fail>
+    requires { F.IsAlwaysCallable trial }
 {
-    Ok(Row {
-        name: Vec::from_slice(alloc, name)?,
-        kind: RowKind::AtMost,
-        right_side: most,
-    })
+    let program = read_program(alloc, text)?;
+    trial(alloc, &program)
 }
 
 /// The program of rules, without a bid.

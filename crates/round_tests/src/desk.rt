@@ -1,10 +1,13 @@
+//! Rounds that are played through a desk, by threads where sessions meet, and what their settled books hold.
+
 ghost use Rattle.std.specs.Prelude.{◌≡◌, ◌+◌};
 ghost use Rattle.auction_terms.specs.Terms.{session_count};
 
-use crate::worked::{ALPHA, GAMMA, blank, on_form};
+use crate::desk::settling::{opened, settled};
+use crate::worked::{ALPHA, Answer, GAMMA, are_told, blank, is_told, rules_and_form};
 use auction_terms::Rules;
-use bid_book::{Entry, Reply};
-use bid_desk::{ClosedBook, Desk, Round, Session};
+use bid_book::Reply;
+use bid_desk::{Chair, ClosedBook, Desk, Round, Session};
 use bid_forms::Form;
 use std::alloc::Global;
 use std::marker::Brand;
@@ -14,13 +17,20 @@ use std::test::Fail;
 use std::thread;
 use std::thread::Threads;
 
-mod raced;
 mod refused;
+mod settling;
 
-/// Whether the replies of a history are these, in order.
-fn replies_are(history: &[Entry], replies: &[Reply]) -> bool {
-    history.len() == replies.len()
-        && (0..replies.len()).all(|place| history[place].reply.is_same(&replies[place]))
+/// What the sessions of the first bidder do until the chair closes.
+#[derive(Clone, Copy)]
+enum Play {
+    /// Both submit, each on its own thread.
+    BothSubmit,
+    /// The same, and each withdraws over 1 then.
+    BothWithdraw,
+    /// One submits on a thread, while the chair closes on another.
+    OneAgainstTheClose,
+    /// They come to the limit of their calls, and then each session tries to submit.
+    MostCalls,
 }
 
 /// Submits a form through a session of its bidder, whatever the answer.
@@ -35,247 +45,249 @@ fn submit<L: Round, R: Wait>(
     }
 }
 
-/// The first two sessions submit, each on its own thread.
-fn both_submit<L: Round + Send + Sync, R: Threads + Wait + Sync>(
-    rt: &R,
-    desk: &Desk<L>,
-    sessions: &mut [Session<L>],
-    form: &Arc<Form, Global>,
-) {
-    if sessions.len() < 2 {
-        return;
-    }
-    let (first, second) = sessions.split_at_mut(1);
-    thread::join(
-        rt,
-        || submit(rt, desk, &mut first[0], form),
-        || submit(rt, desk, &mut second[0], form),
-    );
-}
-
-/// Each of the first two sessions withdraws over 1, each on its own thread.
-fn both_submit_and_withdraw<L: Round + Send + Sync, R: Threads + Wait + Sync>(
-    rt: &R,
-    desk: &Desk<L>,
-    sessions: &mut [Session<L>],
-    form: &Arc<Form, Global>,
-) {
-    if sessions.len() < 2 {
-        return;
-    }
-    let (first, second) = sessions.split_at_mut(1);
-    thread::join(
-        rt,
-        || submit_and_withdraw(rt, desk, &mut first[0], form),
-        || submit_and_withdraw(rt, desk, &mut second[0], form),
-    );
-}
-
-fn submit_and_withdraw<L: Round, R: Wait>(
+/// Submits, and withdraws over 1 where the play is so.
+fn submit_first<L: Round, R: Wait>(
     rt: &R,
     desk: &Desk<L>,
     session: &mut Session<L>,
     form: &Arc<Form, Global>,
+    play: Play,
 ) {
     submit(rt, desk, session, form);
-    let _ = desk.enter(rt).withdraw(session, 1);
+    if matches!(play, Play::BothWithdraw) {
+        let _ = desk.enter(rt).withdraw(session, 1);
+    }
 }
 
-/// Both sessions of the first bidder submit, the chair closes, and the desk is settled.
-fn submitted<L: Round + Send + Sync, R: Threads + Wait + Sync>(
-    rt: &R,
-    alloc: Global,
-    blank: Blank,
-    rules: Rules,
-    form: &Arc<Form, Global>,
-) -> Option<ClosedBook>
-    requires name { blank.name ≡ L.name }
-    requires parts { blank.parts ≡ L.parts }
-    requires part_count { (blank.parts ≡ L.part_count) × (L.part_count ≡ session_count rules + 1) }
-    requires rules { rules ≡ L.rules }
-{
-    let Ok((desk, mut chair, mut sessions)) = Desk::<L>::open(alloc, blank, rules) else {
-        return None;
-    };
-    both_submit(rt, &desk, &mut sessions, form);
-    let _ = desk.enter(rt).close(&mut chair);
-    desk.stop().settle(alloc, chair, sessions).ok()
-}
-
-/// Whether one submission was accepted, which stands, and the other one told of it.
-fn is_one_of_both(closed: &ClosedBook, form: &Form) -> bool {
-    let replies = [
-        Reply::Accepted { number: 1 },
-        Reply::Stale { standing: Some(1) },
-        Reply::Closed { was_open: true },
-    ];
-    replies_are(closed.history(), &replies)
-        && closed.form(1).is_some_and(|stands| stands.is_same(form))
-}
-
-fn takes_one_of_both<R: Threads + Wait + Sync>(
-    rt: &R,
-    alloc: Global,
-    rules: Rules,
-    form: &Arc<Form, Global>,
-) -> Result<bool, Fail> {
-    let blank = blank(&rules)?;
-    let closed = submitted::<Brand, _>(rt, alloc, blank, rules, form);
-    Ok(closed.is_some_and(|closed| is_one_of_both(&closed, form)))
-}
-
-#[test]
-fn both_sessions_submit(rt: HostRuntime) -> Result<(), Fail> {
-    let alloc = rt.alloc();
-    assert!(rt;
-        on_form(
-            alloc,
-            ALPHA,
-            |rules, form| takes_one_of_both(&rt, alloc, rules, form)
-        )?
-    );
-    Ok(())
-}
-
-/// The same, where each of the two sessions then withdraws over 1.
-fn withdrawn<L: Round + Send + Sync, R: Threads + Wait + Sync>(
-    rt: &R,
-    alloc: Global,
-    blank: Blank,
-    rules: Rules,
-    form: &Arc<Form, Global>,
-) -> Option<ClosedBook>
-    requires name { blank.name ≡ L.name }
-    requires parts { blank.parts ≡ L.parts }
-    requires part_count { (blank.parts ≡ L.part_count) × (L.part_count ≡ session_count rules + 1) }
-    requires rules { rules ≡ L.rules }
-{
-    let Ok((desk, mut chair, mut sessions)) = Desk::<L>::open(alloc, blank, rules) else {
-        return None;
-    };
-    both_submit_and_withdraw(rt, &desk, &mut sessions, form);
-    let _ = desk.enter(rt).close(&mut chair);
-    desk.stop().settle(alloc, chair, sessions).ok()
-}
-
-/// Whether one session called twice and then the other one, or both submitted first.
-fn is_one_order(closed: &ClosedBook) -> bool {
-    let one_after_the_other = [
-        Reply::Accepted { number: 1 },
-        Reply::Withdrawn { number: 2 },
-        Reply::Accepted { number: 3 },
-        Reply::Stale { standing: Some(3) },
-        Reply::Closed { was_open: true },
-    ];
-    let both_first = [
-        Reply::Accepted { number: 1 },
-        Reply::Stale { standing: Some(1) },
-        Reply::Withdrawn { number: 2 },
-        Reply::Stale { standing: None },
-        Reply::Closed { was_open: true },
-    ];
-    replies_are(closed.history(), &one_after_the_other)
-        || replies_are(closed.history(), &both_first)
-}
-
-fn takes_one_order<R: Threads + Wait + Sync>(
-    rt: &R,
-    alloc: Global,
-    rules: Rules,
-    form: &Arc<Form, Global>,
-) -> Result<bool, Fail> {
-    let blank = blank(&rules)?;
-    let closed = withdrawn::<Brand, _>(rt, alloc, blank, rules, form);
-    Ok(closed.is_some_and(|closed| is_one_order(&closed)))
-}
-
-#[test]
-fn both_sessions_submit_and_withdraw(rt: HostRuntime) -> Result<(), Fail> {
-    let alloc = rt.alloc();
-    assert!(rt;
-        on_form(
-            alloc,
-            ALPHA,
-            |rules, form| takes_one_order(&rt, alloc, rules, form)
-        )?
-    );
-    Ok(())
-}
-
-/// Shows 500 times by each of the first two sessions, and once more by the first.
-fn show_to_the_limit<L: Round, R: Wait>(
+/// Both sessions play, each on its own thread.
+fn both_play<L: Round + Send + Sync, R: Threads + Wait + Sync>(
     rt: &R,
     desk: &Desk<L>,
     sessions: &mut [Session<L>],
-) -> Option<Reply> {
+    form: &Arc<Form, Global>,
+    play: Play,
+) {
     if sessions.len() < 2 {
-        return None;
+        return;
     }
-    for _ in 0..500 {
-        let _ = desk.enter(rt).show(&mut sessions[0]);
-        let _ = desk.enter(rt).show(&mut sessions[1]);
-    }
-    desk.enter(rt).show(&mut sessions[0]).ok()
+    let (first, second) = sessions.split_at_mut(1);
+    thread::join(
+        rt,
+        || submit_first(rt, desk, &mut first[0], form, play),
+        || submit_first(rt, desk, &mut second[0], form, play),
+    );
 }
 
-/// A round in which the first bidder comes to the limit, and the last one submits.
-fn at_the_limit<L: Round, R: Wait>(
+/// Closes the round, whatever the answer.
+fn close<L: Round, R: Wait>(rt: &R, desk: &Desk<L>, chair: &mut Chair<L>) {
+    let _ = desk.enter(rt).close(chair);
+}
+
+/// The first session submits while the chair closes, each on its own thread.
+fn submit_against_close<L: Round + Send + Sync, R: Threads + Wait + Sync>(
+    rt: &R,
+    desk: &Desk<L>,
+    chair: &mut Chair<L>,
+    sessions: &mut [Session<L>],
+    form: &Arc<Form, Global>,
+) {
+    if sessions.is_empty() {
+        return;
+    }
+    let session = &mut sessions[0];
+    thread::join(
+        rt,
+        || submit(rt, desk, session, form),
+        || close(rt, desk, chair),
+    );
+}
+
+/// Asks what stands, whatever the answer.
+fn show<L: Round, R: Wait>(rt: &R, desk: &Desk<L>, session: &mut Session<L>) {
+    let _ = desk.enter(rt).show(session);
+}
+
+/// Whether a session that asks what stands is told of the call limit.
+fn is_at_the_limit<L: Round, R: Wait>(rt: &R, desk: &Desk<L>, session: &mut Session<L>) -> bool {
+    matches!(desk.enter(rt).show(session), Ok(Reply::CallLimit))
+}
+
+/// Shows 500 times by each of the first two sessions. Whether the call limit is told where the first one asks once more.
+fn shows_to_the_limit<L: Round, R: Wait>(
+    rt: &R,
+    desk: &Desk<L>,
+    sessions: &mut [Session<L>],
+) -> bool {
+    if sessions.len() < 2 {
+        return false;
+    }
+    for _ in 0..500 {
+        show(rt, desk, &mut sessions[0]);
+        show(rt, desk, &mut sessions[1]);
+    }
+    is_at_the_limit(rt, desk, &mut sessions[0])
+}
+
+/// Each session whose bidder has the form submits it.
+fn all_submit<L: Round, R: Wait>(
+    rt: &R,
+    desk: &Desk<L>,
+    sessions: &mut [Session<L>],
+    form: &Arc<Form, Global>,
+) {
+    for session in sessions {
+        submit(rt, desk, session, form);
+    }
+}
+
+/// Plays, and closes. Whether the call limit is told where it has to be.
+fn is_played<L: Round + Send + Sync, R: Threads + Wait + Sync>(
+    rt: &R,
+    desk: &Desk<L>,
+    chair: &mut Chair<L>,
+    sessions: &mut [Session<L>],
+    form: &Arc<Form, Global>,
+    play: Play,
+) -> bool {
+    match play {
+        Play::BothSubmit | Play::BothWithdraw => both_play(rt, desk, sessions, form, play),
+        Play::OneAgainstTheClose => submit_against_close(rt, desk, chair, sessions, form),
+        Play::MostCalls => {
+            if !shows_to_the_limit(rt, desk, sessions) {
+                return false;
+            }
+            all_submit(rt, desk, sessions, form);
+        }
+    }
+    if !matches!(play, Play::OneAgainstTheClose) {
+        close(rt, desk, chair);
+    }
+    true
+}
+
+/// The settled book of a round that is played so. None where it isn't, or isn't settled.
+fn settled_as_played<L: Round + Send + Sync, R: Threads + Wait + Sync>(
     rt: &R,
     alloc: Global,
     blank: Blank,
     rules: Rules,
     form: &Arc<Form, Global>,
-) -> Option<(Reply, ClosedBook)>
+    play: Play,
+) -> Option<ClosedBook>
     requires name { blank.name ≡ L.name }
     requires parts { blank.parts ≡ L.parts }
     requires part_count { (blank.parts ≡ L.part_count) × (L.part_count ≡ session_count rules + 1) }
     requires rules { rules ≡ L.rules }
 {
-    let Ok((desk, mut chair, mut sessions)) = Desk::<L>::open(alloc, blank, rules) else {
+    let (desk, mut chair, mut sessions) = opened::<L>(alloc, blank, rules)?;
+    if !is_played(rt, &desk, &mut chair, &mut sessions, form, play) {
         return None;
-    };
-    let last = show_to_the_limit(rt, &desk, &mut sessions)?;
-    for session in &mut sessions {
-        submit(rt, &desk, session, form);
     }
-    let _ = desk.enter(rt).close(&mut chair);
-    let closed = desk.stop().settle(alloc, chair, sessions).ok()?;
-    Some((last, closed))
+    settled(alloc, desk.stop(), chair, sessions)
 }
 
-/// Whether a session came to the limit of its calls, and the form that another one submitted stands at the end.
-fn ends_at_the_limit(last: &Reply, closed: &ClosedBook) -> bool {
-    let history = closed.history();
-    match history.get(1000) {
-        Some(entry) => {
-            last.is_same(&Reply::CallLimit)
-                && history.len() == 1002
-                && entry.reply.is_same(&Reply::Accepted { number: 1 })
-        }
+/// Whether the form of the first bidder stands.
+fn stands(closed: &ClosedBook, form: &Form) -> bool {
+    match closed.form(1) {
+        Some(standing) => standing.is_same(form),
         None => false,
     }
 }
 
-fn settles_at_the_limit<R: Wait>(
+/// Whether one submission was accepted, which stands, and the other one told of it.
+fn is_one_of_both(closed: &ClosedBook, form: &Form) -> bool {
+    let answers = [
+        Answer::Accepted(1),
+        Answer::Stale(Some(1)),
+        Answer::Closed(true),
+    ];
+    are_told(closed.history(), &answers, form) && stands(closed, form)
+}
+
+const ONE_AFTER_THE_OTHER: [Answer; 5] = [
+    Answer::Accepted(1),
+    Answer::Withdrawn(2),
+    Answer::Accepted(3),
+    Answer::Stale(Some(3)),
+    Answer::Closed(true),
+];
+
+const BOTH_FIRST: [Answer; 5] = [
+    Answer::Accepted(1),
+    Answer::Stale(Some(1)),
+    Answer::Withdrawn(2),
+    Answer::Stale(None),
+    Answer::Closed(true),
+];
+
+/// Whether one session called twice and then the other one, or both submitted first.
+fn is_one_order(closed: &ClosedBook, form: &Form) -> bool {
+    are_told(closed.history(), &ONE_AFTER_THE_OTHER, form)
+        || are_told(closed.history(), &BOTH_FIRST, form)
+}
+
+/// Whether the form was accepted and stands, or came after the close and nothing stands.
+fn is_one_or_the_other(closed: &ClosedBook, form: &Form) -> bool {
+    if closed.form(1).is_some() {
+        let first = [Answer::Accepted(1), Answer::Closed(true)];
+        stands(closed, form) && are_told(closed.history(), &first, form)
+    } else {
+        let second = [Answer::Closed(true), Answer::RoundOver];
+        are_told(closed.history(), &second, form)
+    }
+}
+
+/// Whether another bidder's form is accepted behind all calls of the first one, and the close follows.
+fn ends_at_the_limit(closed: &ClosedBook, form: &Form) -> bool {
+    let history = closed.history();
+    match history.get(1000) {
+        Some(entry) => history.len() == 1002 && is_told(&entry.reply, Answer::Accepted(1), form),
+        None => false,
+    }
+}
+
+/// Whether a book is as it has to be where a form is played so.
+fn is_as_played(closed: &ClosedBook, form: &Form, play: Play) -> bool {
+    match play {
+        Play::BothSubmit => is_one_of_both(closed, form),
+        Play::BothWithdraw => is_one_order(closed, form),
+        Play::OneAgainstTheClose => is_one_or_the_other(closed, form),
+        Play::MostCalls => ends_at_the_limit(closed, form),
+    }
+}
+
+/// Whether a round that is played so, with the form of a text, settles as it has to.
+fn settles<R: Threads + Wait + Sync>(
     rt: &R,
     alloc: Global,
-    rules: Rules,
-    form: &Arc<Form, Global>,
+    text: &[u8],
+    play: Play,
 ) -> Result<bool, Fail> {
+    let (rules, form) = rules_and_form(alloc, text)?;
     let blank = blank(&rules)?;
-    let settled = at_the_limit::<Brand, _>(rt, alloc, blank, rules, form);
-    Ok(settled.is_some_and(|(last, closed)| ends_at_the_limit(&last, &closed)))
+    match settled_as_played::<Brand, _>(rt, alloc, blank, rules, &form, play) {
+        Some(closed) => Ok(is_as_played(&closed, &form, play)),
+        None => Ok(false),
+    }
 }
 
 #[test]
-fn most_calls_settle(rt: HostRuntime) -> Result<(), Fail> {
-    let alloc = rt.alloc();
-    assert!(rt;
-        on_form(
-            alloc,
-            GAMMA,
-            |rules, form| settles_at_the_limit(&rt, alloc, rules, form)
-        )?
-    );
+fn rounds_settle_as_they_are_played(rt: HostRuntime) -> Result<(), Fail> {
+    for (text, play, name) in [
+        (ALPHA, Play::BothSubmit, "both submit"),
+        (ALPHA, Play::BothWithdraw, "both withdraw"),
+        (GAMMA, Play::MostCalls, "most calls"),
+    ] {
+        assert!(rt; settles(&rt, rt.alloc(), text, play)?, "{name}");
+    }
+    Ok(())
+}
+
+#[test]
+fn a_thousand_submissions_against_the_close(rt: HostRuntime) -> Result<(), Fail> {
+    for round in 0..1000u32 {
+        let is_settled = settles(&rt, rt.alloc(), ALPHA, Play::OneAgainstTheClose)?;
+        assert!(rt; is_settled, "round {round}");
+    }
     Ok(())
 }

@@ -1,126 +1,81 @@
-use crate::worked::{ALPHA, BETA, GAMMA, RULES, WIDE_RULES, on_rules};
-use auction_terms::Rules;
-use bid_forms::{Form, FormFault, read_form};
-use std::alloc::Global;
-use std::fmt::Write;
-use std::test::Fail;
+//! Texts of forms under the worked rules, and what they tell.
+
+use crate::worked::{ALPHA, BETA, GAMMA};
+use auction_terms::Bid;
+use bid_forms::FormFault;
 
 mod refused;
 
-/// Each text is a form of its bidder, with so many bids.
-const FORMS: [(&[u8], u16, usize); 9] = [
-    (ALPHA, 1, 3),
-    (BETA, 2, 2),
-    (GAMMA, 3, 1),
-    (b"Alpha,A,B\n15,1,1\n", 1, 1),
-    (b"Alpha,A,B\n0015,01,1\n", 1, 1),
-    (b"\"Alpha\",\"A\",\"B\"\n", 1, 0),
-    (b"Alpha,A,B", 1, 0),
-    (b"\xEF\xBB\xBFAlpha,A,B\r\n\r\n30,1,0\r20,0,1", 1, 2),
-    (b"Alpha,A,B\n1000000000000,1,0", 1, 1),
+/// A text, the number of its bidder, and its bids: an amount, and the quantities of both categories.
+type FormText = (&'static [u8], u16, &'static [(u64, u16, u16)]);
+
+const FORMS: [FormText; 9] = [
+    (ALPHA, 1, &[(30, 1, 0), (50, 2, 1), (28, 1, 1)]),
+    (BETA, 2, &[(20, 1, 0), (45, 3, 0)]),
+    (GAMMA, 3, &[(12, 0, 1)]),
+    (b"Alpha,A,B\n15,1,1\n", 1, &[(15, 1, 1)]),
+    (b"Alpha,A,B\n0015,01,1\n", 1, &[(15, 1, 1)]),
+    (b"\"Alpha\",\"A\",\"B\"\n", 1, &[]),
+    (b"Alpha,A,B", 1, &[]),
+    (
+        b"\xEF\xBB\xBFAlpha,A,B\r\n\r\n30,1,0\r20,0,1",
+        1,
+        &[(30, 1, 0), (20, 0, 1)],
+    ),
+    (
+        b"Alpha,A,B\n1000000000000,1,0",
+        1,
+        &[(1_000_000_000_000, 1, 0)],
+    ),
 ];
 
-/// Whether a text is a form of this bidder, with so many bids, under rules that it meets.
-fn is_form(
-    alloc: Global,
-    rules: &Rules,
-    text: &[u8],
-    bidder: u16,
-    count: usize,
-) -> Result<bool, Fail> {
-    let form = read_form(alloc, text, rules)?;
-    Ok(form.bidder() == bidder && form.bids().len() == count && form.meets(rules))
+/// Whether these are just the bids that are expected.
+fn are_bids(bids: &[Bid], expected: &[(u64, u16, u16)]) -> bool {
+    bids.len() == expected.len()
+        && bids
+            .iter()
+            .zip(expected.iter())
+            .all(|(bid, wanted)| is_bid(bid, *wanted))
 }
 
-#[test]
-fn reads_forms(rt: HostRuntime) -> Result<(), Fail> {
-    let alloc = rt.alloc();
-    for (text, bidder, count) in FORMS {
-        let is_read = on_rules(
-            alloc,
-            RULES,
-            |rules| is_form(alloc, rules, text, bidder, count),
-        )?;
-        assert!(rt; is_read, "{count} bids of bidder {bidder}");
-    }
-    Ok(())
+fn is_bid(bid: &Bid, wanted: (u64, u16, u16)) -> bool {
+    bid.amount == wanted.0 && bid.package.quantities() == [wanted.1, wanted.2].as_slice()
 }
 
-/// Whether a text is read as this form.
-fn is_read_as(alloc: Global, rules: &Rules, text: &[u8], form: &Form) -> Result<bool, Fail> {
-    Ok(read_form(alloc, text, rules)?.is_same(form))
-}
-
-/// Whether two texts are the same form.
-fn are_same(alloc: Global, rules: &Rules, text: &[u8], other: &[u8]) -> Result<bool, Fail> {
-    let form = read_form(alloc, text, rules)?;
-    is_read_as(alloc, rules, other, &form)
-}
-
-fn tells_bids_apart(alloc: Global, rules: &Rules) -> Result<bool, Fail> {
-    let text = b"Alpha,A,B\n15,1,1".as_slice();
-    Ok(
-        are_same(alloc, rules, text, b"Alpha,A,B\n0015,01,1\n")?
-            && !are_same(alloc, rules, text, b"Alpha,A,B\n15,0,1")?,
-    )
-}
-
-#[test]
-fn same_bid_in_other_digits(rt: HostRuntime) -> Result<(), Fail> {
-    let alloc = rt.alloc();
-    assert!(rt; on_rules(alloc, RULES, |rules| tells_bids_apart(alloc, rules))?);
-    Ok(())
-}
-
-/// The form of so many bids, each of another package.
-fn form_text(alloc: Global, count: u32) -> Result<String, Fail> {
-    let mut text = String::new(alloc);
-    text.push_str("Alpha,A,B")?;
-    for bid in 0..count {
-        let lots = bid + 1;
-        write!(text, "\n4001,{lots},0")?;
-    }
-    Ok(text)
-}
-
-fn fault(alloc: Global, rules: &Rules, text: &[u8]) -> Option<FormFault> {
-    read_form(alloc, text, rules).err()
-}
-
-fn reads_the_most_bids(alloc: Global, rules: &Rules) -> Result<bool, Fail> {
-    let text = form_text(alloc, 4000)?;
-    is_form(alloc, rules, text.as_bytes(), 1, 4000)
-}
-
-fn refuses_one_more(alloc: Global, rules: &Rules) -> Result<bool, Fail> {
-    let text = form_text(alloc, 4001)?;
-    let told = FormFault::TooManyBids { place: 4002 };
-    Ok(fault(alloc, rules, text.as_bytes()) == Some(told))
-}
-
-#[test]
-fn counts_bids(rt: HostRuntime) -> Result<(), Fail> {
-    let alloc = rt.alloc();
-    assert!(rt; on_rules(alloc, WIDE_RULES, |rules| reads_the_most_bids(alloc, rules))?);
-    assert!(rt; on_rules(alloc, WIDE_RULES, |rules| refuses_one_more(alloc, rules))?);
-    Ok(())
-}
-
-/// Whether a text, or all of it but its first byte, is refused by its size and by what it holds.
-fn is_at_the_limit(alloc: Global, rules: &Rules, text: &[u8]) -> bool {
-    !text.is_empty()
-        && fault(alloc, rules, text) == Some(FormFault::TooLarge)
-        && fault(alloc, rules, &text[1..]) == Some(FormFault::Header { place: 1 })
-}
-
-fn refuses_by_size(alloc: Global, rules: &Rules) -> Result<bool, Fail> {
-    let text = vec![in alloc; b','; 4_194_305]?;
-    Ok(is_at_the_limit(alloc, rules, &text))
-}
-
-#[test]
-fn bounds_the_text(rt: HostRuntime) -> Result<(), Fail> {
-    let alloc = rt.alloc();
-    assert!(rt; on_rules(alloc, RULES, |rules| refuses_by_size(alloc, rules))?);
-    Ok(())
-}
+/// Texts, each with the fault of its first faulty record.
+const FAULTY: [(&[u8], FormFault); 13] = [
+    (
+        b"Alpha,A,B\n30,1,0\n14,1,1\n",
+        FormFault::BelowReserve { place: 3 },
+    ),
+    (b"Alpha,A,B\n14,1,1\n", FormFault::BelowReserve { place: 2 }),
+    (b"Alpha,A,B\n0,0,0\n", FormFault::AmountRange { place: 2 }),
+    (b"Alpha,A,B\n30,0,0\n", FormFault::EmptyPackage { place: 2 }),
+    (
+        b"Alpha,A,B\n30,10,0\n",
+        FormFault::OverEligibility { place: 2 },
+    ),
+    (
+        b"Alpha,A,B\n30,10001,0\n",
+        FormFault::QuantityRange { place: 2 },
+    ),
+    (b"Alpha,A,B\n 30,1,0\n", FormFault::AmountText { place: 2 }),
+    (b"Alpha,A,B\n30,1\n", FormFault::FieldCount { place: 2 }),
+    (
+        b"Alpha,A,B\n30,1,0\n31,1,0\n",
+        FormFault::RepeatedPackage {
+            place: 3,
+            earlier: 1,
+        },
+    ),
+    (b"Alpha,B,A\n", FormFault::Header { place: 1 }),
+    (b"Delta,A,B\n", FormFault::UnknownBidder { place: 1 }),
+    (b"", FormFault::Header { place: 1 }),
+    (
+        b"Alpha,A,B\n30,1,0\n50,2,1\n31,1,0\n",
+        FormFault::RepeatedPackage {
+            place: 4,
+            earlier: 1,
+        },
+    ),
+];

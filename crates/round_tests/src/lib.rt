@@ -8,6 +8,8 @@ mod desk;
 #[cfg(test)]
 mod forms;
 #[cfg(test)]
+mod limits;
+#[cfg(test)]
 mod terms;
 #[cfg(test)]
 mod worked;

@@ -1,176 +1,62 @@
 //! What is kept and ordered, by the calls themselves. Where any one growth is refused (see tools/refuse_calls), they tell
 //! that memory was short, or the same.
 
-use super::{KEPT, have_numbers, on_form, orders};
-use crate::worked::books::{on_groups, on_worked_book};
-use crate::worked::{ALPHA, RULES};
-use auction_terms::{Choice, Groups, Kept, KeptBid};
+ghost use Rattle.std.specs.Prelude.{◌≡◌};
+ghost use Rattle.auction_terms.specs.Terms.{lots_in};
+ghost use Rattle.bid_desk.specs.Closing.{book_of};
+ghost use Rattle.presolve.specs.Flags.{flags_of};
+
+use super::{KEPT, ORDERS, are_kept};
+use crate::worked::books::on_group;
+use crate::worked::{FORMS, RULES};
+use auction_terms::{Choice, Group, read_rules};
 use bid_desk::ClosedBook;
-use presolve::{Flags, kept};
+use bid_forms::read_form;
+use presolve::{Flags, by_size, kept};
 use std::alloc::Global;
-use std::sync::Wait;
 use std::test::Fail;
 use std::thread::Threads;
 
-/// Whether the kept bids are these, by bidder and bid.
-fn are_kept(kept: &Kept<'_>, bids: &[(u16, u16)]) -> bool {
-    kept.bids().len() == bids.len()
-        && kept
-            .bids()
-            .iter()
-            .zip(bids.iter())
-            .all(|(kept, bid)| is_kept(kept, *bid))
-}
-
-fn is_kept(kept: &KeptBid<'_>, bid: (u16, u16)) -> bool {
-    kept.bidder == bid.0 && kept.bid == bid.1
-}
-
-/// Whether these bids are kept without the one group.
+/// Whether these bids are kept without a group.
 fn keeps<R: Threads + Sync>(
     rt: &R,
     alloc: Global,
     book: &ClosedBook,
-    groups: &Groups,
+    group: &Group,
     bids: &[(u16, u16)],
 ) -> Result<bool, Fail> {
-    if groups.count() != 1 {
-        return Ok(false);
-    }
-    Ok(are_kept(&kept(rt, alloc, book, groups.group(1))?, bids))
-}
-
-/// Whether these bids are kept where the bidders of a line are left out.
-fn keeps_without<R: Threads + Sync>(
-    rt: &R,
-    alloc: Global,
-    book: &ClosedBook,
-    line: &[u8],
-    bids: &[(u16, u16)],
-) -> Result<bool, Fail> {
-    on_groups(
-        alloc,
-        book,
-        line,
-        |book, groups| keeps(rt, alloc, book, groups, bids),
-    )
-}
-
-fn keeps_the_worked_forms<R: Threads + Sync>(
-    rt: &R,
-    alloc: Global,
-    book: &ClosedBook,
-) -> Result<bool, Fail> {
-    Ok(
-        keeps_without(rt, alloc, book, b"-\n", &[(1, 1), (1, 2), (2, 1), (3, 1)])?
-            && keeps_without(rt, alloc, book, b"Beta\n", &[(1, 1), (1, 2), (3, 1)])?
-            && keeps_without(rt, alloc, book, b"Gamma+Alpha\n", &[(2, 1)])?
-            && keeps_without(rt, alloc, book, b"Alpha+Beta+Gamma\n", &[])?,
-    )
-}
-
-#[test]
-fn the_worked_forms_are_kept(rt: HostRuntime) -> Result<(), Fail> {
-    let alloc = rt.alloc();
-    assert!(rt; on_worked_book(&rt, alloc, |book| keeps_the_worked_forms(&rt, alloc, book))?);
-    Ok(())
-}
-
-/// Whether the bids of the one form in a book that are kept have these numbers.
-fn keeps_numbers<R: Threads + Sync>(
-    rt: &R,
-    alloc: Global,
-    book: &ClosedBook,
-    groups: &Groups,
-    numbers: &[u16],
-) -> Result<bool, Fail> {
-    if groups.count() != 1 {
-        return Ok(false);
-    }
-    let kept = kept(rt, alloc, book, groups.group(1))?;
-    Ok(have_numbers(kept.bids(), numbers))
+    Ok(are_kept(&kept(rt, alloc, book, group)?, bids))
 }
 
 #[test]
 fn each_worked_form_alone_is_kept(rt: HostRuntime) -> Result<(), Fail> {
     let alloc = rt.alloc();
-    for (rules, form, numbers) in &KEPT {
-        assert!(rt;
-            on_form(&rt, alloc, *rules, *form, |book, groups| {
-                keeps_numbers(&rt, alloc, book, groups, *numbers)
-            })?
-        );
+    for (rules, form, bids) in KEPT {
+        let are_kept = on_group(&rt, alloc, rules, &[form], b"-\n", |book, group| {
+            keeps(&rt, alloc, book, group, bids)
+        })?;
+        assert!(rt; are_kept, "{bids:?}");
     }
     Ok(())
+}
+
+/// Whether the bids of a form are ordered so by size.
+fn orders(alloc: Global, rules: &[u8], text: &[u8], numbers: &[u16]) -> Result<bool, Fail> {
+    let rules = read_rules(alloc, rules)?;
+    let form = read_form(alloc, text, &rules)?;
+    let ordered = by_size(alloc, &form, &rules)?;
+    Ok(ordered.as_slice() == numbers)
 }
 
 #[test]
 fn an_order_or_want_of_memory(rt: HostRuntime) -> Result<(), Fail> {
-    assert!(rt; orders(rt.alloc(), RULES, ALPHA, &[1, 3, 2])?);
+    for (rules, text, numbers) in ORDERS {
+        assert!(rt; orders(rt.alloc(), rules, text, numbers)?, "{numbers:?}");
+    }
     Ok(())
 }
 
-/// Whether flags made once keep these bids without the one group, time after time.
-fn flags_keep<R: Threads + Sync>(
-    rt: &R,
-    alloc: Global,
-    book: &ClosedBook,
-    groups: &Groups,
-    bids: &[(u16, u16)],
-) -> Result<bool, Fail> {
-    if groups.count() != 1 {
-        return Ok(false);
-    }
-    let flags = Flags::new(rt, alloc, book)?;
-    for _ in 0..2 {
-        if !are_kept(&flags.kept(alloc, book, groups.group(1))?, bids) {
-            return Ok(false);
-        }
-    }
-    Ok(true)
-}
-
-/// The same where the bidders of a line are left out.
-fn flags_keep_without<R: Threads + Sync>(
-    rt: &R,
-    alloc: Global,
-    book: &ClosedBook,
-    line: &[u8],
-    bids: &[(u16, u16)],
-) -> Result<bool, Fail> {
-    on_groups(
-        alloc,
-        book,
-        line,
-        |book, groups| flags_keep(rt, alloc, book, groups, bids),
-    )
-}
-
-fn flags_keep_the_worked_forms<R: Threads + Sync>(
-    rt: &R,
-    alloc: Global,
-    book: &ClosedBook,
-) -> Result<bool, Fail> {
-    Ok(
-        flags_keep_without(rt, alloc, book, b"-\n", &[(1, 1), (1, 2), (2, 1), (3, 1)])?
-            && flags_keep_without(rt, alloc, book, b"Gamma+Alpha\n", &[(2, 1)])?,
-    )
-}
-
-#[test]
-fn flags_or_want_of_memory(rt: HostRuntime) -> Result<(), Fail> {
-    let alloc = rt.alloc();
-    assert!(rt;
-        on_worked_book(
-            &rt,
-            alloc,
-            |book| flags_keep_the_worked_forms(&rt, alloc, book)
-        )?
-    );
-    Ok(())
-}
-
-// The bids of Gamma and Alpha that are kept, one of them twice; a dropped one; and none that there are.
+/// The bids of Gamma and Alpha that are kept, one of them twice; a dropped one; and none that there are.
 const CHOICES: [Choice; 6] = [
     Choice { bidder: 3, bid: 1 },
     Choice { bidder: 1, bid: 2 },
@@ -180,53 +66,68 @@ const CHOICES: [Choice; 6] = [
     Choice { bidder: 0, bid: 0 },
 ];
 
-/// Whether these bids are kept among the choices without the one group.
-fn keeps_among<R: Threads + Sync>(
-    rt: &R,
+/// Whether flags keep these bids without a group.
+fn flags_keep(
     alloc: Global,
+    flags: &Flags,
     book: &ClosedBook,
-    groups: &Groups,
+    group: &Group,
     bids: &[(u16, u16)],
-) -> Result<bool, Fail> {
-    if groups.count() != 1 {
-        return Ok(false);
-    }
-    let flags = Flags::new(rt, alloc, book)?;
+) -> Result<bool, Fail>
+    requires { flags.now ≡ flags_of (lots_in book.now.rules) (book_of book.now) }
+{
+    Ok(are_kept(&flags.kept(alloc, book, group)?, bids))
+}
+
+/// Whether flags keep these bids among the choices without a group.
+fn flags_keep_among(
+    alloc: Global,
+    flags: &Flags,
+    book: &ClosedBook,
+    group: &Group,
+    bids: &[(u16, u16)],
+) -> Result<bool, Fail>
+    requires { flags.now ≡ flags_of (lots_in book.now.rules) (book_of book.now) }
+{
     let choices = Vec::from_slice(alloc, &CHOICES)?;
-    let kept = flags.kept_among(alloc, book, groups.group(1), choices)?;
-    Ok(are_kept(&kept, bids))
+    Ok(are_kept(&flags.kept_among(alloc, book, group, choices)?, bids))
 }
 
-/// The same where the bidders of a line are left out.
-fn keeps_among_without<R: Threads + Sync>(
+/// Whether these bids are kept without a group, time after time by flags that are made once, and these among the choices.
+fn keeps_in_each_way<R: Threads + Sync>(
     rt: &R,
     alloc: Global,
     book: &ClosedBook,
-    line: &[u8],
+    group: &Group,
     bids: &[(u16, u16)],
+    among: &[(u16, u16)],
 ) -> Result<bool, Fail> {
-    on_groups(
-        alloc,
-        book,
-        line,
-        |book, groups| keeps_among(rt, alloc, book, groups, bids),
+    let flags = Flags::new(rt, alloc, book)?;
+    Ok(
+        keeps(rt, alloc, book, group, bids)?
+            && flags_keep(alloc, &flags, book, group, bids)?
+            && flags_keep_among(alloc, &flags, book, group, among)?
+            && flags_keep(alloc, &flags, book, group, bids)?,
     )
 }
 
-fn keeps_the_choices<R: Threads + Sync>(
-    rt: &R,
-    alloc: Global,
-    book: &ClosedBook,
-) -> Result<bool, Fail> {
-    Ok(
-        keeps_among_without(rt, alloc, book, b"-\n", &[(1, 2), (3, 1)])?
-            && keeps_among_without(rt, alloc, book, b"Alpha\n", &[(3, 1)])?,
-    )
-}
+/// The kept bids of the worked auction where the bidders of a line are left out, and those among the choices.
+const WITHOUT: [(&[u8], &[(u16, u16)], &[(u16, u16)]); 5] = [
+    (b"-\n", &[(1, 1), (1, 2), (2, 1), (3, 1)], &[(1, 2), (3, 1)]),
+    (b"Beta\n", &[(1, 1), (1, 2), (3, 1)], &[(1, 2), (3, 1)]),
+    (b"Alpha\n", &[(2, 1), (3, 1)], &[(3, 1)]),
+    (b"Gamma+Alpha\n", &[(2, 1)], &[]),
+    (b"Alpha+Beta+Gamma\n", &[], &[]),
+];
 
 #[test]
-fn bids_among_choices_or_want_of_memory(rt: HostRuntime) -> Result<(), Fail> {
+fn the_worked_forms_are_kept(rt: HostRuntime) -> Result<(), Fail> {
     let alloc = rt.alloc();
-    assert!(rt; on_worked_book(&rt, alloc, |book| keeps_the_choices(&rt, alloc, book))?);
+    for (line, bids, among) in WITHOUT {
+        let are_kept = on_group(&rt, alloc, RULES, &FORMS, line, |book, group| {
+            keeps_in_each_way(&rt, alloc, book, group, bids, among)
+        })?;
+        assert!(rt; are_kept, "{bids:?}");
+    }
     Ok(())
 }

@@ -3,10 +3,7 @@
 
 ghost use Rattle.std.specs.Prelude.{ℕ, List, Option, None};
 
-use super::{
-    CERTIFIED, ONE_FORM, ONE_FORM_TEXT, REPORT, SIZES, SOLVED, SOLVED_TWICE, TWO_GROUPS,
-    TWO_PROGRAMS, VERIFIED, WINNERS, told,
-};
+use super::{RUNS, Run, TWO_GROUPS, TWO_PROGRAMS, told};
 use answers::{RunFault, run, run_compile, tell};
 use auction_input::{Auction, PartFault, Parts, Refusal, Source, read_auction, split_parts};
 use group_compiler::OpenGate;
@@ -72,17 +69,18 @@ fn failure(refusal: &Refusal) -> Fail {
     }
 }
 
-/// Runs the program: the output is to be this one; or else nothing is put, and one line tells that memory was short.
-fn answers<R: Threads + Wait + Sync + AllocGlobal>(
-    rt: &R,
-    words: &[&str],
-    input: &[u8],
-    output: &'static [u8],
-) -> Result<(), Fail> {
-    let mut out = Expected::new(output);
+/// Runs the program: the output is to be the run's; or else nothing is put, and one line tells that memory was short.
+fn answers<R: Threads + Wait + Sync + AllocGlobal>(rt: &R, row: &Run) -> Result<(), Fail> {
+    let mut out = Expected::new(row.output);
     let mut faults = Expected::new(SHORT);
-    let words = told(rt.alloc(), words);
-    match run(rt, words, &mut Source::new(input), &mut out, &mut faults) {
+    let words = told(rt.alloc(), row.words);
+    match run(
+        rt,
+        words,
+        &mut Source::new(row.input),
+        &mut out,
+        &mut faults,
+    ) {
         0 if out.is_whole() && faults.is_untouched() => Ok(()),
         1 if out.is_untouched() && faults.is_whole() => Err(Fail::from("out of memory")),
         _ => Err(Fail::from("another end")),
@@ -134,45 +132,13 @@ fn programs_or_want_of_memory(rt: HostRuntime) -> Result<(), Fail> {
 
 #[test]
 fn a_text_or_want_of_memory(rt: HostRuntime) -> Result<(), Fail> {
-    answers(&rt, &["wdp"], ONE_FORM, ONE_FORM_TEXT)
+    answers(&rt, &Run::without_a_command(&["wdp"]))
 }
 
 #[test]
-fn texts_or_want_of_memory(rt: HostRuntime) -> Result<(), Fail> {
-    answers(
-        &rt,
-        &["wdp", "compile", "--workers", "2"],
-        TWO_GROUPS,
-        TWO_PROGRAMS,
-    )
-}
-
-#[test]
-fn winners_or_want_of_memory(rt: HostRuntime) -> Result<(), Fail> {
-    answers(&rt, &["wdp", "map", "--group", "1"], SOLVED, WINNERS)
-}
-
-#[test]
-fn a_report_or_want_of_memory(rt: HostRuntime) -> Result<(), Fail> {
-    answers(
-        &rt,
-        &["wdp", "report", "--workers", "2"],
-        SOLVED_TWICE,
-        REPORT,
-    )
-}
-
-#[test]
-fn sizes_or_want_of_memory(rt: HostRuntime) -> Result<(), Fail> {
-    answers(&rt, &["wdp", "check"], ONE_FORM_TEXT, SIZES)
-}
-
-#[test]
-fn a_verified_report_or_want_of_memory(rt: HostRuntime) -> Result<(), Fail> {
-    answers(
-        &rt,
-        &["wdp", "verify", "--workers", "2"],
-        CERTIFIED,
-        VERIFIED,
-    )
+fn each_output_or_want_of_memory(rt: HostRuntime) -> Result<(), Fail> {
+    for row in &RUNS {
+        answers(&rt, row)?;
+    }
+    Ok(())
 }

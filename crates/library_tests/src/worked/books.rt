@@ -3,8 +3,8 @@
 ghost use Rattle.std.specs.Prelude.{◌≡◌, ◌+◌, IfOk};
 ghost use Rattle.auction_terms.specs.Terms.{session_count};
 
-use super::{ALPHA, BETA, GAMMA, RULES, form_of};
-use auction_terms::{Groups, Rules, read_groups, read_rules};
+use super::form_of;
+use auction_terms::{Group, Groups, Rules, read_groups, read_rules};
 use bid_desk::{ClosedBook, Desk, Round, Session};
 use bid_forms::Form;
 use std::alloc::Global;
@@ -14,7 +14,7 @@ use std::sync::{Arc, Wait};
 use std::test::Fail;
 
 /// A ledger of as many parts as a desk needs.
-pub fn blank(rules: &Rules) -> Result<Blank, Fail>
+fn blank(rules: &Rules) -> Result<Blank, Fail>
     ensures { IfOk result (λ blank. blank.parts ≡ session_count rules.now + 1) }
 {
     let parts = (rules.session_count() as u64)
@@ -76,7 +76,7 @@ fn settled<L: Round, R: Wait>(
 }
 
 /// The book of rules and forms.
-pub fn book_of<R: Wait>(
+fn book_of<R: Wait>(
     rt: &R,
     alloc: Global,
     rules: &[u8],
@@ -92,59 +92,52 @@ pub fn book_of<R: Wait>(
     Ok(book.ok_or("out of memory")?)
 }
 
-fn worked_book<R: Wait>(rt: &R, alloc: Global) -> Result<ClosedBook, Fail> {
-    book_of(rt, alloc, RULES, &[ALPHA, BETA, GAMMA])
-}
-
 /// What a trial of a book of rules and forms tells. Where the book stands in a function of its own, what the test goes on
 /// with is proved without it (docs/DEVELOPING.md, "Add a test").
 pub fn on_book<R: Wait, F: FnOnce(&ClosedBook) -> Result<bool, Fail> + Drop>(
     rt: &R,
     alloc: Global,
     rules: &[u8],
-    texts: &[&[u8]],
+    forms: &[&[u8]],
     trial: F,
 ) -> Result<bool, Fail>
     requires { F.IsAlwaysCallable trial }
 {
-    let book = book_of(rt, alloc, rules, texts)?;
+    let book = book_of(rt, alloc, rules, forms)?;
     trial(&book)
 }
 
-/// What a trial of the book of the worked auction tells.
-pub fn on_worked_book<R: Wait, F: FnOnce(&ClosedBook) -> Result<bool, Fail> + Drop>(
+/// What a trial of a book of rules and forms, and of a text's groups, tells.
+pub fn on_groups<R: Wait, F: FnOnce(&ClosedBook, &Groups) -> Result<bool, Fail> + Drop>(
     rt: &R,
     alloc: Global,
-    trial: F,
-) -> Result<bool, Fail>
-    requires { F.IsAlwaysCallable trial }
-{
-    let book = worked_book(rt, alloc)?;
-    trial(&book)
-}
-
-/// What a trial of a book and of a text's groups tells.
-pub fn on_groups<F: FnOnce(&ClosedBook, &Groups) -> Result<bool, Fail> + Drop>(
-    alloc: Global,
-    book: &ClosedBook,
+    rules: &[u8],
+    forms: &[&[u8]],
     lines: &[u8],
     trial: F,
 ) -> Result<bool, Fail>
     requires { F.IsAlwaysCallable trial }
 {
+    let book = book_of(rt, alloc, rules, forms)?;
     let groups = read_groups(alloc, lines, book.rules())?;
-    trial(book, &groups)
+    trial(&book, &groups)
 }
 
-/// What a trial of the book of the worked auction and of a text's groups tells.
-pub fn on_worked_groups<R: Wait, F: FnOnce(&ClosedBook, &Groups) -> Result<bool, Fail> + Drop>(
+/// What a trial of a book of rules and forms, and of the one group of a line, tells.
+pub fn on_group<R: Wait, F: FnOnce(&ClosedBook, &Group) -> Result<bool, Fail> + Drop>(
     rt: &R,
     alloc: Global,
-    lines: &[u8],
+    rules: &[u8],
+    forms: &[&[u8]],
+    line: &[u8],
     trial: F,
 ) -> Result<bool, Fail>
     requires { F.IsAlwaysCallable trial }
 {
-    let book = worked_book(rt, alloc)?;
-    on_groups(alloc, &book, lines, trial)
+    let book = book_of(rt, alloc, rules, forms)?;
+    let groups = read_groups(alloc, line, book.rules())?;
+    if groups.count() != 1 {
+        return Ok(false);
+    }
+    trial(&book, groups.group(1))
 }

@@ -1,12 +1,20 @@
 //! What is compiled, by the calls themselves. Where any one growth or start of a thread is refused (see
 //! tools/refuse_calls), they tell that memory was short, or the same.
 
+ghost use Rattle.auction_terms.specs.Groups.{has};
+ghost use Rattle.auction_terms.specs.Terms.{lots_in};
+ghost use Rattle.bid_desk.specs.Closing.{book_of};
+ghost use Rattle.program_rows.specs.Faithful.{IsFaithful};
+
 use super::{ALL, WITHOUT_ALL, WITHOUT_BETA};
-use crate::worked::books::on_worked_groups;
-use auction_terms::{Choice, Groups};
+use crate::worked::books::on_groups;
+use crate::worked::{FORMS, RULES};
+use auction_terms::{Choice, Group, Groups};
 use bid_desk::ClosedBook;
 use group_compiler::{Claims, Compiled, Compiler, OpenGate, compile_all, compile_one};
 use mps_text::{MemorySink, WriteFault};
+use outcome::{map_back, read_solution};
+use program_rows::Program;
 use std::alloc::Global;
 use std::sync::Wait;
 use std::test::Fail;
@@ -26,7 +34,7 @@ fn is_text(alloc: Global, compiled: &Compiled<'_>, text: &[u8]) -> Result<bool, 
     }
 }
 
-/// Whether the program of the second of two groups is the one without Beta.
+/// Whether the program of the second of two groups is the one without Beta. It is not given `Wait`: no lock is taken for a group.
 fn compiles_one<R: Threads + Sync>(
     rt: &R,
     alloc: Global,
@@ -37,14 +45,18 @@ fn compiles_one<R: Threads + Sync>(
         return Ok(false);
     }
     let compiled = compile_one(rt, alloc, book, groups, 2)?;
-    is_text(alloc, &compiled, WITHOUT_BETA)
+    Ok(
+        compiled.group().numbers() == [2u16].as_slice()
+            && compiled.program().column_count() == 3
+            && is_text(alloc, &compiled, WITHOUT_BETA)?,
+    )
 }
 
 #[test]
 fn one_program_or_want_of_memory(rt: HostRuntime) -> Result<(), Fail> {
     let alloc = rt.alloc();
     assert!(rt;
-        on_worked_groups(&rt, alloc, b"-\nBeta\n", |book, groups| {
+        on_groups(&rt, alloc, RULES, &FORMS, b"-\nBeta\n", |book, groups| {
             compiles_one(&rt, alloc, book, groups)
         })?
     );
@@ -75,8 +87,54 @@ fn compiles_one_among<R: Threads + Sync>(
 fn the_program_of_a_choice_or_want_of_memory(rt: HostRuntime) -> Result<(), Fail> {
     let alloc = rt.alloc();
     assert!(rt;
-        on_worked_groups(&rt, alloc, b"-\nBeta\n", |book, groups| {
+        on_groups(&rt, alloc, RULES, &FORMS, b"-\nBeta\n", |book, groups| {
             compiles_one_among(&rt, alloc, book, groups)
+        })?
+    );
+    Ok(())
+}
+
+/// Whether a solution wins 62 by the first bids of three bidders.
+fn wins(
+    alloc: Global,
+    book: &ClosedBook,
+    group: &Group,
+    program: &Program,
+    text: &[u8],
+) -> Result<bool, Fail>
+    requires { IsFaithful (lots_in book.now.rules) (book_of book.now) (has group.now) program.now }
+{
+    let point = read_solution(alloc, text, program)?;
+    let allocation = map_back(alloc, program, &point)?;
+    Ok(allocation.choices() == FIRST_BIDS.as_slice() && program.objective(&point) == -62)
+}
+
+const FIRST_BIDS: [Choice; 3] = [
+    Choice { bidder: 1, bid: 1 },
+    Choice { bidder: 2, bid: 1 },
+    Choice { bidder: 3, bid: 1 },
+];
+
+fn wins_by_first_bids<R: Threads + Sync>(
+    rt: &R,
+    alloc: Global,
+    book: &ClosedBook,
+    groups: &Groups,
+) -> Result<bool, Fail> {
+    if groups.count() != 1 {
+        return Ok(false);
+    }
+    let compiled = compile_one(rt, alloc, book, groups, 1)?;
+    let text = b"X1_1 0.999999\nX2_1 1\nX3_1 1\n";
+    wins(alloc, book, groups.group(1), compiled.program(), text)
+}
+
+#[test]
+fn winners_or_want_of_memory(rt: HostRuntime) -> Result<(), Fail> {
+    let alloc = rt.alloc();
+    assert!(rt;
+        on_groups(&rt, alloc, RULES, &FORMS, b"-\n", |book, groups| {
+            wins_by_first_bids(&rt, alloc, book, groups)
         })?
     );
     Ok(())
@@ -108,9 +166,14 @@ fn compiles_three<R: Threads + Wait + Sync>(
 fn three_programs_or_want_of_memory(rt: HostRuntime) -> Result<(), Fail> {
     let alloc = rt.alloc();
     assert!(rt;
-        on_worked_groups(&rt, alloc, b"-\nBeta\nGamma+Alpha+Beta\n", |book, groups| {
-            compiles_three(&rt, alloc, book, groups)
-        })?
+        on_groups(
+            &rt,
+            alloc,
+            RULES,
+            &FORMS,
+            b"-\nBeta\nGamma+Alpha+Beta\n",
+            |book, groups| { compiles_three(&rt, alloc, book, groups) }
+        )?
     );
     Ok(())
 }

@@ -1,56 +1,57 @@
-//! What is checked where any one growth is refused (see tools/refuse_calls): nothing, since memory was short, or the verdict
-//! with ample memory.
+//! What is checked, by the calls themselves. Where any one growth is refused (see tools/refuse_calls), they tell that memory was
+//! short, or the same.
 
-use super::{SHOWN, is_shown_the_best, on_odd_cycle};
-use optimality::check_certificate;
-use program_faults::FaultKind;
-use program_rows::Program;
+use super::{CERTIFICATES, ODD_CYCLE, SHOWN};
+use crate::worked::on_program;
+use optimality::{check_certificate, check_only, check_optimum};
+use program_faults::{CertificateFault, FaultKind};
+use program_rows::{Point, Program};
 use std::alloc::Global;
 use std::test::Fail;
 
-/// Whether a certificate that no point lies below a number is answered so.
-fn is_answered(
-    alloc: Global,
-    program: &Program,
-    text: &[u8],
-    least: i128,
+/// Whether a certificate is answered so.
+fn is_answer(
+    answer: Result<(), CertificateFault>,
     told: Option<(usize, FaultKind)>,
 ) -> Result<bool, Fail> {
-    match check_certificate(alloc, text, program, least) {
+    match answer {
         Ok(()) => Ok(told.is_none()),
-        Err(fault) => {
-            if fault.kind == FaultKind::OutOfMemory {
-                return Err(Fail::from("out of memory"));
-            }
-            Ok(told == Some((fault.line, fault.kind)))
-        }
+        Err(fault) if fault.kind == FaultKind::OutOfMemory => Err(Fail::from("out of memory")),
+        Err(fault) => Ok(told == Some((fault.line, fault.kind))),
     }
-}
-
-fn answers_each(alloc: Global, program: &Program) -> Result<bool, Fail> {
-    let no_fields = b"split 0 X1 1\nbound 1\n";
-    let no_row = b"bound 1 A1 1 X1 1\n";
-    let shown = Some((4, FaultKind::NotShown));
-    let fields = Some((2, FaultKind::Fields));
-    let unknown = Some((1, FaultKind::UnknownRow));
-    Ok(
-        is_answered(alloc, program, SHOWN, 3, None)?
-            && is_answered(alloc, program, SHOWN, 4, shown)?
-            && is_answered(alloc, program, no_fields, 1, fields)?
-            && is_answered(alloc, program, no_row, 1, unknown)?,
-    )
 }
 
 #[test]
 fn a_verdict_or_want_of_memory(rt: HostRuntime) -> Result<(), Fail> {
-    let alloc = rt.alloc();
-    assert!(rt; on_odd_cycle(alloc, |program| answers_each(alloc, program))?);
+    for (text, least, told) in CERTIFICATES {
+        let is_told = on_program(rt.alloc(), ODD_CYCLE, |alloc, program| {
+            is_answer(check_certificate(alloc, text, program, least), told)
+        })?;
+        assert!(rt; is_told, "{least}");
+    }
     Ok(())
+}
+
+/// Whether a point, of the first and the fixed column, is shown to be a best one, and isn't shown to be the only one.
+fn is_a_best_one(alloc: Global, program: &Program, point: &Point) -> Result<bool, Fail> {
+    if point.values().len() != program.column_count() {
+        return Ok(false);
+    }
+    let text = b"split 0 X1 1\nbound 1 0 2 B 2\nbound 1 0 2 A1 2 A2 2\n";
+    let ties = Some((2, FaultKind::NotShown));
+    Ok(
+        is_answer(check_optimum(alloc, SHOWN, program, point), None)?
+            && is_answer(check_only(alloc, text, program, point), ties)?,
+    )
+}
+
+fn has_a_best_point(alloc: Global, program: &Program) -> Result<bool, Fail> {
+    let point = Point::new([true, false, false, true].to_vec(alloc)?);
+    is_a_best_one(alloc, program, &point)
 }
 
 #[test]
 fn an_optimum_or_want_of_memory(rt: HostRuntime) -> Result<(), Fail> {
-    let alloc = rt.alloc();
-    assert!(rt; on_odd_cycle(alloc, |program| is_shown_the_best(alloc, program))?);
+    assert!(rt; on_program(rt.alloc(), ODD_CYCLE, has_a_best_point)?);
     Ok(())
 }

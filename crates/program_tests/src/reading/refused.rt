@@ -1,42 +1,44 @@
-//! What is read where any one growth is refused (see tools/refuse_calls): nothing, since memory was short, or what is read with
-//! ample memory.
+//! What is read, by the calls themselves. Where any one growth is refused (see tools/refuse_calls), they tell that memory was
+//! short, or the same.
 
-use super::{FOREIGN, PLAIN};
+use super::{FRONTS, PAIRS};
+use crate::worked::{ONE_BID, on_program};
 use mps_reader::read_program;
-use program_rows::{FaultKind, same_program};
+use program_faults::MpsFault;
+use program_rows::{FaultKind, Program, same_program};
 use std::alloc::Global;
 use std::test::Fail;
 
-/// Whether a text tells a program of three rows and a column, and tells it again.
-fn is_read_again(alloc: Global, text: &[u8]) -> Result<bool, Fail> {
-    let program = read_program(alloc, text)?;
-    let again = read_program(alloc, text)?;
-    Ok(program.row_count() == 3 && program.column_count() == 1 && same_program(&program, &again))
+/// Whether a text tells a program that is the same as this one, or isn't, as `is_same` has it.
+fn is_as_told(alloc: Global, program: &Program, text: &[u8], is_same: bool) -> Result<bool, Fail> {
+    let other = read_program(alloc, text)?;
+    Ok(same_program(program, &other) == is_same)
 }
 
 #[test]
 fn a_program_or_want_of_memory(rt: HostRuntime) -> Result<(), Fail> {
-    assert!(rt; is_read_again(rt.alloc(), PLAIN)?);
-    assert!(rt; is_read_again(rt.alloc(), FOREIGN)?);
+    for (text, other, is_same) in PAIRS {
+        let is_told = on_program(rt.alloc(), text, |alloc, program| {
+            is_as_told(alloc, program, other, is_same)
+        })?;
+        assert!(rt; is_told);
+    }
     Ok(())
+}
+
+/// Whether a text is refused so.
+fn is_refused(alloc: Global, text: &[u8], told: MpsFault) -> Result<bool, Fail> {
+    match read_program(alloc, text).err() {
+        Some(fault) if fault.kind == FaultKind::OutOfMemory => Err(Fail::from("out of memory")),
+        fault => Ok(fault == Some(told)),
+    }
 }
 
 #[test]
 fn a_fault_or_want_of_memory(rt: HostRuntime) -> Result<(), Fail> {
-    for (end, line, kind) in [
-        (70usize, 9usize, FaultKind::NoEnd),
-        (181, 18, FaultKind::UnknownColumn),
-        (184, 19, FaultKind::Section),
-    ] {
-        match read_program(rt.alloc(), &PLAIN[..end]) {
-            Ok(_) => assert!(rt; false, "at {end}"),
-            Err(fault) => {
-                if fault.kind == FaultKind::OutOfMemory && fault.line == 0 {
-                    return Err(Fail::from("out of memory"));
-                }
-                assert!(rt; fault.line == line && fault.kind == kind, "at {end}");
-            }
-        }
+    for (end, line, kind) in FRONTS {
+        let told = MpsFault { line, kind };
+        assert!(rt; is_refused(rt.alloc(), &ONE_BID[..end], told)?, "at {end}");
     }
     Ok(())
 }

@@ -1,7 +1,8 @@
-//! What is read and won where any one growth is refused (see tools/refuse_calls): nothing, since memory was short, or what it
-//! is with ample memory.
+//! What is read, by the call itself. Where any one growth is refused (see tools/refuse_calls), it tells that memory was short, or
+//! the same.
 
-use super::{on_three, wins_by_first_bids};
+use super::{FIXED, REFUSED, SOLUTIONS, THREE_BIDDERS};
+use crate::worked::on_program;
 use outcome::read_solution;
 use program_faults::SolutionFault;
 use program_rows::Program;
@@ -19,18 +20,18 @@ fn has_values(
     Ok(point.values() == values)
 }
 
-fn reads_points(alloc: Global, program: &Program) -> Result<bool, Fail> {
-    let worked = b"X1_1 0.999999\nX2_1 1\nX3_1 1\n";
-    Ok(
-        has_values(alloc, program, worked, &[true, false, true, true])?
-            && has_values(alloc, program, b"", &[false, false, false, false])?,
-    )
+fn reads_solutions(alloc: Global, program: &Program) -> Result<bool, Fail> {
+    for (text, values) in &SOLUTIONS {
+        if !has_values(alloc, program, *text, values.as_slice())? {
+            return Ok(false);
+        }
+    }
+    Ok(true)
 }
 
 #[test]
 fn a_point_or_want_of_memory(rt: HostRuntime) -> Result<(), Fail> {
-    let alloc = rt.alloc();
-    assert!(rt; on_three(alloc, |program| reads_points(alloc, program))?);
+    assert!(rt; on_program(rt.alloc(), THREE_BIDDERS, reads_solutions)?);
     Ok(())
 }
 
@@ -47,26 +48,23 @@ fn is_refused(
     }
 }
 
-fn refuses(alloc: Global, program: &Program) -> Result<bool, Fail> {
-    let broken = SolutionFault::RowBroken { row: 0 };
-    let repeated = SolutionFault::RepeatedColumn { place: 3 };
-    let unknown = SolutionFault::UnknownColumn { place: 1 };
-    Ok(
-        is_refused(alloc, program, b"X1_1 1\nX1_2 1\n", broken)?
-            && is_refused(alloc, program, b"X1_1 1\nX2_1 1\nX1_1 1", repeated)?
-            && is_refused(alloc, program, b"X1_3 1", unknown)?,
+fn leaves_out_the_fixed_column(alloc: Global, program: &Program) -> Result<bool, Fail> {
+    is_refused(
+        alloc,
+        program,
+        b"",
+        SolutionFault::BoundBroken { column: 0 },
     )
 }
 
 #[test]
 fn a_fault_or_want_of_memory(rt: HostRuntime) -> Result<(), Fail> {
-    let alloc = rt.alloc();
-    assert!(rt; on_three(alloc, |program| refuses(alloc, program))?);
-    Ok(())
-}
-
-#[test]
-fn winners_or_want_of_memory(rt: HostRuntime) -> Result<(), Fail> {
-    assert!(rt; wins_by_first_bids(rt.alloc())?);
+    for (text, told) in REFUSED {
+        let is_told = on_program(rt.alloc(), THREE_BIDDERS, |alloc, program| {
+            is_refused(alloc, program, text, told)
+        })?;
+        assert!(rt; is_told, "{told}");
+    }
+    assert!(rt; on_program(rt.alloc(), FIXED, leaves_out_the_fixed_column)?);
     Ok(())
 }

@@ -1,18 +1,17 @@
 //! What is written where any one growth is refused (see tools/refuse_calls): the whole text, or a front of it of as many
 //! bytes as the fault tells. Writing itself takes no memory.
 
-use super::TEXT;
-use crate::worked::{RULES_OF_ONE, without_bids};
+use crate::worked::{ONE_BID, on_program};
 use mps_text::{MemorySink, WriteFault, write_program};
 use program_rows::Program;
 use std::alloc::Global;
 use std::test::Fail;
 
-/// Whether the text of a program, which is `TEXT`, is written whole.
+/// Whether the text of a program, which is `ONE_BID`, is written whole.
 fn is_written(alloc: Global, program: &Program) -> Result<bool, Fail> {
     let mut sink = MemorySink::new(alloc);
     match write_program(program, &mut sink) {
-        Ok(()) => Ok(sink.bytes() == TEXT),
+        Ok(()) => Ok(sink.bytes() == ONE_BID),
         Err(WriteFault::Sink { written }) if written == 0 && sink.bytes().is_empty() => {
             Err(Fail::from("out of memory"))
         }
@@ -22,7 +21,6 @@ fn is_written(alloc: Global, program: &Program) -> Result<bool, Fail> {
 
 #[test]
 fn a_text_or_its_front(rt: HostRuntime) -> Result<(), Fail> {
-    let program = without_bids(rt.alloc(), RULES_OF_ONE)?;
-    assert!(rt; is_written(rt.alloc(), &program)?);
+    assert!(rt; on_program(rt.alloc(), ONE_BID, is_written)?);
     Ok(())
 }

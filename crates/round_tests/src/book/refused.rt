@@ -3,94 +3,87 @@
 
 ghost use Rattle.bid_book.specs.History.{MayMake, call_value};
 
-use super::ALPHA;
-use crate::worked;
-use crate::worked::{on_form, shown};
+use crate::worked::{ALPHA, ANSWERED, ASKED, Answer, Ask, is_told, on_form};
 use bid_book::{Book, Call, Caller, Reply, Standing, StepError};
 use bid_forms::Form;
 use std::alloc::Global;
 use std::sync::Arc;
 use std::test::Fail;
 
-/// Whether a book of so many entries answers a call so, at once or once the call came back.
-fn answers_at_last(book: &mut Book, caller: Caller, call: Call, reply: Reply) -> bool
+const SESSION: Caller = Caller::Session {
+    bidder: 1,
+    session: 1,
+};
+
+/// What a book of so many entries answers a call, at once or once the call came back.
+fn answer_at_last(book: &mut Book, caller: Caller, call: Call) -> Option<Reply>
     requires { MayMake caller (call_value call) }
 {
     let count = book.history().len();
     match book.step(caller, call) {
-        Ok(told) => told.is_same(&reply),
+        Ok(reply) => Some(reply),
         Err(StepError::OutOfMemory { call }) => {
-            book.history().len() == count
-                && match book.step(caller, call) {
-                    Ok(told) => told.is_same(&reply),
-                    Err(_) => false,
-                }
+            if book.history().len() != count {
+                return None;
+            }
+            book.step(caller, call).ok()
         }
     }
 }
 
-/// The same of a submission by Alpha's first session.
-fn takes_at_last(
+/// What a book answers a submission by Alpha's first session.
+fn taken_at_last(
     book: &mut Book,
     form: &Arc<Form, Global>,
     over: Option<u32>,
-    reply: Reply,
-) -> Result<bool, Fail> {
+) -> Result<Option<Reply>, Fail> {
     if form.bidder() != 1 {
-        return Ok(false);
+        return Ok(None);
     }
     let form = Arc::try_clone(form)?;
-    Ok(answers_at_last(book, ALPHA, Call::Submit { form, over }, reply))
+    Ok(answer_at_last(book, SESSION, Call::Submit { form, over }))
 }
 
-fn withdraws(book: &mut Book) -> bool {
-    let withdrawn = Reply::Withdrawn { number: 2 };
-    let stale = Reply::Stale { standing: None };
-    answers_at_last(book, ALPHA, Call::Withdraw { over: 1 }, withdrawn)
-        && answers_at_last(book, ALPHA, Call::Withdraw { over: 1 }, stale)
+/// What a book answers Alpha's first session, or the chair.
+fn answer_of(book: &mut Book, form: &Arc<Form, Global>, ask: Ask) -> Result<Option<Reply>, Fail> {
+    match ask {
+        Ask::Submit { over } => taken_at_last(book, form, over),
+        Ask::Withdraw { over } => Ok(answer_at_last(book, SESSION, Call::Withdraw { over })),
+        Ask::Show => Ok(answer_at_last(book, SESSION, Call::Show)),
+        Ask::Close => Ok(answer_at_last(book, Caller::Chair, Call::Close)),
+    }
 }
 
-fn submits_and_withdraws(book: &mut Book, form: &Arc<Form, Global>) -> Result<bool, Fail> {
-    Ok(
-        takes_at_last(book, form, None, Reply::Accepted { number: 1 })?
-            && answers_at_last(book, ALPHA, Call::Show, shown(form, 1)?)
-            && withdraws(book)
-            && takes_at_last(book, form, None, Reply::Accepted { number: 3 })?,
-    )
+/// Whether a book answers a call so.
+fn is_answered(
+    book: &mut Book,
+    form: &Arc<Form, Global>,
+    ask: Ask,
+    answer: Answer,
+) -> Result<bool, Fail> {
+    let reply = answer_of(book, form, ask)?;
+    Ok(reply.is_some_and(|reply| is_told(&reply, answer, form)))
 }
 
-fn answers_close(book: &mut Book, was_open: bool) -> bool {
-    answers_at_last(book, Caller::Chair, Call::Close, Reply::Closed { was_open })
+/// Whether an open and empty book answers the worked round, and ends with nine entries.
+fn answers_the_round(book: &mut Book, form: &Arc<Form, Global>) -> Result<bool, Fail> {
+    for place in 0..9usize {
+        if !is_answered(book, form, ASKED[place], ANSWERED[place])? {
+            return Ok(false);
+        }
+    }
+    Ok(book.history().len() == 9 && !book.is_open() && book.standing(1).is_some())
 }
 
-fn closes(book: &mut Book, form: &Arc<Form, Global>) -> Result<bool, Fail> {
-    Ok(
-        answers_close(book, true)
-            && takes_at_last(book, form, Some(3), Reply::RoundOver)?
-            && answers_at_last(book, ALPHA, Call::Show, shown(form, 3)?)
-            && answers_close(book, false),
-    )
-}
-
-/// Whether a new book comes to nine entries.
-fn comes_to_nine_entries(book: &mut Book, form: &Arc<Form, Global>) -> Result<bool, Fail> {
-    Ok(submits_and_withdraws(book, form)? && closes(book, form)? && book.history().len() == 9)
+fn comes_to_nine_entries(alloc: Global, form: &Arc<Form, Global>) -> Result<bool, Fail> {
+    let mut book = Book::new(alloc);
+    answers_the_round(&mut book, form)
 }
 
 #[test]
 fn nine_entries(rt: HostRuntime) -> Result<(), Fail> {
-    let alloc = rt.alloc();
-    assert!(rt;
-        on_form(alloc, worked::ALPHA, |_, form| {
-            comes_to_nine_entries(&mut Book::new(alloc), form)
-        })?
-    );
+    assert!(rt; on_form(rt.alloc(), ALPHA, comes_to_nine_entries)?);
     Ok(())
-}
-
-fn shares_a_reply(form: &Arc<Form, Global>) -> Result<bool, Fail> {
-    let reply = shown(form, 7)?;
-    Ok(reply.share()?.is_same(&reply))
 }
 
 fn shares_what_stands(form: &Arc<Form, Global>) -> Result<bool, Fail> {
@@ -101,6 +94,14 @@ fn shares_what_stands(form: &Arc<Form, Global>) -> Result<bool, Fail> {
     Ok(standing.share()?.is_same(&standing))
 }
 
+fn shares_a_reply(form: &Arc<Form, Global>) -> Result<bool, Fail> {
+    let form = Arc::try_clone(form)?;
+    let reply = Reply::Shown {
+        standing: Some(Standing { number: 7, form }),
+    };
+    Ok(reply.share()?.is_same(&reply))
+}
+
 fn shares_a_call(form: &Arc<Form, Global>) -> Result<bool, Fail> {
     let call = Call::Submit {
         form: Arc::try_clone(form)?,
@@ -109,12 +110,12 @@ fn shares_a_call(form: &Arc<Form, Global>) -> Result<bool, Fail> {
     Ok(call.share()?.is_same(&call))
 }
 
+fn shares_each(_: Global, form: &Arc<Form, Global>) -> Result<bool, Fail> {
+    Ok(shares_a_reply(form)? && shares_what_stands(form)? && shares_a_call(form)?)
+}
+
 #[test]
 fn another_owner_or_want_of_memory(rt: HostRuntime) -> Result<(), Fail> {
-    assert!(rt;
-        on_form(rt.alloc(), worked::ALPHA, |_, form| {
-            Ok(shares_a_reply(form)? && shares_what_stands(form)? && shares_a_call(form)?)
-        })?
-    );
+    assert!(rt; on_form(rt.alloc(), ALPHA, shares_each)?);
     Ok(())
 }

@@ -1,11 +1,10 @@
-//! What the readers answer where any one growth is refused (see tools/refuse_calls): that memory is short, or what they
-//! answer with ample memory.
+//! What the readers answer, by the calls themselves. Where any one growth is refused (see tools/refuse_calls), they tell that
+//! memory was short, or the same.
 
-use super::{is_only_empty, on_groups};
+use super::{are_three_groups, are_worked, have_the_pool};
 use crate::worked::{RULES, on_rules};
 use auction_terms::{
-    Bidder, Category, GroupFault, Groups, Pool, RecordReader, Rules, RulesFault, field,
-    read_groups, read_rules,
+    GroupFault, Groups, RecordReader, Rules, RulesFault, field, read_groups, read_rules,
 };
 use csv::ByteRecord;
 use std::alloc::Global;
@@ -14,53 +13,46 @@ use std::test::Fail;
 const POOLS: &[u8] =
     b"rules,3,1,,,\ncategory,A,2,10,1,40\ncategory,B,1,5,1,0\npool,Low,2,,,\nmember,Low,A,1,,\nmember,Low,B,3,,\nbidder,Alpha,9,2,,\n";
 
-fn are_same_categories(categories: &[Category], others: &[Category]) -> bool {
-    categories.len() == others.len()
-        && categories.iter().zip(others.iter()).all(|(a, b)| a.name.as_bytes() == b.name.as_bytes()
-            && a.supply == b.supply
-            && a.reserve == b.reserve
-            && a.points == b.points
-            && a.value == b.value)
+fn reads_worked_rules(alloc: Global) -> Result<bool, Fail> {
+    let rules = read_rules(alloc, RULES)?;
+    Ok(are_worked(&rules))
 }
 
-fn are_same_bidders(bidders: &[Bidder], others: &[Bidder]) -> bool {
-    bidders.len() == others.len()
-        && bidders.iter().zip(others.iter()).all(|(a, b)| a.name.as_bytes() == b.name.as_bytes()
-            && a.eligibility == b.eligibility
-            && a.sessions == b.sessions)
-}
-
-fn are_same_pools(pools: &[Pool], others: &[Pool]) -> bool {
-    pools.len() == others.len()
-        && pools.iter().zip(others.iter()).all(|(a, b)| a.name.as_bytes() == b.name.as_bytes()
-            && a.cap == b.cap
-            && a.weights.as_slice() == b.weights.as_slice())
-}
-
-/// Whether the two are the same rules, by steps of 1 and of two categories.
-fn are_same_rules(rules: &Rules, others: &Rules) -> bool {
-    rules.step() == 1
-        && rules.categories().len() == 2
-        && are_same_categories(rules.categories(), others.categories())
-        && are_same_bidders(rules.bidders(), others.bidders())
-        && are_same_pools(rules.pools(), others.pools())
-}
-
-/// Whether a text is read as the same rules time after time.
-fn is_read_twice(alloc: Global, text: &[u8]) -> Result<bool, Fail> {
-    on_rules(
-        alloc,
-        text,
-        |rules| Ok(are_same_rules(rules, &read_rules(alloc, text)?)),
-    )
+fn reads_a_pool(alloc: Global) -> Result<bool, Fail> {
+    let rules = read_rules(alloc, POOLS)?;
+    Ok(have_the_pool(&rules, &[1, 3]))
 }
 
 #[test]
 fn rules_or_want_of_memory(rt: HostRuntime) -> Result<(), Fail> {
-    assert!(rt; is_read_twice(rt.alloc(), RULES)?);
-    assert!(rt; is_read_twice(rt.alloc(), POOLS)?);
+    assert!(rt; reads_worked_rules(rt.alloc())?);
+    assert!(rt; reads_a_pool(rt.alloc())?);
     Ok(())
 }
+
+/// Texts of rules, each with the fault of its first faulty record.
+const FAULTY_RULES: [(&[u8], RulesFault); 5] = [
+    (
+        b"rules,1,1,,\ncategory,A,2,10,1\ncategory,B,1,5,1\nbidder,Alpha,9,9,\n",
+        RulesFault::NumberRange { place: 4 },
+    ),
+    (
+        b"rules,1,1,,\ncategory,A,2,10,1\ncategory,B,1,5,1\nbidder,Alpha,9,2,\nbidder,Alpha,9,1,\n",
+        RulesFault::NameRepeated { place: 5 },
+    ),
+    (
+        b"rules,1,1,,\nbidder,Alpha,9,2,\nbidder,Beta,9,1,\nbidder,Gamma,9,1,\n",
+        RulesFault::NoCategory { place: 4 },
+    ),
+    (
+        b"rules,7,1,,\ncategory,A,2,10,1\nbidder,Alpha,9,2,\n",
+        RulesFault::Header { place: 1 },
+    ),
+    (
+        b"rules,1,1,,\nlot,A,2,10,1\nbidder,Alpha,9,2,\n",
+        RulesFault::Kind { place: 2 },
+    ),
+];
 
 /// Whether rules are refused so.
 fn are_refused(alloc: Global, text: &[u8], told: RulesFault) -> Result<bool, Fail> {
@@ -72,78 +64,55 @@ fn are_refused(alloc: Global, text: &[u8], told: RulesFault) -> Result<bool, Fai
 
 #[test]
 fn a_fault_of_rules_or_want_of_memory(rt: HostRuntime) -> Result<(), Fail> {
-    for (text, told) in [
-        (
-            b"rules,1,1,,\ncategory,A,2,10,1\ncategory,A,2,10,1\n".as_slice(),
-            RulesFault::NameRepeated { place: 3 },
-        ),
-        (
-            b"rules,1,1,,\ncategory,A,2,10,1\nbidder,Alpha,9,9,\n".as_slice(),
-            RulesFault::NumberRange { place: 3 },
-        ),
-        (
-            b"rules,1,1,,\nbidder,Alpha,9,2,\n".as_slice(),
-            RulesFault::NoCategory { place: 2 },
-        ),
-    ] {
-        assert!(rt; are_refused(rt.alloc(), text, told)?);
+    for (text, told) in FAULTY_RULES {
+        assert!(rt; are_refused(rt.alloc(), text, told)?, "{told}");
     }
     Ok(())
 }
 
-/// Whether there are three groups, and the second and the third are these.
-fn are_three(groups: &Groups, second: &[u16], third: &[u16]) -> bool {
-    groups.count() == 3
-        && groups.group(1).numbers().is_empty()
-        && groups.group(2).numbers() == second
-        && groups.group(3).numbers() == third
+/// Whether the worked lines tell three groups, and a text of no bytes none.
+fn reads_groups(alloc: Global, rules: &Rules) -> Result<bool, Fail> {
+    let none = read_groups(alloc, b"", rules)?;
+    if none.count() != 0 {
+        return Ok(false);
+    }
+    let three = read_groups(alloc, b"-\r\nGamma+Alpha\n-", rules)?;
+    Ok(are_three_groups(&three))
 }
 
 #[test]
 fn groups_or_want_of_memory(rt: HostRuntime) -> Result<(), Fail> {
-    let lines = b"-\nGamma+Alpha\nBeta\n".as_slice();
-    assert!(rt;
-        on_groups(
-            rt.alloc(),
-            lines,
-            |groups| Ok(are_three(groups, &[1, 3], &[2]))
-        )?
-    );
+    assert!(rt; on_rules(rt.alloc(), RULES, reads_groups)?);
+    assert!(rt; Groups::only_empty(rt.alloc())?.starts_empty());
     Ok(())
 }
 
-/// Whether groups under these rules are refused so.
-fn are_no_groups(
-    alloc: Global,
-    rules: &Rules,
-    lines: &[u8],
-    told: GroupFault,
-) -> Result<bool, Fail> {
-    match read_groups(alloc, lines, rules).err() {
+/// Texts of groups, each with the fault of its first faulty line.
+const FAULTY_GROUPS: [(&[u8], GroupFault); 5] = [
+    (b"Alpha+Alpha\n", GroupFault::RepeatedBidder { place: 1 }),
+    (b"-\n\n", GroupFault::EmptyLine { place: 2 }),
+    (b"Delta\n", GroupFault::UnknownBidder { place: 1 }),
+    (b"Alpha+\n", GroupFault::UnknownBidder { place: 1 }),
+    (
+        b"-\nAlpha+Beta+Alpha\n",
+        GroupFault::RepeatedBidder { place: 2 },
+    ),
+];
+
+/// Whether groups of the worked bidders are refused so.
+fn are_no_groups(alloc: Global, lines: &[u8], told: GroupFault) -> Result<bool, Fail> {
+    let rules = read_rules(alloc, RULES)?;
+    match read_groups(alloc, lines, &rules).err() {
         Some(GroupFault::OutOfMemory) => Err(Fail::from("out of memory")),
         fault => Ok(fault == Some(told)),
     }
 }
 
-fn refuses_groups(alloc: Global, rules: &Rules) -> Result<bool, Fail> {
-    let repeated = GroupFault::RepeatedBidder { place: 2 };
-    let unknown = GroupFault::UnknownBidder { place: 2 };
-    Ok(
-        are_no_groups(alloc, rules, b"-\nAlpha+Beta+Alpha\n", repeated)?
-            && are_no_groups(alloc, rules, b"Gamma\nGamma+Delta\n", unknown)?,
-    )
-}
-
 #[test]
 fn a_fault_of_groups_or_want_of_memory(rt: HostRuntime) -> Result<(), Fail> {
-    let alloc = rt.alloc();
-    assert!(rt; on_rules(alloc, RULES, |rules| refuses_groups(alloc, rules))?);
-    Ok(())
-}
-
-#[test]
-fn one_empty_group_or_want_of_memory(rt: HostRuntime) -> Result<(), Fail> {
-    assert!(rt; is_only_empty(&Groups::only_empty(rt.alloc())?));
+    for (lines, told) in FAULTY_GROUPS {
+        assert!(rt; are_no_groups(rt.alloc(), lines, told)?, "{told}");
+    }
     Ok(())
 }
 
@@ -153,6 +122,7 @@ fn takes_two(records: &mut RecordReader<'_>, row: &mut ByteRecord) -> Result<boo
         records.next(row)?
             && field(row, 1) == b"a".as_slice()
             && field(row, 2) == b"b\"c".as_slice()
+            && field(row, 3) == b"".as_slice()
             && records.next(row)?
             && field(row, 1) == b"d".as_slice()
             && !records.next(row)?,

@@ -1,4 +1,4 @@
-use Rattle.round_tests.proofs.desk.refused.settles_with.Given as goal
+use Rattle.round_tests.proofs.desk.refused.settles_nine_entries.Given as goal
 
 abbrev pub ghosts-round-L-Ledger : goal.ghosts-round-L-Ledger
 ghosts-round-L-Ledger g a = record { name = a.blank.name; parts = a.blank.parts }
