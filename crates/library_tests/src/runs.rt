@@ -40,6 +40,10 @@ const SOLVED_TWICE: &[u8] =
 const REPORT: &[u8] =
     b"group 1 -\nAlpha 1 30\nBeta 1 20\nGamma 1 12\ntotal 62\ncost 0\ngroup 2 Beta\nAlpha 2 50\ntotal 50\ncost 8\n";
 
+/// Which bids of `SOLVED` are in no program.
+const LEFT_OUT: &[u8] =
+    b"Alpha: bid 3 is dominated by bid 1\nBeta: bid 2 asks for 3 of A, where there are 2\n";
+
 /// What `check` tells of `ONE_FORM_TEXT`.
 const SIZES: &[u8] = b"rows 3 columns 1 entries 2\n";
 
@@ -235,6 +239,15 @@ fn a_report_fails_at_every_byte(rt: HostRuntime) -> Result<(), Fail> {
 fn sizes_fail_at_every_byte(rt: HostRuntime) -> Result<(), Fail> {
     for room in 0..28usize {
         let ended = ends_as_told(&rt, &["wdp", "check"], ONE_FORM_TEXT, SIZES, room, 7)?;
+        assert!(rt; ended, "at {room}");
+    }
+    Ok(())
+}
+
+#[test]
+fn lines_of_bids_fail_at_every_byte(rt: HostRuntime) -> Result<(), Fail> {
+    for room in 0..83usize {
+        let ended = ends_as_told(&rt, &["wdp", "explain", "--bids"], SOLVED, LEFT_OUT, room, 7)?;
         assert!(rt; ended, "at {room}");
     }
     Ok(())

@@ -4,7 +4,7 @@
 ghost use Rattle.std.specs.Prelude.{ℕ, List, Option, None};
 
 use super::{
-    CERTIFIED, ONE_FORM, ONE_FORM_TEXT, REPORT, SIZES, SOLVED, SOLVED_TWICE, TWO_GROUPS,
+    CERTIFIED, LEFT_OUT, ONE_FORM, ONE_FORM_TEXT, REPORT, SIZES, SOLVED, SOLVED_TWICE, TWO_GROUPS,
     TWO_PROGRAMS, VERIFIED, WINNERS, told,
 };
 use answers::{RunFault, run, run_compile, tell};
@@ -165,6 +165,11 @@ fn a_report_or_want_of_memory(rt: HostRuntime) -> Result<(), Fail> {
 #[test]
 fn sizes_or_want_of_memory(rt: HostRuntime) -> Result<(), Fail> {
     answers(&rt, &["wdp", "check"], ONE_FORM_TEXT, SIZES)
+}
+
+#[test]
+fn lines_of_bids_or_want_of_memory(rt: HostRuntime) -> Result<(), Fail> {
+    answers(&rt, &["wdp", "explain", "--bids"], SOLVED, LEFT_OUT)
 }
 
 #[test]
