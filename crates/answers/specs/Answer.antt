@@ -8,6 +8,7 @@ use Rattle.auction_input.specs.declared.refusal.Refusal.{Refusal}
 use Rattle.requests.specs.declared.request.Request.TheVariants.{Check, Compile, Explain, Map, Report, Verify}
 use Rattle.requests.specs.declared.request.Request.{Request}
 use Rattle.auction_terms.specs.Stages.{and_then}
+use Rattle.left_out.specs.Lines.{left_out_lines}
 use Rattle.mps_text.specs.Text.{text}
 use Rattle.outcome.specs.Report.{allocation_text, in_turn, report_text}
 use Rattle.outcome.specs.Uniqueness.{uniqueness_text}
@@ -17,7 +18,7 @@ use Rattle.answers.specs.GroupTexts.{program_text}
 use Rattle.answers.specs.Sizes.{program_told, sizes_text}
 use Rattle.answers.specs.SolutionWinners.{winners_by, winners_of_groups}
 
--- what a command writes of an auction; where none is named, it is `text`. `explain` writes nothing of one, since nothing is wrong
+-- what a command writes of an auction; where none is named, it is `text`
 abbrev pub output_of : Request → Auction → Result (List ℕ) Refusal
 -- the line and the program of each group
 output_of (Compile workers) auction = Ok (in_turn (program_text auction.sale) 1 auction.groups)
@@ -35,7 +36,8 @@ output_of (Verify workers) auction =
     and_then (and_then (winners_of_groups auction) (certified auction)) (λ won.
     and_then (claims_told auction (slice_index_or won 0 []) auction.uniques auction.ties) (λ claim.
     Ok (report_text auction.sale auction.groups won ++ uniqueness_text auction.sale claim)))
-output_of Explain auction = Ok []
+-- nothing is wrong, and so nothing is written, unless it is asked which bids no program has
+output_of (Explain bids) auction = Ok (if bids then left_out_lines auction.rules auction.sale.book else [])
 -- the program with nobody left out
 output_of asked auction = Ok (text (program_for auction.sale []))
 

@@ -1,5 +1,5 @@
 -- What a run leaves of its input and its output.
-use Rattle.std.specs.Prelude.{◌≡◌, ◌⊎◌, ◌<◌, ℕ, List, Option, IsErr, Ok, codes, length}
+use Rattle.std.specs.Prelude.{◌≡◌, ◌⊎◌, ◌<◌, ℕ, Bool, List, Option, IsErr, Ok, codes, length}
 use Rattle.std.specs.Io.KnownBytes.{Appends}
 use Rattle.auction_input.specs.Auction.{auction_told}
 use Rattle.auction_input.specs.ReadInput.{IsUntaken, IsWhole}
@@ -22,11 +22,11 @@ IsAnswered asked left left' taken taken' = (input : List ℕ) × IsWhole left le
 pub data IsRefused (asked : Request) (left left' : Option (List ℕ)) (reads reads' : ℕ) (taken taken' : Option (List ℕ)) (failures failures' : ℕ) : Refusal → Type 0 where
   by_input : {f : InputFault} → IsUntaken f left left' reads reads' → taken' ≡ taken → IsRefused asked left left' reads reads' taken taken' failures failures' (refusal.Input f)
   by_text : {r : Refusal} → (input : List ℕ) → IsWhole left left' input → IsUnwritten asked input taken taken' failures failures' r → IsRefused asked left left' reads reads' taken taken' failures failures' r
-  by_lines : {r : Refusal} → asked ≡ Explain → (input : List ℕ) → IsWhole left left' input → IsCutShort (explanation Explain input) taken taken' failures failures' r → IsRefused asked left left' reads reads' taken taken' failures failures' r
+  by_lines : {r : Refusal} → (bids : Bool) → asked ≡ Explain bids → (input : List ℕ) → IsWhole left left' input → IsCutShort (explanation asked input) taken taken' failures failures' r → IsRefused asked left left' reads reads' taken taken' failures failures' r
 
 -- the input was read, it tells no auction, and the lines of its faults are written
-abbrev pub IsExplained : Option (List ℕ) → Option (List ℕ) → Option (List ℕ) → Option (List ℕ) → Type 0
-IsExplained left left' taken taken' = (input : List ℕ) × IsWhole left left' input × IsErr (auction_told Explain input) × Appends taken taken' (explanation Explain input)
+abbrev pub IsExplained : Request → Option (List ℕ) → Option (List ℕ) → Option (List ℕ) → Option (List ℕ) → Type 0
+IsExplained asked left left' taken taken' = (input : List ℕ) × IsWhole left left' input × IsErr (auction_told asked input) × Appends taken taken' (explanation asked input)
 
 -- what goes out without an input: a text of help, which isn't empty, or the version
 abbrev pub IsShown : Asked → List ℕ → Type 0
@@ -49,4 +49,4 @@ pub data IsUndone (asked : Asked) (left left' : Option (List ℕ)) (reads reads'
 -- `explain` is asked for, an input with faults is explained, no read and no put fails, and no line of a refusal is put
 abbrev pub HasExplained : Asked → Option (List ℕ) → Option (List ℕ) → ℕ → ℕ → Option (List ℕ) → Option (List ℕ) → ℕ → ℕ → Option (List ℕ) → Option (List ℕ) → ℕ → ℕ → Type 0
 HasExplained asked left left' reads reads' taken taken' failures failures' told told' untold untold' =
-    (asked ≡ for_answer Explain) × IsExplained left left' taken taken' × (reads' ≡ reads) × (failures' ≡ failures) × (told' ≡ told) × (untold' ≡ untold)
+    ((bids : Bool) × (asked ≡ for_answer (Explain bids)) × IsExplained (Explain bids) left left' taken taken') × (reads' ≡ reads) × (failures' ≡ failures) × (told' ≡ told) × (untold' ≡ untold)

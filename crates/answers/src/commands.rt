@@ -1,6 +1,6 @@
 //! The commands: the input is read, and the command that is asked for answers.
 
-ghost use Rattle.std.specs.Prelude.{◌≡◌, ◌≢◌, IfErr, OnOk};
+ghost use Rattle.std.specs.Prelude.{◌≡◌, ◌≢◌, Bool, IfErr, OnOk};
 ghost use Rattle.answers.specs.Answer.{answer};
 ghost use Rattle.answers.specs.Exact.{IsUnwritten, Writes};
 ghost use Rattle.requests.specs.Requests.{IsRequestWithinLimits};
@@ -37,7 +37,7 @@ pub fn answer<R: Threads + Wait + Sync + AllocGlobal, I: Read, S: Sink>(
     out: &mut S,
 ) -> Result<(), Refusal>
     requires limits { IsRequestWithinLimits request }
-    requires answered { request ≢ Request.Explain }
+    requires answered { (bids : Bool) → request ≢ Request.Explain bids }
     ensures answered { OnOk result (IsAnswered request (I.remaining input.old.reader)
         (I.remaining input.new.reader) (S.taken out.old) (S.taken out.new)) }
     ensures sold { OnOk result (HasReadSold request (I.remaining input.old.reader)
@@ -60,7 +60,7 @@ fn answer_text<R: Threads + Wait + Sync + AllocGlobal, S: Sink>(
     out: &mut S,
 ) -> Result<(), Refusal>
     requires limits { IsRequestWithinLimits request }
-    requires answered { request ≢ Request.Explain }
+    requires answered { (bids : Bool) → request ≢ Request.Explain bids }
     ensures written { OnOk result (Writes (answer request text.now) (S.taken out.old)
         (S.taken out.new)) }
     ensures sold { OnOk result (HasSold request text.now) }
@@ -75,6 +75,6 @@ fn answer_text<R: Threads + Wait + Sync + AllocGlobal, S: Sink>(
         Request::Map { group } => map(rt, text, group, out),
         Request::Report { workers } => write_report(rt, text, workers, out),
         Request::Verify { workers } => verify(rt, text, workers, out),
-        Request::Explain => unreachable!(),
+        Request::Explain { bids: _ } => unreachable!(),
     }
 }

@@ -129,7 +129,7 @@ fn answer_request<R: Threads + Wait + Sync + AllocGlobal, I: Read, S: Sink, F: S
         (F.taken faults.new) (F.failures faults.old) (F.failures faults.new) }
 {
     match request {
-        Request::Explain => explain_request(rt.alloc(), input, out, faults),
+        Request::Explain { bids } => explain_request(rt, bids, input, out, faults),
         request => match answer(rt, request, input, out) {
             Ok(()) => 0,
             Err(refusal) => {
@@ -141,30 +141,31 @@ fn answer_request<R: Threads + Wait + Sync + AllocGlobal, I: Read, S: Sink, F: S
 }
 
 // Explains an input, or tells why not.
-fn explain_request<I: Read, S: Sink, F: Sink>(
-    alloc: Global,
+fn explain_request<R: Threads + Wait + Sync + AllocGlobal, I: Read, S: Sink, F: Sink>(
+    rt: &R,
+    bids: bool,
     input: &mut Source<I>,
     out: &mut S,
     faults: &mut F,
 ) -> u8
     ensures status { result ≤ 1 }
-    ensures answered { result ≡ 0 → IsAnswered Request.Explain (I.remaining input.old.reader)
+    ensures answered { result ≡ 0 → IsAnswered (Request.Explain bids) (I.remaining input.old.reader)
         (I.remaining input.new.reader) (S.taken out.old) (S.taken out.new) }
     ensures quiet { result ≡ 0 → (F.taken faults.new ≡ F.taken faults.old)
         × (F.failures faults.new ≡ F.failures faults.old) }
     ensures succeeded { result ≡ 0 → (S.failures out.new ≡ S.failures out.old)
         × (input.new.failures ≡ input.old.failures) }
-    ensures refused { result ≡ 1 → IsToldWhy (IsRefused Request.Explain
+    ensures refused { result ≡ 1 → IsToldWhy (IsRefused (Request.Explain bids)
         (I.remaining input.old.reader) (I.remaining input.new.reader) input.old.failures
         input.new.failures (S.taken out.old) (S.taken out.new) (S.failures out.old)
         (S.failures out.new)) (F.taken faults.old) (F.taken faults.new) (F.failures faults.old)
-        (F.failures faults.new) ⊎ HasExplained (for_answer Request.Explain)
+        (F.failures faults.new) ⊎ HasExplained (for_answer (Request.Explain bids))
         (I.remaining input.old.reader) (I.remaining input.new.reader) input.old.failures
         input.new.failures (S.taken out.old) (S.taken out.new) (S.failures out.old)
         (S.failures out.new) (F.taken faults.old) (F.taken faults.new) (F.failures faults.old)
         (F.failures faults.new) }
 {
-    match explain_input(alloc, input, out) {
+    match explain_input(rt, bids, input, out) {
         Ok(false) => 0,
         Ok(true) => 1,
         Err(refusal) => {

@@ -104,7 +104,7 @@ rest-same held parts hold = rw (hold.solutions, hold.certificates, hold.uniques,
 
 -- the auction that forms leave, with groups and these texts
 abbrev auction_of : Terms → List Offers → List (List ℕ) → Rest → Auction
-auction_of t forms groups rest = record { sale = sale_left t forms; groups = groups; solutions = rest.solutions; certificates = rest.certificates; uniques = rest.uniques; ties = rest.ties }
+auction_of t forms groups rest = record { rules = t; sale = sale_left t forms; groups = groups; solutions = rest.solutions; certificates = rest.certificates; uniques = rest.uniques; ties = rest.ties }
 
 module _ (asked : Request) (input : List ℕ) (held : Parts) (cut : IsCut asked input held) where
   pub terms-refused : (r : Refusal) → Refuses (terms_told (only_text (bytes_of held.rules.items))) r → Refuses (auction_told asked input) r
@@ -168,11 +168,11 @@ sale-is book forms submitted =
     (λ b least most. ap (λ (form : Option Offers). bids_in form) (submitted.standing b least (omega arith))) in
     ap (sale_with book.rules) same
 
-abbrev sold : Sale → List (List ℕ) → Rest → Auction
-sold sale groups rest = record { sale = sale; groups = groups; solutions = rest.solutions; certificates = rest.certificates; uniques = rest.uniques; ties = rest.ties }
+abbrev sold : Terms → Sale → List (List ℕ) → Rest → Auction
+sold t sale groups rest = record { rules = t; sale = sale; groups = groups; solutions = rest.solutions; certificates = rest.certificates; uniques = rest.uniques; ties = rest.ties }
 
 -- the auction that a settled book and groups are, with the texts behind them
 pub auction-held : (book : Closing) (t : Terms) (forms : List Offers) (groups : List (List ℕ)) (rest : Rest) → book.rules ≡ t → AreSubmitted forms book
-    → auction_of t forms groups rest ≡ sold (sale_of book) groups rest
+    → auction_of t forms groups rest ≡ sold book.rules (sale_of book) groups rest
 auction-held book t forms groups rest rules submitted =
-    ap (λ (u : Terms). auction_of u forms groups rest) (sym rules) ∙ ap (λ (sale : Sale). sold sale groups rest) (sym (sale-is book forms submitted))
+    ap (λ (u : Terms). auction_of u forms groups rest) (sym rules) ∙ ap (λ (sale : Sale). sold book.rules sale groups rest) (sym (sale-is book forms submitted))

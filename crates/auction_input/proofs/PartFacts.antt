@@ -102,7 +102,7 @@ module _ (name : List ℕ) where
 
   named-in : (asked : Request) → NamedIn (part_names asked) (kind_named asked name)
   named-in (request.Verify workers) = of-verify _ _ _ _ _ _ _ refl refl refl refl refl refl refl
-  named-in request.Explain = of-verify _ _ _ _ _ _ _ refl refl refl refl refl refl refl
+  named-in (request.Explain bids) = of-verify _ _ _ _ _ _ _ refl refl refl refl refl refl refl
   named-in asked = of-others _ _ _ _ _ _ _ refl refl refl refl refl refl refl
 
   pub name-told : (asked : Request) (k : PartKind) → kind_named asked name ≡ Some k → (name ≡ name_of k) × (list_any (bytes_eq name) (part_names asked) ≡ true)

@@ -10,7 +10,7 @@ pub plan_is : (asked : Request) (groups solutions : ℕ) → takes asked groups 
 plan_is request.Text groups solutions = refl
 plan_is request.Check groups solutions = refl
 plan_is (request.Compile workers) groups solutions = refl
-plan_is request.Explain groups solutions = refl
+plan_is (request.Explain bids) groups solutions = refl
 plan_is (request.Map k) groups solutions = refl
 plan_is (request.Report workers) groups solutions = refl
 plan_is (request.Verify workers) groups solutions = refl

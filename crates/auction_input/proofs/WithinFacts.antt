@@ -22,7 +22,7 @@ auction-within asked input auction told =
     let (t, t_is, more_forms) = ok-behind (terms_told rules) _ auction more in
     let (forms, forms_are, more_groups) = ok-behind (each_in_turn (form_told t) 1 (parts_named (codes "%form") parts)) _ auction more_forms in
     let (groups, groups_are, more_calls) = ok-behind (groups_told t (only_text (parts_named (codes "%groups") parts))) _ auction more_groups in
-    let whole : Auction = record { sale = sale_left t forms; groups = groups; solutions = parts_named (codes "%solution") parts; certificates = parts_named (codes "%certificate") parts; uniques = parts_named (codes "%unique") parts; ties = parts_named (codes "%tie") parts } in
+    let whole : Auction = record { rules = t; sale = sale_left t forms; groups = groups; solutions = parts_named (codes "%solution") parts; certificates = parts_named (codes "%certificate") parts; uniques = parts_named (codes "%unique") parts; ties = parts_named (codes "%tie") parts } in
     let is : whole ≡ auction = (unless-ok _ whole auction (ok-refused_as refusal.CallLimit _ auction more_calls)).1 in
     let within = book-within t forms (terms-few rules t t_is) (forms-within t 1 (parts_named (codes "%form") parts) forms forms_are) in
     subst (λ (a : Auction). IsLots a.sale.lots × IsBook a.sale.lots a.sale.book) is (lots-within rules t t_is, within)

@@ -10,10 +10,12 @@ use Rattle.auction_input.specs.declared.refusal.Refusal.{Refusal}
 use Rattle.requests.specs.declared.request.Request.{Request}
 use Rattle.auction_terms.specs.FirstFault.{first_fault}
 use Rattle.auction_terms.specs.Stages.{and_then, each_in_turn, refused_as, unless}
+use Rattle.auction_terms.specs.Terms.{Terms}
 use Rattle.bid_desk.specs.Sale.{Sale}
 
--- a sale, the groups that are left out of it, and the texts of solutions and of certificates; what is claimed of other outcomes: texts of certificates that there is none as good, and of solutions that are
+-- the rules, the sale by them, the groups that are left out of it, and the texts of solutions and of certificates; what is claimed of other outcomes: texts of certificates that there is none as good, and of solutions that are
 pub record Auction : Type 0 where
+  pub rules : Terms
   pub sale : Sale
   pub groups : List (List ℕ)
   pub solutions : List (List ℕ)
@@ -28,6 +30,7 @@ auction_told asked input =
     and_then (each_in_turn (form_told t) 1 (parts_named (codes "%form") parts)) (λ forms.
     and_then (groups_told t (only_text (parts_named (codes "%groups") parts))) (λ groups.
     refused_as refusal.CallLimit (unless (first_fault one_too_many [] forms) (Ok (record {
+      rules = t;
       sale = sale_left t forms;
       groups = groups;
       solutions = parts_named (codes "%solution") parts;

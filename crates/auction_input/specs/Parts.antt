@@ -43,7 +43,7 @@ parts_in (line ∷ more) = if heads_part line then record { name = slice_index_o
 -- the names that a part may have; certificates, and what is claimed of other outcomes, are for `verify`, and for `explain`, which lets them be
 abbrev pub part_names : Request → List (List ℕ)
 part_names (request.Verify workers) = codes "%rules" ∷ codes "%form" ∷ codes "%groups" ∷ codes "%solution" ∷ codes "%certificate" ∷ codes "%unique" ∷ codes "%tie" ∷ []
-part_names request.Explain = codes "%rules" ∷ codes "%form" ∷ codes "%groups" ∷ codes "%solution" ∷ codes "%certificate" ∷ codes "%unique" ∷ codes "%tie" ∷ []
+part_names (request.Explain bids) = codes "%rules" ∷ codes "%form" ∷ codes "%groups" ∷ codes "%solution" ∷ codes "%certificate" ∷ codes "%unique" ∷ codes "%tie" ∷ []
 part_names asked = codes "%rules" ∷ codes "%form" ∷ codes "%groups" ∷ codes "%solution" ∷ []
 
 -- a part of no such name, given the parts before it

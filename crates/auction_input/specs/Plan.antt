@@ -12,7 +12,7 @@ takes request.Text groups solutions = (groups == 0, solutions == 0)
 takes (request.Map k) groups solutions = (groups == 1, solutions == 1)
 takes (request.Report workers) groups solutions = (groups == 1, true)
 takes (request.Verify workers) groups solutions = (groups == 1, true)
-takes request.Explain groups solutions = (nat_le groups 1, true)
+takes (request.Explain bids) groups solutions = (nat_le groups 1, true)
 takes asked groups solutions = (groups == 1, solutions == 0)
 
 -- of so many parts of rules, groups and solutions, the first kind of which there are too few or too many

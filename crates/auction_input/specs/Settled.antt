@@ -20,7 +20,7 @@ use Rattle.bid_desk.specs.Sale.{sale_of}
 
 -- what an auction that is settled holds
 abbrev pub held : declared.Auction → Auction
-held auction = record { sale = sale_of auction.book; groups = auction.groups; solutions = bytes_of auction.solutions.items; certificates = bytes_of auction.certificates.items; uniques = bytes_of auction.uniques.items; ties = bytes_of auction.ties.items }
+held auction = record { rules = auction.book.rules; sale = sale_of auction.book; groups = auction.groups; solutions = bytes_of auction.solutions.items; certificates = bytes_of auction.certificates.items; uniques = bytes_of auction.uniques.items; ties = bytes_of auction.ties.items }
 
 -- the auction, which the request reads, is accepted, and yet a wrong answer of the desk is told: that it gave one isn't said, since nothing is known of what a lock gives
 abbrev pub IsUnsettled : Request → List ℕ → Refusal → Type 0

@@ -22,7 +22,7 @@ fn for_verify(request: &Request, kind: PartKind) -> Option<PartKind>
     ensures { result ≡ for_verify request.now kind }
 {
     match request {
-        Request::Verify { workers: _ } | Request::Explain => Some(kind),
+        Request::Verify { workers: _ } | Request::Explain { bids: _ } => Some(kind),
         _ => None,
     }
 }

@@ -28,7 +28,7 @@ fn takes_groups(request: &Request, count: usize) -> bool
 {
     match request {
         Request::Text => count == 0,
-        Request::Explain => count <= 1,
+        Request::Explain { bids: _ } => count <= 1,
         _ => count == 1,
     }
 }
@@ -39,7 +39,9 @@ fn solutions_taken(request: &Request) -> Option<usize>
 {
     match request {
         Request::Map { group: _ } => Some(1),
-        Request::Report { workers: _ } | Request::Verify { workers: _ } | Request::Explain => None,
+        Request::Report { workers: _ }
+        | Request::Verify { workers: _ }
+        | Request::Explain { bids: _ } => None,
         _ => Some(0),
     }
 }

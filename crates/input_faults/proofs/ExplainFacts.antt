@@ -1,5 +1,6 @@
 -- What is told of all faults.
-use Rattle.std.proofs.Common.{◌≡◌, ◌∷◌, ℕ, Bool, true, false, List, [], Result, Ok, Err, ap, length, refl}
+use Rattle.std.proofs.Common.{◌≡◌, ◌∷◌, ℕ, Bool, true, false, List, [], Result, Ok, Err, ap, length, refl, subst, sym}
+use Rattle.std.specs.Io.KnownBytes.{Appends}
 use Rattle.std.specs.Prelude.{◌↔◌, IsErr, IsTrue, Option, not}
 use Rattle.auction_input.specs.Auction.{Auction, auction_told}
 use Rattle.auction_input.specs.declared.refusal.Refusal.{Refusal}
@@ -15,6 +16,7 @@ use Rattle.input_faults.specs.FaultsAs.{faults_as}
 use Rattle.input_faults.specs.InputFaults.{input_faults, refusal_of}
 use Rattle.input_faults.specs.declared.fault.Fault.{Fault}
 use Rattle.input_faults.specs.inside.HeldLines.{held_lines}
+use Rattle.mps_text.proofs.Known.{Appends-nothing}
 use Rattle.mps_text.specs.Sinks.{HasFailed, SentFront}
 use Rattle.mps_text.specs.Written.{written_of}
 use Rattle.mps_text.specs.declared.write_fault.WriteFault.{WriteFault}
@@ -38,6 +40,11 @@ faulty held (at ∷ more) (Ok x) empty keeps are none some = cc
 faulty held [] (Err r) empty keeps (field, more, are) none some = cc
 faulty held (at ∷ more) (Err r) false keeps are none some = (λ _. refl, λ _. refl)
 faulty held (at ∷ more) (Err r) true keeps are none some = (let nothing = none-kept held (at ∷ more) keeps (none refl) in cc)
+
+-- where none is kept, there is none, and nothing is told
+pub nothing-found : (asked : Request) (input : List ℕ) (held : Faults Fault) (taken : Option (List ℕ)) → Keeps held (input_faults asked input) → length held.kept.items ≡ 0 → Appends taken taken (explanation asked input)
+nothing-found asked input held taken keeps none =
+    subst (λ (bytes : List ℕ). Appends taken taken bytes) (sym (ap fault_lines (none-kept held (input_faults asked input) keeps none))) (Appends-nothing taken)
 
 pub is-faulty : (asked : Request) (input : List ℕ) (held : Faults Fault) (empty : Bool) → Keeps held (input_faults asked input) → (empty ≡ true → length held.kept.items ≡ 0) → (empty ≡ false → length held.kept.items ≡ 0 → ⊥)
     → IsTrue (not empty) ↔ IsErr (auction_told asked input)

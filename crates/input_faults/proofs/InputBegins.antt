@@ -88,6 +88,7 @@ begin-parts asked parts None others next are = by (count_fault asked parts)
 -- the auction that parts tell, with these forms and groups
 abbrev auction_in : List Part → Terms → List Offers → List (List ℕ) → Auction
 auction_in parts t forms groups = record {
+  rules = t;
   sale = sale_left t forms;
   groups = groups;
   solutions = parts_named (codes "%solution") parts;

@@ -1,6 +1,6 @@
 //! Telling all faults of an input.
 
-ghost use Rattle.std.specs.Prelude.{◌≡◌, ◌↔◌, IfErr, IfOk, IsErr, IsTrue, OnOk};
+ghost use Rattle.std.specs.Prelude.{◌≡◌, ◌↔◌, IfErr, IfOk, IsErr, IsTrue, OnOk, false};
 ghost use Rattle.std.specs.Io.KnownBytes.{Appends};
 ghost use Rattle.auction_input.specs.Auction.{auction_told};
 ghost use Rattle.input_faults.specs.Explained.{IsCutShort};
@@ -14,7 +14,7 @@ use requests::Request;
 use std::alloc::Global;
 
 /// Writes a line for each fault of the input of a request, up to `MOST_FAULTS` lines, and how many more there are. Tells
-/// whether there is a fault.
+/// whether there is a fault; where there is none, nothing is put.
 pub fn explain<S: Sink>(
     alloc: Global,
     request: &Request,
@@ -25,11 +25,15 @@ pub fn explain<S: Sink>(
         (explanation request.now text.now)) }
     ensures faulty { IfOk result (λ faulty. IsTrue faulty
         ↔ IsErr (auction_told request.now text.now)) }
+    ensures untouched { IfOk result (λ faulty. faulty ≡ false → out.new ≡ out.old) }
     ensures succeeded { OnOk result (S.failures out.new ≡ S.failures out.old) }
     ensures refused { IfErr result (IsCutShort (explanation request.now text.now)
         (S.taken out.old) (S.taken out.new) (S.failures out.old) (S.failures out.new)) }
 {
     let faults = input_faults(alloc, request, text)?;
+    if faults.kept.is_empty() {
+        return Ok(false);
+    }
     write_lines(&faults, out)?;
-    Ok(!faults.kept.is_empty())
+    Ok(true)
 }

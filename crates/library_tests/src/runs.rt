@@ -40,6 +40,10 @@ const SOLVED_TWICE: &[u8] =
 const REPORT: &[u8] =
     b"group 1 -\nAlpha 1 30\nBeta 1 20\nGamma 1 12\ntotal 62\ncost 0\ngroup 2 Beta\nAlpha 2 50\ntotal 50\ncost 8\n";
 
+/// Which bids of `SOLVED` are in no program.
+const LEFT_OUT: &[u8] =
+    b"Alpha: bid 3 is dominated by bid 1\nBeta: bid 2 asks for 3 of A, where there are 2\n";
+
 /// What `check` tells of `ONE_FORM_TEXT`.
 const SIZES: &[u8] = b"rows 3 columns 1 entries 2\n";
 
@@ -133,7 +137,7 @@ impl Run {
 }
 
 /// One of each command that writes.
-const RUNS: [Run; 6] = [
+const RUNS: [Run; 7] = [
     Run {
         words: &["wdp", "text"],
         input: ONE_FORM,
@@ -153,6 +157,11 @@ const RUNS: [Run; 6] = [
         words: &["wdp", "report", "--workers", "64"],
         input: SOLVED_TWICE,
         output: REPORT,
+    },
+    Run {
+        words: &["wdp", "explain", "--bids"],
+        input: SOLVED,
+        output: LEFT_OUT,
     },
     Run {
         words: &["wdp", "check"],

@@ -44,7 +44,7 @@ pub wdp-free : is_simple_and_free wdp ≡ true
 wdp-free = refl
 
 -- a command with one more, which is plain
-pub added : (old sub new : Command) → AddsSubcommand old sub new → (a s : App) → app_of old ≡ a → app_of sub ≡ s → s.top.is_plain ≡ true → app_of new ≡ with_subcommand a s.top
+added : (old sub new : Command) → AddsSubcommand old sub new → (a s : App) → app_of old ≡ a → app_of sub ≡ s → s.top.is_plain ≡ true → app_of new ≡ with_subcommand a s.top
 added old sub new adds a s is_old is_sub plain =
     let all : (app_of sub).top.is_plain ≡ true = ap (λ (x : App). x.top.is_plain) is_sub ∙ plain in
     let groups = both _ _ all in
@@ -53,10 +53,12 @@ added old sub new adds a s is_old is_sub plain =
     subst (λ (x : App). app_of new ≡ with_subcommand x s.top) is_old
     (subst (λ (x : App). app_of new ≡ with_subcommand (app_of old) x.top) is_sub (adds.shape (is_false _ global.0)))
 
-pub last_added : {E : Type 0} (old sub : Command) (r : Result Command E) (a s : App) → IfOk r (AddsSubcommand old sub) → app_of old ≡ a → app_of sub ≡ s → s.top.is_plain ≡ true
-    → IfOk r (λ new. app_of new ≡ with_subcommand a s.top)
-last_added old sub (Ok new) a s adds is_old is_sub plain = added old sub new adds a s is_old is_sub plain
-last_added old sub (Err e) a s adds is_old is_sub plain = tt
+-- the same where there is memory for both
+pub further-added : {E : Type 0} (command further : Result Command E) (old sub : Command) (r : Result Command E) → command ≡ Ok old → further ≡ Ok sub → IfOk r (AddsSubcommand old sub) → (a s : App)
+    → IfOk command (λ c. app_of c ≡ a) → IfOk further (λ c. app_of c ≡ s) → s.top.is_plain ≡ true → IfOk r (λ new. app_of new ≡ with_subcommand a s.top)
+further-added {E} command further old sub (Ok new) old_is sub_is adds a s command_is further_is plain =
+    added old sub new adds a s (subst (λ (c : Result Command E). IfOk c (λ c. app_of c ≡ a)) old_is command_is) (subst (λ (c : Result Command E). IfOk c (λ c. app_of c ≡ s)) sub_is further_is) plain
+further-added command further old sub (Err e) old_is sub_is adds a s command_is further_is plain = tt
 
 -- ---- what words ask for
 

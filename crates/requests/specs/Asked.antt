@@ -1,5 +1,5 @@
 -- What the words on the command line ask for.
-use Rattle.std.specs.Prelude.{ℕ, List, [], ◌∷◌, ◌++◌, Option, None, Some, Result, Ok, Err, String, true, codes, fold, if◌then◌else◌, map}
+use Rattle.std.specs.Prelude.{ℕ, List, [], ◌∷◌, ◌++◌, Bool, Option, None, Some, Result, Ok, Err, String, false, true, codes, fold, if◌then◌else◌, map}
 use Rattle.std.specs.Option.{option_map_or}
 use Rattle.std.specs.Str.{bytes_eq}
 use Rattle.std.specs.Str.Parse.{digits_value, without_leading_plus}
@@ -11,6 +11,7 @@ use Rattle.auction_terms.specs.declared.limits.TheConstants.{MOST_GROUPS}
 use Rattle.clap.specs.Simple.{on_top}
 use Rattle.clap.specs.ValueTests.{is_unsigned_in}
 use Rattle.clap.specs.Words.{App, Kinds, Row, Rule, Text, fault_of, first_of, new_app, new_rule, subcommand_of, with_rule, with_subcommand}
+use Rattle.clap.specs.declared.builder.action.ArgAction.TheVariants as action
 use Rattle.clap.specs.declared.builder.value_parser.ValueParser.TheVariants as parser
 use Rattle.clap.specs.declared.error.kind.ErrorKind.TheVariants as kind
 use Rattle.clap.specs.declared.error.kind.ErrorKind.{ErrorKind}
@@ -24,6 +25,10 @@ workers = record (new_rule (codes "workers")) { long = Some (codes "workers"); v
 abbrev pub group : Rule
 group = record (new_rule (codes "group")) { long = Some (codes "group"); value_names = 1; parser = Some (parser.Unsigned 1 MOST_GROUPS); required = true }
 
+-- whether bids that are in no program are told: no, where nothing is said
+abbrev pub bids : Rule
+bids = record (new_rule (codes "bids")) { long = Some (codes "bids"); action = Some action.SetTrue }
+
 -- the program's own words: a version, and the commands, among which `help` is listed (what it does is said below)
 abbrev pub wdp : App
 wdp = fold (λ (app command : App). with_subcommand app command.top) (on_top (λ s. record s { has_version = true; disable_help_subcommand = true }) (new_app (codes "wdp"))) (
@@ -33,12 +38,16 @@ wdp = fold (λ (app command : App). with_subcommand app command.top) (on_top (λ
     with_rule (new_app (codes "map")) group ∷
     with_rule (new_app (codes "report")) workers ∷
     with_rule (new_app (codes "verify")) workers ∷
-    new_app (codes "explain") ∷
+    with_rule (new_app (codes "explain")) bids ∷
     new_app (codes "help") ∷ [])
 
 -- the number that an option writes, from 1 to the most; where it writes none, 1
 abbrev pub option_number : Text → ℕ → List Row → ℕ
 option_number id most rows = option_map_or (λ text. if is_unsigned_in 1 most text then digits_value 10 (without_leading_plus text) else 1) (first_of id rows) 1
+
+-- whether an option without a value is there: the parser gives it a text
+abbrev pub option_flag : Text → List Row → Bool
+option_flag id rows = option_map_or (λ text. bytes_eq text (codes "true")) (first_of id rows) false
 
 -- the request of the command that is named, with its options
 abbrev pub named : Option (Text × List Row) → Request
@@ -49,7 +58,7 @@ named (Some (name, rows)) =
     else if bytes_eq name (codes "map") then request.Map (option_number (codes "group") MOST_GROUPS rows)
     else if bytes_eq name (codes "report") then request.Report (option_number (codes "workers") MOST_WORKERS rows)
     else if bytes_eq name (codes "verify") then request.Verify (option_number (codes "workers") MOST_WORKERS rows)
-    else if bytes_eq name (codes "explain") then request.Explain
+    else if bytes_eq name (codes "explain") then request.Explain (option_flag (codes "bids") rows)
     else request.Text
 
 -- what words ask for: that a request is answered, help, the version; or nothing, since they have a fault

@@ -9,8 +9,8 @@ pub enum Request {
     Check,
     /// The programs of all groups, by so many workers.
     Compile { workers: usize },
-    /// All faults of an input.
-    Explain,
+    /// All faults of an input; where there is none, and this is asked for, which bids are in no program.
+    Explain { bids: bool },
     /// What a solution wins without a group, which counts from 1.
     Map { group: usize },
     /// What the solutions of all groups win, and the groups' opportunity costs, by so many workers.

@@ -5,15 +5,15 @@ ghost use Rattle.std.specs.Vec.Iter.{into_iter_items};
 ghost use Rattle.std.specs.Str.Parse.{digits_value, without_leading_plus};
 ghost use Rattle.clap.specs.Simple.{on_top};
 ghost use Rattle.clap.specs.ValueTests.{is_unsigned_in};
-ghost use Rattle.clap.specs.Words.{FailsBy, IsPlainArg, app_of, fault_of, found_of, new_app, rows_of, kind_of, rule_of, subcommand_of, subcommand_rows_of, with_rule};
+ghost use Rattle.clap.specs.Words.{App, FailsBy, IsPlainArg, app_of, fault_of, found_of, new_app, rows_of, kind_of, rule_of, subcommand_of, subcommand_rows_of, with_rule, with_subcommand};
 ghost use Rattle.clap.specs.declared.error.kind.ErrorKind.TheVariants as kind;
 ghost use Rattle.requests.specs.Asked as asked;
-ghost use Rattle.requests.specs.Asked.{by_fault, for_answer, group, named, option_number, wdp, workers};
+ghost use Rattle.requests.specs.Asked.{bids, by_fault, for_answer, group, named, option_flag, option_number, wdp, workers};
 ghost use Rattle.requests.specs.Requests.{IsRequestWithinLimits};
 
 use crate::request::Request;
 use auction_terms::{MOST_GROUPS, MOST_WORKERS};
-use clap::{Arg, ArgMatches, Command, Error, value_parser};
+use clap::{Arg, ArgAction, ArgMatches, Command, Error, value_parser};
 use std::alloc::{AllocError, Global};
 use std::env::Args;
 
@@ -44,6 +44,17 @@ fn workers_option<'a>(alloc: Global) -> Arg<'a>
         .help("How many workers compile")
         .value_parser(value_parser!(u64).range(1..=MOST_WORKERS as i64))
         .default_value("1")
+}
+
+fn bids_option<'a>(alloc: Global) -> Arg<'a>
+    ensures rule { rule_of result ≡ bids }
+    ensures plain { IsPlainArg result }
+    ensures local { result.global ≡ false }
+{
+    Arg::new(alloc, "bids")
+        .long("bids")
+        .help("Where nothing is wrong, tell which bids are in no program")
+        .action(ArgAction::SetTrue)
 }
 
 // What stands below the options in the help of each command.
@@ -124,12 +135,14 @@ fn verify_command<'a>(alloc: Global) -> Result<Command<'a>, AllocError>
         .arg(workers_option(alloc))
 }
 
-fn explain_command<'a>(alloc: Global) -> Command<'a>
-    ensures { app_of result ≡ new_app (codes "explain") }
+fn explain_command<'a>(alloc: Global) -> Result<Command<'a>, AllocError>
+    ensures { IfOk result (λ command. app_of command
+        ≡ with_rule (new_app (codes "explain")) bids) }
 {
     Command::new(alloc, "explain")
         .about("Prints all faults of an input")
         .after_help(EXPLAIN_HELP)
+        .arg(bids_option(alloc))
 }
 
 // The words of `help` are spelled otherwise before they are parsed: it stands here to be listed among the commands.
@@ -157,18 +170,31 @@ fn plain_command<'a>(alloc: Global) -> Command<'a>
         .disable_help_subcommand(true)
 }
 
+// A command with a further one, where there is memory for both.
+fn with_further<'a>(
+    command: Result<Command<'a>, AllocError>,
+    further: Result<Command<'a>, AllocError>,
+) -> Result<Command<'a>, AllocError>
+    ensures { (a s : App) → IfOk command.entry (λ c. app_of c ≡ a)
+        → IfOk further.entry (λ c. app_of c ≡ s) → s.top.is_plain ≡ true
+        → IfOk result (λ c. app_of c ≡ with_subcommand a s.top) }
+{
+    command?.subcommand(further?)
+}
+
+// What has no memory is told by the last call alone: a `?` at each would make the proof of this function many times as long.
 fn command<'a>(alloc: Global) -> Result<Command<'a>, AllocError>
     ensures { IfOk result (λ command. app_of command ≡ wdp) }
 {
-    plain_command(alloc)
-        .subcommand(text_command(alloc))?
-        .subcommand(compile_command(alloc)?)?
-        .subcommand(check_command(alloc))?
-        .subcommand(map_command(alloc)?)?
-        .subcommand(report_command(alloc)?)?
-        .subcommand(verify_command(alloc)?)?
-        .subcommand(explain_command(alloc))?
-        .subcommand(help_command(alloc))
+    let command = Ok(plain_command(alloc));
+    let command = with_further(command, Ok(text_command(alloc)));
+    let command = with_further(command, compile_command(alloc));
+    let command = with_further(command, Ok(check_command(alloc)));
+    let command = with_further(command, map_command(alloc));
+    let command = with_further(command, report_command(alloc));
+    let command = with_further(command, verify_command(alloc));
+    let command = with_further(command, explain_command(alloc));
+    with_further(command, Ok(help_command(alloc)))
 }
 
 // The number that a text writes, from 1 to the most; of any other text 1. The parser has tested it to be within.
@@ -196,6 +222,16 @@ fn number_of(matches: &ArgMatches<'_>, id: &str, most: usize) -> usize
     }
 }
 
+// Whether an option without a value is there: the parser gives it a text.
+fn has_flag(matches: &ArgMatches<'_>, id: &str) -> bool
+    ensures { result ≡ option_flag id.now (rows_of (found_of matches.now)) }
+{
+    match matches.get_str(id) {
+        Some(text) => text == "true",
+        None => false,
+    }
+}
+
 // The request of the command that was found.
 fn read(matches: &ArgMatches<'_>) -> Request
     ensures request { result ≡ named (subcommand_rows_of matches.now) }
@@ -215,7 +251,9 @@ fn read(matches: &ArgMatches<'_>) -> Request
         Some(("verify", found)) => Request::Verify {
             workers: number_of(found, "workers", MOST_WORKERS),
         },
-        Some(("explain", _)) => Request::Explain,
+        Some(("explain", found)) => Request::Explain {
+            bids: has_flag(found, "bids"),
+        },
         _ => Request::Text,
     }
 }

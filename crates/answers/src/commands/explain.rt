@@ -1,32 +1,99 @@
-//! The command `explain`: all faults of an input.
+//! The command `explain`: all faults of an input, or which bids are in no program.
 
-ghost use Rattle.std.specs.Prelude.{◌≡◌, IfErr, IfOk, MatchBool, OnOk};
+ghost use Rattle.std.specs.Prelude.{◌≡◌, ◌⊎◌, IfErr, IfOk, IsErr, MatchBool, OnOk, true};
+ghost use Rattle.std.specs.Io.KnownBytes.{Appends};
+ghost use Rattle.answers.specs.Answer.{answer, output_of};
+ghost use Rattle.answers.specs.Exact.{Ends, IsUnwritten, Writes};
 ghost use Rattle.answers.specs.Runs.{IsAnswered, IsExplained, IsRefused};
+ghost use Rattle.auction_input.specs.Auction.{auction_told};
+ghost use Rattle.auction_input.specs.Settled.{held};
+ghost use Rattle.input_faults.specs.Explained.{IsCutShort};
+ghost use Rattle.input_faults.specs.FaultLines.{explanation};
 
-use auction_input::{Refusal, Source, read_input};
+use auction_input::{Auction, Refusal, Source, read_auction, read_input};
 use input_faults::explain;
+use left_out::write_left_out;
 use mps_text::Sink;
 use requests::Request;
-use std::alloc::Global;
 use std::io::Read;
+use std::sync::Wait;
+use std::thread::Threads;
 
-/// Reads the input, and writes a line for each of its faults. Tells whether there is one.
-pub fn explain_input<I: Read, S: Sink>(
-    alloc: Global,
+/// Reads the input, and writes a line for each of its faults; where there is none, and bids are asked for, one for each bid
+/// that is in no program. Tells whether there is a fault.
+pub fn explain_input<R: Threads + Wait + Sync + AllocGlobal, I: Read, S: Sink>(
+    rt: &R,
+    bids: bool,
     input: &mut Source<I>,
     out: &mut S,
 ) -> Result<bool, Refusal>
     ensures explained { IfOk result (λ faulty. MatchBool faulty
-        (IsExplained (I.remaining input.old.reader) (I.remaining input.new.reader)
-        (S.taken out.old) (S.taken out.new))
-        (IsAnswered Request.Explain (I.remaining input.old.reader)
+        (IsExplained (Request.Explain bids) (I.remaining input.old.reader)
+        (I.remaining input.new.reader) (S.taken out.old) (S.taken out.new))
+        (IsAnswered (Request.Explain bids) (I.remaining input.old.reader)
         (I.remaining input.new.reader) (S.taken out.old) (S.taken out.new))) }
     ensures succeeded { OnOk result ((S.failures out.new ≡ S.failures out.old)
         × (input.new.failures ≡ input.old.failures)) }
-    ensures refused { IfErr result (IsRefused Request.Explain (I.remaining input.old.reader)
+    ensures refused { IfErr result (IsRefused (Request.Explain bids) (I.remaining input.old.reader)
         (I.remaining input.new.reader) input.old.failures input.new.failures (S.taken out.old)
         (S.taken out.new) (S.failures out.old) (S.failures out.new)) }
 {
-    let text = read_input(alloc, input)?;
-    explain(alloc, &Request::Explain, text.as_slice(), out)
+    let text = read_input(rt.alloc(), input)?;
+    explain_text(rt, bids, text.as_slice(), out)
+}
+
+// Writes a line for each fault of a text; where there is none, and bids are asked for, of each bid that is in no program.
+fn explain_text<R: Threads + Wait + Sync + AllocGlobal, S: Sink>(
+    rt: &R,
+    bids: bool,
+    text: &[u8],
+    out: &mut S,
+) -> Result<bool, Refusal>
+    ensures explained { IfOk result (λ faulty. MatchBool faulty
+        (IsErr (auction_told (Request.Explain bids) text.now) × Appends (S.taken out.old)
+        (S.taken out.new) (explanation (Request.Explain bids) text.now))
+        (Writes (answer (Request.Explain bids) text.now) (S.taken out.old) (S.taken out.new))) }
+    ensures succeeded { OnOk result (S.failures out.new ≡ S.failures out.old) }
+    ensures refused { IfErr result (λ r. IsCutShort (explanation (Request.Explain bids) text.now)
+        (S.taken out.old) (S.taken out.new) (S.failures out.old) (S.failures out.new) r
+        ⊎ IsUnwritten (Request.Explain bids) text.now (S.taken out.old) (S.taken out.new)
+        (S.failures out.old) (S.failures out.new) r) }
+{
+    let faulty = explain(rt.alloc(), &Request::Explain { bids }, text, out)?;
+    if faulty {
+        return Ok(true);
+    }
+    if !bids {
+        return Ok(false);
+    }
+    write_bids(rt, text, out)?;
+    Ok(false)
+}
+
+// Writes which bids of a text are in no program.
+fn write_bids<R: Threads + Wait + Sync + AllocGlobal, S: Sink>(
+    rt: &R,
+    text: &[u8],
+    out: &mut S,
+) -> Result<(), Refusal>
+    ensures written { OnOk result (Writes (answer (Request.Explain true) text.now) (S.taken out.old)
+        (S.taken out.new)) }
+    ensures succeeded { OnOk result (S.failures out.new ≡ S.failures out.old) }
+    ensures refused { IfErr result (IsUnwritten (Request.Explain true) text.now (S.taken out.old)
+        (S.taken out.new) (S.failures out.old) (S.failures out.new)) }
+{
+    let auction = read_auction(rt, &Request::Explain { bids: true }, text)?;
+    write_bids_of(&auction, out)
+}
+
+// Writes which bids of an auction are in no program.
+fn write_bids_of<S: Sink>(auction: &Auction<'_>, out: &mut S) -> Result<(), Refusal>
+    ensures written { OnOk result (Writes (output_of (Request.Explain true) (held auction.now))
+        (S.taken out.old) (S.taken out.new)) }
+    ensures succeeded { OnOk result (S.failures out.new ≡ S.failures out.old) }
+    ensures refused { IfErr result (Ends (output_of (Request.Explain true) (held auction.now))
+        (S.taken out.old) (S.taken out.new) (S.failures out.old) (S.failures out.new)) }
+{
+    write_left_out(&auction.book, out)?;
+    Ok(())
 }

@@ -20,7 +20,7 @@ part head bytes = record { name = part_name head; bytes = bytes }
 -- a kind that is one for `verify`, and for `explain`
 abbrev pub for_verify : Request → PartKind → Option PartKind
 for_verify (request.Verify workers) k = Some k
-for_verify request.Explain k = Some k
+for_verify (request.Explain bids) k = Some k
 for_verify asked k = None
 
 -- the kind that a name tells to a request

@@ -1,6 +1,7 @@
-use Rattle.std.proofs.Common.{ℕ, List, refl, rules, subst}
+use Rattle.std.proofs.Common.{ℕ, List, false, refl, rules, subst, true}
+use Rattle.std.proofs.lemmas.Bool.{false≢true, true≢false}
 use Rattle.auction_input.specs.declared.refusal.Refusal.TheVariants as refusal
-use Rattle.input_faults.proofs.ExplainFacts.{cut-short, held-lines, is-faulty}
+use Rattle.input_faults.proofs.ExplainFacts.{cut-short, held-lines, is-faulty, nothing-found}
 use Rattle.input_faults.specs.Explained.{IsCutShort, by_memory}
 use Rattle.input_faults.specs.FaultLines.{explanation}
 use Rattle.mps_text.specs.Sinks.{SentFront}
@@ -27,7 +28,14 @@ returns-in_err-write_lines-clause-refused g c =
     if-err-of (IsCutShort lines taken taken' failures failures') c.from_residual-in_err-write_lines.result (refusal.Write f) c.from_residual-in_err-write_lines.ensures.1
     (cut-short lines taken taken' failures failures' f sent c.in_err-write_lines.ensures.failed)
 
+pub returns-then-is_empty-clause-written : goal.returns-then-is_empty-clause-written
+returns-then-is_empty-clause-written g c =
+    nothing-found c.args.request.now c.args.text.now c.in_ok-faults.faults (g.S.Sink.taken c.args.out.now) c.in_ok-faults.ensures (let e = c.is_empty.ensures in search rules)
+
+pub returns-then-is_empty-clause-faulty : goal.returns-then-is_empty-clause-faulty
+returns-then-is_empty-clause-faulty g c =
+    is-faulty c.args.request.now c.args.text.now c.in_ok-faults.faults true c.in_ok-faults.ensures (λ is. (let e = c.is_empty.ensures in search rules)) (λ is none. absurd (true≢false is))
+
 pub returns-clause-faulty : goal.returns-clause-faulty
 returns-clause-faulty g c =
-    is-faulty c.args.request.now c.args.text.now c.in_ok-faults.faults c.is_empty.result c.in_ok-faults.ensures (λ is. (let e = c.is_empty.ensures in search rules))
-    (λ is none. (let e = c.is_empty.ensures in search rules))
+    is-faulty c.args.request.now c.args.text.now c.in_ok-faults.faults false c.in_ok-faults.ensures (λ is. absurd (false≢true is)) (λ is none. (let e = c.is_empty.ensures in search rules))

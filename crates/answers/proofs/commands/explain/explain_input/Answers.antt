@@ -15,14 +15,15 @@ returns-in_err-text-clause-refused g c =
     let taken = g.S.Sink.taken c.args.out.now in
     let failures = g.S.Sink.failures c.args.out.now in
     let f = c.in_err-text.field-0.0 in
-    if-err-of (IsRefused request.Explain left left' reads reads' taken taken failures failures) c.from_residual.result (refusal.Input f) c.from_residual.ensures.1 (by_input c.in_err-text.ensures.untaken refl)
+    if-err-of (IsRefused (request.Explain c.args.bids) left left' reads reads' taken taken failures failures) c.from_residual.result (refusal.Input f) c.from_residual.ensures.1 (by_input c.in_err-text.ensures.untaken refl)
 
 pub returns-clause-explained : goal.returns-clause-explained
 returns-clause-explained g c =
-    explained (g.I.Read.remaining c.args.input.now.reader) (g.I.Read.remaining c.read_input.new.input.reader) (g.S.Sink.taken c.args.out.now) (g.S.Sink.taken c.explain.new.out) c.as_slice.result.now c.in_ok-text.text.items
-    c.as_slice.ensures.value c.in_ok-text.ensures.whole c.explain.result c.explain.ensures.written c.explain.ensures.faulty
+    explained c.args.bids (g.I.Read.remaining c.args.input.now.reader) (g.I.Read.remaining c.read_input.new.input.reader) (g.S.Sink.taken c.args.out.now) (g.S.Sink.taken c.explain_text.new.out) c.as_slice.result.now
+    c.in_ok-text.text.items c.as_slice.ensures.value c.in_ok-text.ensures.whole c.explain_text.result c.explain_text.ensures.explained
 
 pub returns-clause-refused : goal.returns-clause-refused
 returns-clause-refused g c =
-    unexplained (g.I.Read.remaining c.args.input.now.reader) (g.I.Read.remaining c.read_input.new.input.reader) (g.S.Sink.taken c.args.out.now) (g.S.Sink.taken c.explain.new.out) c.as_slice.result.now c.in_ok-text.text.items
-    c.as_slice.ensures.value c.in_ok-text.ensures.whole c.args.input.now.failures c.read_input.new.input.failures (g.S.Sink.failures c.args.out.now) (g.S.Sink.failures c.explain.new.out) c.explain.result c.explain.ensures.refused
+    unexplained c.args.bids (g.I.Read.remaining c.args.input.now.reader) (g.I.Read.remaining c.read_input.new.input.reader) (g.S.Sink.taken c.args.out.now) (g.S.Sink.taken c.explain_text.new.out) c.as_slice.result.now
+    c.in_ok-text.text.items c.as_slice.ensures.value c.in_ok-text.ensures.whole c.args.input.now.failures c.read_input.new.input.failures (g.S.Sink.failures c.args.out.now) (g.S.Sink.failures c.explain_text.new.out) c.explain_text.result
+    c.explain_text.ensures.refused

@@ -1,0 +1,40 @@
+use Rattle.std.proofs.Common.{◌≡◌, ap, false, inl, inr, rules, true}
+use Rattle.answers.proofs.ExplainingFacts.{IsTextUnexplained, told, unasked, untold}
+use Rattle.requests.proofs.StepFacts.{if-err-of}
+use Rattle.answers.proofs.commands.explain.explain_text.Goals as goal
+
+pub returns-in_err-faulty-clause-refused : goal.returns-in_err-faulty-clause-refused
+returns-in_err-faulty-clause-refused g c =
+    let taken = g.S.Sink.taken c.args.out.now in
+    let taken' = g.S.Sink.taken c.explain.new.out in
+    let failures = g.S.Sink.failures c.args.out.now in
+    let failures' = g.S.Sink.failures c.explain.new.out in
+    if-err-of (IsTextUnexplained c.args.bids c.args.text.now taken taken' failures failures') c.from_residual.result c.in_err-faulty.field-0.0 c.from_residual.ensures.1 (inl c.in_err-faulty.ensures.refused)
+
+pub returns-then-faulty-clause-explained : goal.returns-then-faulty-clause-explained
+returns-then-faulty-clause-explained g c = (c.in_ok-faulty.ensures.faulty.0 c.if-faulty.true, c.in_ok-faulty.ensures.written)
+
+pub returns-then-not-bids-clause-explained : goal.returns-then-not-bids-clause-explained
+returns-then-not-bids-clause-explained g c =
+    let off : c.args.bids ≡ false = search rules in
+    unasked c.args.bids c.in_ok-faulty.faulty c.args.text.now (g.S.Sink.taken c.args.out.now) (g.S.Sink.taken c.explain.new.out) off c.if-faulty.false c.in_ok-faulty.ensures.faulty c.in_ok-faulty.ensures.written
+
+pub returns-clause-explained : goal.returns-clause-explained
+returns-clause-explained g c =
+    let on : c.args.bids ≡ true = search rules in
+    let same = c.in_ok-faulty.ensures.untouched c.if-faulty.false in
+    told c.args.bids c.args.text.now (g.S.Sink.taken c.explain.new.out) (g.S.Sink.taken c.args.out.now) (g.S.Sink.taken c.write_bids.new.out) on (ap g.S.Sink.taken same) c.in_ok-write_bids.ensures.written
+
+pub returns-in_err-write_bids-clause-refused : goal.returns-in_err-write_bids-clause-refused
+returns-in_err-write_bids-clause-refused g c =
+    let on : c.args.bids ≡ true = search rules in
+    let same = c.in_ok-faulty.ensures.untouched c.if-faulty.false in
+    let before = g.S.Sink.taken c.explain.new.out in
+    let taken = g.S.Sink.taken c.args.out.now in
+    let taken' = g.S.Sink.taken c.write_bids.new.out in
+    let failed = g.S.Sink.failures c.explain.new.out in
+    let failures = g.S.Sink.failures c.args.out.now in
+    let failures' = g.S.Sink.failures c.write_bids.new.out in
+    let r = c.in_err-write_bids.field-0.0 in
+    if-err-of (IsTextUnexplained c.args.bids c.args.text.now taken taken' failures failures') c.from_residual-in_err-write_bids.result r c.from_residual-in_err-write_bids.ensures.1
+    (inr (untold c.args.bids c.args.text.now before taken taken' failed failures failures' r on (ap g.S.Sink.taken same) (ap g.S.Sink.failures same) c.in_err-write_bids.ensures.refused))

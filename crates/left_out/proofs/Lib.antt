@@ -1,0 +1,4 @@
+pub mod ReasonLaws
+pub mod SearchLaws
+pub mod LineLaws
+mod Examples
