@@ -1,28 +1,31 @@
 """Auctions into which faults are planted, and the lines of `wdp explain` that tell them, worked out from what was planted alone."""
 
+from trials.details import of_field, of_name
+
 # so many faults are told, and how many more there are
 MOST_LINES = 10_000
 
-# Records of rules, each with a faulty one in its place. No other record rests on those that have one.
+# Records of rules, each with a faulty one in its place, what is told of it, and what stands behind its record. No other record
+# rests on those that have one.
 RULES = [
-    ("rules,3,5,,,", "rules,3,0,,,", "7 NumberRange"),
-    ("category,North,40,10,3,0", None, None),
-    ("category,East,40,20,2,7", None, None),
-    ("category,South,40,30,1,0", None, None),
-    ("category,West,40,40,1,0", None, None),
-    ("pool,Low,90,,,", None, None),
-    ("pool,High,90,,,", "pool,Low,90,,,", "8 NameRepeated"),
-    ("member,Low,North,1,,", None, None),
-    ("member,Low,East,2,,", "member,Low,East,10001,,", "7 NumberRange"),
-    ("member,Low,South,3,,", "member,Lower,South,3,,", "13 NameUnknown"),
-    ("member,Low,West,4,,", "member,Low,North,4,,", "8 NameRepeated"),
-    ("bidder,Alpha,100,2,,", None, None),
-    ("bidder,Beta,100,1,,", "bidder,Alpha,100,1,,", "8 NameRepeated"),
-    ("bidder,Gamma,100,1,,", "bidder,Gamma,100,9,,", "7 NumberRange"),
-    ("bidder,Delta,100,1,,", "bidder,Delta,,1,,", "6 NumberText"),
-    ("bidder,Omega,100,1,,", "bider,Omega,100,1,,", "4 Kind"),
-    ("bidder,Sigma,100,1,,", "bidder,4th,x,9,,", "5 NameText"),
-    ("bidder,Kappa,100,1,,", "bidder,Kappa,100,1,", "3 FieldCount"),
+    ("rules,3,5,,,", "rules,3,0,,,", "7 NumberRange", ", field 3: '0' isn't between 1 and 1000000000000"),
+    ("category,North,40,10,3,0", None, None, None),
+    ("category,East,40,20,2,7", None, None, None),
+    ("category,South,40,30,1,0", None, None, None),
+    ("category,West,40,40,1,0", None, None, None),
+    ("pool,Low,90,,,", None, None, None),
+    ("pool,High,90,,,", "pool,Low,90,,,", "8 NameRepeated", ", field 2: 'Low' is the name of an earlier record of its kind"),
+    ("member,Low,North,1,,", None, None, None),
+    ("member,Low,East,2,,", "member,Low,East,10001,,", "7 NumberRange", ", field 4: '10001' isn't between 1 and 10000"),
+    ("member,Low,South,3,,", "member,Lower,South,3,,", "13 NameUnknown", ", field 2: 'Lower' is the name of no earlier pool"),
+    ("member,Low,West,4,,", "member,Low,North,4,,", "8 NameRepeated", ", field 3: 'North' is in that pool already"),
+    ("bidder,Alpha,100,2,,", None, None, None),
+    ("bidder,Beta,100,1,,", "bidder,Alpha,100,1,,", "8 NameRepeated", ", field 2: 'Alpha' is the name of an earlier record of its kind"),
+    ("bidder,Gamma,100,1,,", "bidder,Gamma,100,9,,", "7 NumberRange", ", field 4: '9' isn't between 1 and 8"),
+    ("bidder,Delta,100,1,,", "bidder,Delta,,1,,", "6 NumberText", ", field 3: '' isn't 1 to 18 digits"),
+    ("bidder,Omega,100,1,,", "bider,Omega,100,1,,", "4 Kind", ", field 1: 'bider' is no kind of record"),
+    ("bidder,Sigma,100,1,,", "bidder,4th,x,9,,", "5 NameText", ", field 2: '4th' isn't a letter and then letters or digits, at most 16"),
+    ("bidder,Kappa,100,1,,", "bidder,Kappa,100,1,", "3 FieldCount", ": 5 fields in place of 6"),
 ]
 CATEGORIES = ["North", "East", "South", "West"]
 BIDDERS = ["Alpha", "Beta", "Gamma", "Delta", "Omega", "Sigma"]
@@ -68,6 +71,12 @@ GROUP_PLANTS = [
     ("Nobody+Nobody", [("3 UnknownBidder", 1), ("3 UnknownBidder", 2)]),
     ("Beta++Gamma+Beta+Beta", [("3 UnknownBidder", 2), ("4 RepeatedBidder", 4), ("4 RepeatedBidder", 5)]),
 ]
+# what is wrong with a field or a name, by its fault
+WRONG = {"5 AmountText": " isn't 1 to 18 digits", "6 AmountRange": " isn't between 1 and 1000000000000", "7 AmountStep": " isn't a multiple of 5",
+         "8 QuantityText": " isn't 1 to 18 digits", "9 QuantityRange": " isn't between 0 and 10000", "3 UnknownBidder": " is no bidder's name",
+         "4 RepeatedBidder": " stands in the line already"}
+# points and reserves of the lots, and the eligibility of each bidder
+POINTS, RESERVES, ELIGIBILITY = (3, 2, 1, 1), (10, 20, 30, 40), 100
 GOOD_GROUPS = ["-", "Alpha", "Beta+Gamma", "Sigma+Alpha+Omega"]
 GROUP_LINES = 120
 # the place of groups behind the forms, and the numbers of the forms whose columns, or whose bidder, may be others than those of the rules
@@ -77,6 +86,11 @@ BEHIND, OTHER_COLUMNS, OTHER_BIDDER = len(BIDDERS) + 1, 2, 4
 def bid(number):
     """A bid of a package that no other number has, whatever its first quantity is."""
     return [str(field) for field in (20_000 + 5 * number, number % 6, number >> 8, number >> 4 & 15, number & 15)]
+
+
+def weighed(fields, weights):
+    """What the quantities of a record come to, each times its weight."""
+    return sum(int(quantity) * weight for quantity, weight in zip(fields[1:], weights))
 
 
 class Planted:
@@ -122,19 +136,39 @@ class Planted:
 
     def line(self, form, record, fault, field):
         if form == BEHIND:
-            return "groups: %s at line %d" % (fault, record) + (", name %d" % field if field else "")
+            return "groups: %s at line %d" % (fault, record) + self.of_groups(record, fault, field)
         line = "form %d: %s at record %d" % (form, fault, record)
         if fault == "13 RepeatedPackage":
             # bids with a fault don't count
             return line + ", earlier bid %d" % sum((form, other) not in self.told for other in range(2, field + 1))
-        return line + (", field %d" % field if field else "")
+        return line + self.of_form(self.forms[form][record - 1], fault, field)
+
+    def of_groups(self, record, fault, field):
+        """What stands behind a fault of a line of groups."""
+        return of_name(field, self.groups[record - 1].split("+")[field - 1], WRONG[fault]) if field else ""
+
+    @staticmethod
+    def of_form(fields, fault, field):
+        """What stands behind a fault of a record of a form."""
+        if fault == "2 Header":
+            return of_field(2, fields[1], " in place of " + CATEGORIES[0])
+        if fault == "4 FieldCount":
+            return ": %d fields in place of %d" % (len(fields), len(CATEGORIES) + 1)
+        if fault == "10 EmptyPackage":
+            return ": each quantity is 0"
+        if fault == "14 TooManyBids":
+            return ": more than 4000 bids"
+        if fault == "11 OverEligibility":
+            return ": %d points, above the eligibility of %d" % (weighed(fields, POINTS), ELIGIBILITY)
+        wrong = " is below the reserve of %d" % weighed(fields, RESERVES) if fault == "12 BelowReserve" else WRONG[fault]
+        return of_field(field, fields[field - 1], wrong)
 
     def lines(self):
         lines = [self.line(*place, *fault) for place, faults in sorted(self.told.items()) for fault in faults]
         more = len(lines) - MOST_LINES
         return lines[:MOST_LINES] + (["and %d more" % more] if more > 0 else [])
 
-    def text(self, rules=tuple(right for right, _, _ in RULES)):
+    def text(self, rules=tuple(right for right, *_ in RULES)):
         parts = [("%form", map(",".join, records)) for records in self.forms.values()]
         for part in (("%groups", self.groups), ("%rules", rules)):
             parts.insert(self.draw.randrange(len(parts) + 1), part)

@@ -1,47 +1,13 @@
 //! The line that tells why a run ended.
 
-ghost use Rattle.std.specs.Prelude.{◌≡◌, ◌++◌, ◌∷◌, [], codes, decimal};
+ghost use Rattle.std.specs.Prelude.{◌++◌, ◌∷◌, [], codes};
 ghost use Rattle.auction_input.specs.Line.{Puts, line};
 ghost use Rattle.auction_input.specs.Told.{told_text};
-ghost use Rattle.auction_terms.specs.Wording.{wording_text};
 ghost use Rattle.mps_text.specs.Adds.{Adds};
 
 use auction_input::{Refusal, Told};
-use auction_terms::Wording;
-use itoa::Buffer;
+use input_faults::add_wording;
 use mps_text::{Sink, Writer};
-
-// Adds words, with the numbers among them.
-fn add_wording<S: Sink>(writer: &mut Writer<'_, S>, wording: Wording)
-    ensures { Adds S.taken S.failures writer.old writer.new (wording_text wording) }
-{
-    let mut digits = Buffer::new();
-    let mut more_digits = Buffer::new();
-    match wording {
-        Wording::Words(words) => writer.add(words.as_bytes()),
-        Wording::Number(words, number) => {
-            let pieces: [&[u8]; 2] = [words.as_bytes(), digits.format(number).as_bytes()];
-            writer.add_pieces(&pieces);
-        }
-        Wording::Between(words, number, more) => {
-            let pieces: [&[u8]; 3] = [
-                words.as_bytes(),
-                digits.format(number).as_bytes(),
-                more.as_bytes(),
-            ];
-            writer.add_pieces(&pieces);
-        }
-        Wording::Numbers(words, number, more, other) => {
-            let pieces: [&[u8]; 4] = [
-                words.as_bytes(),
-                digits.format(number).as_bytes(),
-                more.as_bytes(),
-                more_digits.format(other).as_bytes(),
-            ];
-            writer.add_pieces(&pieces);
-        }
-    }
-}
 
 // Adds the line of what is told.
 fn add_line<S: Sink>(writer: &mut Writer<'_, S>, told: &Told<'_>)

@@ -2,14 +2,15 @@
 use Rattle.std.proofs.Common.{◌≡◌, ◌+◌, ◌∷◌, ◌++◌, ◌∙◌, ℕ, List, [], length, refl, sym, ap, arith, length-append, append_assoc, append-nil}
 use Rattle.std.specs.Prelude.{Option, Some, None, Ok, ok_or}
 use Rattle.std.specs.Option.{option_map_or, option_or}
-use Rattle.auction_terms.proofs.AllFaultsFacts.{begin-all_faults, begin-both, begin-one_failed, begin-or_else, begin-told, found-all, found-more, unless-or}
+use Rattle.auction_terms.proofs.AllFaultsFacts.{BeginAs, begin-all_faults, begin-both, begin-one_failed, begin-or_else, begin-told, found-all, found-more, unless-or}
 use Rattle.auction_terms.specs.FirstFault.{first_failed, first_fault}
 use Rattle.auction_terms.specs.Stages.{and_then, unless}
 use Rattle.auction_terms.specs.declared.rules_text.RulesFault.TheVariants as fault
 use Rattle.auction_terms.specs.AllFaults.{AreFaultsOf, accepted_with, all_faults, found, one_failed}
-use Rattle.auction_terms.specs.AllRulesFaults.{all_rules_faults, fault_of_entry, faults_of_version}
+use Rattle.auction_terms.specs.AllRulesFaults.{all_rules_faults, at_field, fault_by_entries, fault_of_entry, fault_of_header, faults_of_version}
 use Rattle.auction_terms.specs.Entries.{Entries, terms_of}
 use Rattle.auction_terms.specs.Records.{Record}
+use Rattle.auction_terms.specs.RulesFields.{entry_field, header_field}
 use Rattle.auction_terms.specs.inside.Entries.{entries}
 use Rattle.auction_terms.specs.RulesText.{end_checks, entries_of, entry_checks, entry_fault, field_number, header_checks, rules_of_records, version_of}
 use Rattle.auction_terms.specs.declared.faults.Found.{Found}
@@ -38,12 +39,12 @@ taken-none v all = record { before = []; accepted = []; all_is = refl; count_is 
 -- one more record
 pub taken-more : (v : Version) (all ahead rest : List Record) (count : ℕ) (old new : Entries) (so_far : List (Found RulesFault)) (r : Record)
     → TakenSoFar v all ahead count old so_far → ahead ≡ r ∷ rest
-    → ((before : List Record) → old ≡ entries_of v before → new ≡ entries_of v (accepted_with (one_failed 0 (entry_checks v (count + 2) old r)) before r))
-    → TakenSoFar v all rest (count + 1) new (so_far ++ one_failed 0 (entry_checks v (count + 2) old r))
+    → ((before : List Record) → old ≡ entries_of v before → new ≡ entries_of v (accepted_with (fault_by_entries v (count + 2) old r) before r))
+    → TakenSoFar v all rest (count + 1) new (so_far ++ fault_by_entries v (count + 2) old r)
 taken-more v all ahead rest count old new so_far r so next took =
     let accepted = so.accepted in
-    let faults = one_failed 0 (entry_checks v (count + 2) old r) in
-    let same : fault_of_entry v (count + 2) accepted r ≡ faults = ap (λ e. one_failed 0 (entry_checks v (count + 2) e r)) (sym so.draft_is) in
+    let faults = fault_by_entries v (count + 2) old r in
+    let same : fault_of_entry v (count + 2) accepted r ≡ faults = ap (λ e. fault_by_entries v (count + 2) e r) (sym so.draft_is) in
     let more = found-more (fault_of_entry v) _ so_far (count + 2) accepted ahead rest r so.found_are next in
     let place : count + 2 + 1 ≡ count + 1 + 2 = omega arith in
     record {
@@ -64,6 +65,11 @@ taken-all v all count draft so_far so =
     let found = found-all (fault_of_entry v) _ so_far (count + 2) so.accepted [] so.found_are refl in
     (so.count_is ∙ ap length (sym whole), found, λ none. so.draft_is ∙ ap (entries_of v) (so.accepted_are (sym found ∙ none) ∙ sym whole))
 
+-- a fault at its field
+begin-at_field : {F : Type 0} (field_of : F → ℕ) (fault : Option F) → BeginAs (at_field field_of fault) fault
+begin-at_field field_of None = refl
+begin-at_field field_of (Some f) = (field_of f, [], refl)
+
 -- the faults of a text of a version
 begin-version : (header : Record) (more : List Record) (v : Version)
     → AreFaultsOf (faults_of_version header more v) (unless (first_failed (header_checks v header)) (unless (first_fault (entry_fault v) [] more)
@@ -73,9 +79,9 @@ begin-version header more v =
     let of_entries = first_fault (entry_fault v) [] more in
     let of_end = first_failed (end_checks (length more + 1) (entries_of v more)) in
     let terms = terms_of (field_number 3 header) (entries_of v more) in
-    let entries_begin = begin-all_faults (fault_of_entry v) (entry_fault v) 2 (λ before r. begin-one_failed 0 (entry_checks v (length before + 2) (entries_of v before) r)) [] more in
-    let front = begin-both (one_failed 0 (header_checks v header)) (all_faults (fault_of_entry v) 2 [] more) of_header of_entries (begin-one_failed 0 (header_checks v header)) entries_begin in
-    let whole = begin-or_else (one_failed 0 (header_checks v header) ++ all_faults (fault_of_entry v) 2 [] more) (one_failed 0 (end_checks (length more + 1) (entries_of v more))) (option_or of_header of_entries) of_end
+    let entries_begin = begin-all_faults (fault_of_entry v) (entry_fault v) 2 (λ before r. begin-at_field (entry_field v (entries_of v before) r) (first_failed (entry_checks v (length before + 2) (entries_of v before) r))) [] more in
+    let front = begin-both (fault_of_header v header) (all_faults (fault_of_entry v) 2 [] more) of_header of_entries (begin-at_field header_field of_header) entries_begin in
+    let whole = begin-or_else (fault_of_header v header ++ all_faults (fault_of_entry v) 2 [] more) (one_failed 0 (end_checks (length more + 1) (entries_of v more))) (option_or of_header of_entries) of_end
     front (λ none. begin-one_failed 0 (end_checks (length more + 1) (entries_of v more))) in
     let told = begin-told (faults_of_version header more v) (option_or (option_or of_header of_entries) of_end) terms whole in
     rw (unless-or (option_or of_header of_entries) of_end (Ok terms), unless-or of_header of_entries (unless of_end (Ok terms))) at told

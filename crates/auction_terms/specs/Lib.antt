@@ -7,6 +7,7 @@ pub mod Names
 pub mod Numbers
 pub mod Terms
 pub mod RulesText
+pub mod RulesFields
 pub mod AllRulesFaults
 pub mod Entries
 pub mod Lines
@@ -23,6 +24,7 @@ pub mod GroupsText
 pub mod AllGroupFaults
 pub mod RulesFaultText
 pub mod GroupFaultText
+pub mod FaultPlaces
 pub mod Wording
 pub mod Only
 pub mod inside

@@ -2,10 +2,10 @@
 
 ghost use Rattle.std.specs.Prelude.{◌≡◌, ◌≤◌, ◌<◌, ◌+◌, ◌∷◌, [], List, false, IfOk, OnOk, length};
 ghost use Rattle.csv.specs.Records.{fields_of};
-ghost use Rattle.auction_terms.specs.AllFaults.{Keeps, KeepsMore, accepted_with, all_faults, found, one_failed};
-ghost use Rattle.auction_terms.specs.AllRulesFaults.{all_rules_faults, fault_of_entry, faults_of_version};
+ghost use Rattle.auction_terms.specs.AllFaults.{Keeps, KeepsMore, accepted_with, all_faults, found};
+ghost use Rattle.auction_terms.specs.AllRulesFaults.{all_rules_faults, fault_by_entries, fault_of_entry, fault_of_header, faults_of_version};
 ghost use Rattle.auction_terms.specs.Records.{Record, records_of};
-ghost use Rattle.auction_terms.specs.RulesText.{entries_of, entry_checks, header_checks, is_rules_memory};
+ghost use Rattle.auction_terms.specs.RulesText.{entries_of, is_rules_memory};
 ghost use Rattle.auction_terms.specs.inside.Entries.{entries};
 ghost use Rattle.auction_terms.specs.declared.rules_text.RulesFault.TheVariants as fault;
 
@@ -14,18 +14,19 @@ use crate::faults::Faults;
 use crate::limits::TEXT_LIMIT;
 use crate::record_kinds::{Version, version_of};
 use crate::records::RecordReader;
+use crate::rules_fields::{entry_field, header_field};
 use crate::rules_text::{RulesFault, add_entry, end_fault, read_step};
 use csv::ByteRecord;
 use std::alloc::{AllocError, Global};
 
 // Adds a fault. Where memory was refused, none is known.
-fn add(faults: &mut Faults<RulesFault>, fault: RulesFault) -> Result<(), AllocError>
+fn add(faults: &mut Faults<RulesFault>, field: usize, fault: RulesFault) -> Result<(), AllocError>
     ensures told { OnOk result (is_rules_memory fault ≡ false) }
-    ensures added { OnOk result (KeepsMore faults.old faults.new (found 0 fault ∷ [])) }
+    ensures added { OnOk result (KeepsMore faults.old faults.new (found field fault ∷ [])) }
 {
     match fault {
         RulesFault::OutOfMemory => Err(AllocError),
-        fault => faults.add(0, fault),
+        fault => faults.add(field, fault),
     }
 }
 
@@ -36,11 +37,11 @@ fn add_header(
     row: &ByteRecord,
 ) -> Result<(), AllocError>
     ensures { OnOk result (KeepsMore faults.old faults.new
-        (one_failed 0 (header_checks version (fields_of row.now)))) }
+        (fault_of_header version (fields_of row.now))) }
 {
     match read_step(version, row) {
         Ok(_) => Ok(()),
-        Err(fault) => add(faults, fault),
+        Err(fault) => add(faults, header_field(fault), fault),
     }
 }
 
@@ -54,15 +55,15 @@ fn take_entry(
     row: &ByteRecord,
 ) -> Result<(), AllocError>
     ensures faults { OnOk result (KeepsMore faults.old faults.new
-        (one_failed 0 (entry_checks version place draft.old (fields_of row.now)))) }
+        (fault_by_entries version place draft.old (fields_of row.now))) }
     ensures accepted { OnOk result ((before : List Record) → draft.old ≡ entries_of version before
         → draft.new ≡ entries_of version (accepted_with
-        (one_failed 0 (entry_checks version place draft.old (fields_of row.now))) before
+        (fault_by_entries version place draft.old (fields_of row.now)) before
         (fields_of row.now))) }
 {
     match add_entry(alloc, version, place, draft, row) {
         Ok(()) => Ok(()),
-        Err(fault) => add(faults, fault),
+        Err(fault) => add(faults, entry_field(version, draft, row, fault), fault),
     }
 }
 

@@ -13,6 +13,7 @@ ghost use Rattle.auction_terms.specs.GroupNames.{names_in};
 ghost use Rattle.auction_terms.specs.Groups.{IsGroup};
 ghost use Rattle.auction_terms.specs.Lines.{lines_of};
 ghost use Rattle.auction_terms.specs.declared.limits.TheConstants.{MOST_BIDDERS};
+ghost use Rattle.auction_terms.specs.FaultPlaces.{group_place};
 ghost use Rattle.auction_terms.specs.GroupFaultText.{group_fault_text};
 ghost use Rattle.auction_terms.specs.Wording.{wording_text};
 ghost use Rattle.auction_terms.specs.declared.groups_text.GroupFault.TheVariants as fault;
@@ -57,6 +58,19 @@ impl GroupFault {
             GroupFault::RepeatedBidder { place } => Wording::at("4 RepeatedBidder at line ", place),
             GroupFault::TooManyGroups { place } => Wording::at("5 TooManyGroups at line ", place),
             GroupFault::OutOfMemory => Wording::Words("out of memory"),
+        }
+    }
+
+    /// The number, from 1, of the line in which the fault is; 0 where it is that of the whole text.
+    pub fn place(self) -> u32
+        ensures { result ≡ group_place self }
+    {
+        match self {
+            GroupFault::TooLarge | GroupFault::OutOfMemory => 0,
+            GroupFault::EmptyLine { place }
+            | GroupFault::UnknownBidder { place }
+            | GroupFault::RepeatedBidder { place }
+            | GroupFault::TooManyGroups { place } => place,
         }
     }
 }

@@ -29,8 +29,8 @@ impl Version {
     ghost use Rattle.auction_terms.specs.RulesText.{field_count, kinds_of};
     ghost use Rattle.auction_terms.specs.declared.record_kinds.RecordKind.TheVariants as kind;
 
-    // How many fields every record has.
-    pub(crate) fn field_count(self) -> usize
+    /// How many fields every record has.
+    pub fn field_count(self) -> usize
         ensures { result ≡ field_count self }
     {
         match self {
@@ -53,8 +53,8 @@ impl Version {
     }
 }
 
-// The version that a header tells.
-pub(crate) fn version_of(row: &ByteRecord) -> Option<Version>
+/// The version that a header tells; `None` where the record is no header.
+pub fn version_of(row: &ByteRecord) -> Option<Version>
     ensures { result ≡ version_of (fields_of row.now) }
 {
     if field(row, 1) != b"rules".as_slice() {
@@ -72,8 +72,8 @@ pub(crate) fn version_of(row: &ByteRecord) -> Option<Version>
     }
 }
 
-// The kind of a record after the header.
-pub(crate) fn kind_of(version: Version, row: &ByteRecord) -> Option<RecordKind>
+/// The kind of a record after the header; `None` where the version knows no such kind.
+pub fn kind_of(version: Version, row: &ByteRecord) -> Option<RecordKind>
     ensures { result ≡ record_kind version (fields_of row.now) }
 {
     let has_pools = version.has_pools();

@@ -18,6 +18,7 @@ ghost use Rattle.auction_terms.specs.Stages.{Answers};
 ghost use Rattle.auction_terms.specs.inside.FirstFault.{Tells, TellsFault};
 ghost use Rattle.auction_terms.specs.Wording.{wording_text};
 ghost use Rattle.bid_forms.specs.FormFaultText.{form_fault_text};
+ghost use Rattle.bid_forms.specs.ToldOfRecords.{form_place};
 ghost use Rattle.bid_forms.specs.declared.form_text.FormFault.TheVariants as fault;
 
 use crate::form::{Form, eligibility_of};
@@ -97,6 +98,28 @@ impl FormFault {
             ),
             FormFault::TooManyBids { place } => Wording::at("14 TooManyBids at record ", place),
             FormFault::OutOfMemory => Wording::Words("out of memory"),
+        }
+    }
+
+    /// The number, from 1, of the record in which the fault is; 0 where it is that of the whole text.
+    pub fn place(self) -> u32
+        ensures { result ≡ form_place self }
+    {
+        match self {
+            FormFault::TooLarge | FormFault::OutOfMemory => 0,
+            FormFault::Header { place }
+            | FormFault::UnknownBidder { place }
+            | FormFault::FieldCount { place }
+            | FormFault::AmountText { place }
+            | FormFault::AmountRange { place }
+            | FormFault::AmountStep { place }
+            | FormFault::QuantityText { place }
+            | FormFault::QuantityRange { place }
+            | FormFault::EmptyPackage { place }
+            | FormFault::OverEligibility { place }
+            | FormFault::BelowReserve { place }
+            | FormFault::RepeatedPackage { place, earlier: _ }
+            | FormFault::TooManyBids { place } => place,
         }
     }
 }
@@ -195,6 +218,7 @@ pub(crate) fn read_quantities(place: u32, row: &ByteRecord) -> Result<Quantities
     requires { length (fields_of row.now) ≤ MOST_CATEGORIES + 1 }
     ensures answer { TellsFault is_form_memory result
         (first_failed (quantity_checks place (fields_of row.now))) }
+    ensures told { IfErr result (λ f. is_form_memory f ≡ false) }
     ensures quantities { IfOk result (λ quantities. quantities.items
         ≡ (bid_told (fields_of row.now)).package) }
     ensures each { IfOk result (λ quantities. All (λ quantity. quantity ≤ GREATEST_QUANTITY)

@@ -14,6 +14,7 @@ use Rattle.input_faults.specs.Explained.{IsCutShort, by_put}
 use Rattle.input_faults.specs.FaultLines.{explanation, fault_lines}
 use Rattle.input_faults.specs.FaultsAs.{faults_as}
 use Rattle.input_faults.specs.InputFaults.{input_faults, refusal_of}
+use Rattle.input_faults.specs.TextDetails.{detail}
 use Rattle.input_faults.specs.declared.fault.Fault.{Fault}
 use Rattle.input_faults.specs.inside.HeldLines.{held_lines}
 use Rattle.mps_text.proofs.Known.{Appends-nothing}
@@ -24,8 +25,8 @@ use Rattle.mps_text.specs.declared.write_fault.WriteFault.TheVariants as write
 use Rattle.requests.specs.declared.request.Request.{Request}
 
 -- the lines of what is kept are those of the first faults
-pub held-lines : (held : Faults Fault) (faults : List (Found Fault)) → Keeps held faults → held_lines held ≡ fault_lines faults
-held-lines held faults keeps = rw (keeps.kept, keeps.more) refl
+pub held-lines : (detail_of : ℕ → Fault → List ℕ) (held : Faults Fault) (faults : List (Found Fault)) → Keeps held faults → held_lines detail_of held ≡ fault_lines detail_of faults
+held-lines detail_of held faults keeps = rw (keeps.kept, keeps.more) refl
 
 pub cut-short : (lines : List ℕ) (taken taken' : Option (List ℕ)) (failures failures' : ℕ) (f : WriteFault) → SentFront taken taken' lines (written_of f) → HasFailed failures failures'
     → IsCutShort lines taken taken' failures failures' (refusal.Write f)
@@ -51,13 +52,13 @@ pub is-faulty : (asked : Request) (input : List ℕ) (held : Faults Fault) (empt
 is-faulty asked input held empty keeps none some = faulty held (input_faults asked input) (auction_told asked input) empty keeps (begin-input asked input) none some
 
 -- nothing is told of an input that tells an auction
-lines-of-none : (faults : List (Found Fault)) → faults_as refusal_of faults ≡ [] → fault_lines faults ≡ []
-lines-of-none [] none = refl
-lines-of-none (at ∷ more) none = cc
+lines-of-none : (detail_of : ℕ → Fault → List ℕ) (faults : List (Found Fault)) → faults_as refusal_of faults ≡ [] → fault_lines detail_of faults ≡ []
+lines-of-none detail_of [] none = refl
+lines-of-none detail_of (at ∷ more) none = cc
 
-of-told : (faults : List (Found Fault)) (told : Result Auction Refusal) (auction : Auction) → AreFaultsOf (faults_as refusal_of faults) told → told ≡ Ok auction → fault_lines faults ≡ []
-of-told faults (Ok a) auction are is = lines-of-none faults are
-of-told faults (Err r) auction are is = cc
+of-told : (detail_of : ℕ → Fault → List ℕ) (faults : List (Found Fault)) (told : Result Auction Refusal) (auction : Auction) → AreFaultsOf (faults_as refusal_of faults) told → told ≡ Ok auction → fault_lines detail_of faults ≡ []
+of-told detail_of faults (Ok a) auction are is = lines-of-none detail_of faults are
+of-told detail_of faults (Err r) auction are is = cc
 
 pub nothing-explained : (asked : Request) (input : List ℕ) (auction : Auction) → auction_told asked input ≡ Ok auction → explanation asked input ≡ []
-nothing-explained asked input auction is = of-told (input_faults asked input) (auction_told asked input) auction (begin-input asked input) is
+nothing-explained asked input auction is = of-told (detail asked input) (input_faults asked input) (auction_told asked input) auction (begin-input asked input) is

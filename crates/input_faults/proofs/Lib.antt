@@ -1,5 +1,8 @@
 pub mod BeginFacts
 pub mod CallFacts
+pub mod ColumnFacts
+pub mod CursorFacts
+pub mod DetailFacts
 pub mod ExplainFacts
 pub mod FormsFacts
 pub mod InputBegins

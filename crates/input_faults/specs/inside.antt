@@ -1,2 +1,4 @@
 pub mod CountedCalls
 pub mod HeldLines
+pub mod DetailText
+pub mod Cursors

@@ -7,7 +7,7 @@ ghost use Rattle.input_faults.specs.Explained.{IsCutShort};
 ghost use Rattle.input_faults.specs.FaultLines.{explanation};
 
 use crate::finding::input_faults;
-use crate::lines::write_lines;
+use crate::lines::{lines_of, put_lines};
 use auction_input::Refusal;
 use mps_text::Sink;
 use requests::Request;
@@ -34,6 +34,7 @@ pub fn explain<S: Sink>(
     if faults.kept.is_empty() {
         return Ok(false);
     }
-    write_lines(&faults, out)?;
+    let lines = lines_of(alloc, request, text, &faults)?;
+    put_lines(&lines, out)?;
     Ok(true)
 }

@@ -17,8 +17,8 @@ use auction_terms::{Faults, Rules};
 use requests::Request;
 use std::alloc::{AllocError, Global};
 
-// Tests that a fault of parts isn't that memory was refused.
-fn check_part_fault(fault: PartFault) -> Result<(), AllocError>
+/// Tests that a fault of parts isn't that memory was refused.
+pub(crate) fn check_part_fault(fault: PartFault) -> Result<(), AllocError>
     ensures { OnOk result (fault ≢ PartFault.OutOfMemory) }
 {
     match fault {

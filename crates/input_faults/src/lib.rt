@@ -2,14 +2,24 @@
 #![tactic(auto)]
 
 mod calls;
+mod detail;
 mod explaining;
 mod fault;
 mod finding;
+mod form_details;
+mod form_reading;
+mod group_details;
 pub mod laws;
 mod lines;
 mod merging;
+mod name_cursor;
 mod reading;
+mod record_cursor;
+mod rules_details;
+mod shown;
+mod wording;
 
 pub use explaining::explain;
 pub use fault::Fault;
 pub use finding::input_faults;
+pub use wording::add_wording;

@@ -1,52 +1,39 @@
 //! The lines of faults.
 
-ghost use Rattle.std.specs.Prelude.{◌≡◌, ◌++◌, IfErr, OnErr, OnOk, flat_map};
+ghost use Rattle.std.specs.Prelude.{◌≡◌, ◌++◌, ◌∷◌, [], ℕ, List, IfErr, IfOk, OnErr, OnOk, flat_map};
 ghost use Rattle.std.specs.Io.KnownBytes.{Appends};
+ghost use Rattle.auction_input.specs.Line.{refusal_text};
+ghost use Rattle.auction_input.specs.TextsTold.{terms_told};
 ghost use Rattle.auction_input.specs.Told.{told_text};
-ghost use Rattle.auction_terms.specs.Wording.{wording_text};
-ghost use Rattle.input_faults.specs.FaultLines.{fault_line, field_text, field_words, more_line};
+ghost use Rattle.auction_terms.specs.Borrowed.{bytes_of};
+ghost use Rattle.auction_terms.specs.Records.{records_of};
+ghost use Rattle.auction_terms.specs.RulesText.{version_of};
+ghost use Rattle.input_faults.specs.FaultLines.{fault_line, more_line};
+ghost use Rattle.input_faults.specs.InputFaults.{refusal_of};
+ghost use Rattle.input_faults.specs.TextDetails.{detail, detail_in_rules, detail_in_texts, detail_under, numbered, within_limit};
+ghost use Rattle.input_faults.specs.inside.Cursors.{ReadsForm, StandsAt, StandsAtName};
+ghost use Rattle.input_faults.specs.inside.DetailText.{detail_text};
 ghost use Rattle.input_faults.specs.inside.HeldLines.{held_lines};
 ghost use Rattle.mps_text.specs.Adds.{Adds};
 ghost use Rattle.mps_text.specs.Sinks.{HasFailed, SentFront};
 ghost use Rattle.mps_text.specs.Written.{written_of};
 
+use crate::detail::{Detail, add_detail};
 use crate::fault::Fault;
-use auction_input::Told;
-use auction_terms::{Faults, Found, Wording};
-use itoa::Buffer;
-use mps_text::{Sink, WriteFault, Writer};
-
-// Adds words, with the numbers among them.
-fn add_wording<S: Sink>(writer: &mut Writer<'_, S>, wording: Wording)
-    ensures { Adds S.taken S.failures writer.old writer.new (wording_text wording) }
-{
-    let mut digits = Buffer::new();
-    let mut more_digits = Buffer::new();
-    match wording {
-        Wording::Words(words) => writer.add(words.as_bytes()),
-        Wording::Number(words, number) => {
-            let pieces: [&[u8]; 2] = [words.as_bytes(), digits.format(number).as_bytes()];
-            writer.add_pieces(&pieces);
-        }
-        Wording::Between(words, number, more) => {
-            let pieces: [&[u8]; 3] = [
-                words.as_bytes(),
-                digits.format(number).as_bytes(),
-                more.as_bytes(),
-            ];
-            writer.add_pieces(&pieces);
-        }
-        Wording::Numbers(words, number, more, other) => {
-            let pieces: [&[u8]; 4] = [
-                words.as_bytes(),
-                digits.format(number).as_bytes(),
-                more.as_bytes(),
-                more_digits.format(other).as_bytes(),
-            ];
-            writer.add_pieces(&pieces);
-        }
-    }
-}
+use crate::finding::check_part_fault;
+use crate::form_details::form_detail;
+use crate::form_reading::{FormReading, within_limit};
+use crate::group_details::group_detail;
+use crate::name_cursor::NameCursor;
+use crate::reading::rules_in;
+use crate::record_cursor::RecordCursor;
+use crate::rules_details::rules_detail;
+use crate::wording::add_wording;
+use auction_input::{Parts, Told, only_text, split_parts};
+use auction_terms::{Faults, Found, Rules, Version, Wording, version_of};
+use mps_text::{MemorySink, Sink, WriteFault, Writer};
+use requests::Request;
+use std::alloc::{AllocError, Global};
 
 // Adds what is told of a refusal.
 fn add_told<S: Sink>(writer: &mut Writer<'_, S>, told: &Told<'_>)
@@ -57,42 +44,179 @@ fn add_told<S: Sink>(writer: &mut Writer<'_, S>, told: &Told<'_>)
     writer.add(told.name);
 }
 
-// The words before the number of a field.
-fn field_words(fault: Fault) -> &'static str
-    ensures { result.now ≡ field_words fault }
-{
-    match fault {
-        Fault::Groups(_) => ", name ",
-        _ => ", field ",
-    }
-}
-
-// At which field of its record a fault is.
-fn field_wording(at: Found<Fault>) -> Wording
-    ensures { wording_text result ≡ field_text at }
-{
-    if at.field == 0 {
-        return Wording::Words("");
-    }
-    Wording::Number(field_words(at.fault), at.field as u64)
-}
-
 // Adds the line of a fault.
-fn add_line<S: Sink>(writer: &mut Writer<'_, S>, at: Found<Fault>)
-    ensures { Adds S.taken S.failures writer.old writer.new (fault_line at) }
+fn add_line<S: Sink>(writer: &mut Writer<'_, S>, fault: Fault, detail: &Detail<'_>)
+    ensures { Adds S.taken S.failures writer.old writer.new
+        (refusal_text (refusal_of fault) ++ (detail_text detail.now ++ 10 ∷ [])) }
 {
-    let refusal = at.fault.refusal();
+    let refusal = fault.refusal();
     add_told(writer, &refusal.told());
-    add_wording(writer, field_wording(at));
+    add_detail(writer, detail);
     writer.add(b"\n");
 }
 
-// Adds the lines of faults.
-fn add_lines<S: Sink>(writer: &mut Writer<'_, S>, faults: &[Found<Fault>])
-    ensures { Adds S.taken S.failures writer.old writer.new (flat_map fault_line faults.now) }
+// Adds the line of a fault where the rules are refused.
+fn add_line_of_rules<S: Sink>(
+    alloc: Global,
+    writer: &mut Writer<'_, S>,
+    cursor: &mut RecordCursor<'_>,
+    version: Option<Version>,
+    at: Found<Fault>,
+) -> Result<(), AllocError>
+    ensures added { (text : List ℕ) → StandsAt cursor.old text
+        → version ≡ version_of (numbered 1 (records_of text))
+        → OnOk result (Adds S.taken S.failures writer.old writer.new
+        (fault_line (detail_in_rules (records_of text)) at)) }
+    ensures stands { (text : List ℕ) → StandsAt cursor.old text
+        → OnOk result (StandsAt cursor.new text) }
+{
+    match at.fault {
+        Fault::Rules(fault) => {
+            cursor.go_to(alloc, fault.place())?;
+            let detail = rules_detail(version, &cursor.row, at.field, fault);
+            add_line(writer, at.fault, &detail);
+            Ok(())
+        }
+        _ => {
+            add_line(writer, at.fault, &Detail::Nothing);
+            Ok(())
+        }
+    }
+}
+
+// Adds the lines of faults where the rules are refused. The records of the rules are gone over once.
+fn add_lines_of_rules<S: Sink>(
+    alloc: Global,
+    writer: &mut Writer<'_, S>,
+    text: &[u8],
+    faults: &[Found<Fault>],
+) -> Result<(), AllocError>
+    ensures { OnOk result (Adds S.taken S.failures writer.old writer.new
+        (flat_map (fault_line (detail_in_rules (records_of text.now))) faults.now)) }
+{
+    let mut cursor = RecordCursor::new(alloc, text);
+    cursor.go_to(alloc, 1)?;
+    let version = version_of(&cursor.row);
+    for at in faults {
+        add_line_of_rules(alloc, writer, &mut cursor, version, *at)?;
+    }
+    Ok(())
+}
+
+// Adds the line of a fault where the rules are read.
+fn add_line_under<'t, S: Sink>(
+    alloc: Global,
+    writer: &mut Writer<'_, S>,
+    rules: &Rules,
+    forms: &[&'t [u8]],
+    form: &mut FormReading<'t>,
+    names: &mut NameCursor<'_>,
+    at: Found<Fault>,
+) -> Result<(), AllocError>
+    requires { ReadsForm rules.now (bytes_of forms.now) form.old }
+    ensures added { (groups : List ℕ) → StandsAtName names.old (within_limit groups)
+        → OnOk result (Adds S.taken S.failures writer.old writer.new
+        (fault_line (detail_under rules.now (bytes_of forms.now) groups) at)) }
+    ensures form { OnOk result (ReadsForm rules.now (bytes_of forms.now) form.new) }
+    ensures names { (text : List ℕ) → StandsAtName names.old text
+        → OnOk result (StandsAtName names.new text) }
+{
+    match at.fault {
+        Fault::Form {
+            form: number,
+            fault,
+        } => {
+            form.go_to(alloc, rules, forms, number, fault.place())?;
+            let detail = form_detail(rules, form.eligibility, &form.cursor.row, at.field, fault);
+            add_line(writer, at.fault, &detail);
+            Ok(())
+        }
+        Fault::Groups(fault) => {
+            names.go_to(fault.place(), at.field);
+            let detail = group_detail(names.name, at.field, fault);
+            add_line(writer, at.fault, &detail);
+            Ok(())
+        }
+        _ => {
+            add_line(writer, at.fault, &Detail::Nothing);
+            Ok(())
+        }
+    }
+}
+
+// Adds the lines of faults where the rules are read. Each form, and the groups, are gone over once.
+fn add_lines_under<S: Sink>(
+    alloc: Global,
+    writer: &mut Writer<'_, S>,
+    rules: &Rules,
+    forms: &[&[u8]],
+    groups: &[u8],
+    faults: &[Found<Fault>],
+) -> Result<(), AllocError>
+    ensures { OnOk result (Adds S.taken S.failures writer.old writer.new
+        (flat_map (fault_line (detail_under rules.now (bytes_of forms.now) groups.now))
+        faults.now)) }
+{
+    let mut form = FormReading::begin(alloc, rules, forms, 0)?;
+    let mut names = NameCursor::new(within_limit(groups));
+    for at in faults {
+        add_line_under(alloc, writer, rules, forms, &mut form, &mut names, *at)?;
+    }
+    Ok(())
+}
+
+// Adds the lines of faults without details.
+fn add_plain_lines<S: Sink>(writer: &mut Writer<'_, S>, faults: &[Found<Fault>])
+    ensures { Adds S.taken S.failures writer.old writer.new
+        (flat_map (fault_line (λ field fault. [])) faults.now) }
 {
     for at in faults {
-        add_line(writer, *at);
+        add_line(writer, at.fault, &Detail::Nothing);
+    }
+}
+
+// Adds the lines of the faults of texts.
+fn add_lines_in<S: Sink>(
+    alloc: Global,
+    writer: &mut Writer<'_, S>,
+    rules: &[u8],
+    forms: &[&[u8]],
+    groups: &[u8],
+    faults: &[Found<Fault>],
+) -> Result<(), AllocError>
+    ensures { OnOk result (Adds S.taken S.failures writer.old writer.new
+        (flat_map (fault_line (detail_in_texts (terms_told rules.now) rules.now
+        (bytes_of forms.now) groups.now)) faults.now)) }
+{
+    match rules_in(alloc, rules)? {
+        Some(rules) => add_lines_under(alloc, writer, &rules, forms, groups, faults),
+        None => add_lines_of_rules(alloc, writer, within_limit(rules), faults),
+    }
+}
+
+// Adds the lines of the faults of an input.
+fn add_lines<S: Sink>(
+    alloc: Global,
+    writer: &mut Writer<'_, S>,
+    request: &Request,
+    text: &[u8],
+    faults: &[Found<Fault>],
+) -> Result<(), AllocError>
+    ensures { OnOk result (Adds S.taken S.failures writer.old writer.new
+        (flat_map (fault_line (detail request.now text.now)) faults.now)) }
+{
+    match split_parts(alloc, request, text) {
+        Ok(parts) => {
+            let rules = only_text(parts.rules.as_slice());
+            let groups = only_text(parts.groups.as_slice());
+            add_lines_in(alloc, writer, rules, parts.forms.as_slice(), groups, faults)?;
+            Ok(())
+        }
+        Err(fault) => {
+            check_part_fault(fault)?;
+            add_plain_lines(writer, faults);
+            Ok(())
+        }
     }
 }
 
@@ -108,17 +232,36 @@ fn add_more<S: Sink>(writer: &mut Writer<'_, S>, more: u64)
     add_wording(writer, wording);
 }
 
-/// Writes the lines of faults, and how many more there are. It takes no memory.
-pub fn write_lines<S: Sink>(faults: &Faults<Fault>, out: &mut S) -> Result<(), WriteFault>
-    ensures ok { OnOk result (Appends (S.taken out.old) (S.taken out.new)
-        (held_lines faults.now)) }
+/// The lines of the faults of an input, and how many more there are. All memory is taken here, before the first line is put.
+#[inline(never)]
+pub fn lines_of(
+    alloc: Global,
+    request: &Request,
+    text: &[u8],
+    faults: &Faults<Fault>,
+) -> Result<Vec<u8>, AllocError>
+    ensures { IfOk result (λ lines. lines.items
+        ≡ held_lines (detail request.now text.now) faults.now) }
+{
+    let mut sink = MemorySink::new(alloc);
+    let mut writer = Writer::new(&mut sink);
+    add_lines(alloc, &mut writer, request, text, faults.kept.as_slice())?;
+    add_more(&mut writer, faults.more);
+    match writer.flush() {
+        Ok(()) => Ok(sink.into_bytes()),
+        Err(WriteFault::Sink { .. }) => Err(AllocError),
+    }
+}
+
+/// Puts lines. It takes no memory.
+pub fn put_lines<S: Sink>(lines: &[u8], out: &mut S) -> Result<(), WriteFault>
+    ensures ok { OnOk result (Appends (S.taken out.old) (S.taken out.new) lines.now) }
     ensures err { IfErr result (λ e. SentFront (S.taken out.old) (S.taken out.new)
-        (held_lines faults.now) (written_of e)) }
+        lines.now (written_of e)) }
     ensures failed { OnErr result (HasFailed (S.failures out.old) (S.failures out.new)) }
     ensures succeeded { OnOk result (S.failures out.new ≡ S.failures out.old) }
 {
     let mut writer = Writer::new(out);
-    add_lines(&mut writer, faults.kept.as_slice());
-    add_more(&mut writer, faults.more);
+    writer.add(lines);
     writer.flush()
 }

@@ -37,6 +37,20 @@ fn check_form_fault(fault: FormFault) -> Result<(), AllocError>
     }
 }
 
+/// The rules that a text tells; `None` where it has a fault.
+pub fn rules_in(alloc: Global, text: &[u8]) -> Result<Option<Rules>, AllocError>
+    ensures { IfOk result (λ rules. MatchOption rules
+        ((r : Refusal) × (terms_told text.now ≡ Err r)) (λ t. terms_told text.now ≡ Ok t)) }
+{
+    match read_rules(alloc, text) {
+        Ok(rules) => Ok(Some(rules)),
+        Err(fault) => {
+            check_rules_fault(fault)?;
+            Ok(None)
+        }
+    }
+}
+
 /// Adds the faults of a text of rules, or tells the rules.
 pub fn take_rules(
     alloc: Global,

@@ -1,0 +1,40 @@
+use Rattle.std.proofs.Common.{◌∙◌}
+use Rattle.auction_terms.specs.Borrowed.{bytes_of}
+use Rattle.mps_text.proofs.Adding.{Adds-to}
+use Rattle.input_faults.proofs.DetailFacts.{form-known, groups-known, line-with, of-neither}
+use Rattle.input_faults.specs.TextDetails.{detail_under}
+use Rattle.input_faults.proofs.lines.add_line_under.Goals as goal
+
+pub returns-in-Form : goal.returns-in-Form
+returns-in-Form g c =
+    let t = c.args.rules.now in
+    let forms = bytes_of c.args.forms.now in
+    let went = c.in_ok-go_to.ensures in record {
+      added = λ groups stands.
+          Adds-to c.add_line.ensures (line-with (detail_under t forms groups) c.args.at _ (c.form_detail-detail.ensures
+          ∙ form-known t forms groups c.args.at.field _ _ _ c.args.at.fault c.in-Form.fault _ _ c.in-Form.is went.number went.reads.eligibility (went.place ∙ c.place.ensures) went.reads.stands.held));
+      form = went.reads;
+      names = λ text stands. stands;
+    }
+
+pub returns-in-Groups : goal.returns-in-Groups
+returns-in-Groups g c =
+    let t = c.args.rules.now in
+    let forms = bytes_of c.args.forms.now in record {
+      added = λ groups stands.
+          let after = c.go_to.ensures.stands _ stands in
+          Adds-to c.add_line.ensures (line-with (detail_under t forms groups) c.args.at _ (c.group_detail-detail.ensures
+          ∙ groups-known t forms groups c.args.at.field _ _ c.args.at.fault c.in-Groups.fault _ _ c.in-Groups.is c.go_to.ensures.number (c.go_to.ensures.place ∙ c.place.ensures) after.line after.name));
+      form = c.requires;
+      names = λ text stands. c.go_to.ensures.stands text stands;
+    }
+
+pub returns-in_default : goal.returns-in_default
+returns-in_default g c =
+    let t = c.args.rules.now in
+    let forms = bytes_of c.args.forms.now in record {
+      added = λ groups stands.
+          Adds-to c.add_line.ensures (line-with (detail_under t forms groups) c.args.at _ (of-neither t forms groups c.args.at.field c.args.at.fault c.in_default.not-Form c.in_default.not-Groups));
+      form = c.requires;
+      names = λ text stands. stands;
+    }

@@ -1,9 +1,0 @@
-use Rattle.std.proofs.Common.{take}
-use Rattle.std.specs.Prelude.{flat_map}
-use Rattle.mps_text.specs.Adds.{Adds}
-use Rattle.input_faults.specs.FaultLines.{fault_line}
-use Rattle.input_faults.proofs.lines.add_lines.Given as goal
-
--- the lines so far are added
-abbrev pub invariant-loop-at : goal.invariant-loop-at
-invariant-loop-at g l = Adds g.S.Sink.taken g.S.Sink.failures l.initial.writer l.writer (flat_map fault_line (take l.at-index l.faults))

@@ -1,9 +1,0 @@
-use Rattle.std.proofs.Common.{rules}
-use Rattle.mps_text.proofs.Adding.{Adds-then, tells-front, tells-quiet}
-use Rattle.input_faults.proofs.lines.write_lines.Goals as goal
-
-pub returns-clause-err : goal.returns-clause-err
-returns-clause-err g c = tells-front _ c.flush.result c.new-writer.ensures (rw c.as_slice.ensures.value at (Adds-then c.add_lines.ensures c.add_more.ensures)) c.flush.ensures.adds c.flush.ensures.err (search rules)
-
-pub returns-clause-succeeded : goal.returns-clause-succeeded
-returns-clause-succeeded g c = tells-quiet _ c.flush.result c.new-writer.ensures (rw c.as_slice.ensures.value at (Adds-then c.add_lines.ensures c.add_more.ensures)) c.flush.ensures.adds c.flush.ensures.ok (search rules)

@@ -1,0 +1,10 @@
+use Rattle.std.proofs.Common.{◌≤◌, ◌-◌, ℕ, List}
+use Rattle.input_faults.specs.inside.Cursors.{StandsAtName}
+use Rattle.input_faults.proofs.name_cursor.NameCursor.go_to_line.Given as goal
+
+-- the cursor stands on the same text, at no number above the one that is wanted
+abbrev pub invariant-loop-self : goal.invariant-loop-self
+invariant-loop-self l = ((text : List ℕ) → StandsAtName l.fn.self text → StandsAtName l.self text) × (l.self.place ≤ l.place)
+
+abbrev pub decreases-loop-self : goal.decreases-loop-self
+decreases-loop-self l = l.place - l.self.place

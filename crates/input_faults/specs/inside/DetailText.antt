@@ -1,0 +1,13 @@
+-- What the code's details tell.
+use Rattle.std.specs.Prelude.{◌++◌, ℕ, List, [], codes, decimal}
+use Rattle.auction_terms.specs.Wording.{wording_text}
+use Rattle.input_faults.specs.Shown.{shown_text}
+use Rattle.input_faults.specs.declared.detail.Detail.{Detail}
+use Rattle.input_faults.specs.declared.detail.Detail.TheVariants as of
+
+abbrev pub detail_text : Detail → List ℕ
+detail_text of.Nothing = []
+detail_text (of.Whole words) = wording_text words
+detail_text (of.Field n value wrong) = codes ", field " ++ (decimal n ++ (codes ": " ++ (shown_text value.now ++ wording_text wrong)))
+detail_text (of.Column n value name) = codes ", field " ++ (decimal n ++ (codes ": " ++ (shown_text value.now ++ (codes " in place of " ++ name.now))))
+detail_text (of.Name n value wrong) = codes ", name " ++ (decimal n ++ (codes ": " ++ (shown_text value.now ++ wording_text wrong)))

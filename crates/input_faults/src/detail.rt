@@ -1,0 +1,80 @@
+//! What stands at a fault, and what was wanted there.
+
+ghost use Rattle.std.specs.Prelude.{◌≡◌, ◌++◌, codes, decimal};
+ghost use Rattle.csv.specs.Records.{fields_of};
+ghost use Rattle.auction_terms.specs.RulesText.{record_field};
+ghost use Rattle.auction_terms.specs.Wording.{wording_text};
+ghost use Rattle.input_faults.specs.Details.{field_told};
+ghost use Rattle.input_faults.specs.Shown.{shown_text};
+ghost use Rattle.input_faults.specs.inside.DetailText.{detail_text};
+ghost use Rattle.mps_text.specs.Adds.{Adds};
+
+use crate::shown::add_shown;
+use crate::wording::add_wording;
+use auction_terms::{Wording, field};
+use csv::ByteRecord;
+use mps_text::{Sink, Writer};
+
+/// What stands at a fault, and what was wanted there.
+#[derive(Clone, Copy)]
+pub enum Detail<'d> {
+    Nothing,
+    /// Words on the whole record or line.
+    Whole(Wording),
+    /// The number of a field, what stands there, and what is wrong with it.
+    Field(usize, &'d [u8], Wording),
+    /// The number of a field, what stands there, and the name of the category that was wanted.
+    Column(usize, &'d [u8], &'d [u8]),
+    /// The number of a name in a line, the name, and what is wrong with it.
+    Name(usize, &'d [u8], Wording),
+}
+
+// The bytes of a field of this number. There is none of number 0: the first stands for it, as in the definitions.
+fn field_at(row: &ByteRecord, number: usize) -> &[u8]
+    ensures { result.now ≡ record_field number (fields_of row.now) }
+{
+    if number == 0 {
+        field(row, 1)
+    } else {
+        field(row, number)
+    }
+}
+
+/// The detail of a field.
+pub fn of_field<'d>(row: &'d ByteRecord, number: usize, wrong: Wording) -> Detail<'d>
+    ensures { detail_text result ≡ field_told number (fields_of row.now) (wording_text wrong) }
+{
+    Detail::Field(number, field_at(row, number), wrong)
+}
+
+// Adds the number of a field or name, and what stands there.
+fn add_value<S: Sink>(writer: &mut Writer<'_, S>, words: &'static str, number: usize, value: &[u8])
+    ensures { Adds S.taken S.failures writer.old writer.new
+        (words.now ++ (decimal number ++ (codes ": " ++ shown_text value.now))) }
+{
+    add_wording(writer, Wording::Between(words, number as u64, ": "));
+    add_shown(writer, value);
+}
+
+/// Adds a detail.
+pub fn add_detail<S: Sink>(writer: &mut Writer<'_, S>, detail: &Detail<'_>)
+    ensures { Adds S.taken S.failures writer.old writer.new (detail_text detail.now) }
+{
+    match *detail {
+        Detail::Nothing => writer.add(b""),
+        Detail::Whole(words) => add_wording(writer, words),
+        Detail::Field(number, value, wrong) => {
+            add_value(writer, ", field ", number, value);
+            add_wording(writer, wrong);
+        }
+        Detail::Column(number, value, name) => {
+            add_value(writer, ", field ", number, value);
+            writer.add(b" in place of ");
+            writer.add(name);
+        }
+        Detail::Name(number, value, wrong) => {
+            add_value(writer, ", name ", number, value);
+            add_wording(writer, wrong);
+        }
+    }
+}
