@@ -133,6 +133,20 @@ class ByHand(Office):
                          [self.path("input.txt") + ":2009: a bidder has at most 1,000 forms (wdp: form 1001: CallLimit)", "1 fault"])
 
 
+class LeftOut(Office):
+    def test_the_last_form_of_a_bidder_counts(self):
+        self.write("input.txt", ACCEPTED[0] + b"%form\n\xef\xbb\xbfAlpha,A,B\r\n\r\n\"30\",3,0\r\n31,0,2")
+        self.assertEqual(run("explain", "--bids", self.path("input.txt")).stdout.decode().splitlines(), [
+            "Alpha: 2 bids, 0 kept", "Alpha: bid 1 asks for 3 of A, where there are 2", "Alpha: bid 2 asks for 2 of B, where there are 1",
+            "Beta: 2 bids, 1 kept", "Beta: bid 2 asks for 3 of A, where there are 2", "Gamma: 1 bid, 1 kept"])
+
+    def test_faults_come_before_bids(self):
+        self.write("input.txt", ACCEPTED[0].replace(b"\n30,1,0", b"\n30,,0"))
+        told = self.path("input.txt") + ":10:4: '' isn't 1 to 18 digits: the field is empty (wdp: form 1: 8 QuantityText at record 2)"
+        for words in ([], ["--bids"]):
+            self.assertEqual(run("explain", *words, self.path("input.txt")).stdout.decode().splitlines(), [told, "1 fault"])
+
+
 # files of forms as spreadsheets write them, each with what is told of it
 FILES = {
     "Ant.csv": ("Ant,Low,High,,\r\n,,,,\r\n\"5,000\",2,1,,\r\n\r\n9900,4,x,,\r\n".encode(),
