@@ -41,7 +41,7 @@ BY_HAND = [
     ("\"1,5\",1,\"0", [(1, "'1,5' isn't 1 to 18 digits: it has a comma; write digits alone (wdp: form 2: 5 AmountText at record 3)"),
                        (9, "'0\\x0a1' isn't 1 to 18 digits (wdp: form 2: 8 QuantityText at record 3)")]),
     ("1\"", []),
-    ("31,1,0\r", [(1, "'31' isn't a multiple of 2 (wdp: form 2: 7 AmountStep at record 4)")]),
+    ("31,2,0\r", [(1, "'31' isn't a multiple of 2 (wdp: form 2: 7 AmountStep at record 4)")]),
     ("\"\",2,10001", [(1, "'' isn't 1 to 18 digits: the field is empty (wdp: form 2: 5 AmountText at record 5)"),
                       (6, "'10001' isn't between 0 and 10000 (wdp: form 2: 9 QuantityRange at record 5)")]),
     ("30,1", [(1, "2 fields in place of 3 (wdp: form 2: 4 FieldCount at record 6)")]),
