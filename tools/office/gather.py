@@ -3,7 +3,7 @@
 The folder has one CSV file for each bidder; its name has the bidder's name as a word, as in Heron.csv or form-heron-2.csv.
 Byte order marks, UTF-16, CR LF and CR, semicolons or tabs, empty rows, and empty fields at the end of rows are turned into
 the format, and the receipt says so. No value is changed: a number with a comma or a space in it is a fault.
-All faults of all files are told in one run, and then nothing is written.
+All faults of all files are told in one run, and then nothing is written; those of rules, forms and groups by `wdp explain`.
 
 The receipt, on standard error and with --receipt as a file, has for each bidder its file, bids and the file's SHA-256,
 and a table that is made to be read aloud to each bidder.

@@ -37,17 +37,17 @@ BY_HAND = [
     ("%form", []),
     ("\"Alpha\",A,\"B\"", []),
     ("", []),
-    ("\"1,5\",1,\"0", [(1, "'1,5' isn't 1 to 18 digits: it has a comma; write digits alone (wdp: form 2: 5 AmountText at record 2)"),
-                       (9, "'0\\x0a1' isn't 1 to 18 digits (wdp: form 2: 8 QuantityText at record 2)")]),
-    ("1\"", []),
-    ("31,1,0\r", [(1, "'31' isn't a multiple of 2 (wdp: form 2: 7 AmountStep at record 3)")]),
     ("30,1,0\r", []),
+    ("\"1,5\",1,\"0", [(1, "'1,5' isn't 1 to 18 digits: it has a comma; write digits alone (wdp: form 2: 5 AmountText at record 3)"),
+                       (9, "'0\\x0a1' isn't 1 to 18 digits (wdp: form 2: 8 QuantityText at record 3)")]),
+    ("1\"", []),
+    ("31,2,0\r", [(1, "'31' isn't a multiple of 2 (wdp: form 2: 7 AmountStep at record 4)")]),
     ("\"\",2,10001", [(1, "'' isn't 1 to 18 digits: the field is empty (wdp: form 2: 5 AmountText at record 5)"),
                       (6, "'10001' isn't between 0 and 10000 (wdp: form 2: 9 QuantityRange at record 5)")]),
     ("30,1", [(1, "2 fields in place of 3 (wdp: form 2: 4 FieldCount at record 6)")]),
     ("40,3,1", [(1, "4 points, above the eligibility of 3 (wdp: form 2: 11 OverEligibility at record 7)")]),
     ("4,1,1", [(1, "'4' is below the reserve of 15 (wdp: form 2: 12 BelowReserve at record 8)")]),
-    ("60,001,0", [(1, "bid 3 has the same package (wdp: form 2: 13 RepeatedPackage at record 9, earlier bid 3)")]),
+    ("60,001,0", [(1, "bid 1 has the same package (wdp: form 2: 13 RepeatedPackage at record 9, earlier bid 1)")]),
     ("0,0,0", [(1, "2 rows from line 29 to line 31 hold nothing but zeros; delete those that are no bids "
                    "(wdp: form 2: 6 AmountRange at record 10)")]),
     ("9;1;0", [(1, "the row has semicolons between its fields, and the first row hasn't (wdp: form 2: 4 FieldCount at record 11)")]),
@@ -131,6 +131,20 @@ class ByHand(Office):
         text = text_of(BY_HAND[9:16]) + b"%form\nBeta,A,B\n" * 1_001
         self.assertEqual(self.told(b"%rules\n" + text),
                          [self.path("input.txt") + ":2009: a bidder has at most 1,000 forms (wdp: form 1001: CallLimit)", "1 fault"])
+
+
+class LeftOut(Office):
+    def test_the_last_form_of_a_bidder_counts(self):
+        self.write("input.txt", ACCEPTED[0] + b"%form\n\xef\xbb\xbfAlpha,A,B\r\n\r\n\"30\",3,0\r\n31,0,2")
+        self.assertEqual(run("explain", "--bids", self.path("input.txt")).stdout.decode().splitlines(), [
+            "Alpha: 2 bids, 0 kept", "Alpha: bid 1 asks for 3 of A, where there are 2", "Alpha: bid 2 asks for 2 of B, where there are 1",
+            "Beta: 2 bids, 1 kept", "Beta: bid 2 asks for 3 of A, where there are 2", "Gamma: 1 bid, 1 kept"])
+
+    def test_faults_come_before_bids(self):
+        self.write("input.txt", ACCEPTED[0].replace(b"\n30,1,0", b"\n30,,0"))
+        told = self.path("input.txt") + ":10:4: '' isn't 1 to 18 digits: the field is empty (wdp: form 1: 8 QuantityText at record 2)"
+        for words in ([], ["--bids"]):
+            self.assertEqual(run("explain", *words, self.path("input.txt")).stdout.decode().splitlines(), [told, "1 fault"])
 
 
 # files of forms as spreadsheets write them, each with what is told of it
