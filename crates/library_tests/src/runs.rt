@@ -175,6 +175,17 @@ const RUNS: [Run; 7] = [
     },
 ];
 
+/// The status with which such a run ends on these sinks.
+fn status_of<R: Threads + Wait + Sync + AllocGlobal>(
+    rt: &R,
+    row: &Run,
+    out: &mut LimitSink,
+    faults: &mut MemorySink,
+) -> u8 {
+    let mut input = Source::new(row.input);
+    run(rt, told(rt.alloc(), row.words), &mut input, out, faults)
+}
+
 /// Whether such a run ends as it has to on a sink that takes so many bytes a put and has so much room: the output's front went
 /// out, and the line tells how many bytes of it.
 fn ends_as_told<R: Threads + Wait + Sync + AllocGlobal>(
@@ -184,17 +195,26 @@ fn ends_as_told<R: Threads + Wait + Sync + AllocGlobal>(
     most: usize,
 ) -> Result<bool, Fail> {
     let alloc: Global = rt.alloc();
-    let whole = row.output;
-    let mut input = Source::new(row.input);
     let mut out = LimitSink::new(alloc, room, most)?;
     let mut faults = MemorySink::new(alloc);
-    let words = told(alloc, row.words);
-    let status = run(rt, words, &mut input, &mut out, &mut faults);
+    let status = status_of(rt, row, &mut out, &mut faults);
+    is_end(alloc, row.output, room, status, out.bytes(), faults.bytes())
+}
+
+/// Whether this end is right where there is room for so many bytes of a whole output.
+fn is_end(
+    alloc: Global,
+    whole: &[u8],
+    room: usize,
+    status: u8,
+    out: &[u8],
+    line: &[u8],
+) -> Result<bool, Fail> {
     if room >= whole.len() {
-        return Ok(status == 0 && out.bytes() == whole && faults.bytes().is_empty());
+        return Ok(status == 0 && out == whole && line.is_empty());
     }
-    let is_front = out.bytes().len() == room && whole.starts_with(out.bytes());
-    Ok(status == 1 && is_front && is_line_after(alloc, faults.bytes(), room)?)
+    let is_front = out.len() == room && whole.starts_with(out);
+    Ok(status == 1 && is_front && is_line_after(alloc, line, room)?)
 }
 
 /// Whether a line tells that a write failed after so many bytes.
@@ -314,23 +334,21 @@ fn fails_at_each<R: Threads + Wait + Sync>(
     rt: &R,
     alloc: Global,
     auction: &Auction<'_>,
-) -> Result<bool, Fail> {
+) -> Result<(), Fail> {
     for room in 0..294usize {
         if !fails_at(rt, alloc, auction, room)? {
-            return Ok(false);
+            return Err(Fail::from("another end"));
         }
     }
-    Ok(true)
+    Ok(())
 }
 
 #[test]
 fn a_fault_names_the_group_of_the_next_byte(rt: HostRuntime) -> Result<(), Fail> {
-    let request = Request::Compile { workers: 2 };
-    let auction = read_auction(&rt, &request, TWO_GROUPS)
-        .ok()
-        .ok_or("auction")?;
-    assert!(rt; fails_at_each(&rt, rt.alloc(), &auction)?);
-    Ok(())
+    match read_auction(&rt, &Request::Compile { workers: 2 }, TWO_GROUPS) {
+        Ok(auction) => fails_at_each(&rt, rt.alloc(), &auction),
+        Err(_) => Err(Fail::from("auction")),
+    }
 }
 
 /// Whether a run on an empty input ends with this status and puts nothing, on a sink of faults that takes no more.

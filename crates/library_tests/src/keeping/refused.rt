@@ -31,11 +31,11 @@ fn keeps<R: Threads + Sync>(
 #[test]
 fn each_worked_form_alone_is_kept(rt: HostRuntime) -> Result<(), Fail> {
     let alloc = rt.alloc();
-    for (rules, form, bids) in KEPT {
-        let are_kept = on_group(&rt, alloc, rules, &[form], b"-\n", |book, group| {
-            keeps(&rt, alloc, book, group, bids)
+    for (rules, form, bids) in &KEPT {
+        let are_kept = on_group(&rt, alloc, *rules, &[*form], b"-\n", |book, group| {
+            keeps(&rt, alloc, book, group, *bids)
         })?;
-        assert!(rt; are_kept, "{bids:?}");
+        assert!(rt; are_kept);
     }
     Ok(())
 }
@@ -50,8 +50,8 @@ fn orders(alloc: Global, rules: &[u8], text: &[u8], numbers: &[u16]) -> Result<b
 
 #[test]
 fn an_order_or_want_of_memory(rt: HostRuntime) -> Result<(), Fail> {
-    for (rules, text, numbers) in ORDERS {
-        assert!(rt; orders(rt.alloc(), rules, text, numbers)?, "{numbers:?}");
+    for (rules, text, numbers) in &ORDERS {
+        assert!(rt; orders(rt.alloc(), *rules, *text, *numbers)?);
     }
     Ok(())
 }
@@ -123,11 +123,11 @@ const WITHOUT: [(&[u8], &[(u16, u16)], &[(u16, u16)]); 5] = [
 #[test]
 fn the_worked_forms_are_kept(rt: HostRuntime) -> Result<(), Fail> {
     let alloc = rt.alloc();
-    for (line, bids, among) in WITHOUT {
-        let are_kept = on_group(&rt, alloc, RULES, &FORMS, line, |book, group| {
-            keeps_in_each_way(&rt, alloc, book, group, bids, among)
+    for (line, bids, among) in &WITHOUT {
+        let are_kept = on_group(&rt, alloc, RULES, &FORMS, *line, |book, group| {
+            keeps_in_each_way(&rt, alloc, book, group, *bids, *among)
         })?;
-        assert!(rt; are_kept, "{bids:?}");
+        assert!(rt; are_kept);
     }
     Ok(())
 }

@@ -123,6 +123,19 @@ pub fn on_groups<R: Wait, F: FnOnce(&ClosedBook, &Groups) -> Result<bool, Fail> 
     trial(&book, &groups)
 }
 
+fn on_first<F: FnOnce(&ClosedBook, &Group) -> Result<bool, Fail> + Drop>(
+    book: &ClosedBook,
+    groups: &Groups,
+    trial: F,
+) -> Result<bool, Fail>
+    requires { F.IsAlwaysCallable trial }
+{
+    if groups.count() != 1 {
+        return Ok(false);
+    }
+    trial(book, groups.group(1))
+}
+
 /// What a trial of a book of rules and forms, and of the one group of a line, tells.
 pub fn on_group<R: Wait, F: FnOnce(&ClosedBook, &Group) -> Result<bool, Fail> + Drop>(
     rt: &R,
@@ -136,8 +149,5 @@ pub fn on_group<R: Wait, F: FnOnce(&ClosedBook, &Group) -> Result<bool, Fail> + 
 {
     let book = book_of(rt, alloc, rules, forms)?;
     let groups = read_groups(alloc, line, book.rules())?;
-    if groups.count() != 1 {
-        return Ok(false);
-    }
-    trial(&book, groups.group(1))
+    on_first(&book, &groups, trial)
 }
