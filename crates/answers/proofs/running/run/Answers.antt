@@ -17,7 +17,7 @@ returns-in-Ok-request_of-clause-refused g c = λ one.
     let asked = ap asked_of c.in-Ok.is ∙ c.in-Ok-request_of.ensures.request in
     elim (c.answer_request.ensures.refused one) [
       | inl why ↦ inl (why.0, by_request c.in-Ok-request_of.request asked why.1, why.2)
-      | inr explained ↦ inr (asked ∙ explained.0, explained.1, explained.2, explained.3, explained.4, explained.5)
+      | inr explained ↦ inr ((explained.0.0, asked ∙ explained.0.1, explained.0.2), explained.1, explained.2, explained.3, explained.4)
     ]
 
 pub returns-in-Err-request_of-clause-refused : goal.returns-in-Err-request_of-clause-refused
