@@ -45,7 +45,7 @@ faulty held (at ∷ more) (Err r) true keeps are none some = (let nothing = none
 -- where none is kept, there is none, and nothing is told
 pub nothing-found : (asked : Request) (input : List ℕ) (held : Faults Fault) (taken : Option (List ℕ)) → Keeps held (input_faults asked input) → length held.kept.items ≡ 0 → Appends taken taken (explanation asked input)
 nothing-found asked input held taken keeps none =
-    subst (λ (bytes : List ℕ). Appends taken taken bytes) (sym (ap fault_lines (none-kept held (input_faults asked input) keeps none))) (Appends-nothing taken)
+    subst (λ (bytes : List ℕ). Appends taken taken bytes) (sym (ap (fault_lines (detail asked input)) (none-kept held (input_faults asked input) keeps none))) (Appends-nothing taken)
 
 pub is-faulty : (asked : Request) (input : List ℕ) (held : Faults Fault) (empty : Bool) → Keeps held (input_faults asked input) → (empty ≡ true → length held.kept.items ≡ 0) → (empty ≡ false → length held.kept.items ≡ 0 → ⊥)
     → IsTrue (not empty) ↔ IsErr (auction_told asked input)

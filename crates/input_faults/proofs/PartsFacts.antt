@@ -4,15 +4,19 @@ use Rattle.std.proofs.lemmas.List.{length-map}
 use Rattle.std.specs.Prelude.{◌≢◌, codes}
 use denote.Ref.{Bor}
 use Rattle.auction_input.specs.Parts.{Hold, Part, TellsParts, cut_lines, input_fault, parts_in, parts_named}
+use Rattle.auction_input.specs.PartsTold.{only_text}
 use Rattle.auction_input.specs.Plan.{miscounted}
+use Rattle.auction_input.specs.TextsTold.{terms_told}
 use Rattle.auction_input.specs.declared.parts.PartFault.{PartFault}
 use Rattle.auction_input.specs.declared.parts.PartFault.TheVariants as part_fault
 use Rattle.auction_input.specs.declared.parts.Parts.{Parts}
 use Rattle.auction_input.specs.declared.refusal.CountedPart.{CountedPart}
 use Rattle.auction_terms.specs.AllFaults.{found, or_else}
+use Rattle.auction_terms.specs.Borrowed.{bytes_of}
 use Rattle.auction_terms.specs.declared.faults.Found.{Found}
 use Rattle.input_faults.specs.FaultsAs.{fault_as}
 use Rattle.input_faults.specs.InputFaults.{count_fault, faults_of_parts}
+use Rattle.input_faults.specs.TextDetails.{detail, detail_in_input, detail_in_texts}
 use Rattle.input_faults.specs.declared.fault.Fault.{Fault}
 use Rattle.input_faults.specs.declared.fault.Fault.TheVariants as fault
 use Rattle.requests.specs.declared.request.Request.{Request}
@@ -49,3 +53,16 @@ module _ (asked : Request) (text : List ℕ) where
     parts-counted count is =
         ap (λ (o : Option PartFault). of-parts o (count_fault asked (parts_in (cut_lines text)))) none
         ∙ ap (λ (o : Option CountedPart). of-parts None o) (counts-held asked held (parts_in (cut_lines text)) hold ∙ is)
+
+-- the details of an input are those of the texts in its parts
+pub parts-detail : (asked : Request) (text : List ℕ) (held : Parts) (rules : List ℕ) (forms : List (List ℕ)) (groups : List ℕ) → input_fault asked text ≡ None → Hold held (parts_in (cut_lines text))
+    → rules ≡ only_text (bytes_of held.rules.items) → forms ≡ bytes_of held.forms.items → groups ≡ only_text (bytes_of held.groups.items)
+    → detail_in_texts (terms_told rules) rules forms groups ≡ detail asked text
+parts-detail asked text held rules forms groups none hold is_rules is_forms is_groups =
+    let of_rules : rules ≡ only_text (parts_named (codes "%rules") (parts_in (cut_lines text))) = is_rules ∙ ap only_text hold.rules in
+    let of_forms : forms ≡ parts_named (codes "%form") (parts_in (cut_lines text)) = is_forms ∙ hold.forms in
+    let of_groups : groups ≡ only_text (parts_named (codes "%groups") (parts_in (cut_lines text))) = is_groups ∙ ap only_text hold.groups in
+    ap (λ (r : List ℕ). detail_in_texts (terms_told r) r forms groups) of_rules
+    ∙ ap (λ (fs : List (List ℕ)). detail_in_texts (terms_told (only_text (parts_named (codes "%rules") (parts_in (cut_lines text))))) (only_text (parts_named (codes "%rules") (parts_in (cut_lines text)))) fs groups) of_forms
+    ∙ ap (λ (gs : List ℕ). detail_in_texts (terms_told (only_text (parts_named (codes "%rules") (parts_in (cut_lines text))))) (only_text (parts_named (codes "%rules") (parts_in (cut_lines text)))) (parts_named (codes "%form") (parts_in (cut_lines text))) gs) of_groups
+    ∙ ap (λ (o : Option PartFault). detail_in_input o text) (sym none)
