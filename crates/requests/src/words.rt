@@ -182,7 +182,7 @@ fn with_further<'a>(
     command?.subcommand(further?)
 }
 
-// What has no memory is told by the last call alone: a `?` at each would make the proof of this function many times as long.
+// Want of memory is handed on from step to step: with a `?` at each the proof of this function takes three times as long.
 fn command<'a>(alloc: Global) -> Result<Command<'a>, AllocError>
     ensures { IfOk result (λ command. app_of command ≡ wdp) }
 {
