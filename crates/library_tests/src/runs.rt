@@ -247,7 +247,14 @@ fn sizes_fail_at_every_byte(rt: HostRuntime) -> Result<(), Fail> {
 #[test]
 fn lines_of_bids_fail_at_every_byte(rt: HostRuntime) -> Result<(), Fail> {
     for room in 0..83usize {
-        let ended = ends_as_told(&rt, &["wdp", "explain", "--bids"], SOLVED, LEFT_OUT, room, 7)?;
+        let ended = ends_as_told(
+            &rt,
+            &["wdp", "explain", "--bids"],
+            SOLVED,
+            LEFT_OUT,
+            room,
+            7,
+        )?;
         assert!(rt; ended, "at {room}");
     }
     Ok(())
