@@ -7,8 +7,11 @@ from __future__ import annotations
 from dataclasses import dataclass, field
 
 from office import explaining, judge, tables
+from office.faults import Place
 from office.parts import parts_of
 from office.running import Stopped
+
+KINDS = (b"%rules", b"%form", b"%groups")
 
 
 @dataclass
@@ -101,7 +104,7 @@ def group_of(line, rules):
 
 def read(data, source):
     """The auction of an input in which wdp has found no fault."""
-    parts = {kind: [part for part in parts_of(data) if part.kind == kind] for kind in (b"%rules", b"%form", b"%groups")}
+    parts = {kind: [part for part in parts_of(data) if part.kind == kind] for kind in KINDS}
     try:
         rules = rules_of(parts[b"%rules"][0].rows())
         last = {rules.bidder_number(next(iter(part.rows())).values[0]): part for part in parts[b"%form"]}
@@ -116,4 +119,8 @@ def judged(wdp, data, source):
     faults = explaining.faults_of_input(judge.explained(wdp, data), data, source)
     if faults:
         raise Stopped(str(faults[0]))
+    # explain lets solutions be, which no command takes that an auction begins with
+    other = next((part for part in parts_of(data) if part.kind not in KINDS), None)
+    if other:
+        raise Stopped("%s: a part %s isn't of an auction's input" % (Place(source, other.line - 1), other.kind.decode()))
     return read(data, source)

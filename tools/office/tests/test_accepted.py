@@ -40,6 +40,11 @@ class Read(unittest.TestCase):
         with self.assertRaisesRegex(Stopped, told):
             accepted.judged(WDP, ACCEPTED[0].replace(b"\n30,1,0", b"\n0,1,0"), "input")
 
+    def test_parts_that_explain_lets_be(self):
+        for head in (b"%solution", b"%certificate\r", b"%tie"):
+            with self.assertRaisesRegex(Stopped, "^input:24: a part %s isn't of an auction's input$" % head.decode().strip()):
+                accepted.judged(WDP, ACCEPTED[0] + head + b"\n", "input")
+
     def test_what_wdp_has_not_accepted(self):
         for text in (b"", b"%rules\n", b"%rules\nlot\n", ACCEPTED[0].replace(b"30,1", b"x,1"), ACCEPTED[0].replace(b"%form\nAlpha", b"%form\nDelta"),
                      ACCEPTED[0].replace(b"%form\n", b"%form\n%form\n", 1)):

@@ -414,7 +414,7 @@ class Refused(Folder):
 
     def test_inputs(self):
         data, report = content(EXAMPLES, "worked.txt"), content(EXAMPLES, "worked.report.txt")
-        self.assert_refused(self.publish(data.replace(b"30,1,0", b"3,1,0"), report), "below the package's reserve")
+        self.assert_refused(self.publish(data.replace(b"30,1,0", b"3,1,0"), report), "'3' is below the reserve of 10 (wdp: form 1: 12 Below")
         self.assert_refused(self.publish(data.replace(b"\n-\n", b"\n"), report), "the input's first group isn't the empty one")
         self.assert_refused(self.publish(data + b"%solution\nX1_1 1\n", report), "%solution")
 
