@@ -21,10 +21,6 @@ use Rattle.input_faults.specs.TextDetails.{detail_in_rules, detail_under, number
 use Rattle.input_faults.specs.declared.fault.Fault.{Fault}
 use Rattle.input_faults.specs.declared.fault.Fault.TheVariants as fault
 
--- what stands behind the words before it, joined as lines are
-pub joined : (words number value more : List ℕ) → (words ++ (number ++ (codes ": " ++ value))) ++ more ≡ words ++ (number ++ (codes ": " ++ (value ++ more)))
-joined words number value more = simp append_assoc
-
 pub line-with : (detail_of : ℕ → Fault → List ℕ) (at : Found Fault) (told : List ℕ) → told ≡ detail_of at.field at.fault → refusal_text (refusal_of at.fault) ++ (told ++ 10 ∷ []) ≡ fault_line detail_of at
 line-with detail_of at told is = ap (λ (d : List ℕ). refusal_text (refusal_of at.fault) ++ (d ++ 10 ∷ [])) is
 

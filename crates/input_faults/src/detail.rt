@@ -47,13 +47,33 @@ pub fn of_field<'d>(row: &'d ByteRecord, number: usize, wrong: Wording) -> Detai
     Detail::Field(number, field_at(row, number), wrong)
 }
 
-// Adds the number of a field or name, and what stands there.
-fn add_value<S: Sink>(writer: &mut Writer<'_, S>, words: &'static str, number: usize, value: &[u8])
+// Adds the number of a field or name, what stands there, and what is wrong with it.
+fn add_value<S: Sink>(
+    writer: &mut Writer<'_, S>,
+    words: &'static str,
+    number: usize,
+    value: &[u8],
+    wrong: Wording,
+)
     ensures { Adds S.taken S.failures writer.old writer.new
-        (words.now ++ (decimal number ++ (codes ": " ++ shown_text value.now))) }
+        (words.now ++ (decimal number ++ (codes ": " ++ (shown_text value.now
+        ++ wording_text wrong)))) }
 {
     add_wording(writer, Wording::Between(words, number as u64, ": "));
     add_shown(writer, value);
+    add_wording(writer, wrong);
+}
+
+// Adds the number of a field, what stands there, and the name that was wanted.
+fn add_column<S: Sink>(writer: &mut Writer<'_, S>, number: usize, value: &[u8], name: &[u8])
+    ensures { Adds S.taken S.failures writer.old writer.new
+        (codes ", field " ++ (decimal number ++ (codes ": " ++ (shown_text value.now
+        ++ (codes " in place of " ++ name.now))))) }
+{
+    add_wording(writer, Wording::Between(", field ", number as u64, ": "));
+    add_shown(writer, value);
+    writer.add(b" in place of ");
+    writer.add(name);
 }
 
 /// Adds a detail.
@@ -63,18 +83,8 @@ pub fn add_detail<S: Sink>(writer: &mut Writer<'_, S>, detail: &Detail<'_>)
     match *detail {
         Detail::Nothing => writer.add(b""),
         Detail::Whole(words) => add_wording(writer, words),
-        Detail::Field(number, value, wrong) => {
-            add_value(writer, ", field ", number, value);
-            add_wording(writer, wrong);
-        }
-        Detail::Column(number, value, name) => {
-            add_value(writer, ", field ", number, value);
-            writer.add(b" in place of ");
-            writer.add(name);
-        }
-        Detail::Name(number, value, wrong) => {
-            add_value(writer, ", name ", number, value);
-            add_wording(writer, wrong);
-        }
+        Detail::Field(number, value, wrong) => add_value(writer, ", field ", number, value, wrong),
+        Detail::Column(number, value, name) => add_column(writer, number, value, name),
+        Detail::Name(number, value, wrong) => add_value(writer, ", name ", number, value, wrong),
     }
 }

@@ -3,4 +3,4 @@ use Rattle.mps_text.proofs.Adding.{Adds-then, Adds-to}
 use Rattle.input_faults.proofs.detail.add_value.Goals as goal
 
 pub returns : goal.returns
-returns g c = Adds-to (Adds-then c.add_wording.ensures c.add_shown.ensures) (simp append_assoc)
+returns g c = Adds-to (Adds-then c.add_wording.ensures (Adds-then c.add_shown.ensures c.add_wording-2.ensures)) (simp append_assoc)

@@ -1,0 +1,26 @@
+use Rattle.std.proofs.Common.{◌<◌, ◌∙◌, ℕ, ap, arith, length, rules}
+use Rattle.auction_terms.specs.Records.{records_of}
+use Rattle.auction_terms.specs.RulesText.{version_of}
+use Rattle.mps_text.proofs.Adding.{Adds-then, Adds-to}
+use Rattle.mps_text.proofs.Known.{flat_map-next_or}
+use Rattle.input_faults.specs.FaultLines.{fault_line}
+use Rattle.input_faults.specs.TextDetails.{detail_in_rules, numbered}
+use Rattle.input_faults.proofs.lines.add_lines_of_rules.Goals as goal
+
+pub loop-at-init : goal.loop-at-init
+loop-at-init g c =
+    let text = c.args.text.now in
+    let stands = c.in_ok-go_to.ensures.stands text c.new-cursor.ensures in
+    (search rules, stands, c.version_of-version.ensures ∙ ap version_of (stands.held ∙ ap (λ (n : ℕ). numbered n (records_of text)) c.in_ok-go_to.ensures.place))
+
+pub loop-at-preserved : goal.loop-at-preserved
+loop-at-preserved g c =
+    let (added, stands, known) = c.loop-at.invariant in
+    let text = c.args.text.now in
+    let place = c.loop-at.at-index in
+    let all = c.args.faults.now in
+    let lt : place < length all = omega arith in (
+      Adds-to (Adds-then added (c.in_ok-add_line_of_rules.ensures.added text stands known)) (flat_map-next_or (fault_line (detail_in_rules (records_of text))) all place _ lt),
+      c.in_ok-add_line_of_rules.ensures.stands text stands,
+      known,
+    )

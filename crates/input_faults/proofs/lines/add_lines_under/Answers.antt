@@ -1,0 +1,22 @@
+use Rattle.std.proofs.Common.{◌<◌, arith, length, rules}
+use Rattle.auction_terms.specs.Borrowed.{bytes_of}
+use Rattle.mps_text.proofs.Adding.{Adds-then, Adds-to}
+use Rattle.mps_text.proofs.Known.{flat_map-next_or}
+use Rattle.input_faults.specs.FaultLines.{fault_line}
+use Rattle.input_faults.specs.TextDetails.{detail_under}
+use Rattle.input_faults.proofs.lines.add_lines_under.Goals as goal
+
+pub loop-at-init : goal.loop-at-init
+loop-at-init g c = (search rules, c.in_ok-form.ensures.reads, rw c.within_limit.ensures at c.new-names.ensures)
+
+pub loop-at-preserved : goal.loop-at-preserved
+loop-at-preserved g c =
+    let (added, reads, stands) = c.loop-at.invariant in
+    let groups = c.args.groups.now in
+    let place = c.loop-at.at-index in
+    let all = c.args.faults.now in
+    let lt : place < length all = omega arith in (
+      Adds-to (Adds-then added (c.in_ok-add_line_under.ensures.added groups stands)) (flat_map-next_or (fault_line (detail_under c.args.rules.now (bytes_of c.args.forms.now) groups)) all place _ lt),
+      c.in_ok-add_line_under.ensures.form,
+      c.in_ok-add_line_under.ensures.names _ stands,
+    )
