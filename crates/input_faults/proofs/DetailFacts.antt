@@ -14,7 +14,7 @@ use Rattle.auction_terms.specs.declared.record_kinds.Version.{Version}
 use Rattle.auction_terms.specs.declared.rules_text.RulesFault.{RulesFault}
 use Rattle.bid_forms.specs.ToldOfRecords.{eligibility_told, form_place}
 use Rattle.bid_forms.specs.declared.form_text.FormFault.{FormFault}
-use Rattle.input_faults.specs.Details.{form_told, group_told, rules_told}
+use Rattle.input_faults.specs.Details.{form_fault_told, group_told, rules_told}
 use Rattle.input_faults.specs.FaultLines.{fault_line}
 use Rattle.input_faults.specs.InputFaults.{refusal_of}
 use Rattle.input_faults.specs.TextDetails.{detail_in_rules, detail_under, numbered, within_limit}
@@ -30,7 +30,7 @@ rules-known records n place told f version row is known at held = rw (is, known,
 
 pub form-known : (t : Terms) (forms : List (List ℕ)) (groups : List ℕ) (n number other place : ℕ) (told : Fault) (f : FormFault) (most : Option ℕ) (row : Record) → told ≡ fault.Form number f → other ≡ number
     → most ≡ eligibility_told t (numbered 1 (records_of (within_limit (numbered other forms)))) → place ≡ form_place f → row ≡ numbered place (records_of (within_limit (numbered other forms)))
-    → form_told t most row n f ≡ detail_under t forms groups n told
+    → form_fault_told t most row n f ≡ detail_under t forms groups n told
 form-known t forms groups n number other place told f most row is same known at held = rw (is, known, held, at, same) refl
 
 pub groups-known : (t : Terms) (forms : List (List ℕ)) (groups : List ℕ) (n number place : ℕ) (told : Fault) (f : GroupFault) (line name : List ℕ) → told ≡ fault.Groups f → number ≡ n

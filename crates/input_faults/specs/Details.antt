@@ -96,20 +96,20 @@ points_above (Some points) (Some most) = codes ": " ++ (decimal points ++ (codes
 points_above points most = []
 
 -- a fault at a field of a record of a form, whose bidder has this eligibility
-abbrev pub form_told : Terms → Option ℕ → Record → ℕ → FormFault → List ℕ
-form_told t most r n (form.Header place) = columns_told t r
-form_told t most r n (form.UnknownBidder place) = field_told n r (codes " is no bidder's name")
-form_told t most r n (form.FieldCount place) = count_told (length r) (length t.categories + 1)
-form_told t most r n (form.AmountText place) = field_told n r (codes " isn't 1 to 18 digits")
-form_told t most r n (form.AmountRange place) = field_told n r (limits_told 1 GREATEST_AMOUNT)
-form_told t most r n (form.AmountStep place) = field_told n r (codes " isn't a multiple of " ++ decimal t.step)
-form_told t most r n (form.QuantityText place) = field_told n r (codes " isn't 1 to 18 digits")
-form_told t most r n (form.QuantityRange place) = field_told n r (limits_told 0 GREATEST_QUANTITY)
-form_told t most r n (form.EmptyPackage place) = codes ": each quantity is 0"
-form_told t most r n (form.OverEligibility place) = points_above (points_told t r) most
-form_told t most r n (form.BelowReserve place) = option_map_or (λ least. field_told n r (codes " is below the reserve of " ++ decimal least)) (reserve_told t r) []
-form_told t most r n (form.TooManyBids place) = codes ": more than " ++ (decimal MOST_BIDS ++ codes " bids")
-form_told t most r n f = []
+abbrev pub form_fault_told : Terms → Option ℕ → Record → ℕ → FormFault → List ℕ
+form_fault_told t most r n (form.Header place) = columns_told t r
+form_fault_told t most r n (form.UnknownBidder place) = field_told n r (codes " is no bidder's name")
+form_fault_told t most r n (form.FieldCount place) = count_told (length r) (length t.categories + 1)
+form_fault_told t most r n (form.AmountText place) = field_told n r (codes " isn't 1 to 18 digits")
+form_fault_told t most r n (form.AmountRange place) = field_told n r (limits_told 1 GREATEST_AMOUNT)
+form_fault_told t most r n (form.AmountStep place) = field_told n r (codes " isn't a multiple of " ++ decimal t.step)
+form_fault_told t most r n (form.QuantityText place) = field_told n r (codes " isn't 1 to 18 digits")
+form_fault_told t most r n (form.QuantityRange place) = field_told n r (limits_told 0 GREATEST_QUANTITY)
+form_fault_told t most r n (form.EmptyPackage place) = codes ": each quantity is 0"
+form_fault_told t most r n (form.OverEligibility place) = points_above (points_told t r) most
+form_fault_told t most r n (form.BelowReserve place) = option_map_or (λ least. field_told n r (codes " is below the reserve of " ++ decimal least)) (reserve_told t r) []
+form_fault_told t most r n (form.TooManyBids place) = codes ": more than " ++ (decimal MOST_BIDS ++ codes " bids")
+form_fault_told t most r n f = []
 
 -- ---------- groups ----------
 

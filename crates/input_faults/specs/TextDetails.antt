@@ -16,7 +16,7 @@ use Rattle.auction_terms.specs.declared.limits.TheConstants.{TEXT_LIMIT}
 use Rattle.auction_terms.specs.declared.rules_text.RulesFault.{RulesFault}
 use Rattle.bid_forms.specs.ToldOfRecords.{eligibility_told, form_place}
 use Rattle.bid_forms.specs.declared.form_text.FormFault.{FormFault}
-use Rattle.input_faults.specs.Details.{form_told, group_told, rules_told}
+use Rattle.input_faults.specs.Details.{form_fault_told, group_told, rules_told}
 use Rattle.input_faults.specs.declared.fault.Fault.{Fault}
 use Rattle.input_faults.specs.declared.fault.Fault.TheVariants as fault
 use Rattle.requests.specs.declared.request.Request.{Request}
@@ -35,7 +35,7 @@ detail_of_rules records n f = rules_told (version_of (numbered 1 records)) (numb
 
 -- a fault of the records of a form
 abbrev pub detail_of_form : Terms → List Record → ℕ → FormFault → List ℕ
-detail_of_form t records n f = form_told t (eligibility_told t (numbered 1 records)) (numbered (form_place f) records) n f
+detail_of_form t records n f = form_fault_told t (eligibility_told t (numbered 1 records)) (numbered (form_place f) records) n f
 
 -- a fault of the lines of groups
 abbrev pub detail_of_groups : List (List ℕ) → ℕ → GroupFault → List ℕ

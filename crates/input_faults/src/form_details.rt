@@ -4,7 +4,7 @@ ghost use Rattle.std.specs.Prelude.{◌≡◌, [], codes, decimal, ◌++◌};
 ghost use Rattle.std.specs.Option.{option_map_or};
 ghost use Rattle.csv.specs.Records.{fields_of};
 ghost use Rattle.bid_forms.specs.ToldOfRecords.{points_told, reserve_told};
-ghost use Rattle.input_faults.specs.Details.{column_told, columns_told, field_told, form_told, points_above};
+ghost use Rattle.input_faults.specs.Details.{column_told, columns_told, field_told, form_fault_told, points_above};
 ghost use Rattle.input_faults.specs.inside.DetailText.{detail_text};
 
 use crate::detail::{Detail, of_field};
@@ -82,7 +82,7 @@ pub fn form_detail<'d>(
     number: usize,
     fault: FormFault,
 ) -> Detail<'d>
-    ensures { detail_text result ≡ form_told rules.now most (fields_of row.now) number fault }
+    ensures { detail_text result ≡ form_fault_told rules.now most (fields_of row.now) number fault }
 {
     match fault {
         FormFault::Header { .. } => columns_detail(rules, row),
