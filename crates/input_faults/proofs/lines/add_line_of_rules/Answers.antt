@@ -5,18 +5,18 @@ use Rattle.input_faults.proofs.DetailFacts.{line-with, of-no-rules, rules-known}
 use Rattle.input_faults.specs.TextDetails.{detail_in_rules}
 use Rattle.input_faults.proofs.lines.add_line_of_rules.Goals as goal
 
-pub returns-in-Rules : goal.returns-in-Rules
-returns-in-Rules g c = record {
+pub returns-in_ok-go_to-in-Rules : goal.returns-in_ok-go_to-in-Rules
+returns-in_ok-go_to-in-Rules g c = record {
   added = λ text stands known.
-      let after = c.in_ok-go_to.ensures.stands text stands in
+      let after = c.in_ok-go_to-in-Rules.ensures.stands text stands in
       Adds-to c.add_line.ensures (line-with (detail_in_rules (records_of text)) c.args.at _ (c.rules_detail-detail.ensures
-      ∙ rules-known (records_of text) c.args.at.field _ c.args.at.fault c.in-Rules.fault c.args.version _ c.in-Rules.is known (c.in_ok-go_to.ensures.place ∙ c.place.ensures) after.held));
-  stands = λ text stands. c.in_ok-go_to.ensures.stands text stands;
+      ∙ rules-known (records_of text) c.args.at.field _ c.args.at.fault c.in-Rules.fault c.args.version _ c.in-Rules.is known (c.in_ok-go_to-in-Rules.ensures.place ∙ c.place.ensures) after.held));
+  stands = λ text stands. c.in_ok-go_to-in-Rules.ensures.stands text stands;
 }
 
 pub returns-in_default : goal.returns-in_default
 returns-in_default g c = record {
   added = λ text stands known.
-      Adds-to c.add_line.ensures (line-with (detail_in_rules (records_of text)) c.args.at _ (of-no-rules (records_of text) c.args.at.field c.args.at.fault c.in_default.not-Rules));
+      Adds-to c.add_line-in_default.ensures (line-with (detail_in_rules (records_of text)) c.args.at _ (of-no-rules (records_of text) c.args.at.field c.args.at.fault c.in_default.not-Rules));
   stands = λ text stands. stands;
 }

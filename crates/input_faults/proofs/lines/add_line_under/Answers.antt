@@ -5,11 +5,11 @@ use Rattle.input_faults.proofs.DetailFacts.{form-known, groups-known, line-with,
 use Rattle.input_faults.specs.TextDetails.{detail_under}
 use Rattle.input_faults.proofs.lines.add_line_under.Goals as goal
 
-pub returns-in-Form : goal.returns-in-Form
-returns-in-Form g c =
+pub returns-in_ok-go_to-in-Form : goal.returns-in_ok-go_to-in-Form
+returns-in_ok-go_to-in-Form g c =
     let t = c.args.rules.now in
     let forms = bytes_of c.args.forms.now in
-    let went = c.in_ok-go_to.ensures in record {
+    let went = c.in_ok-go_to-in-Form.ensures in record {
       added = λ groups stands.
           Adds-to c.add_line.ensures (line-with (detail_under t forms groups) c.args.at _ (c.form_detail-detail.ensures
           ∙ form-known t forms groups c.args.at.field _ _ _ c.args.at.fault c.in-Form.fault _ _ c.in-Form.is went.number went.reads.eligibility (went.place ∙ c.place.ensures) went.reads.stands.held));
@@ -22,11 +22,11 @@ returns-in-Groups g c =
     let t = c.args.rules.now in
     let forms = bytes_of c.args.forms.now in record {
       added = λ groups stands.
-          let after = c.go_to.ensures.stands _ stands in
-          Adds-to c.add_line.ensures (line-with (detail_under t forms groups) c.args.at _ (c.group_detail-detail.ensures
-          ∙ groups-known t forms groups c.args.at.field _ _ c.args.at.fault c.in-Groups.fault _ _ c.in-Groups.is c.go_to.ensures.number (c.go_to.ensures.place ∙ c.place.ensures) after.line after.name));
+          let after = c.go_to-in-Groups.ensures.stands _ stands in
+          Adds-to c.add_line-in-Groups.ensures (line-with (detail_under t forms groups) c.args.at _ (c.group_detail-detail.ensures
+          ∙ groups-known t forms groups c.args.at.field _ _ c.args.at.fault c.in-Groups.fault _ _ c.in-Groups.is c.go_to-in-Groups.ensures.number (c.go_to-in-Groups.ensures.place ∙ c.place-in-Groups.ensures) after.line after.name));
       form = c.requires;
-      names = λ text stands. c.go_to.ensures.stands text stands;
+      names = λ text stands. c.go_to-in-Groups.ensures.stands text stands;
     }
 
 pub returns-in_default : goal.returns-in_default
@@ -34,7 +34,7 @@ returns-in_default g c =
     let t = c.args.rules.now in
     let forms = bytes_of c.args.forms.now in record {
       added = λ groups stands.
-          Adds-to c.add_line.ensures (line-with (detail_under t forms groups) c.args.at _ (of-neither t forms groups c.args.at.field c.args.at.fault c.in_default.not-Form c.in_default.not-Groups));
+          Adds-to c.add_line-in_default.ensures (line-with (detail_under t forms groups) c.args.at _ (of-neither t forms groups c.args.at.field c.args.at.fault c.in_default.not-Form c.in_default.not-Groups));
       form = c.requires;
       names = λ text stands. stands;
     }

@@ -10,15 +10,15 @@ use Rattle.input_faults.specs.TextDetails.{detail_in_input}
 use Rattle.input_faults.specs.declared.fault.Fault.{Fault}
 use Rattle.input_faults.proofs.lines.add_lines.Goals as goal
 
-pub returns-in-Ok : goal.returns-in-Ok
-returns-in-Ok g c =
+pub returns-in_ok-add_lines_in-in-Ok : goal.returns-in_ok-add_lines_in-in-Ok
+returns-in_ok-add_lines_in-in-Ok g c =
     let (none, hold) = c.in-Ok.ensures in
     Adds-to c.in_ok-add_lines_in-in-Ok.ensures (ap (λ (d : ℕ → Fault → List ℕ). flat_map (fault_line d) c.args.faults.now)
     (parts-detail c.args.request.now c.args.text.now c.in-Ok.parts _ _ _ none hold (c.only_text-rules.ensures ∙ ap (λ texts. only_text (bytes_of texts)) c.as_slice.ensures.value)
-    (ap bytes_of c.as_slice-3.ensures.value) (c.only_text-groups.ensures ∙ ap (λ texts. only_text (bytes_of texts)) c.as_slice-2.ensures.value)))
+    (ap bytes_of c.as_slice-in-Ok-2.ensures.value) (c.only_text-groups.ensures ∙ ap (λ texts. only_text (bytes_of texts)) c.as_slice-in-Ok.ensures.value)))
 
-pub returns-in-Err : goal.returns-in-Err
-returns-in-Err g c =
+pub returns-in_ok-check_part_fault-in-Err : goal.returns-in_ok-check_part_fault-in-Err
+returns-in_ok-check_part_fault-in-Err g c =
     let text = c.args.text.now in
     let is = part-told c.args.request.now text c.in-Err.fault c.in-Err.ensures c.in_ok-check_part_fault-in-Err.ensures in
     Adds-to c.add_plain_lines.ensures (ap (λ (d : ℕ → Fault → List ℕ). flat_map (fault_line d) c.args.faults.now) (sym (ap (λ (o : Option PartFault). detail_in_input o text) is)))

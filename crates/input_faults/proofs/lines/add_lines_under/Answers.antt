@@ -7,7 +7,7 @@ use Rattle.input_faults.specs.TextDetails.{detail_under}
 use Rattle.input_faults.proofs.lines.add_lines_under.Goals as goal
 
 pub loop-at-init : goal.loop-at-init
-loop-at-init g c = (search rules, c.in_ok-form.ensures.reads, rw c.within_limit.ensures at c.new-names.ensures)
+loop-at-init g c = (search rules, c.in_ok-form.ensures.reads, rw c.within_limit.ensures at c.new-names.ensures.stands)
 
 pub loop-at-preserved : goal.loop-at-preserved
 loop-at-preserved g c =
