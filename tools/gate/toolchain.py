@@ -8,8 +8,6 @@ import os
 import shutil
 import sys
 
-# A check holds one to three GB, and takes a tenth less time where these lie in large pages.
-LARGE_PAGES = "MIMALLOC_ALLOW_LARGE_OS_PAGES", "1"
 # What is used of rt. A toolchain whose rt lacks one of them runs its gate as it is.
 USED = ("main", "in_lanes", "processors", "free", "must_fail", "read_edit", "edits_of", "say", "STORE", "own_sum", "Crate.ci", "Crate.compile_by",
         "rtlib.help_of", "rtlib.PARTS", "rtlib.RATTLE", "rtlib.guarded")
@@ -22,7 +20,6 @@ def load():
     path = shutil.which("rt")
     if not path:
         return None
-    os.environ.setdefault(*LARGE_PAGES)
     sys.dont_write_bytecode = True
     loader = importlib.machinery.SourceFileLoader("rt", os.path.realpath(path))
     made = importlib.util.module_from_spec(importlib.util.spec_from_loader("rt", loader))
