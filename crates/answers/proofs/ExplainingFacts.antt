@@ -1,8 +1,8 @@
 -- What `explain` leaves.
-use Rattle.std.proofs.Common.{◌≡◌, ◌⊎◌, ◌∙◌, ℕ, Bool, true, false, List, [], Option, None, Some, Result, Ok, Err, ap, inl, inr, refl, subst, sym}
-use Rattle.std.specs.Prelude.{◌↔◌, IfErr, IfOk, IsErr, IsTrue, MatchBool, OnOk}
+use Rattle.std.proofs.Common.{◌≡◌, ◌⊎◌, ◌∙◌, ℕ, Bool, true, false, List, [], Option, Result, Ok, Err, ap, inl, inr, refl, subst, sym}
+use Rattle.std.specs.Prelude.{◌↔◌, IfErr, IfOk, IsErr, IsTrue, MatchBool}
 use Rattle.std.specs.Io.KnownBytes.{Appends}
-use Rattle.std.proofs.lemmas.Bool.{false≢true, true≢false}
+use Rattle.std.proofs.lemmas.Bool.{true≢false}
 use Rattle.answers.specs.Exact.{IsUnwritten, Writes}
 use Rattle.answers.specs.Answer.{answer}
 use Rattle.answers.specs.Runs.{IsAnswered, IsExplained, IsRefused, by_lines, by_text}
@@ -13,6 +13,7 @@ use Rattle.auction_terms.specs.Stages.{and_then}
 use Rattle.input_faults.proofs.ExplainFacts.{nothing-explained}
 use Rattle.input_faults.specs.Explained.{IsCutShort}
 use Rattle.input_faults.specs.FaultLines.{explanation}
+use Rattle.requests.specs.declared.request.Request.{Request}
 use Rattle.requests.specs.declared.request.Request.TheVariants.{Explain}
 
 -- where nothing is wrong, and bids aren't asked for, nothing is written
@@ -27,16 +28,11 @@ pub unasked : (bids faulty : Bool) (text : List ℕ) (taken taken' : Option (Lis
 unasked true faulty text taken taken' off sound both written = absurd (true≢false off)
 unasked false faulty text taken taken' off sound both written = nothing-written text (auction_told (Explain false) text) taken taken' refl (λ wrong. sym sound ∙ both.1 wrong) written
 
--- where bids are asked for, and nothing was put before
-pub told : (bids : Bool) (text : List ℕ) (before taken taken' : Option (List ℕ)) → bids ≡ true → before ≡ taken → Writes (answer (Explain true) text) before taken' → Writes (answer (Explain bids) text) taken taken'
-told true text before taken taken' on same written = subst (λ (t : Option (List ℕ)). Writes (answer (Explain true) text) t taken') same written
-told false text before taken taken' on same written = absurd (false≢true on)
-
-pub untold : (bids : Bool) (text : List ℕ) (before taken taken' : Option (List ℕ)) (failed failures failures' : ℕ) (r : Refusal) → bids ≡ true → before ≡ taken → failed ≡ failures → IsUnwritten (Explain true) text before taken' failed failures' r
-    → IsUnwritten (Explain bids) text taken taken' failures failures' r
-untold true text before taken taken' failed failures failures' r on same quiet unwritten =
-    subst (λ (n : ℕ). IsUnwritten (Explain true) text taken taken' n failures' r) quiet (subst (λ (t : Option (List ℕ)). IsUnwritten (Explain true) text t taken' failed failures' r) same unwritten)
-untold false text before taken taken' failed failures failures' r on same quiet unwritten = absurd (false≢true on)
+-- where nothing was put before
+pub untold : (asked : Request) (text : List ℕ) (before taken taken' : Option (List ℕ)) (failed failures failures' : ℕ) (r : Refusal) → before ≡ taken → failed ≡ failures → IsUnwritten asked text before taken' failed failures' r
+    → IsUnwritten asked text taken taken' failures failures' r
+untold asked text before taken taken' failed failures failures' r same quiet unwritten =
+    subst (λ (n : ℕ). IsUnwritten asked text taken taken' n failures' r) quiet (subst (λ (t : Option (List ℕ)). IsUnwritten asked text t taken' failed failures' r) same unwritten)
 
 -- what a text is explained by
 abbrev pub IsTextExplained : Bool → List ℕ → Option (List ℕ) → Option (List ℕ) → Bool → Type 0

@@ -3,7 +3,7 @@ use Rattle.std.proofs.Common.{◌≡◌, ◌∷◌, [], ℕ, false, List, Ok, re
 use Rattle.std.specs.List.{AllByRecursion}
 use Rattle.auction_terms.specs.Groups.{has}
 use Rattle.auction_input.specs.Auction.{Auction, auction_told}
-use Rattle.auction_input.specs.BookLeft.{program_for}
+use Rattle.group_winners.specs.Programs.{program_for}
 use Rattle.requests.specs.declared.request.Request.{Request}
 use Rattle.requests.specs.declared.request.Request.TheVariants as request
 use Rattle.auction_input.proofs.AnswerFacts.{ok-behind, ok-is}
@@ -17,7 +17,7 @@ use Rattle.outcome.specs.Report.{in_turn}
 use Rattle.answers.specs.GroupTexts.{program_text}
 use Rattle.answers.specs.Answer.{output_of}
 
-faithful-without : (asked : Request) (input : List ℕ) (auction : Auction) → auction_told asked input ≡ Ok auction → (group : List ℕ) → IsFaithfulToSale auction.sale group
+pub faithful-without : (asked : Request) (input : List ℕ) (auction : Auction) → auction_told asked input ≡ Ok auction → (group : List ℕ) → IsFaithfulToSale auction.sale group
 faithful-without asked input auction told group =
     let (lots, book) = auction-within asked input auction told in
     presolved_text_is_faithful auction.sale.lots auction.sale.book (has group) lots book

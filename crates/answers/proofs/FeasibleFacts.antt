@@ -1,70 +1,26 @@
 -- What `map` and `report` answer is feasible in the auction that the input tells.
-use Rattle.std.proofs.Common.{◌≡◌, ◌-◌, ◌+◌, ◌==◌, ◌∷◌, [], ℕ, Bool, true, false, List, Result, Ok, Err, arith, eqb-true, length, refl, subst, sym}
-use Rattle.std.specs.Prelude.{cond, nat_le, slice_index_or}
+use Rattle.std.proofs.Common.{◌≡◌, ◌-◌, ◌+◌, ◌==◌, ◌∷◌, [], ℕ, List, Ok, arith, eqb-true, length, refl, subst, sym}
+use Rattle.std.specs.Prelude.{nat_le, slice_index_or}
 use Rattle.std.specs.List.{AllZip, zip}
-use Rattle.auction_terms.specs.Allocations.{IsFeasible}
-use Rattle.auction_terms.specs.Groups.{has, starts_empty}
+use Rattle.auction_terms.specs.Groups.{starts_empty}
 use Rattle.auction_terms.specs.Limits.{IsBook}
-use Rattle.auction_terms.specs.FirstFault.{first_failed}
-use Rattle.auction_terms.specs.Stages.{each_in_turn, refused_as, unless}
+use Rattle.auction_terms.specs.Stages.{each_in_turn}
 use Rattle.auction_terms.specs.declared.choices.Choice.{Choice}
 use Rattle.auction_input.specs.Auction.{auction_told}
-use Rattle.auction_input.specs.BookLeft.{program_for}
 use Rattle.auction_input.specs.PartsTold.{only_text}
-use Rattle.auction_input.specs.declared.refusal.Refusal.{Refusal}
 use Rattle.auction_input.specs.declared.refusal.CountedPart.TheVariants as counted
 use Rattle.auction_input.specs.declared.refusal.Refusal.TheVariants as refusal
 use Rattle.requests.specs.declared.request.Request.TheVariants as request
-use Rattle.auction_input.proofs.AnswerFacts.{ok-behind, ok-is, ok-refused_as}
+use Rattle.auction_input.proofs.AnswerFacts.{ok-behind, ok-is}
 use Rattle.auction_input.proofs.WithinFacts.{auction-within}
-use Rattle.outcome.specs.PointAllocation.{allocation_of}
 use Rattle.outcome.specs.Report.{allocation_text, report_text}
 use Rattle.bid_desk.specs.Sale.{Sale}
-use Rattle.outcome.specs.Solution.{solution}
-use Rattle.outcome.proofs.BackLaws.{solutions_come_back}
-use Rattle.program_rows.specs.Program.{Table}
 use Rattle.answers.specs.FeasibleAnswers.{IsFeasibleWithout, MappedIsFeasible, ReportedIsFeasible}
-use Rattle.answers.specs.SolutionWinners.{solution_refused, winners_of_groups}
-use Rattle.answers.specs.inside.SolutionWinners.{winners}
+use Rattle.group_winners.specs.SolutionWinners.{winners_of_groups}
+use Rattle.group_winners.specs.inside.SolutionWinners.{winners}
 use Rattle.answers.specs.Answer.{output_of}
-
-pub when-counted : {A : Type 0} (test : Bool) (r : Result A Refusal) (e : Refusal) (x : A) → cond test r (Err e) ≡ Ok x → (test ≡ true) × (r ≡ Ok x)
-when-counted true r e x told = (refl, told)
-when-counted false r e x told = cc
-
--- two checks, in order
-module _ {A : Type 0} (e f : Refusal) where
-  abbrev checked : Bool → Bool → Result A Refusal → Result A Refusal
-  checked first second r = unless (first_failed ((first, e) ∷ (second, f) ∷ [])) r
-
-  pub when-both : (first second : Bool) (r : Result A Refusal) (x : A) → checked first second r ≡ Ok x → (first ≡ true) × (second ≡ true) × (r ≡ Ok x)
-  when-both true true r x told = (refl, refl, told)
-  when-both true false r x told = cc
-  when-both false second r x told = cc
-
-  pub first-refuses : (first second : Bool) (r : Result A Refusal) → first ≡ false → checked first second r ≡ Err e
-  first-refuses true second r failed = cc
-  first-refuses false second r failed = refl
-
-  pub second-refuses : (first second : Bool) (r : Result A Refusal) → first ≡ true → second ≡ false → checked first second r ≡ Err f
-  second-refuses true true r passed failed = cc
-  second-refuses true false r passed failed = refl
-  second-refuses false second r passed failed = cc
-
-  pub none-refuses : (first second : Bool) (r : Result A Refusal) → first ≡ true → second ≡ true → checked first second r ≡ r
-  none-refuses true true r passed passed_too = refl
-  none-refuses true false r passed passed_too = cc
-  none-refuses false second r passed passed_too = cc
-
--- what a solution wins without a group is feasible
-pub feasible-of : (sale : Sale) (number : ℕ) (group text : List ℕ) (a : List Choice) → IsBook sale.lots sale.book → winners sale number (group, text) ≡ Ok a → IsFeasibleWithout sale group a
-feasible-of sale number group text a within won =
-    let p : Table = program_for sale group in
-    let (point, point_is, wins) = ok-behind (refused_as (solution_refused p number) (solution p text)) _ a won in
-    let solved = ok-refused_as (solution_refused p number) (solution p text) point point_is in
-    let comes = solutions_come_back sale.lots sale.book (has group) text point within solved in
-    let is : allocation_of p point ≡ a = ok-is _ (allocation_of p point) a refl wins in
-    subst (λ (x : List Choice). IsFeasible sale.lots sale.book (has group) x) is comes.feasible
+use Rattle.group_winners.proofs.CheckFacts.{when-both, when-counted}
+use Rattle.group_winners.proofs.WinnersFeasible.{feasible-of}
 
 each-feasible : (sale : Sale) (n : ℕ) (groups texts : List (List ℕ)) (won : List (List Choice)) → IsBook sale.lots sale.book → length texts ≡ length groups
     → each_in_turn (winners sale) n (zip groups texts) ≡ Ok won → AllZip (IsFeasibleWithout sale) groups won

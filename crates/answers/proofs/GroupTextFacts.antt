@@ -3,11 +3,11 @@ use Rattle.std.proofs.Common.{◌≡◌, ◌<◌, ◌≤◌, ◌+◌, ◌-◌, �
 use Rattle.std.specs.Io.KnownBytes.{Appends, append_known}
 use denote.Ref.{MutBor}
 use Rattle.std.proofs.lemmas.List.{append-nil, length-take, take-append-drop, take-append-le, take_more}
-use Rattle.mps_text.specs.Sinks.{Counts, HasFailed, IsFront, SentFront}
-use Rattle.mps_text.specs.declared.writer.Writer.{Writer}
-use Rattle.mps_text.specs.Adds.{Adds, IsBroken, IsNew, IsSent}
-use Rattle.mps_text.proofs.Adding.{Adds-then, counts-new, fails-new, front-behind, sent-whole}
-use Rattle.mps_text.proofs.Known.{Counts-then, IsFront-piece, SentFront-from}
+use Rattle.byte_sinks.specs.Sinks.{Counts, HasFailed, IsFront, SentFront}
+use Rattle.byte_sinks.specs.declared.writer.Writer.{Writer}
+use Rattle.byte_sinks.specs.Adds.{Adds, IsBroken, IsNew, IsSent}
+use Rattle.byte_sinks.proofs.Adding.{Adds-then, counts-new, fails-new, front-behind, sent-whole}
+use Rattle.byte_sinks.proofs.Known.{Counts-then, IsFront-piece, SentFront-from}
 use Rattle.bid_desk.specs.Closing.{Closing}
 use Rattle.group_compiler.specs.Compiled.{GroupProgram}
 use Rattle.answers.specs.GroupTexts.{EndsIn, programs_bytes}

@@ -4,11 +4,11 @@ use Rattle.std.specs.Prelude.{[], IfErr, OnOk}
 use Rattle.std.proofs.lemmas.List.{append-nil}
 use denote.Ref.{MutBor}
 use Rattle.auction_input.specs.Line.{Puts}
-use Rattle.mps_text.proofs.Adding.{Adds-then, Adds-to, fails-new, sent-front, sent-whole}
-use Rattle.mps_text.specs.Adds.{Adds, IsBroken, IsNew, IsSent}
-use Rattle.mps_text.specs.Written.{written_of}
-use Rattle.mps_text.specs.declared.write_fault.WriteFault.{WriteFault}
-use Rattle.mps_text.specs.declared.writer.Writer.{Writer}
+use Rattle.byte_sinks.proofs.Adding.{Adds-then, Adds-to, fails-new, sent-front, sent-whole}
+use Rattle.byte_sinks.specs.Adds.{Adds, IsBroken, IsNew, IsSent}
+use Rattle.byte_sinks.specs.Written.{written_of}
+use Rattle.byte_sinks.specs.declared.write_fault.WriteFault.{WriteFault}
+use Rattle.byte_sinks.specs.declared.writer.Writer.{Writer}
 
 -- what a writer to a sink has put that was given the bytes and flushed
 put : {X : Type 0} {taken : X → Option (List ℕ)} {failures : X → ℕ} {s : MutBor X} {a b c : Writer X} {bytes : List ℕ} (r : Result (Unit {0}) WriteFault)

@@ -12,7 +12,7 @@ use Rattle.auction_terms.specs.Stages.{refused_as}
 use Rattle.auction_terms.specs.declared.choices.Choice.{Choice}
 use Rattle.auction_terms.proofs.OnlyLaws.{rivals_do_as_well}
 use Rattle.auction_input.specs.Auction.{Auction}
-use Rattle.auction_input.specs.BookLeft.{program_for}
+use Rattle.group_winners.specs.Programs.{program_for}
 use Rattle.auction_input.specs.declared.refusal.Refusal.TheVariants as refusal
 use Rattle.auction_input.proofs.AnswerFacts.{ok-behind, ok-is, ok-refused_as, unless-ok}
 use Rattle.auction_input.proofs.RecordFacts.{none-failed}
@@ -33,11 +33,11 @@ use Rattle.program_rows.proofs.FaithfulLaws.{same_choice}
 use Rattle.program_rows.proofs.OnlyPointLaws.{as-often, only_least_is_only}
 use Rattle.program_rows.specs.Faithful.{IsGreatest, back}
 use Rattle.program_rows.specs.Program.{Table}
-use Rattle.answers.specs.Claimed.{claims_told, first_program, of_tie, only_or_rival, tie_told, tied}
-use Rattle.answers.specs.SolutionWinners.{solution_refused, winners_by}
+use Rattle.group_winners.specs.Claimed.{claims_told, first_program, of_tie, only_or_rival, tie_told, tied}
+use Rattle.group_winners.specs.SolutionWinners.{solution_refused, winners_by}
 use Rattle.answers.specs.Verified.{Holds, IsGreatestWithout, IsSettledCost}
-use Rattle.answers.proofs.FeasibleFacts.{feasible-of}
-use Rattle.answers.proofs.WinningFacts.{won-by}
+use Rattle.group_winners.proofs.WinnersFeasible.{feasible-of}
+use Rattle.group_winners.proofs.WinningFacts.{won-by}
 
 -- one bidder after the other, the bids whose columns are 1 are the same bids
 same-bids : (p : Table) (point : List Bool) → IsPermutation (back p.columns point) (allocation_of p point)

@@ -4,9 +4,9 @@ use Rattle.std.proofs.lemmas.Bool.Decides.{leb_tells}
 use Rattle.program_faults.specs.declared.mps_fault.MpsFault.{MpsFault}
 use Rattle.mps_reader.specs.Answer.{IsRead}
 use Rattle.mps_reader.specs.declared.limits.TheConstants.{PROGRAM_LIMIT}
-use Rattle.program_rows.specs.Meaning.{meaning}
+use Rattle.mps_meaning.specs.Meaning.{meaning}
 use Rattle.program_rows.specs.Program.{Table}
-use Rattle.program_rows.specs.declared.fault.FaultKind.TheVariants as kind
+use Rattle.mps_meaning.specs.declared.fault.FaultKind.TheVariants as kind
 use Rattle.auction_input.proofs.InputTextFacts.{sized}
 
 abbrev no_program : MpsFault → Result Table MpsFault

@@ -10,7 +10,7 @@ use Rattle.auction_input.specs.declared.refusal.Refusal.{Refusal}
 use Rattle.auction_input.specs.ReadInput.{IsWhole}
 use Rattle.answers.specs.Runs.{IsAnswered, IsRefused, IsShown, IsUndone, by_memory, by_showing, by_text}
 use Rattle.answers.specs.inside.Runs.{IsUntold}
-use Rattle.auction_input.specs.Sold.{HasReadSold, HasSold}
+use Rattle.answers.specs.Sold.{HasReadSold, HasSold}
 use Rattle.requests.specs.declared.request.Request.{Request}
 
 module _ {T : Type 0} (asked : Request) (left left' : Option (List ℕ)) (reads reads' : ℕ) (taken taken' : Option (List ℕ)) (failures failures' : ℕ) (input text : List ℕ) (same : input ≡ text) (whole : IsWhole left left' text) where

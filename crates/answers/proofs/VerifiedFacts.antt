@@ -22,23 +22,24 @@ use Rattle.program_rows.proofs.FaithfulLaws.{presolved_is_faithful}
 use Rattle.program_rows.specs.Faithful.{IsGreatest}
 use Rattle.program_rows.specs.Program.{Table}
 use Rattle.auction_input.specs.Auction.{Auction, auction_told}
-use Rattle.auction_input.specs.BookLeft.{program_for}
-use Rattle.answers.specs.Certified.{bound_of, bounds_of, certified, shown}
+use Rattle.group_winners.specs.Programs.{program_for}
+use Rattle.group_winners.specs.Certified.{bound_of, bounds_of, certified, shown}
 use Rattle.answers.specs.Answer.{answer, output_of}
 use Rattle.auction_terms.specs.Stages.{and_then, each_in_turn}
 use Rattle.answers.specs.Exact.{Writes}
-use Rattle.answers.specs.Claimed.{claims_told}
+use Rattle.group_winners.specs.Claimed.{claims_told}
 use Rattle.answers.specs.Verified.{Holds, IsGreatestWithout, IsOnlyOutcome, IsOwnCost, IsTrueReport, UniqueIsOnly, VerifiedIsTrue, WritesTrueReport}
-use Rattle.answers.specs.SolutionWinners.{winners_of_groups}
-use Rattle.answers.specs.inside.SolutionWinners.{winners}
+use Rattle.group_winners.specs.SolutionWinners.{winners_of_groups}
+use Rattle.group_winners.specs.inside.SolutionWinners.{winners}
 use Rattle.auction_input.specs.declared.refusal.CountedPart.TheVariants as counted
 use Rattle.auction_input.specs.declared.refusal.Refusal.TheVariants as refusal
 use Rattle.requests.specs.declared.request.Request.TheVariants as request
 use Rattle.auction_input.proofs.AnswerFacts.{ok-behind, ok-is, unless-ok}
 use Rattle.auction_input.proofs.WithinFacts.{auction-within}
-use Rattle.answers.proofs.ClaimedFacts.{some-group, wins-first}
+use Rattle.group_winners.proofs.ClaimedFacts.{some-group, wins-first}
 use Rattle.answers.proofs.EndFacts.{no-report, no-tie}
-use Rattle.answers.proofs.FeasibleFacts.{feasible-of, when-both, when-counted}
+use Rattle.group_winners.proofs.CheckFacts.{when-both, when-counted}
+use Rattle.group_winners.proofs.WinnersFeasible.{feasible-of}
 use Rattle.answers.proofs.OnlyFacts.{claim-holds, settled-costs}
 
 -- ---- one group

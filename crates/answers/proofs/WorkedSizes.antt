@@ -1,12 +1,13 @@
 -- The sizes of a program, and a text that is none.
 use Rattle.std.specs.Prelude.{◌≡◌, refl, Ok, Err, codes}
 use Rattle.std.specs.Fmt.{digits}
-use Rattle.program_rows.specs.Lines.{fields, line_of}
-use Rattle.program_rows.specs.Described.{program}
-use Rattle.program_rows.specs.Faults.{fault}
-use Rattle.program_rows.specs.Meaning.{meaning}
-use Rattle.program_rows.specs.Numbers.{number}
-use Rattle.program_rows.specs.declared.fault.FaultKind.TheVariants as kind
+use Rattle.line_words.specs.Lines.{fields}
+use Rattle.mps_meaning.specs.MpsLines.{line_of}
+use Rattle.mps_meaning.specs.Described.{program}
+use Rattle.mps_meaning.specs.Faults.{fault}
+use Rattle.mps_meaning.specs.Meaning.{meaning}
+use Rattle.line_words.specs.Numbers.{number}
+use Rattle.mps_meaning.specs.declared.fault.FaultKind.TheVariants as kind
 use Rattle.answers.specs.Answer.{answer}
 use Rattle.auction_input.specs.declared.refusal.Refusal.TheVariants as refusal
 use Rattle.requests.specs.declared.request.Request.TheVariants.{Check}

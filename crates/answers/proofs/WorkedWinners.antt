@@ -6,7 +6,7 @@ use Rattle.csv.proofs.OnLiterals.{csv_on_literals}
 use Rattle.auction_terms.specs.FirstFault.{first_fault}
 use Rattle.outcome.specs.Solution.{solution}
 use Rattle.outcome.specs.Values.{is_near}
-use Rattle.program_rows.specs.Lines.{fields}
+use Rattle.line_words.specs.Lines.{fields}
 use Rattle.program_rows.specs.Spelling.{column_bid}
 use Rattle.answers.specs.Answer.{answer}
 use Rattle.auction_input.specs.declared.refusal.Refusal.TheVariants as refusal

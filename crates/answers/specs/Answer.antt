@@ -1,7 +1,7 @@
 -- The program as one function: what goes to standard output, or the first refusal.
 use Rattle.std.specs.Prelude.{◌-◌, ◌++◌, ℕ, List, [], Result, Ok, Err, if◌then◌else◌, length, nat_le, slice_index_or}
 use Rattle.auction_input.specs.Auction.{Auction, auction_told}
-use Rattle.auction_input.specs.BookLeft.{program_for}
+use Rattle.group_winners.specs.Programs.{program_for}
 use Rattle.auction_input.specs.PartsTold.{only_text}
 use Rattle.auction_input.specs.declared.refusal.Refusal.TheVariants as refusal
 use Rattle.auction_input.specs.declared.refusal.Refusal.{Refusal}
@@ -12,11 +12,11 @@ use Rattle.left_out.specs.Lines.{left_out_lines}
 use Rattle.mps_text.specs.Text.{text}
 use Rattle.outcome.specs.Report.{allocation_text, in_turn, report_text}
 use Rattle.outcome.specs.Uniqueness.{uniqueness_text}
-use Rattle.answers.specs.Certified.{certified}
-use Rattle.answers.specs.Claimed.{claims_told}
+use Rattle.group_winners.specs.Certified.{certified}
+use Rattle.group_winners.specs.Claimed.{claims_told}
 use Rattle.answers.specs.GroupTexts.{program_text}
 use Rattle.answers.specs.Sizes.{program_told, sizes_text}
-use Rattle.answers.specs.SolutionWinners.{winners_by, winners_of_groups}
+use Rattle.group_winners.specs.SolutionWinners.{winners_by, winners_of_groups}
 
 -- what a command writes of an auction; where none is named, it is `text`
 abbrev pub output_of : Request → Auction → Result (List ℕ) Refusal

@@ -1,26 +1,20 @@
 -- What a command leaves, by what is told: the whole output, or the first refusal.
-use Rattle.std.specs.Prelude.{◌≡◌, ◌⊎◌, ◌+◌, ◌∷◌, ℕ, Bool, List, [], ℤ, Option, Some, Result, Ok, length, slice_get, slice_index_or, take}
+use Rattle.std.specs.Prelude.{◌≡◌, ◌⊎◌, ℕ, List, Option, Result, Ok, length}
 use Rattle.std.specs.Io.KnownBytes.{Appends}
 use Rattle.auction_input.specs.Auction.{Auction, auction_told}
 use Rattle.auction_input.specs.Refused.{Refuses}
 use Rattle.auction_input.specs.declared.refusal.Refusal.{Refusal}
 use Rattle.auction_input.specs.Settled.{IsUnsettled}
-use Rattle.auction_terms.specs.Stages.{each_in_turn}
 use Rattle.auction_input.specs.declared.refusal.Refusal.TheVariants as refusal
 use Rattle.requests.specs.declared.request.Request.TheVariants as request
 use Rattle.requests.specs.declared.request.Request.{Request}
 use Rattle.auction_terms.specs.declared.choices.Choice.{Choice}
-use Rattle.mps_text.specs.Sinks.{HasFailed, SentFront}
-use Rattle.mps_text.specs.declared.write_fault.WriteFault.TheVariants as write
-use Rattle.program_faults.specs.declared.certificate_fault.FaultKind.TheVariants as certificate
-use Rattle.optimality.specs.Only.{IsLargeOnlyAt}
-use Rattle.optimality.specs.Sizes.{IsLargeAt}
-use Rattle.outcome.specs.Solution.{solution}
-use Rattle.program_rows.specs.Program.{Table}
+use Rattle.byte_sinks.specs.Sinks.{HasFailed, SentFront}
+use Rattle.byte_sinks.specs.declared.write_fault.WriteFault.TheVariants as write
 use Rattle.answers.specs.Answer.{answer}
-use Rattle.answers.specs.Certified.{bounds_of, certified, shown}
-use Rattle.answers.specs.Claimed.{first_program}
-use Rattle.answers.specs.SolutionWinners.{winners_of_groups}
+use Rattle.group_winners.specs.Certified.{IsTooWide, bounds_of, certified}
+use Rattle.group_winners.specs.Claimed.{IsTooWideClaim}
+use Rattle.group_winners.specs.SolutionWinners.{winners_of_groups}
 
 -- the output that is told was written, and nothing else
 abbrev pub Writes : Result (List ℕ) Refusal → Option (List ℕ) → Option (List ℕ) → Type 0
@@ -30,18 +24,6 @@ Writes told taken taken' = (out : List ℕ) × (told ≡ Ok out) × Appends take
 pub data Ends (told : Result (List ℕ) Refusal) (taken taken' : Option (List ℕ)) (failures failures' : ℕ) : Refusal → Type 0 where
   by_refusal : {r : Refusal} → Refuses told r → taken' ≡ taken → Ends told taken taken' failures failures' r
   by_put : {written : ℕ} → (out : List ℕ) → told ≡ Ok out → SentFront taken taken' out written → HasFailed failures failures' → Ends told taken taken' failures failures' (refusal.Write (write.Sink written))
-
--- behind some certificates that show what they are to comes one that isn't judged, since the leaf at this line has a size of 2^126 or more
-abbrev pub IsTooWide : List (Table × ℤ × List ℕ) → Refusal → Type 0
-IsTooWide bounds r =
-    (before : ℕ) × (line : ℕ) × (bound : Table × ℤ × List ℕ) × (slice_get bounds before ≡ Some bound) × ((all : List (Unit {0})) × (each_in_turn shown 1 (take before bounds) ≡ Ok all))
-    × IsLargeAt bound.0 bound.1 bound.2 line × (r ≡ refusal.Certificate (before + 1) (record { line = line; kind = certificate.TooLarge }))
-
--- the same of the one certificate that is to show the winners to be the only ones
-abbrev pub IsTooWideClaim : Auction → Refusal → Type 0
-IsTooWideClaim auction r =
-    (text : List ℕ) × (line : ℕ) × (auction.uniques ≡ text ∷ []) × (auction.ties ≡ [])
-    × ((point : List Bool) × (solution (first_program auction) (slice_index_or auction.solutions 0 []) ≡ Ok point) × IsLargeOnlyAt (first_program auction) point text line) × (r ≡ refusal.Unique (record { line = line; kind = certificate.TooLarge }))
 
 -- behind solutions that are taken it is a certificate of the groups, or behind all of these that of the claim
 abbrev pub IsBeyondSums : Auction → Refusal → Type 0

@@ -2,7 +2,7 @@
 use Rattle.std.specs.Prelude.{◌≡◌, ℕ, false, List, Ok}
 use Rattle.std.specs.List.{AllByRecursion}
 use Rattle.auction_input.specs.Auction.{Auction, auction_told}
-use Rattle.auction_input.specs.BookLeft.{program_for}
+use Rattle.group_winners.specs.Programs.{program_for}
 use Rattle.requests.specs.declared.request.Request.TheVariants.{Compile, Text}
 use Rattle.auction_terms.specs.Groups.{has}
 use Rattle.mps_text.specs.FaithfulText.{IsFaithfulText}

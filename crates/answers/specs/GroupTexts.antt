@@ -2,10 +2,10 @@
 use Rattle.std.specs.Prelude.{◌≡◌, ◌≤◌, ◌<◌, ◌-◌, ⊤, ℕ, List, ◌++◌, Option, None, Some, codes, length, take, min, ◌^◌}
 use Rattle.bid_desk.specs.Closing.{Closing}
 use Rattle.group_compiler.specs.Compiled.{GroupProgram}
-use Rattle.mps_text.specs.Sinks.{HasFailed}
+use Rattle.byte_sinks.specs.Sinks.{HasFailed}
 use Rattle.mps_text.specs.Text.{text}
 use Rattle.outcome.specs.Report.{heading, in_turn}
-use Rattle.auction_input.specs.BookLeft.{program_for}
+use Rattle.group_winners.specs.Programs.{program_for}
 use Rattle.bid_desk.specs.Sale.{Sale, sale_of}
 use Rattle.answers.specs.declared.run_fault.RunFault.TheVariants as fault
 use Rattle.answers.specs.declared.run_fault.RunFault.{RunFault}

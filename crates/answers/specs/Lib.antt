@@ -1,12 +1,10 @@
 pub mod Answer
-pub mod Certified
-pub mod Claimed
 pub mod Exact
 pub mod FaithfulAnswers
+pub mod Sold
 pub mod FeasibleAnswers
 pub mod GroupTexts
 pub mod Runs
 pub mod Sizes
 pub mod Verified
-pub mod SolutionWinners
 pub mod inside

@@ -4,10 +4,10 @@ use Rattle.auction_input.specs.declared.refusal.Refusal.TheVariants as refusal
 use Rattle.auction_input.specs.declared.refusal.Refusal.{Refusal}
 use Rattle.auction_terms.specs.Stages.{refused_as}
 use Rattle.mps_reader.specs.declared.limits.TheConstants.{PROGRAM_LIMIT}
-use Rattle.program_rows.specs.Meaning.{meaning}
+use Rattle.mps_meaning.specs.Meaning.{meaning}
 use Rattle.program_rows.specs.Program.{Table, TableColumn}
-use Rattle.program_rows.specs.declared.fault.FaultKind.TheVariants as kind
-use Rattle.program_rows.specs.declared.fault.FaultKind.{FaultKind}
+use Rattle.mps_meaning.specs.declared.fault.FaultKind.TheVariants as kind
+use Rattle.mps_meaning.specs.declared.fault.FaultKind.{FaultKind}
 
 -- the program that an input is the text of, its size included, or its first faulty line
 abbrev pub program_told : List ℕ → Result Table Refusal

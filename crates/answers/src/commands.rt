@@ -1,11 +1,13 @@
-//! The commands: the input is read, and the command that is asked for answers.
+//! The commands: the auction that the input tells is read here, once for all of them; the one that is asked for writes of it.
 
 ghost use Rattle.std.specs.Prelude.{◌≡◌, ◌≢◌, Bool, IfErr, OnOk};
-ghost use Rattle.answers.specs.Answer.{answer};
+ghost use Rattle.answers.specs.Answer.{answer, output_of};
 ghost use Rattle.answers.specs.Exact.{IsUnwritten, Writes};
 ghost use Rattle.requests.specs.Requests.{IsRequestWithinLimits};
 ghost use Rattle.answers.specs.Runs.{IsAnswered, IsRefused};
-ghost use Rattle.auction_input.specs.Sold.{HasReadSold, HasSold};
+ghost use Rattle.answers.specs.Sold.{HasReadSold, HasSold};
+ghost use Rattle.answers.specs.inside.Output.{IsWithoutOutput};
+ghost use Rattle.auction_input.specs.Settled.{held};
 
 mod check;
 mod compile;
@@ -16,14 +18,15 @@ mod text;
 pub mod verify;
 
 use crate::commands::check::check;
-use crate::commands::compile::compile;
-use crate::commands::map::map;
-use crate::commands::report::write_report;
-use crate::commands::text::write_text;
-use crate::commands::verify::verify;
-use auction_input::{Refusal, Source, read_input};
+use crate::commands::compile::write_programs_of;
+use crate::commands::explain::write_bids_of;
+use crate::commands::map::write_winners;
+use crate::commands::report::write_costs;
+use crate::commands::text::write_program_of_all;
+use crate::commands::verify::write_verified;
+use auction_input::{Auction, Refusal, Source, read_auction, read_input};
+use byte_sinks::Sink;
 pub use explain::explain_input;
-use mps_text::Sink;
 use requests::Request;
 use std::io::Read;
 use std::sync::Wait;
@@ -52,15 +55,14 @@ pub fn answer<R: Threads + Wait + Sync + AllocGlobal, I: Read, S: Sink>(
     answer_text(rt, request, text.as_slice(), out)
 }
 
-// Writes what is asked for of a text.
+// Writes what is asked for of a text. That of `check` tells a program, and the others' an auction.
 fn answer_text<R: Threads + Wait + Sync + AllocGlobal, S: Sink>(
     rt: &R,
     request: Request,
     text: &[u8],
     out: &mut S,
 ) -> Result<(), Refusal>
-    requires limits { IsRequestWithinLimits request }
-    requires answered { (bids : Bool) → request ≢ Request.Explain bids }
+    requires { IsRequestWithinLimits request }
     ensures written { OnOk result (Writes (answer request text.now) (S.taken out.old)
         (S.taken out.new)) }
     ensures sold { OnOk result (HasSold request text.now) }
@@ -69,12 +71,54 @@ fn answer_text<R: Threads + Wait + Sync + AllocGlobal, S: Sink>(
         (S.failures out.old) (S.failures out.new)) }
 {
     match request {
-        Request::Text => write_text(rt, text, out),
-        Request::Compile { workers } => compile(rt, text, workers, out),
         Request::Check => check(rt.alloc(), text, out),
-        Request::Map { group } => map(rt, text, group, out),
-        Request::Report { workers } => write_report(rt, text, workers, out),
-        Request::Verify { workers } => verify(rt, text, workers, out),
-        Request::Explain { bids: _ } => unreachable!(),
+        request => answer_auction(rt, &request, text, out),
+    }
+}
+
+// Reads the auction that a text tells, and writes what is asked for of it.
+fn answer_auction<R: Threads + Wait + Sync + AllocGlobal, S: Sink>(
+    rt: &R,
+    request: &Request,
+    text: &[u8],
+    out: &mut S,
+) -> Result<(), Refusal>
+    requires limits { IsRequestWithinLimits request.now }
+    requires auction { request.now ≢ Request.Check }
+    ensures written { OnOk result (Writes (answer request.now text.now) (S.taken out.old)
+        (S.taken out.new)) }
+    ensures sold { OnOk result (HasSold request.now text.now) }
+    ensures succeeded { OnOk result (S.failures out.new ≡ S.failures out.old) }
+    ensures refused { IfErr result (IsUnwritten request.now text.now (S.taken out.old)
+        (S.taken out.new) (S.failures out.old) (S.failures out.new)) }
+{
+    let auction = read_auction(rt, request, text)?;
+    write_output(rt, request, &auction, out)
+}
+
+// Writes what is asked for of an auction.
+fn write_output<R: Threads + Wait + Sync + AllocGlobal, S: Sink>(
+    rt: &R,
+    request: &Request,
+    auction: &Auction<'_>,
+    out: &mut S,
+) -> Result<(), Refusal>
+    requires limits { IsRequestWithinLimits request.now }
+    requires auction { request.now ≢ Request.Check }
+    ensures written { OnOk result (Writes (output_of request.now (held auction.now))
+        (S.taken out.old) (S.taken out.new)) }
+    ensures succeeded { OnOk result (S.failures out.new ≡ S.failures out.old) }
+    ensures refused { IfErr result (IsWithoutOutput request.now (held auction.now)
+        (S.taken out.old) (S.taken out.new) (S.failures out.old) (S.failures out.new)) }
+{
+    match *request {
+        Request::Text => write_program_of_all(rt, auction, out),
+        Request::Compile { workers } => write_programs_of(rt, auction, workers, out),
+        Request::Map { group } => write_winners(rt, auction, group, out),
+        Request::Report { workers } => write_costs(rt, auction, workers, out),
+        Request::Verify { workers } => write_verified(rt, auction, workers, out),
+        Request::Explain { bids: true } => write_bids_of(auction, out),
+        Request::Explain { bids: false } => Ok(()),
+        Request::Check => unreachable!(),
     }
 }

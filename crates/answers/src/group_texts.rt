@@ -5,11 +5,11 @@ ghost use Rattle.std.specs.Io.KnownBytes.{Appends};
 ghost use Rattle.auction_terms.specs.Terms.{lots_in};
 ghost use Rattle.bid_desk.specs.Closing.{book_of};
 ghost use Rattle.group_compiler.specs.Compiled.{compiled, program_without};
-ghost use Rattle.group_pages.specs.Pages.{pages_of};
-ghost use Rattle.mps_text.specs.Adds.{Adds};
-ghost use Rattle.mps_text.specs.Sinks.{HasFailed, SentFront};
+ghost use Rattle.group_compiler.specs.Pages.{pages_of};
+ghost use Rattle.byte_sinks.specs.Adds.{Adds};
+ghost use Rattle.byte_sinks.specs.Sinks.{HasFailed, SentFront};
 ghost use Rattle.mps_text.specs.Text.{text};
-ghost use Rattle.mps_text.specs.Written.{written_of};
+ghost use Rattle.byte_sinks.specs.Written.{written_of};
 ghost use Rattle.outcome.specs.Report.{heading};
 ghost use Rattle.bid_desk.specs.Sale.{sale_of};
 ghost use Rattle.answers.specs.declared.run_fault.RunFault.TheVariants.{Sink as FaultOfSink};
@@ -18,9 +18,9 @@ ghost use Rattle.answers.specs.GroupTexts.{FailsAsTold, StopsAsTold, program_byt
 use crate::run_fault::RunFault;
 use auction_terms::{Group, Groups};
 use bid_desk::ClosedBook;
-use group_pages::{Pages, add_group_text};
+use byte_sinks::{Sink, WriteFault, Writer};
+use group_compiler::{Pages, add_group_text};
 use itoa::Buffer;
-use mps_text::{Sink, WriteFault, Writer};
 use outcome::add_names_line;
 
 // Adds what stands before the names in the line of group k.

@@ -2,10 +2,10 @@
 
 ghost use Rattle.std.specs.Prelude.{◌≡◌, IfErr, OnErr, OnOk, flat_map};
 ghost use Rattle.std.specs.Io.KnownBytes.{Appends};
-ghost use Rattle.mps_text.specs.Sinks.{HasFailed, SentFront};
-ghost use Rattle.mps_text.specs.Written.{written_of};
+ghost use Rattle.byte_sinks.specs.Sinks.{HasFailed, SentFront};
+ghost use Rattle.byte_sinks.specs.Written.{written_of};
 
-use mps_text::{Sink, WriteFault, Writer};
+use byte_sinks::{Sink, WriteFault, Writer};
 
 /// Writes the pieces, one after the other. It takes no memory.
 pub fn write_pieces<S: Sink>(pieces: &[&[u8]], sink: &mut S) -> Result<(), WriteFault>

@@ -2,13 +2,13 @@
 
 ghost use Rattle.std.specs.Prelude.{◌≡◌, ◌-◌, ◌^◌, IfErr, OnErr, OnOk, length, min, sum_by};
 ghost use Rattle.std.specs.Io.KnownBytes.{Appends};
-ghost use Rattle.mps_text.specs.Sinks.{HasFailed, SentFront};
-ghost use Rattle.mps_text.specs.Written.{written_of};
+ghost use Rattle.byte_sinks.specs.Sinks.{HasFailed, SentFront};
+ghost use Rattle.byte_sinks.specs.Written.{written_of};
 ghost use Rattle.answers.specs.Sizes.{sizes_text};
 
 use crate::pieces::write_pieces;
+use byte_sinks::{Sink, WriteFault};
 use itoa::Buffer;
-use mps_text::{Sink, WriteFault};
 use program_rows::Program;
 
 // How many entries the columns have outside the objective.

@@ -3,11 +3,11 @@
 ghost use Rattle.std.specs.Prelude.{◌++◌, ◌∷◌, [], codes};
 ghost use Rattle.auction_input.specs.Line.{Puts, line};
 ghost use Rattle.auction_input.specs.Told.{told_text};
-ghost use Rattle.mps_text.specs.Adds.{Adds};
+ghost use Rattle.byte_sinks.specs.Adds.{Adds};
 
 use auction_input::{Refusal, Told};
+use byte_sinks::{Sink, Writer};
 use input_faults::add_wording;
-use mps_text::{Sink, Writer};
 
 // Adds the line of what is told.
 fn add_line<S: Sink>(writer: &mut Writer<'_, S>, told: &Told<'_>)

@@ -20,6 +20,7 @@ use Rattle.auction_terms.specs.Borrowed.{bytes_of}
 use Rattle.auction_input.specs.Parts.{Hold, Part, TellsParts, cut_lines, input_fault, parts_in, parts_named}
 use Rattle.auction_input.specs.PartsTold.{only_text, parts_told}
 use Rattle.auction_input.specs.Plan.{miscounted}
+use Rattle.auction_input.specs.inside.Auctions.{IsCut, RefusesRun, Tell}
 use Rattle.auction_terms.specs.Stages.{and_then, each_in_turn, refused_as, unless}
 use Rattle.auction_input.specs.Submissions.{AreSubmitted, forms_of}
 use Rattle.auction_input.specs.TextsTold.{form_told, groups_told, terms_told}
@@ -38,10 +39,6 @@ abbrev Text : Type 0
 Text = Bor (List ℕ)
 
 -- ---- parts
-
--- the parts of an input, whose bytes are held by their names
-abbrev pub IsCut : Request → List ℕ → Parts → Type 0
-IsCut asked input held = (parts : List Part) × (parts_told asked input ≡ Ok parts) × Hold held parts
 
 abbrev count-of : Request → List Part → Option CountedPart
 count-of asked parts = miscounted asked (length (parts_named (codes "%rules") parts)) (length (parts_named (codes "%groups") parts)) (length (parts_named (codes "%solution") parts))
@@ -145,10 +142,20 @@ module _ (asked : Request) (input : List ℕ) (held : Parts) (cut : IsCut asked 
             next _ _ _ _ cut.1 (next _ _ _ _ rules-are (next _ _ _ _ forms-are (next _ _ _ _ groups-are (ap told-by accepted))))
             ∙ ap (λ (rest : Rest). Ok (auction_of t forms groups rest)) (rest-same held cut.0 cut.2)
 
-        -- what the round leaves is a matter of the desk, or of memory
-        pub round-refused : first_fault one_too_many [] forms ≡ None → asked ≢ request.Check → (f : RoundFault) → RefusesAuction asked input (refusal.Round f)
-        round-refused accepted reads round.OutOfMemory = inl (inr refl)
-        round-refused accepted reads round.WrongAnswer = inr (reads, auction_of t forms groups (rest_held held), auction-is accepted, refl)
+  -- the auction that parts tell
+  pub told-is : (t : Terms) (forms : List Offers) (groups : List (List ℕ)) (told : Tell held t forms groups) → auction_told asked input ≡ Ok (auction_of t forms groups (rest_held held))
+  told-is t forms groups told = auction-is t told.rules forms told.each groups told.known told.accepted
+
+  -- a round that leaves no book leaves no auction
+  pub run-refused : asked ≢ request.Check → (r : Refusal) → RefusesRun held r → RefusesAuction asked input r
+  run-refused reads r (inl refused) = inl (refused asked input cut)
+  run-refused reads r (inr unanswered) =
+      inr (reads, auction_of unanswered.t unanswered.forms unanswered.groups (rest_held held), told-is unanswered.t unanswered.forms unanswered.groups unanswered.told, unanswered.is)
+
+-- what the round leaves is a matter of the desk, or of memory
+pub round-refused : (held : Parts) (t : Terms) (forms : List Offers) (groups : List (List ℕ)) → Tell held t forms groups → (f : RoundFault) → RefusesRun held (refusal.Round f)
+round-refused held t forms groups told round.OutOfMemory = inl (λ asked input cut. inr refl)
+round-refused held t forms groups told round.WrongAnswer = inr (record { t = t; forms = forms; groups = groups; told = told; is = refl })
 
 -- ---- the book
 

@@ -11,7 +11,7 @@ use Rattle.auction_terms.specs.RulesText as rules_text
 use Rattle.auction_terms.specs.Terms.{Terms}
 use Rattle.auction_terms.specs.declared.groups_text.GroupFault.{GroupFault}
 use Rattle.auction_terms.specs.declared.groups_text.GroupFault.TheVariants as group_fault
-use Rattle.auction_terms.specs.declared.limits.TheConstants.{TEXT_LIMIT}
+use Rattle.auction_limits.specs.declared.limits.TheConstants.{TEXT_LIMIT}
 use Rattle.auction_terms.specs.declared.rules.Bidder.{Bidder}
 use Rattle.auction_terms.specs.declared.rules_text.RulesFault.{RulesFault}
 use Rattle.auction_terms.specs.declared.rules_text.RulesFault.TheVariants as rules_fault

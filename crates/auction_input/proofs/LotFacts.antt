@@ -14,7 +14,7 @@ use Rattle.auction_terms.specs.RulesText.{category_of, entries_of, entry_fault, 
 use Rattle.auction_terms.specs.inside.RulesText.{member_of, pool_of}
 use Rattle.auction_terms.specs.Terms.{Terms, lots_in}
 use Rattle.auction_terms.specs.inside.Terms.{cap_of}
-use Rattle.auction_terms.specs.declared.limits.TheConstants.{GREATEST_AMOUNT, GREATEST_QUANTITY, GREATEST_VALUE, GREATEST_WEIGHT, MOST_CATEGORIES, MOST_POOLS}
+use Rattle.auction_limits.specs.declared.limits.TheConstants.{GREATEST_AMOUNT, GREATEST_QUANTITY, GREATEST_VALUE, GREATEST_WEIGHT, MOST_CATEGORIES, MOST_POOLS}
 use Rattle.auction_terms.specs.declared.record_kinds.RecordKind.TheVariants as kind
 use Rattle.auction_terms.specs.declared.record_kinds.Version.{Version}
 use Rattle.auction_terms.specs.declared.rules.Category.{Category}

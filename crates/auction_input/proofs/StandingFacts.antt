@@ -24,7 +24,10 @@ use Rattle.bid_desk.specs.Holding.{ChairOwn, IsCallerOf, SessionOwn}
 use Rattle.bid_desk.specs.Sessions.{IsSessionOf}
 use Rattle.bid_desk.specs.Settlement.{IsSettled, OwnIs, is_named}
 use Rattle.auction_input.specs.Submissions.{AreAccepted, AreSubmitted, forms_of}
-use Rattle.auction_input.specs.inside.Submissions.{HasSubmitted}
+use Rattle.std.specs.declared.alloc.Global.{Global}
+use Rattle.std.specs.declared.sync.Arc.{Arc}
+use Rattle.std.specs.declared.vec.Vec.{Vec}
+use Rattle.auction_input.specs.inside.Submissions.{AreByBidder, HasSubmitted, HaveSubmitted, HoldsLists}
 
 abbrev History : Type 0
 History = List (Entry Offers)
@@ -144,8 +147,13 @@ settled-submitted book chair sessions forms terms settled submitted =
       standing = λ b least most. stands book.rules b book.history (forms_of b forms) settled.callers (first b (first-known book.rules terms b least most)) (others b);
     }
 
-pub round-submitted : {E : Type 0} (result : Result Closing E) (t : Terms) (sessions : List SessionOwn) (forms : List Offers) → AreTerms t → IfOk result (λ book. book.rules ≡ t)
-    → IfOk result (λ book. (chair : ChairOwn) × IsSettled t book.history chair sessions) → All (HasSubmitted forms) sessions → IfOk result (AreSubmitted forms)
-round-submitted (Ok book) t sessions forms terms rules settled submitted =
-    settled-submitted book settled.0 sessions forms (subst AreTerms (sym rules) terms) (subst (λ (u : Terms). IsSettled u book.history settled.0 sessions) (sym rules) settled.1) submitted
-round-submitted (Err e) t sessions forms terms rules settled submitted = tt
+pub round-submitted : {E : Type 0} (result : Result Closing E) (t : Terms) (chair : ChairOwn) (sessions : List SessionOwn) (lists : List (Vec (Arc Offers Global) Global)) → AreTerms t → IfOk result (λ book. book.rules ≡ t)
+    → IfOk result (λ book. IsSettled t book.history chair sessions) → HaveSubmitted lists sessions → IfOk result (HoldsLists lists)
+round-submitted (Ok book) t chair sessions lists terms rules settled submitted =
+    λ forms by. settled-submitted book chair sessions forms (subst AreTerms (sym rules) terms) (subst (λ (u : Terms). IsSettled u book.history chair sessions) (sym rules) settled) (submitted forms by)
+round-submitted (Err e) t chair sessions lists terms rules settled submitted = tt
+
+-- the book holds the forms of which the lists are
+pub forms-held : {E : Type 0} (result : Result Closing E) (forms : List Offers) (lists : List (Vec (Arc Offers Global) Global)) → AreByBidder forms lists → IfOk result (HoldsLists lists) → IfOk result (AreSubmitted forms)
+forms-held (Ok book) forms lists by holds = holds forms by
+forms-held (Err e) forms lists by holds = tt

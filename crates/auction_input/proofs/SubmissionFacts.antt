@@ -23,7 +23,7 @@ use Rattle.bid_desk.specs.Opening.{all_sessions, fresh_session, sessions_of}
 use Rattle.bid_forms.specs.Offers.{Meets, Offers}
 use Rattle.auction_input.specs.Submissions.{AreAccepted, IsAccepted, forms_of}
 use Rattle.auction_input.specs.declared.round.RoundFault.{RoundFault}
-use Rattle.auction_input.specs.inside.Submissions.{AreByBidder, AreFormsOf, HasSubmitted, HaveOneMore, ComesTo, IsFirstJob, IsFormOf, IsIdle, JobOwn, form_values, forms_in}
+use Rattle.auction_input.specs.inside.Submissions.{AreByBidder, AreFormsOf, HasSubmitted, HaveOneMore, HaveSubmitted, ComesTo, IsFirstJob, IsFormOf, IsIdle, JobOwn, form_values, forms_in}
 
 abbrev Shared : Type 0
 Shared = Arc Offers Global
@@ -85,23 +85,30 @@ module _ (before after : List SessionOwn) (session : SessionOwn) (taken : before
   fresh-rest = All-rest (λ (s : SessionOwn). s.pairs ≡ []) session after before taken fresh
 
 -- one session more has nothing to submit
-pub idle-more : (lists : Lists) (idle idle' : List SessionOwn) (session : SessionOwn) → idle' ≡ idle ++ session ∷ [] → All (IsIdle lists) idle → session.pairs ≡ [] → (session.session ≡ 1 → forms_in lists session.bidder ≡ [])
-    → All (IsIdle lists) idle'
-idle-more lists idle idle' session more before fresh none =
-    All-same (IsIdle lists) idle' (idle ++ session ∷ []) more (All-push (IsIdle lists) idle session before (record { fresh = fresh; none = none }))
+pub idle-more : (lists : Lists) (idle idle' : List SessionOwn) (session : SessionOwn) (forms : List Shared) → idle' ≡ idle ++ session ∷ [] → session.pairs ≡ [] → true ≡ (length forms == 0)
+    → (session.session ≡ 1 → form_values forms ≡ forms_in lists session.bidder) → All (IsIdle lists) idle → All (IsIdle lists) idle'
+idle-more lists idle idle' session forms more fresh none first before =
+    All-same (IsIdle lists) idle' (idle ++ session ∷ []) more (All-push (IsIdle lists) idle session before (record { fresh = fresh; none = λ one. sym (first one) ∙ no-forms forms none }))
 
--- the list of a bidder is empty
-pub none-in : (lists : Lists) (bidder b : ℕ) (forms : List Shared) → b ≡ bidder → form_values forms ≡ forms_in lists b → true ≡ (length forms == 0) → forms_in lists bidder ≡ []
-none-in lists bidder b forms same are none = ap (forms_in lists) (sym same) ∙ sym are ∙ no-forms forms none
+-- a session with forms to submit is its bidder's first one
+pub is-first : (session : SessionOwn) (forms : List Shared) → false ≡ (length forms == 0) → (session.session ≢ 1 → form_values forms ≡ []) → session.session ≡ 1
+is-first session forms some other =
+    elim (cases_Bool (session.session == 1)) [
+      | inl one ↦ eqb-true session.session 1 one
+      | inr more ↦
+          (let none : form_values forms ≡ [] = other (eqb-false session.session 1 more) in
+          let count : length forms ≡ 0 = sym (length-map forms (λ (f : Shared). arc_value f)) ∙ ap length none in
+          absurd (eqb-false (length forms) 0 (sym some) count))
+    ]
 
 -- one first session more, with the forms of its bidder
-pub jobs-more : (lists : Lists) (jobs jobs' : List JobOwn) (job : JobOwn) (b : ℕ) (session : SessionOwn) (forms : List Shared) → jobs' ≡ jobs ++ job ∷ [] → All (IsFirstJob lists) jobs
-    → job.session ≡ session → job.forms ≡ form_values forms → session.session ≡ 1 → b ≡ session.bidder → form_values forms ≡ forms_in lists b → All (IsFirstJob lists) jobs'
-jobs-more lists jobs jobs' job b session forms more before is with_forms first bidder are =
+pub jobs-more : (lists : Lists) (jobs jobs' : List JobOwn) (job : JobOwn) (session : SessionOwn) (forms : List Shared) → jobs' ≡ jobs ++ job ∷ [] → job.session ≡ session → job.forms ≡ form_values forms
+    → session.session ≡ 1 → form_values forms ≡ forms_in lists session.bidder → All (IsFirstJob lists) jobs → All (IsFirstJob lists) jobs'
+jobs-more lists jobs jobs' job session forms more is with_forms first are before =
     All-same (IsFirstJob lists) jobs' (jobs ++ job ∷ []) more
     (All-push (IsFirstJob lists) jobs job before (record {
       first = ap (λ (s : SessionOwn). s.session) is ∙ first;
-      forms = with_forms ∙ are ∙ ap (forms_in lists) (bidder ∙ sym (ap (λ (s : SessionOwn). s.bidder) is));
+      forms = with_forms ∙ are ∙ ap (forms_in lists) (sym (ap (λ (s : SessionOwn). s.bidder) is));
     }))
 
 -- what holds of some element does so in a longer list
@@ -259,6 +266,14 @@ module _ (forms : List Offers) (lists : Lists) (by : AreByBidder forms lists) wh
   all-submitted session_of ended_of others jobs done idle each first ok =
       All-append (HasSubmitted forms) others (map session_of done) (All-weaker (IsIdle lists) (HasSubmitted forms) idle-submitted others idle)
       (jobs-submitted session_of ended_of jobs done each first ok)
+
+-- the sessions of jobs that all ended well, and the others, have submitted the forms of the lists
+pub lists-submitted : {D Z E : Type 0} (lists : Lists) (session_of : D → SessionOwn) (ended_of : D → Result (Unit {0}) RoundFault) (others : List SessionOwn) (jobs : List JobOwn) (done : List D) (result : Result (Vec SessionOwn Z) E)
+    → All (IsIdle lists) others → AllZip (λ (job : JobOwn) (d : D). ComesTo job (session_of d) (ended_of d)) jobs done → All (IsFirstJob lists) jobs → OnOk result (All (λ (d : D). ended_of d ≡ Ok tt) done)
+    → IfOk result (λ sessions. sessions.items ≡ others ++ map session_of done) → IfOk result (λ sessions. HaveSubmitted lists sessions.items)
+lists-submitted lists session_of ended_of others jobs done (Ok sessions) idle each first ok are =
+    λ forms by. All-same (HasSubmitted forms) sessions.items (others ++ map session_of done) are (all-submitted forms lists by session_of ended_of others jobs done idle each first ok)
+lists-submitted lists session_of ended_of others jobs done (Err e) idle each first ok are = tt
 
 -- the sessions of an auction are few
 pub few-sessions : (t : Terms) → AreTerms t → session_count t ≤ 2048

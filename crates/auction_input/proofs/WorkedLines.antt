@@ -2,7 +2,7 @@
 use Rattle.std.specs.Prelude.{◌≡◌, refl, codes}
 use Rattle.std.specs.Fmt.{digits}
 use Rattle.bid_forms.specs.declared.form_text.FormFault.TheVariants as form
-use Rattle.program_rows.specs.declared.fault.FaultKind.TheVariants as kind
+use Rattle.mps_meaning.specs.declared.fault.FaultKind.TheVariants as kind
 use Rattle.auction_input.specs.Line.{line}
 use Rattle.auction_input.specs.declared.refusal.CountedPart.TheVariants as counted
 use Rattle.auction_input.specs.declared.refusal.Refusal.TheVariants as refusal

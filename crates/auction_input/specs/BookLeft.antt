@@ -1,15 +1,11 @@
 -- The book that forms leave: of each bidder its last form.
-use Rattle.std.specs.Prelude.{ℕ, List, [], None, length, map}
+use Rattle.std.specs.Prelude.{List, [], None, length, map}
 use Rattle.std.specs.Option.{option_map_or}
 use Rattle.std.specs.List.{last_or, range_with_len}
 use Rattle.auction_input.specs.Submissions.{forms_of}
-use Rattle.auction_terms.specs.Groups.{has}
-use Rattle.auction_terms.specs.Keeping.{kept_of}
 use Rattle.auction_terms.specs.Terms.{Terms, lots_in}
 use Rattle.bid_forms.specs.Offers.{Offers}
 use Rattle.bid_desk.specs.Sale.{Sale}
-use Rattle.program_rows.specs.Program.{Table}
-use Rattle.program_rows.specs.Rows.{program_of}
 
 -- what is for sale, to whom, and what is bid: of each bidder, in order of the bidders' numbers, the bids in its last form
 abbrev pub sale_left : Terms → List Offers → Sale
@@ -18,7 +14,3 @@ sale_left t forms = record {
   lots = lots_in t;
   book = map (λ bidder. option_map_or (λ (form : Offers). form.bids) (last_or None (forms_of bidder forms)) []) (range_with_len 1 (length t.bidders));
 }
-
--- the program of what is kept without a group
-abbrev pub program_for : Sale → List ℕ → Table
-program_for sale group = program_of sale.lots (kept_of sale.lots sale.book (has group))

@@ -11,8 +11,8 @@ use Rattle.auction_terms.specs.GroupFaultText.{group_fault_text}
 use Rattle.auction_terms.specs.RulesFaultText.{rules_fault_text}
 use Rattle.bid_forms.specs.FormFaultText.{form_fault_text}
 use Rattle.program_faults.specs.MpsFaultText.{mps_fault_text}
-use Rattle.mps_text.specs.Sinks.{HasFailed, SentFront}
-use Rattle.mps_text.specs.declared.write_fault.WriteFault.TheVariants as write
+use Rattle.byte_sinks.specs.Sinks.{HasFailed, SentFront}
+use Rattle.byte_sinks.specs.declared.write_fault.WriteFault.TheVariants as write
 use Rattle.program_faults.specs.CertificateFaultText.{certificate_fault_text}
 use Rattle.program_faults.specs.SolutionFaultText.{solution_fault_text}
 use Rattle.auction_terms.specs.declared.groups_text.GroupFault.TheVariants as groups
@@ -20,7 +20,7 @@ use Rattle.auction_terms.specs.declared.rules_text.RulesFault.TheVariants as rul
 use Rattle.bid_forms.specs.declared.form_text.FormFault.TheVariants as form
 use Rattle.program_faults.specs.declared.certificate_fault.FaultKind.TheVariants as certificate
 use Rattle.program_faults.specs.declared.solution_fault.SolutionFault.TheVariants as solution
-use Rattle.program_rows.specs.declared.fault.FaultKind.TheVariants as kind
+use Rattle.mps_meaning.specs.declared.fault.FaultKind.TheVariants as kind
 
 -- what is told of a refusal: wherever memory was short, just that; of a fault the words of its part before it
 abbrev pub refusal_text : Refusal → List ℕ

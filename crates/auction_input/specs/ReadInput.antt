@@ -4,7 +4,7 @@ use Rattle.std.specs.Io.KnownBytes.{Consumes, IsAtEnd}
 use Rattle.auction_input.specs.declared.input.InputFault.TheVariants as fault
 use Rattle.auction_input.specs.declared.input.InputFault.{InputFault}
 use Rattle.auction_input.specs.declared.input.TheConstants.{INPUT_LIMIT}
-use Rattle.mps_text.specs.Sinks.{HasFailed}
+use Rattle.byte_sinks.specs.Sinks.{HasFailed}
 
 -- the input was read to its end, and is within the limit
 abbrev pub IsWhole : Option (List ℕ) → Option (List ℕ) → List ℕ → Type 0

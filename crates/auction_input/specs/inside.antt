@@ -1,3 +1,4 @@
+pub mod Auctions
 pub mod InputTexts
 pub mod Parts
 pub mod Plan

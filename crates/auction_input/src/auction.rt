@@ -1,6 +1,6 @@
 //! The auction that an input tells.
 
-ghost use Rattle.std.specs.Prelude.{◌≡◌, ◌≢◌, IfErr, IfOk, List, Ok};
+ghost use Rattle.std.specs.Prelude.{◌≡◌, ◌≢◌, All, IfErr, IfOk, List, Ok};
 ghost use Rattle.auction_input.specs.Auction.{auction_told};
 ghost use Rattle.auction_input.specs.Refused.{Refuses};
 ghost use Rattle.auction_input.specs.Settled.{HoldsForms, RefusesAuction, held};
@@ -8,6 +8,8 @@ ghost use Rattle.auction_terms.specs.Borrowed.{bytes_of};
 ghost use Rattle.auction_input.specs.Parts.{Hold, Part};
 ghost use Rattle.auction_input.specs.PartsTold.{only_text, parts_told};
 ghost use Rattle.auction_input.specs.Sold.{IsSold};
+ghost use Rattle.auction_input.specs.inside.Auctions.{HasRun, RefusesInputs, RefusesRun, Tell};
+ghost use Rattle.bid_forms.specs.Offers.{Meets};
 ghost use Rattle.auction_input.specs.TextsTold.{groups_told, terms_told};
 
 use crate::calls::check_calls;
@@ -17,6 +19,7 @@ use crate::refusal::Refusal;
 use crate::round::close_round;
 use auction_terms::{Groups, Rules, read_groups, read_rules};
 use bid_desk::ClosedBook;
+use bid_forms::Form;
 use requests::Request;
 use std::alloc::Global;
 use std::sync::Wait;
@@ -65,6 +68,39 @@ fn groups_in(alloc: Global, texts: &[&[u8]], rules: &Rules) -> Result<Groups, Re
     Ok(read_groups(alloc, only_text(texts), rules)?)
 }
 
+// The forms and the groups of these parts, if each form has a call of its bidder's left.
+fn read_offers(
+    rt: &(impl Threads + Sync),
+    alloc: Global,
+    parts: &Parts<'_>,
+    rules: &Rules,
+) -> Result<(Vec<Form>, Groups), Refusal>
+    requires rules { terms_told (only_text (bytes_of parts.now.rules.items)) ≡ Ok rules.now }
+    ensures told { IfOk result (λ read. Tell parts.now rules.now read.0.items read.1) }
+    ensures meet { IfOk result (λ read. All (Meets rules.now) read.0.items) }
+    ensures refuses { IfErr result (RefusesInputs parts.now) }
+{
+    let forms = read_forms(rt, alloc, parts.forms.as_slice(), rules)?;
+    let groups = groups_in(alloc, parts.groups.as_slice(), rules)?;
+    check_calls(forms.as_slice())?;
+    Ok((forms, groups))
+}
+
+// Runs the round over the forms of these parts. With its book come the groups.
+fn close_auction<R: Threads + Wait + Sync + AllocGlobal>(
+    rt: &R,
+    parts: &Parts<'_>,
+) -> Result<(ClosedBook, Groups), Refusal>
+    ensures told { IfOk result (λ run. HasRun parts.now run.0 run.1) }
+    ensures refuses { IfErr result (RefusesRun parts.now) }
+{
+    let alloc: Global = rt.alloc();
+    let rules = rules_in(alloc, parts.rules.as_slice())?;
+    let (forms, groups) = read_offers(rt, alloc, parts, &rules)?;
+    let book = close_round(rt, rules, forms)?;
+    Ok((book, groups))
+}
+
 /// Reads the rules, the forms and the groups, tests the call limit, and runs the round.
 pub fn read_auction<'t, R: Threads + Wait + Sync + AllocGlobal>(
     rt: &R,
@@ -77,15 +113,9 @@ pub fn read_auction<'t, R: Threads + Wait + Sync + AllocGlobal>(
     ensures sold { IfOk result (λ auction. IsSold request.now text.now (held auction)) }
     ensures refuses { IfErr result (RefusesAuction request.now text.now) }
 {
-    let alloc: Global = rt.alloc();
-    let parts = read_parts(alloc, request, text)?;
-    let rules = rules_in(alloc, parts.rules.as_slice())?;
-    let forms = read_forms(rt, alloc, parts.forms.as_slice(), &rules)?;
-    let groups = groups_in(alloc, parts.groups.as_slice(), &rules)?;
-    check_calls(forms.as_slice())?;
-    let book = close_round(rt, rules, forms)?;
-    // Their contracts say that the book is closed and within limits, which makes the texts of its programs faithful.
-    let _rules = book.rules();
+    let parts = read_parts(rt.alloc(), request, text)?;
+    let (book, groups) = close_auction(rt, &parts)?;
+    // Its contract says that the book is closed.
     let _history = book.history();
     let Parts {
         solutions,

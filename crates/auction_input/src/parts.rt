@@ -1,7 +1,8 @@
 //! The parts of the input.
 
-ghost use Rattle.std.specs.Prelude.{◌≡◌, ◌≤◌, ◌<◌, ◌∷◌, ◌⊎◌, [], OnOk, drop, length, take, true};
+ghost use Rattle.std.specs.Prelude.{◌≡◌, ◌≤◌, ◌<◌, ◌++◌, ◌∷◌, ◌⊎◌, [], OnOk, drop, length, take, true};
 ghost use Rattle.auction_input.specs.Parts.{TellsParts, heads_part, bytes_before, cut_lines, parts_in};
+ghost use Rattle.auction_terms.specs.Borrowed.{bytes_of};
 ghost use Rattle.auction_input.specs.inside.Parts.{added, held_bytes, part, part_name};
 
 use crate::part_kind::{PartKind, kind_named};
@@ -114,14 +115,20 @@ fn add_part<'t>(parts: &mut Parts<'t>, kind: PartKind, bytes: &'t [u8]) -> Resul
     ensures { OnOk result (held_bytes parts.new ≡ added kind bytes.now (held_bytes parts.old)) }
 {
     match kind {
-        PartKind::Rules => parts.rules.push(bytes)?,
-        PartKind::Form => parts.forms.push(bytes)?,
-        PartKind::Groups => parts.groups.push(bytes)?,
-        PartKind::Solution => parts.solutions.push(bytes)?,
-        PartKind::Certificate => parts.certificates.push(bytes)?,
-        PartKind::Unique => parts.uniques.push(bytes)?,
-        PartKind::Tie => parts.ties.push(bytes)?,
+        PartKind::Rules => add_bytes(&mut parts.rules, bytes),
+        PartKind::Form => add_bytes(&mut parts.forms, bytes),
+        PartKind::Groups => add_bytes(&mut parts.groups, bytes),
+        PartKind::Solution => add_bytes(&mut parts.solutions, bytes),
+        PartKind::Certificate => add_bytes(&mut parts.certificates, bytes),
+        PartKind::Unique => add_bytes(&mut parts.uniques, bytes),
+        PartKind::Tie => add_bytes(&mut parts.ties, bytes),
     }
+}
+
+fn add_bytes<'t>(list: &mut Vec<&'t [u8]>, bytes: &'t [u8]) -> Result<(), AllocError>
+    ensures { OnOk result (bytes_of list.new.items ≡ bytes_of list.old.items ++ bytes.now ∷ []) }
+{
+    list.push(bytes)?;
     Ok(())
 }
 

@@ -11,9 +11,9 @@ use crate::round::RoundFault;
 use crate::told::Told;
 use auction_terms::{GroupFault, RulesFault, Wording};
 use bid_forms::FormFault;
-use mps_text::WriteFault;
+use byte_sinks::WriteFault;
+use mps_meaning::FaultKind;
 use program_faults::{CertificateFault, MpsFault, SolutionFault};
-use program_rows::FaultKind;
 use std::alloc::AllocError;
 
 /// The parts of which a command takes a certain number.

@@ -3,18 +3,17 @@
 ghost use Rattle.std.specs.Prelude.{◌≡◌, ◌≢◌, ◌+◌, ◌++◌, ◌⊎◌, ℕ, [], All, Any, Err, IfErr, IfOk, MatchBool, Ok, OnOk, map, true};
 ghost use Rattle.bid_book.specs.History.{reply_value};
 ghost use Rattle.std.specs.List.{AllZip};
-ghost use Rattle.auction_terms.specs.Terms.{session_count};
-ghost use Rattle.bid_desk.specs.Holding.{ChairOwn};
+ghost use Rattle.auction_terms.specs.Terms.{AreTerms, session_count};
 ghost use Rattle.bid_desk.specs.Settlement.{IsSettled};
 ghost use Rattle.bid_forms.specs.Offers.{Meets};
-ghost use Rattle.auction_input.specs.inside.Submissions.{AreFormsOf, ComesTo, HasClosed, IsFirstJob, IsIdle, forms_in};
+ghost use Rattle.auction_input.specs.inside.Submissions.{AreFormsOf, ComesTo, HasClosed, HaveSubmitted, HoldsLists, IsFirstJob, IsIdle, form_values, forms_in};
 ghost use Rattle.auction_input.specs.Submissions.{AreSubmitted};
 
 use crate::by_bidder::{by_bidder, forms_in};
 use crate::job::{Done, Job};
 use auction_terms::Rules;
 use bid_book::Reply;
-use bid_desk::{Cause, Chair, ClosedBook, Desk, Round, Session};
+use bid_desk::{Cause, Chair, ClosedBook, Desk, Round, Session, Stopped};
 use bid_forms::Form;
 use std::alloc::{AllocError, Global};
 use std::marker::Brand;
@@ -83,13 +82,68 @@ fn close_round_of<L: Round + Send + Sync, R: Threads + Wait + Sync + AllocGlobal
     let alloc: Global = rt.alloc();
     let form_count = forms.len();
     let lists = by_bidder(alloc, rules.bidders().len(), forms)?;
-    let Ok((desk, chair, sessions)) = Desk::<L>::open(alloc, blank, rules) else {
+    run_round::<L, _>(rt, blank, rules, lists.as_slice(), form_count)
+}
+
+// The round over the forms in these lists.
+fn run_round<L: Round + Send + Sync, R: Threads + Wait + Sync + AllocGlobal>(
+    rt: &R,
+    blank: Blank,
+    rules: Rules,
+    lists: &[Vec<Arc<Form, Global>>],
+    form_count: usize,
+) -> Result<ClosedBook, RoundFault>
+    requires name { blank.name ≡ L.name }
+    requires parts { blank.parts ≡ L.parts }
+    requires part_count { (blank.parts ≡ L.part_count) × (L.part_count ≡ session_count rules + 1) }
+    requires rules { rules ≡ L.rules }
+    requires terms { AreTerms L.rules }
+    requires own { (b : ℕ) → AreFormsOf L.rules b (forms_in lists.now b) }
+    ensures rules { IfOk result (λ book. book.rules ≡ L.rules) }
+    ensures submitted { IfOk result (HoldsLists lists.now) }
+{
+    let alloc: Global = rt.alloc();
+    let Ok((desk, opened, sessions)) = Desk::<L>::open(alloc, blank, rules) else {
         return Err(RoundFault::OutOfMemory);
     };
-    let (jobs, others) = jobs_of(alloc, sessions, lists.as_slice())?;
-    let done = run_all(rt, &desk, jobs, form_count)?;
-    let sessions = sessions_of(done, others)?;
-    settle(rt, desk, chair, sessions)
+    let mut chair = opened;
+    let sessions = make_calls(rt, &desk, &mut chair, sessions, lists, form_count)?;
+    settle(alloc, desk.stop(), chair, sessions)
+}
+
+// Every bidder submits its forms, and then the chair closes.
+fn make_calls<L: Round + Send + Sync, R: Threads + Wait + Sync + AllocGlobal>(
+    rt: &R,
+    desk: &Desk<L>,
+    chair: &mut Chair<L>,
+    sessions: Vec<Session<L>>,
+    lists: &[Vec<Arc<Form, Global>>],
+    form_count: usize,
+) -> Result<Vec<Session<L>>, RoundFault>
+    requires fresh { All (λ session. session.pairs ≡ []) sessions.items }
+    requires own { (b : ℕ) → AreFormsOf L.rules b (forms_in lists.now b) }
+    ensures { IfOk result (λ sessions. HaveSubmitted lists.now sessions.items) }
+{
+    let sessions = submit_all(rt, desk, sessions, lists, form_count)?;
+    close(rt, desk, chair)?;
+    Ok(sessions)
+}
+
+// Every bidder submits its forms.
+fn submit_all<L: Round + Send + Sync, R: Threads + Wait + Sync + AllocGlobal>(
+    rt: &R,
+    desk: &Desk<L>,
+    sessions: Vec<Session<L>>,
+    lists: &[Vec<Arc<Form, Global>>],
+    form_count: usize,
+) -> Result<Vec<Session<L>>, RoundFault>
+    requires fresh { All (λ session. session.pairs ≡ []) sessions.items }
+    requires own { (b : ℕ) → AreFormsOf L.rules b (forms_in lists.now b) }
+    ensures { IfOk result (λ sessions. HaveSubmitted lists.now sessions.items) }
+{
+    let (jobs, others) = jobs_of(rt.alloc(), sessions, lists)?;
+    let done = run_all(rt, desk, jobs, form_count)?;
+    sessions_of(done, others)
 }
 
 // The first session of each bidder with forms, with these forms; and the other sessions.
@@ -106,18 +160,48 @@ fn jobs_of<'f, L: Round>(
     let mut jobs = Vec::new(alloc);
     let mut others = Vec::new(alloc);
     for session in sessions {
-        if session.session() != 1 {
-            others.push(session)?;
-            continue;
-        }
-        let forms = forms_in(lists, session.bidder());
-        if forms.is_empty() {
-            others.push(session)?;
-        } else {
-            jobs.push(Job::new(session, forms))?;
-        }
+        add_session(lists, session, &mut jobs, &mut others)?;
     }
     Ok((jobs, others))
+}
+
+// Adds a session to the jobs, if it has forms to submit, and else to the other sessions.
+fn add_session<'f, L: Round>(
+    lists: &'f [Vec<Arc<Form, Global>>],
+    session: Session<L>,
+    jobs: &mut Vec<Job<'f, L>>,
+    others: &mut Vec<Session<L>>,
+) -> Result<(), AllocError>
+    requires fresh { session.pairs ≡ [] }
+    requires own { AreFormsOf L.rules session.bidder (forms_in lists.now session.bidder) }
+    ensures jobs { OnOk result (All (IsFirstJob lists.now) jobs.old.items
+        → All (IsFirstJob lists.now) jobs.new.items) }
+    ensures others { OnOk result (All (IsIdle lists.now) others.old.items
+        → All (IsIdle lists.now) others.new.items) }
+{
+    let forms = forms_to_submit(lists, &session);
+    if forms.is_empty() {
+        others.push(session)?;
+    } else {
+        jobs.push(Job::new(session, forms))?;
+    }
+    Ok(())
+}
+
+// The forms of its bidder, if a session is its first one.
+fn forms_to_submit<'f, L: Round>(
+    lists: &'f [Vec<Arc<Form, Global>>],
+    session: &Session<L>,
+) -> &'f [Arc<Form, Global>]
+    ensures first { session.now.session ≡ 1
+        → form_values result.now ≡ forms_in lists.now session.now.bidder }
+    ensures other { session.now.session ≢ 1 → form_values result.now ≡ [] }
+{
+    if session.session() == 1 {
+        forms_in(lists, session.bidder())
+    } else {
+        &[]
+    }
 }
 
 // With fewer forms than this the jobs are done in turn: threads would take longer to start than the forms to be submitted.
@@ -215,20 +299,17 @@ fn first_of(one: Result<(), RoundFault>, other: Result<(), RoundFault>) -> Resul
     }
 }
 
-// The chair closes, and the desk is settled.
-fn settle<L: Round, R: Wait + AllocGlobal>(
-    rt: &R,
-    desk: Desk<L>,
+// The desk, which is stopped, is settled.
+fn settle<L: Round>(
+    alloc: Global,
+    stopped: Stopped<L>,
     chair: Chair<L>,
     sessions: Vec<Session<L>>,
 ) -> Result<ClosedBook, RoundFault>
     ensures rules { IfOk result (λ book. book.rules ≡ L.rules) }
-    ensures settled { IfOk result (λ book. (chair : ChairOwn)
-        × IsSettled L.rules book.history chair sessions.items) }
+    ensures settled { IfOk result (λ book. IsSettled L.rules book.history chair sessions.items) }
 {
-    let mut chair = chair;
-    close(rt, &desk, &mut chair)?;
-    match desk.stop().settle(rt.alloc(), chair, sessions) {
+    match stopped.settle(alloc, chair, sessions) {
         Ok(book) => Ok(book),
         Err(unsettled) => Err(fault_of(&unsettled.cause)),
     }

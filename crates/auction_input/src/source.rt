@@ -3,7 +3,7 @@
 ghost use Rattle.std.specs.Prelude.{◌≡◌, OnErr, OnOk};
 ghost use Rattle.std.specs.Io.KnownBytes.{ReadConsumes};
 ghost use Rattle.std.specs.Io.{ReadsAtMost};
-ghost use Rattle.mps_text.specs.Sinks.{one_more};
+ghost use Rattle.byte_sinks.specs.Sinks.{one_more};
 
 use std::io::Read;
 

@@ -8,7 +8,7 @@ use Rattle.auction_terms.specs.FirstFault.{first_failed, first_fault}
 use Rattle.auction_terms.specs.Stages.{unless}
 use Rattle.auction_terms.specs.declared.faults.Faults.{Faults}
 use Rattle.auction_terms.specs.declared.faults.Found.{Found}
-use Rattle.auction_terms.specs.declared.limits.TheConstants.{MOST_FAULTS}
+use Rattle.auction_limits.specs.declared.limits.TheConstants.{MOST_FAULTS}
 
 -- what is kept of a list, with one more element
 take-more : {X : Type 0} (most : ℕ) (xs : List X) (x : X) → length (take most xs) < most → take most (xs ++ x ∷ []) ≡ take most xs ++ x ∷ []

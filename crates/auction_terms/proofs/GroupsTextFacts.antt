@@ -15,7 +15,7 @@ use Rattle.auction_terms.specs.inside.FirstFault.{Tells, TellsFault}
 use Rattle.auction_terms.specs.declared.rules.Bidder.{Bidder}
 use Rattle.auction_terms.specs.declared.groups_text.GroupFault.{GroupFault}
 use Rattle.auction_terms.specs.declared.groups_text.GroupFault.TheVariants as fault
-use Rattle.auction_terms.specs.declared.limits.TheConstants.{MOST_BIDDERS}
+use Rattle.auction_limits.specs.declared.limits.TheConstants.{MOST_BIDDERS}
 
 list_any-map : {X Y : Type 0} (f : X → Y) (p : Y → Bool) (xs : List X) → list_any p (map f xs) ≡ list_any (λ x. p (f x)) xs
 list_any-map f p [] = refl

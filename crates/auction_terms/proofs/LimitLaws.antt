@@ -10,7 +10,7 @@ use Rattle.auction_terms.specs.Keeping.{Offer, offers_of_form, offers_from}
 use Rattle.auction_terms.specs.inside.Keeping.{is_kept_offer}
 use Rattle.auction_terms.specs.Limits.{IsBid, IsBook, IsOffer, IsBefore, AreOffers, KeptAreOffers}
 use Rattle.auction_terms.proofs.OfferLaws.{all_agree, all_append}
-use Rattle.auction_terms.specs.declared.limits.TheConstants.{MOST_BIDDERS, MOST_BIDS}
+use Rattle.auction_limits.specs.declared.limits.TheConstants.{MOST_BIDDERS, MOST_BIDS}
 
 module _ {X : Type 0} (P : X → Type 0) where
   kept_in : (q : X → Bool) (x : X) (xs : List X) (b : Bool) → q x ≡ b → P x → AllByRecursion P (filter q xs) → AllByRecursion P (cond (q x) (x ∷ filter q xs) (filter q xs))

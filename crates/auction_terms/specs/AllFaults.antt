@@ -3,7 +3,7 @@ use Rattle.std.specs.Prelude.{◌≡◌, ◌+◌, ◌-◌, ◌^◌, ◌++◌, mi
 use Rattle.auction_terms.specs.FirstFault.{first_failed}
 use Rattle.auction_terms.specs.declared.faults.Faults.{Faults}
 use Rattle.auction_terms.specs.declared.faults.Found.{Found}
-use Rattle.auction_terms.specs.declared.limits.TheConstants.{MOST_FAULTS}
+use Rattle.auction_limits.specs.declared.limits.TheConstants.{MOST_FAULTS}
 
 -- a fault at a field, or of the whole record or line
 abbrev pub found : {F : Type 0} → ℕ → F → Found F

@@ -1,9 +1,9 @@
 //! All faults of a text, as they are found one after the other.
 
-ghost use Rattle.std.specs.Prelude.{◌∷◌, [], OnOk};
+ghost use Rattle.std.specs.Prelude.{◌∷◌, [], IfOk, OnOk};
 ghost use Rattle.auction_terms.specs.AllFaults.{Keeps, KeepsMore, found};
 
-use crate::limits::MOST_FAULTS;
+use auction_limits::MOST_FAULTS;
 use std::alloc::{AllocError, Global};
 
 /// A fault of a text, and where in its record or line it stands.
@@ -30,6 +30,15 @@ impl<F: Copy> Faults<F> {
             kept: Vec::new(alloc),
             more: 0,
         }
+    }
+
+    /// One fault alone.
+    pub fn of_one(alloc: Global, field: usize, fault: F) -> Result<Faults<F>, AllocError>
+        ensures { IfOk result (λ faults. Keeps faults (found field fault ∷ [])) }
+    {
+        let mut faults = Faults::new(alloc);
+        faults.add(field, fault)?;
+        Ok(faults)
     }
 
     /// Adds a fault behind those that were found.

@@ -10,9 +10,9 @@ ghost use Rattle.auction_terms.specs.declared.groups_text.GroupFault.TheVariants
 use crate::faults::Faults;
 use crate::group_names::NameReader;
 use crate::groups_text::{GroupFault, empty_fault, name_fault, room_fault};
-use crate::limits::TEXT_LIMIT;
 use crate::lines::LineReader;
 use crate::rules::{Bidder, Rules};
+use auction_limits::TEXT_LIMIT;
 use std::alloc::{AllocError, Global};
 
 // Adds a fault, if there is one.
@@ -105,11 +105,10 @@ pub fn group_faults(
     ensures all { length bytes.now ≤ TEXT_LIMIT
         → IfOk result (λ faults. Keeps faults (all_group_faults rules.now.bidders bytes.now)) }
 {
-    let mut faults = Faults::new(alloc);
     if bytes.len() > TEXT_LIMIT {
-        faults.add(0, GroupFault::TooLarge)?;
-        return Ok(faults);
+        return Faults::of_one(alloc, 0, GroupFault::TooLarge);
     }
+    let mut faults = Faults::new(alloc);
     let bidders = rules.bidders();
     let mut lines = LineReader::new(bytes);
     let mut place = 1u32;

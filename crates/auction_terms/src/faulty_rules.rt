@@ -11,11 +11,11 @@ ghost use Rattle.auction_terms.specs.declared.rules_text.RulesFault.TheVariants 
 
 use crate::draft::Draft;
 use crate::faults::Faults;
-use crate::limits::TEXT_LIMIT;
 use crate::record_kinds::{Version, version_of};
 use crate::records::RecordReader;
 use crate::rules_fields::{entry_field, header_field};
 use crate::rules_text::{RulesFault, add_entry, end_fault, read_step};
+use auction_limits::TEXT_LIMIT;
 use csv::ByteRecord;
 use std::alloc::{AllocError, Global};
 
@@ -120,12 +120,19 @@ fn add_all(
     }
 }
 
-// The faults of a text that has no header of a version.
-fn unread(alloc: Global) -> Result<Faults<RulesFault>, AllocError>
-    ensures { IfOk result (λ faults. Keeps faults (found 0 (fault.Header 1) ∷ [])) }
+// The faults of a text with a header of this version.
+fn faults_of(
+    alloc: Global,
+    version: Version,
+    header: &ByteRecord,
+    reader: &mut RecordReader,
+) -> Result<Faults<RulesFault>, AllocError>
+    requires few { length reader.old ≤ TEXT_LIMIT + 1 }
+    ensures { IfOk result (λ faults. Keeps faults (faults_of_version (fields_of header.now)
+        reader.old version)) }
 {
     let mut faults = Faults::new(alloc);
-    faults.add(0, RulesFault::Header { place: 1 })?;
+    add_all(alloc, &mut faults, version, header, reader)?;
     Ok(faults)
 }
 
@@ -136,14 +143,12 @@ fn faults_in(alloc: Global, reader: &mut RecordReader) -> Result<Faults<RulesFau
 {
     let mut row = ByteRecord::new(alloc);
     if !reader.next(&mut row)? {
-        return unread(alloc);
+        return Faults::of_one(alloc, 0, RulesFault::Header { place: 1 });
     }
     let Some(version) = version_of(&row) else {
-        return unread(alloc);
+        return Faults::of_one(alloc, 0, RulesFault::Header { place: 1 });
     };
-    let mut faults = Faults::new(alloc);
-    add_all(alloc, &mut faults, version, &row, reader)?;
-    Ok(faults)
+    faults_of(alloc, version, &row, reader)
 }
 
 /// All faults of a text of rules.
@@ -154,9 +159,7 @@ pub fn rules_faults(alloc: Global, bytes: &[u8]) -> Result<Faults<RulesFault>, A
         → IfOk result (λ faults. Keeps faults (all_rules_faults (records_of bytes.now))) }
 {
     if bytes.len() > TEXT_LIMIT {
-        let mut faults = Faults::new(alloc);
-        faults.add(0, RulesFault::TooLarge)?;
-        return Ok(faults);
+        return Faults::of_one(alloc, 0, RulesFault::TooLarge);
     }
     faults_in(alloc, &mut RecordReader::new(alloc, bytes))
 }

@@ -12,7 +12,6 @@ mod group_names;
 mod groups;
 mod groups_text;
 pub mod laws;
-mod limits;
 mod lines;
 mod names;
 mod numbers;
@@ -36,11 +35,6 @@ pub use group_list::Groups;
 pub use group_names::NameReader;
 pub use groups::Group;
 pub use groups_text::{GroupFault, read_groups};
-pub use limits::{
-    GREATEST_AMOUNT, GREATEST_POINTS, GREATEST_QUANTITY, GREATEST_VALUE, GREATEST_WEIGHT,
-    MOST_BIDDERS, MOST_BIDS, MOST_CATEGORIES, MOST_FAULTS, MOST_GROUPS, MOST_POOLS, MOST_SESSIONS,
-    MOST_WORKERS, TEXT_LIMIT,
-};
 pub use lines::LineReader;
 pub use names::Name;
 pub use numbers::number;

@@ -10,14 +10,14 @@ ghost use Rattle.auction_terms.specs.RulesText.{has_name, is_between, is_kind, n
 ghost use Rattle.auction_terms.specs.declared.record_kinds.RecordKind.TheVariants as kinds;
 
 use crate::draft::{Draft, NamedCap};
-use crate::limits::{
-    GREATEST_AMOUNT, GREATEST_POINTS, GREATEST_QUANTITY, GREATEST_VALUE, GREATEST_WEIGHT,
-    MOST_SESSIONS,
-};
 use crate::names::is_name;
 use crate::numbers::number;
 use crate::record_kinds::{RecordKind, Version, kind_of, value_text};
 use crate::rules_text::{RulesFault, field, has_pool};
+use auction_limits::{
+    GREATEST_AMOUNT, GREATEST_POINTS, GREATEST_QUANTITY, GREATEST_VALUE, GREATEST_WEIGHT,
+    MOST_SESSIONS,
+};
 use csv::ByteRecord;
 
 /// The field of a number, from 1, and from where to where the number is to be.

@@ -13,7 +13,7 @@ use Rattle.auction_terms.specs.Limits.{IsBid, IsBook}
 use Rattle.auction_terms.specs.RulesText.{is_between}
 use Rattle.auction_terms.specs.declared.rules.Category.{Category}
 use Rattle.auction_terms.specs.declared.bids.Bid.{Bid}
-use Rattle.auction_terms.specs.declared.limits.TheConstants.{GREATEST_AMOUNT, GREATEST_QUANTITY, MOST_BIDS}
+use Rattle.auction_limits.specs.declared.limits.TheConstants.{GREATEST_AMOUNT, GREATEST_QUANTITY, MOST_BIDS}
 use Rattle.auction_terms.specs.Allocations.{form_of}
 use Rattle.bid_forms.specs.Offers.{Offers, Meets, eligibility_of, is_bid_under, points_of, reserve_of}
 use Rattle.bid_book.specs.declared.caller.Caller.{Caller}

@@ -1,4 +1,5 @@
-pub mod SettleLemmas
 pub mod ClosingLemmas
-pub mod SlotLemmas
 pub mod CompareLemmas
+mod HeldLemmas
+pub mod SettleLemmas
+pub mod SlotLemmas

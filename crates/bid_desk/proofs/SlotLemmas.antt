@@ -7,7 +7,7 @@ use Rattle.std.proofs.lemmas.List.{get_or-map, get_or-replicate, get_or-set_othe
 use Rattle.std.proofs.lemmas.List.Sums.{count_by_more_no, count_by_more_yes}
 use Rattle.auction_terms.specs.Terms.{AreTerms, IsBidder, Terms}
 use Rattle.auction_terms.specs.declared.rules.Bidder.{Bidder}
-use Rattle.auction_terms.specs.declared.limits.TheConstants.{MOST_SESSIONS}
+use Rattle.auction_limits.specs.declared.limits.TheConstants.{MOST_SESSIONS}
 use Rattle.bid_desk.specs.declared.slots.Slot.{Slot}
 use Rattle.bid_desk.specs.Holding.{SessionOwn}
 use Rattle.bid_desk.specs.Sessions.{IsSessionOf, session_limit}

@@ -164,8 +164,8 @@ impl<L: Round> Held<L> {
         ensures same { (session.new.bidder ≡ session.old.bidder)
             × (session.new.session ≡ session.old.session) }
     {
-        let (told_call, standing) = shares(&self.book, session.bidder, &call)?;
         session.own.reserve(1)?;
+        let (told_call, standing) = shares(&self.book, session.bidder, &call)?;
         let caller = Caller::Session {
             bidder: session.bidder,
             session: session.session,

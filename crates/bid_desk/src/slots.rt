@@ -6,7 +6,8 @@ ghost use Rattle.bid_desk.specs.inside.Slots.{AllOnce, AreSlots, IsFirstWrong, s
 
 use crate::round::Round;
 use crate::session::Session;
-use auction_terms::{MOST_SESSIONS, Rules};
+use auction_limits::MOST_SESSIONS;
+use auction_terms::Rules;
 use std::alloc::{AllocError, Global};
 
 /// How often a session stands in a list, and where it stands last.

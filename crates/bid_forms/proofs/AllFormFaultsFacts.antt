@@ -1,27 +1,25 @@
 -- What the loop keeps that goes on behind a faulty record, and that all faults of a form begin with the first one.
 use Rattle.std.proofs.Common.{◌≡◌, ◌+◌, ◌∷◌, ◌++◌, ◌∙◌, Bool, true, false, ℕ, List, [], length, map, refl, sym, ap, arith, append_assoc}
-use Rattle.std.specs.Prelude.{◌<◌, ◌≤◌, ◌&&◌, Option, Some, None, Result, Ok, Err, drop, if◌then◌else◌, option_map, option_to_list, MatchOption}
+use Rattle.std.specs.Prelude.{◌&&◌, Option, Some, None, Result, Ok, Err, drop, if◌then◌else◌, option_map, option_to_list, MatchOption}
 use Rattle.std.specs.List.{list_all}
 use Rattle.std.specs.Option.{option_map_or, option_or}
-use Rattle.std.proofs.lemmas.List.{map-append}
 use Rattle.auction_terms.proofs.AllFaultsFacts.{BeginAs, begin-all_faults, begin-both, begin-one_failed, begin-or_else, begin-told, found-all, found-more, option_or-assoc}
 use Rattle.auction_terms.specs.AllFaults.{AreFaultsOf, accepted_with, all_faults, each_failed, found, one_failed, or_else, where_none}
 use Rattle.auction_terms.specs.FirstFault.{first_failed, first_fault}
 use Rattle.auction_terms.specs.Records.{Record}
-use Rattle.auction_terms.specs.RulesText.{field_number, number_told}
+use Rattle.auction_terms.specs.RulesText.{field_number}
 use Rattle.auction_terms.specs.Stages.{and_then, unless}
 use Rattle.auction_terms.specs.Terms.{Terms}
 use Rattle.auction_terms.specs.declared.bids.Bid.{Bid}
 use Rattle.auction_terms.specs.declared.faults.Found.{Found}
-use Rattle.auction_terms.specs.declared.limits.TheConstants.{GREATEST_AMOUNT}
+use Rattle.auction_limits.specs.declared.limits.TheConstants.{GREATEST_AMOUNT}
 use Rattle.bid_forms.specs.AllFormFaults.{all_bid_faults, all_bids_faults, all_form_faults, all_package_faults, all_quantity_faults, fault_of_amount, faults_by_record, faults_of_bidder, is_unknown_bidder}
-use Rattle.bid_forms.specs.FormText.{amount_checks, bid_checks, bid_fault, bid_told, bidder_told, count_checks, form_of_records, is_quantity, is_quantity_text, package_checks, quantity_checks, repeat_checks, reserve_checks, form_room_checks}
+use Rattle.bid_forms.specs.FormText.{amount_checks, bid_fault, bid_told, bidder_told, count_checks, form_of_records, is_quantity, is_quantity_text, package_checks, quantity_checks, repeat_checks, reserve_checks, form_room_checks}
 use Rattle.bid_forms.specs.Offers.{Offers, eligibility_of}
 use Rattle.bid_forms.specs.inside.FormText.{fault_of_bid}
 use Rattle.bid_forms.specs.declared.form_text.FormFault.{FormFault}
 use Rattle.bid_forms.specs.declared.form_text.FormFault.TheVariants as fault
 use Rattle.bid_forms.proofs.FormFacts.{checks-parts}
-use Rattle.bid_forms.proofs.RecordFacts.{fields-more}
 
 -- ---------- fields one after the other ----------
 

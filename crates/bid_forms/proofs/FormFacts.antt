@@ -1,6 +1,6 @@
 -- What the loop over the records after the header keeps.
 use Rattle.std.proofs.Common.{◌≡◌, ◌≢◌, ◌≤◌, ◌<◌, ◌+◌, ◌∷◌, ◌++◌, ◌∙◌, ℕ, List, [], length, Some, None, IsTrue, ap, map, refl, sym, arith, length-append}
-use Rattle.std.specs.Prelude.{All, Bool, ◌==◌}
+use Rattle.std.specs.Prelude.{All}
 use Rattle.std.specs.Option.{option_or}
 use Rattle.std.proofs.lemmas.List.{map-append}
 use Rattle.std.proofs.lemmas.List.Elements.{All-push}
@@ -11,12 +11,11 @@ use Rattle.auction_terms.specs.Records.{Record}
 use Rattle.auction_terms.specs.RulesText.{field_number}
 use Rattle.auction_terms.specs.Terms.{Terms}
 use Rattle.auction_terms.specs.declared.bids.Bid.{Bid}
-use Rattle.auction_terms.specs.declared.limits.TheConstants.{MOST_BIDS}
+use Rattle.auction_limits.specs.declared.limits.TheConstants.{MOST_BIDS}
 use Rattle.bid_forms.specs.Offers.{IsBidWithinLimits, PackagesDiffer, is_bid_under, number_of_package}
 use Rattle.bid_forms.specs.FormText.{amount_checks, bid_checks, bid_fault, bid_told, count_checks, package_checks, quantity_checks, repeat_checks, reserve_checks, form_room_checks}
 use Rattle.bid_forms.specs.inside.FormText.{fault_of_bid}
 use Rattle.bid_forms.specs.declared.form_text.FormFault.{FormFault}
-use Rattle.bid_forms.specs.declared.form_text.FormFault.TheVariants as fault
 use Rattle.bid_forms.proofs.PackageFacts.{number-differ}
 
 -- the records before those that are left have no fault, and the bids are what they tell

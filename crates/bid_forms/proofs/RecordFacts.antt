@@ -12,7 +12,7 @@ use Rattle.csv.specs.Records.{field_at}
 use Rattle.auction_terms.specs.RulesText.{number_told, record_field}
 use Rattle.auction_terms.specs.Records.{Record}
 use Rattle.auction_terms.specs.declared.rules.Category.{Category}
-use Rattle.auction_terms.specs.declared.limits.TheConstants.{GREATEST_QUANTITY}
+use Rattle.auction_limits.specs.declared.limits.TheConstants.{GREATEST_QUANTITY}
 
 -- lists of different length differ
 pub differ-lengths : (xs ys : List (List ℕ)) → (length xs ≡ length ys → ⊥) → pointwise bytes_eq xs ys ≡ false

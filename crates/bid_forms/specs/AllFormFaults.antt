@@ -6,7 +6,7 @@ use Rattle.auction_terms.specs.RulesText.{field_number}
 use Rattle.auction_terms.specs.Terms.{Terms}
 use Rattle.auction_terms.specs.declared.bids.Bid.{Bid}
 use Rattle.auction_terms.specs.declared.faults.Found.{Found}
-use Rattle.auction_terms.specs.declared.limits.TheConstants.{GREATEST_AMOUNT}
+use Rattle.auction_limits.specs.declared.limits.TheConstants.{GREATEST_AMOUNT}
 use Rattle.bid_forms.specs.FormText.{amount_checks, bid_told, bidder_told, count_checks, is_quantity, is_quantity_text, package_checks, repeat_checks, reserve_checks, form_room_checks}
 use Rattle.bid_forms.specs.Offers.{eligibility_of}
 use Rattle.bid_forms.specs.declared.form_text.FormFault.{FormFault}

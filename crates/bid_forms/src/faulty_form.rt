@@ -9,7 +9,7 @@ ghost use Rattle.auction_terms.specs.Records.{Record, records_of};
 ghost use Rattle.auction_terms.specs.RulesText.{field_number, number_told};
 ghost use Rattle.auction_terms.specs.Terms.{IsCategory};
 ghost use Rattle.auction_terms.specs.declared.faults.Found.{Found};
-ghost use Rattle.auction_terms.specs.declared.limits.TheConstants.{MOST_CATEGORIES};
+ghost use Rattle.auction_limits.specs.declared.limits.TheConstants.{MOST_CATEGORIES};
 ghost use Rattle.bid_forms.specs.AllFormFaults.{all_bid_faults, all_bids_faults, all_form_faults, all_package_faults, all_quantity_faults, fault_of_amount, faults_of_bidder, is_unknown_bidder};
 ghost use Rattle.bid_forms.specs.FormText.{amount_checks, bid_told, bidder_told, is_form_memory, is_quantity, is_quantity_text, package_checks, repeat_checks, reserve_checks};
 ghost use Rattle.bid_forms.specs.declared.form_text.FormFault.{FormFault};
@@ -22,10 +22,8 @@ use crate::form_text::{
     repeat_fault, reserve_fault, room_fault,
 };
 use crate::seen::Seen;
-use auction_terms::{
-    Bid, Category, Faults, GREATEST_AMOUNT, GREATEST_QUANTITY, MOST_BIDS, Quantities, RecordReader,
-    Rules, TEXT_LIMIT, field, number,
-};
+use auction_limits::{GREATEST_AMOUNT, GREATEST_QUANTITY, MOST_BIDS, TEXT_LIMIT};
+use auction_terms::{Bid, Category, Faults, Quantities, RecordReader, Rules, field, number};
 use csv::ByteRecord;
 use std::alloc::{AllocError, Global};
 
@@ -352,15 +350,14 @@ fn add_bids(
     rules: &Rules,
     eligibility: u64,
     reader: &mut RecordReader,
-    none_seen: Seen,
+    text: &[u8],
 ) -> Result<(), AllocError>
     requires few { length reader.old ≤ TEXT_LIMIT + 1 }
-    requires none_seen { none_seen.prints.keys ≡ [] }
     ensures { OnOk result (KeepsMore faults.old faults.new
         (all_bids_faults rules.now eligibility reader.old)) }
 {
     let mut row = ByteRecord::new(alloc);
-    let mut seen = none_seen;
+    let mut seen = Seen::of_text(alloc, text);
     let mut bids = Vec::new(alloc);
     let mut place = 2u32;
     while reader.next(&mut row)? {
@@ -395,10 +392,9 @@ fn add_behind(
     rules: &Rules,
     fault: FormFault,
     reader: &mut RecordReader,
-    none_seen: Seen,
+    text: &[u8],
 ) -> Result<(), AllocError>
     requires few { length reader.old ≤ TEXT_LIMIT + 1 }
-    requires none_seen { none_seen.prints.keys ≡ [] }
     ensures told { OnOk result (is_form_memory fault ≡ false) }
     ensures added { OnOk result (KeepsMore faults.old faults.new
         (faults_of_bidder rules.now reader.old (Err fault))) }
@@ -407,7 +403,7 @@ fn add_behind(
         return add_refused(faults, 0, fault);
     }
     add_refused(faults, 1, fault)?;
-    add_bids(alloc, faults, rules, GREATEST_AMOUNT, reader, none_seen)?;
+    add_bids(alloc, faults, rules, GREATEST_AMOUNT, reader, text)?;
     Ok(())
 }
 
@@ -418,24 +414,62 @@ fn add_all(
     rules: &Rules,
     header: &ByteRecord,
     reader: &mut RecordReader,
-    none_seen: Seen,
+    text: &[u8],
 ) -> Result<(), AllocError>
     requires few { length reader.old ≤ TEXT_LIMIT + 1 }
-    requires none_seen { none_seen.prints.keys ≡ [] }
     ensures { OnOk result (KeepsMore faults.old faults.new (faults_of_bidder rules.now reader.old
         (bidder_told rules.now (fields_of header.now)))) }
 {
     match read_header(rules, header) {
         Ok(bidder) => {
             let eligibility = eligibility_of(rules, bidder);
-            add_bids(alloc, faults, rules, eligibility, reader, none_seen)?;
+            add_bids(alloc, faults, rules, eligibility, reader, text)?;
             Ok(())
         }
         Err(fault) => {
-            add_behind(alloc, faults, rules, fault, reader, none_seen)?;
+            add_behind(alloc, faults, rules, fault, reader, text)?;
             Ok(())
         }
     }
+}
+
+// Adds the faults of the records of a text.
+fn add_records(
+    alloc: Global,
+    faults: &mut Faults<FormFault>,
+    rules: &Rules,
+    reader: &mut RecordReader,
+    text: &[u8],
+) -> Result<(), AllocError>
+    requires few { length reader.old ≤ TEXT_LIMIT + 1 }
+    ensures { OnOk result (KeepsMore faults.old faults.new
+        (all_form_faults rules.now reader.old)) }
+{
+    let mut row = ByteRecord::new(alloc);
+    if !reader.next(&mut row)? {
+        return faults.add(0, FormFault::Header { place: 1 });
+    }
+    add_all(alloc, faults, rules, &row, reader, text)
+}
+
+// Adds the faults of a text.
+fn add_faults(
+    alloc: Global,
+    faults: &mut Faults<FormFault>,
+    bytes: &[u8],
+    rules: &Rules,
+) -> Result<(), AllocError>
+    ensures too_large { TEXT_LIMIT < length bytes.now
+        → OnOk result (KeepsMore faults.old faults.new (found 0 fault.TooLarge ∷ [])) }
+    ensures all { length bytes.now ≤ TEXT_LIMIT
+        → OnOk result (KeepsMore faults.old faults.new
+        (all_form_faults rules.now (records_of bytes.now))) }
+{
+    if bytes.len() > TEXT_LIMIT {
+        return faults.add(0, FormFault::TooLarge);
+    }
+    let mut reader = RecordReader::new(alloc, bytes);
+    add_records(alloc, faults, rules, &mut reader, bytes)
 }
 
 /// All faults of a text of a form, under rules.
@@ -451,23 +485,6 @@ pub fn form_faults(
         (all_form_faults rules.now (records_of bytes.now))) }
 {
     let mut faults = Faults::new(alloc);
-    if bytes.len() > TEXT_LIMIT {
-        faults.add(0, FormFault::TooLarge)?;
-        return Ok(faults);
-    }
-    let mut reader = RecordReader::new(alloc, bytes);
-    let mut row = ByteRecord::new(alloc);
-    if !reader.next(&mut row)? {
-        faults.add(0, FormFault::Header { place: 1 })?;
-        return Ok(faults);
-    }
-    add_all(
-        alloc,
-        &mut faults,
-        rules,
-        &row,
-        &mut reader,
-        Seen::of_text(alloc, bytes),
-    )?;
+    add_faults(alloc, &mut faults, bytes, rules)?;
     Ok(faults)
 }

@@ -8,12 +8,12 @@ ghost use Rattle.auction_terms.specs.FirstFault.{first_failed, first_fault};
 ghost use Rattle.auction_terms.specs.RulesText.{field_number, record_field};
 ghost use Rattle.auction_terms.specs.Records.{records_of};
 ghost use Rattle.auction_terms.specs.Terms.{AreTerms, IsCategory};
-ghost use Rattle.auction_terms.specs.declared.limits.TheConstants.{MOST_CATEGORIES};
+ghost use Rattle.auction_limits.specs.declared.limits.TheConstants.{MOST_CATEGORIES};
 ghost use Rattle.bid_forms.specs.inside.Fingerprints.{AreSeen};
-ghost use Rattle.bid_forms.specs.Offers.{IsBidWithinLimits, Meets, eligibility_of, is_bid_under, number_of_package};
+ghost use Rattle.bid_forms.specs.Offers.{IsBidWithinLimits, Meets, PackagesDiffer, eligibility_of, is_bid_under, number_of_package};
 ghost use Rattle.auction_terms.specs.declared.bids.Bid.{Bid};
 ghost use Rattle.bid_forms.specs.FormText.{amount_checks, bid_fault, bid_told, bidder_told, count_checks, form_of_records, is_form_memory, package_checks, quantity_checks, repeat_checks, reserve_checks, form_room_checks};
-ghost use Rattle.bid_forms.specs.inside.FormText.{fault_of_bid};
+ghost use Rattle.bid_forms.specs.inside.FormText.{fault_of_bid, fault_of_lots};
 ghost use Rattle.auction_terms.specs.Stages.{Answers};
 ghost use Rattle.auction_terms.specs.inside.FirstFault.{Tells, TellsFault};
 ghost use Rattle.auction_terms.specs.Wording.{wording_text};
@@ -25,9 +25,9 @@ use crate::form::{Form, eligibility_of};
 use crate::seen::{Seen, earlier};
 use crate::sums::{is_empty_package, points_of, reserve_of};
 use arrayvec::ArrayVec;
+use auction_limits::{GREATEST_AMOUNT, GREATEST_QUANTITY, MOST_BIDS, TEXT_LIMIT};
 use auction_terms::{
-    Bid, Category, GREATEST_AMOUNT, GREATEST_QUANTITY, MOST_BIDS, Package, Quantities,
-    RecordReader, Rules, TEXT_LIMIT, Wording, field, number,
+    Bid, Category, Package, Quantities, RecordReader, Rules, Wording, field, number,
 };
 use csv::ByteRecord;
 use std::alloc::{AllocError, Global};
@@ -35,7 +35,7 @@ use std::fmt;
 use thiserror::Error;
 
 /// Why a text is no form. A place is the number of a record, from 1.
-#[derive(Clone, Copy, Debug, PartialEq, Eq, Error)]
+#[derive(Clone, Copy, PartialEq, Eq, Error)]
 pub enum FormFault {
     /// The text has more than `TEXT_LIMIT` bytes.
     TooLarge,
@@ -129,6 +129,13 @@ impl fmt::Display for FormFault {
 
     fn fmt<W: fmt::Write>(&self, f: &mut fmt::Formatter<W>) -> fmt::Result {
         self.wording().fmt(f)
+    }
+}
+
+// As it is displayed.
+impl fmt::Debug for FormFault {
+    fn fmt<W: fmt::Write>(&self, f: &mut fmt::Formatter<W>) -> fmt::Result {
+        fmt::Display::fmt(self, f)
     }
 }
 
@@ -328,6 +335,41 @@ macro_rules! refuse_if {
     };
 }
 
+// Tests the quantities and the amount of a record, behind the bids before it. The package is among those seen from now on.
+fn check_lots(
+    rules: &Rules,
+    eligibility: u64,
+    place: u32,
+    seen: &mut Seen,
+    before: &[Bid],
+    quantities: &[u16],
+    amount: u64,
+) -> Result<(), FormFault>
+    requires seen { AreSeen seen.old.multiplier seen.old.prints.keys before.now }
+    requires few { length before.now ≤ MOST_BIDS }
+    requires sized { length quantities.now ≡ length rules.now.categories }
+    requires quantities { All (λ quantity. quantity ≤ GREATEST_QUANTITY) quantities.now }
+    ensures answer { TellsFault is_form_memory result
+        (fault_of_lots rules.now.categories eligibility place before.now quantities.now amount) }
+    ensures package { OnOk result (first_failed
+        (package_checks rules.now.categories eligibility place quantities.now) ≡ None) }
+    ensures reserve { OnOk result (first_failed
+        (reserve_checks rules.now.categories place quantities.now amount) ≡ None) }
+    ensures new { OnOk result (number_of_package quantities.now before.now ≡ None) }
+    ensures room { OnOk result (length before.now < MOST_BIDS) }
+    ensures seen { OnOk result ((bid : Bid) → bid.package ≡ quantities.now
+        → AreSeen seen.new.multiplier seen.new.prints.keys (before.now ++ bid ∷ [])) }
+    ensures kept { IfErr result (λ f. is_form_memory f ≡ false
+        → AreSeen seen.new.multiplier seen.new.prints.keys before.now) }
+{
+    let categories = rules.categories();
+    refuse_if!(package_fault(categories, eligibility, place, quantities));
+    refuse_if!(reserve_fault(categories, place, quantities, amount));
+    refuse_if!(repeat_fault(seen, place, before, quantities)?);
+    refuse_if!(room_fault(place, before));
+    Ok(())
+}
+
 // The bid of a record, after those before it.
 pub(crate) fn read_bid(
     rules: &Rules,
@@ -351,49 +393,86 @@ pub(crate) fn read_bid(
     ensures kept { IfErr result (λ f. is_form_memory f ≡ false
         → AreSeen seen.new.multiplier seen.new.prints.keys before.now) }
 {
-    let categories = rules.categories();
+    let _categories = rules.categories();
     refuse_if!(count_fault(rules, place, row));
     let amount = read_amount(rules.step(), place, row)?;
     let quantities = read_quantities(place, row)?;
     let lots = quantities.as_slice();
-    refuse_if!(package_fault(categories, eligibility, place, lots));
-    refuse_if!(reserve_fault(categories, place, lots, amount));
-    refuse_if!(repeat_fault(seen, place, before, lots)?);
-    refuse_if!(room_fault(place, before));
+    check_lots(rules, eligibility, place, seen, before, lots, amount)?;
     let package = Package::of(quantities);
     Ok(Bid { package, amount })
 }
 
-// Reads the records after the header.
+// Reads the records after the header, of a bidder with this eligibility.
+fn take_bids(
+    alloc: Global,
+    rules: &Rules,
+    eligibility: u64,
+    reader: &mut RecordReader,
+    text: &[u8],
+    bids: &mut Vec<Bid>,
+) -> Result<(), FormFault>
+    requires few { length reader.old ≤ TEXT_LIMIT + 1 }
+    requires none { bids.old.items ≡ [] }
+    ensures answer { TellsFault is_form_memory result
+        (first_fault (bid_fault rules.now eligibility) [] reader.old) }
+    ensures bids { OnOk result (bids.new.items ≡ map bid_told reader.old) }
+    ensures few { OnOk result (length bids.new.items ≤ MOST_BIDS) }
+    ensures limits { OnOk result (All IsBidWithinLimits bids.new.items) }
+    ensures allowed { OnOk result (All (λ bid. IsTrue (is_bid_under rules.now eligibility bid))
+        bids.new.items) }
+    ensures differ { OnOk result (PackagesDiffer bids.new.items) }
+{
+    let mut row = ByteRecord::new(alloc);
+    let mut seen = Seen::of_text(alloc, text);
+    let mut place = 2u32;
+    while reader.next(&mut row)? {
+        let bid = read_bid(rules, eligibility, place, &mut seen, bids, &row)?;
+        if bids.push(bid).is_err() {
+            return Err(FormFault::OutOfMemory);
+        }
+        place += 1;
+    }
+    Ok(())
+}
+
+// Reads the form of a bidder, of the records after the header.
 fn read_bids(
     alloc: Global,
     rules: &Rules,
     bidder: u16,
     reader: &mut RecordReader,
-    none_seen: Seen,
+    text: &[u8],
 ) -> Result<Form, FormFault>
     requires some { 1 ≤ bidder }
     requires known { bidder ≤ length rules.now.bidders }
     requires few { length reader.old ≤ TEXT_LIMIT + 1 }
-    requires none_seen { none_seen.prints.keys ≡ [] }
     ensures answer { Tells is_form_memory result
         (first_fault (bid_fault rules.now (eligibility_of rules.now bidder)) [] reader.old)
         (record { bidder = bidder; bids = (map bid_told reader.old) }) }
     ensures meets { IfOk result (Meets rules.now) }
 {
     let eligibility = eligibility_of(rules, bidder);
-    let mut row = ByteRecord::new(alloc);
-    let mut seen = none_seen;
     let mut bids = Vec::new(alloc);
-    let mut place = 2u32;
-    while reader.next(&mut row)? {
-        let bid = read_bid(rules, eligibility, place, &mut seen, &bids, &row)?;
-        if bids.push(bid).is_err() {
-            return Err(FormFault::OutOfMemory);
-        }
-        place += 1;
-    }
+    take_bids(alloc, rules, eligibility, reader, text, &mut bids)?;
     Ok(Form::new(bidder, bids))
+}
+
+// Reads the form that the records of a text tell.
+fn read_records(
+    alloc: Global,
+    rules: &Rules,
+    reader: &mut RecordReader,
+    text: &[u8],
+) -> Result<Form, FormFault>
+    requires few { length reader.old ≤ TEXT_LIMIT + 1 }
+    ensures answer { Answers is_form_memory result (form_of_records rules.now reader.old) }
+    ensures meets { IfOk result (Meets rules.now) }
+{
+    let mut row = ByteRecord::new(alloc);
+    refuse!(!reader.next(&mut row)?, FormFault::Header { place: 1 });
+    let bidder = read_header(rules, &row)?;
+    read_bids(alloc, rules, bidder, reader, text)
 }
 
 /// Reads a form, under rules.
@@ -405,14 +484,5 @@ pub fn read_form(alloc: Global, bytes: &[u8], rules: &Rules) -> Result<Form, For
 {
     refuse!(bytes.len() > TEXT_LIMIT, FormFault::TooLarge);
     let mut reader = RecordReader::new(alloc, bytes);
-    let mut row = ByteRecord::new(alloc);
-    refuse!(!reader.next(&mut row)?, FormFault::Header { place: 1 });
-    let bidder = read_header(rules, &row)?;
-    read_bids(
-        alloc,
-        rules,
-        bidder,
-        &mut reader,
-        Seen::of_text(alloc, bytes),
-    )
+    read_records(alloc, rules, &mut reader, bytes)
 }

@@ -1,7 +1,7 @@
 //! The packages of a form's bids, known by their fingerprints.
 
 ghost use Rattle.std.specs.Prelude.{◌≡◌, ◌≤◌, ◌<◌, ◌∷◌, ◌++◌, [], All, IfOk, length};
-ghost use Rattle.auction_terms.specs.declared.limits.TheConstants.{MOST_BIDS};
+ghost use Rattle.auction_limits.specs.declared.limits.TheConstants.{MOST_BIDS};
 ghost use Rattle.bid_forms.specs.inside.Fingerprints.{AreSeen, fingerprint};
 ghost use Rattle.bid_forms.specs.Offers.{number_of_package};
 

@@ -7,7 +7,8 @@ ghost use Rattle.bid_forms.specs.ToldOfRecords.{eligibility_told, package_told, 
 use crate::form::eligibility_of;
 use crate::form_text::{count_fault, read_quantities};
 use crate::sums;
-use auction_terms::{GREATEST_QUANTITY, Quantities, Rules, field};
+use auction_limits::GREATEST_QUANTITY;
+use auction_terms::{Quantities, Rules, field};
 use csv::ByteRecord;
 
 // The package of a record, where it has a quantity within the limits for each category.

@@ -9,6 +9,7 @@ use Rattle.std.proofs.lemmas.Slice.Zip.{AllZip-map}
 use Rattle.bid_desk.specs.Closing.{Closing}
 use Rattle.group_compiler.specs.Compiled.{Compiling, GroupProgram, compiled, compiling}
 use Rattle.group_compiler.specs.declared.work.Numbered.{Numbered}
+use Rattle.group_compiler.specs.inside.Slots.{HasMade}
 
 module _ {X : Type 0} where
   pub get_here : (xs : List X) (i : ℕ) (v : X) → i < length xs → slice_get (slice_set xs i v) i ≡ Some v
@@ -38,12 +39,6 @@ module _ {T : Type 0} where
 
   pub popped : (P : Numbered T → Type 0) (all rs : List (Numbered T)) (r : Numbered T) → all ≡ rs ++ r ∷ [] → All P all → All P rs × P r
   popped P all rs r e h = All-pop P all rs (Some r) e h
-
-  -- the slot has what its number makes
-  pub record HasMade (makes : ℕ → T → Type 0) (slots : List (Option T)) (k : ℕ) : Type 0 where
-    pub found : T
-    pub slot : slice_get slots k ≡ Some (Some found)
-    pub right : makes k found
 
   -- one result goes into its slot
   pub fills : (makes : ℕ → T → Type 0) (slots new : List (Option T)) (all rs : List (Numbered T)) (r : Numbered T) (count : ℕ) → all ≡ rs ++ r ∷ [] → new ≡ slice_set slots r.number (Some r.made) → length slots ≡ count → r.number < count

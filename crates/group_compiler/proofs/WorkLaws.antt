@@ -1,6 +1,6 @@
 -- Laws of what workers draw.
 use Rattle.std.proofs.Common.{◌≡◌, inl, inr, ℕ, zero, suc, ◌+◌, ◌<◌, ◌≤◌, Bool, true, cond, max, ◌==◌, nat_lt, ⊎_elim, ltb-true, eq-eqb, ne_eqb, List, [], ◌∷◌, ◌++◌, length, map, sym, refl, ap, ap₂, ◌∙◌, subst, arith, append-nil, lt-ltb, le-ltb, length-append, slice_index_or}
-use Rattle.std.specs.Prelude.{All, Any, Contains, filter}
+use Rattle.std.specs.Prelude.{All, Any, Contains, filter, Result, Ok, Err, IfOk}
 use Rattle.std.specs.List.{AllByRecursion}
 use Rattle.std.proofs.lemmas.Bool.{cond-true, cond-false, cond_both, cases_eq, cases_lt}
 use Rattle.std.proofs.Math.Nat.{le-max_left, le-max_right}
@@ -151,3 +151,7 @@ module _ {T : Type 0} where
   pub all_below : (count : ℕ) (xs : List ℕ) (rs : List (Numbered T)) → map (λ (r : Numbered T). r.number) rs ≡ filter (λ n. nat_lt n count) xs → All (λ (r : Numbered T). r.number < count) rs
   all_below count xs rs e = All-from_recursion (λ (r : Numbered T). r.number < count) rs (below_each count rs
       (subst (λ (ns : List ℕ). AllByRecursion (λ n. nat_lt n count ≡ true) ns) (sym e) (recursion_from_All (λ n. nat_lt n count ≡ true) (filter (λ n. nat_lt n count) xs) (filter_passes (λ n. nat_lt n count) xs))))
+
+pub if_both : {T E : Type 0} (r : Result T E) (P Q : T → Type 0) → IfOk r P → IfOk r Q → IfOk r (λ x. P x × Q x)
+if_both (Ok x) P Q p q = (p, q)
+if_both (Err y) P Q p q = tt

@@ -1,3 +1,5 @@
 pub mod Claimed
 pub mod Claims
 pub mod Works
+pub mod Making
+pub mod Slots

@@ -1,7 +1,8 @@
 //! The program of one group.
 
 use auction_terms::Group;
-use mps_text::{Sink, WriteFault, write_program};
+use byte_sinks::{Sink, WriteFault};
+use mps_text::write_program;
 use program_rows::Program;
 use std::marker::Model;
 
@@ -23,9 +24,9 @@ impl<'g> Model for Compiled<'g> {
 impl<'g> Compiled<'g> {
     ghost use Rattle.std.specs.Prelude.{◌≡◌, OnOk, OnErr, IfErr};
     ghost use Rattle.std.specs.Io.KnownBytes.{Appends};
-    ghost use Rattle.mps_text.specs.Sinks.{HasFailed, SentFront};
+    ghost use Rattle.byte_sinks.specs.Sinks.{HasFailed, SentFront};
     ghost use Rattle.mps_text.specs.Text.{text};
-    ghost use Rattle.mps_text.specs.Written.{written_of};
+    ghost use Rattle.byte_sinks.specs.Written.{written_of};
     ghost use Rattle.group_compiler.specs.Compiled.{group_program};
 
     pub(crate) fn new(group: &'g Group, program: Program) -> Compiled<'g>

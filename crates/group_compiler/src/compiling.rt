@@ -3,7 +3,7 @@
 ghost use Rattle.std.specs.Prelude.{◌≡◌, ◌≤◌, ◌-◌, [], IfOk, length, slice_index_or};
 ghost use Rattle.auction_terms.specs.Groups.{has};
 ghost use Rattle.auction_terms.specs.Terms.{lots_in};
-ghost use Rattle.auction_terms.specs.declared.limits.TheConstants.{MOST_GROUPS};
+ghost use Rattle.auction_limits.specs.declared.limits.TheConstants.{MOST_GROUPS};
 ghost use Rattle.bid_desk.specs.Closing.{book_of};
 ghost use Rattle.mps_text.specs.FaithfulText.{IsFaithfulText};
 ghost use Rattle.mps_text.specs.Text.{text};

@@ -1,4 +1,4 @@
-//! The programs of all groups, compiled by workers that draw the groups' numbers from one counter.
+//! The program of each group, and its text joined from the pages of bidders, by workers that draw the groups' numbers from one counter.
 #![tactic(auto)]
 
 mod claim;
@@ -10,9 +10,15 @@ pub mod laws;
 mod limits;
 mod maker;
 mod ordering;
+mod page;
+mod page_maker;
+mod pages;
 mod pool;
+mod rendering;
+mod section;
 mod steps;
 mod work;
+mod writing;
 
 pub use claim::Claim;
 pub use claims::Claims;
@@ -21,4 +27,8 @@ pub use compiling::{Compiler, compile_one};
 pub use gate::{Gate, OpenGate};
 pub use limits::{ALL_DRAWS, WORKER_DRAWS};
 pub use maker::Maker;
+pub use page::Page;
+pub use pages::Pages;
 pub use pool::{compile_all, make_all};
+pub use section::Section;
+pub use writing::add_group_text;

@@ -6,14 +6,14 @@
 //! left out.
 
 ghost use Rattle.std.specs.Thread.{IsSync};
-ghost use Rattle.std.specs.Prelude.{◌≡◌, ◌+◌, ◌-◌, ◌*◌, ◌<◌, ◌≤◌, [], length, map, IfOk};
+ghost use Rattle.std.specs.Prelude.{◌≡◌, ◌+◌, ◌-◌, ◌*◌, ◌<◌, ◌≤◌, ℕ, [], length, map, IfOk};
 ghost use Rattle.std.specs.List.{AllZip, range_with_len};
 ghost use Rattle.group_compiler.specs.Claimed.{IsOf};
 ghost use Rattle.group_compiler.specs.Compiled.{compiled};
 ghost use Rattle.group_compiler.specs.Gates.{AreAllPast, IsDueOncePast};
 ghost use Rattle.group_compiler.specs.inside.Works.{IsWork, draws};
 ghost use Rattle.group_compiler.specs.declared.limits.TheConstants.{WORKER_DRAWS};
-ghost use Rattle.auction_terms.specs.declared.limits.TheConstants.{MOST_WORKERS};
+ghost use Rattle.auction_limits.specs.declared.limits.TheConstants.{MOST_WORKERS};
 
 use crate::claim::Claim;
 use crate::claims::Claims;
@@ -68,6 +68,26 @@ fn join_works<G: Gate, M: Maker>(
     claims.join(&mut mine.claim, claim);
     mine.results.append(&mut results)?;
     Ok(mine)
+}
+
+// The same of what two workers give, if neither was refused memory.
+fn join_both<G: Gate, M: Maker>(
+    claims: &Claims,
+    gate: &G,
+    maker: &M,
+    mine: Result<Work<M::Made>, AllocError>,
+    theirs: Result<Work<M::Made>, AllocError>,
+) -> Result<Work<M::Made>, AllocError>
+    requires mine { IfOk mine (IsWork claims.now (M.count_of maker.now) (M.groups_of maker.now)
+        (M.makes maker.now) (G.is_past gate.now)) }
+    requires theirs { IfOk theirs (IsWork claims.now (M.count_of maker.now) (M.groups_of maker.now)
+        (M.makes maker.now) (G.is_past gate.now)) }
+    ensures work { IfOk result (IsWork claims.now (M.count_of maker.now) (M.groups_of maker.now)
+        (M.makes maker.now) (G.is_past gate.now)) }
+    ensures draws { (a b : ℕ) → IfOk mine (λ work. draws work ≡ a)
+        → IfOk theirs (λ work. draws work ≡ b) → IfOk result (λ both. draws both ≡ a + b) }
+{
+    join_works(claims, gate, maker, mine?, theirs?)
 }
 
 // Splits off a claim and starts a thread with it, until one worker is left, which works here.
@@ -135,7 +155,7 @@ fn run_workers<R: Threads + Wait + Sync, G: Gate + Sync, M: Maker + Sync>(
             Ok((mine, child.join(rt)))
         },
     )?;
-    join_works(claims, gate, maker, mine?, theirs?)
+    join_both(claims, gate, maker, mine, theirs)
 }
 
 /// What is made of each number, in order, with 1 to 64 workers, which draw the numbers from one counter. No more than one

@@ -1,7 +1,7 @@
 //! One worker: it draws numbers, stops at the gate with each that is a group's, and then makes what is to be made of it.
 
-ghost use Rattle.std.specs.Prelude.{◌≡◌, ◌+◌, ◌<◌, ◌≤◌, [], IfOk};
-ghost use Rattle.auction_terms.specs.declared.limits.TheConstants.{MOST_GROUPS};
+ghost use Rattle.std.specs.Prelude.{◌≡◌, ◌+◌, ◌<◌, ◌≤◌, ◌++◌, ◌∷◌, [], All, cond, map, nat_lt, IfOk, OnOk};
+ghost use Rattle.auction_limits.specs.declared.limits.TheConstants.{MOST_GROUPS};
 ghost use Rattle.group_compiler.specs.Claimed.{IsOf};
 ghost use Rattle.group_compiler.specs.Gates.{IsDueOncePast};
 ghost use Rattle.group_compiler.specs.inside.Works.{IsWork, draws};
@@ -28,16 +28,6 @@ pub struct Work<T> {
     pub results: Vec<Numbered<T>>,
 }
 
-// Stops at the gate with this number, from 0, if it is that of a group.
-fn stop<R: Wait, G: Gate>(rt: &R, gate: &G, groups: usize, number: u64)
-    requires { groups ≤ MOST_GROUPS }
-    ensures { number < groups → G.is_past gate.now (number + 1) }
-{
-    if number < groups as u64 {
-        gate.arrive(rt, number as usize + 1);
-    }
-}
-
 // Draws and makes until a number is drawn that is no group's, and of which nothing is made.
 pub(crate) fn make_drawn<R: Wait, G: Gate, M: Maker>(
     rt: &R,
@@ -45,7 +35,7 @@ pub(crate) fn make_drawn<R: Wait, G: Gate, M: Maker>(
     claims: &Claims,
     gate: &G,
     maker: &M,
-    mut claim: Claim,
+    claim: Claim,
 ) -> Result<Work<M::Made>, AllocError>
     requires same { IsOf claims.now claim }
     requires fresh { claim.drawn ≡ [] }
@@ -54,21 +44,64 @@ pub(crate) fn make_drawn<R: Wait, G: Gate, M: Maker>(
     ensures { IfOk result (λ work. IsWork claims.now (M.count_of maker.now) (M.groups_of maker.now)
         (M.makes maker.now) (G.is_past gate.now) work × (draws work ≡ claim.room)) }
 {
-    let count = maker.count() as u64;
-    let groups = maker.groups();
-    let end = count.max(groups as u64);
-    let mut results = Vec::new(alloc);
+    let results = Vec::new(alloc);
+    let mut work = Work { claim, results };
+    draw_on(rt, alloc, claims, gate, maker, &mut work)?;
+    Ok(work)
+}
+
+// The same, into work in which nothing is drawn yet. With each number that is a group's it stops at the gate.
+fn draw_on<R: Wait, G: Gate, M: Maker>(
+    rt: &R,
+    alloc: Global,
+    claims: &Claims,
+    gate: &G,
+    maker: &M,
+    work: &mut Work<M::Made>,
+) -> Result<(), AllocError>
+    requires same { IsOf claims.now work.old.claim }
+    requires fresh { work.old.claim.drawn ≡ [] }
+    requires none { work.old.results.items ≡ [] }
+    requires room { WORKER_DRAWS ≤ work.old.claim.room }
+    requires due { IsDueOncePast (M.groups_of maker.now) (G.is_past gate.now) (M.is_due maker.now) }
+    ensures { OnOk result (IsWork claims.now (M.count_of maker.now) (M.groups_of maker.now)
+        (M.makes maker.now) (G.is_past gate.now) work.new × (draws work.new ≡ draws work.old)) }
+{
+    let groups = maker.groups() as u64;
+    let end = (maker.count() as u64).max(groups);
     for _turn in 0..end + 1 {
-        let number = claims.draw(&mut claim);
+        let number = claims.draw(&mut work.claim);
         if number >= end {
-            return Ok(Work { claim, results });
+            break;
         }
-        stop(rt, gate, groups, number);
-        if number < count {
-            results.push(make_numbered(alloc, maker, number)?)?;
+        if number < groups {
+            gate.arrive(rt, number as usize + 1);
         }
+        add_made(&mut work.results, alloc, maker, number)?;
     }
-    Ok(Work { claim, results })
+    Ok(())
+}
+
+// Adds what is made of this number, from 0, if anything is.
+fn add_made<M: Maker>(
+    results: &mut Vec<Numbered<M::Made>>,
+    alloc: Global,
+    maker: &M,
+    number: u64,
+) -> Result<(), AllocError>
+    requires due { number < M.count_of maker.now → M.is_due maker.now number }
+    ensures numbers { OnOk result (map (λ r. r.number) results.new.items
+        ≡ map (λ r. r.number) results.old.items
+        ++ cond (nat_lt number (M.count_of maker.now)) (number ∷ []) []) }
+    ensures made { OnOk result (All (λ r. M.makes maker.now r.number r.made) results.old.items
+        → All (λ r. M.makes maker.now r.number r.made) results.new.items) }
+{
+    let count = maker.count() as u64;
+    if number >= count {
+        return Ok(());
+    }
+    results.push(make_numbered(alloc, maker, number)?)?;
+    Ok(())
 }
 
 // What is made of this number, from 0.

@@ -5,7 +5,7 @@ use Rattle.std.specs.Prelude.{Bool, true, false, if◌then◌else◌, nat_lt}
 use Rattle.auction_terms.specs.AllFaults.{AreFaultsOf, accepted_with, all_faults, found, or_else}
 use Rattle.auction_terms.specs.Stages.{and_then, each_in_turn, refused_as, unless}
 use Rattle.auction_terms.specs.declared.faults.Found.{Found}
-use Rattle.auction_terms.specs.declared.limits.TheConstants.{TEXT_LIMIT}
+use Rattle.auction_limits.specs.declared.limits.TheConstants.{TEXT_LIMIT}
 use Rattle.input_faults.specs.FaultsAs.{fault_as, faults_as, faults_of_sized}
 
 -- faults that are told as others

@@ -17,11 +17,11 @@ use Rattle.input_faults.specs.InputFaults.{input_faults, refusal_of}
 use Rattle.input_faults.specs.TextDetails.{detail}
 use Rattle.input_faults.specs.declared.fault.Fault.{Fault}
 use Rattle.input_faults.specs.inside.HeldLines.{held_lines}
-use Rattle.mps_text.proofs.Known.{Appends-nothing}
-use Rattle.mps_text.specs.Sinks.{HasFailed, SentFront}
-use Rattle.mps_text.specs.Written.{written_of}
-use Rattle.mps_text.specs.declared.write_fault.WriteFault.{WriteFault}
-use Rattle.mps_text.specs.declared.write_fault.WriteFault.TheVariants as write
+use Rattle.byte_sinks.proofs.Known.{Appends-nothing}
+use Rattle.byte_sinks.specs.Sinks.{HasFailed, SentFront}
+use Rattle.byte_sinks.specs.Written.{written_of}
+use Rattle.byte_sinks.specs.declared.write_fault.WriteFault.{WriteFault}
+use Rattle.byte_sinks.specs.declared.write_fault.WriteFault.TheVariants as write
 use Rattle.requests.specs.declared.request.Request.{Request}
 
 -- the lines of what is kept are those of the first faults

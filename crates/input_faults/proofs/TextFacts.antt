@@ -16,7 +16,7 @@ use Rattle.auction_terms.specs.Stages.{Answers, refused_as}
 use Rattle.auction_terms.specs.Terms.{Terms}
 use Rattle.auction_terms.specs.declared.faults.Faults.{Faults}
 use Rattle.auction_terms.specs.declared.faults.Found.{Found}
-use Rattle.auction_terms.specs.declared.limits.TheConstants.{TEXT_LIMIT}
+use Rattle.auction_limits.specs.declared.limits.TheConstants.{TEXT_LIMIT}
 use Rattle.auction_terms.specs.declared.rules_text.RulesFault.{RulesFault}
 use Rattle.auction_terms.specs.declared.rules_text.RulesFault.TheVariants as rules
 use Rattle.bid_forms.specs.FormText.{form_of_records, is_form_memory}

@@ -8,7 +8,7 @@ use Rattle.auction_terms.specs.RulesText.{field_count, is_kind, record_field, re
 use Rattle.auction_terms.specs.Terms.{Terms}
 use Rattle.auction_terms.specs.declared.groups_text.GroupFault.{GroupFault}
 use Rattle.auction_terms.specs.declared.groups_text.GroupFault.TheVariants as groups
-use Rattle.auction_terms.specs.declared.limits.TheConstants.{GREATEST_AMOUNT, GREATEST_QUANTITY, MOST_BIDDERS, MOST_BIDS, MOST_CATEGORIES, MOST_GROUPS, MOST_POOLS}
+use Rattle.auction_limits.specs.declared.limits.TheConstants.{GREATEST_AMOUNT, GREATEST_QUANTITY, MOST_BIDDERS, MOST_BIDS, MOST_CATEGORIES, MOST_GROUPS, MOST_POOLS}
 use Rattle.auction_terms.specs.declared.record_kinds.RecordKind.{RecordKind}
 use Rattle.auction_terms.specs.declared.record_kinds.RecordKind.TheVariants as kind
 use Rattle.auction_terms.specs.declared.record_kinds.Version.{Version}

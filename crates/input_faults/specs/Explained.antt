@@ -2,8 +2,8 @@
 use Rattle.std.specs.Prelude.{◌≡◌, ℕ, List, Option}
 use Rattle.auction_input.specs.declared.refusal.Refusal.{Refusal}
 use Rattle.auction_input.specs.declared.refusal.Refusal.TheVariants as refusal
-use Rattle.mps_text.specs.Sinks.{HasFailed, SentFront}
-use Rattle.mps_text.specs.declared.write_fault.WriteFault.TheVariants as write
+use Rattle.byte_sinks.specs.Sinks.{HasFailed, SentFront}
+use Rattle.byte_sinks.specs.declared.write_fault.WriteFault.TheVariants as write
 
 -- why lines aren't written whole: memory was short before the first, or a put failed behind the first bytes, as many as the refusal tells
 pub data IsCutShort (lines : List ℕ) (taken taken' : Option (List ℕ)) (failures failures' : ℕ) : Refusal → Type 0 where

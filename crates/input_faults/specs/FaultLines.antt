@@ -2,7 +2,7 @@
 use Rattle.std.specs.Prelude.{◌-◌, ◌^◌, ◌==◌, ◌++◌, ◌∷◌, ℕ, List, [], codes, decimal, flat_map, if◌then◌else◌, length, min, take}
 use Rattle.auction_input.specs.Line.{refusal_text}
 use Rattle.auction_terms.specs.declared.faults.Found.{Found}
-use Rattle.auction_terms.specs.declared.limits.TheConstants.{MOST_FAULTS}
+use Rattle.auction_limits.specs.declared.limits.TheConstants.{MOST_FAULTS}
 use Rattle.input_faults.specs.InputFaults.{input_faults, refusal_of}
 use Rattle.input_faults.specs.TextDetails.{detail}
 use Rattle.input_faults.specs.declared.fault.Fault.{Fault}

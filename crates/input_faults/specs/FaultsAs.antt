@@ -2,7 +2,7 @@
 use Rattle.std.specs.Prelude.{ℕ, List, [], ◌∷◌, Option, if◌then◌else◌, length, map, nat_lt, option_map, option_to_list}
 use Rattle.auction_terms.specs.AllFaults.{found}
 use Rattle.auction_terms.specs.declared.faults.Found.{Found}
-use Rattle.auction_terms.specs.declared.limits.TheConstants.{TEXT_LIMIT}
+use Rattle.auction_limits.specs.declared.limits.TheConstants.{TEXT_LIMIT}
 
 -- each fault at its field, told as another
 abbrev pub faults_as : {F G : Type 0} → (F → G) → List (Found F) → List (Found G)

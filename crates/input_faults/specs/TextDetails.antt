@@ -12,7 +12,7 @@ use Rattle.auction_terms.specs.Records.{Record, records_of}
 use Rattle.auction_terms.specs.RulesText.{version_of}
 use Rattle.auction_terms.specs.Terms.{Terms}
 use Rattle.auction_terms.specs.declared.groups_text.GroupFault.{GroupFault}
-use Rattle.auction_terms.specs.declared.limits.TheConstants.{TEXT_LIMIT}
+use Rattle.auction_limits.specs.declared.limits.TheConstants.{TEXT_LIMIT}
 use Rattle.auction_terms.specs.declared.rules_text.RulesFault.{RulesFault}
 use Rattle.bid_forms.specs.ToldOfRecords.{eligibility_told, form_place}
 use Rattle.bid_forms.specs.declared.form_text.FormFault.{FormFault}

@@ -7,13 +7,13 @@ ghost use Rattle.auction_terms.specs.Wording.{wording_text};
 ghost use Rattle.input_faults.specs.Details.{field_told};
 ghost use Rattle.input_faults.specs.Shown.{shown_text};
 ghost use Rattle.input_faults.specs.inside.DetailText.{detail_text};
-ghost use Rattle.mps_text.specs.Adds.{Adds};
+ghost use Rattle.byte_sinks.specs.Adds.{Adds};
 
 use crate::shown::add_shown;
 use crate::wording::add_wording;
 use auction_terms::{Wording, field};
+use byte_sinks::{Sink, Writer};
 use csv::ByteRecord;
-use mps_text::{Sink, Writer};
 
 /// What stands at a fault, and what was wanted there.
 #[derive(Clone, Copy)]

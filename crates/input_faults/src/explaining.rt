@@ -9,7 +9,7 @@ ghost use Rattle.input_faults.specs.FaultLines.{explanation};
 use crate::finding::input_faults;
 use crate::lines::{lines_of, put_lines};
 use auction_input::Refusal;
-use mps_text::Sink;
+use byte_sinks::Sink;
 use requests::Request;
 use std::alloc::Global;
 

@@ -9,9 +9,8 @@ ghost use Rattle.input_faults.specs.inside.DetailText.{detail_text};
 
 use crate::detail::{Detail, of_field};
 use crate::rules_details::count_wording;
-use auction_terms::{
-    Category, GREATEST_AMOUNT, GREATEST_QUANTITY, MOST_BIDS, Rules, Wording, field,
-};
+use auction_limits::{GREATEST_AMOUNT, GREATEST_QUANTITY, MOST_BIDS};
+use auction_terms::{Category, Rules, Wording, field};
 use bid_forms::{FormFault, points_told, reserve_told};
 use csv::ByteRecord;
 

@@ -6,7 +6,8 @@ ghost use Rattle.input_faults.specs.TextDetails.{numbered, within_limit};
 ghost use Rattle.input_faults.specs.inside.Cursors.{ReadsForm, StandsAt};
 
 use crate::record_cursor::RecordCursor;
-use auction_terms::{Rules, TEXT_LIMIT};
+use auction_limits::TEXT_LIMIT;
+use auction_terms::Rules;
 use bid_forms::eligibility_told;
 use std::alloc::{AllocError, Global};
 

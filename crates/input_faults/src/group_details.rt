@@ -5,7 +5,8 @@ ghost use Rattle.input_faults.specs.Details.{group_told};
 ghost use Rattle.input_faults.specs.inside.DetailText.{detail_text};
 
 use crate::detail::Detail;
-use auction_terms::{GroupFault, MOST_GROUPS, Wording};
+use auction_limits::MOST_GROUPS;
+use auction_terms::{GroupFault, Wording};
 
 /// The detail of a fault at a name of a line of groups.
 pub fn group_detail<'d>(name: &'d [u8], number: usize, fault: GroupFault) -> Detail<'d>

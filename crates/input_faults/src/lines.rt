@@ -14,9 +14,9 @@ ghost use Rattle.input_faults.specs.TextDetails.{detail, detail_in_rules, detail
 ghost use Rattle.input_faults.specs.inside.Cursors.{ReadsForm, StandsAt, StandsAtName};
 ghost use Rattle.input_faults.specs.inside.DetailText.{detail_text};
 ghost use Rattle.input_faults.specs.inside.HeldLines.{held_lines};
-ghost use Rattle.mps_text.specs.Adds.{Adds};
-ghost use Rattle.mps_text.specs.Sinks.{HasFailed, SentFront};
-ghost use Rattle.mps_text.specs.Written.{written_of};
+ghost use Rattle.byte_sinks.specs.Adds.{Adds};
+ghost use Rattle.byte_sinks.specs.Sinks.{HasFailed, SentFront};
+ghost use Rattle.byte_sinks.specs.Written.{written_of};
 
 use crate::detail::{Detail, add_detail};
 use crate::fault::Fault;
@@ -31,7 +31,7 @@ use crate::rules_details::rules_detail;
 use crate::wording::add_wording;
 use auction_input::{Parts, Told, only_text, split_parts};
 use auction_terms::{Faults, Found, Rules, Version, Wording, version_of};
-use mps_text::{MemorySink, Sink, WriteFault, Writer};
+use byte_sinks::{MemorySink, Sink, WriteFault, Writer};
 use requests::Request;
 use std::alloc::{AllocError, Global};
 

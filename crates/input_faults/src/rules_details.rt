@@ -11,9 +11,9 @@ ghost use Rattle.input_faults.specs.Details.{count_told, entry_told, header_told
 ghost use Rattle.input_faults.specs.inside.DetailText.{detail_text};
 
 use crate::detail::{Detail, of_field};
+use auction_limits::{GREATEST_AMOUNT, MOST_BIDDERS, MOST_CATEGORIES, MOST_POOLS};
 use auction_terms::{
-    GREATEST_AMOUNT, MOST_BIDDERS, MOST_CATEGORIES, MOST_POOLS, NumberLimits, RecordKind,
-    RulesFault, Version, Wording, field, kind_of, limits_outside,
+    NumberLimits, RecordKind, RulesFault, Version, Wording, field, kind_of, limits_outside,
 };
 use csv::ByteRecord;
 

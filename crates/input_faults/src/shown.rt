@@ -2,9 +2,9 @@
 
 ghost use Rattle.std.specs.Prelude.{◌≡◌, ◌<◌, codes, flat_map, if◌then◌else◌, length, nat_lt, take};
 ghost use Rattle.input_faults.specs.Shown.{hex_digit, shown_byte, shown_text};
-ghost use Rattle.mps_text.specs.Adds.{Adds};
+ghost use Rattle.byte_sinks.specs.Adds.{Adds};
 
-use mps_text::{Sink, Writer};
+use byte_sinks::{Sink, Writer};
 
 // How many bytes of a text are shown.
 const SHOWN_LEN: usize = 40;

@@ -1,11 +1,11 @@
 //! Words on faults and refusals, as they are written.
 
 ghost use Rattle.auction_terms.specs.Wording.{wording_text};
-ghost use Rattle.mps_text.specs.Adds.{Adds};
+ghost use Rattle.byte_sinks.specs.Adds.{Adds};
 
 use auction_terms::Wording;
+use byte_sinks::{Sink, Writer};
 use itoa::Buffer;
-use mps_text::{Sink, Writer};
 
 /// Adds words, with the numbers among them.
 pub fn add_wording<S: Sink>(writer: &mut Writer<'_, S>, wording: Wording)

@@ -3,10 +3,11 @@
 ghost use Rattle.std.specs.Prelude.{◌≡◌, ◌≤◌, All, length, map};
 ghost use Rattle.auction_terms.specs.Domination.{net};
 ghost use Rattle.auction_terms.specs.Terms.{lots_in};
-ghost use Rattle.auction_terms.specs.declared.limits.TheConstants.{GREATEST_AMOUNT, MOST_BIDS};
+ghost use Rattle.auction_limits.specs.declared.limits.TheConstants.{GREATEST_AMOUNT, MOST_BIDS};
 
 use arrayvec::ArrayVec;
-use auction_terms::{Bid, MOST_BIDS, Rules};
+use auction_limits::MOST_BIDS;
+use auction_terms::{Bid, Rules};
 
 /// A net for each bid of a form. They stand on the stack, and take no memory.
 pub type Nets = ArrayVec<i64, MOST_BIDS>;

@@ -6,7 +6,7 @@ ghost use Rattle.std.specs.Option.{is_none, option_or};
 ghost use Rattle.auction_terms.specs.Domination.{dominates, is_kept, net};
 ghost use Rattle.auction_terms.specs.Packages.{Lots, is_within};
 ghost use Rattle.auction_terms.specs.Terms.{lots_in};
-ghost use Rattle.auction_terms.specs.declared.limits.TheConstants.{GREATEST_AMOUNT, MOST_BIDS};
+ghost use Rattle.auction_limits.specs.declared.limits.TheConstants.{GREATEST_AMOUNT, MOST_BIDS};
 ghost use Rattle.left_out.specs.Reasons.{over_cap, over_supply, why_left_out};
 
 use crate::nets::nets_of;

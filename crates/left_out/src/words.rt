@@ -4,12 +4,12 @@ ghost use Rattle.std.specs.Prelude.{◌≡◌, ◌++◌, ◌∷◌, ◌≤◌, [
 ghost use Rattle.bid_desk.specs.Sale.{bidder_name};
 ghost use Rattle.left_out.specs.Lines.{category_name, left_out_line, pool_name, reason_text};
 ghost use Rattle.left_out.specs.declared.reason.Reason.TheVariants as reason;
-ghost use Rattle.mps_text.specs.Adds.{Adds};
+ghost use Rattle.byte_sinks.specs.Adds.{Adds};
 
 use crate::reason::Reason;
 use auction_terms::Rules;
+use byte_sinks::{Sink, Writer};
 use itoa::Buffer;
-use mps_text::{Sink, Writer};
 
 // The name of a category by its place.
 fn category_name(rules: &Rules, place: usize) -> &[u8]

@@ -7,21 +7,21 @@ ghost use Rattle.auction_terms.specs.Allocations.{form_of};
 ghost use Rattle.auction_terms.specs.Domination.{net};
 ghost use Rattle.auction_terms.specs.Terms.{lots_in};
 ghost use Rattle.auction_terms.specs.declared.bids.Bid.{Bid};
-ghost use Rattle.auction_terms.specs.declared.limits.TheConstants.{MOST_BIDS};
+ghost use Rattle.auction_limits.specs.declared.limits.TheConstants.{MOST_BIDS};
 ghost use Rattle.bid_desk.specs.Closing.{book_of};
 ghost use Rattle.bid_forms.specs.Offers.{IsBidWithinLimits};
 ghost use Rattle.left_out.specs.Lines.{form_lines, left_out_line, left_out_lines};
 ghost use Rattle.left_out.specs.Reasons.{why_left_out};
-ghost use Rattle.mps_text.specs.Adds.{Adds};
-ghost use Rattle.mps_text.specs.Sinks.{HasFailed, SentFront};
-ghost use Rattle.mps_text.specs.Written.{written_of};
+ghost use Rattle.byte_sinks.specs.Adds.{Adds};
+ghost use Rattle.byte_sinks.specs.Sinks.{HasFailed, SentFront};
+ghost use Rattle.byte_sinks.specs.Written.{written_of};
 
 use crate::nets::nets_of;
 use crate::why::why_beside;
 use crate::words::add_line;
 use auction_terms::{Bid, Rules};
 use bid_desk::ClosedBook;
-use mps_text::{Sink, WriteFault, Writer};
+use byte_sinks::{Sink, WriteFault, Writer};
 
 // Adds the line of a bid, where it is in no program.
 fn add_left_out<S: Sink>(

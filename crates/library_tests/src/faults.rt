@@ -1,8 +1,8 @@
 //! All faults of an input, as another crate asks for them.
 
 use auction_input::Refusal;
+use byte_sinks::{LimitSink, MemorySink, WriteFault};
 use input_faults::{explain, input_faults};
-use mps_text::{LimitSink, MemorySink, WriteFault};
 use requests::Request;
 use std::alloc::Global;
 use std::test::Fail;

@@ -1,6 +1,6 @@
 //! Pages of a worked auction.
 
-use group_pages::{Page, Pages, Section};
+use group_compiler::{Page, Pages, Section};
 
 mod refused;
 

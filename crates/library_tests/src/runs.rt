@@ -2,8 +2,8 @@
 
 use answers::{RunFault, run, run_compile};
 use auction_input::{Auction, Source, read_auction};
+use byte_sinks::{LimitSink, MemorySink};
 use group_compiler::OpenGate;
-use mps_text::{LimitSink, MemorySink};
 use requests::Request;
 use std::alloc::{AllocError, Global};
 use std::cell::Cell;

@@ -1,7 +1,7 @@
 -- A refusal that is handed on.
 use Rattle.std.proofs.Common.{◌≡◌, sym, subst, Option, Some, None}
 use Rattle.std.specs.Prelude.{Result, Ok, Err}
-use Rattle.program_rows.specs.declared.fault.FaultKind.{FaultKind}
+use Rattle.mps_meaning.specs.declared.fault.FaultKind.{FaultKind}
 use Rattle.mps_reader.specs.inside.Reading.{AnswersFault, AnswersUpTo}
 use Rattle.mps_reader.specs.declared.refusal.Refusal.{Refusal}
 use Rattle.mps_reader.specs.declared.refusal.Refusal.TheVariants.{Memory, Fault}

@@ -2,11 +2,11 @@
 use Rattle.std.proofs.Common.{◌≡◌, ℕ, zero, suc, Bool, true, false, not, ◌||◌, ◌&&◌, List, [], ◌∷◌, length, map, refl, sym, ap, subst, ◌∙◌, Option, Some, None, pos, ◌+◌, drop, arith}
 use Rattle.std.specs.Prelude.{slice_get, bytes_eq, codes, nat_le, if◌then◌else◌}
 use Rattle.std.specs.List.{list_any, slice_set, AllByRecursion, IsDistinct}
-use Rattle.program_rows.specs.Lines.{LineFields, field}
-use Rattle.program_rows.specs.Described.{is_one_of, value, is_binary_bound, columns_named, column_lines, bound_pair, is_column}
-use Rattle.program_rows.specs.Faults.{bound_fault, earliest_fault, stands_in_integers}
-use Rattle.program_rows.specs.declared.fault.FaultKind.{FaultKind}
-use Rattle.program_rows.specs.declared.fault.FaultKind.TheVariants.{BoundType, Fields, UnknownColumn}
+use Rattle.line_words.specs.Lines.{LineFields, field}
+use Rattle.mps_meaning.specs.Described.{is_one_of, value, is_binary_bound, columns_named, column_lines, bound_pair, is_column}
+use Rattle.mps_meaning.specs.Faults.{bound_fault, earliest_fault, stands_in_integers}
+use Rattle.mps_meaning.specs.declared.fault.FaultKind.{FaultKind}
+use Rattle.mps_meaning.specs.declared.fault.FaultKind.TheVariants.{BoundType, Fields, UnknownColumn}
 use Rattle.mps_reader.specs.inside.Rows.{names_of}
 use Rattle.mps_reader.specs.inside.Tracking.{ColumnsTell, state_values, told_values, bounded_values}
 use Rattle.mps_reader.specs.declared.column_state.ColumnState.{ColumnState}

@@ -14,8 +14,8 @@ use denote.Ref.{Bor}
 use Rattle.program_rows.specs.declared.bounds.Bounds.TheVariants.{ZeroOrOne}
 use Rattle.program_rows.specs.Program.{TableColumn}
 use Rattle.program_rows.specs.Parts.{AreEntries}
-use Rattle.program_rows.specs.Lines.{LineFields}
-use Rattle.program_rows.specs.Described.{columns_named, column_pairs, number_beside}
+use Rattle.line_words.specs.Lines.{LineFields}
+use Rattle.mps_meaning.specs.Described.{columns_named, column_pairs, number_beside}
 use Rattle.mps_reader.specs.inside.Columns.{same_place, ColumnsFit, AddsColumn, entries_at}
 use Rattle.mps_reader.specs.inside.Rows.{names_of}
 use Rattle.mps_reader.specs.inside.Tracking.{number_at_place, OpenTells, ColumnsTell, ColumnAdded, told_column, told_values, state_values}

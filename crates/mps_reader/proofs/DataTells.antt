@@ -1,14 +1,15 @@
 -- A data line more.
 use Rattle.std.proofs.Common.{◌≡◌, ℕ, ◌+◌, false, List, [], ◌∷◌, ◌++◌, length, map, refl, sym, ap, subst, ◌∙◌, Option, Some, None}
 use Rattle.std.specs.Prelude.{◌==◌, not, is_some, codes, bytes_eq, IfSome, flat_map}
-use Rattle.program_rows.specs.declared.fault.FaultKind.TheVariants.{Fields, RowType, RowRepeated}
+use Rattle.mps_meaning.specs.declared.fault.FaultKind.TheVariants.{Fields, RowType, RowRepeated}
 use Rattle.std.specs.List.{list_any, AllByRecursion}
 use Rattle.std.specs.Option.{option_map_or, option_to_list}
 use denote.Ref.{Bor}
-use Rattle.program_rows.specs.Lines.{Data, LineFields, field}
-use Rattle.program_rows.specs.Sections.{Sections, with_line}
-use Rattle.program_rows.specs.Described.{is_one_of, first_free, column_pairs, number_beside, line_right_sides}
-use Rattle.program_rows.specs.Faults.{earliest_fault, is_declared, row_fault, column_fault, right_side_fault, bound_fault, fault, sense_fault}
+use Rattle.line_words.specs.Lines.{LineFields, field}
+use Rattle.mps_meaning.specs.MpsLines.{Data}
+use Rattle.mps_meaning.specs.Sections.{Sections, with_line}
+use Rattle.mps_meaning.specs.Described.{is_one_of, first_free, column_pairs, number_beside, line_right_sides}
+use Rattle.mps_meaning.specs.Faults.{earliest_fault, is_declared, row_fault, column_fault, right_side_fault, bound_fault, fault, sense_fault}
 use Rattle.program_rows.specs.Program.{TableColumn}
 use Rattle.mps_reader.specs.inside.Rows.{names_of, option_now, declared_row_names, StampsAre, bound_lines_of}
 use Rattle.mps_reader.specs.inside.Columns.{ColumnsFit}

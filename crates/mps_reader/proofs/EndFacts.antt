@@ -1,8 +1,9 @@
 -- The line that ends a text.
 use Rattle.std.proofs.Common.{◌≡◌, ◌≢◌, ℕ, List, [], ◌∷◌, ◌++◌, length, refl, sym, ap, ◌∙◌, arith, drop}
 use Rattle.std.specs.Prelude.{bytes_eq, codes}
-use Rattle.program_rows.specs.Lines.{Skipped, Unprintable, Data, field, Header}
-use Rattle.program_rows.specs.Sections.{is_end}
+use Rattle.line_words.specs.Lines.{field}
+use Rattle.mps_meaning.specs.MpsLines.{Skipped, Unprintable, Data, Header}
+use Rattle.mps_meaning.specs.Sections.{is_end}
 use Rattle.mps_reader.specs.inside.Reading.{AreFirst}
 
 pub end-of : (shown all : List (List ℕ)) → AreFirst shown all → bytes_eq (field 0 shown) (codes "ENDATA") ≡ is_end (Header (field 0 all) (drop 1 all))

@@ -3,17 +3,17 @@ use Rattle.std.proofs.Common.{◌≡◌, ℕ, Bool, true, false, not, ◌||◌, 
 use Rattle.std.specs.Prelude.{◌==◌, ◌≢◌, bytes_eq, find, if◌then◌else◌}
 use Rattle.std.specs.Option.{option_map_or}
 use Rattle.std.proofs.lemmas.Bool.{both_ways, eqb-true}
-use Rattle.program_rows.specs.Lines.{LineFields, field}
-use Rattle.program_rows.specs.Described.{pairs, value, number_beside}
-use Rattle.program_rows.specs.Faults.{number_fault, earliest_fault, pairs_fault, is_declared}
-use Rattle.program_rows.specs.declared.fault.FaultKind.{FaultKind}
-use Rattle.program_rows.specs.declared.fault.FaultKind.TheVariants.{UnknownRow, EntryRepeated}
+use Rattle.line_words.specs.Lines.{LineFields, field}
+use Rattle.mps_meaning.specs.Described.{pairs, value, number_beside}
+use Rattle.mps_meaning.specs.Faults.{number_fault, earliest_fault, pairs_fault, is_declared}
+use Rattle.mps_meaning.specs.declared.fault.FaultKind.{FaultKind}
+use Rattle.mps_meaning.specs.declared.fault.FaultKind.TheVariants.{UnknownRow, EntryRepeated}
 use Rattle.mps_reader.specs.inside.Rows.{StampsAre}
 use Rattle.mps_reader.specs.inside.Tracking.{OpenTells}
 use Rattle.mps_reader.specs.declared.open_column.OpenColumn.{OpenColumn}
 use Rattle.mps_reader.proofs.NameFacts.{same_name}
 use Rattle.mps_reader.proofs.PairFaults.{begins, second, without-own, has_row}
-use Rattle.program_rows.specs.Numbers.{number as token_number}
+use Rattle.line_words.specs.Numbers.{number as token_number}
 use Rattle.std.specs.Bool.{then_some as when}
 
 pub one-of : (f : LineFields) → length f ≡ 3 → pairs (drop 1 f) ≡ (field 1 f, field 2 f) ∷ []

@@ -7,7 +7,7 @@ use Rattle.std.proofs.lemmas.Bool.Decides.{nat_tests}
 use Rattle.std.proofs.lemmas.Grind.{common_steps}
 use Rattle.std.proofs.lemmas.List.Sums.{position_or_len_is}
 use Rattle.std.proofs.lemmas.List.Splits.{slice_split_first}
-use Rattle.program_rows.specs.Lines.{fields, is_space}
+use Rattle.line_words.specs.Lines.{fields, is_space}
 use Rattle.program_rows.specs.Parts.{IsName}
 use Rattle.mps_reader.specs.inside.Reading.{is_other, is_text_byte}
 

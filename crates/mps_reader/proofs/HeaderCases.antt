@@ -1,12 +1,12 @@
 -- The fault of a header, check by check.
 use Rattle.std.proofs.Common.{◌≡◌, ℕ, true, false, ◌&&◌, List, [], ◌∷◌, length, refl, Option, Some, None}
 use Rattle.std.specs.Prelude.{nat_lt, is_none, codes, bytes_eq, if◌then◌else◌, position, option_map, not}
-use Rattle.program_rows.specs.Lines.{LineFields}
-use Rattle.program_rows.specs.Sections.{Sections}
-use Rattle.program_rows.specs.Described.{is_one_of, first_free, columns_named}
-use Rattle.program_rows.specs.Faults.{place_of, earliest_fault, sense_fault, header_fault, is_binary, sections_left_out}
-use Rattle.program_rows.specs.declared.fault.FaultKind.{FaultKind}
-use Rattle.program_rows.specs.declared.fault.FaultKind.TheVariants.{Section, NoObjective, NotBinary}
+use Rattle.line_words.specs.Lines.{LineFields}
+use Rattle.mps_meaning.specs.Sections.{Sections}
+use Rattle.mps_meaning.specs.Described.{is_one_of, first_free, columns_named}
+use Rattle.mps_meaning.specs.Faults.{place_of, earliest_fault, sense_fault, header_fault, is_binary, sections_left_out}
+use Rattle.mps_meaning.specs.declared.fault.FaultKind.{FaultKind}
+use Rattle.mps_meaning.specs.declared.fault.FaultKind.TheVariants.{Section, NoObjective, NotBinary}
 
 pub header-place : (before : Sections) (word : List ℕ) (more : LineFields) → is_one_of word sections_left_out ≡ false → nat_lt (place_of before.section) (place_of word) ≡ false → header_fault before word more ≡ Some Section
 header-place before word more a b = rw (a, b) refl

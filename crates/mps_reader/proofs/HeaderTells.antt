@@ -6,12 +6,13 @@ use Rattle.std.specs.Option.{option_map_or}
 use Rattle.std.proofs.lemmas.List.{length-drop, length-map}
 use Rattle.std.proofs.Math.Seq.{take-length}
 use denote.Ref.{Bor}
-use Rattle.program_rows.specs.Lines.{Header, LineFields}
-use Rattle.program_rows.specs.Sections.{Sections, with_line}
-use Rattle.program_rows.specs.Described.{first_free, columns_named}
-use Rattle.program_rows.specs.Faults.{place_of, header_fault, is_binary}
-use Rattle.program_rows.specs.declared.fault.FaultKind.{FaultKind}
-use Rattle.program_rows.specs.declared.fault.FaultKind.TheVariants.{NotBinary}
+use Rattle.line_words.specs.Lines.{LineFields}
+use Rattle.mps_meaning.specs.MpsLines.{Header}
+use Rattle.mps_meaning.specs.Sections.{Sections, with_line}
+use Rattle.mps_meaning.specs.Described.{first_free, columns_named}
+use Rattle.mps_meaning.specs.Faults.{place_of, header_fault, is_binary}
+use Rattle.mps_meaning.specs.declared.fault.FaultKind.{FaultKind}
+use Rattle.mps_meaning.specs.declared.fault.FaultKind.TheVariants.{NotBinary}
 use Rattle.auction_terms.specs.Borrowed.{bytes_of}
 use Rattle.mps_reader.specs.inside.Rows.{option_now, declared_row_names}
 use Rattle.mps_reader.specs.inside.Columns.{ColumnsFit}

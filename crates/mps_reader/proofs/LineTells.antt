@@ -10,12 +10,12 @@ use Rattle.std.proofs.lemmas.Bool.{ne_eqb}
 use denote.Ref.{Bor}
 use Rattle.program_rows.specs.declared.bounds.Bounds.TheVariants.{ZeroOrOne}
 use Rattle.program_rows.specs.Program.{TableColumn}
-use Rattle.program_rows.specs.Lines.{LineFields, field}
-use Rattle.program_rows.specs.Sections.{Sections}
-use Rattle.program_rows.specs.Described.{pairs, is_marker, column_lines, columns_named, column_pairs, number_beside, is_column}
-use Rattle.program_rows.specs.Faults.{is_integer_open, stands_in_integers, is_split, marker_fault, column_fault, pairs_fault, earliest_fault}
-use Rattle.program_rows.specs.declared.fault.FaultKind.{FaultKind}
-use Rattle.program_rows.specs.declared.fault.FaultKind.TheVariants.{ColumnSplit}
+use Rattle.line_words.specs.Lines.{LineFields, field}
+use Rattle.mps_meaning.specs.Sections.{Sections}
+use Rattle.mps_meaning.specs.Described.{pairs, is_marker, column_lines, columns_named, column_pairs, number_beside, is_column}
+use Rattle.mps_meaning.specs.Faults.{is_integer_open, stands_in_integers, is_split, marker_fault, column_fault, pairs_fault, earliest_fault}
+use Rattle.mps_meaning.specs.declared.fault.FaultKind.{FaultKind}
+use Rattle.mps_meaning.specs.declared.fault.FaultKind.TheVariants.{ColumnSplit}
 use Rattle.mps_reader.specs.inside.Columns.{ColumnsFit, entries_at, nearest_column}
 use Rattle.mps_reader.specs.inside.Rows.{names_of, option_now, declared_row_names, StampsAre}
 use Rattle.mps_reader.specs.inside.Tracking.{number_at_place, OpenTells, ColumnsTell, ColumnAdded, InColumns, AreStampsUpTo, told_column, told_values, state_values, is_current}

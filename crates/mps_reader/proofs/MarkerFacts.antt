@@ -1,9 +1,9 @@
 -- A marker out of turn.
 use Rattle.std.proofs.Common.{◌≡◌, Bool, true, false, not, ◌&&◌, List, length, refl, Some}
 use Rattle.std.specs.Prelude.{◌==◌, bytes_eq, codes}
-use Rattle.program_rows.specs.Lines.{LineFields, field}
-use Rattle.program_rows.specs.Faults.{is_integer_open, marker_fault}
-use Rattle.program_rows.specs.declared.fault.FaultKind.TheVariants.{Marker}
+use Rattle.line_words.specs.Lines.{LineFields, field}
+use Rattle.mps_meaning.specs.Faults.{is_integer_open, marker_fault}
+use Rattle.mps_meaning.specs.declared.fault.FaultKind.TheVariants.{Marker}
 use Rattle.mps_reader.proofs.NameFacts.{same_name}
 use Rattle.std.specs.Bool.{then_some as when}
 

@@ -4,12 +4,12 @@ use Rattle.std.specs.Prelude.{◌&&◌, bytes_eq, is_none, if◌then◌else◌, 
 use Rattle.std.specs.List.{list_any}
 use Rattle.std.specs.Option.{option_map_or, option_or}
 use Rattle.std.specs.Ordering.{int_eq}
-use Rattle.program_rows.specs.Described.{value}
-use Rattle.program_rows.specs.Lines.{LineFields}
-use Rattle.program_rows.specs.Faults.{earliest_fault, number_fault, is_declared, pairs_fault}
-use Rattle.program_rows.specs.declared.fault.FaultKind.{FaultKind}
-use Rattle.program_rows.specs.declared.fault.FaultKind.TheVariants.{UnknownRow, EntryRepeated, ObjectiveConstant}
-use Rattle.program_rows.specs.Numbers.{number as token_number}
+use Rattle.mps_meaning.specs.Described.{value}
+use Rattle.line_words.specs.Lines.{LineFields}
+use Rattle.mps_meaning.specs.Faults.{earliest_fault, number_fault, is_declared, pairs_fault}
+use Rattle.mps_meaning.specs.declared.fault.FaultKind.{FaultKind}
+use Rattle.mps_meaning.specs.declared.fault.FaultKind.TheVariants.{UnknownRow, EntryRepeated, ObjectiveConstant}
+use Rattle.line_words.specs.Numbers.{number as token_number}
 use Rattle.std.specs.Bool.{then_some as when}
 
 -- those of a pair, whose row is known or not, and repeated or not, and one more

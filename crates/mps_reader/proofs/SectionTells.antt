@@ -4,12 +4,13 @@ use Rattle.std.specs.Prelude.{◌==◌, ◌⊎◌, nat_le, is_none, is_some, cod
 use Rattle.std.proofs.lemmas.List.{take_all, length-take-le}
 use Rattle.std.proofs.lemmas.Bool.{ne_eqb, lt-ltb, ltb-true, ltb-false, le-leb, leb-true, false_from_ne_true}
 use denote.Ref.{Bor}
-use Rattle.program_rows.specs.Lines.{Skipped, Data, LineFields, field}
-use Rattle.program_rows.specs.Sections.{Sections, with_line}
-use Rattle.program_rows.specs.Described.{is_one_of, is_binary_bound, bound_pair, is_column}
-use Rattle.program_rows.specs.Faults.{place_of, earliest_fault, header_fault, row_fault, column_fault, right_side_fault, bound_fault, fault, sense_fault}
-use Rattle.program_rows.specs.declared.fault.FaultKind.{FaultKind}
-use Rattle.program_rows.specs.declared.fault.FaultKind.TheVariants as kinds
+use Rattle.line_words.specs.Lines.{LineFields, field}
+use Rattle.mps_meaning.specs.MpsLines.{Skipped, Data}
+use Rattle.mps_meaning.specs.Sections.{Sections, with_line}
+use Rattle.mps_meaning.specs.Described.{is_one_of, is_binary_bound, bound_pair, is_column}
+use Rattle.mps_meaning.specs.Faults.{place_of, earliest_fault, header_fault, row_fault, column_fault, right_side_fault, bound_fault, fault, sense_fault}
+use Rattle.mps_meaning.specs.declared.fault.FaultKind.{FaultKind}
+use Rattle.mps_meaning.specs.declared.fault.FaultKind.TheVariants as kinds
 use Rattle.mps_reader.specs.inside.Reading.{AreFirst, bit_fault}
 use Rattle.mps_reader.specs.inside.Rows.{names_of, option_now}
 use Rattle.mps_reader.specs.inside.Sections.{word_of}

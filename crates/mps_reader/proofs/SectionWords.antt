@@ -2,7 +2,7 @@
 use Rattle.std.proofs.Common.{◌≡◌, ℕ, ◌<◌, Bool, true, false, List, [], refl, sym, subst, arith}
 use Rattle.std.specs.Prelude.{codes, bytes_eq}
 use Rattle.std.proofs.lemmas.Slice.Eq.{bytes_eq-Decides}
-use Rattle.program_rows.specs.Faults.{place_of}
+use Rattle.mps_meaning.specs.Faults.{place_of}
 use Rattle.mps_reader.specs.inside.Sections.{word_of, section_named}
 
 -- a word has the place of the section that it names, and is its word where that has a place

@@ -7,12 +7,12 @@ use Rattle.std.proofs.lemmas.Bool.{eqb-true}
 use Rattle.std.proofs.lemmas.List.{length-drop}
 use Rattle.std.proofs.Math.Seq.{take-length}
 use denote.Ref.{Bor}
-use Rattle.program_rows.specs.Lines.{LineFields, field}
-use Rattle.program_rows.specs.Sections.{Sections}
-use Rattle.program_rows.specs.Described.{pairs, row_kind_of, value, line_right_sides, first_free, number_beside}
-use Rattle.program_rows.specs.Faults.{earliest_fault, is_declared, pairs_fault, right_side_fault}
-use Rattle.program_rows.specs.declared.fault.FaultKind.{FaultKind}
-use Rattle.program_rows.specs.declared.fault.FaultKind.TheVariants.{UnknownRow, EntryRepeated}
+use Rattle.line_words.specs.Lines.{LineFields, field}
+use Rattle.mps_meaning.specs.Sections.{Sections}
+use Rattle.mps_meaning.specs.Described.{pairs, row_kind_of, value, line_right_sides, first_free, number_beside}
+use Rattle.mps_meaning.specs.Faults.{earliest_fault, is_declared, pairs_fault, right_side_fault}
+use Rattle.mps_meaning.specs.declared.fault.FaultKind.{FaultKind}
+use Rattle.mps_meaning.specs.declared.fault.FaultKind.TheVariants.{UnknownRow, EntryRepeated}
 use Rattle.program_rows.specs.declared.row.Row.{Row}
 use Rattle.program_rows.specs.Program.{TableRow}
 use Rattle.program_rows.specs.Parts.{shown_row}

@@ -6,7 +6,7 @@ use Rattle.std.proofs.lemmas.Bool.{ltb-true, ltb-false, le-ltb, ne_eqb}
 use Rattle.std.proofs.lemmas.Bool.Decides.{nat_tests}
 use Rattle.std.proofs.lemmas.Grind.{common_steps}
 use Rattle.std.proofs.lemmas.List.Sums.{passes_at_first}
-use Rattle.program_rows.specs.Lines.{fields, is_space}
+use Rattle.line_words.specs.Lines.{fields, is_space}
 use Rattle.mps_reader.specs.inside.Reading.{is_other, is_behind, is_text_byte}
 use Rattle.mps_reader.proofs.FieldFacts.{some-is, none-is, drop-all, field-found, field-at-end}
 

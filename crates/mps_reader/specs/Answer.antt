@@ -1,8 +1,8 @@
 -- What the reader answers.
 use Rattle.std.specs.Prelude.{◌≡◌, ◌⊎◌, ℕ, Result, Ok, Err}
 use Rattle.program_rows.specs.Program.{Table}
-use Rattle.program_rows.specs.declared.fault.FaultKind.{FaultKind}
-use Rattle.program_rows.specs.declared.fault.FaultKind.TheVariants.{OutOfMemory}
+use Rattle.mps_meaning.specs.declared.fault.FaultKind.{FaultKind}
+use Rattle.mps_meaning.specs.declared.fault.FaultKind.TheVariants.{OutOfMemory}
 use Rattle.program_faults.specs.declared.mps_fault.MpsFault.{MpsFault}
 
 -- the program that the text means, or its first faulty line and the fault; memory that was short has no line

@@ -1,11 +1,11 @@
 //! Lines of BOUNDS.
 
 ghost use Rattle.std.specs.Prelude.{◌≡◌, ◌≤◌, ◌<◌, ◌+◌, ◌∷◌, [], ◌&&◌, ◌==◌, ℕ, List, not, true, false, codes, bytes_eq, length, nat_le, if◌then◌else◌, Option, IfOk, OnOk};
-ghost use Rattle.program_rows.specs.declared.fault.FaultKind.TheVariants.{BoundType, Fields};
+ghost use Rattle.mps_meaning.specs.declared.fault.FaultKind.TheVariants.{BoundType, Fields};
 ghost use Rattle.std.specs.List.{IsDistinct};
-ghost use Rattle.program_rows.specs.Lines.{LineFields, field};
-ghost use Rattle.program_rows.specs.Described.{is_one_of, is_binary_bound, value, columns_named};
-ghost use Rattle.program_rows.specs.Faults.{earliest_fault, bound_fault};
+ghost use Rattle.line_words.specs.Lines.{LineFields, field};
+ghost use Rattle.mps_meaning.specs.Described.{is_one_of, is_binary_bound, value, columns_named};
+ghost use Rattle.mps_meaning.specs.Faults.{earliest_fault, bound_fault};
 ghost use Rattle.auction_terms.specs.Borrowed.{bytes_of};
 ghost use Rattle.mps_reader.specs.inside.Reading.{AnswersFault, bit_fault};
 ghost use Rattle.mps_reader.specs.inside.Columns.{BothFit};
@@ -19,7 +19,8 @@ use crate::column_table::ColumnTable;
 use crate::refusal::Refusal;
 use crate::values::take_bit;
 use crate::words::is_word;
-use program_rows::{FaultKind, place_of};
+use mps_meaning::FaultKind;
+use program_rows::place_of;
 
 fn is_bound_type(word: &[u8]) -> bool
     ensures { result ≡ is_one_of word.now (codes "UP" ∷ codes "LO" ∷ codes "FX" ∷ codes "BV" ∷ []) }

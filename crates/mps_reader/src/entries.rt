@@ -3,11 +3,11 @@
 ghost use Rattle.std.specs.Prelude.{◌≡◌, ◌≤◌, ◌==◌, ◌||◌, ◌∷◌, [], ◌++◌, ℕ, ℤ, Bool, List, not, true, false, is_some, length, bytes_eq, drop, Option, None, OnOk, if◌then◌else◌};
 ghost use Rattle.std.specs.List.{AllByRecursion, list_any};
 ghost use Rattle.std.specs.Option.{option_map_or};
-ghost use Rattle.program_rows.specs.declared.fault.FaultKind.TheVariants.{UnknownRow, EntryRepeated};
-ghost use Rattle.program_rows.specs.Lines.{field, LineFields};
-ghost use Rattle.program_rows.specs.Sections.{Sections};
-ghost use Rattle.program_rows.specs.Described.{value, pairs, is_marker, number_beside};
-ghost use Rattle.program_rows.specs.Faults.{earliest_fault, number_fault, is_declared, pairs_fault, is_integer_open, marker_fault, column_fault};
+ghost use Rattle.mps_meaning.specs.declared.fault.FaultKind.TheVariants.{UnknownRow, EntryRepeated};
+ghost use Rattle.line_words.specs.Lines.{field, LineFields};
+ghost use Rattle.mps_meaning.specs.Sections.{Sections};
+ghost use Rattle.mps_meaning.specs.Described.{value, pairs, is_marker, number_beside};
+ghost use Rattle.mps_meaning.specs.Faults.{earliest_fault, number_fault, is_declared, pairs_fault, is_integer_open, marker_fault, column_fault};
 ghost use Rattle.program_rows.specs.Parts.{IsName};
 ghost use Rattle.auction_terms.specs.Borrowed.{bytes_of};
 ghost use Rattle.mps_reader.specs.inside.Reading.{AnswersFault};
@@ -15,7 +15,7 @@ ghost use Rattle.mps_reader.specs.inside.Rows.{RowsFit, StampsAre, names_of, dec
 ghost use Rattle.mps_reader.specs.inside.Tracking.{AreStampsUpTo, OpenTells, ColumnsTell, InColumns};
 ghost use Rattle.mps_reader.specs.declared.row_table.Rows as row_table;
 ghost use Rattle.mps_reader.specs.inside.Columns.{ColumnsFit, put_entries, PairsFit, BothFit};
-ghost use Rattle.program_rows.specs.Numbers.{number};
+ghost use Rattle.line_words.specs.Numbers.{number};
 ghost use Rattle.std.specs.Bool.{then_some as when};
 
 use crate::column_table::ColumnTable;
@@ -26,7 +26,7 @@ use crate::refusal::Refusal;
 use crate::row_table::Rows;
 use crate::rows::{is_objective, stamp_row};
 use crate::values::take_number;
-use program_rows::FaultKind;
+use mps_meaning::FaultKind;
 use std::alloc::AllocError;
 
 fn put(

@@ -2,7 +2,7 @@
 
 ghost use Rattle.std.specs.Prelude.{◌≡◌, ◌≤◌, ◌<◌, ◌∷◌, [], true, false, take, drop, length, position, MatchOption, IfSome, IfOk, OnErr};
 ghost use Rattle.std.specs.List.{list_all};
-ghost use Rattle.program_rows.specs.Lines.{fields, is_space};
+ghost use Rattle.line_words.specs.Lines.{fields, is_space};
 ghost use Rattle.auction_terms.specs.Borrowed.{bytes_of};
 ghost use Rattle.mps_reader.specs.inside.Reading.{is_other, is_behind, is_text_byte};
 

@@ -1,9 +1,9 @@
 //! The program at the end of a text.
 
 ghost use Rattle.std.specs.Prelude.{◌≡◌, not, map, true, false, position, option_map, is_some, Some, IfOk};
-ghost use Rattle.program_rows.specs.Sections.{Sections};
-ghost use Rattle.program_rows.specs.Described.{program};
-ghost use Rattle.program_rows.specs.declared.fault.FaultKind.TheVariants.{NotBinary};
+ghost use Rattle.mps_meaning.specs.Sections.{Sections};
+ghost use Rattle.mps_meaning.specs.Described.{program};
+ghost use Rattle.mps_meaning.specs.declared.fault.FaultKind.TheVariants.{NotBinary};
 ghost use Rattle.mps_reader.specs.inside.Reading.{AnswersFault};
 ghost use Rattle.mps_reader.specs.inside.Tracking.{ReadingTells};
 ghost use Rattle.mps_reader.specs.inside.Agreeing.{ReadingFits};
@@ -13,7 +13,8 @@ ghost use Rattle.mps_reader.specs.inside.States.{state_bounds, is_binary_state};
 use crate::column_state::ColumnState;
 use crate::reading_state::Reading;
 use crate::refusal::Refusal;
-use program_rows::{Bounds, FaultKind, Program, ProgramParts};
+use mps_meaning::FaultKind;
+use program_rows::{Bounds, Program, ProgramParts};
 use std::alloc::{AllocError, Global};
 
 fn is_binary(state: ColumnState) -> bool

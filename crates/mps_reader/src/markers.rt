@@ -1,15 +1,15 @@
 //! Marker lines of COLUMNS.
 
 ghost use Rattle.std.specs.Prelude.{◌≡◌, ◌∷◌, [], ◌&&◌, List, not, true, codes, bytes_eq, IfOk};
-ghost use Rattle.program_rows.specs.Lines.{LineFields, field};
-ghost use Rattle.program_rows.specs.Described.{is_one_of, is_marker};
-ghost use Rattle.program_rows.specs.Faults.{is_integer_open, marker_fault};
+ghost use Rattle.line_words.specs.Lines.{LineFields, field};
+ghost use Rattle.mps_meaning.specs.Described.{is_one_of, is_marker};
+ghost use Rattle.mps_meaning.specs.Faults.{is_integer_open, marker_fault};
 ghost use Rattle.auction_terms.specs.Borrowed.{bytes_of};
 ghost use Rattle.mps_reader.specs.inside.Reading.{AnswersFault};
 
 use crate::refusal::Refusal;
 use crate::words::is_word;
-use program_rows::FaultKind;
+use mps_meaning::FaultKind;
 
 fn is_marker_word(word: &[u8]) -> bool
     ensures { result ≡ is_one_of word.now (codes "'INTORG'" ∷ codes "'INTEND'" ∷ []) }

@@ -4,16 +4,17 @@ ghost use Rattle.std.specs.Prelude.{◌≡◌, ◌≤◌, ◌<◌, length, Err, 
 ghost use Rattle.auction_terms.specs.Lines.{lines_of};
 ghost use Rattle.mps_reader.specs.Answer.{IsRead};
 ghost use Rattle.mps_reader.specs.inside.Answer.{IsRefusedLine};
-ghost use Rattle.program_rows.specs.Meaning.{meaning};
-ghost use Rattle.program_rows.specs.declared.fault.FaultKind.TheVariants.{TooLarge};
+ghost use Rattle.mps_meaning.specs.Meaning.{meaning};
+ghost use Rattle.mps_meaning.specs.declared.fault.FaultKind.TheVariants.{TooLarge};
 
 use crate::finishing::finished;
 use crate::limits::PROGRAM_LIMIT;
 use crate::reading::{start, take_line};
 use crate::refusal::Refusal;
 use auction_terms::LineReader;
+use mps_meaning::FaultKind;
 use program_faults::MpsFault;
-use program_rows::{FaultKind, Program, Seeded};
+use program_rows::{Program, Seeded};
 use std::alloc::Global;
 
 fn refused(line: usize, refusal: Refusal) -> MpsFault

@@ -19,10 +19,11 @@
 
 ghost use Rattle.std.specs.Prelude.{◌≡◌, ◌≢◌, ◌≤◌, length, drop, codes, bytes_eq, true, false, is_some, OnOk, IfOk};
 ghost use Rattle.std.specs.List.{AllByRecursion};
-ghost use Rattle.program_rows.specs.Lines as spec;
-ghost use Rattle.program_rows.specs.Lines.{Unprintable, line_of, LineFields, field};
-ghost use Rattle.program_rows.specs.Sections.{Sections, no_lines, with_line, is_end};
-ghost use Rattle.program_rows.specs.Faults.{fault, header_fault};
+ghost use Rattle.mps_meaning.specs.MpsLines as spec;
+ghost use Rattle.line_words.specs.Lines.{LineFields, field};
+ghost use Rattle.mps_meaning.specs.MpsLines.{Unprintable, line_of};
+ghost use Rattle.mps_meaning.specs.Sections.{Sections, no_lines, with_line, is_end};
+ghost use Rattle.mps_meaning.specs.Faults.{fault, header_fault};
 ghost use Rattle.program_rows.specs.Parts.{IsName};
 ghost use Rattle.auction_terms.specs.Borrowed.{bytes_of};
 ghost use Rattle.mps_reader.specs.inside.Reading.{AnswersFault};
@@ -44,7 +45,8 @@ use crate::rows::take_row;
 use crate::sections::Section;
 use crate::senses::take_sense_line;
 use crate::words::is_word;
-use program_rows::{FaultKind, Seeded};
+use mps_meaning::FaultKind;
+use program_rows::Seeded;
 use std::alloc::Global;
 
 /// Nothing, before the first line. The seed is that of the sets of names.
@@ -87,7 +89,7 @@ fn take_header_line<'t>(reading: &mut Reading<'t>, fields: &[&'t [u8]]) -> Resul
     Ok(false)
 }
 
-#[tactic(auto, unfolding(program_rows::specs::Faults::fault))]
+#[tactic(auto, unfolding(mps_meaning::specs::Faults::fault))]
 fn take_data<'t>(reading: &mut Reading<'t>, fields: &[&'t [u8]]) -> Result<(), Refusal>
     requires fit { ReadingFits reading.old }
     requires some { 1 ≤ length fields.now }

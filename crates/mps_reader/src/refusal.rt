@@ -3,7 +3,7 @@
 ghost use Rattle.std.specs.Prelude.{◌≡◌};
 ghost use Rattle.mps_reader.specs.declared.refusal.Refusal.TheVariants.{Memory};
 
-use program_rows::FaultKind;
+use mps_meaning::FaultKind;
 use std::alloc::{AllocError, AllocFailed};
 
 /// Why a line is not taken.

@@ -1,7 +1,7 @@
 //! The sections of a text.
 
 ghost use Rattle.std.specs.Prelude.{◌≡◌};
-ghost use Rattle.program_rows.specs.Faults.{place_of};
+ghost use Rattle.mps_meaning.specs.Faults.{place_of};
 ghost use Rattle.mps_reader.specs.inside.Sections.{word_of, section_named};
 
 use crate::words::is_word;

@@ -1,16 +1,16 @@
 //! Senses: an objective is minimised.
 
 ghost use Rattle.std.specs.Prelude.{◌≡◌, ◌∷◌, [], codes, not};
-ghost use Rattle.program_rows.specs.declared.fault.FaultKind.TheVariants.{SenseMax, Fields};
-ghost use Rattle.program_rows.specs.Described.{is_one_of};
-ghost use Rattle.program_rows.specs.Faults.{earliest_fault, sense_fault};
+ghost use Rattle.mps_meaning.specs.declared.fault.FaultKind.TheVariants.{SenseMax, Fields};
+ghost use Rattle.mps_meaning.specs.Described.{is_one_of};
+ghost use Rattle.mps_meaning.specs.Faults.{earliest_fault, sense_fault};
 ghost use Rattle.auction_terms.specs.Borrowed.{bytes_of};
 ghost use Rattle.mps_reader.specs.inside.Reading.{AnswersFault};
 ghost use Rattle.std.specs.Bool.{then_some as when};
 
 use crate::refusal::Refusal;
 use crate::words::is_word;
-use program_rows::FaultKind;
+use mps_meaning::FaultKind;
 
 fn is_greatest(word: &[u8]) -> bool
     ensures { result ≡ is_one_of word.now (codes "MAX" ∷ codes "MAXIMIZE" ∷ []) }

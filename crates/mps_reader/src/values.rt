@@ -1,14 +1,15 @@
 //! Numbers of a line.
 
 ghost use Rattle.std.specs.Prelude.{◌≡◌, IfOk};
-ghost use Rattle.program_rows.specs.Described.{value};
-ghost use Rattle.program_rows.specs.Faults.{number_fault};
+ghost use Rattle.mps_meaning.specs.Described.{value};
+ghost use Rattle.mps_meaning.specs.Faults.{number_fault};
 ghost use Rattle.mps_reader.specs.inside.Reading.{AnswersFault, bit_fault};
 ghost use Rattle.mps_reader.specs.inside.Tracking.{bit};
-ghost use Rattle.program_rows.specs.Numbers.{number};
+ghost use Rattle.line_words.specs.Numbers.{number};
 
 use crate::refusal::Refusal;
-use program_rows::{FaultKind, NumberFault, read_number};
+use line_words::{NumberFault, read_number};
+use mps_meaning::FaultKind;
 
 /// A number.
 #[inline(always)]

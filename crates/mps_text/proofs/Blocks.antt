@@ -1,11 +1,12 @@
 -- Reading line after line, and what the lines of a block leave.
 use Rattle.std.proofs.Common.{◌≡◌, ℕ, ◌+◌, false, List, [], ◌∷◌, ◌++◌, map, refl, None, Ok}
 use Rattle.std.specs.Prelude.{codes}
-use Rattle.program_rows.specs.Lines.{LineFields, Line, Header, Data}
-use Rattle.program_rows.specs.Sections.{Sections, with_line, is_end}
-use Rattle.program_rows.specs.Faults.{fault}
-use Rattle.program_rows.specs.Described.{program}
-use Rattle.program_rows.specs.Meaning.{meaning_behind}
+use Rattle.line_words.specs.Lines.{LineFields}
+use Rattle.mps_meaning.specs.MpsLines.{Line, Header, Data}
+use Rattle.mps_meaning.specs.Sections.{Sections, with_line, is_end}
+use Rattle.mps_meaning.specs.Faults.{fault}
+use Rattle.mps_meaning.specs.Described.{program}
+use Rattle.mps_meaning.specs.Meaning.{meaning_behind}
 
 -- the lines ls, read behind others
 abbrev pub onto : List Line → Sections → Sections

@@ -5,14 +5,14 @@ use Rattle.std.specs.List.{AllByRecursion}
 use Rattle.program_rows.specs.declared.bounds.Bounds.{Bounds}
 use Rattle.program_rows.specs.declared.bounds.Bounds.TheVariants.{ZeroOrOne, Zero, One}
 use Rattle.program_rows.specs.Program.{TableColumn}
-use Rattle.program_rows.specs.Lines.{Data}
-use Rattle.program_rows.specs.Sections.{Sections, with_line}
-use Rattle.program_rows.specs.Faults.{fault}
-use Rattle.program_rows.specs.Numbers.{number}
+use Rattle.mps_meaning.specs.MpsLines.{Data}
+use Rattle.mps_meaning.specs.Sections.{Sections, with_line}
+use Rattle.mps_meaning.specs.Faults.{fault}
+use Rattle.line_words.specs.Numbers.{number}
 use Rattle.mps_text.specs.Text.{bound_words}
 use Rattle.mps_text.proofs.Blocks.{AreRead}
 use Rattle.mps_text.proofs.Fields.{bound_fields}
-use Rattle.program_rows.specs.Described.{is_column}
+use Rattle.mps_meaning.specs.Described.{is_column}
 
 bound-read : (before : Sections) (name : List ℕ) (b : Bounds) → before.section ≡ codes "BOUNDS" → is_column before.columns name ≡ true → fault before (Data ((bound_words b).0 ∷ codes "BND" ∷ name ∷ (bound_words b).1 ∷ [])) ≡ None
 unfolding fault number

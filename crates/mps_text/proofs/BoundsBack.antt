@@ -5,11 +5,11 @@ use Rattle.std.specs.List.{AllByRecursion, IsDistinct}
 use Rattle.program_rows.specs.declared.bounds.Bounds.{Bounds}
 use Rattle.program_rows.specs.declared.bounds.Bounds.TheVariants.{ZeroOrOne, Zero, One}
 use Rattle.program_rows.specs.Program.{TableColumn}
-use Rattle.program_rows.specs.Lines.{LineFields, field}
-use Rattle.program_rows.specs.Sections.{Sections}
-use Rattle.program_rows.specs.Described.{is_one_of, lower, upper, bound_pair}
-use Rattle.program_rows.specs.Faults.{is_binary, stands_in_integers}
-use Rattle.program_rows.specs.Numbers.{number}
+use Rattle.line_words.specs.Lines.{LineFields, field}
+use Rattle.mps_meaning.specs.Sections.{Sections}
+use Rattle.mps_meaning.specs.Described.{is_one_of, lower, upper, bound_pair}
+use Rattle.mps_meaning.specs.Faults.{is_binary, stands_in_integers}
+use Rattle.line_words.specs.Numbers.{number}
 use Rattle.mps_text.specs.Text.{bound_words}
 use Rattle.mps_text.proofs.RowPhase.{flip}
 use Rattle.mps_text.proofs.ColumnPhase.{same-name}

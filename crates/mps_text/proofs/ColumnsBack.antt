@@ -4,9 +4,9 @@ use Rattle.std.specs.Prelude.{⊤, bytes_eq, codes, filter, find, flat_map, drop
 use Rattle.std.proofs.lemmas.List.{append-nil}
 use Rattle.std.specs.List.{list_any, AllByRecursion, IsDistinct}
 use Rattle.std.proofs.lemmas.Slice.Eq.{bytes_eq-Decides}
-use Rattle.program_rows.specs.Lines.{LineFields, field}
-use Rattle.program_rows.specs.Described.{is_marker, is_column, columns_named, column_lines, pairs}
-use Rattle.program_rows.specs.Faults.{is_integer_open, stands_in_integers}
+use Rattle.line_words.specs.Lines.{LineFields, field}
+use Rattle.mps_meaning.specs.Described.{is_marker, is_column, columns_named, column_lines, pairs}
+use Rattle.mps_meaning.specs.Faults.{is_integer_open, stands_in_integers}
 use Rattle.mps_text.proofs.RowPhase.{flip}
 use Rattle.mps_text.proofs.ColumnPhase.{Pair, pair_fields, same-name}
 use Rattle.mps_text.proofs.Pushed.{push, push-append}

@@ -2,7 +2,7 @@
 use Rattle.std.specs.Prelude.{List, [], ◌∷◌, codes, map}
 use Rattle.std.specs.Fmt.{signed_decimal}
 use Rattle.program_rows.specs.Program.{Table, TableRow, TableColumn}
-use Rattle.program_rows.specs.Lines.{LineFields}
+use Rattle.line_words.specs.Lines.{LineFields}
 use Rattle.program_rows.specs.ProgramNames.{row_name}
 use Rattle.mps_text.specs.Text.{kind_letter, bound_words}
 

@@ -1,5 +1,6 @@
 pub mod Fields
 pub mod Small
+mod LineParts
 pub mod Lines
 pub mod Numbers
 pub mod Blocks
@@ -8,8 +9,6 @@ pub mod RightSidePhase
 pub mod ColumnPhase
 pub mod BoundPhase
 pub mod RowsBack
-pub mod Known
-pub mod Adding
 mod LineBytes
 mod ShortLines
 pub mod Pushed

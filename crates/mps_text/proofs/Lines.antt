@@ -7,8 +7,9 @@ use Rattle.std.proofs.lemmas.Bool.{and_parts, ne_eqb}
 use Rattle.std.proofs.lemmas.Grind.{common_steps}
 use Rattle.std.proofs.lemmas.Bool.Decides.{nat_tests}
 use Rattle.auction_terms.specs.Lines.{is_line_feed, lines_of}
-use Rattle.program_rows.specs.Lines.{Line, Skipped, Unprintable, Header, Data, fields, is_space, line_of}
-use Rattle.program_rows.proofs.LineParts.{lines_of_parts, lines_are}
+use Rattle.line_words.specs.Lines.{fields, is_space}
+use Rattle.mps_meaning.specs.MpsLines.{Line, Skipped, Unprintable, Header, Data, line_of}
+use Rattle.mps_text.proofs.LineParts.{lines_of_parts, lines_are}
 use Rattle.mps_text.specs.Text.{written}
 
 -- printable, and no white space

@@ -7,7 +7,8 @@ use Rattle.std.proofs.lemmas.List.{map-append}
 use Rattle.std.proofs.lemmas.Bool.{or_right}
 use Rattle.program_rows.specs.Program.{Table, TableRow, TableColumn}
 use Rattle.program_rows.specs.Parts.{AreEntries}
-use Rattle.program_rows.specs.Lines.{Data, LineFields, field}
+use Rattle.line_words.specs.Lines.{LineFields, field}
+use Rattle.mps_meaning.specs.MpsLines.{Data}
 use Rattle.mps_text.proofs.ColumnPhase.{Pair, pair_fields, same-name, columns_lines}
 use Rattle.mps_text.proofs.Pushed.{push, push-append}
 use Rattle.mps_text.proofs.ColumnsBack.{Listed, plain_lines, ArePlain, IsFilled}

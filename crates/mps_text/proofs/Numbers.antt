@@ -11,7 +11,7 @@ use Rattle.std.proofs.lemmas.Bool.Decides.{nat_tests}
 use Rattle.std.proofs.lemmas.Grind.{common_steps}
 use Rattle.std.proofs.lemmas.Str.Parse.{digit_from_value}
 use Rattle.std.proofs.lemmas.Fmt.{decimal_is_IsNumeral, length-decimal-le}
-use Rattle.program_rows.specs.Numbers.{number, is_exponent_mark, is_minus, without_sign, signed}
+use Rattle.line_words.specs.Numbers.{number, is_exponent_mark, is_minus, without_sign, signed}
 pub use Rattle.program_rows.specs.Legal.{IsSmall}
 use Rattle.mps_text.proofs.Lines.{Printable, IsField}
 

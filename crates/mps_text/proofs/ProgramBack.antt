@@ -7,10 +7,10 @@ use Rattle.std.proofs.lemmas.Bool.{false_from_ne_true, ltb-true}
 use Rattle.program_rows.specs.declared.bounds.Bounds.{Bounds}
 use Rattle.program_rows.specs.Program.{Table, TableRow, TableColumn}
 use Rattle.program_rows.specs.Parts.{IsProgram, AreEntries}
-use Rattle.program_rows.specs.Lines.{LineFields}
-use Rattle.program_rows.specs.Sections.{Sections}
-use Rattle.program_rows.specs.Described.{column_lines, first_free, columns_named, table_column, table_rows, program, lower, upper, column_pairs, number_beside, line_right_sides}
-use Rattle.program_rows.specs.Faults.{is_binary, stands_in_integers}
+use Rattle.line_words.specs.Lines.{LineFields}
+use Rattle.mps_meaning.specs.Sections.{Sections}
+use Rattle.mps_meaning.specs.Described.{column_lines, first_free, columns_named, table_column, table_rows, program, lower, upper, column_pairs, number_beside, line_right_sides}
+use Rattle.mps_meaning.specs.Faults.{is_binary, stands_in_integers}
 use Rattle.program_rows.specs.Legal.{IsWritable, IsSmall}
 use Rattle.mps_text.proofs.Small.{small_costs, small_entries}
 use Rattle.mps_text.proofs.Numbers.{number-signed_decimal}
@@ -23,7 +23,7 @@ use Rattle.mps_text.proofs.BoundsBack.{bounds-found, none-set, bounds-back, bina
 use Rattle.mps_text.proofs.EntriesBack.{worth, pair_of, entries-back}
 use Rattle.mps_text.proofs.Listing.{row_names, pairs_of, all_listed, places-differ, names-at, names-listed, all-filled, all-pairs-differ}
 use Rattle.program_rows.specs.ProgramNames.{row_name}
-use Rattle.program_rows.specs.declared.fault.FaultKind.TheVariants.{NotBinary}
+use Rattle.mps_meaning.specs.declared.fault.FaultKind.TheVariants.{NotBinary}
 use Rattle.program_rows.specs.declared.bounds.Bounds.TheVariants.{One, Zero, ZeroOrOne}
 use Rattle.std.specs.Ordering.{int_eq}
 use Rattle.mps_text.proofs.Fields.{row_fields, right_side_fields, bound_fields}

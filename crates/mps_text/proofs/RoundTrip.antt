@@ -4,12 +4,13 @@ use Rattle.std.specs.Prelude.{bytes_eq, codes, flat_map, ℤ, position, option_m
 use Rattle.std.specs.List.{list_any, AllByRecursion, IsDistinct}
 use Rattle.program_rows.specs.Program.{Table, TableRow, TableColumn}
 use Rattle.program_rows.specs.Parts.{IsProgram, AreEntries}
-use Rattle.program_rows.specs.Lines.{Line, Header, Data, LineFields, field}
-use Rattle.program_rows.specs.Sections.{Sections, no_lines}
-use Rattle.program_rows.specs.Described.{program, column_lines, first_free, columns_named, is_column}
-use Rattle.program_rows.specs.Faults.{fault, is_declared, is_integer_open, stands_in_integers, is_binary}
-use Rattle.program_rows.specs.Meaning.{meaning, meaning_behind}
-use Rattle.program_rows.specs.declared.fault.FaultKind.{FaultKind}
+use Rattle.line_words.specs.Lines.{LineFields, field}
+use Rattle.mps_meaning.specs.MpsLines.{Line, Header, Data}
+use Rattle.mps_meaning.specs.Sections.{Sections, no_lines}
+use Rattle.mps_meaning.specs.Described.{program, column_lines, first_free, columns_named, is_column}
+use Rattle.mps_meaning.specs.Faults.{fault, is_declared, is_integer_open, stands_in_integers, is_binary}
+use Rattle.mps_meaning.specs.Meaning.{meaning, meaning_behind}
+use Rattle.mps_meaning.specs.declared.fault.FaultKind.{FaultKind}
 use Rattle.mps_text.specs.Text.{text, block, if_any}
 use Rattle.program_rows.specs.Legal.{IsWritable, IsSmall}
 use Rattle.mps_text.specs.RoundTrip.{TextIsRead}
@@ -30,7 +31,7 @@ use Rattle.mps_text.proofs.Listing.{row_names, all_listed, at-name, column-lines
 use Rattle.mps_text.proofs.WrittenLines.{all-written, text_lines}
 use Rattle.mps_text.proofs.ProgramBack.{Lists, objective-back, program-back, all-binary}
 use Rattle.program_rows.specs.ProgramNames.{row_name}
-use Rattle.program_rows.specs.declared.fault.FaultKind.TheVariants.{NotBinary}
+use Rattle.mps_meaning.specs.declared.fault.FaultKind.TheVariants.{NotBinary}
 use Rattle.mps_text.proofs.Fields.{row_fields, right_side_fields, bound_fields, column_fields}
 
 -- ---- names of rows

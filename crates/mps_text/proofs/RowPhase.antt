@@ -7,10 +7,10 @@ use Rattle.std.proofs.lemmas.Slice.Eq.{bytes_eq-Decides}
 use Rattle.program_rows.specs.declared.row.RowKind.{RowKind}
 use Rattle.program_rows.specs.declared.row.RowKind.TheVariants.{AtMost, AtLeast, Equal}
 use Rattle.program_rows.specs.Program.{TableRow}
-use Rattle.program_rows.specs.Lines.{Data}
-use Rattle.program_rows.specs.Sections.{Sections, with_line}
-use Rattle.program_rows.specs.Described.{is_one_of, is_free, row_kind_of}
-use Rattle.program_rows.specs.Faults.{fault, is_declared}
+use Rattle.mps_meaning.specs.MpsLines.{Data}
+use Rattle.mps_meaning.specs.Sections.{Sections, with_line}
+use Rattle.mps_meaning.specs.Described.{is_one_of, is_free, row_kind_of}
+use Rattle.mps_meaning.specs.Faults.{fault, is_declared}
 use Rattle.mps_text.specs.Text.{kind_letter}
 use Rattle.mps_text.proofs.Blocks.{AreRead}
 use Rattle.mps_text.proofs.Fields.{row_fields}

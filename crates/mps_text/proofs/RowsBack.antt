@@ -9,9 +9,9 @@ use Rattle.std.proofs.lemmas.Slice.Eq.{bytes_eq-Decides}
 use Rattle.program_rows.specs.declared.row.RowKind.{RowKind}
 use Rattle.program_rows.specs.declared.row.RowKind.TheVariants.{AtMost, AtLeast, Equal}
 use Rattle.program_rows.specs.Program.{TableRow}
-use Rattle.program_rows.specs.Lines.{LineFields, field}
-use Rattle.program_rows.specs.Sections.{Sections}
-use Rattle.program_rows.specs.Described.{row_kind_of, is_free, table_rows, line_right_sides, number_beside}
+use Rattle.line_words.specs.Lines.{LineFields, field}
+use Rattle.mps_meaning.specs.Sections.{Sections}
+use Rattle.mps_meaning.specs.Described.{row_kind_of, is_free, table_rows, line_right_sides, number_beside}
 use Rattle.mps_text.specs.Text.{kind_letter}
 use Rattle.mps_text.proofs.Numbers.{IsSmall, number-signed_decimal}
 use Rattle.mps_text.proofs.RowPhase.{bound_rows}

@@ -1,5 +1,5 @@
 -- The bytes of the sections, one behind the other, are the text.
-use Rattle.std.proofs.Common.{◌≡◌, ℕ, List, [], ◌∷◌, ◌++◌, map, refl, sym, ap, ◌∙◌, append_assoc}
+use Rattle.std.proofs.Common.{◌≡◌, ℕ, List, [], ◌∷◌, ◌++◌, length, map, refl, sym, ap, ◌∙◌, append_assoc}
 use Rattle.std.specs.Prelude.{codes, flat_map, ℤ}
 use Rattle.std.proofs.lemmas.List.{map-append}
 use Rattle.std.proofs.lemmas.Grind.{flat_map-append}
@@ -7,13 +7,18 @@ use Rattle.program_rows.specs.declared.row.Row.{Row}
 use Rattle.program_rows.specs.declared.parts.ProgramParts.{ProgramParts}
 use Rattle.program_rows.specs.Program.{Table, TableRow, TableColumn}
 use Rattle.program_rows.specs.Parts.{shown_row, table_of}
-use Rattle.program_rows.specs.Lines.{Line, Header, Data, LineFields}
+use Rattle.line_words.specs.Lines.{LineFields}
+use Rattle.mps_meaning.specs.MpsLines.{Line, Header, Data}
 use Rattle.mps_text.specs.Text.{written, text, block, if_any}
 use Rattle.mps_text.specs.Bytes.{bound_bytes, column_bytes, cost_bytes}
-use Rattle.mps_text.specs.inside.Bytes.{columns_bytes, bounds_bytes, right_sides_bytes, rows_bytes, parts_bytes}
+use Rattle.mps_text.specs.inside.Bytes.{columns_bytes, bounds_bytes, right_sides_bytes, rows_bytes, parts_bytes, where_any}
 use Rattle.std.specs.Fmt.{signed_decimal}
 use Rattle.program_rows.specs.ProgramNames.{row_name}
 use Rattle.mps_text.proofs.Fields.{row_fields, right_side_fields, bound_fields, column_fields}
+
+pub where_any-some : {X : Type 0} (xs : List X) (bytes : List ℕ) → (length xs ≡ 0 → ⊥) → bytes ≡ where_any xs bytes
+where_any-some [] bytes some = absurd (some refl)
+where_any-some (x ∷ xs) bytes some = refl
 
 abbrev flat : List LineFields → List ℕ
 flat ls = flat_map written (map Data ls)

@@ -10,11 +10,12 @@ use Rattle.program_rows.specs.Points.{broken_row}
 use Rattle.program_rows.specs.Rows.{program_of}
 use Rattle.program_rows.specs.Spelling.{column_bid}
 use Rattle.program_rows.specs.Faithful.{back}
-use Rattle.program_rows.specs.Lines.{fields, line_of}
-use Rattle.program_rows.specs.Described.{program}
-use Rattle.program_rows.specs.Faults.{fault}
-use Rattle.program_rows.specs.Meaning.{meaning}
-use Rattle.program_rows.specs.Numbers.{number}
+use Rattle.line_words.specs.Lines.{fields}
+use Rattle.mps_meaning.specs.MpsLines.{line_of}
+use Rattle.mps_meaning.specs.Described.{program}
+use Rattle.mps_meaning.specs.Faults.{fault}
+use Rattle.mps_meaning.specs.Meaning.{meaning}
+use Rattle.line_words.specs.Numbers.{number}
 use Rattle.mps_text.specs.Text.{text}
 use Rattle.mps_text.specs.FaithfulText.{presolved_text}
 

@@ -9,7 +9,8 @@ use Rattle.program_rows.specs.declared.bounds.Bounds.{Bounds}
 use Rattle.program_rows.specs.declared.bounds.Bounds.TheVariants.{ZeroOrOne, Zero, One}
 use Rattle.program_rows.specs.Program.{Table, TableRow, TableColumn}
 use Rattle.program_rows.specs.Parts.{IsProgram, AreEntries, IsName}
-use Rattle.program_rows.specs.Lines.{Line, Header, Data, LineFields}
+use Rattle.line_words.specs.Lines.{LineFields}
+use Rattle.mps_meaning.specs.MpsLines.{Line, Header, Data}
 use Rattle.mps_text.specs.Text.{block, if_any, kind_letter, bound_words}
 use Rattle.program_rows.specs.Legal.{IsWritable, IsSmall}
 use Rattle.mps_text.proofs.Small.{small_costs, small_entries}

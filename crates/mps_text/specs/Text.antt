@@ -7,7 +7,8 @@ use Rattle.program_rows.specs.declared.row.RowKind.TheVariants.{AtMost, AtLeast,
 use Rattle.program_rows.specs.declared.bounds.Bounds.{Bounds}
 use Rattle.program_rows.specs.declared.bounds.Bounds.TheVariants.{ZeroOrOne, Zero, One}
 use Rattle.program_rows.specs.Program.{Table, TableColumn}
-use Rattle.program_rows.specs.Lines.{Line, Header, Data, LineFields}
+use Rattle.line_words.specs.Lines.{LineFields}
+use Rattle.mps_meaning.specs.MpsLines.{Line, Header, Data}
 use Rattle.program_rows.specs.ProgramNames.{row_name}
 
 -- A line as it is written: a space before data, a space between fields, a line feed at the end.

@@ -1,12 +1,11 @@
 //! A program on its way to a sink.
 
-ghost use Rattle.mps_text.specs.Adds.{Adds};
+ghost use Rattle.byte_sinks.specs.Adds.{Adds};
 ghost use Rattle.mps_text.specs.inside.Bytes.{bounds_bytes, columns_bytes, parts_bytes};
 
 use crate::data_lines::add_two;
 use crate::sections::{add_bounds, add_columns, add_right_sides, add_rows};
-use crate::sink::Sink;
-use crate::writer::Writer;
+use byte_sinks::{Sink, Writer};
 use program_rows::ProgramParts;
 
 /// Adds the lines of the columns between those of the markers.

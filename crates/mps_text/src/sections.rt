@@ -2,17 +2,16 @@
 
 ghost use Rattle.std.specs.Prelude.{IfSome, ◌≡◌, ◌≤◌, ◌≤ℤ◌, ◌<ℤ◌, ◌∷◌, [], ◌++◌, codes, flat_map, length, map, pos, take, true};
 ghost use Rattle.std.specs.Fmt.{signed_decimal};
-ghost use Rattle.program_rows.specs.Lines.{Data};
+ghost use Rattle.mps_meaning.specs.MpsLines.{Data};
 ghost use Rattle.program_rows.specs.Parts.{shown_row, shown_column};
 ghost use Rattle.mps_text.specs.Text.{written, kind_letter, bound_words};
-ghost use Rattle.mps_text.specs.Adds.{Adds};
+ghost use Rattle.byte_sinks.specs.Adds.{Adds};
 ghost use Rattle.mps_text.specs.Bytes.{row_bytes, right_side_bytes, bound_bytes, entry_bytes, cost_bytes, column_bytes};
 ghost use Rattle.program_rows.specs.ProgramNames.{row_name};
 
 use crate::data_lines::{add_three, add_two};
 use crate::line::{FRONT_LEN, FRONT_NAME_LEN, LINE_ROOM, LINES_LEN, write_front, write_line};
-use crate::sink::Sink;
-use crate::writer::Writer;
+use byte_sinks::{Sink, Writer};
 use itoa::Buffer;
 use program_rows::{Bounds, Column, Columns, Row, RowKind};
 

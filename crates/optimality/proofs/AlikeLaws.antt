@@ -11,7 +11,7 @@ use lib.IntN.{zero-*ℤ}
 use Rattle.auction_terms.specs.Stages.{and_then}
 use Rattle.program_rows.specs.Program.{Table}
 use Rattle.program_rows.specs.Points.{coefficient_at}
-use Rattle.program_rows.specs.Lines.{fields, is_skipped}
+use Rattle.line_words.specs.Lines.{fields, is_skipped}
 use Rattle.program_faults.specs.declared.certificate_fault.FaultKind.{FaultKind}
 use Rattle.program_faults.specs.declared.certificate_fault.FaultKind.TheVariants.{Beyond, NotShown}
 use Rattle.optimality.specs.Certificates.{Form, Cut, number_in, side, sum_of}

@@ -4,12 +4,12 @@ use Rattle.std.specs.Prelude.{◌-ℤ◌, bytes_eq, codes, if◌then◌else◌, 
 use Rattle.std.specs.List.{list_all}
 use Rattle.std.specs.Option.{ok_or}
 use Rattle.auction_terms.specs.Stages.{and_then}
-use Rattle.program_rows.specs.Lines.{fields, is_skipped}
-use Rattle.program_rows.specs.Numbers.{number}
+use Rattle.line_words.specs.Lines.{fields, is_skipped}
+use Rattle.line_words.specs.Numbers.{number}
 use Rattle.program_rows.specs.Program.{Table}
 use Rattle.program_rows.specs.ProgramNames.{column_names, row_names}
-use Rattle.program_rows.specs.declared.number.NumberFault.{NumberFault}
-use Rattle.program_rows.specs.declared.number.NumberFault.TheVariants as numbers
+use Rattle.line_words.specs.declared.number.NumberFault.{NumberFault}
+use Rattle.line_words.specs.declared.number.NumberFault.TheVariants as numbers
 use Rattle.program_faults.specs.declared.certificate_fault.CertificateFault.{CertificateFault}
 use Rattle.program_faults.specs.declared.certificate_fault.FaultKind.{FaultKind}
 use Rattle.program_faults.specs.declared.certificate_fault.FaultKind.TheVariants.{Beyond, Fields, NotShown, Sign, TooLarge, UnknownColumn, UnknownRow}

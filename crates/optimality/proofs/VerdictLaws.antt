@@ -6,7 +6,7 @@ use Rattle.std.specs.Option.{ok_or}
 use Rattle.std.proofs.lemmas.Int.{ints}
 use Rattle.auction_terms.specs.Lines.{lines_of}
 use Rattle.program_rows.specs.Program.{Table}
-use Rattle.program_rows.specs.Lines.{fields, is_skipped}
+use Rattle.line_words.specs.Lines.{fields, is_skipped}
 use Rattle.program_rows.proofs.NamedItems.{all_true}
 use Rattle.program_faults.specs.declared.certificate_fault.FaultKind.{FaultKind}
 use Rattle.program_faults.specs.declared.certificate_fault.FaultKind.TheVariants.{Beyond, Fields, NotShown, Sign}
@@ -16,7 +16,7 @@ use Rattle.optimality.specs.Certificates.{Form, Certificate, Bound, Split, side}
 use Rattle.optimality.specs.Shows.{may_have, leaf_value, LeafShows, ShowsWithin}
 use Rattle.optimality.specs.Lines.{telling_lines}
 use Rattle.auction_terms.specs.Stages.{and_then}
-use Rattle.program_rows.specs.Numbers.{number}
+use Rattle.line_words.specs.Numbers.{number}
 use Rattle.program_rows.specs.ProgramNames.{row_names, column_names}
 use Rattle.optimality.specs.LineMeaning.{Told, BoundLine, SplitLine, natural_told, naturals_told, integer_told, named_numbers, line_told}
 use Rattle.optimality.specs.inside.LineMeaning.{bound_behind, split_behind}

@@ -2,7 +2,7 @@
 use Rattle.std.specs.Prelude.{◌≡◌, ◌⊎◌, ℕ, suc, ◌+◌, ◌*◌, ◌^◌, ◌≤◌, List, [], ◌∷◌, length, ℤ, pos, ◌-ℤ◌, Option, Some, None, Result, Ok, unsigned_abs}
 use Rattle.std.specs.List.{zip}
 use Rattle.auction_terms.specs.Lines.{lines_of}
-use Rattle.program_rows.specs.Lines.{fields}
+use Rattle.line_words.specs.Lines.{fields}
 use Rattle.program_rows.specs.Points.{coefficient_at}
 use Rattle.program_rows.specs.Program.{Table, TableColumn}
 use Rattle.program_faults.specs.declared.certificate_fault.FaultKind.{FaultKind}

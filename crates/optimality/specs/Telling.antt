@@ -2,7 +2,7 @@
 use Rattle.std.specs.Prelude.{◌≡◌, ℕ, suc, List, [], ◌∷◌, ℤ, Ok}
 use Rattle.auction_terms.specs.Lines.{lines_of}
 use Rattle.program_rows.specs.Program.{Table}
-use Rattle.program_rows.specs.Lines.{fields}
+use Rattle.line_words.specs.Lines.{fields}
 use Rattle.optimality.specs.Certificates.{Certificate, Bound, Split}
 use Rattle.optimality.specs.Shows.{Shows}
 use Rattle.optimality.specs.Lines.{telling_lines}

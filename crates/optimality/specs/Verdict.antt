@@ -3,7 +3,7 @@ use Rattle.std.specs.Prelude.{ℕ, suc, false, List, [], ◌∷◌, length, ℤ,
 use Rattle.std.specs.Option.{ok_or, option_map}
 use Rattle.auction_terms.specs.Lines.{lines_of}
 use Rattle.program_rows.specs.Program.{Table}
-use Rattle.program_rows.specs.Lines.{fields, is_skipped}
+use Rattle.line_words.specs.Lines.{fields, is_skipped}
 use Rattle.program_faults.specs.declared.certificate_fault.FaultKind.{FaultKind}
 use Rattle.program_faults.specs.declared.certificate_fault.FaultKind.TheVariants.{NotShown, NoEnd, Beyond}
 use Rattle.optimality.specs.Shows.{leaf_value}

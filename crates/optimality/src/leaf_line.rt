@@ -2,7 +2,7 @@
 
 ghost use Rattle.std.specs.Prelude.{◌≡◌, IfOk, length};
 ghost use Rattle.std.specs.List.{list_all};
-ghost use Rattle.program_rows.specs.Lines.{fields};
+ghost use Rattle.line_words.specs.Lines.{fields};
 ghost use Rattle.optimality.specs.inside.Answers.{AnswersSeen};
 ghost use Rattle.optimality.specs.inside.Checking.{IsPrepared};
 ghost use Rattle.optimality.specs.Shows as shows;
@@ -15,8 +15,9 @@ use crate::naturals::take_naturals;
 use crate::numbers::take_natural;
 use crate::refusal::Refusal;
 use crate::terms::take_row_terms;
+use line_words::next_field;
 use program_faults::FaultKind;
-use program_rows::{Program, RowKind, next_field};
+use program_rows::{Program, RowKind};
 
 /// Whether there is a row at this place that may have the multiplier.
 fn may_have(program: &Program, row: usize, multiplier: i64) -> bool

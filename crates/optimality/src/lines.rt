@@ -1,7 +1,7 @@
 //! One line of a certificate.
 
 ghost use Rattle.std.specs.Prelude.{◌≡◌, ◌≤◌, ◌==◌, ◌^◌, ◌-ℤ◌, ◌*ℤ◌, IfOk, bytes_eq, int_lt, length, not, pos, slice_index};
-ghost use Rattle.program_rows.specs.Lines.{fields, is_skipped};
+ghost use Rattle.line_words.specs.Lines.{fields, is_skipped};
 ghost use Rattle.optimality.specs.inside.Answers.{AnswersClosed};
 ghost use Rattle.optimality.specs.inside.Branches.{AnswersAlike, branches_of, opened};
 ghost use Rattle.optimality.specs.Branches.{cuts_above};
@@ -24,8 +24,8 @@ use crate::open_split::OpenSplit;
 use crate::refusal::Refusal;
 use crate::split_line::{opened_split, take_split};
 use crate::sums::Sums;
+use line_words::next_field;
 use program_faults::FaultKind;
-use program_rows::next_field;
 
 fn is_word(text: &[u8], word: &[u8]) -> bool
     ensures { result ≡ bytes_eq text.now word.now }

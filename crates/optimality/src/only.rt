@@ -113,6 +113,21 @@ fn all_others(alloc: Global, program: &Program, values: &Point) -> Result<OpenSp
     })
 }
 
+/// That split alone.
+fn open_splits(
+    alloc: Global,
+    program: &Program,
+    values: &Point,
+) -> Result<Vec<OpenSplit>, AllocError>
+    requires { length values.now ≡ length program.now.columns }
+    ensures { IfOk result (λ splits. branches_of splits.items
+        ≡ all_others program.now values.now ∷ []) }
+{
+    let mut splits = Vec::with_capacity(alloc, 1)?;
+    splits.push_reserved(all_others(alloc, program, values)?);
+    Ok(splits)
+}
+
 /// The cost of a column, if it is 1.
 fn cost_at(program: &Program, values: &Point, column: usize) -> i64
     requires sized { length values.now ≡ length program.now.columns }
@@ -158,11 +173,8 @@ fn behind_split<'p>(
     ensures splits { IfOk result (λ start. branches_of start.splits.items
         ≡ all_others program.now values.now ∷ []) }
 {
-    let least = one_above(program, values);
-    let split = all_others(alloc, program, values)?;
-    let checker = new_checker(alloc, program, least)?;
-    let mut splits = Vec::new(alloc);
-    splits.push(split)?;
+    let splits = open_splits(alloc, program, values)?;
+    let checker = new_checker(alloc, program, one_above(program, values))?;
     Ok(BehindSplit { checker, splits })
 }
 

@@ -10,7 +10,9 @@ ghost use Rattle.program_faults.specs.declared.certificate_fault.FaultKind.TheVa
 ghost use Rattle.optimality.specs.Telling.{IsShownBy};
 ghost use Rattle.optimality.specs.Verdict.{certificate_fault, fault_from};
 ghost use Rattle.optimality.specs.inside.Branches.{branches_of};
+ghost use Rattle.auction_terms.specs.Borrowed.{bytes_of};
 ghost use Rattle.auction_terms.specs.Lines.{lines_of};
+ghost use Rattle.program_rows.specs.ProgramNames as of_program;
 
 use crate::checker::Checker;
 use crate::limit::Limit;
@@ -23,7 +25,7 @@ use crate::row_forms::row_forms;
 use crate::sums::Sums;
 use auction_terms::LineReader;
 use program_faults::{CertificateFault, FaultKind};
-use program_rows::{Program, Seeded};
+use program_rows::{NameSet, Program, Seeded};
 use std::alloc::{AllocError, Global};
 use std::cell::Cell;
 
@@ -72,15 +74,24 @@ pub fn check_lines(
     })
 }
 
+/// The names of the columns, and those of the rows.
+fn all_names(alloc: Global, program: &Program) -> Result<(NameSet<'_>, NameSet<'_>), AllocError>
+    ensures columns { IfOk result (λ names. bytes_of names.0.keys
+        ≡ of_program.column_names program.now) }
+    ensures rows { IfOk result (λ names. bytes_of names.1.keys ≡ of_program.row_names program.now) }
+{
+    let seed = Seeded::by_names(program);
+    let columns = column_names(alloc, program, seed)?;
+    Ok((columns, row_names(alloc, program, seed)?))
+}
+
 pub fn new_checker(alloc: Global, program: &Program, least: i128) -> Result<Checker<'_>, AllocError>
     ensures prepared { IfOk result (λ checker. IsPrepared checker) }
     ensures program { IfOk result (λ checker. checker.program.now ≡ program.now) }
     ensures least { IfOk result (λ checker. checker.least ≡ least) }
 {
-    let seed = Seeded::by_names(program);
-    let columns = column_names(alloc, program, seed)?;
-    let rows = row_names(alloc, program, seed)?;
     let forms = row_forms(alloc, program)?;
+    let (columns, rows) = all_names(alloc, program)?;
     let alone = least_alone(program);
     Ok(Checker {
         alloc,

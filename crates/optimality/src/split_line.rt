@@ -1,7 +1,7 @@
 //! A line that tells a split.
 
 ghost use Rattle.std.specs.Prelude.{◌≡◌, IfOk, false};
-ghost use Rattle.program_rows.specs.Lines.{fields};
+ghost use Rattle.line_words.specs.Lines.{fields};
 ghost use Rattle.optimality.specs.inside.Adding.{AreAlike, AreNoLarger};
 ghost use Rattle.optimality.specs.inside.Answers.{AnswersSeen};
 ghost use Rattle.optimality.specs.inside.Checking.{IsPrepared};
@@ -18,8 +18,8 @@ use crate::refusal::Refusal;
 use crate::row_forms::Form;
 use crate::sums::Sums;
 use crate::terms::take_column_terms;
+use line_words::next_field;
 use program_faults::FaultKind;
-use program_rows::next_field;
 use std::alloc::Global;
 
 /// A split as its line tells it.

@@ -2,21 +2,22 @@
 
 ghost use Rattle.std.specs.Prelude.{◌≡◌, Ok, bytes_eq, position};
 ghost use Rattle.std.specs.Option.{ok_or};
-ghost use Rattle.program_rows.specs.Lines.{fields};
+ghost use Rattle.line_words.specs.Lines.{fields};
 ghost use Rattle.optimality.specs.inside.Answers.{AnswersSeen};
 ghost use Rattle.optimality.specs.inside.Checking.{IsPrepared};
 ghost use Rattle.program_faults.specs.declared.certificate_fault.FaultKind.TheVariants.{UnknownColumn, UnknownRow};
 ghost use Rattle.auction_terms.specs.Borrowed.{bytes_of};
 ghost use Rattle.auction_terms.specs.Stages.{and_then};
-ghost use Rattle.program_rows.specs.Numbers.{number};
+ghost use Rattle.line_words.specs.Numbers.{number};
 ghost use Rattle.program_rows.specs.ProgramNames.{column_names, row_names};
 ghost use Rattle.optimality.specs.LineMeaning.{integer_told, named_numbers};
 
 use crate::checker::Checker;
 use crate::numbers::take_number;
 use crate::refusal::Refusal;
+use line_words::next_field;
 use program_faults::FaultKind;
-use program_rows::{NameSet, next_field, place_of};
+use program_rows::{NameSet, place_of};
 use std::alloc::Global;
 use std::cell::Cell;
 

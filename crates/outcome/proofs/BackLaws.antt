@@ -9,7 +9,7 @@ use Rattle.std.proofs.lemmas.List.{append-nil}
 use Rattle.std.proofs.lemmas.List.Sums.{sum_by-append, length-filter}
 use Rattle.std.proofs.lemmas.List.Elements.{recursion_from_All, All-from_recursion}
 use Rattle.auction_terms.specs.declared.choices.Choice.{Choice}
-use Rattle.auction_terms.specs.declared.limits.TheConstants.{MOST_BIDDERS, MOST_BIDS}
+use Rattle.auction_limits.specs.declared.limits.TheConstants.{MOST_BIDDERS, MOST_BIDS}
 use Rattle.auction_terms.specs.Allocations.{Book, amount_of, quantity_of, loads, is_eligible}
 use Rattle.auction_terms.proofs.OfferLaws.{sum_zero, sum_agree, sum_plus, sum_filter, all_agree, all_append, all_filter}
 use Rattle.program_rows.specs.Program.{Table, TableColumn}
@@ -19,7 +19,7 @@ use Rattle.auction_terms.specs.Limits.{IsBook}
 use Rattle.auction_terms.specs.Keeping.{kept_of}
 use Rattle.program_rows.specs.Points.{IsPoint}
 use Rattle.program_rows.specs.Rows.{program_of}
-use Rattle.program_rows.specs.Meaning.{meaning}
+use Rattle.mps_meaning.specs.Meaning.{meaning}
 use Rattle.program_rows.specs.Faithful.{back, IsFaithful}
 use Rattle.program_rows.proofs.FaithfulLaws.{presolved_is_faithful}
 use Rattle.mps_text.specs.FaithfulText.{presolved_text}

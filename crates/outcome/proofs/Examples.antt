@@ -2,7 +2,7 @@
 use Rattle.std.specs.Fmt.{digits}
 use Rattle.std.specs.Prelude.{◌≡◌, refl, ℕ, List, [], ◌∷◌, map, true, false, negsuc, Ok, Err, codes}
 use Rattle.program_rows.specs.Points.{objective}
-use Rattle.program_rows.specs.Lines.{fields}
+use Rattle.line_words.specs.Lines.{fields}
 use Rattle.program_rows.specs.Spelling.{column_bid}
 use Rattle.auction_terms.specs.FirstFault.{first_fault}
 use Rattle.auction_terms.specs.declared.bids.Bid.{Bid}

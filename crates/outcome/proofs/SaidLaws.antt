@@ -11,7 +11,7 @@ use Rattle.std.proofs.lemmas.Option.{slice_get-get_or, slice_get-map, get_or_fro
 use Rattle.std.proofs.lemmas.Slice.Eq.{bytes_eq-Decides}
 use denote.Ref.{Bor}
 use Rattle.auction_terms.specs.FirstFault.{first_failed}
-use Rattle.program_rows.specs.Lines.{field, fields, is_skipped}
+use Rattle.line_words.specs.Lines.{field, fields, is_skipped}
 use Rattle.outcome.specs.Values.{is_near}
 use Rattle.outcome.specs.inside.Values.{token_value, value_fault}
 use Rattle.outcome.specs.declared.value_fault.ValueFault.{ValueFault}

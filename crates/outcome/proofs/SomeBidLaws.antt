@@ -13,11 +13,11 @@ use Rattle.auction_terms.specs.Limits.{IsBook}
 use Rattle.auction_terms.specs.Lines.{lines_of}
 use Rattle.auction_terms.specs.Packages.{Lots}
 use Rattle.auction_terms.specs.declared.choices.Choice.{Choice}
-use Rattle.auction_terms.specs.declared.limits.TheConstants.{MOST_BIDDERS}
+use Rattle.auction_limits.specs.declared.limits.TheConstants.{MOST_BIDDERS}
 use Rattle.auction_terms.proofs.LimitLaws.{kept_are_offers}
 use Rattle.auction_terms.proofs.OfferLaws.{all_agree}
 use Rattle.program_rows.specs.Faithful.{back}
-use Rattle.program_rows.specs.Lines.{field, fields, is_skipped}
+use Rattle.line_words.specs.Lines.{field, fields, is_skipped}
 use Rattle.program_rows.specs.Points.{allows, meets, row_sum, AreAllowed, IsPoint}
 use Rattle.program_rows.specs.Program.{Table, TableColumn}
 use Rattle.program_rows.specs.ProgramNames.{column_names}

@@ -6,7 +6,7 @@ use Rattle.auction_terms.specs.Keeping.{kept_of}
 use Rattle.auction_terms.specs.Limits.{IsBook, IsLots}
 use Rattle.program_rows.specs.Program.{Table}
 use Rattle.program_rows.specs.Points.{objective, IsPoint}
-use Rattle.program_rows.specs.Meaning.{meaning}
+use Rattle.mps_meaning.specs.Meaning.{meaning}
 use Rattle.program_rows.specs.Rows.{program_of}
 use Rattle.program_rows.specs.Faithful.{back, IsFaithful}
 use Rattle.mps_text.specs.FaithfulText.{presolved_text}

@@ -8,8 +8,8 @@ use Rattle.auction_terms.specs.Stages.{and_then, unless}
 use Rattle.program_rows.specs.Program.{Table}
 use Rattle.program_rows.specs.ProgramNames.{column_names}
 use Rattle.program_rows.specs.Points.{allows, broken_row}
-use Rattle.program_rows.specs.Lines.{field, fields, is_skipped}
-use Rattle.program_rows.specs.Numbers.{is_number_token, is_too_long}
+use Rattle.line_words.specs.Lines.{field, fields, is_skipped}
+use Rattle.line_words.specs.Numbers.{is_number_token, is_too_long}
 use Rattle.outcome.specs.declared.limits.TheConstants.{SOLUTION_LIMIT}
 use Rattle.program_faults.specs.declared.solution_fault.SolutionFault.{SolutionFault}
 use Rattle.program_faults.specs.declared.solution_fault.SolutionFault.TheVariants as fault

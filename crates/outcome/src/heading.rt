@@ -1,14 +1,14 @@
 //! The headings of a report on their way to a sink.
 
 ghost use Rattle.std.specs.Prelude.{◌≡◌, ◌∷◌, ◌++◌, [], codes, decimal, flat_map};
-ghost use Rattle.mps_text.specs.Adds.{Adds};
+ghost use Rattle.byte_sinks.specs.Adds.{Adds};
 ghost use Rattle.bid_desk.specs.Sale.{bidder_name, sale_of};
 ghost use Rattle.outcome.specs.Report.{group_names, heading};
 
 use crate::sale::name_of;
 use bid_desk::ClosedBook;
+use byte_sinks::{Sink, Writer};
 use itoa::Buffer;
-use mps_text::{Sink, Writer};
 
 /// Adds the name of a further bidder.
 fn add_further<S: Sink>(writer: &mut Writer<'_, S>, book: &ClosedBook, bidder: u16)

@@ -1,6 +1,6 @@
 //! Reading a solution.
 
-ghost use Rattle.std.specs.Prelude.{◌≡◌, ◌<◌, ◌≤◌, [], length, map, replicate, unwrap_or, false, IfOk, Ok, Err, None, bytes_eq};
+ghost use Rattle.std.specs.Prelude.{◌≡◌, ◌<◌, ◌≤◌, [], length, map, replicate, unwrap_or, false, IfOk, OnOk, Ok, Err, None, bytes_eq};
 ghost use Rattle.std.specs.List.{IsDistinct};
 ghost use Rattle.auction_terms.specs.FirstFault.{first_fault};
 ghost use Rattle.auction_terms.specs.Lines.{lines_of};
@@ -9,6 +9,7 @@ ghost use Rattle.program_rows.specs.Points.{IsPoint};
 ghost use Rattle.program_faults.specs.declared.solution_fault.SolutionFault.TheVariants as fault;
 ghost use Rattle.outcome.specs.declared.limits.TheConstants.{SOLUTION_LIMIT};
 ghost use Rattle.program_rows.specs.ProgramNames.{column_names};
+ghost use Rattle.outcome.specs.inside.Reading.{said_by};
 ghost use Rattle.outcome.specs.Solution.{is_solution_memory, is_one, solution_line_fault, solution};
 
 use crate::columns::finder_of;
@@ -33,6 +34,27 @@ fn values_from(alloc: Global, said: &[Option<bool>]) -> Result<Vec<bool>, AllocE
     said.iter().map(|s| s.unwrap_or(false)).collect(alloc)
 }
 
+/// Notes what the lines say of the columns.
+fn take_solution(
+    alloc: Global,
+    bytes: &[u8],
+    program: &Program,
+    said: &mut [Option<bool>],
+) -> Result<(), SolutionFault>
+    requires sized { length said.old ≡ length (column_names program.now) }
+    requires nothing { said.old ≡ said_by (column_names program.now) [] }
+    requires distinct { IsDistinct bytes_eq (column_names program.now) }
+    requires small { length bytes.now ≤ SOLUTION_LIMIT }
+    ensures answer { Answers is_solution_memory result
+        (unless (first_fault (solution_line_fault (column_names program.now)) []
+        (lines_of bytes.now)) (Ok tt)) }
+    ensures said { OnOk result (said.new ≡ said_by (column_names program.now)
+        (lines_of bytes.now)) }
+{
+    let columns = finder_of(alloc, program)?;
+    take_lines(&columns, said, bytes)
+}
+
 /// The values that the lines give the columns.
 fn read_values(alloc: Global, bytes: &[u8], program: &Program) -> Result<Point, SolutionFault>
     requires distinct { IsDistinct bytes_eq (column_names program.now) }
@@ -41,9 +63,8 @@ fn read_values(alloc: Global, bytes: &[u8], program: &Program) -> Result<Point, 
         (unless (first_fault (solution_line_fault (column_names program.now)) []
         (lines_of bytes.now)) (Ok (map (is_one (lines_of bytes.now)) (column_names program.now)))) }
 {
-    let columns = finder_of(alloc, program)?;
     let mut said = nothing_said(alloc, program.column_count())?;
-    take_lines(&columns, &mut said, bytes)?;
+    take_solution(alloc, bytes, program, &mut said)?;
     Ok(Point::new(values_from(alloc, &said)?))
 }
 

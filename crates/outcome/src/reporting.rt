@@ -3,7 +3,7 @@
 ghost use Rattle.std.specs.Prelude.{◌≡◌, ◌∷◌, ◌++◌, [], codes, length};
 ghost use Rattle.std.specs.Fmt.{signed_decimal};
 ghost use Rattle.std.specs.List.{zip};
-ghost use Rattle.mps_text.specs.Adds.{Adds};
+ghost use Rattle.byte_sinks.specs.Adds.{Adds};
 ghost use Rattle.bid_desk.specs.Sale.{sale_of};
 ghost use Rattle.outcome.specs.Report.{group_report, in_turn};
 
@@ -13,8 +13,8 @@ use crate::heading::add_heading;
 use crate::winners::add_allocation;
 use auction_terms::{Choice, Group, Groups};
 use bid_desk::ClosedBook;
+use byte_sinks::{Sink, Writer};
 use itoa::Buffer;
-use mps_text::{Sink, Writer};
 
 /// Adds the line of a cost.
 fn add_cost<S: Sink>(writer: &mut Writer<'_, S>, amount: i128)

@@ -8,14 +8,15 @@ ghost use Rattle.auction_terms.specs.Limits.{IsBid, IsBook};
 ghost use Rattle.auction_terms.specs.Only.{first_rival, with_bid};
 ghost use Rattle.auction_terms.specs.Packages.{fits, left};
 ghost use Rattle.auction_terms.specs.Terms.{lots_in};
-ghost use Rattle.auction_terms.specs.declared.limits.TheConstants.{GREATEST_QUANTITY, MOST_BIDS};
+ghost use Rattle.auction_limits.specs.declared.limits.TheConstants.{GREATEST_QUANTITY, MOST_BIDS};
 ghost use Rattle.bid_desk.specs.Closing.{book_of};
 ghost use Rattle.outcome.specs.inside.Rivals.{both_packages, first_rival_number, first_suiting, rival_of, suits};
 
 use crate::allocation::Allocation;
 use crate::unsold::lots_taken;
 use arrayvec::ArrayVec;
-use auction_terms::{Bid, Choice, GREATEST_QUANTITY, Package};
+use auction_limits::GREATEST_QUANTITY;
+use auction_terms::{Bid, Choice, Package};
 use bid_desk::ClosedBook;
 use std::alloc::{AllocError, Global};
 

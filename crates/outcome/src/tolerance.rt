@@ -1,7 +1,7 @@
 //! Numbers that count as 0 or 1.
 
 ghost use Rattle.std.specs.Prelude.{◌≡◌, ◌<◌, ◌≤◌, ◌^◌, ◌*◌, if◌then◌else◌, ℤ, pos};
-ghost use Rattle.program_rows.specs.Numbers.{signed};
+ghost use Rattle.line_words.specs.Numbers.{signed};
 ghost use Rattle.outcome.specs.inside.Values.{near_of};
 
 use crate::limits::TOLERANCE_PARTS;

@@ -1,7 +1,7 @@
 //! What is known of other outcomes that are as good.
 
 ghost use Rattle.std.specs.Prelude.{◌≡◌, ◌++◌, codes};
-ghost use Rattle.mps_text.specs.Adds.{Adds};
+ghost use Rattle.byte_sinks.specs.Adds.{Adds};
 ghost use Rattle.outcome.specs.Report.{allocation_text};
 ghost use Rattle.bid_desk.specs.Sale.{sale_of};
 ghost use Rattle.outcome.specs.Uniqueness.{uniqueness_text};
@@ -9,7 +9,7 @@ ghost use Rattle.outcome.specs.Uniqueness.{uniqueness_text};
 use crate::allocation::Allocation;
 use crate::winners::add_allocation;
 use bid_desk::ClosedBook;
-use mps_text::{Sink, Writer};
+use byte_sinks::{Sink, Writer};
 
 /// Whether the winners with nobody left out are known to be the only ones of so great a total.
 #[derive(Drop)]

@@ -1,7 +1,7 @@
 //! The lines of an allocation on their way to a sink.
 
 ghost use Rattle.std.specs.Prelude.{◌≡◌, ◌∷◌, ◌++◌, [], codes, decimal, flat_map};
-ghost use Rattle.mps_text.specs.Adds.{Adds};
+ghost use Rattle.byte_sinks.specs.Adds.{Adds};
 ghost use Rattle.bid_desk.specs.Sale.{sale_of};
 ghost use Rattle.outcome.specs.Report.{allocation_text, winner_line};
 
@@ -9,8 +9,8 @@ use crate::costs::total_of;
 use crate::sale::{amount_of, name_of};
 use auction_terms::Choice;
 use bid_desk::ClosedBook;
+use byte_sinks::{Sink, Writer};
 use itoa::Buffer;
-use mps_text::{Sink, Writer};
 
 /// Adds the line of a winner.
 fn add_winner<S: Sink>(writer: &mut Writer<'_, S>, book: &ClosedBook, choice: Choice)

@@ -2,13 +2,14 @@
 
 ghost use Rattle.std.specs.Prelude.{◌≡◌, ◌<◌, ◌+◌, ◌==◌, ◌++◌, drop, filter, length, IfOk, OnOk};
 ghost use Rattle.std.specs.List.{range_with_len};
-ghost use Rattle.auction_terms.specs.declared.limits.TheConstants.{MOST_BIDDERS};
+ghost use Rattle.auction_limits.specs.declared.limits.TheConstants.{MOST_BIDDERS};
 ghost use Rattle.program_rows.specs.Faithful.{back};
 ghost use Rattle.outcome.specs.PointAllocation.{allocation_of, IsMap};
 ghost use Rattle.outcome.specs.inside.Winning.{by_bidder};
 
 use crate::allocation::Allocation;
-use auction_terms::{Choice, MOST_BIDDERS};
+use auction_limits::MOST_BIDDERS;
+use auction_terms::Choice;
 use program_rows::{Point, Program};
 use std::alloc::{AllocError, Global};
 

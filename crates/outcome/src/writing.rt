@@ -6,9 +6,9 @@ ghost use Rattle.auction_terms.specs.Allocations.{IsFeasible};
 ghost use Rattle.auction_terms.specs.Groups.{starts_empty};
 ghost use Rattle.auction_terms.specs.Terms.{lots_in};
 ghost use Rattle.bid_desk.specs.Closing.{book_of};
-ghost use Rattle.mps_text.specs.Sinks.{HasFailed, SentFront};
-ghost use Rattle.mps_text.specs.Adds.{Adds};
-ghost use Rattle.mps_text.specs.Written.{written_of};
+ghost use Rattle.byte_sinks.specs.Sinks.{HasFailed, SentFront};
+ghost use Rattle.byte_sinks.specs.Adds.{Adds};
+ghost use Rattle.byte_sinks.specs.Written.{written_of};
 ghost use Rattle.bid_desk.specs.Sale.{sale_of};
 ghost use Rattle.outcome.specs.Report.{allocation_text, report_text};
 ghost use Rattle.outcome.specs.Uniqueness.{uniqueness_text};
@@ -19,7 +19,7 @@ use crate::uniqueness::{Uniqueness, add_uniqueness};
 use crate::winners::add_allocation;
 use auction_terms::Groups;
 use bid_desk::ClosedBook;
-use mps_text::{Sink, WriteFault, Writer};
+use byte_sinks::{Sink, WriteFault, Writer};
 
 /// Writes the winners and the total of an allocation that is feasible with nobody left out. It takes no memory.
 pub fn write_allocation<S: Sink>(

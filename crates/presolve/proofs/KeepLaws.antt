@@ -48,6 +48,37 @@ pub offers_parted : (lots : Lots) (xs ys : List Offer) → AreOffers lots (xs ++
 offers_parted lots [] ys a = (tt, a)
 offers_parted lots (x ∷ xs) ys a = let rest = offers_parted lots xs ys a.2 in ((a.0, before_first (IsBefore x) xs ys a.1, rest.0), rest.1)
 
+-- the flagged ones of a form from a bid on: that bid, if it is flagged, and those behind
+flagged_at : (b i j : ℕ) (bids : List Bid) (flags : List Bool) (x : Bid) (flag : Bool) → i < length bids → i < length flags → x ≡ get_or bids i x → get_or flags i false ≡ flag
+    → flagged_from b j (drop i bids) (drop i flags) ≡ cond flag (record { bidder = b; number = j; bid = x } ∷ flagged_from b (j + 1) (drop (i + 1) bids) (drop (i + 1) flags)) (flagged_from b (j + 1) (drop (i + 1) bids) (drop (i + 1) flags))
+flagged_at b i j bids flags x flag within long is f =
+    let next : suc i ≡ i + 1 = omega arith in
+    ap₂ (λ (xs : List Bid) (fs : List Bool). flagged_from b j xs fs) (drop-cons bids i x within ∙ ap (λ (y : Bid). y ∷ drop (suc i) bids) (sym is)) (drop-cons flags i false long ∙ ap (λ (y : Bool). y ∷ drop (suc i) flags) f)
+    ∙ ap (λ (n : ℕ). cond flag (record { bidder = b; number = j; bid = x } ∷ flagged_from b (j + 1) (drop n bids) (drop n flags)) (flagged_from b (j + 1) (drop n bids) (drop n flags))) next
+
+-- one more is kept
+pub flagged_more : (b i : ℕ) (bids : List Bid) (flags : List Bool) (x : Bid) (k : KeptBid) (kept : List KeptBid) (all : List Offer) → i < length bids → i < length flags → x ≡ get_or bids i x → get_or flags i false ≡ true → offer_of k ≡ record { bidder = b; number = i + 1; bid = x }
+    → offers kept ++ flagged_from b (1 + i) (drop i bids) (drop i flags) ≡ all → offers (kept ++ k ∷ []) ++ flagged_from b (1 + (i + 1)) (drop (i + 1) bids) (drop (i + 1) flags) ≡ all
+flagged_more b i bids flags x k kept all within long is set own so_far =
+    let rest = flagged_from b (1 + (i + 1)) (drop (i + 1) bids) (drop (i + 1) flags) in
+    let behind : 1 + i + 1 ≡ 1 + (i + 1) = omega arith in
+    let number : i + 1 ≡ 1 + i = omega arith in
+    ap (λ (os : List Offer). os ++ rest) (map-append offer_of kept (k ∷ []))
+    ∙ append_assoc (offers kept) (offer_of k ∷ []) rest
+    ∙ ap (λ (o : Offer). offers kept ++ o ∷ rest) (own ∙ ap (λ (n : ℕ). record { bidder = b; number = n; bid = x }) number)
+    ∙ ap (λ (n : ℕ). offers kept ++ record { bidder = b; number = 1 + i; bid = x } ∷ flagged_from b n (drop (i + 1) bids) (drop (i + 1) flags)) (sym behind)
+    ∙ ap (λ (os : List Offer). offers kept ++ os) (sym (flagged_at b i (1 + i) bids flags x true within long is set))
+    ∙ so_far
+
+-- or none
+pub flagged_less : (b i : ℕ) (bids : List Bid) (flags : List Bool) (x : Bid) (kept : List KeptBid) (all : List Offer) → i < length bids → i < length flags → x ≡ get_or bids i x → get_or flags i false ≡ false
+    → offers kept ++ flagged_from b (1 + i) (drop i bids) (drop i flags) ≡ all → offers kept ++ flagged_from b (1 + (i + 1)) (drop (i + 1) bids) (drop (i + 1) flags) ≡ all
+flagged_less b i bids flags x kept all within long is unset so_far =
+    let behind : 1 + i + 1 ≡ 1 + (i + 1) = omega arith in
+    ap (λ (n : ℕ). offers kept ++ flagged_from b n (drop (i + 1) bids) (drop (i + 1) flags)) (sym behind)
+    ∙ ap (λ (os : List Offer). offers kept ++ os) (sym (flagged_at b i (1 + i) bids flags x false within long is unset))
+    ∙ so_far
+
 -- the flags of a form pick what the rule keeps
 pub by_flags : (lots : Lots) (form : List Bid) (b j : ℕ) (rest : List Bid) → flagged_from b j rest (map (is_kept lots form) rest) ≡ filter (λ o. is_kept lots form o.bid) (offers_of_form b j rest)
 by_flags lots form b j [] = refl

@@ -13,7 +13,7 @@ use Rattle.auction_terms.proofs.PackageLaws.{within_at}
 use Rattle.presolve.specs.declared.order.SizedBid.{SizedBid}
 use Rattle.presolve.specs.declared.sieve.Level.{Level}
 use Rattle.presolve.specs.declared.sieve.Sieve.{Sieve}
-use Rattle.presolve.specs.inside.Sieves.{AreLower, AreRanked, AreSieved, IsMarked, IsSieve}
+use Rattle.presolve.specs.inside.Sieves.{AreLower, AreRanked, AreSieved, IsMarked, IsSieve, shortfall}
 use Rattle.presolve.specs.inside.Sizes.{beats}
 
 -- what holds of each word before a place, and of the one that is set there
@@ -95,6 +95,10 @@ next_rank ranks last next up rising below = (
 -- a rival that beats a bid has at most its quantity of a category
 pub fewer_at : (place : ℕ) (x s : SizedBid) → beats x s ≡ true → slice_index s.bid.now.package place ≤ slice_index x.bid.now.package place
 fewer_at place x s b = within_at s.bid.now.package x.bid.now.package place (and_parts (int_le x.net s.net) _ (and_parts (nat_lt s.size x.size) _ b).1).1
+
+-- and its net stays no further below the greatest number
+pub no_shorter : (x s : SizedBid) → beats x s ≡ true → shortfall s.net ≤ shortfall x.net
+no_shorter x s b = let up = (and_parts (int_le x.net s.net) _ (and_parts (nat_lt s.size x.size) _ b).1).0 in grind arith
 
 -- levels of such numbers sift
 pub is_sieve : (rivals : List SizedBid) (numbers : List ℕ) (number : SizedBid → ℕ) (sieve : Sieve) → ((x s : SizedBid) → beats x s ≡ true → number s ≤ number x) → numbers ≡ map number rivals → AreSieved numbers sieve → IsSieve rivals sieve

@@ -5,7 +5,7 @@ ghost use Rattle.auction_terms.specs.Packages.{size};
 ghost use Rattle.auction_terms.specs.Terms.{lots_in};
 ghost use Rattle.presolve.specs.inside.Sizes.{fitting_from, sized_of, IsOrdered, TellsItsNet, TellsItsSize};
 ghost use Rattle.presolve.specs.Sizes.{IsBySize};
-ghost use Rattle.auction_terms.specs.declared.limits.TheConstants.{GREATEST_AMOUNT, MOST_BIDS};
+ghost use Rattle.auction_limits.specs.declared.limits.TheConstants.{GREATEST_AMOUNT, MOST_BIDS};
 ghost use Rattle.bid_forms.specs.Offers.{IsBidWithinLimits};
 
 use auction_terms::{Bid, Rules};
@@ -93,7 +93,7 @@ pub fn by_size(alloc: Global, form: &Form, rules: &Rules) -> Result<Vec<u16>, Al
     let ordered = ordered(alloc, rules, form.bids())?;
     let mut numbers = Vec::with_capacity(alloc, ordered.len())?;
     for bid in &ordered {
-        numbers.push(bid.number)?;
+        numbers.push_reserved(bid.number);
     }
     Ok(numbers)
 }

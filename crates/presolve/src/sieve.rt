@@ -20,14 +20,14 @@
 ghost use Rattle.std.specs.Prelude.{◌≡◌, ◌+◌, ◌/◌, ◌<◌, ◌≤◌, ℕ, List, true, false, slice_index, slice_index_or, All, length, map, IfOk, IsTrue};
 ghost use Rattle.std.specs.Int.{bit_at, div_ceil};
 ghost use Rattle.std.specs.List.{list_any};
-ghost use Rattle.auction_terms.specs.declared.limits.TheConstants.{MOST_BIDS, MOST_CATEGORIES};
+ghost use Rattle.auction_limits.specs.declared.limits.TheConstants.{MOST_BIDS, MOST_CATEGORIES};
 ghost use Rattle.presolve.specs.declared.order.SizedBid.{SizedBid};
 ghost use Rattle.presolve.specs.inside.Sieves.{AreLevels, AreSieved, HasPlace, IsMarked, IsSieve, Sifts, shortfall};
 ghost use Rattle.presolve.specs.inside.Sizes.{AreRivals, beats};
 
 use crate::order::SizedBid;
 use crate::ranks::ranks_of;
-use auction_terms::MOST_BIDS;
+use auction_limits::MOST_BIDS;
 use std::alloc::{AllocError, Global};
 
 /// The most words that hold a bit for each rival.
@@ -156,9 +156,26 @@ fn shortfalls(alloc: Global, rivals: &[SizedBid<'_>]) -> Result<Vec<u64>, AllocE
 {
     let mut numbers = Vec::with_capacity(alloc, rivals.len())?;
     for rival in rivals {
-        numbers.push(shortfall(rival.net))?;
+        numbers.push_reserved(shortfall(rival.net));
     }
     Ok(numbers)
+}
+
+// The sieve of the rivals' nets.
+fn net_sieve(alloc: Global, rivals: &[SizedBid<'_>]) -> Result<Sieve, AllocError>
+    requires { length rivals.now ≤ MOST_BIDS }
+    ensures { IfOk result (IsSieve rivals.now) }
+{
+    sieve_of(alloc, &shortfalls(alloc, rivals)?)
+}
+
+// The sieve of their quantities of a category.
+fn category_sieve(alloc: Global, rivals: &[SizedBid<'_>], place: usize) -> Result<Sieve, AllocError>
+    requires sized { All (λ s. place < length s.bid.now.package) rivals.now }
+    requires many { length rivals.now ≤ MOST_BIDS }
+    ensures { IfOk result (IsSieve rivals.now) }
+{
+    sieve_of(alloc, &quantities_at(alloc, rivals, place)?)
 }
 
 // A sieve for the net, and one for each category.
@@ -174,9 +191,9 @@ pub(crate) fn sieves(
     ensures count { IfOk result (λ sieves. length sieves.items ≡ categories + 1) }
 {
     let mut sieves = Vec::with_capacity(alloc, categories + 1)?;
-    sieves.push(sieve_of(alloc, &shortfalls(alloc, rivals)?)?)?;
+    sieves.push_reserved(net_sieve(alloc, rivals)?);
     for place in 0..categories {
-        sieves.push(sieve_of(alloc, &quantities_at(alloc, rivals, place)?)?)?;
+        sieves.push_reserved(category_sieve(alloc, rivals, place)?);
     }
     Ok(sieves)
 }

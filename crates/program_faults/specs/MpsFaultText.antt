@@ -1,7 +1,7 @@
 -- How a fault of an MPS text tells itself.
 use Rattle.std.specs.Prelude.{◌++◌, ℕ, List, codes, decimal}
-use Rattle.program_rows.specs.declared.fault.FaultKind.{FaultKind}
-use Rattle.program_rows.specs.declared.fault.FaultKind.TheVariants as kind
+use Rattle.mps_meaning.specs.declared.fault.FaultKind.{FaultKind}
+use Rattle.mps_meaning.specs.declared.fault.FaultKind.TheVariants as kind
 
 -- by its line and its kind, with the column where one is told
 abbrev pub mps_fault_text : ℕ → FaultKind → List ℕ

@@ -5,7 +5,7 @@ ghost use Rattle.auction_terms.specs.Wording.{wording_text};
 ghost use Rattle.program_faults.specs.MpsFaultText.{mps_fault_text};
 
 use auction_terms::Wording;
-use program_rows::FaultKind;
+use mps_meaning::FaultKind;
 use std::fmt;
 use thiserror::Error;
 

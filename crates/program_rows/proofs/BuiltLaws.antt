@@ -7,7 +7,7 @@ use Rattle.std.proofs.lemmas.List.{append-nil, drop_more, drop_all, length-map}
 use Rattle.std.proofs.lemmas.List.Elements.{All-from_recursion}
 use Rattle.auction_terms.specs.declared.bids.KeptBid.{KeptBid}
 use Rattle.auction_terms.specs.declared.rules.Category as declared
-use Rattle.auction_terms.specs.declared.limits.TheConstants.{MOST_BIDDERS}
+use Rattle.auction_limits.specs.declared.limits.TheConstants.{MOST_BIDDERS}
 use Rattle.auction_terms.specs.Bids.{AreKept}
 use Rattle.auction_terms.specs.Packages.{Lots}
 use Rattle.auction_terms.specs.Terms.{Terms, lots_in}

@@ -23,7 +23,7 @@ use Rattle.program_rows.specs.declared.row.RowKind.TheVariants.{AtMost}
 use Rattle.program_rows.specs.Program.{Table, TableRow, TableColumn}
 use Rattle.program_rows.specs.Points.{sum_at_one, objective, coefficient_at, row_sum, meets, AreAllowed, IsPoint}
 use Rattle.program_rows.specs.Spelling.{is_bid, column_bid}
-use Rattle.auction_terms.specs.declared.limits.TheConstants.{MOST_BIDDERS, MOST_BIDS}
+use Rattle.auction_limits.specs.declared.limits.TheConstants.{MOST_BIDDERS, MOST_BIDS}
 use Rattle.program_rows.specs.declared.subject.Subject.{Subject}
 use Rattle.program_rows.specs.declared.subject.Subject.TheVariants.{Bidder, Category, Pool}
 use Rattle.program_rows.specs.Rows.{weight, subjects, row_of, entries_from, column_of, worth_column, program_of}

@@ -1,6 +1,4 @@
 pub mod SpellingLaws
-pub mod Powers
-mod Examples
 mod ValueExamples
 pub mod FaithfulLaws
 pub mod OnlyPointLaws
@@ -13,10 +11,6 @@ pub mod BuiltLaws
 pub mod SumLaws
 pub mod OneLaws
 pub mod BrokenLaws
-pub mod Folding
-pub mod TokenForm
-pub mod ShortNumbers
-pub mod LineParts
 pub mod NumeralLaws
 pub mod KeptLaws
 pub mod LookupLaws
@@ -24,4 +18,3 @@ pub mod NamedItems
 pub mod SameLaws
 pub mod NameSetLaws
 pub mod AddedNames
-pub mod FieldLaws

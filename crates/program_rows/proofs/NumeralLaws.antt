@@ -12,8 +12,8 @@ use Rattle.std.proofs.lemmas.Str.Parse.{IsNumeralModel, digit_from_value}
 use Rattle.std.proofs.lemmas.Fmt.{decimal_is_IsNumeral, decimal-digits_value, first_decimal, length-decimal-le}
 use Rattle.auction_terms.specs.declared.choices.Choice.{Choice}
 use Rattle.program_rows.specs.Spelling.{bid_name, is_bid, column_bid}
-use Rattle.program_rows.proofs.Powers.{pow_above}
-use Rattle.program_rows.proofs.Folding.{ascii-range}
+use Rattle.line_words.proofs.Powers.{pow_above}
+use Rattle.line_words.proofs.Folding.{ascii-range}
 use Rattle.program_rows.proofs.SpellingLaws.{no_bar, bar_at, before_at, after_at, bidder_range, bid_range, bid_name-injective, reads_back, reads_names_alone}
 
 -- digits, in both words

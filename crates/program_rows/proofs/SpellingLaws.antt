@@ -7,7 +7,7 @@ use Rattle.std.proofs.lemmas.Bool.{and_parts}
 use Rattle.std.proofs.lemmas.Bool.Decides.{nat_tests}
 use Rattle.std.proofs.lemmas.Slice.Eq.{bytes_eq-Decides}
 use Rattle.auction_terms.specs.declared.choices.Choice.{Choice}
-use Rattle.auction_terms.specs.declared.limits.TheConstants.{MOST_BIDDERS, MOST_BIDS}
+use Rattle.auction_limits.specs.declared.limits.TheConstants.{MOST_BIDDERS, MOST_BIDS}
 use Rattle.program_rows.specs.Named.{ReadsBack, ReadsNamesAlone, NamesDiffer}
 use Rattle.std.proofs.lemmas.Str.Parse.{digit_from_value}
 use Rattle.std.proofs.lemmas.Fmt.{decimal_is_IsNumeral, decimal_injective}

@@ -1,14 +1,6 @@
 pub mod Program
 pub mod ProgramNames
 pub mod Parts
-pub mod Lines
-pub mod Scaling
-pub mod Numbers
-pub mod Tokens
-pub mod Sections
-pub mod Described
-pub mod Faults
-pub mod Meaning
 pub mod Spelling
 pub mod Points
 pub mod Same

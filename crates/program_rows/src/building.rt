@@ -1,10 +1,12 @@
 // The program of a list of kept bids.
 ghost use Rattle.std.specs.Prelude.{◌≡◌, ◌≤◌, ◌<◌, ◌+◌, ◌^◌, ◌++◌, ◌∷◌, [], ◌==◌, All, Some, codes, cond, length, map, neg_ℤ, slice_get, IfOk, OnOk};
-ghost use Rattle.auction_terms.specs.declared.limits.TheConstants.{GREATEST_AMOUNT};
+ghost use Rattle.std.specs.List.{range_with_len};
+ghost use Rattle.auction_limits.specs.declared.limits.TheConstants.{GREATEST_AMOUNT};
 ghost use Rattle.auction_terms.specs.Bids.{AreKept};
 ghost use Rattle.auction_terms.specs.Domination.{net};
 ghost use Rattle.auction_terms.specs.Offers.{offer_of, offers};
 ghost use Rattle.auction_terms.specs.Terms.{lots_in};
+ghost use Rattle.program_rows.specs.declared.subject.Subject.TheVariants.{Category, Pool};
 ghost use Rattle.program_rows.specs.inside.Building.{IsThere, built_column};
 ghost use Rattle.program_rows.specs.Parts.{shown_row};
 ghost use Rattle.program_rows.specs.Rows.{bidder_subjects, column_of, program_of, row_of, subjects as subjects_of, weight, worth_column};
@@ -124,6 +126,45 @@ fn columns(
     Ok(columns)
 }
 
+/// Adds the categories and the pools to what there are rows for.
+fn add_lots(subjects: &mut Vec<Subject>, rules: &Rules) -> Result<(), AllocError>
+    ensures { OnOk result (subjects.new.items ≡ (subjects.old.items
+        ++ map Category (range_with_len 0 (length rules.now.categories)))
+        ++ map Pool (range_with_len 0 (length rules.now.pools))) }
+{
+    add_categories(subjects, rules.categories().len() as u8)?;
+    add_pools(subjects, rules.pools().len() as u8)
+}
+
+/// What the program of the kept bids is made of, where the rows of bidders end at `first`.
+fn parts(
+    alloc: Global,
+    rules: &Rules,
+    subjects: &[Subject],
+    first: usize,
+    kept: &[KeptBid<'_>],
+) -> Result<ProgramParts, AllocError>
+    requires sized { All (λ k. length k.offer.now.package ≡ length rules.now.categories) kept.now }
+    requires kept { AreKept kept.now }
+    requires rows { first < 2 ^ 31 }
+    requires first { first ≡ length (bidder_subjects (offers kept.now)) }
+    requires subjects { subjects.now ≡ subjects_of (lots_in rules.now) (offers kept.now) }
+    ensures objective { IfOk result (λ parts. parts.objective_name.items ≡ codes "OBJ") }
+    ensures rows { IfOk result (λ parts. map shown_row parts.rows.items
+        ≡ map (row_of (lots_in rules.now)) subjects.now) }
+    ensures columns { IfOk result (λ parts. parts.columns
+        ≡ map (column_of (lots_in rules.now) subjects.now) (offers kept.now)) }
+{
+    let objective_name = objective_name(alloc)?;
+    let rows = rows(alloc, rules, subjects)?;
+    let columns = columns(alloc, rules, subjects, first, kept)?;
+    Ok(ProgramParts {
+        objective_name,
+        rows,
+        columns,
+    })
+}
+
 /// The rows and the columns of the program of the kept bids, without the column `K`: what `build` makes, where no lot has a value.
 pub fn build_bids(alloc: Global, rules: &Rules, kept: &Kept<'_>) -> Result<ProgramParts, AllocError>
     requires sized { All (λ k. length k.offer.now.package ≡ length rules.now.categories) kept.now }
@@ -137,15 +178,8 @@ pub fn build_bids(alloc: Global, rules: &Rules, kept: &Kept<'_>) -> Result<Progr
     let kept = kept.bids();
     let mut subjects = bidders(alloc, kept)?;
     let first = subjects.len();
-    add_categories(&mut subjects, rules.categories().len() as u8)?;
-    add_pools(&mut subjects, rules.pools().len() as u8)?;
-    let rows = rows(alloc, rules, &subjects)?;
-    let columns = columns(alloc, rules, &subjects, first, kept)?;
-    Ok(ProgramParts {
-        objective_name: objective_name(alloc)?,
-        rows,
-        columns,
-    })
+    add_lots(&mut subjects, rules)?;
+    parts(alloc, rules, &subjects, first, kept)
 }
 
 /// The program of the kept bids: the objective `OBJ`, a row `Bb` for each bidder with a bid, a row `Cc` for each category and a row `Pp` for each pool, a column `Xb_j` for each bid, and a column `K` for what all lots are worth where that isn't 0.

@@ -4,9 +4,9 @@ ghost use Rattle.std.specs.Prelude.{◌≡◌, ◌≢◌, ℕ, ◌^◌, ◌<◌,
 ghost use Rattle.std.specs.List.{position_or_len};
 ghost use Rattle.program_rows.specs.Spelling.{column_bid, is_bid};
 
-use crate::digits::digits_behind;
-use crate::token::{are_all_digits, behind};
-use auction_terms::{Choice, MOST_BIDDERS, MOST_BIDS};
+use auction_limits::{MOST_BIDDERS, MOST_BIDS};
+use auction_terms::Choice;
+use line_words::{are_all_digits, behind, digits_behind};
 
 /// The number that is spelled by digits without a leading zero, where there are at most four.
 fn number_spelled(text: &[u8]) -> Option<u16>

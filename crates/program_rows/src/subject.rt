@@ -18,7 +18,7 @@ pub enum Subject {
 
 impl Subject {
     ghost use Rattle.std.specs.Prelude.{◌≡◌, ◌≤◌, ◌^◌, IfOk, length, pos};
-    ghost use Rattle.auction_terms.specs.declared.limits.TheConstants.{GREATEST_AMOUNT};
+    ghost use Rattle.auction_limits.specs.declared.limits.TheConstants.{GREATEST_AMOUNT};
     ghost use Rattle.auction_terms.specs.Offers.{offer_of};
     ghost use Rattle.auction_terms.specs.Packages.{Lots};
     ghost use Rattle.auction_terms.specs.Terms.{lots_in};
@@ -80,7 +80,7 @@ impl Subject {
 }
 
 ghost use Rattle.std.specs.Prelude.{◌≡◌, ◌≤◌, ◌<◌, ◌^◌, [], All, length, map, slice_index, slice_index_or};
-ghost use Rattle.auction_terms.specs.declared.limits.TheConstants.{GREATEST_AMOUNT, GREATEST_QUANTITY};
+ghost use Rattle.auction_limits.specs.declared.limits.TheConstants.{GREATEST_AMOUNT, GREATEST_QUANTITY};
 ghost use Rattle.auction_terms.specs.Packages.{IsPackage, weighed};
 ghost use Rattle.auction_terms.specs.Terms.{IsCategory, IsPool};
 ghost use Rattle.auction_terms.specs.inside.Terms.{cap_of};

@@ -1,9 +1,9 @@
 //! Texts of programs, and what they tell.
 
 use crate::worked::ONE_BID;
+use mps_meaning::FaultKind;
 use mps_reader::read_program;
 use program_faults::MpsFault;
-use program_rows::FaultKind;
 use std::alloc::Global;
 use std::test::Fail;
 

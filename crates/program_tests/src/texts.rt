@@ -3,9 +3,8 @@
 ghost use Rattle.std.specs.Prelude.{None};
 
 use crate::worked::{ONE_BID, on_program};
-use mps_text::{
-    LimitSink, MemorySink, Sink, SinkFailed, StdSink, WriteFault, Writer, write_program,
-};
+use byte_sinks::{LimitSink, MemorySink, Sink, SinkFailed, StdSink, WriteFault, Writer};
+use mps_text::write_program;
 use program_rows::Program;
 use std::alloc::Global;
 use std::cell::Cell;

@@ -1,19 +1,22 @@
 -- The number that an option writes, and the program's words.
-use Rattle.std.proofs.Common.{◌≡◌, ◌⊎◌, ◌≤◌, ◌<◌, ◌∙◌, ◌^◌, ℕ, Bool, cond, true, false, refl, sym, ap, arith, subst, inl, inr, List, [], Option, Result, Ok, Err, IfOk, String, map}
+use Rattle.std.proofs.Common.{◌≡◌, ◌⊎◌, ◌≤◌, ◌<◌, ◌∙◌, ◌^◌, ℕ, Bool, cond, true, false, refl, sym, ap, arith, subst, inl, inr, List, [], ◌∷◌, ◌++◌, Option, Result, Ok, Err, IfOk, String, map}
 use Rattle.std.specs.Borrow.{Bor}
-use Rattle.std.specs.Prelude.{if◌then◌else◌}
+use Rattle.std.specs.Prelude.{codes, fold, if◌then◌else◌}
+use Rattle.std.specs.List.{list_all}
+use Rattle.std.proofs.lemmas.List.{map-append}
+use Rattle.clap.specs.Simple.{on_top}
 use Rattle.std.specs.Str.Parse.{IsNumeral, digits_value, without_leading_plus}
 use Rattle.clap.proofs.ValueTestLemmas.{Accepts-accepts, accepts-Accepts}
 use Rattle.clap.proofs.SimpleLemmas.{is_false}
 use Rattle.clap.proofs.WalkLemmas.{both}
-use Rattle.clap.specs.Words.{AddsSubcommand, App, HasKind, Kinds, Row, Text, app_of, fault_of, is_simple_and_free, kind_of, subcommand_of, with_subcommand}
+use Rattle.clap.specs.Words.{AddsInTurn, AddsSubcommand, App, HasKind, Kinds, Row, Text, app_of, fault_of, is_simple_and_free, kind_of, new_app, subcommand_of, with_subcommand}
 use Rattle.clap.specs.declared.builder.command.Command.{Command}
 use Rattle.clap.specs.ValueTests.{is_unsigned_in}
 use Rattle.clap.specs.declared.builder.value_parser.ValueParser.TheVariants as parser
 use Rattle.clap.specs.declared.error.Error.{Error}
 use Rattle.clap.specs.declared.error.kind.ErrorKind.TheVariants as kind
 use Rattle.requests.specs.declared.request.Request.{Request}
-use Rattle.requests.specs.Asked.{asked, by_fault, by_faults, for_answer, named, spelled, wdp}
+use Rattle.requests.specs.Asked.{asked, by_fault, by_faults, commands, for_answer, named, spelled, wdp}
 use Rattle.requests.proofs.KindsFacts.{asks-as}
 
 abbrev written : List ℕ → ℕ
@@ -53,12 +56,28 @@ added old sub new adds a s is_old is_sub plain =
     subst (λ (x : App). app_of new ≡ with_subcommand x s.top) is_old
     (subst (λ (x : App). app_of new ≡ with_subcommand (app_of old) x.top) is_sub (adds.shape (is_false _ global.0)))
 
--- the same where there is memory for both
-pub further-added : {E : Type 0} (command further : Result Command E) (old sub : Command) (r : Result Command E) → command ≡ Ok old → further ≡ Ok sub → IfOk r (AddsSubcommand old sub) → (a s : App)
-    → IfOk command (λ c. app_of c ≡ a) → IfOk further (λ c. app_of c ≡ s) → s.top.is_plain ≡ true → IfOk r (λ new. app_of new ≡ with_subcommand a s.top)
-further-added {E} command further old sub (Ok new) old_is sub_is adds a s command_is further_is plain =
-    added old sub new adds a s (subst (λ (c : Result Command E). IfOk c (λ c. app_of c ≡ a)) old_is command_is) (subst (λ (c : Result Command E). IfOk c (λ c. app_of c ≡ s)) sub_is further_is) plain
-further-added command further old sub (Err e) old_is sub_is adds a s command_is further_is plain = tt
+-- a command with more of them, which are plain, in turn
+all-added : (old new : Command) (subs : List Command) (a : App) → AddsInTurn AddsSubcommand old subs new → app_of old ≡ a → list_all (λ (s : App). s.top.is_plain) (map app_of subs) ≡ true
+    → app_of new ≡ fold (λ (app command : App). with_subcommand app command.top) a (map app_of subs)
+all-added old new [] a same is plain = ap app_of (sym same) ∙ is
+all-added old new (sub ∷ more) a (next, adds, rest) is plain =
+    let plainly = both _ _ plain in
+    all-added next new more (with_subcommand a (app_of sub).top) rest (added old sub next adds a (app_of sub) is refl plainly.0) plainly.1
+
+-- the program's command, where there is memory for it
+pub is-wdp : {E : Type 0} (old : Command) (subs : List Command) (r : Result Command E) → app_of old ≡ on_top (λ s. record s { has_version = true; disable_help_subcommand = true }) (new_app (codes "wdp"))
+    → map app_of subs ≡ commands → IfOk r (AddsInTurn AddsSubcommand old subs) → IfOk r (λ new. app_of new ≡ wdp)
+is-wdp {E} old subs (Ok new) is are adds =
+    all-added old new subs _ adds is (ap (list_all (λ (s : App). s.top.is_plain)) are) ∙ ap (fold (λ (app command : App). with_subcommand app command.top) (on_top (λ s. record s { has_version = true; disable_help_subcommand = true }) (new_app (codes "wdp")))) are
+is-wdp old subs (Err e) is are adds = tt
+
+-- one more command in a list
+pub pushed : (old new : List Command) (command : Command) (a : App) → new ≡ old ++ command ∷ [] → app_of command ≡ a → map app_of new ≡ map app_of old ++ a ∷ []
+pushed old new command a is app = ap (map app_of) is ∙ map-append app_of old (command ∷ []) ∙ ap (λ (x : App). map app_of old ++ x ∷ []) app
+
+-- one more command behind those that are told
+pub then-added : (old new before : List App) (app told : App) → new ≡ old ++ app ∷ [] → old ≡ before → app ≡ told → new ≡ before ++ told ∷ []
+then-added old new before app told adds is same = adds ∙ ap (λ (xs : List App). xs ++ app ∷ []) is ∙ ap (λ (x : App). before ++ x ∷ []) same
 
 -- ---- what words ask for
 

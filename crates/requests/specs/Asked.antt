@@ -7,7 +7,7 @@ use Rattle.std.specs.Vec.Iter.{into_iter_items}
 use Rattle.std.specs.declared.vec.IntoIter.{IntoIter}
 use Rattle.requests.specs.declared.request.Request.TheVariants as request
 use Rattle.requests.specs.declared.request.Request.{Request}
-use Rattle.auction_terms.specs.declared.limits.TheConstants.{MOST_GROUPS}
+use Rattle.auction_limits.specs.declared.limits.TheConstants.{MOST_GROUPS}
 use Rattle.clap.specs.Simple.{on_top}
 use Rattle.clap.specs.ValueTests.{is_unsigned_in}
 use Rattle.clap.specs.Words.{App, Kinds, Row, Rule, Text, fault_of, first_of, new_app, new_rule, subcommand_of, with_rule, with_subcommand}
@@ -15,7 +15,7 @@ use Rattle.clap.specs.declared.builder.action.ArgAction.TheVariants as action
 use Rattle.clap.specs.declared.builder.value_parser.ValueParser.TheVariants as parser
 use Rattle.clap.specs.declared.error.kind.ErrorKind.TheVariants as kind
 use Rattle.clap.specs.declared.error.kind.ErrorKind.{ErrorKind}
-use Rattle.auction_terms.specs.declared.limits.TheConstants.{MOST_WORKERS}
+use Rattle.auction_limits.specs.declared.limits.TheConstants.{MOST_WORKERS}
 
 -- how many workers compile: from 1 on, and 1 where nothing is said
 abbrev pub workers : Rule
@@ -29,9 +29,9 @@ group = record (new_rule (codes "group")) { long = Some (codes "group"); value_n
 abbrev pub bids : Rule
 bids = record (new_rule (codes "bids")) { long = Some (codes "bids"); action = Some action.SetTrue }
 
--- the program's own words: a version, and the commands, among which `help` is listed (what it does is said below)
-abbrev pub wdp : App
-wdp = fold (λ (app command : App). with_subcommand app command.top) (on_top (λ s. record s { has_version = true; disable_help_subcommand = true }) (new_app (codes "wdp"))) (
+-- the commands, in the order in which the help lists them; `help` is listed among them (what it does is said below)
+abbrev pub commands : List App
+commands =
     new_app (codes "text") ∷
     with_rule (new_app (codes "compile")) workers ∷
     new_app (codes "check") ∷
@@ -39,7 +39,11 @@ wdp = fold (λ (app command : App). with_subcommand app command.top) (on_top (λ
     with_rule (new_app (codes "report")) workers ∷
     with_rule (new_app (codes "verify")) workers ∷
     with_rule (new_app (codes "explain")) bids ∷
-    new_app (codes "help") ∷ [])
+    new_app (codes "help") ∷ []
+
+-- the program's own words: a version, and the commands
+abbrev pub wdp : App
+wdp = fold (λ (app command : App). with_subcommand app command.top) (on_top (λ s. record s { has_version = true; disable_help_subcommand = true }) (new_app (codes "wdp"))) commands
 
 -- the number that an option writes, from 1 to the most; where it writes none, 1
 abbrev pub option_number : Text → ℕ → List Row → ℕ

@@ -2,8 +2,8 @@
 use Rattle.std.specs.Prelude.{◌≤◌, ⊤}
 use Rattle.requests.specs.declared.request.Request.TheVariants.{Compile, Map, Report, Verify}
 use Rattle.requests.specs.declared.request.Request.{Request}
-use Rattle.auction_terms.specs.declared.limits.TheConstants.{MOST_GROUPS}
-use Rattle.auction_terms.specs.declared.limits.TheConstants.{MOST_WORKERS}
+use Rattle.auction_limits.specs.declared.limits.TheConstants.{MOST_GROUPS}
+use Rattle.auction_limits.specs.declared.limits.TheConstants.{MOST_WORKERS}
 
 -- how many workers, and which group, from 1 on
 abbrev pub IsRequestWithinLimits : Request → Type 0

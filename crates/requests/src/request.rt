@@ -1,7 +1,7 @@
 //! What is asked of an input.
 
 /// A command with its options.
-#[derive(Clone, Copy, Debug, PartialEq, Eq)]
+#[derive(Clone, Copy)]
 pub enum Request {
     /// The program of the empty group.
     Text,

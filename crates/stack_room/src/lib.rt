@@ -5,7 +5,7 @@
 //! memory, which may be refused, gives that back, and touches the stack then.
 #![tactic(auto)]
 
-use mps_text::{Sink, StdSink};
+use byte_sinks::{Sink, StdSink};
 use std::alloc::Global;
 use std::fs::File;
 use std::io::Read;

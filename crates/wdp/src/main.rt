@@ -3,7 +3,7 @@
 
 use answers::run;
 use auction_input::Source;
-use mps_text::{Sink, StdSink};
+use byte_sinks::{Sink, StdSink};
 use stack_room::{tell, touch};
 use std::env::Args;
 use std::io::Read;

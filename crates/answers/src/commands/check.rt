@@ -6,8 +6,8 @@ ghost use Rattle.answers.specs.Exact.{IsUnwritten, Writes};
 
 use crate::sizes::write_sizes;
 use auction_input::Refusal;
+use byte_sinks::Sink;
 use mps_reader::read_program;
-use mps_text::Sink;
 use requests::Request;
 use std::alloc::Global;
 

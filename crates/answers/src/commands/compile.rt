@@ -1,43 +1,22 @@
 //! The command `compile`: the programs of all groups.
 
 ghost use Rattle.std.specs.Prelude.{◌≡◌, ◌≤◌, IfErr, OnOk};
-ghost use Rattle.answers.specs.Exact.{Ends, IsUnwritten, Writes};
-ghost use Rattle.answers.specs.Answer.{answer, output_of};
+ghost use Rattle.answers.specs.Exact.{Ends, Writes};
+ghost use Rattle.answers.specs.Answer.{output_of};
 ghost use Rattle.auction_input.specs.Settled.{held};
-ghost use Rattle.auction_input.specs.Sold.{HasSold};
-ghost use Rattle.auction_terms.specs.declared.limits.TheConstants.{MOST_WORKERS};
+ghost use Rattle.auction_limits.specs.declared.limits.TheConstants.{MOST_WORKERS};
 
 use crate::compile_run::run_compile;
 use crate::run_fault::RunFault;
-use auction_input::{Auction, Refusal, read_auction};
+use auction_input::{Auction, Refusal};
+use byte_sinks::{Sink, WriteFault};
 use group_compiler::OpenGate;
-use mps_text::{Sink, WriteFault};
 use requests::Request;
 use std::sync::Wait;
 use std::thread::Threads;
 
-/// Writes the programs of all groups.
-pub fn compile<R: Threads + Wait + Sync + AllocGlobal, S: Sink>(
-    rt: &R,
-    text: &[u8],
-    workers: usize,
-    out: &mut S,
-) -> Result<(), Refusal>
-    requires some { 1 ≤ workers }
-    requires few { workers ≤ MOST_WORKERS }
-    ensures written { OnOk result (Writes (answer (Request.Compile workers) text.now)
-        (S.taken out.old) (S.taken out.new)) }
-    ensures sold { OnOk result (HasSold (Request.Compile workers) text.now) }
-    ensures succeeded { OnOk result (S.failures out.new ≡ S.failures out.old) }
-    ensures refused { IfErr result (IsUnwritten (Request.Compile workers) text.now (S.taken out.old)
-        (S.taken out.new) (S.failures out.old) (S.failures out.new)) }
-{
-    let auction = read_auction(rt, &Request::Compile { workers }, text)?;
-    write_programs_of(rt, &auction, workers, out)
-}
-
-// The programs of all groups of an auction.
-fn write_programs_of<R: Threads + Wait + Sync + AllocGlobal, S: Sink>(
+/// Writes the programs of all groups of an auction.
+pub fn write_programs_of<R: Threads + Wait + Sync + AllocGlobal, S: Sink>(
     rt: &R,
     auction: &Auction<'_>,
     workers: usize,

@@ -10,10 +10,11 @@ ghost use Rattle.auction_input.specs.Settled.{held};
 ghost use Rattle.input_faults.specs.Explained.{IsCutShort};
 ghost use Rattle.input_faults.specs.FaultLines.{explanation};
 
-use auction_input::{Auction, Refusal, Source, read_auction, read_input};
+use crate::commands::answer_auction;
+use auction_input::{Auction, Refusal, Source, read_input};
+use byte_sinks::Sink;
 use input_faults::explain;
 use left_out::write_left_out;
-use mps_text::Sink;
 use requests::Request;
 use std::io::Read;
 use std::sync::Wait;
@@ -59,35 +60,21 @@ fn explain_text<R: Threads + Wait + Sync + AllocGlobal, S: Sink>(
         ⊎ IsUnwritten (Request.Explain bids) text.now (S.taken out.old) (S.taken out.new)
         (S.failures out.old) (S.failures out.new) r) }
 {
-    let faulty = explain(rt.alloc(), &Request::Explain { bids }, text, out)?;
+    let request = Request::Explain { bids };
+    let faulty = explain(rt.alloc(), &request, text, out)?;
     if faulty {
         return Ok(true);
     }
+    // The auction is read for its bids alone: without them nothing is written of it.
     if !bids {
         return Ok(false);
     }
-    write_bids(rt, text, out)?;
+    answer_auction(rt, &request, text, out)?;
     Ok(false)
 }
 
-// Writes which bids of a text are in no program.
-fn write_bids<R: Threads + Wait + Sync + AllocGlobal, S: Sink>(
-    rt: &R,
-    text: &[u8],
-    out: &mut S,
-) -> Result<(), Refusal>
-    ensures written { OnOk result (Writes (answer (Request.Explain true) text.now) (S.taken out.old)
-        (S.taken out.new)) }
-    ensures succeeded { OnOk result (S.failures out.new ≡ S.failures out.old) }
-    ensures refused { IfErr result (IsUnwritten (Request.Explain true) text.now (S.taken out.old)
-        (S.taken out.new) (S.failures out.old) (S.failures out.new)) }
-{
-    let auction = read_auction(rt, &Request::Explain { bids: true }, text)?;
-    write_bids_of(&auction, out)
-}
-
-// Writes which bids of an auction are in no program.
-fn write_bids_of<S: Sink>(auction: &Auction<'_>, out: &mut S) -> Result<(), Refusal>
+/// Writes which bids of an auction are in no program.
+pub fn write_bids_of<S: Sink>(auction: &Auction<'_>, out: &mut S) -> Result<(), Refusal>
     ensures written { OnOk result (Writes (output_of (Request.Explain true) (held auction.now))
         (S.taken out.old) (S.taken out.new)) }
     ensures succeeded { OnOk result (S.failures out.new ≡ S.failures out.old) }

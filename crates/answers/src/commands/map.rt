@@ -1,50 +1,30 @@
 //! The command `map`: what one solution wins.
 
 ghost use Rattle.std.specs.Prelude.{◌≡◌, ◌≤◌, ◌-◌, [], IfErr, IfOk, Ok, OnOk, false, length, slice_index_or};
-ghost use Rattle.answers.specs.Exact.{Ends, IsUnwritten, Writes};
-ghost use Rattle.answers.specs.SolutionWinners.{winners_by};
-ghost use Rattle.answers.specs.Answer.{answer, output_of};
+ghost use Rattle.answers.specs.Exact.{Ends, Writes};
+ghost use Rattle.group_winners.specs.SolutionWinners.{winners_by};
+ghost use Rattle.answers.specs.Answer.{output_of};
 ghost use Rattle.auction_input.specs.Refused.{Refuses};
 ghost use Rattle.auction_input.specs.Settled.{held};
-ghost use Rattle.auction_input.specs.Sold.{HasSold};
 ghost use Rattle.auction_terms.specs.Allocations.{IsFeasible};
 ghost use Rattle.auction_terms.specs.Terms.{lots_in};
 ghost use Rattle.bid_desk.specs.Closing.{book_of};
 ghost use Rattle.group_compiler.specs.Compiled.{program_without};
 
-use crate::winning::won_without;
-use auction_input::{Auction, Refusal, only_text, read_auction};
+use auction_input::{Auction, Refusal, only_text};
 use auction_terms::Groups;
 use bid_desk::ClosedBook;
+use byte_sinks::Sink;
 use group_compiler::Compiler;
-use mps_text::Sink;
+use group_winners::won_without;
 use outcome::{Allocation, write_allocation};
 use requests::Request;
 use std::alloc::Global;
 use std::sync::Wait;
 use std::thread::Threads;
 
-/// Writes what the solution of a group's program wins.
-pub fn map<R: Threads + Wait + Sync + AllocGlobal, S: Sink>(
-    rt: &R,
-    text: &[u8],
-    k: usize,
-    out: &mut S,
-) -> Result<(), Refusal>
-    requires { 1 ≤ k }
-    ensures written { OnOk result (Writes (answer (Request.Map k) text.now) (S.taken out.old)
-        (S.taken out.new)) }
-    ensures sold { OnOk result (HasSold (Request.Map k) text.now) }
-    ensures succeeded { OnOk result (S.failures out.new ≡ S.failures out.old) }
-    ensures refused { IfErr result (IsUnwritten (Request.Map k) text.now (S.taken out.old)
-        (S.taken out.new) (S.failures out.old) (S.failures out.new)) }
-{
-    let auction = read_auction(rt, &Request::Map { group: k }, text)?;
-    write_winners(rt, &auction, k, out)
-}
-
-// What the one solution wins without group k of an auction.
-fn write_winners<R: Threads + Wait + Sync + AllocGlobal, S: Sink>(
+/// Writes what the one solution wins without group k of an auction.
+pub fn write_winners<R: Threads + Wait + Sync + AllocGlobal, S: Sink>(
     rt: &R,
     auction: &Auction<'_>,
     k: usize,

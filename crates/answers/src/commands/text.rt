@@ -1,44 +1,26 @@
 //! The command `text`: the program with nobody left out.
 
 ghost use Rattle.std.specs.Prelude.{◌≡◌, ◌≤◌, [], IfErr, OnOk};
-ghost use Rattle.answers.specs.Exact.{Ends, IsUnwritten, Writes};
+ghost use Rattle.answers.specs.Exact.{Ends, Writes};
 ghost use Rattle.answers.specs.FaithfulAnswers.{IsFaithfulToSale};
-ghost use Rattle.answers.specs.Answer.{answer, output_of};
+ghost use Rattle.answers.specs.Answer.{output_of};
 ghost use Rattle.auction_input.specs.Settled.{held};
-ghost use Rattle.auction_input.specs.Sold.{HasSold};
-ghost use Rattle.auction_terms.specs.declared.limits.TheConstants.{MOST_WORKERS};
+ghost use Rattle.auction_limits.specs.declared.limits.TheConstants.{MOST_WORKERS};
 ghost use Rattle.bid_desk.specs.Sale.{sale_of};
 
 use crate::group_texts::write_program_without;
-use auction_input::{Auction, Refusal, read_auction};
-use auction_terms::{Groups, MOST_WORKERS};
+use auction_input::{Auction, Refusal};
+use auction_limits::MOST_WORKERS;
+use auction_terms::Groups;
 use bid_desk::ClosedBook;
-use group_compiler::OpenGate;
-use group_pages::Pages;
-use mps_text::Sink;
+use byte_sinks::Sink;
+use group_compiler::{OpenGate, Pages};
 use presolve::has_few_bids;
 use rayon::current_num_threads;
 use requests::Request;
 use std::alloc::Global;
 use std::sync::Wait;
 use std::thread::Threads;
-
-/// Writes the text of the program of the empty group.
-pub fn write_text<R: Threads + Wait + Sync + AllocGlobal, S: Sink>(
-    rt: &R,
-    text: &[u8],
-    out: &mut S,
-) -> Result<(), Refusal>
-    ensures written { OnOk result (Writes (answer Request.Text text.now) (S.taken out.old)
-        (S.taken out.new)) }
-    ensures sold { OnOk result (HasSold Request.Text text.now) }
-    ensures succeeded { OnOk result (S.failures out.new ≡ S.failures out.old) }
-    ensures refused { IfErr result (IsUnwritten Request.Text text.now (S.taken out.old)
-        (S.taken out.new) (S.failures out.old) (S.failures out.new)) }
-{
-    let auction = read_auction(rt, &Request::Text, text)?;
-    write_program_of_all(rt, &auction, out)
-}
 
 // How many workers make the pages: one for each processor, unless there is little to do.
 fn page_workers(rt: &impl Threads, book: &ClosedBook) -> usize
@@ -51,8 +33,8 @@ fn page_workers(rt: &impl Threads, book: &ClosedBook) -> usize
     current_num_threads(rt).min(MOST_WORKERS)
 }
 
-// The text of the program with nobody left out, joined from pages that are made side by side.
-fn write_program_of_all<R: Threads + Wait + Sync + AllocGlobal, S: Sink>(
+/// Writes the text of the program with nobody left out, joined from pages that are made side by side.
+pub fn write_program_of_all<R: Threads + Wait + Sync + AllocGlobal, S: Sink>(
     rt: &R,
     auction: &Auction<'_>,
     out: &mut S,

@@ -1,18 +1,18 @@
 //! The command `verify`: a report of solutions that certificates show to be optimal, and what comes of a claim that they are the only ones.
 
-ghost use Rattle.std.specs.Prelude.{◌≡◌, ◌⊎◌, ◌≤◌, IfErr, OnOk};
-ghost use Rattle.auction_terms.specs.declared.limits.TheConstants.{MOST_WORKERS};
+ghost use Rattle.std.specs.Prelude.{◌≡◌, ◌≤◌, IfErr, OnOk};
+ghost use Rattle.auction_limits.specs.declared.limits.TheConstants.{MOST_WORKERS};
 ghost use Rattle.answers.specs.Answer.{answer, output_of};
 ghost use Rattle.auction_input.specs.Settled.{held};
-ghost use Rattle.answers.specs.Exact.{Ends, IsBeyondSums, IsUnwritten, Writes};
-ghost use Rattle.auction_input.specs.Sold.{HasSold};
+ghost use Rattle.answers.specs.Exact.{IsUnwritten, Writes};
+ghost use Rattle.answers.specs.Sold.{HasSold};
 ghost use Rattle.answers.specs.Verified.{WritesTrueReport};
+ghost use Rattle.answers.specs.inside.Output.{IsWithoutOutput};
 
-use crate::certified::check_certificates;
-use crate::claimed::claim_of;
-use crate::report_run::won_by_groups;
-use auction_input::{Auction, Refusal, read_auction};
-use mps_text::Sink;
+use crate::commands::answer_auction;
+use auction_input::{Auction, Refusal};
+use byte_sinks::Sink;
+use group_winners::{check_certificates, claim_of, won_by_groups};
 use outcome::report_with;
 use requests::Request;
 use std::sync::Wait;
@@ -37,12 +37,11 @@ pub fn verify<R: Threads + Wait + Sync + AllocGlobal, S: Sink>(
     ensures refused { IfErr result (IsUnwritten (Request.Verify workers) text.now (S.taken out.old)
         (S.taken out.new) (S.failures out.old) (S.failures out.new)) }
 {
-    let auction = read_auction(rt, &Request::Verify { workers }, text)?;
-    write_verified(rt, &auction, workers, out)
+    answer_auction(rt, &Request::Verify { workers }, text, out)
 }
 
-// What the solutions of an auction win, and the groups' opportunity costs, where certificates show that nobody wins more.
-fn write_verified<R: Threads + Wait + Sync + AllocGlobal, S: Sink>(
+/// Writes what the solutions of an auction win, and the groups' opportunity costs, where certificates show that nobody wins more.
+pub fn write_verified<R: Threads + Wait + Sync + AllocGlobal, S: Sink>(
     rt: &R,
     auction: &Auction<'_>,
     workers: usize,
@@ -53,9 +52,8 @@ fn write_verified<R: Threads + Wait + Sync + AllocGlobal, S: Sink>(
     ensures written { OnOk result (Writes (output_of (Request.Verify workers) (held auction.now))
         (S.taken out.old) (S.taken out.new)) }
     ensures succeeded { OnOk result (S.failures out.new ≡ S.failures out.old) }
-    ensures refused { IfErr result (λ r. Ends (output_of (Request.Verify workers)
-        (held auction.now)) (S.taken out.old) (S.taken out.new) (S.failures out.old)
-        (S.failures out.new) r ⊎ (IsBeyondSums (held auction.now) r × (S.taken out.new ≡ S.taken out.old))) }
+    ensures refused { IfErr result (IsWithoutOutput (Request.Verify workers) (held auction.now)
+        (S.taken out.old) (S.taken out.new) (S.failures out.old) (S.failures out.new)) }
 {
     let won = won_by_groups(rt, auction, workers)?;
     let allocations = won.as_slice();

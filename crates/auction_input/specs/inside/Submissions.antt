@@ -5,9 +5,10 @@ use Rattle.std.specs.declared.alloc.Global.{Global}
 use Rattle.std.specs.declared.sync.Arc.{Arc}
 use Rattle.std.specs.declared.vec.Vec.{Vec}
 use Rattle.auction_terms.specs.Terms.{Terms}
+use Rattle.bid_desk.specs.Closing.{Closing}
 use Rattle.bid_desk.specs.Holding.{SessionOwn}
 use Rattle.bid_forms.specs.Offers.{Meets, Offers}
-use Rattle.auction_input.specs.Submissions.{AreAccepted, forms_of}
+use Rattle.auction_input.specs.Submissions.{AreAccepted, AreSubmitted, forms_of}
 use Rattle.auction_input.specs.declared.round.RoundFault.TheVariants.{WrongAnswer}
 use Rattle.auction_input.specs.declared.round.RoundFault.{RoundFault}
 use Rattle.bid_book.specs.declared.call.Call.TheVariants.{Close}
@@ -65,6 +66,14 @@ pub record IsIdle (lists : List (Vec (Arc Offers Global) Global)) (session : Ses
 pub record HasSubmitted (forms : List Offers) (session : SessionOwn) : Type 0 where
   pub first : session.session ≡ 1 → AreAccepted (forms_of session.bidder forms) session.pairs
   pub other : session.session ≢ 1 → session.pairs ≡ []
+
+-- sessions have submitted the forms that these lists have by bidder
+abbrev pub HaveSubmitted : List (Vec (Arc Offers Global) Global) → List SessionOwn → Type 0
+HaveSubmitted lists sessions = (forms : List Offers) → AreByBidder forms lists → All (HasSubmitted forms) sessions
+
+-- the forms that these lists have by bidder are submitted in a closed book
+abbrev pub HoldsLists : List (Vec (Arc Offers Global) Global) → Closing → Type 0
+HoldsLists lists book = (forms : List Offers) → AreByBidder forms lists → AreSubmitted forms book
 
 -- the chair has closed a round that was open
 abbrev pub HasClosed : List (Call Offers × Reply Offers) → List (Call Offers × Reply Offers) → Type 0

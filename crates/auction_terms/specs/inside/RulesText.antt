@@ -1,9 +1,17 @@
--- What single records of rules tell.
+-- What single records of rules tell, the first one, and what stands behind it.
+use Rattle.std.specs.Prelude.{◌+◌, ℕ, List, [], ◌∷◌, Result, Ok, Err, length, ok_or}
+use Rattle.auction_terms.specs.Entries.{terms_of}
+use Rattle.auction_terms.specs.FirstFault.{first_failed, first_fault}
 use Rattle.auction_terms.specs.Records.{Record}
-use Rattle.auction_terms.specs.RulesText.{field_number, record_field}
+use Rattle.auction_terms.specs.RulesText.{end_checks, entries_of, entry_fault, field_number, header_checks, record_field, version_of}
+use Rattle.auction_terms.specs.Stages.{and_then, unless}
+use Rattle.auction_terms.specs.Terms.{Terms}
 use Rattle.auction_terms.specs.declared.draft.Member.{Member}
 use Rattle.auction_terms.specs.declared.draft.NamedCap.{NamedCap}
 use Rattle.auction_terms.specs.declared.rules.Bidder.{Bidder}
+use Rattle.auction_terms.specs.declared.rules_text.Header.{Header}
+use Rattle.auction_terms.specs.declared.rules_text.RulesFault.{RulesFault}
+use Rattle.auction_terms.specs.declared.rules_text.RulesFault.TheVariants as fault
 
 abbrev pub bidder_of : Record → Bidder
 bidder_of r = record { name = record_field 2 r; eligibility = field_number 3 r; sessions = field_number 4 r }
@@ -13,3 +21,16 @@ pool_of r = record { name = record_field 2 r; cap = field_number 3 r }
 
 abbrev pub member_of : Record → Member
 member_of r = record { pool = record_field 2 r; category = record_field 3 r; weight = field_number 4 r }
+
+-- the version and the step that the first record tells
+abbrev pub first_record_told : List Record → Result Header RulesFault
+first_record_told [] = Err (fault.Header 1)
+first_record_told (header ∷ more) = and_then (ok_or (version_of header) (fault.Header 1)) (λ v.
+    unless (first_failed (header_checks v header)) (Ok (record { version = v; step = field_number 3 header })))
+
+-- the rules, by what stands behind a first record that tells this
+abbrev pub rules_behind : Header → List Record → Result Terms RulesFault
+rules_behind header records =
+    unless (first_fault (entry_fault header.version) [] records)
+    (unless (first_failed (end_checks (length records + 1) (entries_of header.version records)))
+    (Ok (terms_of header.step (entries_of header.version records))))

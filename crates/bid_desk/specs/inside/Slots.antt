@@ -1,7 +1,7 @@
 -- Where each session stands in a list of sessions.
 use Rattle.std.specs.Prelude.{ℕ, ◌+◌, ◌-◌, ◌*◌, ◌≡◌, ◌≢◌, ◌<◌, ◌≤◌, List, length, take, slice_index_or, IsTrue}
 use Rattle.auction_terms.specs.Terms.{Terms}
-use Rattle.auction_terms.specs.declared.limits.TheConstants.{MOST_SESSIONS}
+use Rattle.auction_limits.specs.declared.limits.TheConstants.{MOST_SESSIONS}
 use Rattle.bid_desk.specs.declared.slots.Slot.{Slot}
 use Rattle.bid_desk.specs.Holding.{SessionOwn}
 use Rattle.bid_desk.specs.Sessions.{IsSessionOf}

@@ -1,6 +1,6 @@
 -- What the reader answers.
 use Rattle.std.specs.Prelude.{◌≡◌, ℕ}
-use Rattle.program_rows.specs.declared.fault.FaultKind.TheVariants.{OutOfMemory}
+use Rattle.mps_meaning.specs.declared.fault.FaultKind.TheVariants.{OutOfMemory}
 use Rattle.program_faults.specs.declared.mps_fault.MpsFault.{MpsFault}
 use Rattle.mps_reader.specs.declared.refusal.Refusal.{Refusal}
 use Rattle.mps_reader.specs.declared.refusal.Refusal.TheVariants.{Memory, Fault}

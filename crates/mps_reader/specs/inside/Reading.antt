@@ -2,14 +2,15 @@
 use Rattle.std.specs.Prelude.{◌≡◌, ℕ, ◌≤◌, Bool, not, ◌||◌, ◌&&◌, nat_le, List, length, take, Option, Some, None, Result, Ok, Err, pos, drop, ◌==◌}
 use Rattle.std.specs.List.{AllByRecursion}
 use Rattle.std.specs.Ordering.{int_eq}
-use Rattle.program_rows.specs.Lines as spec
-use Rattle.program_rows.specs.Lines.{fields, is_space, line_of}
-use Rattle.program_rows.specs.Numbers.{number}
-use Rattle.program_rows.specs.Described.{value}
-use Rattle.program_rows.specs.Faults.{number_fault}
+use Rattle.mps_meaning.specs.MpsLines as spec
+use Rattle.line_words.specs.Lines.{field, fields, is_space}
+use Rattle.mps_meaning.specs.MpsLines.{line_of}
+use Rattle.line_words.specs.Numbers.{number}
+use Rattle.mps_meaning.specs.Described.{value}
+use Rattle.mps_meaning.specs.Faults.{number_fault}
 use Rattle.program_rows.specs.Parts.{IsName}
-use Rattle.program_rows.specs.declared.fault.FaultKind.{FaultKind}
-use Rattle.program_rows.specs.declared.fault.FaultKind.TheVariants.{BoundValue}
+use Rattle.mps_meaning.specs.declared.fault.FaultKind.{FaultKind}
+use Rattle.mps_meaning.specs.declared.fault.FaultKind.TheVariants.{BoundValue}
 use Rattle.mps_reader.specs.declared.lines.Line.{Line}
 use Rattle.mps_reader.specs.declared.lines.Line.TheVariants.{Skipped, Unprintable, Header, Data}
 use Rattle.mps_reader.specs.declared.refusal.Refusal.{Refusal}
@@ -40,7 +41,7 @@ pub record AreFirst (first : List (List ℕ)) (all : List (List ℕ)) : Type 0 w
 abbrev pub IsLine : Line → List ℕ → Type 0
 IsLine Skipped bytes = line_of bytes ≡ spec.Skipped
 IsLine Unprintable bytes = line_of bytes ≡ spec.Unprintable
-IsLine (Header first) bytes = (line_of bytes ≡ spec.Header (spec.field 0 (fields bytes)) (drop 1 (fields bytes))) × AreFirst (bytes_of first.items) (fields bytes)
+IsLine (Header first) bytes = (line_of bytes ≡ spec.Header (field 0 (fields bytes)) (drop 1 (fields bytes))) × AreFirst (bytes_of first.items) (fields bytes)
 IsLine (Data first) bytes = (line_of bytes ≡ spec.Data (fields bytes)) × AreFirst (bytes_of first.items) (fields bytes)
 
 -- Ok where there is no fault, else the fault, unless memory ran out

@@ -9,14 +9,14 @@ use Rattle.program_rows.specs.declared.name_set.Seeded.{Seeded}
 use Rattle.program_rows.specs.declared.row.Row.{Row}
 use Rattle.program_rows.specs.Program.{TableRow}
 use Rattle.program_rows.specs.Parts.{IsName, shown_row}
-use Rattle.program_rows.specs.Lines.{LineFields, field}
-use Rattle.program_rows.specs.Described.{is_free, row_kind_of, value}
-use Rattle.program_rows.specs.Faults.{earliest_fault, number_fault}
-use Rattle.program_rows.specs.declared.fault.FaultKind.{FaultKind}
-use Rattle.program_rows.specs.declared.fault.FaultKind.TheVariants.{UnknownRow, EntryRepeated, ObjectiveConstant}
+use Rattle.line_words.specs.Lines.{LineFields, field}
+use Rattle.mps_meaning.specs.Described.{is_free, row_kind_of, value}
+use Rattle.mps_meaning.specs.Faults.{earliest_fault, number_fault}
+use Rattle.mps_meaning.specs.declared.fault.FaultKind.{FaultKind}
+use Rattle.mps_meaning.specs.declared.fault.FaultKind.TheVariants.{UnknownRow, EntryRepeated, ObjectiveConstant}
 use Rattle.auction_terms.specs.Borrowed.{bytes_of}
 use Rattle.mps_reader.specs.declared.row_table.Rows.{Rows}
-use Rattle.program_rows.specs.Numbers.{number as token_number}
+use Rattle.line_words.specs.Numbers.{number as token_number}
 use Rattle.std.specs.Bool.{then_some as when}
 
 abbrev pub NameSet : Type 0

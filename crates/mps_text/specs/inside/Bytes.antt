@@ -2,7 +2,7 @@
 use Rattle.std.specs.Prelude.{ℕ, List, [], ◌∷◌, ◌++◌, map, flat_map, codes}
 use Rattle.program_rows.specs.declared.parts.ProgramParts.{ProgramParts}
 use Rattle.program_rows.specs.Parts.{shown_row}
-use Rattle.program_rows.specs.Lines.{Data}
+use Rattle.mps_meaning.specs.MpsLines.{Data}
 use Rattle.mps_text.specs.Text.{written}
 use Rattle.mps_text.specs.Bytes.{bound_bytes, column_bytes, right_side_bytes, row_bytes}
 

@@ -1,7 +1,7 @@
 -- What the reader of a solution holds while it goes over the lines.
 use Rattle.std.specs.Prelude.{ℕ, Bool, not, ◌&&◌, ◌||◌, List, [], ◌∷◌, map, Option, None, Some, if◌then◌else◌, bytes_eq}
 use Rattle.std.specs.List.{list_any}
-use Rattle.program_rows.specs.Numbers.{is_number_token, is_too_long}
+use Rattle.line_words.specs.Numbers.{is_number_token, is_too_long}
 use Rattle.program_faults.specs.declared.solution_fault.SolutionFault.{SolutionFault}
 use Rattle.program_faults.specs.declared.solution_fault.SolutionFault.TheVariants as fault
 use Rattle.outcome.specs.Solution.{names_column, is_one}

@@ -3,9 +3,10 @@
 
 use super::{FRONTS, PAIRS};
 use crate::worked::{ONE_BID, on_program};
+use mps_meaning::FaultKind;
 use mps_reader::read_program;
 use program_faults::MpsFault;
-use program_rows::{FaultKind, Program, same_program};
+use program_rows::{Program, same_program};
 use std::alloc::Global;
 use std::test::Fail;
 

@@ -2,7 +2,8 @@
 //! bytes as the fault tells. Writing itself takes no memory.
 
 use crate::worked::{ONE_BID, on_program};
-use mps_text::{MemorySink, WriteFault, write_program};
+use byte_sinks::{MemorySink, WriteFault};
+use mps_text::write_program;
 use program_rows::Program;
 use std::alloc::Global;
 use std::test::Fail;

@@ -1,7 +1,7 @@
 use Rattle.std.proofs.Common.{rules, ◌≡◌, ◌<◌, ◌+◌, ◌-◌, ◌++◌, ◌∙◌, [], ℕ, List, ap, length, map, slice_index_or, take, drop, sym, arith, refl}
 use Rattle.std.proofs.lemmas.List.{append-nil, get_or-map, length-map}
 use Rattle.group_compiler.specs.Compiled.{GroupProgram, compiled}
-use Rattle.mps_text.proofs.Adding.{Adds-then, Adds-to, sent-quiet}
+use Rattle.byte_sinks.proofs.Adding.{Adds-then, Adds-to, sent-quiet}
 use Rattle.outcome.specs.Report.{in_turn}
 use Rattle.answers.specs.GroupTexts.{program_bytes}
 use Rattle.answers.proofs.GroupTextFacts.{ends-in, ends-told, fails-told, in_turn-more, in_turn-rest}

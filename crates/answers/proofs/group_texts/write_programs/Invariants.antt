@@ -1,5 +1,5 @@
 use Rattle.std.proofs.Common.{map, take}
-use Rattle.mps_text.specs.Adds.{Adds, IsSent}
+use Rattle.byte_sinks.specs.Adds.{Adds, IsSent}
 use Rattle.group_compiler.specs.Compiled.{compiled}
 use Rattle.answers.specs.GroupTexts.{programs_bytes}
 use Rattle.answers.proofs.group_texts.write_programs.Given as goal

@@ -2,7 +2,7 @@ use Rattle.std.proofs.Common.{◌∙◌, ℕ, List, ap, sym, subst}
 use Rattle.auction_input.specs.Refused.{Refuses}
 use Rattle.auction_input.specs.PartsTold.{only_text}
 use Rattle.auction_terms.specs.GroupsText.{groups_of}
-use Rattle.auction_terms.specs.declared.limits.TheConstants.{TEXT_LIMIT}
+use Rattle.auction_limits.specs.declared.limits.TheConstants.{TEXT_LIMIT}
 use Rattle.auction_terms.specs.declared.groups_text.GroupFault.TheVariants as group_fault
 use Rattle.auction_terms.specs.Borrowed.{bytes_of}
 use Rattle.auction_terms.specs.Stages.{refused_as}

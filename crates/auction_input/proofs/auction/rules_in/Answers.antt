@@ -3,7 +3,7 @@ use Rattle.auction_input.specs.Refused.{Refuses}
 use Rattle.auction_input.specs.PartsTold.{only_text}
 use Rattle.auction_terms.specs.Records.{records_of}
 use Rattle.auction_terms.specs.RulesText.{rules_of_records}
-use Rattle.auction_terms.specs.declared.limits.TheConstants.{TEXT_LIMIT}
+use Rattle.auction_limits.specs.declared.limits.TheConstants.{TEXT_LIMIT}
 use Rattle.auction_terms.specs.declared.rules_text.RulesFault.TheVariants as rules_fault
 use Rattle.auction_terms.specs.Borrowed.{bytes_of}
 use Rattle.auction_terms.specs.Stages.{refused_as}

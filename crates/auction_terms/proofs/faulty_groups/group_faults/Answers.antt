@@ -6,7 +6,7 @@ use Rattle.auction_terms.specs.AllGroupFaults.{all_line_faults}
 use Rattle.auction_terms.specs.declared.faults.Found.{Found}
 use Rattle.auction_terms.specs.declared.groups_text.GroupFault.{GroupFault}
 use Rattle.auction_terms.specs.declared.rules.Bidder.{Bidder}
-use Rattle.auction_terms.specs.declared.limits.TheConstants.{TEXT_LIMIT}
+use Rattle.auction_limits.specs.declared.limits.TheConstants.{TEXT_LIMIT}
 use Rattle.auction_terms.proofs.faulty_groups.group_faults.Goals as goal
 
 abbrev faults_by_line : List Bidder → ℕ → List (List ℕ) → List ℕ → List (Found GroupFault)

@@ -1,11 +1,11 @@
-use Rattle.std.proofs.Common.{◌≡◌, ◌<◌, ◌≤◌, ◌+◌, ◌++◌, ◌∷◌, ◌∙◌, [], List, ap, append-nil, arith, drop, length, map}
+use Rattle.std.proofs.Common.{◌≡◌, ◌<◌, ◌≤◌, ◌+◌, ◌++◌, ◌∷◌, ◌∙◌, [], ap, append-nil, arith, drop, length}
 use Rattle.std.proofs.Math.ListN.{drop_of_length-le}
 use Rattle.std.specs.Prelude.{option_map, option_to_list}
 use Rattle.csv.specs.Records.{fields_of}
 use Rattle.auction_terms.proofs.AllFaultsFacts.{keeps-both}
 use Rattle.auction_terms.specs.AllFaults.{each_failed, found}
 use Rattle.auction_terms.specs.FirstFault.{first_failed}
-use Rattle.auction_terms.specs.RulesText.{number_told, record_field}
+use Rattle.auction_terms.specs.RulesText.{record_field}
 use Rattle.bid_forms.proofs.AllFormFaultsFacts.{each-next}
 use Rattle.bid_forms.proofs.RecordFacts.{fields-more}
 use Rattle.bid_forms.specs.FormText.{is_quantity_text}

@@ -1,9 +1,8 @@
-use Rattle.std.proofs.Common.{◌≡◌, ◌+◌, ◌++◌, List, drop, map}
+use Rattle.std.proofs.Common.{◌≡◌, ◌+◌, ◌++◌, List, drop}
 use Rattle.csv.specs.Records.{fields_of}
 use Rattle.auction_terms.specs.AllFaults.{KeepsMore, each_failed}
-use Rattle.auction_terms.specs.RulesText.{number_told}
 use Rattle.auction_terms.specs.declared.faults.Found.{Found}
-use Rattle.bid_forms.specs.FormText.{bid_told, is_quantity_text}
+use Rattle.bid_forms.specs.FormText.{is_quantity_text}
 use Rattle.bid_forms.specs.declared.form_text.FormFault.{FormFault}
 use Rattle.bid_forms.specs.declared.form_text.FormFault.TheVariants as fault
 use Rattle.bid_forms.proofs.faulty_form.add_texts.Given as goal

@@ -6,8 +6,8 @@ use Rattle.input_faults.proofs.ExplainFacts.{cut-short, held-lines, is-faulty, n
 use Rattle.input_faults.specs.Explained.{IsCutShort, by_memory}
 use Rattle.input_faults.specs.FaultLines.{explanation}
 use Rattle.input_faults.specs.TextDetails.{detail}
-use Rattle.mps_text.specs.Sinks.{SentFront}
-use Rattle.mps_text.specs.Written.{written_of}
+use Rattle.byte_sinks.specs.Sinks.{SentFront}
+use Rattle.byte_sinks.specs.Written.{written_of}
 use Rattle.requests.proofs.StepFacts.{if-err-of}
 use Rattle.input_faults.proofs.explaining.explain.Goals as goal
 

@@ -1,6 +1,6 @@
 use Rattle.std.proofs.Common.{◌∙◌, ◌++◌, ◌∷◌, [], ap}
 use Rattle.auction_input.specs.Line.{refusal_text}
-use Rattle.mps_text.proofs.Adding.{Adds-then, Adds-to}
+use Rattle.byte_sinks.proofs.Adding.{Adds-then, Adds-to}
 use Rattle.input_faults.specs.inside.DetailText.{detail_text}
 use Rattle.input_faults.proofs.lines.add_line.Goals as goal
 

@@ -1,6 +1,6 @@
 use Rattle.std.proofs.Common.{◌∙◌}
 use Rattle.auction_terms.specs.Records.{records_of}
-use Rattle.mps_text.proofs.Adding.{Adds-to}
+use Rattle.byte_sinks.proofs.Adding.{Adds-to}
 use Rattle.input_faults.proofs.DetailFacts.{line-with, of-no-rules, rules-known}
 use Rattle.input_faults.specs.TextDetails.{detail_in_rules}
 use Rattle.input_faults.proofs.lines.add_line_of_rules.Goals as goal

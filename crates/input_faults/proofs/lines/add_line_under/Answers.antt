@@ -1,6 +1,6 @@
 use Rattle.std.proofs.Common.{◌∙◌}
 use Rattle.auction_terms.specs.Borrowed.{bytes_of}
-use Rattle.mps_text.proofs.Adding.{Adds-to}
+use Rattle.byte_sinks.proofs.Adding.{Adds-to}
 use Rattle.input_faults.proofs.DetailFacts.{form-known, groups-known, line-with, of-neither}
 use Rattle.input_faults.specs.TextDetails.{detail_under}
 use Rattle.input_faults.proofs.lines.add_line_under.Goals as goal

@@ -3,7 +3,7 @@ use Rattle.std.specs.Prelude.{flat_map}
 use Rattle.auction_input.specs.PartsTold.{only_text}
 use Rattle.auction_input.specs.declared.parts.PartFault.{PartFault}
 use Rattle.auction_terms.specs.Borrowed.{bytes_of}
-use Rattle.mps_text.proofs.Adding.{Adds-to}
+use Rattle.byte_sinks.proofs.Adding.{Adds-to}
 use Rattle.input_faults.proofs.PartsFacts.{part-told, parts-detail}
 use Rattle.input_faults.specs.FaultLines.{fault_line}
 use Rattle.input_faults.specs.TextDetails.{detail_in_input}

@@ -1,8 +1,8 @@
 use Rattle.std.proofs.Common.{◌<◌, ◌∙◌, ℕ, ap, arith, length, rules}
 use Rattle.auction_terms.specs.Records.{records_of}
 use Rattle.auction_terms.specs.RulesText.{version_of}
-use Rattle.mps_text.proofs.Adding.{Adds-then, Adds-to}
-use Rattle.mps_text.proofs.Known.{flat_map-next_or}
+use Rattle.byte_sinks.proofs.Adding.{Adds-then, Adds-to}
+use Rattle.byte_sinks.proofs.Known.{flat_map-next_or}
 use Rattle.input_faults.specs.FaultLines.{fault_line}
 use Rattle.input_faults.specs.TextDetails.{detail_in_rules, numbered}
 use Rattle.input_faults.proofs.lines.add_lines_of_rules.Goals as goal

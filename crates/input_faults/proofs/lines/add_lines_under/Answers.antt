@@ -1,7 +1,7 @@
 use Rattle.std.proofs.Common.{◌<◌, arith, length, rules}
 use Rattle.auction_terms.specs.Borrowed.{bytes_of}
-use Rattle.mps_text.proofs.Adding.{Adds-then, Adds-to}
-use Rattle.mps_text.proofs.Known.{flat_map-next_or}
+use Rattle.byte_sinks.proofs.Adding.{Adds-then, Adds-to}
+use Rattle.byte_sinks.proofs.Known.{flat_map-next_or}
 use Rattle.input_faults.specs.FaultLines.{fault_line}
 use Rattle.input_faults.specs.TextDetails.{detail_under}
 use Rattle.input_faults.proofs.lines.add_lines_under.Goals as goal

@@ -1,7 +1,7 @@
 use Rattle.std.proofs.Common.{◌≡◌, take}
 use Rattle.std.specs.Prelude.{flat_map}
 use Rattle.auction_terms.specs.Borrowed.{bytes_of}
-use Rattle.mps_text.specs.Adds.{Adds}
+use Rattle.byte_sinks.specs.Adds.{Adds}
 use Rattle.input_faults.specs.FaultLines.{fault_line}
 use Rattle.input_faults.specs.TextDetails.{detail_under, within_limit}
 use Rattle.input_faults.specs.inside.Cursors.{ReadsForm, StandsAtName}

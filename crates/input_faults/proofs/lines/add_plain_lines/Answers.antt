@@ -1,6 +1,6 @@
 use Rattle.std.proofs.Common.{◌<◌, [], length, arith}
-use Rattle.mps_text.proofs.Adding.{Adds-then, Adds-to}
-use Rattle.mps_text.proofs.Known.{flat_map-next_or}
+use Rattle.byte_sinks.proofs.Adding.{Adds-then, Adds-to}
+use Rattle.byte_sinks.proofs.Known.{flat_map-next_or}
 use Rattle.input_faults.specs.FaultLines.{fault_line}
 use Rattle.input_faults.proofs.lines.add_plain_lines.Goals as goal
 

@@ -1,6 +1,6 @@
 use Rattle.std.proofs.Common.{[], take}
 use Rattle.std.specs.Prelude.{flat_map}
-use Rattle.mps_text.specs.Adds.{Adds}
+use Rattle.byte_sinks.specs.Adds.{Adds}
 use Rattle.input_faults.specs.FaultLines.{fault_line}
 use Rattle.input_faults.proofs.lines.add_plain_lines.Given as goal
 

@@ -1,6 +1,6 @@
 use Rattle.std.proofs.Common.{take}
 use Rattle.std.specs.Prelude.{flat_map}
-use Rattle.mps_text.specs.Adds.{Adds}
+use Rattle.byte_sinks.specs.Adds.{Adds}
 use Rattle.input_faults.specs.Shown.{shown_byte}
 use Rattle.input_faults.proofs.shown.add_shown_bytes.Given as goal
 

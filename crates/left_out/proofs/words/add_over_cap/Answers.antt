@@ -1,5 +1,5 @@
 use Rattle.std.proofs.Common.{rules}
-use Rattle.mps_text.proofs.Adding.{Adds-to}
+use Rattle.byte_sinks.proofs.Adding.{Adds-to}
 use Rattle.left_out.proofs.words.add_over_cap.Goals as goal
 
 pub returns : goal.returns

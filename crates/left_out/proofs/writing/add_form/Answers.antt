@@ -5,7 +5,7 @@ use Rattle.auction_terms.specs.declared.bids.Bid.{Bid}
 use Rattle.left_out.specs.Lines.{left_out_line}
 use Rattle.left_out.specs.Reasons.{why_left_out}
 use Rattle.left_out.proofs.LineLaws.{numbered-all, numbered-next}
-use Rattle.mps_text.proofs.Adding.{Adds-then, Adds-to}
+use Rattle.byte_sinks.proofs.Adding.{Adds-then, Adds-to}
 use Rattle.left_out.proofs.writing.add_form.Goals as goal
 
 pub loop-place-preserved : goal.loop-place-preserved

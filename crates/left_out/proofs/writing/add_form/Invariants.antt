@@ -6,7 +6,7 @@ use Rattle.auction_terms.specs.Terms.{lots_in}
 use Rattle.auction_terms.specs.declared.bids.Bid.{Bid}
 use Rattle.left_out.specs.Lines.{left_out_line}
 use Rattle.left_out.specs.Reasons.{why_left_out}
-use Rattle.mps_text.specs.Adds.{Adds}
+use Rattle.byte_sinks.specs.Adds.{Adds}
 use Rattle.left_out.proofs.writing.add_form.Given as goal
 
 -- the lines so far are added

@@ -6,7 +6,7 @@ use Rattle.auction_terms.specs.Terms.{Terms}
 use Rattle.bid_desk.specs.Closing.{book_of}
 use Rattle.left_out.specs.Lines.{form_lines}
 use Rattle.left_out.proofs.LineLaws.{numbered-all, numbered-next}
-use Rattle.mps_text.proofs.Adding.{Adds-then, Adds-to}
+use Rattle.byte_sinks.proofs.Adding.{Adds-then, Adds-to}
 use Rattle.left_out.proofs.writing.add_forms.Goals as goal
 
 pub loop-place-preserved : goal.loop-place-preserved

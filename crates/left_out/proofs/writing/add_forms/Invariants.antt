@@ -4,7 +4,7 @@ use Rattle.std.specs.List.{enumerate_from}
 use Rattle.auction_terms.specs.declared.bids.Bid.{Bid}
 use Rattle.bid_desk.specs.Closing.{book_of}
 use Rattle.left_out.specs.Lines.{form_lines}
-use Rattle.mps_text.specs.Adds.{Adds}
+use Rattle.byte_sinks.specs.Adds.{Adds}
 use Rattle.left_out.proofs.writing.add_forms.Given as goal
 
 -- the lines of the forms so far are added

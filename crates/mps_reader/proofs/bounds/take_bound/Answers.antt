@@ -1,9 +1,9 @@
 use Rattle.std.proofs.Common.{rules, ◌≡◌, ◌+◌, ◌∙◌, ap, sym, refl, arith, Bool, Some, None, true, false, map, get_or}
 use Rattle.std.specs.Prelude.{bytes_eq, codes, Err, slice_get, length, if◌then◌else◌, ◌==◌}
 use Rattle.std.specs.List.{list_any}
-use Rattle.program_rows.specs.declared.fault.FaultKind.TheVariants.{UnknownColumn}
-use Rattle.program_rows.specs.Lines.{field}
-use Rattle.program_rows.specs.Described.{value, is_binary_bound, bound_pair, is_column}
+use Rattle.mps_meaning.specs.declared.fault.FaultKind.TheVariants.{UnknownColumn}
+use Rattle.line_words.specs.Lines.{field}
+use Rattle.mps_meaning.specs.Described.{value, is_binary_bound, bound_pair, is_column}
 use Rattle.auction_terms.specs.Borrowed.{bytes_of}
 use Rattle.mps_reader.specs.inside.Rows.{names_of}
 use Rattle.mps_reader.specs.inside.Tracking.{state_values, told_values, bounded_values}

@@ -1,7 +1,7 @@
 use Rattle.std.proofs.Common.{rules, ◌≡◌, ◌||◌, ◌==◌, ◌∙◌, ap, sym, subst, ◌++◌, arith, ℕ, length, get_or}
 use Rattle.std.specs.Prelude.{bytes_eq, Err, if◌then◌else◌, drop}
 use Rattle.std.specs.List.{list_any}
-use Rattle.program_rows.specs.Described.{value, pairs, number_beside}
+use Rattle.mps_meaning.specs.Described.{value, pairs, number_beside}
 use Rattle.auction_terms.specs.Borrowed.{bytes_of}
 use Rattle.mps_reader.specs.inside.Rows.{names_of, option_now, declared_row_names, StampsAre}
 use Rattle.mps_reader.specs.declared.row_table.Rows.{Rows}

@@ -1,8 +1,8 @@
 use Rattle.std.proofs.Common.{rules, ◌≡◌, ◌∙◌, ap, sym, refl, arith, drop, get_or, Some, None}
 use Rattle.std.specs.Prelude.{Err, option_map, position, not}
-use Rattle.program_rows.specs.declared.fault.FaultKind.TheVariants.{NotBinary}
-use Rattle.program_rows.specs.Lines.{field}
-use Rattle.program_rows.specs.Faults.{header_fault}
+use Rattle.mps_meaning.specs.declared.fault.FaultKind.TheVariants.{NotBinary}
+use Rattle.line_words.specs.Lines.{field}
+use Rattle.mps_meaning.specs.Faults.{header_fault}
 use Rattle.auction_terms.specs.Borrowed.{bytes_of}
 use Rattle.mps_reader.specs.inside.States.{is_binary_state}
 use Rattle.mps_reader.proofs.RowSteps.{no_name, field-at}

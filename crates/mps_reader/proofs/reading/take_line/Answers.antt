@@ -1,6 +1,6 @@
 use Rattle.std.proofs.Common.{rules, ◌≡◌, ◌∙◌, ap, sym, subst, Bool}
 use Rattle.std.specs.Prelude.{Err}
-use Rattle.program_rows.specs.Lines.{fields}
+use Rattle.line_words.specs.Lines.{fields}
 use Rattle.auction_terms.specs.Borrowed.{bytes_of}
 use Rattle.mps_reader.specs.inside.Reading.{AreFirst}
 use Rattle.mps_reader.proofs.AnswerFacts.{handed-on}

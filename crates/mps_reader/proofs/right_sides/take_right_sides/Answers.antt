@@ -3,7 +3,7 @@ use Rattle.std.specs.Prelude.{bytes_eq, Err, if◌then◌else◌}
 use Rattle.std.specs.List.{list_any}
 use Rattle.std.specs.Option.{option_map_or}
 use Rattle.program_rows.specs.Parts.{shown_row}
-use Rattle.program_rows.specs.Described.{pairs, value, number_beside}
+use Rattle.mps_meaning.specs.Described.{pairs, value, number_beside}
 use Rattle.auction_terms.specs.Borrowed.{bytes_of}
 use Rattle.mps_reader.specs.inside.Rows.{names_of, StampsAre}
 use Rattle.mps_reader.proofs.NameFacts.{length-bytes, or-false}

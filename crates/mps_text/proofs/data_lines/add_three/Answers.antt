@@ -1,4 +1,4 @@
-use Rattle.mps_text.proofs.Adding.{Adds-then, Adds-to}
+use Rattle.byte_sinks.proofs.Adding.{Adds-then, Adds-to}
 use Rattle.mps_text.proofs.LineBytes.{three_parts}
 use Rattle.mps_text.proofs.data_lines.add_three.Goals as goal
 

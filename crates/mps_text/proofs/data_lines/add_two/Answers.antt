@@ -1,5 +1,5 @@
 use Rattle.std.proofs.Common.{[]}
-use Rattle.mps_text.proofs.Adding.{Adds-then, Adds-to}
+use Rattle.byte_sinks.proofs.Adding.{Adds-then, Adds-to}
 use Rattle.mps_text.proofs.LineBytes.{two_parts}
 use Rattle.mps_text.proofs.data_lines.add_two.Goals as goal
 

@@ -1,4 +1,4 @@
-use Rattle.mps_text.proofs.Adding.{Adds-then, Adds-to}
+use Rattle.byte_sinks.proofs.Adding.{Adds-then, Adds-to}
 use Rattle.mps_text.proofs.LineBytes.{bound_parts}
 use Rattle.mps_text.specs.Text.{bound_words}
 use Rattle.mps_text.proofs.sections.add_bound.Goals as goal

@@ -1,7 +1,7 @@
 use Rattle.std.proofs.Common.{take}
 use Rattle.std.specs.Prelude.{flat_map}
 use Rattle.mps_text.specs.Bytes.{bound_bytes}
-use Rattle.mps_text.specs.Adds.{Adds}
+use Rattle.byte_sinks.specs.Adds.{Adds}
 use Rattle.mps_text.proofs.sections.add_bounds.Given as goal
 
 -- the lines so far are added

@@ -2,7 +2,7 @@ use Rattle.std.proofs.Common.{take}
 use Rattle.std.specs.Prelude.{flat_map}
 use Rattle.program_rows.specs.Parts.{shown_row}
 use Rattle.mps_text.specs.Bytes.{right_side_bytes}
-use Rattle.mps_text.specs.Adds.{Adds}
+use Rattle.byte_sinks.specs.Adds.{Adds}
 use Rattle.mps_text.proofs.sections.add_right_sides.Given as goal
 
 -- the lines so far are added

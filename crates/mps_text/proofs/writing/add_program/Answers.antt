@@ -1,4 +1,4 @@
-use Rattle.mps_text.proofs.Adding.{Adds-to}
+use Rattle.byte_sinks.proofs.Adding.{Adds-to}
 use Rattle.mps_text.proofs.TextBytes.{text-of_parts}
 use Rattle.mps_text.proofs.writing.add_program.Goals as goal
 

@@ -1,5 +1,5 @@
 use Rattle.std.proofs.Common.{ap, ◌∙◌}
-use Rattle.program_rows.specs.Lines.{fields}
+use Rattle.line_words.specs.Lines.{fields}
 use Rattle.optimality.specs.inside.LineMeaning.{split_behind}
 use Rattle.optimality.specs.inside.Branches.{branches_of}
 use Rattle.optimality.proofs.AlikeLaws.{split-opened}

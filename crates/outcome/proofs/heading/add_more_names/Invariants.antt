@@ -1,6 +1,6 @@
 use Rattle.std.proofs.Common.{◌∷◌, take}
 use Rattle.std.specs.Prelude.{flat_map}
-use Rattle.mps_text.specs.Adds.{Adds}
+use Rattle.byte_sinks.specs.Adds.{Adds}
 use Rattle.bid_desk.specs.Sale.{bidder_name, sale_of}
 use Rattle.outcome.proofs.heading.add_more_names.Given as goal
 

@@ -1,7 +1,7 @@
 use Rattle.std.proofs.Common.{◌≡◌, ◌+◌, ◌-◌, ◌<◌, ℕ, [], take, length, ap, ◌∙◌, arith}
 use Rattle.std.specs.Prelude.{get_or}
 use Rattle.std.specs.List.{zip}
-use Rattle.mps_text.proofs.Adding.{Adds-then, Adds-to}
+use Rattle.byte_sinks.proofs.Adding.{Adds-then, Adds-to}
 use Rattle.bid_desk.specs.Sale.{sale_of}
 use Rattle.outcome.specs.Report.{group_report, in_turn}
 use Rattle.outcome.proofs.ReportLaws.{more_at, same_at}

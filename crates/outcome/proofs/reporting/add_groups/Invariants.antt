@@ -1,6 +1,6 @@
 use Rattle.std.proofs.Common.{take}
 use Rattle.std.specs.List.{zip}
-use Rattle.mps_text.specs.Adds.{Adds}
+use Rattle.byte_sinks.specs.Adds.{Adds}
 use Rattle.bid_desk.specs.Sale.{sale_of}
 use Rattle.outcome.specs.Report.{group_report, in_turn}
 use Rattle.outcome.proofs.reporting.add_groups.Given as goal

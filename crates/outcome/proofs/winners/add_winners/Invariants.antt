@@ -1,6 +1,6 @@
 use Rattle.std.proofs.Common.{take}
 use Rattle.std.specs.Prelude.{flat_map}
-use Rattle.mps_text.specs.Adds.{Adds}
+use Rattle.byte_sinks.specs.Adds.{Adds}
 use Rattle.bid_desk.specs.Sale.{sale_of}
 use Rattle.outcome.specs.Report.{winner_line}
 use Rattle.outcome.proofs.winners.add_winners.Given as goal

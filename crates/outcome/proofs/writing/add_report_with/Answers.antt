@@ -1,4 +1,4 @@
-use Rattle.mps_text.proofs.Adding.{Adds-then}
+use Rattle.byte_sinks.proofs.Adding.{Adds-then}
 use Rattle.outcome.proofs.writing.add_report_with.Goals as goal
 
 pub returns : goal.returns

@@ -1,17 +1,17 @@
 use Rattle.std.proofs.Common.{◌≡◌, ℕ, Ok, Result, ap, inl, refl}
 use Rattle.program_rows.specs.Program.{Table}
-use Rattle.program_rows.specs.declared.fault.FaultKind.{FaultKind}
+use Rattle.mps_meaning.specs.declared.fault.FaultKind.{FaultKind}
 use Rattle.answers.specs.Answer.{answer}
 use Rattle.answers.specs.Exact.{IsUnwritten, by_refusal}
 use Rattle.mps_reader.specs.declared.limits.TheConstants.{PROGRAM_LIMIT}
-use Rattle.program_rows.specs.Meaning.{meaning}
-use Rattle.program_rows.specs.declared.fault.FaultKind.TheVariants as kind
+use Rattle.mps_meaning.specs.Meaning.{meaning}
+use Rattle.mps_meaning.specs.declared.fault.FaultKind.TheVariants as kind
 use Rattle.answers.specs.Sizes.{sizes_text}
 use Rattle.auction_terms.specs.Stages.{and_then, refused_as}
 use Rattle.auction_input.specs.declared.refusal.Refusal.TheVariants as refusal
 use Rattle.requests.specs.declared.request.Request.TheVariants as request
 use Rattle.answers.proofs.CommandFacts.{cut-short}
-use Rattle.answers.proofs.FaultFacts.{program-refuses, program_refused}
+use Rattle.group_winners.proofs.FaultFacts.{program-refuses, program_refused}
 use Rattle.auction_input.proofs.InputTextFacts.{sized}
 use Rattle.answers.proofs.ProgramTextFacts.{program-refused, program-told}
 use Rattle.requests.proofs.StepFacts.{if-err-of}

@@ -1,5 +1,8 @@
-use Rattle.std.proofs.Common.{◌≡◌, ap, false, inl, inr, rules, true}
-use Rattle.answers.proofs.ExplainingFacts.{IsTextUnexplained, told, unasked, untold}
+use Rattle.std.proofs.Common.{◌≡◌, ℕ, List, Option, ap, false, inl, inr, rules, subst}
+use Rattle.answers.specs.Answer.{answer}
+use Rattle.answers.specs.Exact.{Writes}
+use Rattle.answers.proofs.ExplainingFacts.{IsTextUnexplained, unasked, untold}
+use Rattle.requests.specs.declared.request.Request.TheVariants.{Explain}
 use Rattle.requests.proofs.StepFacts.{if-err-of}
 use Rattle.answers.proofs.commands.explain.explain_text.Goals as goal
 
@@ -21,20 +24,18 @@ returns-then-not-bids-clause-explained g c =
 
 pub returns-clause-explained : goal.returns-clause-explained
 returns-clause-explained g c =
-    let on : c.args.bids ≡ true = search rules in
-    let same = c.in_ok-faulty.ensures.untouched c.if-faulty.false in
-    told c.args.bids c.args.text.now (g.S.Sink.taken c.explain.new.out) (g.S.Sink.taken c.args.out.now) (g.S.Sink.taken c.write_bids.new.out) on (ap g.S.Sink.taken same) c.in_ok-write_bids.ensures.written
+    let same = ap g.S.Sink.taken (c.in_ok-faulty.ensures.untouched c.if-faulty.false) in
+    subst (λ (taken : Option (List ℕ)). Writes (answer (Explain c.args.bids) c.args.text.now) taken (g.S.Sink.taken c.answer_auction.new.out)) same c.in_ok-answer_auction.ensures.written
 
-pub returns-in_err-write_bids-clause-refused : goal.returns-in_err-write_bids-clause-refused
-returns-in_err-write_bids-clause-refused g c =
-    let on : c.args.bids ≡ true = search rules in
+pub returns-in_err-answer_auction-clause-refused : goal.returns-in_err-answer_auction-clause-refused
+returns-in_err-answer_auction-clause-refused g c =
     let same = c.in_ok-faulty.ensures.untouched c.if-faulty.false in
-    let before = g.S.Sink.taken c.explain.new.out in
+    let bids = c.args.bids in
+    let text = c.args.text.now in
     let taken = g.S.Sink.taken c.args.out.now in
-    let taken' = g.S.Sink.taken c.write_bids.new.out in
-    let failed = g.S.Sink.failures c.explain.new.out in
+    let taken' = g.S.Sink.taken c.answer_auction.new.out in
     let failures = g.S.Sink.failures c.args.out.now in
-    let failures' = g.S.Sink.failures c.write_bids.new.out in
-    let r = c.in_err-write_bids.field-0.0 in
-    if-err-of (IsTextUnexplained c.args.bids c.args.text.now taken taken' failures failures') c.from_residual-in_err-write_bids.result r c.from_residual-in_err-write_bids.ensures.1
-    (inr (untold c.args.bids c.args.text.now before taken taken' failed failures failures' r on (ap g.S.Sink.taken same) (ap g.S.Sink.failures same) c.in_err-write_bids.ensures.refused))
+    let failures' = g.S.Sink.failures c.answer_auction.new.out in
+    let r = c.in_err-answer_auction.field-0.0 in
+    if-err-of (IsTextUnexplained bids text taken taken' failures failures') c.from_residual-in_err-answer_auction.result r c.from_residual-in_err-answer_auction.ensures.1
+    (inr (untold (Explain bids) text _ taken taken' _ failures failures' r (ap g.S.Sink.taken same) (ap g.S.Sink.failures same) c.in_err-answer_auction.ensures.refused))

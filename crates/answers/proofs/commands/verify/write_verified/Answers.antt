@@ -1,13 +1,12 @@
-use Rattle.std.proofs.Common.{◌≡◌, ◌++◌, ◌∙◌, List, Ok, ap, inl, refl, sym}
-use Rattle.std.specs.Prelude.{◌⊎◌}
+use Rattle.std.proofs.Common.{◌++◌, ◌∙◌, List, Ok, ap, inl, refl, sym}
 use Rattle.auction_terms.specs.declared.choices.Choice.{Choice}
 use Rattle.outcome.specs.Report.{report_text}
 use Rattle.bid_desk.specs.Sale.{sale_of}
 use Rattle.outcome.specs.Uniqueness.{uniqueness_text}
-use Rattle.answers.specs.Answer.{output_of}
 use Rattle.requests.specs.declared.request.Request.TheVariants as request
 use Rattle.auction_input.specs.Settled.{held}
-use Rattle.answers.specs.Exact.{Ends, IsBeyondSums, by_refusal}
+use Rattle.answers.specs.Exact.{by_refusal}
+use Rattle.answers.specs.inside.Output.{IsWithoutOutput}
 use Rattle.auction_input.specs.declared.refusal.Refusal.TheVariants as refusal
 use Rattle.answers.proofs.CommandFacts.{cut-short}
 use Rattle.requests.proofs.StepFacts.{if-err-of}
@@ -30,7 +29,7 @@ returns-in_err-won-clause-refused g c =
     let taken = g.S.Sink.taken c.args.out.now in
     let failures = g.S.Sink.failures c.args.out.now in
     let r = c.in_err-won.field-0.0 in
-    if-err-of (λ e. Ends (output_of (request.Verify c.args.workers) auction) taken taken failures failures e ⊎ (IsBeyondSums auction e × (taken ≡ taken))) c.from_residual.result r c.from_residual.ensures.1
+    if-err-of (IsWithoutOutput (request.Verify c.args.workers) auction taken taken failures failures) c.from_residual.result r c.from_residual.ensures.1
     (inl (by_refusal (stop _ _ r (stop _ _ r c.in_err-won.ensures.refuses)) refl))
 
 pub returns-in_err-check_certificates-clause-refused : goal.returns-in_err-check_certificates-clause-refused
@@ -40,7 +39,7 @@ returns-in_err-check_certificates-clause-refused g c =
     let failures = g.S.Sink.failures c.args.out.now in
     let r = c.in_err-check_certificates.field-0.0 in
     let won = c.in_ok-won.ensures.won ∙ ap (λ (xs : List (List Choice)). Ok xs) (sym c.as_slice-allocations.ensures.value) in
-    if-err-of (λ e. Ends (output_of (request.Verify c.args.workers) auction) taken taken failures failures e ⊎ (IsBeyondSums auction e × (taken ≡ taken))) c.from_residual-in_err-check_certificates.result r c.from_residual-in_err-check_certificates.ensures.1
+    if-err-of (IsWithoutOutput (request.Verify c.args.workers) auction taken taken failures failures) c.from_residual-in_err-check_certificates.result r c.from_residual-in_err-check_certificates.ensures.1
     (unshown c.args.workers auction c.as_slice-allocations.result.now taken failures r won c.in_err-check_certificates.ensures.refuses)
 
 pub returns-in_err-claim-clause-refused : goal.returns-in_err-claim-clause-refused
@@ -50,7 +49,7 @@ returns-in_err-claim-clause-refused g c =
     let failures = g.S.Sink.failures c.args.out.now in
     let r = c.in_err-claim.field-0.0 in
     let won = c.in_ok-won.ensures.won ∙ ap (λ (xs : List (List Choice)). Ok xs) (sym c.as_slice-allocations.ensures.value) in
-    if-err-of (λ e. Ends (output_of (request.Verify c.args.workers) auction) taken taken failures failures e ⊎ (IsBeyondSums auction e × (taken ≡ taken))) c.from_residual-in_err-claim.result r c.from_residual-in_err-claim.ensures.1
+    if-err-of (IsWithoutOutput (request.Verify c.args.workers) auction taken taken failures failures) c.from_residual-in_err-claim.result r c.from_residual-in_err-claim.ensures.1
     (unclaimed c.args.workers auction c.as_slice-allocations.result.now taken failures r won c.in_ok-check_certificates.ensures.shown c.in_err-claim.ensures.refuses)
 
 pub returns-in_err-report_with-clause-refused : goal.returns-in_err-report_with-clause-refused
@@ -65,6 +64,6 @@ returns-in_err-report_with-clause-refused g c =
     let f = c.in_err-report_with.field-0.0 in
     let won = c.in_ok-won.ensures.won ∙ ap (λ (xs : List (List Choice)). Ok xs) (sym c.as_slice-allocations.ensures.value) in
     let sent = c.in_err-report_with.ensures.err in
-    if-err-of (λ e. Ends (output_of (request.Verify c.args.workers) (held auction)) taken taken' failures failures' e ⊎ (IsBeyondSums (held auction) e × (taken' ≡ taken))) c.from_residual-in_err-report_with.result (refusal.Write f) c.from_residual-in_err-report_with.ensures.1
+    if-err-of (IsWithoutOutput (request.Verify c.args.workers) (held auction) taken taken' failures failures') c.from_residual-in_err-report_with.result (refusal.Write f) c.from_residual-in_err-report_with.ensures.1
     (inl (cut-short _ (report_text (sale_of auction.book) auction.groups all ++ uniqueness_text (sale_of auction.book) claim) taken taken' failures failures' f
     (next _ all _ _ (next _ all _ _ won c.in_ok-check_certificates.ensures.shown) (next _ claim _ _ c.in_ok-claim.ensures.told refl)) sent c.in_err-report_with.ensures.failed))

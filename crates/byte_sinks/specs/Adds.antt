@@ -1,0 +1,37 @@
+-- What is added to a writer, from one state of it to a later one.
+use Rattle.std.specs.Prelude.{◌≡◌, ℕ, true, false, List, [], Option}
+use Rattle.std.specs.Io.KnownBytes.{Appends, append_known}
+use denote.Ref.{MutBor}
+use Rattle.byte_sinks.specs.declared.writer.Writer.{Writer}
+use Rattle.byte_sinks.specs.Sinks.{HasFailed, IsFront, Counts}
+
+-- nothing was done yet with a writer to this sink
+pub record IsNew {X : Type 0} (sink : MutBor X) (writer : Writer X) : Type 0 where
+  pub same_sink : writer.sink.ghost_name ≡ sink.ghost_name
+  pub untouched : writer.sink.now ≡ sink.now
+  pub empty : writer.waiting.items ≡ []
+  pub unsent : writer.sent ≡ 0
+  pub whole : writer.has_failed ≡ false
+
+-- what the sink has taken, and behind it what waits
+abbrev pub bytes_given : {X : Type 0} → (X → Option (List ℕ)) → Writer X → Option (List ℕ)
+bytes_given taken writer = append_known (taken writer.sink.now) writer.waiting.items
+
+-- These bytes were added, to the same sink.
+pub record Adds {X : Type 0} (taken : X → Option (List ℕ)) (failures : X → ℕ) (old new : Writer X) (bytes : List ℕ) : Type 0 where
+  pub same_sink : new.sink.ghost_name ≡ old.sink.ghost_name
+  pub counted : Counts (taken old.sink.now) (taken new.sink.now) old.sent new.sent
+  -- unless a put failed, they stand behind those that were held
+  pub whole : new.has_failed ≡ false → (old.has_failed ≡ false) × Appends (bytes_given taken old) (bytes_given taken new) bytes × (failures new.sink.now ≡ failures old.sink.now)
+  -- where one failed meanwhile, what went out is a front
+  pub broken : old.has_failed ≡ false → new.has_failed ≡ true → IsFront (taken new.sink.now) (append_known (bytes_given taken old) bytes) × HasFailed (failures old.sink.now) (failures new.sink.now)
+  -- where one failed before, nothing is put
+  pub silent : old.has_failed ≡ true → (new.has_failed ≡ true) × (new.sink.now ≡ old.sink.now) × (new.sent ≡ old.sent)
+
+-- nothing waits, and no put failed
+abbrev pub IsSent : {X : Type 0} → Writer X → Type 0
+IsSent writer = (writer.has_failed ≡ false) × (writer.waiting.items ≡ [])
+
+-- a put failed once so many bytes had gone out
+abbrev pub IsBroken : {X : Type 0} → Writer X → ℕ → Type 0
+IsBroken writer written = (writer.has_failed ≡ true) × (written ≡ writer.sent)

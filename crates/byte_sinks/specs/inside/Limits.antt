@@ -1,0 +1,9 @@
+-- Sinks in memory, as contracts see them: one with limits, and one that grows.
+use Rattle.std.specs.Prelude.{ℕ, List}
+use Rattle.byte_sinks.specs.Limits.{Grown, Limited}
+
+abbrev pub limited : List ℕ → ℕ → ℕ → ℕ → Limited
+limited taken room most failures = record { taken = taken; room = room; most = most; failures = failures }
+
+abbrev pub grown : List ℕ → ℕ → ℕ → Grown
+grown taken room failures = record { taken = taken; room = room; failures = failures }

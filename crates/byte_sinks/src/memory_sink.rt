@@ -1,0 +1,81 @@
+ghost use Rattle.std.specs.Prelude.{◌≡◌, ◌+◌, ◌<◌, ◌≤◌, [], Some, length, take, IfOk, OnOk, OnErr};
+ghost use Rattle.std.specs.Io.KnownBytes.{Appends, Keeps};
+ghost use Rattle.byte_sinks.specs.Sinks.{one_more};
+
+use crate::sink::{Sink, SinkFailed};
+use std::alloc::Global;
+use std::marker::Model;
+
+/// A sink that keeps its bytes in memory. A refused growth is a failed put. Contracts see what it has taken, and up to how many bytes it need not grow.
+#[derive(Drop)]
+pub struct MemorySink {
+    bytes: Vec<u8>,
+    failures: u64,
+}
+
+impl Model for MemorySink {
+    ghost use Rattle.std.specs.Prelude.{vec_capacity};
+    ghost use Rattle.byte_sinks.specs.Limits.{Grown};
+    ghost use Rattle.byte_sinks.specs.inside.Limits.{grown};
+
+    ghost Value = { Grown };
+
+    ghost view = { λ s. grown s.bytes.items (vec_capacity s.bytes) s.failures };
+}
+
+impl MemorySink {
+    /// A sink without bytes, which grows by this allocator.
+    pub fn new(alloc: Global) -> Self
+        ensures taken { ⟦<MemorySink as Sink>⟧.taken result ≡ Some [] }
+        ensures failures { ⟦<MemorySink as Sink>⟧.failures result ≡ 0 }
+    {
+        MemorySink {
+            bytes: Vec::new(alloc),
+            failures: 0,
+        }
+    }
+
+    /// The bytes that it has taken.
+    pub fn bytes(&self) -> &[u8]
+        ensures { ⟦<MemorySink as Sink>⟧.taken self.now ≡ Some result.now }
+    {
+        self.bytes.as_slice()
+    }
+
+    /// Those bytes, once no more are to come.
+    pub fn into_bytes(self) -> Vec<u8>
+        ensures { ⟦<MemorySink as Sink>⟧.taken self ≡ Some result.items }
+    {
+        let MemorySink { bytes, .. } = self;
+        bytes
+    }
+}
+
+impl Sink for MemorySink {
+    ghost taken = { λ s. Some s.taken };
+
+    ghost failures = { λ s. s.failures };
+
+    fn put(&mut self, bytes: &[u8]) -> Result<usize, SinkFailed>
+        ensures within { IfOk result (λ n. n ≤ length bytes.now) }
+        ensures some { IfOk result (λ n. 0 < length bytes.now → 0 < n) }
+        ensures took { IfOk result (λ n. Appends (⟦<MemorySink as Sink>⟧.taken self.old)
+            (⟦<MemorySink as Sink>⟧.taken self.new) (take n bytes.now)) }
+        ensures kept { OnErr result (Keeps (⟦<MemorySink as Sink>⟧.taken self.old)
+            (⟦<MemorySink as Sink>⟧.taken self.new)) }
+        ensures succeeded { OnOk result (⟦<MemorySink as Sink>⟧.failures self.new
+            ≡ ⟦<MemorySink as Sink>⟧.failures self.old) }
+        ensures failed { OnErr result (⟦<MemorySink as Sink>⟧.failures self.new
+            ≡ one_more (⟦<MemorySink as Sink>⟧.failures self.old)) }
+        ensures whole { IfOk result (λ n. n ≡ length bytes.now) }
+        ensures full { OnErr result (self.old.room < length self.old.taken + length bytes.now) }
+    {
+        match self.bytes.extend_from_slice(bytes) {
+            Ok(()) => Ok(bytes.len()),
+            Err(_) => {
+                self.failures = self.failures.saturating_add(1);
+                Err(SinkFailed)
+            }
+        }
+    }
+}

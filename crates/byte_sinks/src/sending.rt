@@ -1,0 +1,37 @@
+//! Sending bytes to a sink.
+
+ghost use Rattle.std.specs.Prelude.{◌≡◌, length, min, take, OnOk, OnErr};
+ghost use Rattle.std.specs.Io.KnownBytes.{Appends, append_known};
+ghost use Rattle.byte_sinks.specs.Sinks.{HasFailed, IsFront, Counts};
+
+use crate::sink::{Sink, SinkFailed};
+use crate::writer::BLOCK_LEN;
+
+/// The first bytes, as many as a block has room for.
+fn front_block(bytes: &[u8]) -> &[u8]
+    ensures { result.now ≡ take (min (length bytes.now) BLOCK_LEN) bytes.now }
+{
+    let end = bytes.len().min(BLOCK_LEN);
+    &bytes[..end]
+}
+
+/// Puts all the bytes, and counts those that go out.
+#[inline(never)]
+pub(crate) fn put_all<S: Sink>(sink: &mut S, bytes: &[u8], sent: &mut u64) -> Result<(), SinkFailed>
+    ensures ok { OnOk result (Appends (S.taken sink.old) (S.taken sink.new) bytes.now) }
+    ensures err { OnErr result (IsFront (S.taken sink.new)
+        (append_known (S.taken sink.old) bytes.now)) }
+    ensures counted { Counts (S.taken sink.old) (S.taken sink.new) sent.old sent.new }
+    ensures failed { OnErr result (HasFailed (S.failures sink.old) (S.failures sink.new)) }
+    ensures succeeded { OnOk result (S.failures sink.new ≡ S.failures sink.old) }
+{
+    // Behind a reference a number's range is known once it is read.
+    let _known = *sent;
+    let mut from = 0;
+    while from < bytes.len() {
+        let n = sink.put(front_block(&bytes[from..]))?;
+        from += n;
+        *sent = sent.saturating_add(n as u64);
+    }
+    Ok(())
+}

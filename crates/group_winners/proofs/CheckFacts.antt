@@ -1,0 +1,34 @@
+-- One check, or two in order, before what is told.
+use Rattle.std.proofs.Common.{◌≡◌, ◌∷◌, [], Bool, true, false, Result, Ok, Err, refl}
+use Rattle.std.specs.Prelude.{cond}
+use Rattle.auction_terms.specs.FirstFault.{first_failed}
+use Rattle.auction_terms.specs.Stages.{unless}
+use Rattle.auction_input.specs.declared.refusal.Refusal.{Refusal}
+
+pub when-counted : {A : Type 0} (test : Bool) (r : Result A Refusal) (e : Refusal) (x : A) → cond test r (Err e) ≡ Ok x → (test ≡ true) × (r ≡ Ok x)
+when-counted true r e x told = (refl, told)
+when-counted false r e x told = cc
+
+-- two checks, in order
+module _ {A : Type 0} (e f : Refusal) where
+  abbrev checked : Bool → Bool → Result A Refusal → Result A Refusal
+  checked first second r = unless (first_failed ((first, e) ∷ (second, f) ∷ [])) r
+
+  pub when-both : (first second : Bool) (r : Result A Refusal) (x : A) → checked first second r ≡ Ok x → (first ≡ true) × (second ≡ true) × (r ≡ Ok x)
+  when-both true true r x told = (refl, refl, told)
+  when-both true false r x told = cc
+  when-both false second r x told = cc
+
+  pub first-refuses : (first second : Bool) (r : Result A Refusal) → first ≡ false → checked first second r ≡ Err e
+  first-refuses true second r failed = cc
+  first-refuses false second r failed = refl
+
+  pub second-refuses : (first second : Bool) (r : Result A Refusal) → first ≡ true → second ≡ false → checked first second r ≡ Err f
+  second-refuses true true r passed failed = cc
+  second-refuses true false r passed failed = refl
+  second-refuses false second r passed failed = cc
+
+  pub none-refuses : (first second : Bool) (r : Result A Refusal) → first ≡ true → second ≡ true → checked first second r ≡ r
+  none-refuses true true r passed passed_too = refl
+  none-refuses true false r passed passed_too = cc
+  none-refuses false second r passed passed_too = cc

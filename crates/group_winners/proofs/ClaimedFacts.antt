@@ -1,0 +1,194 @@
+-- What comes of a claim of other outcomes, as the code finds it.
+use Rattle.std.proofs.Common.{◌≡◌, ◌≤◌, ◌+◌, ◌==◌, ◌∷◌, ◌∙◌, [], ℕ, Bool, List, Option, None, Some, Result, Ok, Err, ap, arith, eqb-true, inl, inr, length, refl, subst, sym}
+use Rattle.std.specs.Prelude.{◌⊎◌, ◌<◌, IfErr, IfOk, codes, slice_index, slice_index_or, true}
+use Rattle.std.specs.List.{zip}
+use Rattle.std.specs.Option.{option_map}
+use Rattle.std.proofs.lemmas.List.{length-map}
+use denote.Ref.{Bor}
+use Rattle.auction_terms.specs.Borrowed.{bytes_of}
+use Rattle.auction_terms.specs.Groups.{starts_empty}
+use Rattle.auction_terms.specs.Stages.{each_in_turn, refused_as, unless}
+use Rattle.auction_terms.specs.declared.choices.Choice.{Choice}
+use Rattle.auction_input.specs.Auction.{Auction}
+use Rattle.group_winners.specs.Programs.{program_for}
+use Rattle.auction_input.specs.Line.{refusal_text}
+use Rattle.auction_input.specs.Refused.{Refuses}
+use Rattle.auction_input.specs.Settled.{held}
+use Rattle.auction_input.specs.declared.auction.Auction as declared
+use Rattle.auction_input.specs.declared.refusal.CountedPart.TheVariants as counted
+use Rattle.auction_input.specs.declared.refusal.Refusal.TheVariants as refusal
+use Rattle.auction_input.specs.declared.refusal.Refusal.{Refusal}
+use Rattle.auction_input.proofs.AnswerFacts.{ok-behind, ok-is}
+use Rattle.auction_input.proofs.StageFacts.{next}
+use Rattle.optimality.specs.Answers.{IsLimit, IsVerdict}
+use Rattle.optimality.specs.Only.{IsLargeOnlyAt, only_fault}
+use Rattle.program_faults.specs.declared.certificate_fault.CertificateFault.{CertificateFault}
+use Rattle.program_faults.specs.declared.certificate_fault.FaultKind.{FaultKind}
+use Rattle.program_faults.specs.declared.certificate_fault.FaultKind.TheVariants as kind
+use Rattle.bid_desk.specs.Sale.{Sale}
+use Rattle.outcome.specs.Solution.{solution}
+use Rattle.program_faults.specs.declared.solution_fault.SolutionFault.TheVariants as fault
+use Rattle.outcome.specs.declared.uniqueness.Uniqueness.{Uniqueness}
+use Rattle.outcome.specs.declared.uniqueness.Uniqueness.TheVariants as uniqueness
+use Rattle.group_winners.specs.Claimed.{claims_told, first_program, of_tie, only_or_rival, tie_told, tied}
+use Rattle.group_winners.specs.Claimed.{IsTooWideClaim}
+use Rattle.group_winners.specs.SolutionWinners.{solution_refused, winners_by, winners_of_groups}
+use Rattle.group_winners.specs.inside.Claiming.{IsWonFirst}
+use Rattle.group_winners.specs.inside.SolutionWinners.{winners}
+use Rattle.group_winners.proofs.CheckFacts.{when-both}
+
+-- ---- what the first solution wins
+
+first-of : (sale : Sale) (n : ℕ) (groups texts : List (List ℕ)) (won : List (List Choice)) → starts_empty groups ≡ true → length texts ≡ length groups
+    → each_in_turn (winners sale) n (zip groups texts) ≡ Ok won → (1 ≤ length texts) × (1 ≤ length won) × (winners_by (program_for sale []) n (slice_index_or texts 0 []) ≡ Ok (slice_index_or won 0 []))
+first-of sale n [] texts won starts count wins = absurd (cc)
+first-of sale n (group ∷ groups) [] won starts count wins = absurd (omega arith)
+first-of sale n ([] ∷ groups) (text ∷ texts) won starts count wins =
+    let (a, a_is, more_wins) = ok-behind (winners sale n ([], text)) _ won wins in
+    let (more, more_are, are) = ok-behind (each_in_turn (winners sale) (n + 1) (zip groups texts)) _ won more_wins in
+    let is : a ∷ more ≡ won = ok-is _ (a ∷ more) won refl are in
+    (omega arith, subst (λ (xs : List (List Choice)). 1 ≤ length xs) is (omega arith), subst (λ (xs : List (List Choice)). winners_by (program_for sale []) n text ≡ Ok (slice_index_or xs 0 [])) is a_is)
+first-of sale n ((b ∷ group) ∷ groups) (text ∷ texts) won starts count wins = (let none : length (b ∷ group) ≡ 0 = eqb-true (length (b ∷ group)) 0 starts in absurd (omega arith))
+
+pub wins-first : (auction : Auction) (won : List (List Choice)) → winners_of_groups auction ≡ Ok won
+    → (starts_empty auction.groups ≡ true) × (1 ≤ length auction.solutions) × (1 ≤ length won) × (winners_by (first_program auction) 1 (slice_index_or auction.solutions 0 []) ≡ Ok (slice_index_or won 0 []))
+wins-first auction won told =
+    let (starts, count, each) = when-both refusal.FirstGroupNotEmpty (refusal.PartCount counted.Solutions) (starts_empty auction.groups) (length auction.solutions == length auction.groups) _ won told in
+    let (some, few, is) = first-of auction.sale 1 auction.groups auction.solutions won starts (eqb-true _ _ count) each in
+    (starts, some, few, is)
+
+abbrev Text : Type 0
+Text = Bor (List ℕ)
+
+pub is-won-first : (auction : declared.Auction) (won : List (List Choice)) → winners_of_groups (held auction) ≡ Ok won → IsWonFirst auction (slice_index_or won 0 [])
+is-won-first auction won told =
+    let (starts, some, few, is) = wins-first (held auction) won told in
+    let count = length-map auction.solutions.items (λ (text : Text). text.now) in
+    record { starts = starts; some = omega arith; won = is }
+
+-- the first of what is won
+pub first-at : (won : List (List Choice)) (first : List Choice) → 1 ≤ length won → first ≡ slice_index_or won 0 first → slice_index_or won 0 [] ≡ first
+first-at [] first some is = absurd (omega arith)
+first-at (a ∷ won) first some is = sym is
+
+-- nobody is in the first group
+pub first-empty : (groups : List (List ℕ)) → starts_empty groups ≡ true → slice_index_or groups 0 [] ≡ []
+first-empty [] starts = absurd (cc)
+first-empty ([] ∷ groups) starts = refl
+first-empty ((b ∷ group) ∷ groups) starts = (let none : length (b ∷ group) ≡ 0 = eqb-true (length (b ∷ group)) 0 starts in absurd (omega arith))
+
+pub some-group : (groups : List (List ℕ)) → starts_empty groups ≡ true → 1 ≤ length groups
+some-group [] starts = absurd (cc)
+some-group (group ∷ groups) starts = omega arith
+
+-- ---- the claim that there is
+
+module _ (auction : declared.Auction) (first : List Choice) where
+  abbrev claims : List Text → List Text → Result Uniqueness Refusal
+  claims uniques ties = claims_told (held auction) first (bytes_of uniques) (bytes_of ties)
+
+  pub many-claims : 1 < length auction.uniques.items + length auction.ties.items → claims_told (held auction) first (held auction).uniques (held auction).ties ≡ Err (refusal.PartCount counted.Claims)
+  many-claims many = by auction.uniques.items auction.ties.items many
+    where
+      by : (uniques ties : List Text) → 1 < length uniques + length ties → claims uniques ties ≡ Err (refusal.PartCount counted.Claims)
+      by [] [] many = absurd (omega arith)
+      by [] (t ∷ []) many = absurd (omega arith)
+      by [] (t ∷ s ∷ ties) many = refl
+      by (u ∷ []) [] many = absurd (omega arith)
+      by (u ∷ []) (t ∷ ties) many = refl
+      by (u ∷ v ∷ uniques) ties many = refl
+
+  pub no-claim : length auction.uniques.items ≡ 0 → length auction.ties.items ≡ 0 → claims_told (held auction) first (held auction).uniques (held auction).ties ≡ Ok uniqueness.Unasked
+  no-claim none alone = by auction.uniques.items auction.ties.items none alone
+    where
+      by : (uniques ties : List Text) → length uniques ≡ 0 → length ties ≡ 0 → claims uniques ties ≡ Ok uniqueness.Unasked
+      by [] [] none alone = refl
+      by [] (t ∷ ties) none alone = absurd (omega arith)
+      by (u ∷ uniques) ties none alone = absurd (omega arith)
+
+  -- one text of each kind, and none of the other
+  pub one-tie : (text : Text) → length auction.ties.items ≡ 1 → length auction.uniques.items ≡ 0 → text ≡ slice_index_or auction.ties.items 0 text
+      → claims_told (held auction) first (held auction).uniques (held auction).ties ≡ tie_told (held auction) first text.now
+  one-tie text one alone is = by auction.uniques.items auction.ties.items one alone is
+    where
+      by : (uniques ties : List Text) → length ties ≡ 1 → length uniques ≡ 0 → text ≡ slice_index_or ties 0 text → claims uniques ties ≡ tie_told (held auction) first text.now
+      by [] [] one alone is = absurd (omega arith)
+      by [] (t ∷ []) one alone is = ap (λ (x : Text). tie_told (held auction) first x.now) (sym is)
+      by [] (t ∷ s ∷ ties) one alone is = absurd (omega arith)
+      by (u ∷ uniques) ties one alone is = absurd (omega arith)
+
+  pub one-unique : (text : Text) → length auction.uniques.items ≡ 1 → length auction.ties.items ≡ 0 → text ≡ slice_index_or auction.uniques.items 0 text
+      → (claims_told (held auction) first (held auction).uniques (held auction).ties ≡ claims_told (held auction) first (text.now ∷ []) []) × (bytes_of auction.uniques.items ≡ text.now ∷ []) × (bytes_of auction.ties.items ≡ [])
+  one-unique text one alone is = by auction.uniques.items auction.ties.items one alone is
+    where
+      by : (uniques ties : List Text) → length uniques ≡ 1 → length ties ≡ 0 → text ≡ slice_index_or uniques 0 text
+          → (claims uniques ties ≡ claims_told (held auction) first (text.now ∷ []) []) × (bytes_of uniques ≡ text.now ∷ []) × (bytes_of ties ≡ [])
+      by [] ties one alone is = absurd (omega arith)
+      by (u ∷ []) [] one alone is = (ap (λ (x : Text). claims_told (held auction) first (x.now ∷ []) []) (sym is), ap (λ (x : Text). x.now ∷ []) (sym is), refl)
+      by (u ∷ []) (t ∷ ties) one alone is = absurd (omega arith)
+      by (u ∷ v ∷ uniques) ties one alone is = absurd (omega arith)
+
+-- ---- the only one
+
+module _ (auction : Auction) (first : List Choice) (text : List ℕ) (point : List Bool) (solved : solution (first_program auction) (slice_index_or auction.solutions 0 []) ≡ Ok point) where
+  abbrev unique_refused : ℕ × FaultKind → Refusal
+  unique_refused f = refusal.Unique (record { line = f.0; kind = f.1 })
+
+  abbrev judged : Option (ℕ × FaultKind) → Result Uniqueness Refusal
+  judged found = unless (option_map unique_refused found) (Ok (only_or_rival auction.sale first))
+
+  goes-on : claims_told auction first (text ∷ []) [] ≡ judged (only_fault (first_program auction) point text)
+  goes-on = next _ point _ _ (ap (λ (r : Result (List Bool) _). refused_as (solution_refused (first_program auction) 1) r) solved) refl
+
+  pub only-told : only_fault (first_program auction) point text ≡ None → claims_told auction first (text ∷ []) [] ≡ Ok (only_or_rival auction.sale first)
+  only-told none = goes-on ∙ ap judged none
+
+  refused-so : (line : ℕ) (k : FaultKind) → IsLimit k ⊎ (only_fault (first_program auction) point text ≡ Some (line, k)) → (k ≡ kind.TooLarge → IsLargeOnlyAt (first_program auction) point text line) → auction.uniques ≡ text ∷ [] → auction.ties ≡ []
+      → Refuses (claims_told auction first (text ∷ []) []) (refusal.Unique (record { line = line; kind = k })) ⊎ IsTooWideClaim auction (refusal.Unique (record { line = line; kind = k }))
+  refused-so line k (inl (inl memory)) large one alone = inl (inr (rw memory refl))
+  refused-so line k (inl (inr wide)) large one alone = inr (text, line, one, alone, (point, solved, large wide), rw wide refl)
+  refused-so line k (inr found) large one alone = inl (inl (goes-on ∙ ap judged found))
+
+  pub only-refused : (f : CertificateFault) → IsLimit f.kind ⊎ (only_fault (first_program auction) point text ≡ Some (f.line, f.kind)) → (f.kind ≡ kind.TooLarge → IsLargeOnlyAt (first_program auction) point text f.line) → auction.uniques ≡ text ∷ [] → auction.ties ≡ []
+      → Refuses (claims_told auction first (text ∷ []) []) (refusal.Unique f) ⊎ IsTooWideClaim auction (refusal.Unique f)
+  only-refused f found large one alone = refused-so f.line f.kind found large one alone
+
+-- a verdict that is no fault
+pub no-fault : (verdict : Result (Unit {0}) CertificateFault) (first : Option (ℕ × FaultKind)) → ((f : CertificateFault) → verdict ≡ Err f → ⊥) → IsVerdict verdict first → first ≡ None
+no-fault (Ok u) first fine judged = judged
+no-fault (Err f) first fine judged = absurd (fine f refl)
+
+-- ---- a tie
+
+-- what begins with the word of a solution isn't what is told of memory
+not-memory : (bytes : List ℕ) → 115 ∷ bytes ≡ codes "out of memory" → ⊥
+not-memory bytes is = (let differ : 115 ≡ 111 = ap (λ (xs : List ℕ). slice_index xs 0) is in omega (arith, differ))
+
+tie-memory : (r : Refusal) → refusal_text r ≡ codes "out of memory" → refusal_text (of_tie r) ≡ codes "out of memory"
+tie-memory (refusal.Solution n fault.OutOfMemory) is = refl
+tie-memory (refusal.Solution n f) is = absurd (not-memory _ is)
+tie-memory (refusal.BoundBroken n name) is = absurd (not-memory _ is)
+tie-memory (refusal.RowBroken n name) is = absurd (not-memory _ is)
+tie-memory r is = is
+
+pub refuses-tie : (told : Result (List Choice) Refusal) (r : Refusal) → Refuses told r → Refuses (refused_as of_tie told) (of_tie r)
+refuses-tie told r (inl is) = inl (ap (λ (x : Result (List Choice) Refusal). refused_as of_tie x) is)
+refuses-tie told r (inr memory) = inr (tie-memory r memory)
+
+-- what a further solution wins ties, or is refused
+module _ (auction : Auction) (first : List Choice) (text : List ℕ) (other : List Choice) (won : winners_by (first_program auction) 1 text ≡ Ok other) where
+  goes-over : tie_told auction first text ≡ tied auction.sale first other
+  goes-over = next _ other _ _ (ap (λ (r : Result (List Choice) Refusal). refused_as of_tie r) won) refl
+
+  pub tie-told : (r : Result Uniqueness Refusal) → IfOk r (λ claim. tied auction.sale first other ≡ Ok claim) → IfOk r (λ claim. tie_told auction first text ≡ Ok claim)
+  tie-told (Ok claim) told = goes-over ∙ told
+  tie-told (Err e) told = tt
+
+  pub tie-refused : (r : Result Uniqueness Refusal) → IfErr r (λ e. tied auction.sale first other ≡ Err e) → IfErr r (Refuses (tie_told auction first text))
+  tie-refused (Ok claim) told = tt
+  tie-refused (Err e) told = inl (goes-over ∙ told)
+
+-- a refusal, or something else
+pub refused-or-wide : (r : Result Uniqueness Refusal) (told : Result Uniqueness Refusal) (Other : Refusal → Type 0) → IfErr r (Refuses told) → IfErr r (λ e. Refuses told e ⊎ Other e)
+refused-or-wide (Ok claim) told Other refused = tt
+refused-or-wide (Err e) told Other refused = inl refused

@@ -1,0 +1,53 @@
+use Rattle.std.proofs.Common.{◌≡◌, ◌∙◌, [], ℕ, List, Ok, ap, subst, sym}
+use Rattle.std.specs.Prelude.{◌⊎◌, slice_index_or}
+use Rattle.group_compiler.specs.Compiled.{Compiling, program_without}
+use Rattle.outcome.specs.Solution.{solution}
+use Rattle.bid_desk.specs.Sale.{sale_of}
+use Rattle.optimality.specs.Answers.{IsLimit}
+use Rattle.optimality.specs.Only.{IsLargeOnlyAt, only_fault}
+use Rattle.program_faults.specs.declared.certificate_fault.FaultKind.TheVariants.{TooLarge}
+use Rattle.program_rows.specs.Program.{Table}
+use Rattle.std.specs.Prelude.{None, Some}
+use Rattle.auction_input.specs.Settled.{held}
+use Rattle.auction_terms.specs.Borrowed.{bytes_of}
+use Rattle.group_winners.proofs.ClaimedFacts.{first-empty, no-fault, one-unique, only-refused, only-told}
+use Rattle.group_winners.proofs.WinnersFeasible.{feasible-of}
+use Rattle.group_winners.proofs.ReportFacts.{text-at}
+use Rattle.group_winners.proofs.WinningFacts.{allowed-length}
+use Rattle.group_winners.proofs.claimed.only.Goals as goal
+
+pub check_only-requires : goal.check_only-requires
+check_only-requires g c = allowed-length c.in_ok-program.program.columns c.in-Ok.point c.in-Ok.ensures.point.allowed
+
+pub returns-in-Err-clause-refuses : goal.returns-in-Err-clause-refuses
+returns-in-Err-clause-refuses g c =
+    let auction = c.args.auction.now in
+    let point = c.in-Ok.point in
+    let nobody : c.group.result.now ≡ [] = c.group.ensures ∙ first-empty auction.groups c.requires.won.starts in
+    let same : c.in_ok-program.program ≡ program_without auction.book [] =
+    c.in_ok-program.ensures ∙ ap (λ (k : Compiling). program_without k.book c.group.result.now) c.in_ok-compiler.ensures ∙ ap (λ (group : List ℕ). program_without auction.book group) nobody in
+    let text = text-at auction.solutions.items 0 c.index.result.now c.requires.won.some c.index.ensures in
+    let solved : solution (program_without auction.book []) (slice_index_or (bytes_of auction.solutions.items) 0 []) ≡ Ok point = sym (subst (λ (t : List ℕ). Ok point ≡ solution (program_without auction.book []) t) text (subst (λ (p : Table). Ok point ≡ solution p c.index.result.now.now) same c.in-Ok.ensures.answer)) in
+    let (claimed, one, alone) = one-unique auction c.args.first.now c.index-2.result.now c.requires.one c.requires.alone c.index-2.ensures in
+    let found = subst (λ (p : Table). IsLimit c.in-Err.fault.kind ⊎ (only_fault p point c.index-2.result.now.now ≡ Some (c.in-Err.fault.line, c.in-Err.fault.kind))) same c.in-Err.ensures.first in
+    let large = subst (λ (p : Table). c.in-Err.fault.kind ≡ TooLarge → IsLargeOnlyAt p point c.index-2.result.now.now c.in-Err.fault.line) same c.in-Err.ensures.too_large in
+    rw claimed (only-refused (held auction) c.args.first.now c.index-2.result.now.now point solved c.in-Err.fault found large one alone)
+
+pub only_or_rival-requires : goal.only_or_rival-requires
+only_or_rival-requires g c =
+    let auction = c.args.auction.now in
+    feasible-of (sale_of auction.book) 1 [] (slice_index_or (bytes_of auction.solutions.items) 0 []) c.args.first.now c.rules-within_limits.ensures.book c.requires.won.won
+
+pub returns-clause-told : goal.returns-clause-told
+returns-clause-told g c =
+    let auction = c.args.auction.now in
+    let point = c.in-Ok.point in
+    let nobody : c.group.result.now ≡ [] = c.group.ensures ∙ first-empty auction.groups c.requires.won.starts in
+    let same : c.in_ok-program.program ≡ program_without auction.book [] =
+    c.in_ok-program.ensures ∙ ap (λ (k : Compiling). program_without k.book c.group.result.now) c.in_ok-compiler.ensures ∙ ap (λ (group : List ℕ). program_without auction.book group) nobody in
+    let text = text-at auction.solutions.items 0 c.index.result.now c.requires.won.some c.index.ensures in
+    let solved : solution (program_without auction.book []) (slice_index_or (bytes_of auction.solutions.items) 0 []) ≡ Ok point = sym (subst (λ (t : List ℕ). Ok point ≡ solution (program_without auction.book []) t) text (subst (λ (p : Table). Ok point ≡ solution p c.index.result.now.now) same c.in-Ok.ensures.answer)) in
+    let (claimed, one, alone) = one-unique auction c.args.first.now c.index-2.result.now c.requires.one c.requires.alone c.index-2.ensures in
+    let faultless = no-fault c.check_only.result (only_fault c.in_ok-program.program point c.index-2.result.now.now) c.in_default-check_only.not-Err c.check_only.ensures.first in
+    let none = subst (λ (p : Table). only_fault p point c.index-2.result.now.now ≡ None) same faultless in
+    claimed ∙ only-told (held auction) c.args.first.now c.index-2.result.now.now point solved none ∙ ap (λ claim. Ok claim) (sym c.in_ok-only_or_rival.ensures)

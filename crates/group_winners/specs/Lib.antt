@@ -1,0 +1,5 @@
+pub mod Programs
+pub mod SolutionWinners
+pub mod Certified
+pub mod Claimed
+pub mod inside

@@ -1,0 +1,3 @@
+pub mod Claiming
+pub mod Judging
+pub mod SolutionWinners

@@ -1,0 +1,16 @@
+use Rattle.std.proofs.Common.{◌≡◌, ℕ, ◌-◌, ◌^◌, ◌<◌, ◌≤◌, true, length, take, get_or}
+use Rattle.std.specs.Char.{is_ascii_digit}
+use Rattle.std.specs.Str.Parse.{digits_value_after}
+use Rattle.line_words.proofs.number.few_digits.Given as goal
+
+-- the value of the digits so far
+abbrev pub invariant-loop-i : goal.invariant-loop-i
+invariant-loop-i l = record {
+  within : l.i ≤ length l.bytes;
+  digits : (k : ℕ) → k < l.i → is_ascii_digit (get_or l.bytes k 0) ≡ true;
+  value : l.value ≡ digits_value_after 10 0 (take l.i l.bytes);
+  low : l.value < 10 ^ l.i;
+}
+
+abbrev pub decreases-loop-i : goal.decreases-loop-i
+decreases-loop-i l = length l.bytes - l.i

@@ -1,0 +1,4 @@
+pub mod Lines
+pub mod Scaling
+pub mod Numbers
+pub mod Tokens

@@ -1,0 +1,5 @@
+pub mod MpsLines
+pub mod Sections
+pub mod Described
+pub mod Faults
+pub mod Meaning

@@ -1,8 +1,0 @@
-use Rattle.std.proofs.Common.{take}
-use Rattle.std.specs.Prelude.{flat_map}
-use Rattle.mps_text.specs.Adds.{Adds}
-use Rattle.mps_text.proofs.writer.Writer.add_pieces.Given as goal
-
--- the pieces so far are added
-abbrev pub invariant-loop-piece : goal.invariant-loop-piece
-invariant-loop-piece g l = Adds g.S.Sink.taken g.S.Sink.failures l.initial.self l.self (flat_map (λ p. p.now) (take l.piece-index l.pieces))
