@@ -1,4 +1,5 @@
 """The order in which the gate's tasks are run, and on how many processors each."""
+import contextlib
 import os
 import threading
 import time
@@ -6,19 +7,29 @@ from concurrent.futures import FIRST_COMPLETED, ThreadPoolExecutor, wait
 
 # A check splits its work well among so many processes.
 MOST_JOBS = 4
-# The proof of the crate with the longest chain behind it is begun with so many at least.
-LEAST_JOBS_OF_THE_LONGEST = 3
 # What each further process of a check takes of the memory of the first.
 MEMORY_OF_A_JOB = 0.6
-# What a check takes before it proves anything, in lines: it reads the crate and all libraries below it.
-LINES_OF_A_START = 400
+# How many seconds a task takes for each of its lines, where none are measured.
+SECONDS_OF_A_LINE = 0.06
+# With how many processes a proof is begun: the one with the longest chain behind it, the next one, and each other.
+JOBS_BY_RANK = (MOST_JOBS, 2, 1)
+# The priorities: of the proof with the longest chain, of other proofs, and of tests and edits.
+NICE = {"longest": 0, "proofs": 4, "fillers": 10}
+MEASURED = os.path.join(os.path.dirname(os.path.abspath(__file__)), "seconds")
 
 
-def chains(tasks):
+def measured():
+    """The processor time that each task takes with one process, in seconds, as it was measured: by the crate and what is done."""
+    with open(MEASURED, encoding="utf-8") as lines:
+        rows = [line.split() for line in lines if line.strip() and not line.startswith("#")]
+    return {(crate, kind): float(seconds) for crate, kind, seconds in rows}
+
+
+def chains(tasks, seconds):
     """How much work is behind each task: its own, and that of the longest chain of tasks that wait for it."""
     behind = dict.fromkeys(tasks, 0)
     for key in reversed([*tasks]):
-        behind[key] += tasks[key][1] and tasks[key][1] + LINES_OF_A_START
+        behind[key] += seconds[key]
         for it in tasks[key][0]:
             behind[it] = max(behind[it], behind[key])
     return behind
@@ -34,11 +45,11 @@ def most_jobs(key):
     return 1 if key[1] == "edits" else MOST_JOBS
 
 
-def step_back():
+def step_back(niceness):
     """Has what this thread starts wait for what others start: a priority is a thread's, and its children's. (A run that was
     started at a lower one mayn't raise it.)"""
     thread = threading.get_native_id()
-    os.setpriority(os.PRIO_PROCESS, thread, max(10, os.getpriority(os.PRIO_PROCESS, thread)))
+    os.setpriority(os.PRIO_PROCESS, thread, max(niceness, os.getpriority(os.PRIO_PROCESS, thread)))
 
 
 def timed(key, call):
@@ -56,16 +67,18 @@ class Lanes:
     """Runs tasks side by side. Proofs of crates come first, those with the longest chain behind them before others; tests and
     edits, which none waits for, run beside them at a low priority, on what they leave idle.
 
-    Each further process of a check reads the crate anew (`bid_book` takes 76 s of processor time with one, 103 with four). So
-    proofs have as many processes as there are processors; but what the longest chain waits for is begun with three at least, as if
-    it had its share.
+    Each further process of a check reads the crate anew (`bid_book` takes 55 s of processor time with one, 103 with four). So a proof
+    has one, and more where processors would be idle. But the one with the longest chain behind it, which all waits for in the end,
+    has as many as serve it, and goes before others.
     A task is what it waits for, its work in lines, its memory, and a call that gets what was given and how many jobs it may use.
+    `took` tells the seconds of those that were measured.
     """
 
-    def __init__(self, tasks, processors, memory):
+    def __init__(self, tasks, processors, memory, took=()):
         self.tasks, self.processors, self.memory = tasks, processors, memory
-        self.behind = chains(tasks)
-        # (a line of tests takes longer than one of a crate whose edits are tried)
+        self.seconds = {key: lines and dict(took).get(key, lines * SECONDS_OF_A_LINE) for key, (_, lines, _, _) in tasks.items()}
+        self.behind = chains(tasks, self.seconds)
+        # (tests take longer alone than edits, which are tried in several checks)
         self.left = sorted(tasks, key=lambda key: (key[1] == "edits", -self.behind[key]))
         self.running, self.given = {}, {}
 
@@ -90,39 +103,43 @@ class Lanes:
     def needed(self, key, jobs):
         return self.tasks[key][2] * (1 + MEMORY_OF_A_JOB * (jobs - 1))
 
-    def start(self, pool, key, jobs, share):
+    def start(self, pool, key, jobs):
         _, work, _, call = self.tasks[key]
         self.left.remove(key)
         run = timed(key, call) if work else call
-        self.running[pool.submit(run, self.given, max(jobs, 1))] = key, share if work else 0, self.needed(key, jobs) if work else 0
+        self.running[pool.submit(run, self.given, max(jobs, 1))] = key, jobs if work else 0, self.needed(key, jobs) if work else 0
 
-    def is_longest(self, key):
-        """Whether a proof has a longer chain behind it than those at work and those that wait."""
-        at_work = [it for it, _, _ in self.running.values() if not is_filler(it)]
-        waiting = [it for it in self.left if not is_filler(it)]
-        return not is_filler(key) and self.behind[key] >= max((self.behind[it] for it in waiting), default=0) and (
-            self.behind[key] > max((self.behind[it] for it in at_work), default=0))
+    def rank(self, key):
+        """How many proofs at work have as long a chain behind them."""
+        return sum(self.behind[it] >= self.behind[key] for it, _, _ in self.running.values() if not is_filler(it))
 
-    def start_all(self, pool, fills, most):
-        """Starts what is ready, as many tasks as there are processors, with so many jobs in all at most."""
+    def jobs_of(self, key, idle, many):
+        """With how many jobs a task is begun, where so many processors are idle for so many tasks."""
+        share = -(-idle // many)
+        least = 1 if is_filler(key) else JOBS_BY_RANK[min(self.rank(key), len(JOBS_BY_RANK) - 1)]
+        return self.fitting(key, min(most_jobs(key), self.processors, max(share, least)))
+
+    def start_all(self, pool_of, fills):
+        """Starts what is ready, as many tasks as there are processors. (`pool_of(key)`: which threads run a task.)"""
+        for key in [key for key in self.ready(fills) if not self.tasks[key][1]]:
+            self.start(pool_of(key), key, 1)
         ready = self.ready(fills)
-        for key in [key for key in ready if not self.tasks[key][1]]:
-            self.start(pool, key, 1, 1)
-        ready = [key for key in ready if self.tasks[key][1]]
-        while ready and (idle := most - sum(self.at_work(fills))) > 0 and (places := self.processors - len(self.at_work(fills))) > 0:
-            # the one with the most behind it gets what is left over
-            wanted = min(self.processors, -(-idle // min(len(ready), places)))
-            key = ready.pop(0)
-            least = LEAST_JOBS_OF_THE_LONGEST if self.is_longest(key) else 1
-            jobs = self.fitting(key, min(most_jobs(key), self.processors, max(wanted, least)))
+        while ready and (places := self.processors - len(self.at_work(fills))) > 0:
+            key, idle = ready[0], self.processors - sum(self.at_work(fills))
+            if fills and idle <= 0:
+                return
+            jobs = self.jobs_of(key, max(idle, 0), min(len(ready), places))
+            ready.pop(0)
             if jobs:
-                self.start(pool, key, jobs, min(jobs, wanted))
+                self.start(pool_of(key), key, jobs)
 
     def run(self):
-        with ThreadPoolExecutor(len(self.tasks)) as proofs, ThreadPoolExecutor(len(self.tasks), initializer=step_back) as fillers:
+        with contextlib.ExitStack() as ended:
+            pools = {kind: ended.enter_context(ThreadPoolExecutor(len(self.tasks), initializer=step_back, initargs=(niceness,)))
+                     for kind, niceness in NICE.items()}
             while self.left or self.running:
-                self.start_all(proofs, False, self.processors)
-                self.start_all(fillers, True, self.processors)
+                self.start_all(lambda key: pools["proofs" if self.rank(key) else "longest"], False)
+                self.start_all(lambda key: pools["fillers"], True)
                 if not self.running:
                     raise ValueError("tasks that wait for one another: %s" % self.left)
                 for it in wait(self.running, return_when=FIRST_COMPLETED).done:
