@@ -1,5 +1,5 @@
 /* Refuses one request of a program: the allocation or thread start whose number REFUSE holds, from 1. Preload it (see
- * tools/refuse_all). Where a request is refused, the file that REFUSED names is made. */
+ * tests/test_refused_requests.py). Where a request is refused, the file that REFUSED names is made. */
 #define _GNU_SOURCE
 #include <dlfcn.h>
 #include <errno.h>

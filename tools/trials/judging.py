@@ -1,19 +1,10 @@
 """Runs of a built wdp, and what they have to give."""
-import os
+import contextlib
 import subprocess
 
-from office.running import Stopped
-
 TIME_LIMIT = 60
-
-
-def program_of(words, usage):
-    """The program that the words of a test name, or what is wrong with them."""
-    if len(words) != 2 or words[1].startswith("-"):
-        raise Stopped("usage: " + usage, 2)
-    if not os.access(words[1], os.X_OK) or os.path.isdir(words[1]):
-        raise Stopped("%s: no program" % words[1], 2)
-    return os.path.abspath(words[1])
+# the kinds of faults of a certificate, by their numbers
+KINDS = ["TooLarge", "Beyond", "Fields", "NumberText", "NumberRange", "UnknownColumn", "UnknownRow", "Sign", "NotShown", "NoEnd"]
 
 
 def encoded(text):
@@ -46,20 +37,10 @@ def written_of(line):
     return int(number) if line == before + number + after and number.isdigit() else -1
 
 
-class Tally:
-    """How many trials gave what they had to."""
-
-    def __init__(self):
-        self.passed = self.failed = 0
-
-    def judge(self, what, is_, wanted):
-        if is_ == wanted:
-            self.passed += 1
-            return
-        self.failed += 1
-        print("failed: %s\n  is   %.400r\n  want %.400r" % (what, is_, wanted), flush=True)
-
-    def tell(self):
-        """The last line, and the exit status."""
-        print("%d passed, %d failed" % (self.passed, self.failed))
-        return int(self.failed > 0)
+@contextlib.contextmanager
+def row(name):
+    """Names what is tried, where a test tries many rows."""
+    try:
+        yield
+    except AssertionError as error:
+        raise AssertionError("%s: %s" % (name, error)) from error

@@ -1,4 +1,4 @@
-/* Preload it (see tools/ends_test). Standard output takes at most MOST_WRITTEN bytes at a time, standard input fails
+/* Preload it (see tests/test_streams.py). Standard output takes at most MOST_WRITTEN bytes at a time, standard input fails
  * once READ_FAILS_AFTER bytes were read, and no thread is to be had where NO_THREADS is set. Each thread start adds a byte
  * to the file STARTS. */
 #define _GNU_SOURCE

@@ -1,10 +1,4 @@
-#!/usr/bin/env python3
-"""Tries what the gate is made of (tools/gate/) on made-up checks, tasks and steps, without the toolchain.
-
-usage: tools/gate_test
-
-The last line is 'N passed, M failed'; the status is 0 where none failed.
-"""
+"""What the gate is made of (tools/gate/) on made-up checks, tasks and steps, without the toolchain."""
 import contextlib
 import importlib.machinery
 import importlib.util
@@ -23,12 +17,13 @@ import unittest
 from pathlib import Path
 from unittest import mock
 
-HERE = Path(__file__).resolve().parent
-sys.path.insert(0, str(HERE))
-sys.dont_write_bytecode = True
-from gate import lanes, toolchain  # noqa: E402
-from gate.batches import MOST_COPIES, Trial, goals_in, is_within  # noqa: E402
-from gate.steps import Steps  # noqa: E402
+from gate import lanes, toolchain
+from gate.batches import MOST_COPIES, Trial, goals_in, is_within
+from gate.steps import Steps
+
+ROOT = Path(__file__).resolve().parent.parent
+
+TOOLS = Path(__file__).resolve().parent.parent / "tools"
 
 LIB = """pub fn first() -> u64
     ensures { result ≡ 7 }
@@ -473,13 +468,15 @@ class Tasks(unittest.TestCase):
             return True
 
         tasks = {("c%d" % n, "proof"): ([], 10, 4, call) for n in range(8)}
-        for processors, memory, side_by_side in ((4, 13, 3), (4, 3, 1), (3, 100, 3)):
+        for processors, memory in ((4, 24), (4, 13), (4, 3), (3, 100)):
             most.clear()
             with contextlib.redirect_stdout(io.StringIO()):
                 lanes.Lanes(tasks, processors, memory).run()
-            self.assertEqual(max(many for many, _ in most), side_by_side)
-            # (one proof may have two jobs beside its share)
-            self.assertLessEqual(max(jobs for _, jobs in most), processors + 2)
+            self.assertLessEqual(max(many for many, _ in most), processors)
+            # (the first has all processors, beside two of the next one and one of each other)
+            self.assertLessEqual(max(jobs for _, jobs in most), 2 * processors)
+            # a task takes its memory, and six tenths for each further job; one that fits nowhere stands alone
+            self.assertTrue(all(many == 1 or 4 * (many + lanes.MEMORY_OF_A_JOB * (jobs - many)) <= memory for many, jobs in most))
 
     def test_proofs_and_fillers_share_the_processors_and_the_longest_chain_has_more(self):
         given = {}
@@ -498,12 +495,47 @@ class Tasks(unittest.TestCase):
         tasks["low", "edits"] = [("low", "proof")], 0, 1, call_of("none")
         with contextlib.redirect_stdout(io.StringIO()):
             lanes.Lanes(tasks, 4, 100).run()
-        self.assertEqual(given, {"low": 4, "other": 3, "another": 1, "program": 1, "none": 1})
+        # (the last one has what the others leave when it is begun)
+        del given["program"]
+        self.assertEqual(given, {"low": 4, "other": 4, "another": 2, "none": 1})
         for name, work, kind in (("many", 9, "edits"), ("few", 5, "edits"), ("tests", 2, "tests")):
             tasks[name, kind] = [("low", "proof")], work, 1, call_of(name)
         with contextlib.redirect_stdout(io.StringIO()):
             lanes.Lanes(tasks, 4, 100).run()
-        self.assertEqual(given, {"low": 4, "other": 3, "another": 1, "program": 1, "none": 1, "tests": 2, "many": 1, "few": 1})
+        self.assertEqual({name: given[name] for name in ("low", "other", "another", "none", "many", "few")},
+                         {"low": 4, "other": 4, "another": 2, "none": 1, "many": 1, "few": 1})
+        self.assertGreater(given["tests"], 1)
+
+    def test_the_order_goes_by_seconds_where_they_were_measured(self):
+        begun = []
+        tasks = {(name, "proof"): ([], lines, 1, lambda _, jobs, name=name: begun.append(name)) for name, lines in (("short", 900), ("long", 10), ("new", 100))}
+        with contextlib.redirect_stdout(io.StringIO()):
+            lanes.Lanes(tasks, 1, 100, {("short", "proof"): 5, ("long", "proof"): 50}).run()
+        self.assertEqual(begun, ["long", "new", "short"])
+
+    def test_the_longest_chains_have_more_processes(self):
+        begun, both = {}, threading.Barrier(3, timeout=10)
+
+        def call_of(name):
+            def call(_, jobs):
+                begun[name] = jobs, os.getpriority(os.PRIO_PROCESS, threading.get_native_id())
+                both.wait()
+            return call
+
+        tasks = {(name, "proof"): ([], 1, 1, call_of(name)) for name in ("a", "b", "c")}
+        own = os.getpriority(os.PRIO_PROCESS, 0)
+        with contextlib.redirect_stdout(io.StringIO()):
+            lanes.Lanes(tasks, 4, 100, {("a", "proof"): 30, ("b", "proof"): 20, ("c", "proof"): 10}).run()
+        self.assertEqual(begun, {"a": (4, own), "b": (2, max(own, 4)), "c": (1, max(own, 4))})
+
+    def test_each_crate_has_its_seconds(self):
+        with open(ROOT / "crates.txt", encoding="utf-8") as file:
+            crates = [line.split(":")[0].split()[0] for line in file if line.strip() and not line.startswith("#")]
+        measured = lanes.measured()
+        self.assertEqual([crate for crate in crates if (crate, "tests" if crate.endswith("_tests") else "proof") not in measured], [])
+        self.assertLessEqual({crate for crate, _ in measured}, set(crates))
+        edited = {crate for crate in crates if (ROOT / "crates" / crate / "must-fail").is_dir()}
+        self.assertLessEqual({crate for crate, kind in measured if kind == "edits"}, edited)
 
     def test_edits_are_begun_with_one_job_so_that_others_stand_beside_them(self):
         """Each of their checks asks anew how many it may use."""
@@ -530,8 +562,8 @@ class Tasks(unittest.TestCase):
         self.assertEqual(given, {"a": 3, "b": 3})
         given.clear()
         with contextlib.redirect_stdout(io.StringIO()):
-            lanes.Lanes(tasks, 4, 33).run()
-        self.assertEqual(given, {"a": 3, "b": 1})
+            lanes.Lanes(tasks, 4, 40).run()
+        self.assertEqual(given, {"a": 4, "b": 1})
         given.clear()
         with contextlib.redirect_stdout(io.StringIO()):
             lanes.Lanes(tasks, 4, 15).run()
@@ -558,7 +590,7 @@ class Tasks(unittest.TestCase):
     def test_a_low_priority_stays(self):
         for now, then in ((0, 10), (5, 10), (19, 19)):
             with mock.patch("os.getpriority", return_value=now), mock.patch("os.setpriority") as put:
-                lanes.step_back()
+                lanes.step_back(10)
             self.assertEqual(put.call_args[0][2], then)
 
 
@@ -608,7 +640,7 @@ class Counts(unittest.TestCase):
     def test_a_run_that_is_ended_leaves_nothing(self):
         text = ("import sys; sys.path.insert(0, %r); sys.dont_write_bytecode = True; "
                 "from gate.steps import Steps; steps = Steps('/'); steps.stop_on_signals(); "
-                "steps.run_all([('s', ['sh', '-c', 'sleep 61.37 & echo $!; echo ready >&2; wait'])] * 3, 2, 0)" % str(HERE))
+                "steps.run_all([('s', ['sh', '-c', 'sleep 61.37 & echo $!; echo ready >&2; wait'])] * 3, 2, 0)" % str(TOOLS))
         for number in (signal.SIGTERM, signal.SIGINT, signal.SIGHUP):
             run = subprocess.Popen([sys.executable, "-c", text], stdout=subprocess.PIPE, stderr=subprocess.STDOUT)
             groups = []
@@ -650,7 +682,7 @@ class Toolchain(unittest.TestCase):
         self.assertIsNone(self.load("#!/bin/sh\nexit 1\n"))
         self.assertIsNone(self.load("raise SystemExit(3)\n"))
 
-    @unittest.skipUnless(shutil.which("rt"), "there is no rt")
+    @unittest.skipUnless(shutil.which("rt"), "may be left out: there is no rt")
     def test_the_rt_that_is_here(self):
         # (with one that isn't known the gate takes hours)
         self.assertIsNotNone(toolchain.load())
@@ -697,7 +729,7 @@ class Toolchain(unittest.TestCase):
             self.assertEqual(tried, [again])
 
     def test_the_functions_that_were_proved_are_known_to_later_runs(self):
-        loader = importlib.machinery.SourceFileLoader("prove", str(HERE / "prove"))
+        loader = importlib.machinery.SourceFileLoader("prove", str(TOOLS / "prove"))
         prove = importlib.util.module_from_spec(importlib.util.spec_from_loader("prove", loader))
         loader.exec_module(prove)
         with tempfile.TemporaryDirectory() as room:
@@ -719,7 +751,7 @@ class Toolchain(unittest.TestCase):
         self.assertIs(rt.must_fail_all, len)
 
     def test_a_check_without_advice(self):
-        loader = importlib.machinery.SourceFileLoader("prove", str(HERE / "prove"))
+        loader = importlib.machinery.SourceFileLoader("prove", str(TOOLS / "prove"))
         prove = importlib.util.module_from_spec(importlib.util.spec_from_loader("prove", loader))
         loader.exec_module(prove)
         help_of = prove.without_advice(lambda verb: "%s --jobs --empty-contracts --only" % verb)
@@ -727,19 +759,5 @@ class Toolchain(unittest.TestCase):
 
     def test_without_rt(self):
         with tempfile.TemporaryDirectory() as room:
-            run = subprocess.run([sys.executable, str(HERE / "prove")], cwd=room, env={"PATH": room}, capture_output=True, text=True)
+            run = subprocess.run([sys.executable, str(TOOLS / "prove")], cwd=room, env={"PATH": room}, capture_output=True, text=True)
         self.assertEqual((run.returncode, run.stdout.splitlines()[-1], run.stderr), (2, "0 passed, 1 failed", ""))
-
-
-def main(words):
-    if words:
-        print(__doc__.strip())
-        return 0 if words == ["--help"] else 2
-    result = unittest.TextTestRunner(sys.stdout, verbosity=0).run(unittest.defaultTestLoader.loadTestsFromModule(sys.modules[__name__]))
-    failed = len(result.failures) + len(result.errors)
-    print("%d passed, %d failed" % (result.testsRun - failed, failed))
-    return 1 if failed else 0
-
-
-if __name__ == "__main__":
-    sys.exit(main(sys.argv[1:]))

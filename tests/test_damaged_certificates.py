@@ -1,29 +1,24 @@
-#!/usr/bin/env python3
-"""Compares `wdp verify` with the independent checker on damaged certificates, one by one.
-
-usage: tools/verify_test [--count N] [--seed SEED] WDP
+"""`wdp verify` beside the independent checker on damaged certificates, one by one.
 
 Small auctions have one group each, a solution of greatest total, a certificate of that, and some of them one that the
-solution is the only one. N certificates, by default ten thousand, are damaged copies of these, three of seven of the second
-kind. `wdp verify` has to print the report where the checker finds the bound shown, and a line `unique` behind it where it
-finds that there is no other point, and otherwise the number, the kind and the line of the checker's first fault. Where the
-checker says that a sum could leave 128 bits at a line, `wdp` may stop there.
-The last line is `N passed, M failed`; the status is 0 where none failed.
+solution is the only one. Ten thousand certificates are damaged copies of these, three of seven of the second kind.
+`wdp verify` prints the report where the checker finds the bound shown, and a line `unique` behind it where it finds that
+there is no other point, and otherwise the number, the kind and the line of the checker's first fault. Where the checker says
+that a sum could leave 128 bits at a line, `wdp` may stop there.
 """
-import argparse
 import os
 import subprocess
-import sys
-from concurrent.futures import ThreadPoolExecutor
 
+import pytest
 from office.damage import damaged
 from office.program_text import read_program
-from office.running import run
 from office.solution import read_solution
 from office.verdict import Checker
+from trials.judging import KINDS, row, seen
+from trials.program import ROOT
 
-ROOT = os.path.dirname(os.path.dirname(os.path.realpath(__file__)))
-KINDS = ["TooLarge", "Beyond", "Fields", "NumberText", "NumberRange", "UnknownColumn", "UnknownRow", "Sign", "NotShown", "NoEnd"]
+# so many certificates are tried in one test
+COUNT = 200
 
 # any two of three bids exclude one another
 ODD_CYCLE = b"""%rules
@@ -83,8 +78,7 @@ class Auction:
 
     def __init__(self, wdp, text, solution, certificate, only):
         self.wdp = wdp
-        program_text = run_wdp(wdp, "text", text.partition(b"%groups\n")[0])
-        program = read_program(program_text, "the program")
+        program = read_program(run_wdp(wdp, "text", text.partition(b"%groups\n")[0]), "the program")
         ones = read_solution(solution, program, "the solution")
         checker = Checker(program)
         answer = b"%solution\n" + solution + text
@@ -107,45 +101,21 @@ class Auction:
     def refused(self, line, kind):
         return (1, b"", b"wdp: %s: %d %s at line %d\n" % (self.what, KINDS.index(kind) + 1, kind.encode(), line))
 
-    def seen(self, certificate):
-        done = subprocess.run([self.wdp, "verify"], input=self.before + certificate, capture_output=True, timeout=60)
-        return (done.returncode, done.stdout, done.stderr)
-
 
 def run_wdp(wdp, command, text):
     return subprocess.run([wdp, command], input=text, stdout=subprocess.PIPE, check=True).stdout
 
 
-def test_all(given):
-    wdp = os.path.abspath(given.wdp)
-    all_auctions = [Auction(wdp, *auction) for auction in auctions()]
-
-    def test(number):
-        auction = all_auctions[number % len(all_auctions)]
-        is_whole = number < len(all_auctions)
-        certificate, names = (auction.damaged, []) if is_whole else damaged(auction.damaged, given.seed, number)
-        seen, wanted = auction.seen(certificate), auction.wanted(certificate)
-        if seen in wanted:
-            return seen[0]
-        print("failed: certificate %d (%s)\n  is   %r\n  want %r" % (number, "+".join(names), seen, wanted))
-        return None
-
-    with ThreadPoolExecutor(os.cpu_count()) as pool:
-        statuses = list(pool.map(test, range(given.count)))
-    failed = statuses.count(None)
-    print("%d shown, %d refused" % (statuses.count(0), statuses.count(1)))
-    print("%d passed, %d failed" % (given.count - failed, failed))
-    return 1 if failed else 0
+@pytest.fixture(scope="module")
+def prepared(wdp):
+    return [Auction(wdp, *auction) for auction in auctions()]
 
 
-def main():
-    words = argparse.ArgumentParser(description=__doc__, formatter_class=argparse.RawDescriptionHelpFormatter)
-    words.add_argument("wdp", metavar="WDP")
-    words.add_argument("--count", type=int, default=10000, metavar="N")
-    words.add_argument("--seed", default="1")
-    given = words.parse_args()
-    return run("verify_test", lambda: test_all(given))
-
-
-if __name__ == "__main__":
-    sys.exit(main())
+@pytest.mark.parametrize("first", range(0, 10_000, COUNT), ids=lambda first: "%d_from_%d" % (COUNT, first))
+def test_damaged(prepared, first):
+    """The first copies are whole."""
+    for number in range(first, first + COUNT):
+        auction = prepared[number % len(prepared)]
+        certificate, names = damaged(auction.damaged, "1", number) if number >= len(prepared) else (auction.damaged, [])
+        with row("certificate %d (%s)" % (number, "+".join(names))):
+            assert seen(auction.wdp, ["verify"], auction.before + certificate) in auction.wanted(certificate)

@@ -1,39 +1,36 @@
-#!/usr/bin/env python3
-"""Runs `wdp explain` where every fault of an input is known, or the first one.
+"""`wdp explain` where every fault of an input is known, or the first one.
 
-usage: tools/explain_test WDP
-
-The first line has to be the refusal: of each case of cases/ that is refused for its rules, forms, groups or parts, and of
-damaged inputs. Where faults are planted into an auction, the lines have to be those that were planted, each once and in
-order. What is to be told stands in tables here, made by hand from what the formats say. Of auctions without a fault the
-lines of `explain --bids` have to be those that comparing all bids finds.
-The last line is 'N passed, M failed'; the status is 0 where none failed.
+The first line is the refusal: of each case of cases/ that is refused for its rules, forms, groups or parts, and of damaged
+inputs. Where faults are planted into an auction, the lines are those that were planted, each once and in order. What is to be
+told stands in tables here, made by hand from what the formats say. Of auctions without a fault the lines of `explain --bids`
+are those that comparing all bids finds.
 """
-import os
+import itertools
 import random
 import re
-import sys
-from collections import Counter, defaultdict
+from collections import Counter
 
-from office.running import run
+import pytest
 from office.tests.damaged_inputs import damaged
 from office.tests.inputs_of_tests import ACCEPTED
-from trials import details
-from trials.judging import Tally, program_of, seen
+from trials import cases, details
+from trials.judging import row, seen
 from trials.left_out import Drawn
 from trials.planted import BID_PLANTS, GROUP_PLANTS, MOST_LINES, RULES, Planted
 from trials.worked import ALPHA, auction, rules_and
 
-CASES = os.path.join(os.path.dirname(os.path.dirname(os.path.realpath(__file__))), "cases")
 MIB = 1 << 20
-# of each version of the rules
-DAMAGED = 700
 PART_NAMES = {b"%rules", b"%form", b"%groups", b"%solution", b"%certificate", b"%unique", b"%tie"}
 # what a case is refused for, by the head of its line; and how many cases of a kind there are at least
 CASE_KINDS = [("rules", "rules: "), ("forms", "form "), ("number of a group", "groups: (no group|group 1) "), ("groups", "groups: "),
               ("parts", "input: "), ("solutions", "solution "), ("certificates", "certificate "), ("claims", "(unique|tie): ")]
 LEAST = {"rules": 60, "forms": 15, "number of a group": 4, "groups": 6, "parts": 15, "solutions": 20, "certificates": 10, "claims": 10,
          "programs": 50, "accepted": 80, "help": 15, "words": 20, "explained": 1}
+# so many damages of each version are tried in one test, and so many of them are of these parts
+DAMAGES = 350
+LEAST_DAMAGES = {"": 20, "rules": 250, "form": 200, "groups": 40, "input": 75}
+# so many auctions in which bids are left out are tried in one test, and there is so much of each reason
+AUCTIONS, LEAST_REASONS = 100, 100
 
 LINE = re.compile(r"(rules|form|groups)(?: ([0-9]+))?: ([0-9]+) [A-Za-z]+(?: at (?:record|line) ([0-9]+))?(?:, earlier bid [0-9]+|"
                   r"(?:, (?:field|name) ([0-9]+))?(?:: .*)?)")
@@ -170,114 +167,119 @@ def order_of(line):
     return {"rules": (0, record), "form": (1, form, record, number, field), "groups": (2, record, field)}[match[1]]
 
 
-def explained(program, text):
-    """Status, lines and standard error of `explain`."""
-    status, output, said = seen(program, ["explain"], text)
+def explained(wdp, text):
+    """The lines of `explain`, which come with the status that belongs to them."""
+    status, output, said = seen(wdp, ["explain"], text)
     *lines, rest = output.decode("latin-1").split("\n")
-    return status, lines + [rest + " without an end"] * bool(rest), said
+    assert (status, rest, said) == (int(bool(lines)), "", b"")
+    return lines
 
 
-def judge_first(tally, what, program, text, refusal):
-    """The first line has to be this refusal, and all have to be lines of faults in their order; nothing where nothing is refused."""
-    status, lines, said = explained(program, text)
+def expect_first(wdp, text, refusal):
+    """The first line is this refusal, and all are lines of faults in their order; nothing where nothing is refused."""
+    lines = explained(wdp, text)
     orders = [order_of(line) for line in lines]
-    tally.judge("%s: status and standard error" % what, (status, said), (int(bool(refusal)), b""))
-    tally.judge("%s: each line once, in order" % what, (orders, () in orders), (sorted(set(orders)), False))
-    is_told = is_line_of(lines[0], refusal) if lines else not refusal
-    tally.judge("%s: the first line is %r" % (what, refusal), lines[:1] if not is_told else "told", "told")
+    assert orders == sorted(set(orders)) and () not in orders
+    assert is_line_of(lines[0], refusal) if lines else not refusal, (lines[:1], refusal)
 
 
-def judge_all(tally, what, program, text, wanted):
-    """The lines have to be these, and the first one the refusal."""
+def expect_all(wdp, text, wanted):
+    """The lines are these, and the first one is the refusal."""
     text = text.encode("latin-1")
-    status, lines, said = explained(program, text)
-    at = next((at for at, (line, other) in enumerate(zip(lines, wanted)) if line != other), min(len(lines), len(wanted)))
-    tally.judge("%s, from line %d on" % (what, at + 1), (status, len(lines), lines[at:at + 2], said),
-                (int(bool(wanted)), len(wanted), wanted[at:at + 2], b""))
-    refusal = refusal_of(program, text)
-    tally.judge("the refusal of " + what, is_line_of(wanted[0] if wanted else "", refusal) or refusal, True)
+    assert explained(wdp, text) == wanted
+    assert is_line_of(wanted[0] if wanted else "", refusal_of(wdp, text))
 
 
-def kind_of_case(words, status, said):
-    """What becomes of a case; one that `explain` itself tells is tried by tools/run_cases."""
-    if status == b"2":
-        return "words"
-    if {"help", "--help", "-h", "--version", "-V"} & set(words):
-        return "help"
-    if words[:1] == ["check"]:
-        return "programs"
+def kind_of_case(case):
+    """What becomes of a case, and the line that refuses it; one that `explain` itself tells is tried by itself."""
+    words, (status, _, said) = cases.words(case), cases.wanted(case)
+    said = said.decode().removeprefix("wdp: ").removesuffix("\n")
+    if status == 2:
+        return "words", said
+    if {b"help", b"--help", b"-h", b"--version", b"-V"} & set(words):
+        return "help", said
+    if words[:1] == [b"check"]:
+        return "programs", said
     if not said:
-        return "explained" if status == b"1" else "accepted"
-    return next((kind for kind, head in CASE_KINDS if re.match(head, said)), said)
+        return "explained" if status == 1 else "accepted", said
+    return next((kind for kind, head in CASE_KINDS if re.match(head, said)), said), said
 
 
-def try_cases(program, tally):
+KINDS = {case: kind_of_case(case) for case in cases.names()}
+
+
+def test_enough_cases_of_each_kind():
+    counts = Counter(kind for kind, _ in KINDS.values())
+    assert set(counts) == set(LEAST)
+    assert [kind for kind in LEAST if counts[kind] < LEAST[kind]] == []
+
+
+@pytest.mark.parametrize("case", [case for case, (kind, _) in KINDS.items() if kind not in ("words", "help", "explained")])
+def test_case(wdp, case):
     """What is refused for its rules, forms or groups is told; nothing is, where the fault is elsewhere, but of the parts."""
-    counts = Counter()
-    for case in sorted(os.listdir(CASES)):
-        content = defaultdict(bytes)
-        for name in os.listdir(os.path.join(CASES, case)):
-            with open(os.path.join(CASES, case, name), "rb") as file:
-                content[name] = file.read()
-        said = content["stderr"].decode().removeprefix("wdp: ").removesuffix("\n")
-        kind = kind_of_case(content["args"].decode("latin-1").split("\n"), content["status"].strip(), said)
-        counts[kind] += 1
-        if kind in ("rules", "forms", "groups"):
-            judge_first(tally, case, program, content["stdin"], said)
-        elif kind not in ("words", "help", "explained"):
-            judge_first(tally, case, program, content["stdin"], fault_of_parts(content["stdin"]))
-    tally.judge("kinds of cases", set(counts), set(LEAST))
-    tally.judge("kinds with too few cases", [kind for kind in LEAST if counts[kind] < LEAST[kind]], [])
+    (kind, said), text = KINDS[case], cases.content(case, "stdin")
+    expect_first(wdp, text, said if kind in ("rules", "forms", "groups") else fault_of_parts(text))
 
 
-def try_damaged(program, tally):
+@pytest.mark.parametrize("first", range(0, 700, DAMAGES), ids=lambda first: "%d_from_%d_of_each_version" % (DAMAGES, first))
+def test_damaged(wdp, first):
     counts = Counter()
-    for version, accepted in enumerate(ACCEPTED, 1):
-        for seed in range(DAMAGED):
-            text = damaged(accepted, seed)
-            refusal = refusal_of(program, text)
+    for version, seed in itertools.product(range(len(ACCEPTED)), range(first, first + DAMAGES)):
+        with row("version %d, damaged by %d" % (version + 1, seed)):
+            text = damaged(ACCEPTED[version], seed)
+            refusal = refusal_of(wdp, text)
             counts[refusal.partition(" ")[0].removesuffix(":")] += 1
-            judge_first(tally, "version %d, damaged by %d" % (version, seed), program, text, refusal)
-            tally.judge("parts of %r" % text, fault_of_parts(text), refusal if refusal.startswith("input: ") else "")
-    for kind, least in (("", 40), ("rules", 500), ("form", 400), ("groups", 80), ("input", 150)):
-        tally.judge("enough damages of " + (kind or "nothing"), counts[kind] >= least or counts, True)
+            expect_first(wdp, text, refusal)
+            assert fault_of_parts(text) == (refusal if refusal.startswith("input: ") else "")
+    assert [kind for kind, least in LEAST_DAMAGES.items() if counts[kind] < least] == [], counts
 
 
-def try_planted(program, tally):
-    draw, faults = random.Random("planted"), set()
-    sizes = [(0, 60, False, 1), (2, 60, False, 20), (10, 60, False, 10), (10, 60, True, 10), (1_000, 200, False, 3), (1_000, 200, True, 3)]
-    for count, bids, has_other_headers, times in sizes + [(MOST_LINES + more, 3_000, bool(more), 1) for more in (0, 1, 2_345)]:
-        for number in range(1, times + 1):
-            planted = Planted(draw, bids, has_other_headers).plant(count)
-            faults |= {(fault, bool(field)) for place in planted.told.values() for fault, field in place}
-            judge_all(tally, "%d faults, number %d" % (count, number), program, planted.text(), planted.lines())
-    in_tables = {(fault, bool(field)) for _, of_plant in BID_PLANTS + GROUP_PLANTS for fault, field in of_plant}
-    tally.judge("the faults that were planted", faults, in_tables | {("2 Header", False)})
+def planted(count, bids, has_other_headers, number):
+    return Planted(random.Random("planted %d %s %d" % (count, has_other_headers, number)), bids, has_other_headers).plant(count)
 
 
-def try_rules(program, tally):
-    """Behind faulty rules nothing is told of forms and groups."""
-    draw = random.Random("rules")
-    for count in (2, 10) * 5:
-        chosen = draw.sample([record for record, (_, faulty, *_) in enumerate(RULES, 1) if faulty], count)
-        rules = [faulty if record in chosen else right for record, (right, faulty, *_) in enumerate(RULES, 1)]
-        wanted = ["rules: %s at record %d%s" % (RULES[record - 1][2], record, RULES[record - 1][3]) for record in sorted(chosen)]
-        judge_all(tally, "rules with %d faults" % count, program, Planted(draw, 60).plant(10).text(rules), wanted)
-    for rules, wanted in RULES_BY_HAND:
-        judge_all(tally, "rules %.20r" % rules, program, "%%rules\n%s%%form\nx\n" % rules, ["rules: " + line for line in wanted])
+SIZES = [(0, 60, False, 1), (2, 60, False, 20), (10, 60, False, 10), (10, 60, True, 10), (1_000, 200, False, 3), (1_000, 200, True, 3)]
+PLANTED = [(*size, number) for *size, times in SIZES for number in range(times)]
+PLANTED += [(MOST_LINES + more, 3_000, bool(more), 0) for more in (0, 1, 2_345)]
 
 
-def try_limits(program, tally):
+@pytest.mark.parametrize("size", PLANTED, ids=lambda size: "%d_faults_in_%d_bids_with_other_headers_%s_number_%d" % size)
+def test_planted(wdp, size):
+    auction = planted(*size)
+    expect_all(wdp, auction.text(), auction.lines())
+
+
+def test_each_fault_is_planted():
+    of_all = [planted(*size).told.values() for size in PLANTED if size[0] <= 1_000]
+    faults = {(fault, bool(field)) for told in of_all for place in told for fault, field in place}
+    assert faults == {(fault, bool(field)) for _, told in BID_PLANTS + GROUP_PLANTS for fault, field in told} | {("2 Header", False)}
+
+
+@pytest.mark.parametrize("count, number", [(count, number) for count in (2, 10) for number in range(5)])
+def test_behind_faulty_rules_nothing_is_told_of_forms_and_groups(wdp, count, number):
+    draw = random.Random("rules %d %d" % (count, number))
+    chosen = sorted(draw.sample([record for record, (_, faulty, *_) in enumerate(RULES, 1) if faulty], count))
+    rules = [faulty if record in chosen else right for record, (right, faulty, *_) in enumerate(RULES, 1)]
+    wanted = ["rules: %s at record %d%s" % (RULES[record - 1][2], record, RULES[record - 1][3]) for record in chosen]
+    expect_all(wdp, Planted(draw, 60).plant(10).text(rules), wanted)
+
+
+@pytest.mark.parametrize("rules, wanted", RULES_BY_HAND, ids=[wanted[0] for _, wanted in RULES_BY_HAND])
+def test_rules_by_hand(wdp, rules, wanted):
+    expect_all(wdp, "%%rules\n%s%%form\nx\n" % rules, ["rules: " + line for line in wanted])
+
+
+def limits():
     short, forms, groups = "x\n", ["Alpha,A,B\n"] * 1_001, "%groups\nNobody\n"
     nobody = "name 1: 'Nobody' is no bidder's name"
     of_groups, of_short = "groups: 3 UnknownBidder at line 1, " + nobody, "2 Header at record 1: 1 fields in place of 3"
-    judge_all(tally, "1,001 forms", program, rules_and(*forms) + groups, [of_groups, "form 1001: CallLimit"])
-    judge_all(tally, "1,002 forms, a faulty one", program, rules_and(short, *forms) + groups, ["form 1: " + of_short, of_groups])
-    judge_all(tally, "large texts", program, rules_and(ALPHA + "\n" * 4 * MIB, short) + "%groups\n" + "-\n" * 2 * MIB + "-",
-              ["form 1: 1 TooLarge", "form 2: " + of_short, "groups: 1 TooLarge"])
-    judge_all(tally, "1,026 groups", program, auction("-\n" * 1_024 + "Nobody\n\n"),
-              ["groups: 3 UnknownBidder at line 1025, " + nobody, "groups: 5 TooManyGroups at line 1025: more than 1024 groups",
-               "groups: 2 EmptyLine at line 1026", "groups: 5 TooManyGroups at line 1026: more than 1024 groups"])
+    yield "1,001 forms", rules_and(*forms) + groups, [of_groups, "form 1001: CallLimit"]
+    yield "1,002 forms, a faulty one", rules_and(short, *forms) + groups, ["form 1: " + of_short, of_groups]
+    yield ("large texts", rules_and(ALPHA + "\n" * 4 * MIB, short) + "%groups\n" + "-\n" * 2 * MIB + "-",
+           ["form 1: 1 TooLarge", "form 2: " + of_short, "groups: 1 TooLarge"])
+    yield ("1,026 groups", auction("-\n" * 1_024 + "Nobody\n\n"),
+           ["groups: 3 UnknownBidder at line 1025, " + nobody, "groups: 5 TooManyGroups at line 1025: more than 1024 groups",
+            "groups: 2 EmptyLine at line 1026", "groups: 5 TooManyGroups at line 1026: more than 1024 groups"])
     # a bid with a fault is none of the 4,000
     amount, room = ("5 AmountText", 1), ("14 TooManyBids", None)
     for told in ({4_002: [room], 4_003: [room]}, {10: [amount], 4_003: [room]}, {4_002: [amount, room], 4_003: [room]}):
@@ -286,35 +288,36 @@ def try_limits(program, tally):
         for record in (record for record, faults in told.items() if amount in faults):
             planted.forms[1][record - 1][0] = ""
         planted.forms = {1: planted.forms[1]}
-        judge_all(tally, "4,002 bids, faulty in %s" % list(told), program, planted.text(), planted.lines())
+        yield "4,002 bids, faulty in %s" % told, planted.text(), planted.lines()
 
 
-def try_hostile(program, tally):
-    worked = auction("-\nBeta\n")
-    for number, (old, new, wanted) in enumerate(HOSTILE, 1):
-        judge_all(tally, "hostile text %d" % number, program, worked.replace(old, new, 1), wanted)
-    cut = Planted(random.Random("cut"), 8).plant(20).text().encode()
-    for size in range(0, len(cut), 23):
-        judge_first(tally, "cut to %d bytes" % size, program, cut[:size], refusal_of(program, cut[:size]))
+@pytest.mark.parametrize("text, wanted", [pytest.param(*row, id=name) for name, *row in limits()])
+def test_limits(wdp, text, wanted):
+    expect_all(wdp, text, wanted)
 
 
-def try_bids(program, tally):
-    draw, counts = random.Random("bids"), Counter()
-    for number in range(1, 201):
+@pytest.mark.parametrize("old, new, wanted", HOSTILE, ids=["%d_%.20r_for_%r" % (number, new, old) for number, (old, new, _) in enumerate(HOSTILE, 1)])
+def test_hostile(wdp, old, new, wanted):
+    expect_all(wdp, auction("-\nBeta\n").replace(old, new, 1), wanted)
+
+
+CUT = Planted(random.Random("cut"), 8).plant(20).text().encode()
+
+
+@pytest.mark.parametrize("size", range(0, len(CUT), 23))
+def test_cut(wdp, size):
+    expect_first(wdp, CUT[:size], refusal_of(wdp, CUT[:size]))
+
+
+@pytest.mark.parametrize("first", range(0, 200, AUCTIONS), ids=lambda first: "%d_auctions_from_%d" % (AUCTIONS, first))
+def test_bids_left_out(wdp, first):
+    counts = Counter()
+    for number in range(first, first + AUCTIONS):
+        draw = random.Random("bids %d" % number)
         auction = Drawn(draw, draw.choice((0, 1, 10, 100)))
         text, wanted = auction.text().encode(), "".join(auction.lines())
         counts.update(re.findall(r": bid [0-9]+ ([a-z]+)", wanted))
-        tally.judge("bids left out, auction %d" % number, seen(program, ["explain", "--bids"], text), (0, wanted.encode(), b""))
-        tally.judge("no fault, auction %d" % number, seen(program, ["explain"], text), (0, b"", b""))
-    tally.judge("enough reasons of each kind", [kind for kind in ("asks", "loads", "brings", "is") if counts[kind] < 200], [])
-
-
-def main():
-    program, tally = program_of(sys.argv, "tools/explain_test WDP"), Tally()
-    for part in (try_cases, try_damaged, try_planted, try_rules, try_limits, try_hostile, try_bids):
-        part(program, tally)
-    return tally.tell()
-
-
-if __name__ == "__main__":
-    sys.exit(run("explain_test", main))
+        with row("auction %d" % number):
+            assert seen(wdp, ["explain", "--bids"], text) == (0, wanted.encode(), b"")
+            assert seen(wdp, ["explain"], text) == (0, b"", b"")
+    assert [kind for kind in ("asks", "loads", "brings", "is") if counts[kind] < LEAST_REASONS] == [], counts

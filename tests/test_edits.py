@@ -1,17 +1,10 @@
-#!/usr/bin/env python3
-"""Tries the trial of edits on a crate of its own, with edits that aren't what they have to be.
-
-usage: tools/try_edits_test
-
-It needs the toolchain's `rt`. The last line is 'N passed, M failed'; the status is 0 where none failed.
-"""
+"""The trial of edits on a crate of its own, with edits that aren't what they have to be. It needs the toolchain's `rt`."""
 import os
 import re
 import subprocess
-import sys
-import tempfile
 
-HERE = os.path.dirname(os.path.realpath(__file__))
+import pytest
+from trials.program import ROOT
 
 SOURCE = """//! Functions for the trial of edits.
 #![tactic(auto)]
@@ -102,39 +95,28 @@ def write(folder):
     subprocess.run(["git", "init", "-q", folder], check=True)
 
 
-def main(words):
-    if words:
-        print(__doc__.strip())
-        return 0 if words == ["--help"] else 2
-    with tempfile.TemporaryDirectory(prefix="wdp-edits-") as folder:
-        write(folder)
-        run = subprocess.run([os.path.join(HERE, "try_edits")], cwd=folder, stdin=subprocess.DEVNULL, capture_output=True, text=True)
-    passed = failed = 0
-    wanted = {name: said for name, (_, said) in EDITS.items()}
-    for name, said in wanted.items():
-        line = next((line for line in run.stdout.split("\n") if "sample/%s.edit: " % name in line), "nothing")
-        if re.search(r"\.edit: " + said, line):
-            passed += 1
-        else:
-            failed += 1
-            print("failed: %s: want %r, and it says %r" % (name, said, line))
-    refused = sum(said.startswith("refused") for said in wanted.values())
-    counts = "%d passed, %d failed" % (refused, len(wanted) - refused)
-    if run.stdout.endswith(counts + "\n") and run.returncode == 1:
-        passed += 1
-    else:
-        failed += 1
-        print("failed: want %r and status 1, and it ends with status %d: %.2000r" % (counts, run.returncode, run.stdout[-600:] + run.stderr[-600:]))
-    # (an edit that doesn't parse leaves the others together)
-    alone = re.search(r"sample: 6 of 13 edits refused, in \d+ checks of many and (\d+) of one", run.stdout)
-    if alone and int(alone[1]) <= 9:
-        passed += 1
-    else:
-        failed += 1
-        print("failed: want most edits tried together, and it says %r" % run.stdout[:200])
-    print("%d passed, %d failed" % (passed, failed))
-    return 1 if failed else 0
+@pytest.fixture(scope="module")
+def tried(tmp_path_factory):
+    """What the trial of all edits says, and its status."""
+    folder = tmp_path_factory.mktemp("edits")
+    write(folder)
+    run = subprocess.run([os.path.join(ROOT, "tools", "try_edits")], cwd=folder, stdin=subprocess.DEVNULL, capture_output=True, text=True)
+    print(run.stderr)
+    return run.returncode, run.stdout
 
 
-if __name__ == "__main__":
-    sys.exit(main(sys.argv[1:]))
+@pytest.mark.parametrize("name", EDITS)
+def test_edit(tried, name):
+    line = next((line for line in tried[1].split("\n") if "sample/%s.edit: " % name in line), "nothing")
+    assert re.search(r"\.edit: " + EDITS[name][1], line)
+
+
+def test_counts(tried):
+    refused = sum(said.startswith("refused") for _, said in EDITS.values())
+    assert tried[1].endswith("%d passed, %d failed\n" % (refused, len(EDITS) - refused)) and tried[0] == 1
+
+
+def test_most_edits_are_tried_together(tried):
+    """An edit that doesn't parse leaves the others together."""
+    alone = re.search(r"sample: 6 of 13 edits refused, in \d+ checks of many and (\d+) of one", tried[1])
+    assert alone and int(alone[1]) <= 9
