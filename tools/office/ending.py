@@ -28,9 +28,24 @@ def kill_group(number, with_signal=signal.SIGKILL):
         pass
 
 
+@contextlib.contextmanager
+def endings_held():
+    """What ends the work waits until this is over; gives the signals that were held before."""
+    before = signal.pthread_sigmask(signal.SIG_BLOCK, (signal.SIGINT, *ENDINGS))
+    try:
+        yield before
+    finally:
+        signal.pthread_sigmask(signal.SIG_SETMASK, before)
+
+
 def watch_over(group):
-    """Starts a watcher, which kills a process group as soon as nobody holds the handle that is given back, unless a byte
-    was written to it. The handle is closed with this process, whatever ends it."""
+    """Starts a watcher, which kills a process group unless it is dismissed."""
+    return watcher_who(lambda: kill_group(group))
+
+
+def watcher_who(acts):
+    """Starts a watcher, who acts as soon as nobody holds the handle that is given back, unless it is dismissed. The handle is
+    closed with this process, whatever ends it."""
     reading, writing = os.pipe()
     watcher = os.fork()
     if watcher == 0:
@@ -40,11 +55,20 @@ def watch_over(group):
                 signal.signal(number, signal.SIG_IGN)
             close_all_but(reading)
             if not os.read(reading, 1):
-                kill_group(group)
+                acts()
         finally:
             os._exit(0)
     os.close(reading)
     return watcher, writing
+
+
+def dismiss(watcher, handle):
+    """Ends a watcher, who has nothing to do any more."""
+    with contextlib.suppress(BrokenPipeError):
+        os.write(handle, b".")
+    os.close(handle)
+    with contextlib.suppress(ChildProcessError):
+        os.waitpid(watcher, 0)
 
 
 def close_all_but(handle):
@@ -61,7 +85,5 @@ def started(words, **how):
         yield program
     finally:
         kill_group(program.pid)
-        os.write(handle, b".")
-        os.close(handle)
-        os.waitpid(watcher, 0)
+        dismiss(watcher, handle)
         program.wait()

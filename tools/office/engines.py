@@ -1,11 +1,11 @@
-"""What runs the steps of an auction's workflow: Snakemake, or GNU parallel."""
+"""What runs the steps of an auction's workflow: Snakemake, GNU parallel, or this process itself."""
 import os
 import shutil
 import signal
 import subprocess
 import time
 
-from office import folder, running
+from office import folder, forked, forks, running, scratch
 from office.ending import end_with_parent, kill_group
 from office.printed import escaped
 
@@ -29,7 +29,7 @@ def is_there(given, path):
     return os.path.exists(os.path.join(given.folder, path))
 
 
-def parallel_stages(given, progress):
+def stages(given, progress):
     """For each stage the steps that it does, once the one before is over."""
     groups = range(1, progress.groups + 1)
     settings = folder.read_json(os.path.join(given.folder, folder.SETTINGS))
@@ -46,6 +46,37 @@ def parallel_stages(given, progress):
     yield [["report", name] for name in names if not is_there(given, folder.report_path(name))]
     yield [["verify", names[0]]] if settings["certify"] and not is_there(given, folder.audit_path(names[0])) else []
     yield [["results", names[0]]]
+
+
+class Plain:
+    """The built-in engine in an auction's folder. What steps say goes to a log, as another engine's words do."""
+
+    def __init__(self, where, progress):
+        self.log = os.path.join(where, "engine.log")
+        self.progress, self.told, self.status = progress, 0, 0
+
+    def begins(self, words):
+        pass
+
+    def ends(self, words, status, said):
+        self.status = self.status or int(status != 0)
+        with open(self.log, "ab") as log:
+            log.write(("\n%s, status %d\n%s" % (" ".join(words), status, said)).encode())
+
+    def waits(self):
+        if time.monotonic() - self.told > LOOK_EVERY:
+            self.told = time.monotonic()
+            self.progress.tell()
+
+
+def run_plain(given, where, progress):
+    plain = Plain(where, progress)
+    if any(step == "certify" for step, _ in progress.kinds):
+        forked.read_search(os.path.getsize(os.path.join(where, "input.txt")))
+    for steps in stages(given, progress):
+        forks.run(steps, given.jobs or 1, plain, lambda: scratch.settle(where))
+        progress.tell(whole=True)
+    return plain.status
 
 
 def parallel_words(given, where, steps):
@@ -69,13 +100,13 @@ def stop(engine):
     engine.wait()
 
 
-def run_words(words, where, scratch, progress):
+def run_words(words, where, temporary, progress):
     """The status of an engine; its own words go to a log."""
     with open(os.path.join(where, "engine.log"), "ab") as log:
         log.write(("\n" + escaped(time.strftime("%Y-%m-%d %H:%M:%S ") + " ".join(words)) + "\n").encode())
         log.flush()
         engine = subprocess.Popen(words, cwd=where, stdin=subprocess.DEVNULL, stdout=log, stderr=log, start_new_session=True,
-                                  preexec_fn=end_with_parent, env={**os.environ, "TMPDIR": scratch})
+                                  preexec_fn=end_with_parent, env={**os.environ, "TMPDIR": temporary})
         try:
             while engine.poll() is None:
                 time.sleep(LOOK_EVERY)
@@ -96,16 +127,17 @@ def plan(given):
 def run(given, progress):
     """The status of the whole work; 0 where each step was done."""
     where = os.path.abspath(given.folder)
-    scratch = os.path.join(where, ".scratch")
-    shutil.rmtree(scratch, ignore_errors=True)
-    os.makedirs(scratch)
+    temporary = os.path.join(where, scratch.NAME)
+    shutil.rmtree(temporary, ignore_errors=True)
+    os.makedirs(temporary)
     try:
+        if given.engine == "plain":
+            return run_plain(given, where, progress)
         if given.engine == "snakemake":
-            return run_words(snakemake_words(given, where), where, scratch, progress)
+            return run_words(snakemake_words(given, where), where, temporary, progress)
         status = 0
-        for steps in parallel_stages(given, progress):
-            if steps:
-                status = run_words(parallel_words(given, where, steps), where, scratch, progress) or status
+        for steps in filter(None, stages(given, progress)):
+            status = run_words(parallel_words(given, where, steps), where, temporary, progress) or status
         return status
     finally:
-        shutil.rmtree(scratch, ignore_errors=True)
+        shutil.rmtree(temporary, ignore_errors=True)

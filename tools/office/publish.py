@@ -17,13 +17,13 @@ import os
 
 from office import accepted, called, judge, running
 from office.audit import printed
-from office.claim import Shown, shown_behind, with_shown
+from office.claim import Shown, shown_behind
 from office.choosing import add_page_words
 from office.page import page_of
 from office.plain import text_of
 from office.report import read_report
-from office.results import Audit, results_of, texts_of
-from office.run_record import GroupTold, Proof, RunTold, read_run
+from office.results import Audit, results_shown, texts_of
+from office.run_record import RunTold, read_run
 
 
 def words():
@@ -68,14 +68,12 @@ def results_from(data, report, told, given):
     if unknown:
         raise running.Stopped("the run tells of group %d, which the report doesn't have" % min(unknown))
     audit, shown = audit_of(given, data, report) if given.audit else (None, Shown())
-    first = told.groups.setdefault(1, GroupTold())
-    first.ties = with_shown(first.ties, shown, "%s: by the audit the winners are the only ones, and here others tie" % given.run)
-    results = results_of(auction, outcomes, told, given.run or given.audit)
+    why = "%s: by the audit the winners are the only ones, and here others tie" % given.run
+    results = results_shown(auction, outcomes, told, shown, given.run or given.audit, why)
     results.title, results.currency = given.title or results.title, given.currency
     results.input_sha256, results.report_sha256 = digest_of(data), digest_of(report)
     if audit:
         results.audit, results.certified = audit, True
-        results.proof = Proof.ONLY if shown.is_only else results.proof if shown.tie is None else Proof.TIE
         for group in results.groups:
             group.certified = True
     return results

@@ -5,8 +5,9 @@ import json
 import re
 from dataclasses import asdict, dataclass, field
 
+from office.claim import with_shown
 from office.report import Outcome, Winner, fault_of_total, last_forms, load_of
-from office.run_record import Proof, TieQuery
+from office.run_record import GroupTold, Proof, TieQuery
 from office.running import Stopped
 
 TITLE = "Results of the auction"
@@ -247,6 +248,15 @@ def results_of(auction, outcomes, told, source):
         tie_query=TieQuery(told.group(1).tie_query or TieQuery.NOT_ASKED), proof=Proof(told.group(1).proof or Proof.NONE),
         tied_awards=[tied_award(award, outcomes, names) for award in ties[1]],
         wdp=told.versions.get("wdp"), made=told.times.get("Results made"))
+
+
+def results_shown(auction, outcomes, told, shown, source, why):
+    """The same with what is shown of group 1's winners; a Stopped that says why where they can't tie and are told to."""
+    first = told.groups.setdefault(1, GroupTold())
+    first.ties = with_shown(first.ties, shown, why)
+    results = results_of(auction, outcomes, told, source)
+    results.proof = Proof.ONLY if shown.is_only else results.proof if shown.tie is None else Proof.TIE
+    return results
 
 
 def json_text(results):

@@ -6,6 +6,7 @@ usage: tools/auction_step programs | first SOLVER | solve SOLVER GROUP | certify
 tools/auction DIR has the engine start it. What is there already isn't made again, but for the results.
 """
 import contextlib
+import functools
 import hashlib
 import json
 import os
@@ -15,17 +16,20 @@ import subprocess
 import sys
 import time
 
-from office import accepted, disproved, folder, running
+from office import accepted, disproved, folder, forked, running
 from office.audit import printed, with_answers
 from office.choosing import solver_of
 from office.claim import TIE, UNIQUE, shown_behind
 from office.cut import columns_of, cut_off, other_of_same_total
 from office.ending import end_by_interrupt, end_with_parent
 from office.optimal import NotOptimal, check_answer
+from office.program_text import read_program
 from office.report import read_report
 from office.run_record import Proof, TieQuery, text_of
 from office.solving import KILLED, NO_SOLUTION, TIME_OUT, Failed, Wanted, column_names, solution, start_from
+from office.solution import read_solution
 from office.totals import Answers, check_totals, compare, named, ties, with_asked_for
+from office.verdict import Checker
 
 TOOLS = os.path.dirname(os.path.dirname(os.path.realpath(__file__)))
 TIED = 5  # the status of tools/certify where another point is as good
@@ -63,17 +67,22 @@ def refused(name, status, messages):
 
 
 def programs():
-    """Parts what wdp compiles into a file for each group, as it comes."""
     given = folder.settings()
-    words = [given["wdp"], "compile", "--workers", str(given["workers"])]
+    compiled(given["wdp"], given["workers"])
+
+
+def compiled(wdp, workers):
+    """Parts what wdp compiles into a file for each group, as it comes, and gives the groups' names in order."""
+    words = [wdp, "compile", "--workers", str(workers)]
     os.makedirs("programs", exist_ok=True)
-    written = {}
+    written, names = {}, []
     with open("input.txt", "rb") as text, subprocess.Popen(
             words, stdin=text, stdout=subprocess.PIPE, stderr=subprocess.PIPE, preexec_fn=end_with_parent) as wdp:
         with contextlib.ExitStack() as stack:
             for line in wdp.stdout:
                 if line.startswith(b"* program "):
                     stack.close()
+                    names.append(line.split()[3].decode("ascii"))
                     path = folder.program_path(len(written) + 1)
                     written[path] = hashlib.sha256()
                     part = stack.enter_context(open_part(path))
@@ -87,6 +96,7 @@ def programs():
     for path, digest in written.items():
         folder.write_sum(path, digest.hexdigest())
         os.replace(path + ".writing", path)
+    return names
 
 
 @contextlib.contextmanager
@@ -103,6 +113,11 @@ def state_of(step, stopped):
     return WHY.get(stopped.status, "failed")
 
 
+def said_of(stopped):
+    """Why a step ended, as the tool says it that does the work."""
+    return "solve: %s" % stopped if isinstance(stopped, Failed) else getattr(stopped, "said", str(stopped))
+
+
 @contextlib.contextmanager
 def told(step, solver, group):
     """Tells when a step of a group begins, and how it ends."""
@@ -113,7 +128,7 @@ def told(step, solver, group):
         yield
         ended = {"state": "done"}
     except (running.Stopped, Failed) as stopped:
-        ended = {"state": state_of(step, stopped), "words": str(stopped)}
+        ended = {"state": state_of(step, stopped), "words": str(stopped), "said": said_of(stopped)}
         if isinstance(stopped, NotOptimal):
             disproved.keep(stopped, solver)
         raise running.Stopped("group %s: %s: %s" % (group, ended["state"], stopped), stopped.status)
@@ -205,26 +220,54 @@ def certified(path, texts, group, *words):
     limit, left, found = folder.settings()["time_limit"], path + ".better.unchecked", None
     os.makedirs(os.path.dirname(path), exist_ok=True)
     limited = ["--time-limit", str(limit)] if limit else []
-    status, certificate, messages = run_tool([os.path.join(TOOLS, "certify"), *words, *limited, "--solution-output", left, *texts])
-    if os.path.exists(left):
-        found = running.content(left)
-        folder.remove(left)
-        disproved.refuse_below(program, solution, found, int(group))
-    if status == TIED and words and found is not None:
-        return None, found
-    if status != 0:
-        raise refused("certify", status, messages.replace("\n", "; "))
-    check(certificate, path + ".unchecked", texts, *words)
+    made = path + ".unchecked"
+    status, messages = run_certify([*words, *limited, "--output", made, "--solution-output", left, *texts])
+    with saying(messages.rpartition("\n")[2]):
+        if os.path.exists(left):
+            found = taken(left)
+            disproved.refuse_below(program, solution, found, int(group))
+        if status == TIED and words and found is not None:
+            return None, found
+        if status != 0:
+            raise refused("certify", status, messages.replace("\n", "; "))
+    certificate = taken(made)
+    check(certificate, program, solution, *words)
     return certificate, found
 
 
-def check(certificate, beside, texts, *words):
+def run_certify(words):
+    """Its status and messages. Where its modules are read already it needs no start of its own; the search for other winners,
+    which is one of an auction, has one."""
+    if forked.SEARCH in sys.modules and "--unique" not in words:
+        return forked.run_tool("certify", words)
+    status, _, messages = run_tool([os.path.join(TOOLS, "certify"), *words])
+    return status, messages
+
+
+def taken(path):
+    """The bytes of a file that a tool left, which is taken away."""
+    data = running.content(path)
+    folder.remove(path)
+    return data
+
+
+@contextlib.contextmanager
+def saying(last):
+    """Keeps what a tool said last, where the work ends by that."""
+    try:
+        yield
+    except running.Stopped as stopped:
+        stopped.said = last or str(stopped)
+        raise
+
+
+def check(certificate, program, solution, *words):
     """Ends where the independent checker finds a fault in a certificate."""
-    folder.write(beside, certificate)
-    status, _, messages = run_tool([os.path.join(TOOLS, "check_certificate"), *words, *texts, beside])
-    folder.remove(beside)
-    if status != 0:
-        raise refused("check_certificate", status, messages)
+    program = read_program(program, "the program")
+    ones, checker = read_solution(solution, program, "the solution"), Checker(program)
+    verdict = checker.only_verdict(ones, certificate) if words else checker.verdict(program.objective(ones), certificate)
+    if verdict.fault:
+        raise running.Stopped("check_certificate: %s" % verdict.fault)
 
 
 def find_ties(name, group):
@@ -248,7 +291,9 @@ def find_ties(name, group):
         folder.leave_json(path, {"winners": other})
 
 
+@functools.cache
 def auction_of_folder():
+    """Read once, however many steps a process does."""
     return accepted.read(running.content("input.txt"), "input.txt")
 
 
@@ -261,10 +306,10 @@ def answers_of(solver, report, auction):
 
 
 def whole(step):
-    """A step of the whole auction: tells why it failed."""
+    """A step of the whole auction: gives what it found, or tells why it failed."""
     def work(*words):
         try:
-            step(*words)
+            return step(*words)
         except running.Stopped as stopped:
             name = step.__name__
             folder.write_json(folder.ended_path(name, words[0] if words else "-", "all"),
@@ -291,8 +336,9 @@ def wdp_says(given, command, text):
 def report(solver):
     given = folder.settings()
     output = wdp_says(given, "report", with_answers(running.content("input.txt"), of_each_group("solve", solver, given)))
-    answers_of(solver, output, auction_of_folder())
+    answers = answers_of(solver, output, auction_of_folder())
     folder.leave(folder.report_path(solver), output)
+    return answers
 
 
 def verify(solver):
@@ -301,9 +347,10 @@ def verify(solver):
     claim = folder.path_of("only", solver, 1)
     text = with_answers(running.content("input.txt"), of_each_group("solve", solver, given), of_each_group("certify", solver, given),
                         folder.left(claim) if os.path.exists(claim) else b"")
-    shown_behind(folder.left(folder.report_path(solver)), wdp_says(given, "verify", text),
-                 "wdp verify prints another report than wdp report")
+    shown = shown_behind(folder.left(folder.report_path(solver)), wdp_says(given, "verify", text),
+                         "wdp verify prints another report than wdp report")
     folder.leave(folder.audit_path(solver), text)
+    return shown
 
 
 def ties_asked_for(solver, given):
@@ -339,6 +386,15 @@ def of_group(solver, group, given):
             "tie_query": tie_query(solver, group, given).value, "proof": Proof.UNFINISHED.value if is_open else None}
 
 
+def of_groups(solver, given, auction, answers, of_others):
+    """The same of each group, with the ties that the answers of all solvers show."""
+    groups = {str(group): of_group(solver, group, given) for group in range(1, given["groups"] + 1)}
+    found = named(with_asked_for(ties(answers, of_others), ties_asked_for(solver, given)), auction)
+    for group, awards in found.items():
+        groups[str(group)]["ties"] = awards
+    return groups
+
+
 def results(solver):
     given, auction = folder.settings(), auction_of_folder()
     for name in folder.PUBLISHED:
@@ -347,10 +403,7 @@ def results(solver):
     answers, *of_others = [answers_of(name, folder.left(folder.report_path(name)), auction) for name in [solver, *others]]
     for name, its in zip(others, of_others):
         compare(answers, solver, its, name)
-    groups = {str(group): of_group(solver, group, given) for group in range(1, given["groups"] + 1)}
-    found = named(with_asked_for(ties(answers, of_others), ties_asked_for(solver, given)), auction)
-    for group, awards in found.items():
-        groups[str(group)]["ties"] = awards
+    groups = of_groups(solver, given, auction, answers, of_others)
     solving = sum(group["seconds"] or 0 for group in groups.values())
     times = {"Started": given["started"], "Seconds of solving": "{:,.2f}".format(solving),
              "Results made": time.strftime("%Y-%m-%d %H:%M %Z")}
@@ -377,4 +430,8 @@ def main():
         raise running.Stopped("wrong words; --help tells them", 2)
     end_with_parent()
     end_by_interrupt()
-    return STEPS[words[0]][0](*words[1:])
+    do(words)
+
+
+def do(words):
+    STEPS[words[0]][0](*words[1:])

@@ -10,7 +10,7 @@ import sys
 import tempfile
 import time
 
-from office import accepted, called, disproved, engines, folder, running
+from office import accepted, called, disproved, engines, folder, running, scratch
 from office.ending import end_by_interrupt, end_with_parent
 from office.faults import counted
 from office.progress import FAILED, Progress, say
@@ -22,6 +22,7 @@ from office.telling import PROOFS, UNDECIDED, not_certified, tie_lines
 from office.totals import Answers, doubt
 
 DONE_WITHOUT = "not done"
+NOT_EMPTY = "group 1 is not empty: the first line of %groups has to be `-`, since costs are told against the winners among all bidders"
 DRY = ("-n", "--dry-run", "--dryrun")
 CHANGED_TOLD = 20  # files
 ENGINE_TOLD = 3  # lines
@@ -31,7 +32,7 @@ CERTIFYING = {running.PACKAGES[module] for module in ("numpy", "scipy", "swiglpk
 
 def missing_packages(given):
     """What an engine and the steps need of Debian's packages and isn't there; an engine's program has its package's name."""
-    engine = [] if shutil.which(given.engine) else [given.engine]
+    engine = [] if given.engine == "plain" or shutil.which(given.engine) else [given.engine]
     return engine + running.missing_packages(["jinja2"] + ["numpy", "scipy", "swiglpk"] * given.certify)
 
 
@@ -119,8 +120,7 @@ def take_input(given):
                               % (given.folder, belongs, digest))
     auction = accepted.judged(given.wdp, data, given.input or path)
     if not auction.groups or auction.groups[0]:
-        raise running.Stopped("group 1 is not empty: the first line of %groups has to be `-`, since costs are told against "
-                              "the winners among all bidders")
+        raise running.Stopped(NOT_EMPTY)
     os.makedirs(os.path.join(given.folder, "logs"), exist_ok=True)  # a cluster's logs go there too
     running.write_whole(mark, digest.encode() + b"\n")
     if not os.path.exists(path) or running.content(path) != data:
@@ -148,18 +148,23 @@ def only_groups(given):
     return [1] if given.ties and given.certify else []
 
 
-def write_settings(given, solvers, auction):
-    """What the steps have to know. Title and currency stay as they are where nothing is said of them."""
-    versions = {"wdp": wdp_version(given.wdp)}
-    versions.update({solver.name: solver_version(solver) for solver in solvers})
+def settings(given, solvers, groups):
+    """What the steps of groups have to know."""
     told = [settings_of(solvers[0], given.optimal_sign, given.solver_options)]
     told += [settings_of(solver, None, given.check_options) for solver in solvers[1:]]
+    return {"wdp": os.path.abspath(given.wdp), "solvers": told, "certify": given.certify, "tied_groups": tied_groups(given, groups),
+            "only_groups": only_groups(given), "start": not given.no_start, "groups": groups, "workers": given.workers,
+            "time_limit": given.time_limit}
+
+
+def write_settings(given, solvers, auction):
+    """The same, and what is told of the run. Title and currency stay as they are where nothing is said of them."""
+    versions = {"wdp": wdp_version(given.wdp)}
+    versions.update({solver.name: solver_version(solver) for solver in solvers})
     folder.write_json(os.path.join(given.folder, folder.SETTINGS), {
-        "step": engines.STEP, "wdp": os.path.abspath(given.wdp), "solvers": told, "certify": given.certify,
-        "tied_groups": tied_groups(given, len(auction.groups)), "only_groups": only_groups(given), "start": not given.no_start, "groups": len(auction.groups),
-        "workers": given.workers, "time_limit": given.time_limit, "title": given.title or told_before(given, "title") or TITLE,
-        "currency": given.currency or told_before(given, "currency"), "versions": versions,
-        "started": time.strftime("%Y-%m-%d %H:%M %Z")})
+        **settings(given, solvers, len(auction.groups)), "step": engines.STEP,
+        "title": given.title or told_before(given, "title") or TITLE, "currency": given.currency or told_before(given, "currency"),
+        "versions": versions, "started": time.strftime("%Y-%m-%d %H:%M %Z")})
 
 
 def forget_what_followed(where, solver, groups, claimed):
@@ -190,7 +195,7 @@ def refuse_changed(where):
 def forget(where, solvers, groups, claimed):
     """What was broken off or failed before is tried again; pieces of files, and answers that are disproved, are put away.
     Snakemake would go on with the jobs of a cluster that it wrote down as begun, though they were cancelled with the run."""
-    for name in ("running", "ended/report", "ended/verify", "ended/results", "ended/programs", ".scratch", ".snakemake/incomplete"):
+    for name in ("running", "ended/report", "ended/verify", "ended/results", "ended/programs", scratch.NAME, ".snakemake/incomplete"):
         shutil.rmtree(os.path.join(where, name), ignore_errors=True)
     disproved.clear(where)
     for solver in solvers:
@@ -302,19 +307,15 @@ def why_not_written(where):
     return None
 
 
-def tell_doubt(given, auction, report):
-    """Where no certificate says more, whether a solver's tolerance may matter."""
-    if given.certify:
-        return
-    why = doubt(Answers(read_report(running.content(report), auction, report), auction))
+def tell_doubt(answers):
+    """Whether a solver's tolerance may matter."""
+    why = doubt(answers)
     if why:
         say(why)
 
 
-def tell_ties(given, solver):
+def tell_ties(results, groups):
     """The ties that are known, in a line each, and where whether there are some wasn't decided."""
-    results = folder.read_json(os.path.join(given.folder, "results", solver, "results.json"))
-    groups = folder.read_json(os.path.join(given.folder, "run.json")).get("groups", {})
     for line in tie_lines(results.get("tied_awards", []), {int(number): told.get("ties", []) for number, told in groups.items()}):
         say(line)
     proof = results.get("proof")
@@ -385,8 +386,10 @@ def tell_end(given, solvers, auction, progress, status, log_start):
         how_to_go_on(given)
     if is_made:
         say("the report is %s, the page%s %s" % (report, ", without what is missing," * bool(missing), page))
-        tell_doubt(given, auction, report)
-        tell_ties(given, main)
+        if not given.certify:
+            tell_doubt(Answers(read_report(running.content(report), auction, report), auction))
+        tell_ties(folder.read_json(os.path.join(given.folder, "results", main, "results.json")),
+                  folder.read_json(os.path.join(given.folder, "run.json")).get("groups", {}))
         tell_certified(given, main, groups)
     return 1 if lines or status != 0 else 0
 

@@ -1,17 +1,12 @@
 """The judging of runs, on programs that do something else than wdp."""
 import contextlib
-import io
 import os
 import stat
-import subprocess
 import tempfile
 import unittest
 
-from office.running import Stopped
 from trials import judging
 from trials.worked import MADE_ELSEWHERE, ONE_COLUMN, auction, rules_and
-
-TOOLS = os.path.dirname(os.path.dirname(os.path.dirname(os.path.realpath(__file__))))
 
 
 @contextlib.contextmanager
@@ -35,29 +30,15 @@ class Trials(unittest.TestCase):
             self.assertEqual(judging.seen(path, [], ""), judging.refused("lots"))
             self.assertNotEqual(judging.seen(path, [], "x"), judging.refused("lots"))
 
-    def test_a_wrong_answer_counts_as_failed(self):
-        tally, told = judging.Tally(), io.StringIO()
-        with contextlib.redirect_stdout(told):
-            tally.judge("right", judging.done("x"), judging.done("x"))
-            tally.judge("wrong", judging.done("x"), judging.done("y"))
-            self.assertEqual(tally.tell(), 1)
-        self.assertTrue(told.getvalue().endswith("1 passed, 1 failed\n"))
-
     def test_the_bytes_of_a_failed_write(self):
         rows = [(b"wdp: write failed after 12 bytes\n", 12), (b"wdp: write failed after 12 bytes\n\n", -1), (b"", -1),
                 (b"wdp: write failed after  bytes\n", -1), (b"wdp: write failed after 1\nwdp: write failed after 2 bytes\n", -1)]
         for line, number in rows:
             self.assertEqual(judging.written_of(line), number, line)
 
-    def test_what_is_no_program(self):
-        for words in (["tool"], ["tool", "a", "b"], ["tool", "--help"], ["tool", "/no such file"], ["tool", "/"]):
-            with self.assertRaises(Stopped):
-                judging.program_of(words, "tool WDP")
-
-    def test_the_tools_end_cleanly_without_a_program(self):
-        for tool in ("damage_test", "ends_test", "explain_test"):
-            ended = subprocess.run([os.path.join(TOOLS, tool), "/no such file"], capture_output=True)
-            self.assertEqual((ended.returncode, ended.stderr), (2, b"%s: /no such file: no program\n" % tool.encode()))
+    def test_a_row_that_fails_is_named(self):
+        with self.assertRaisesRegex(AssertionError, "row 7: .*1 isn't 2"), judging.row("row 7"):
+            self.assertTrue(False, "1 isn't 2")
 
 
 if __name__ == "__main__":

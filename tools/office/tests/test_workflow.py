@@ -773,17 +773,176 @@ class ByParallel(Folder):
         self.go_on()
 
 
-class AtOnce(Folder):
-    """Without a folder, from standard input to standard output."""
+class ByPlain(ByParallel):
+    """The same by the built-in engine, which needs no other program."""
 
-    def start(self, *words, given=None):
-        environment = {**os.environ, "PATH": self.solvers + os.pathsep + os.environ["PATH"], "WORKFLOW_OF": self.folder}
+    engine = ["--engine", "plain"]
+
+    def test_without_the_programs_of_other_engines(self):
+        os.symlink(shutil.which("python3"), os.path.join(self.solvers, "python3"))
+        for name in ("sh", "cksum", "grep"):
+            os.symlink(shutil.which(name), os.path.join(self.solvers, name))
+        status, messages = self.run_it(path=self.solvers)
+        self.assertEqual((status, self.report()), (0, content(EXAMPLES, "worked.report.txt")), messages)
+        self.assertIn("4 groups, 8 steps by plain, 4 at a time: 0 of 8 done\n", messages)
+        self.assertIn("8 of 8 done\n", messages)
+        self.assertFalse(is_there(self.folder, ".scratch"))
+
+    def test_groups_that_fail_leave_the_others(self):
+        self.stand_in(IS_KILLED)
+        status, messages = self.run_it()
+        self.assertEqual((status, self.solved()), (1, ["1.txt", "2.txt"]), messages)
+        self.assertIn("missing: group 3 isn't solved by cbc: killed: cbc was killed by signal 9 (Killed)\n", messages)
+        self.go_on()
+
+    def test_a_solver_that_kills_who_called_it(self):
+        self.stand_in("grep -q X2_1 program.mps || kill -9 $PPID")
+        status, messages = self.run_it()
+        self.assertEqual((status, self.solved()), (1, ["1.txt", "2.txt"]), messages)
+        self.assertIn("missing: group 3 isn't solved by cbc: not done\n", messages)
+        self.go_on()
+
+    def test_what_steps_could_not_write_down_is_told(self):
+        self.put("running", b"")
+        status, messages = self.run_it()
+        self.assertEqual(status, 1, messages)
+        self.assertRegex(messages, "auction: plain ended with status 1: .*running")
+
+    def test_words_of_other_engines(self):
+        for words in (["--profile", self.solvers], ["--", "--dry-run"]):
+            self.assertEqual(self.run_it(*words)[0], 2)
+
+
+class Once(Folder):
+    """Without a folder, from standard input to standard output. What is temporary has a folder of its own."""
+
+    def setUp(self):
+        super().setUp()
+        self.temporary = os.path.join(self.solvers, "temporary")
+        os.mkdir(self.temporary)
+
+    def start(self, *words, given=None, **how):
+        environment = {**os.environ, "PATH": self.solvers + os.pathsep + os.environ["PATH"], "WORKFLOW_OF": self.folder,
+                       "TMPDIR": self.temporary}
         with open(given or os.path.join(EXAMPLES, "worked.txt"), "rb") as text:
             tool = subprocess.Popen([os.path.join(TOOLS, "auction"), "--wdp", WDP, "--solver", "cbc", "--workers", "2", *words],
-                                    env=environment, stdin=text, stdout=subprocess.PIPE, stderr=subprocess.PIPE)
+                                    env=environment, stdin=text, stdout=subprocess.PIPE, stderr=subprocess.PIPE, **how)
         self.addCleanup(lambda: (tool.kill(), tool.wait(), tool.stdout.close(), tool.stderr.close()))
         return tool
 
+    def run_it(self, *words, **how):
+        """Status, report and messages."""
+        tool = self.start(*words, **how)
+        printed, messages = tool.communicate(timeout=300)
+        self.assertNotIn(b"Traceback", messages)
+        return tool.returncode, printed, messages.decode()
+
+
+class NothingLeft(Once):
+    """Of the temporary folder nothing is left, whatever ends the run."""
+
+    def left(self):
+        return os.listdir(self.temporary)
+
+    def test_after_success_and_refusals(self):
+        self.put("low.txt", content(EXAMPLES, "worked.txt").replace(b"30,1,0", b"3,1,0"))
+        self.put("cut.txt", content(EXAMPLES, "worked.txt").partition(b"%groups")[0][:-20])
+        for script, given, wanted in (("", None, 0), ("", "low.txt", 1), ("", "cut.txt", 1), (IS_KILLED, None, 1), (NOBODY_WINS, None, 3),
+                                      (SHORT, None, 3), (RUNS_OUT, None, 1)):
+            with self.subTest(script=script, given=given):
+                self.stand_in(script)
+                status, printed, messages = self.run_it("--ties", "--quiet", given=given and os.path.join(self.folder, given))
+                self.assertEqual((status, printed == b"", self.left()), (wanted, wanted != 0, []), messages)
+
+    def test_after_a_signal(self):
+        for number in (signal.SIGTERM, signal.SIGINT, signal.SIGHUP, signal.SIGKILL):
+            with self.subTest(signal=number):
+                self.stand_in("sleep 1000")
+                os.path.exists(self.calls) and os.unlink(self.calls)
+                tool = self.start("--quiet")
+                self.wait_for(lambda: len(self.called()) == 2)
+                self.assertEqual(len(self.left()), 1)
+                tool.send_signal(number)
+                printed, messages = tool.communicate(timeout=30)
+                if number == signal.SIGKILL:
+                    self.wait_for(lambda: not self.left(), 30)
+                else:
+                    self.assertEqual((tool.returncode, messages, self.left()), (1, b"auction: interrupted\n", []))
+                self.assertEqual(printed, b"")
+                self.wait_for(lambda: not self.processes())
+
+    def test_after_a_signal_to_all_of_a_terminal(self):
+        self.stand_in("sleep 1000")
+        tool = self.start("--quiet", start_new_session=True)
+        self.wait_for(lambda: len(self.called()) == 2)
+        os.killpg(tool.pid, signal.SIGINT)
+        self.assertEqual(tool.communicate(timeout=30), (b"", b"auction: interrupted\n"))
+        self.assertEqual((self.left(), self.processes()), ([], []))
+
+    def test_what_a_solver_leaves_behind(self):
+        self.stand_in("mkdir -p kept/inner; echo text > kept/inner/file; chmod 000 kept; exec > /dev/null")
+        status, printed, messages = self.run_it()
+        self.assertEqual((status, printed), (1, b""), messages)
+        self.assertEqual(self.left(), [])
+
+    def test_where_no_temporary_folder_can_be(self):
+        """One line that names the place; no other place is taken."""
+        with open(os.path.join(self.solvers, "file"), "wb"):
+            pass
+        self.put("large.txt", content(EXAMPLES, "worked.txt"))
+        for name, why in (("missing", "No such file or directory"), ("file", "Not a directory")):
+            self.temporary = os.path.join(self.solvers, name)
+            for words in ([], ["--no-certify"]):
+                self.assertEqual(self.run_it(*words), (1, b"", "auction: %s: %s\n" % (self.temporary, why)))
+
+    def test_a_full_disk(self):
+        """No file may grow beyond so many bytes: the input has 220, and the first program 370."""
+        for size in (100, 300):
+            status, printed, messages = self.run_it("--quiet", preexec_fn=lambda: resource.setrlimit(resource.RLIMIT_FSIZE, (size, size)))
+            self.assertEqual((status, printed, messages, self.left()), (1, b"", "auction: %s: File too large\n" % self.temporary, []))
+
+    def test_two_runs_at_once(self):
+        """Each has a temporary folder of its own, also where they keep files in the same place."""
+        self.stand_in("while [ ! -e %s ]; do sleep 0.1; done" % self.gate)
+        for words in ([], ["--keep", self.folder]):
+            os.path.exists(self.gate) and os.unlink(self.gate)
+            os.path.exists(self.calls) and os.unlink(self.calls)
+            tools = [self.start(*words), self.start(*words)]
+            self.wait_for(lambda: len(self.called()) == 4)
+            with open(self.gate, "wb"):
+                seen = [tool.communicate(timeout=300) for tool in tools]
+            report = content(EXAMPLES, "worked.report.txt")
+            self.assertEqual([(tool.returncode, printed) for tool, (printed, _) in zip(tools, seen)], [(0, report)] * 2, seen)
+            self.assertEqual(self.left(), [])
+        self.assertEqual([name for name in os.listdir(self.folder) if name.startswith(".")], [])
+        self.assertEqual(content(self.folder, "report.cbc.txt"), report)
+
+    def test_in_the_folder_of_keep(self):
+        """What a run that fails made is kept under the same names, and nothing else."""
+        shutil.rmtree(self.folder)
+        self.stand_in(IS_KILLED)
+        self.assertEqual(self.run_it("--keep", self.folder)[0], 1)
+        kept = ["%d.%s" % (group, name) for group in (1, 2, 3, 4) for name in ("cbc.log", "cbc.solution", "mps")]
+        self.assertEqual(sorted(os.listdir(self.folder)), sorted({*kept, "input.txt"} - {"3.cbc.solution", "4.cbc.solution"}))
+        self.stand_in("")
+        self.assertEqual(self.run_it("--keep", self.folder)[0], 0)
+        kept += ["%d.certificate" % group for group in (1, 2, 3, 4)]
+        self.assertEqual(sorted(os.listdir(self.folder)), sorted({*kept, "input.txt", "report.cbc.txt", "audit.txt"}))
+
+    def test_what_is_no_file_is_not_taken_for_one(self):
+        """It is refused before any solver is asked."""
+        for name in ("2.mps", "3.cbc.solution", "audit.txt.d"):
+            shutil.rmtree(self.folder)
+            os.mkdir(self.folder)
+            path = os.path.join(self.folder, name.removesuffix(".d"))
+            (os.mkfifo if name == "2.mps" else os.mkdir)(path)
+            status, printed, messages = self.run_it("--quiet", "--keep", self.folder)
+            self.assertEqual((status, printed, self.called()), (1, b"", []), messages)
+            self.assertRegex(messages, r"\Aauction: [^\n]*%s(: it isn't a file|: Is a directory)\n\Z" % re.escape(path))
+            self.assertEqual(os.listdir(self.folder), [os.path.basename(path)])
+
+
+class AtOnce(Once):
     def test_no_process_is_left(self):
         for number in (signal.SIGTERM, signal.SIGKILL):
             with self.subTest(signal=number):
@@ -805,13 +964,6 @@ class AtOnce(Folder):
         self.assertIn("group 3 of 4 (Beta): solve: cbc was killed by signal 9 (Killed)", messages.decode())
         self.assertIn("2 of 4 groups aren't solved", messages.decode())
         self.assertTrue(is_there(self.folder, "2.cbc.solution"))
-
-    def run_it(self, *words, **how):
-        """Status, report and messages."""
-        tool = self.start(*words, **how)
-        printed, messages = tool.communicate(timeout=300)
-        self.assertNotIn(b"Traceback", messages)
-        return tool.returncode, printed, messages.decode()
 
     def test_a_certified_report_and_one_that_is_not(self):
         report = content(EXAMPLES, "worked.report.txt")
