@@ -8,7 +8,7 @@ use Rattle.auction_terms.specs.Stages.{each_in_turn}
 use Rattle.auction_terms.specs.declared.choices.Choice.{Choice}
 use Rattle.auction_input.specs.Auction.{auction_told}
 use Rattle.auction_input.specs.PartsTold.{only_text}
-use Rattle.auction_input.specs.declared.refusal.CountedPart.TheVariants as counted
+use Rattle.auction_input.specs.declared.part_kind.PartKind.TheVariants as part
 use Rattle.auction_input.specs.declared.refusal.Refusal.TheVariants as refusal
 use Rattle.requests.specs.declared.request.Request.TheVariants as request
 use Rattle.auction_input.proofs.AnswerFacts.{ok-behind, ok-is}
@@ -38,7 +38,7 @@ reported-is-feasible workers input out told =
     let (auction, auction_is, made) = ok-behind (auction_told (request.Report workers) input) (output_of (request.Report workers)) out told in
     let within = (auction-within (request.Report workers) input auction auction_is).1 in
     let (won, wins, written) = ok-behind (winners_of_groups auction) _ out made in
-    let (starts, count, each) = when-both refusal.FirstGroupNotEmpty (refusal.PartCount counted.Solutions) (starts_empty auction.groups) (length auction.solutions == length auction.groups) _ won wins in
+    let (starts, count, each) = when-both refusal.FirstGroupNotEmpty (refusal.PartCount part.Solution) (starts_empty auction.groups) (length auction.solutions == length auction.groups) _ won wins in
     let text : report_text auction.sale auction.groups won ≡ out = ok-is _ (report_text auction.sale auction.groups won) out refl written in
     (auction, auction_is, record { won = won; text = sym text; feasible = each-feasible auction.sale 1 auction.groups auction.solutions won within (eqb-true _ _ count) each })
 

@@ -31,7 +31,7 @@ use Rattle.group_winners.specs.Claimed.{claims_told}
 use Rattle.answers.specs.Verified.{Holds, IsGreatestWithout, IsOnlyOutcome, IsOwnCost, IsTrueReport, UniqueIsOnly, VerifiedIsTrue, WritesTrueReport}
 use Rattle.group_winners.specs.SolutionWinners.{winners_of_groups}
 use Rattle.group_winners.specs.inside.SolutionWinners.{winners}
-use Rattle.auction_input.specs.declared.refusal.CountedPart.TheVariants as counted
+use Rattle.auction_input.specs.declared.part_kind.PartKind.TheVariants as part
 use Rattle.auction_input.specs.declared.refusal.Refusal.TheVariants as refusal
 use Rattle.requests.specs.declared.request.Request.TheVariants as request
 use Rattle.auction_input.proofs.AnswerFacts.{ok-behind, ok-is, unless-ok}
@@ -121,8 +121,8 @@ true-report workers auction out within told =
     let (won, won_is, behind) = ok-behind (and_then (winners_of_groups auction) (certified auction)) _ out told in
     let (claim, claim_is, written) = ok-behind (claims_told auction (slice_index_or won 0 []) auction.uniques auction.ties) _ out behind in
     let (allocations, wins, certifies) = ok-behind (winners_of_groups auction) (certified auction) won won_is in
-    let (starts, count, each) = when-both refusal.FirstGroupNotEmpty (refusal.PartCount counted.Solutions) (starts_empty auction.groups) (length auction.solutions == length auction.groups) _ allocations wins in
-    let (counts, all_told) = when-counted (length auction.certificates == length auction.groups) _ (refusal.PartCount counted.Certificates) won certifies in
+    let (starts, count, each) = when-both refusal.FirstGroupNotEmpty (refusal.PartCount part.Solution) (starts_empty auction.groups) (length auction.solutions == length auction.groups) _ allocations wins in
+    let (counts, all_told) = when-counted (length auction.certificates == length auction.groups) _ (refusal.PartCount part.Certificate) won certifies in
     let (all, shown_are, same) = ok-behind (each_in_turn shown 1 (bounds_of auction allocations)) _ won all_told in
     let is : allocations ≡ won = ok-is _ allocations won refl same in
     let greatest = all-greatest auction.sale 1 auction.groups auction.solutions auction.certificates allocations all within (eqb-true _ _ count) (eqb-true _ _ counts) each shown_are in

@@ -7,6 +7,8 @@ use Rattle.std.specs.Prelude.{slice_set}
 use Rattle.bid_forms.specs.Offers.{Offers}
 use Rattle.auction_input.specs.Calls.{one_too_many}
 use Rattle.auction_input.specs.Submissions.{forms_of}
+use Rattle.auction_input.specs.declared.calls.TheConstants.{COUNTS_LEN}
+use Rattle.bid_book.specs.declared.records.TheConstants.{CALL_LIMIT}
 
 pub forms-append : (b : ℕ) (xs ys : List Offers) → forms_of b (xs ++ ys) ≡ forms_of b xs ++ forms_of b ys
 forms-append b [] ys = refl
@@ -18,9 +20,9 @@ forms-append b (x ∷ xs) ys = put (x.bidder == b) x (forms_of b (xs ++ ys)) (fo
 
 -- there is a count for each number, of the forms of that bidder
 abbrev pub AreCounted : List ℕ → List Offers → Type 0
-AreCounted counts forms = (b : ℕ) → b < 257 → slice_index_or counts b 0 ≡ length (forms_of b forms)
+AreCounted counts forms = (b : ℕ) → b < COUNTS_LEN → slice_index_or counts b 0 ≡ length (forms_of b forms)
 
-pub counted-more : (counts : List ℕ) (forms : List Offers) (form : Offers) (count : ℕ) → 257 ≤ length counts → form.bidder < 257 → AreCounted counts forms → count ≡ slice_index_or counts form.bidder 0 + 1
+pub counted-more : (counts : List ℕ) (forms : List Offers) (form : Offers) (count : ℕ) → COUNTS_LEN ≤ length counts → form.bidder < COUNTS_LEN → AreCounted counts forms → count ≡ slice_index_or counts form.bidder 0 + 1
     → AreCounted (slice_set counts form.bidder count) (forms ++ form ∷ [])
 counted-more counts forms form count long small counted one b within = elim (cases_Bool (form.bidder == b)) [
   | inl same ↦ (
@@ -39,9 +41,9 @@ counted-more counts forms form count long small counted one b within = elim (cas
 ]
 
 -- a bidder that has a call left
-pub call-left : (before : List Offers) (form : Offers) → length (forms_of form.bidder before) < 1000 → one_too_many before form ≡ None
-call-left before form few = elim (leb_tells 1000 (length (forms_of form.bidder before))) [ inl (_, most) ↦ absurd (omega arith) | inr (is, _) ↦ rw is refl ]
+pub call-left : (before : List Offers) (form : Offers) → length (forms_of form.bidder before) < CALL_LIMIT → one_too_many before form ≡ None
+call-left before form few = elim (leb_tells CALL_LIMIT (length (forms_of form.bidder before))) [ inl (_, most) ↦ absurd (omega arith) | inr (is, _) ↦ rw is refl ]
 
 -- a bidder that has none
-pub no-call-left : (before : List Offers) (form : Offers) → 1000 ≤ length (forms_of form.bidder before) → one_too_many before form ≡ Some (length before + 1)
-no-call-left before form many = elim (leb_tells 1000 (length (forms_of form.bidder before))) [ inl (is, _) ↦ rw is refl | inr (_, few) ↦ absurd (omega arith) ]
+pub no-call-left : (before : List Offers) (form : Offers) → CALL_LIMIT ≤ length (forms_of form.bidder before) → one_too_many before form ≡ Some (length before + 1)
+no-call-left before form many = elim (leb_tells CALL_LIMIT (length (forms_of form.bidder before))) [ inl (is, _) ↦ rw is refl | inr (_, few) ↦ absurd (omega arith) ]

@@ -7,7 +7,6 @@ pub mod InputTextFacts
 pub mod LimitFacts
 pub mod LotFacts
 pub mod PartFacts
-pub mod PlanFacts
 mod ReadFacts
 pub mod RecordFacts
 pub mod StageFacts

@@ -1,19 +1,23 @@
 -- The first line of a text, and what is before the next part.
 use Rattle.std.proofs.Common.{◌≡◌, ◌≤◌, ◌<◌, ◌+◌, ◌∷◌, ◌++◌, ◌∙◌, Bool, true, false, ℕ, zero, suc, List, [], drop, take, length, refl, ap, subst, sym, arith, ◌⊎◌, inl, inr}
-use Rattle.std.specs.Prelude.{◌==◌, Option, None, Some, codes, cond, filter, map, slice_index}
+use Rattle.std.specs.Prelude.{◌==◌, ◌||◌, IfOk, Option, None, Some, Result, Ok, Err, Vec, count_by, filter, find, map, slice_index}
 use Rattle.auction_terms.specs.FirstFault.{first_fault}
 use Rattle.auction_input.specs.declared.parts.PartFault.TheVariants as fault
 use Rattle.std.proofs.lemmas.Bool.Decides.{Decides-eqb}
 use Rattle.auction_terms.specs.Lines.{is_line_feed}
-use Rattle.std.proofs.lemmas.List.{append-nil, map-append}
-use Rattle.std.proofs.lemmas.List.Elements.{filter-append}
+use Rattle.std.proofs.lemmas.List.{length-map, map-append}
+use Rattle.std.proofs.lemmas.List.Sums.{length-filter}
 use Rattle.auction_input.specs.declared.part_kind.PartKind.{PartKind}
-use Rattle.auction_input.specs.declared.part_kind.PartKind.TheVariants as kind
 use Rattle.requests.specs.declared.request.Request.{Request}
 use Rattle.memchr.specs.Find.{FindsNeedle, OccursAt}
-use Rattle.auction_input.specs.Parts.{Hold, Part, bytes_before, onto_first_line, cut_lines, heads_part, input_fault, part_fault, part_names, parts_in, parts_named}
-use Rattle.auction_input.specs.inside.Parts.{HeldBytes, added, held_bytes, kind_named, name_of, part}
-use Rattle.auction_input.specs.declared.parts.Parts.{Parts}
+use Rattle.auction_input.specs.Parts.{Part, bytes_before, onto_first_line, cut_lines, heads_part, input_fault, name_of, part_fault, part_names, parts_held, parts_in, parts_named}
+use Rattle.auction_input.specs.PartsTold.{only_text}
+use Rattle.auction_input.specs.inside.Parts.{is_held, kind_named, kinds, known_count, part}
+use Rattle.auction_input.specs.declared.parts.Part as declared
+use Rattle.auction_terms.specs.Borrowed.{bytes_of}
+use Rattle.std.specs.Option.{option_map_or}
+use Rattle.std.specs.declared.alloc.Global.{Global}
+use denote.Ref.{Bor}
 use Rattle.requests.specs.declared.request.Request.TheVariants as request
 use Rattle.std.specs.List.{list_any}
 use Rattle.std.specs.Str.{bytes_eq}
@@ -68,48 +72,39 @@ parts-headed text n end some is cut bytes parts =
 -- ---- names and kinds
 
 module _ (name : List ℕ) where
-  -- the name of a kind stands among these names, and a name of no kind doesn't
+  -- the name of the kind that is found stands among these names, and where none is found it doesn't
   abbrev NamedIn : List (List ℕ) → Option PartKind → Type 0
   NamedIn names None = list_any (bytes_eq name) names ≡ false
   NamedIn names (Some k) = (name ≡ name_of k) × (list_any (bytes_eq name) names ≡ true)
 
-  same : (other : List ℕ) → bytes_eq name other ≡ true → name ≡ other
-  same other is = (bytes_eq-Decides name other).0 is
+  behind : (first : List ℕ) (names : List (List ℕ)) (found : Option PartKind) → bytes_eq name first ≡ false → NamedIn names found → NamedIn (first ∷ names) found
+  behind first names None other named = rw other named
+  behind first names (Some k) other named = (named.0, rw other named.1)
 
-  of-verify : (a b c d e f g : Bool) → bytes_eq name (codes "%rules") ≡ a → bytes_eq name (codes "%form") ≡ b → bytes_eq name (codes "%groups") ≡ c → bytes_eq name (codes "%solution") ≡ d → bytes_eq name (codes "%certificate") ≡ e → bytes_eq name (codes "%unique") ≡ f → bytes_eq name (codes "%tie") ≡ g
-      → NamedIn (codes "%rules" ∷ codes "%form" ∷ codes "%groups" ∷ codes "%solution" ∷ codes "%certificate" ∷ codes "%unique" ∷ codes "%tie" ∷ [])
-      (cond a (Some kind.Rules) (cond b (Some kind.Form) (cond c (Some kind.Groups) (cond d (Some kind.Solution) (cond e (Some kind.Certificate) (cond f (Some kind.Unique) (cond g (Some kind.Tie) None)))))))
-  of-verify true b c d e f g r o p s t u v = (same (codes "%rules") r, rw r refl)
-  of-verify false true c d e f g r o p s t u v = (same (codes "%form") o, rw (r, o) refl)
-  of-verify false false true d e f g r o p s t u v = (same (codes "%groups") p, rw (r, o, p) refl)
-  of-verify false false false true e f g r o p s t u v = (same (codes "%solution") s, rw (r, o, p, s) refl)
-  of-verify false false false false true f g r o p s t u v = (same (codes "%certificate") t, rw (r, o, p, s, t) refl)
-  of-verify false false false false false true g r o p s t u v = (same (codes "%unique") u, rw (r, o, p, s, t, u) refl)
-  of-verify false false false false false false true r o p s t u v = (same (codes "%tie") v, rw (r, o, p, s, t, u, v) refl)
-  of-verify false false false false false false false r o p s t u v = rw (r, o, p, s, t, u, v) refl
+  abbrev is_named : PartKind → Bool
+  is_named k = bytes_eq name (name_of k)
 
-  of-others : (a b c d e f g : Bool) → bytes_eq name (codes "%rules") ≡ a → bytes_eq name (codes "%form") ≡ b → bytes_eq name (codes "%groups") ≡ c → bytes_eq name (codes "%solution") ≡ d → bytes_eq name (codes "%certificate") ≡ e → bytes_eq name (codes "%unique") ≡ f → bytes_eq name (codes "%tie") ≡ g
-      → NamedIn (codes "%rules" ∷ codes "%form" ∷ codes "%groups" ∷ codes "%solution" ∷ [])
-      (cond a (Some kind.Rules) (cond b (Some kind.Form) (cond c (Some kind.Groups) (cond d (Some kind.Solution) (cond e (None) (cond f (None) (cond g (None) None)))))))
-  of-others true b c d e f g r o p s t u v = (same (codes "%rules") r, rw r refl)
-  of-others false true c d e f g r o p s t u v = (same (codes "%form") o, rw (r, o) refl)
-  of-others false false true d e f g r o p s t u v = (same (codes "%groups") p, rw (r, o, p) refl)
-  of-others false false false true e f g r o p s t u v = (same (codes "%solution") s, rw (r, o, p, s) refl)
-  of-others false false false false true f g r o p s t u v = rw (r, o, p, s) refl
-  of-others false false false false false true g r o p s t u v = rw (r, o, p, s) refl
-  of-others false false false false false false true r o p s t u v = rw (r, o, p, s) refl
-  of-others false false false false false false false r o p s t u v = rw (r, o, p, s) refl
+  named-in : (ks : List PartKind) → NamedIn (map name_of ks) (find is_named ks)
+  named-in [] = refl
+  named-in (k ∷ ks) = by (is_named k) refl (named-in ks)
+    where
+      by : (t : Bool) → is_named k ≡ t → NamedIn (map name_of ks) (find is_named ks) → NamedIn (map name_of (k ∷ ks)) (find is_named (k ∷ ks))
+      by true is rest = rw is ((bytes_eq-Decides name (name_of k)).0 is, ap (λ (t : Bool). t || list_any (bytes_eq name) (map name_of ks)) is)
+      by false is rest = rw is (behind (name_of k) (map name_of ks) (find is_named ks) is rest)
 
-  named-in : (asked : Request) → NamedIn (part_names asked) (kind_named asked name)
-  named-in (request.Verify workers) = of-verify _ _ _ _ _ _ _ refl refl refl refl refl refl refl
-  named-in (request.Explain bids) = of-verify _ _ _ _ _ _ _ refl refl refl refl refl refl refl
-  named-in asked = of-others _ _ _ _ _ _ _ refl refl refl refl refl refl refl
+  names-known : (asked : Request) → part_names asked ≡ map name_of (take (known_count asked) kinds)
+  names-known (request.Verify workers) = refl
+  names-known (request.Explain bids) = refl
+  names-known asked = refl
+
+  named-so : (asked : Request) (found : Option PartKind) → kind_named asked name ≡ found → NamedIn (part_names asked) found
+  named-so asked found is = rw (names-known asked) (subst (NamedIn (map name_of (take (known_count asked) kinds))) is (named-in (take (known_count asked) kinds)))
 
   pub name-told : (asked : Request) (k : PartKind) → kind_named asked name ≡ Some k → (name ≡ name_of k) × (list_any (bytes_eq name) (part_names asked) ≡ true)
-  name-told asked k is = subst (NamedIn (part_names asked)) is (named-in asked)
+  name-told asked k is = named-so asked (Some k) is
 
   pub no-name-told : (asked : Request) → kind_named asked name ≡ None → list_any (bytes_eq name) (part_names asked) ≡ false
-  no-name-told asked is = subst (NamedIn (part_names asked)) is (named-in asked)
+  no-name-told asked is = named-so asked None is
 
 -- ---- parts, by their names
 
@@ -121,95 +116,53 @@ known-part asked before p k is = rw (name-told p.name asked k is).1 refl
 pub unknown-part : (asked : Request) (before : List Part) (p : Part) → kind_named asked p.name ≡ None → part_fault asked before p ≡ Some (fault.PartName (length before + 1))
 unknown-part asked before p is = rw (no-name-told p.name asked is) refl
 
-one-part : (t : Bool) (p : Part) → map (λ (q : Part). q.bytes) (cond t (p ∷ []) []) ≡ cond t (p.bytes ∷ []) []
-one-part true p = refl
-one-part false p = refl
+abbrev held_part : declared.Part → Part
+held_part p = record { name = name_of p.kind; bytes = p.bytes.now }
 
--- the parts of one name, with one more part
-named-more : (name : List ℕ) (before : List Part) (p : Part) (t : Bool) → bytes_eq p.name name ≡ t → parts_named name (before ++ p ∷ []) ≡ parts_named name before ++ cond t (p.bytes ∷ []) []
-named-more name before p t is =
-    let has_name = λ (q : Part). bytes_eq q.name name in
-    let one : map (λ (q : Part). q.bytes) (filter has_name (p ∷ [])) ≡ cond t (p.bytes ∷ []) [] = rw is (one-part t p) in
-    ap (map (λ (q : Part). q.bytes)) (filter-append has_name before (p ∷ []))
-    ∙ map-append (λ (q : Part). q.bytes) (filter has_name before) (filter has_name (p ∷ []))
-    ∙ ap (λ xs. parts_named name before ++ xs) one
+abbrev so_named : List ℕ → List ℕ → Part
+so_named bytes name = record { name = name; bytes = bytes }
 
--- a part of that name is the last of them
-more : (name : List ℕ) (before : List Part) (p : Part) (old new : List (List ℕ)) → bytes_eq p.name name ≡ true → new ≡ old ++ p.bytes ∷ [] → old ≡ parts_named name before → new ≡ parts_named name (before ++ p ∷ [])
-more name before p old new is grown held = grown ∙ ap (λ xs. xs ++ p.bytes ∷ []) held ∙ sym (named-more name before p true is)
+-- one part more is held
+pub held-more : (old new : List declared.Part) (asked : Request) (name : List ℕ) (part : declared.Part) → kind_named asked name ≡ Some part.kind → new ≡ old ++ part ∷ []
+    → parts_held new ≡ parts_held old ++ so_named part.bytes.now name ∷ []
+held-more old new asked name part told grown =
+    ap parts_held grown ∙ map-append held_part old (part ∷ [])
+    ∙ ap (λ (n : List ℕ). parts_held old ++ so_named part.bytes.now n ∷ []) (sym (name-told name asked part.kind told).0)
 
--- and of another name none of them
-others : (name : List ℕ) (before : List Part) (p : Part) (old new : List (List ℕ)) → bytes_eq p.name name ≡ false → new ≡ old → old ≡ parts_named name before → new ≡ parts_named name (before ++ p ∷ [])
-others name before p old new is same held = same ∙ held ∙ sym (named-more name before p false is ∙ append-nil (parts_named name before))
+module _ (k : PartKind) where
+  abbrev held_named : List declared.Part → List (List ℕ)
+  held_named held = parts_named (name_of k) (parts_held held)
 
--- one more part is held behind those of its kind
-pub hold-more : (old new : Parts) (asked : Request) (before : List Part) (p : Part) (k : PartKind) → kind_named asked p.name ≡ Some k → held_bytes new ≡ added k p.bytes (held_bytes old) → Hold old before → Hold new (before ++ p ∷ [])
-hold-more old new asked before p k told grown hold = by k (name-told p.name asked k told).0 grown
-  where
-    by : (l : PartKind) → p.name ≡ name_of l → held_bytes new ≡ added l p.bytes (held_bytes old) → Hold new (before ++ p ∷ [])
-    by kind.Rules is same = record {
-      rules = more (codes "%rules") before p _ _ (rw is refl) (ap (λ (b : HeldBytes). b.rules) same) hold.rules;
-      forms = others (codes "%form") before p _ _ (rw is refl) (ap (λ (b : HeldBytes). b.forms) same) hold.forms;
-      groups = others (codes "%groups") before p _ _ (rw is refl) (ap (λ (b : HeldBytes). b.groups) same) hold.groups;
-      solutions = others (codes "%solution") before p _ _ (rw is refl) (ap (λ (b : HeldBytes). b.solutions) same) hold.solutions;
-      certificates = others (codes "%certificate") before p _ _ (rw is refl) (ap (λ (b : HeldBytes). b.certificates) same) hold.certificates;
-      uniques = others (codes "%unique") before p _ _ (rw is refl) (ap (λ (b : HeldBytes). b.uniques) same) hold.uniques;
-      ties = others (codes "%tie") before p _ _ (rw is refl) (ap (λ (b : HeldBytes). b.ties) same) hold.ties;
-    }
-    by kind.Form is same = record {
-      rules = others (codes "%rules") before p _ _ (rw is refl) (ap (λ (b : HeldBytes). b.rules) same) hold.rules;
-      forms = more (codes "%form") before p _ _ (rw is refl) (ap (λ (b : HeldBytes). b.forms) same) hold.forms;
-      groups = others (codes "%groups") before p _ _ (rw is refl) (ap (λ (b : HeldBytes). b.groups) same) hold.groups;
-      solutions = others (codes "%solution") before p _ _ (rw is refl) (ap (λ (b : HeldBytes). b.solutions) same) hold.solutions;
-      certificates = others (codes "%certificate") before p _ _ (rw is refl) (ap (λ (b : HeldBytes). b.certificates) same) hold.certificates;
-      uniques = others (codes "%unique") before p _ _ (rw is refl) (ap (λ (b : HeldBytes). b.uniques) same) hold.uniques;
-      ties = others (codes "%tie") before p _ _ (rw is refl) (ap (λ (b : HeldBytes). b.ties) same) hold.ties;
-    }
-    by kind.Groups is same = record {
-      rules = others (codes "%rules") before p _ _ (rw is refl) (ap (λ (b : HeldBytes). b.rules) same) hold.rules;
-      forms = others (codes "%form") before p _ _ (rw is refl) (ap (λ (b : HeldBytes). b.forms) same) hold.forms;
-      groups = more (codes "%groups") before p _ _ (rw is refl) (ap (λ (b : HeldBytes). b.groups) same) hold.groups;
-      solutions = others (codes "%solution") before p _ _ (rw is refl) (ap (λ (b : HeldBytes). b.solutions) same) hold.solutions;
-      certificates = others (codes "%certificate") before p _ _ (rw is refl) (ap (λ (b : HeldBytes). b.certificates) same) hold.certificates;
-      uniques = others (codes "%unique") before p _ _ (rw is refl) (ap (λ (b : HeldBytes). b.uniques) same) hold.uniques;
-      ties = others (codes "%tie") before p _ _ (rw is refl) (ap (λ (b : HeldBytes). b.ties) same) hold.ties;
-    }
-    by kind.Solution is same = record {
-      rules = others (codes "%rules") before p _ _ (rw is refl) (ap (λ (b : HeldBytes). b.rules) same) hold.rules;
-      forms = others (codes "%form") before p _ _ (rw is refl) (ap (λ (b : HeldBytes). b.forms) same) hold.forms;
-      groups = others (codes "%groups") before p _ _ (rw is refl) (ap (λ (b : HeldBytes). b.groups) same) hold.groups;
-      solutions = more (codes "%solution") before p _ _ (rw is refl) (ap (λ (b : HeldBytes). b.solutions) same) hold.solutions;
-      certificates = others (codes "%certificate") before p _ _ (rw is refl) (ap (λ (b : HeldBytes). b.certificates) same) hold.certificates;
-      uniques = others (codes "%unique") before p _ _ (rw is refl) (ap (λ (b : HeldBytes). b.uniques) same) hold.uniques;
-      ties = others (codes "%tie") before p _ _ (rw is refl) (ap (λ (b : HeldBytes). b.ties) same) hold.ties;
-    }
-    by kind.Certificate is same = record {
-      rules = others (codes "%rules") before p _ _ (rw is refl) (ap (λ (b : HeldBytes). b.rules) same) hold.rules;
-      forms = others (codes "%form") before p _ _ (rw is refl) (ap (λ (b : HeldBytes). b.forms) same) hold.forms;
-      groups = others (codes "%groups") before p _ _ (rw is refl) (ap (λ (b : HeldBytes). b.groups) same) hold.groups;
-      solutions = others (codes "%solution") before p _ _ (rw is refl) (ap (λ (b : HeldBytes). b.solutions) same) hold.solutions;
-      certificates = more (codes "%certificate") before p _ _ (rw is refl) (ap (λ (b : HeldBytes). b.certificates) same) hold.certificates;
-      uniques = others (codes "%unique") before p _ _ (rw is refl) (ap (λ (b : HeldBytes). b.uniques) same) hold.uniques;
-      ties = others (codes "%tie") before p _ _ (rw is refl) (ap (λ (b : HeldBytes). b.ties) same) hold.ties;
-    }
-    by kind.Unique is same = record {
-      rules = others (codes "%rules") before p _ _ (rw is refl) (ap (λ (b : HeldBytes). b.rules) same) hold.rules;
-      forms = others (codes "%form") before p _ _ (rw is refl) (ap (λ (b : HeldBytes). b.forms) same) hold.forms;
-      groups = others (codes "%groups") before p _ _ (rw is refl) (ap (λ (b : HeldBytes). b.groups) same) hold.groups;
-      solutions = others (codes "%solution") before p _ _ (rw is refl) (ap (λ (b : HeldBytes). b.solutions) same) hold.solutions;
-      certificates = others (codes "%certificate") before p _ _ (rw is refl) (ap (λ (b : HeldBytes). b.certificates) same) hold.certificates;
-      uniques = more (codes "%unique") before p _ _ (rw is refl) (ap (λ (b : HeldBytes). b.uniques) same) hold.uniques;
-      ties = others (codes "%tie") before p _ _ (rw is refl) (ap (λ (b : HeldBytes). b.ties) same) hold.ties;
-    }
-    by kind.Tie is same = record {
-      rules = others (codes "%rules") before p _ _ (rw is refl) (ap (λ (b : HeldBytes). b.rules) same) hold.rules;
-      forms = others (codes "%form") before p _ _ (rw is refl) (ap (λ (b : HeldBytes). b.forms) same) hold.forms;
-      groups = others (codes "%groups") before p _ _ (rw is refl) (ap (λ (b : HeldBytes). b.groups) same) hold.groups;
-      solutions = others (codes "%solution") before p _ _ (rw is refl) (ap (λ (b : HeldBytes). b.solutions) same) hold.solutions;
-      certificates = others (codes "%certificate") before p _ _ (rw is refl) (ap (λ (b : HeldBytes). b.certificates) same) hold.certificates;
-      uniques = others (codes "%unique") before p _ _ (rw is refl) (ap (λ (b : HeldBytes). b.uniques) same) hold.uniques;
-      ties = more (codes "%tie") before p _ _ (rw is refl) (ap (λ (b : HeldBytes). b.ties) same) hold.ties;
-    }
+  abbrev bytes_held : List declared.Part → List (List ℕ)
+  bytes_held held = bytes_of (map (λ (part : declared.Part). part.bytes) (filter (is_held k) held))
+
+  -- what is held of a kind are the parts of its name
+  pub texts_held : (held : List declared.Part) → bytes_held held ≡ held_named held
+  texts_held [] = refl
+  texts_held (part ∷ held) = by (is_held k part) refl (texts_held held)
+    where
+      by : (t : Bool) → is_held k part ≡ t → bytes_held held ≡ held_named held → bytes_held (part ∷ held) ≡ held_named (part ∷ held)
+      by true is rest = rw is (ap (λ (xs : List (List ℕ)). part.bytes.now ∷ xs) rest)
+      by false is rest = rw is rest
+
+  pub count_held : (held : List declared.Part) → count_by (is_held k) held ≡ length (held_named held)
+  count_held held =
+      let bytes = λ (part : declared.Part). part.bytes in
+      sym (length-filter (is_held k) held) ∙ sym (length-map (filter (is_held k) held) bytes) ∙ sym (length-map (map bytes (filter (is_held k) held)) (λ (text : Bor (List ℕ)). text.now)) ∙ ap length (texts_held held)
+
+  pub ok_texts : {E : Type 0} (held : List declared.Part) (r : Result (Vec (Bor (List ℕ)) Global) E) → IfOk r (λ texts. texts.items ≡ map (λ (part : declared.Part). part.bytes) (filter (is_held k) held))
+      → IfOk r (λ texts. bytes_of texts.items ≡ held_named held)
+  ok_texts held (Ok texts) is = ap bytes_of is ∙ texts_held held
+  ok_texts held (Err e) is = tt
+
+  pub first_held : (held : List declared.Part) (found : Option declared.Part) → find (is_held k) held ≡ found → option_map_or (λ (part : declared.Part). part.bytes.now) found [] ≡ only_text (held_named held)
+  first_held [] found is = ap (λ (o : Option declared.Part). option_map_or (λ (part : declared.Part). part.bytes.now) o []) (sym is)
+  first_held (part ∷ held) found is = by (is_held k part) refl (first_held held found)
+    where
+      by : (t : Bool) → is_held k part ≡ t → (find (is_held k) held ≡ found → option_map_or (λ (p : declared.Part). p.bytes.now) found [] ≡ only_text (held_named held))
+          → option_map_or (λ (p : declared.Part). p.bytes.now) found [] ≡ only_text (held_named (part ∷ held))
+      by true here rest = rw here (ap (λ (o : Option declared.Part). option_map_or (λ (p : declared.Part). p.bytes.now) o []) (sym (rw here at is)))
+      by false other rest = rw other (rest (rw other at is))
 
 -- where nothing is before the first part, the first fault is that of a part
 pub fault-of-parts : (asked : Request) (text : List ℕ) → bytes_before (cut_lines text) ≡ [] → input_fault asked text ≡ first_fault (part_fault asked) [] (parts_in (cut_lines text))

@@ -4,7 +4,7 @@ use Rattle.std.specs.Fmt.{digits}
 use Rattle.bid_forms.specs.declared.form_text.FormFault.TheVariants as form
 use Rattle.mps_meaning.specs.declared.fault.FaultKind.TheVariants as kind
 use Rattle.auction_input.specs.Line.{line}
-use Rattle.auction_input.specs.declared.refusal.CountedPart.TheVariants as counted
+use Rattle.auction_input.specs.declared.part_kind.PartKind.TheVariants as part
 use Rattle.auction_input.specs.declared.refusal.Refusal.TheVariants as refusal
 use Rattle.program_faults.specs.declared.certificate_fault.FaultKind.TheVariants as certificate
 
@@ -24,7 +24,7 @@ row_broken : line (refusal.RowBroken 1 (codes "B1")) ≡ codes "wdp: solution 1:
 unfolding digits
 row_broken = refl
 
-claims : line (refusal.PartCount counted.Claims) ≡ codes "wdp: input: wrong number of unique and tie\n"
+claims : line (refusal.PartCount part.Unique) ≡ codes "wdp: input: wrong number of unique and tie\n"
 claims = refl
 
 unique_refused : line (refusal.Unique (record { line = 12; kind = certificate.NotShown })) ≡ codes "wdp: unique: 9 NotShown at line 12\n"

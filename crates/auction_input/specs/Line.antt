@@ -3,7 +3,7 @@ use Rattle.std.specs.Prelude.{◌⊎◌, ◌++◌, ℕ, List, [], ◌∷◌, Opt
 use Rattle.std.specs.Io.KnownBytes.{Appends}
 use Rattle.auction_input.specs.declared.input.InputFault.TheVariants as input
 use Rattle.auction_input.specs.declared.parts.PartFault.TheVariants as part
-use Rattle.auction_input.specs.declared.refusal.CountedPart.TheVariants as counted
+use Rattle.auction_input.specs.declared.part_kind.PartKind.TheVariants as kind_of_part
 use Rattle.auction_input.specs.declared.refusal.Refusal.TheVariants as refusal
 use Rattle.auction_input.specs.declared.refusal.Refusal.{Refusal}
 use Rattle.auction_input.specs.declared.round.RoundFault.TheVariants as round
@@ -37,11 +37,12 @@ refusal_text (refusal.Input input.ReadFailed) = codes "input: read failed"
 refusal_text (refusal.Input input.TooLarge) = codes "input: too large"
 refusal_text (refusal.Parts part.BeforeFirst) = codes "input: bytes before the first part"
 refusal_text (refusal.Parts (part.PartName place)) = codes "input: part " ++ (decimal place ++ codes " not known")
-refusal_text (refusal.PartCount counted.Rules) = codes "input: wrong number of rules"
-refusal_text (refusal.PartCount counted.Groups) = codes "input: wrong number of groups"
-refusal_text (refusal.PartCount counted.Solutions) = codes "input: wrong number of solutions"
-refusal_text (refusal.PartCount counted.Certificates) = codes "input: wrong number of certificates"
-refusal_text (refusal.PartCount counted.Claims) = codes "input: wrong number of unique and tie"
+refusal_text (refusal.PartCount kind_of_part.Rules) = codes "input: wrong number of rules"
+refusal_text (refusal.PartCount kind_of_part.Form) = codes "input: wrong number of forms"
+refusal_text (refusal.PartCount kind_of_part.Groups) = codes "input: wrong number of groups"
+refusal_text (refusal.PartCount kind_of_part.Solution) = codes "input: wrong number of solutions"
+refusal_text (refusal.PartCount kind_of_part.Certificate) = codes "input: wrong number of certificates"
+refusal_text (refusal.PartCount claimed) = codes "input: wrong number of unique and tie"
 refusal_text (refusal.Rules f) = codes "rules: " ++ rules_fault_text f
 refusal_text (refusal.Form n f) = (codes "form " ++ (decimal n ++ codes ": ")) ++ form_fault_text f
 refusal_text (refusal.Groups f) = codes "groups: " ++ group_fault_text f

@@ -1,14 +1,16 @@
 -- The parts of the input. A line that begins with a percent sign heads a part, whose bytes run up to the next such line.
-use Rattle.std.specs.Prelude.{◌≡◌, ◌==◌, ◌+◌, ◌++◌, Bool, ⊤, ℕ, List, [], ◌∷◌, Option, None, Some, Result, Ok, Err, codes, filter, if◌then◌else◌, length, map, slice_index, slice_index_or}
+use Rattle.std.specs.Prelude.{Vec, ◌≡◌, ◌==◌, ◌+◌, ◌++◌, Bool, ⊤, ℕ, List, [], ◌∷◌, Option, None, Some, Result, Ok, Err, codes, filter, if◌then◌else◌, length, map, slice_index, slice_index_or}
 use Rattle.std.specs.Option.{option_or}
 use Rattle.std.specs.List.{list_any}
 use Rattle.std.specs.Str.{bytes_eq}
+use Rattle.std.specs.declared.alloc.Global.{Global}
 use Rattle.auction_input.specs.declared.parts.PartFault.TheVariants as fault
 use Rattle.auction_input.specs.declared.parts.PartFault.{PartFault}
-use Rattle.auction_input.specs.declared.parts.Parts.{Parts}
+use Rattle.auction_input.specs.declared.part_kind.PartKind.TheVariants as kind
+use Rattle.auction_input.specs.declared.part_kind.PartKind.{PartKind}
+use Rattle.auction_input.specs.declared.parts.Part as declared
 use Rattle.requests.specs.declared.request.Request.TheVariants as request
 use Rattle.requests.specs.declared.request.Request.{Request}
-use Rattle.auction_terms.specs.Borrowed.{bytes_of}
 use Rattle.auction_terms.specs.FirstFault.{first_fault}
 use Rattle.auction_terms.specs.Lines.{is_line_feed, lines_of}
 
@@ -60,18 +62,22 @@ input_fault asked text =
 abbrev pub parts_named : List ℕ → List Part → List (List ℕ)
 parts_named name parts = map (λ p. p.bytes) (filter (λ (p : Part). bytes_eq p.name name) parts)
 
--- the bytes of parts are held by their names
-pub record Hold (held : Parts) (parts : List Part) : Type 0 where
-  pub rules : bytes_of held.rules.items ≡ parts_named (codes "%rules") parts
-  pub forms : bytes_of held.forms.items ≡ parts_named (codes "%form") parts
-  pub groups : bytes_of held.groups.items ≡ parts_named (codes "%groups") parts
-  pub solutions : bytes_of held.solutions.items ≡ parts_named (codes "%solution") parts
-  pub certificates : bytes_of held.certificates.items ≡ parts_named (codes "%certificate") parts
-  pub uniques : bytes_of held.uniques.items ≡ parts_named (codes "%unique") parts
-  pub ties : bytes_of held.ties.items ≡ parts_named (codes "%tie") parts
+-- the name in the line that heads a part of a kind
+abbrev pub name_of : PartKind → List ℕ
+name_of kind.Rules = codes "%rules"
+name_of kind.Form = codes "%form"
+name_of kind.Groups = codes "%groups"
+name_of kind.Solution = codes "%solution"
+name_of kind.Certificate = codes "%certificate"
+name_of kind.Unique = codes "%unique"
+name_of kind.Tie = codes "%tie"
+
+-- what is held of parts, by the names of their kinds
+abbrev pub parts_held : List declared.Part → List Part
+parts_held held = map (λ (part : declared.Part). record { name = name_of part.kind; bytes = part.bytes.now }) held
 
 -- the parts, where the input has no fault, and else the first fault; or memory was short
-abbrev pub TellsParts : Request → Result Parts PartFault → List ℕ → Type 0
-TellsParts asked (Ok held) text = (input_fault asked text ≡ None) × Hold held (parts_in (cut_lines text))
+abbrev pub TellsParts : Request → Result (Vec declared.Part Global) PartFault → List ℕ → Type 0
+TellsParts asked (Ok held) text = (input_fault asked text ≡ None) × (parts_held held.items ≡ parts_in (cut_lines text))
 TellsParts asked (Err fault.OutOfMemory) text = ⊤
 TellsParts asked (Err f) text = input_fault asked text ≡ Some f

@@ -1,6 +1,6 @@
 -- The parts of an input, as many as a command takes.
-use Rattle.std.specs.Prelude.{ℕ, List, [], Result, Ok, codes, length, slice_index_or}
-use Rattle.auction_input.specs.Parts.{Part, cut_lines, input_fault, parts_in, parts_named}
+use Rattle.std.specs.Prelude.{ℕ, List, [], Result, Ok, slice_index_or}
+use Rattle.auction_input.specs.Parts.{Part, cut_lines, input_fault, parts_in}
 use Rattle.auction_input.specs.Plan.{miscounted}
 use Rattle.auction_input.specs.declared.refusal.Refusal.TheVariants as refusal
 use Rattle.auction_input.specs.declared.refusal.Refusal.{Refusal}
@@ -10,8 +10,7 @@ use Rattle.auction_terms.specs.Stages.{and_then, refused_as, unless}
 abbrev pub parts_told : Request → List ℕ → Result (List Part) Refusal
 parts_told asked input =
     and_then (refused_as refusal.Parts (unless (input_fault asked input) (Ok (parts_in (cut_lines input))))) (λ parts.
-    let count : List ℕ → ℕ = λ name. length (parts_named name parts) in
-    refused_as refusal.PartCount (unless (miscounted asked (count (codes "%rules")) (count (codes "%groups")) (count (codes "%solution"))) (Ok parts)))
+    refused_as refusal.PartCount (unless (miscounted asked parts) (Ok parts)))
 
 -- the text of the one part of a kind; where there is none, no text
 abbrev pub only_text : List (List ℕ) → List ℕ

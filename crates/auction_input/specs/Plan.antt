@@ -1,7 +1,8 @@
 -- How many parts of groups and of solutions each command takes, beside one of rules and any number of forms.
-use Rattle.std.specs.Prelude.{◌==◌, Bool, ℕ, true, [], ◌∷◌, Option, nat_le}
-use Rattle.auction_input.specs.declared.refusal.CountedPart.TheVariants as counted
-use Rattle.auction_input.specs.declared.refusal.CountedPart.{CountedPart}
+use Rattle.std.specs.Prelude.{◌==◌, Bool, ℕ, List, true, [], ◌∷◌, Option, codes, length, nat_le}
+use Rattle.auction_input.specs.Parts.{Part, parts_named}
+use Rattle.auction_input.specs.declared.part_kind.PartKind.TheVariants as kind
+use Rattle.auction_input.specs.declared.part_kind.PartKind.{PartKind}
 use Rattle.requests.specs.declared.request.Request.TheVariants as request
 use Rattle.requests.specs.declared.request.Request.{Request}
 use Rattle.auction_terms.specs.FirstFault.{first_failed}
@@ -15,9 +16,9 @@ takes (request.Verify workers) groups solutions = (groups == 1, true)
 takes (request.Explain bids) groups solutions = (nat_le groups 1, true)
 takes asked groups solutions = (groups == 1, solutions == 0)
 
--- of so many parts of rules, groups and solutions, the first kind of which there are too few or too many
-abbrev pub miscounted : Request → ℕ → ℕ → ℕ → Option CountedPart
-miscounted asked rules groups solutions = first_failed (
-    (rules == 1, counted.Rules) ∷
-    ((takes asked groups solutions).0, counted.Groups) ∷
-    ((takes asked groups solutions).1, counted.Solutions) ∷ [])
+-- the first kind of which there are too few parts or too many
+abbrev pub miscounted : Request → List Part → Option PartKind
+miscounted asked parts =
+    let count : List ℕ → ℕ = λ name. length (parts_named name parts) in
+    let taken = takes asked (count (codes "%groups")) (count (codes "%solution")) in
+    first_failed ((count (codes "%rules") == 1, kind.Rules) ∷ (taken.0, kind.Groups) ∷ (taken.1, kind.Solution) ∷ [])

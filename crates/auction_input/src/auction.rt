@@ -1,27 +1,27 @@
 //! The auction that an input tells.
 
-ghost use Rattle.std.specs.Prelude.{◌≡◌, ◌≢◌, All, IfErr, IfOk, List, Ok};
+ghost use Rattle.std.specs.Prelude.{◌≡◌, ◌≢◌, All, IfErr, IfOk, Ok, codes};
 ghost use Rattle.auction_input.specs.Auction.{auction_told};
 ghost use Rattle.auction_input.specs.Refused.{Refuses};
 ghost use Rattle.auction_input.specs.Settled.{HoldsForms, RefusesAuction, held};
-ghost use Rattle.auction_terms.specs.Borrowed.{bytes_of};
-ghost use Rattle.auction_input.specs.Parts.{Hold, Part};
+ghost use Rattle.auction_input.specs.Parts.{parts_held, parts_named};
 ghost use Rattle.auction_input.specs.PartsTold.{only_text, parts_told};
 ghost use Rattle.auction_input.specs.Sold.{IsSold};
-ghost use Rattle.auction_input.specs.inside.Auctions.{HasRun, RefusesInputs, RefusesRun, Tell};
+ghost use Rattle.auction_input.specs.inside.Auctions.{HasRun, HoldTexts, RefusesInputs, RefusesRun, Tell};
 ghost use Rattle.bid_forms.specs.Offers.{Meets};
 ghost use Rattle.auction_input.specs.TextsTold.{groups_told, terms_told};
 
 use crate::calls::check_calls;
-use crate::parts::{Parts, split_parts};
-use crate::reading::{miscounted, only_text, read_forms};
+use crate::part_kind::PartKind;
+use crate::parts::{Part, split_parts, text_of, texts_of};
+use crate::reading::{miscounted, read_forms};
 use crate::refusal::Refusal;
 use crate::round::close_round;
 use auction_terms::{Groups, Rules, read_groups, read_rules};
 use bid_desk::ClosedBook;
 use bid_forms::Form;
 use requests::Request;
-use std::alloc::Global;
+use std::alloc::{AllocError, Global};
 use std::sync::Wait;
 use std::thread::Threads;
 
@@ -38,50 +38,75 @@ pub struct Auction<'t> {
 }
 
 // The parts of a text, as many as the request takes.
-fn read_parts<'t>(alloc: Global, request: &Request, text: &'t [u8]) -> Result<Parts<'t>, Refusal>
-    ensures told { IfOk result (λ held. (parts : List Part)
-        × (parts_told request.now text.now ≡ Ok parts) × Hold held parts) }
+fn read_parts<'t>(
+    alloc: Global,
+    request: &Request,
+    text: &'t [u8],
+) -> Result<Vec<Part<'t>>, Refusal>
+    ensures told { IfOk result (λ held. parts_told request.now text.now
+        ≡ Ok (parts_held held.items)) }
     ensures refuses { IfErr result (Refuses (parts_told request.now text.now)) }
 {
     let parts = split_parts(alloc, request, text)?;
-    match miscounted(request, &parts) {
+    match miscounted(request, parts.as_slice()) {
         None => Ok(parts),
-        Some(part) => Err(Refusal::PartCount(part)),
+        Some(kind) => Err(Refusal::PartCount(kind)),
     }
 }
 
-// The rules in the one text of them, with a fault as a refusal.
-fn rules_in(alloc: Global, texts: &[&[u8]]) -> Result<Rules, Refusal>
-    ensures told { IfOk result (λ rules. terms_told (only_text (bytes_of texts.now)) ≡ Ok rules) }
-    ensures refuses { IfErr result (Refuses (terms_told (only_text (bytes_of texts.now)))) }
-{
-    Ok(read_rules(alloc, only_text(texts))?)
+// The texts that no round is run by: of solutions and of certificates, and of what is claimed of other outcomes.
+#[derive(Drop)]
+struct Beside<'t> {
+    solutions: Vec<&'t [u8]>,
+    certificates: Vec<&'t [u8]>,
+    uniques: Vec<&'t [u8]>,
+    ties: Vec<&'t [u8]>,
 }
 
-// The groups in the one text of them, with a fault as a refusal.
-fn groups_in(alloc: Global, texts: &[&[u8]], rules: &Rules) -> Result<Groups, Refusal>
-    ensures told { IfOk result (λ groups. groups_told rules.now (only_text (bytes_of texts.now))
-        ≡ Ok groups) }
-    ensures refuses { IfErr result (Refuses (groups_told rules.now
-        (only_text (bytes_of texts.now)))) }
+fn texts_beside<'t>(alloc: Global, parts: &[Part<'t>]) -> Result<Beside<'t>, AllocError>
+    ensures { IfOk result (HoldTexts (parts_held parts.now)) }
 {
-    Ok(read_groups(alloc, only_text(texts), rules)?)
+    Ok(Beside {
+        solutions: texts_of(alloc, parts, PartKind::Solution)?,
+        certificates: texts_of(alloc, parts, PartKind::Certificate)?,
+        uniques: texts_of(alloc, parts, PartKind::Unique)?,
+        ties: texts_of(alloc, parts, PartKind::Tie)?,
+    })
+}
+
+// The rules in a text, with a fault as a refusal.
+fn rules_in(alloc: Global, text: &[u8]) -> Result<Rules, Refusal>
+    ensures told { IfOk result (λ rules. terms_told text.now ≡ Ok rules) }
+    ensures refuses { IfErr result (Refuses (terms_told text.now)) }
+{
+    Ok(read_rules(alloc, text)?)
+}
+
+// The groups in a text, with a fault as a refusal.
+fn groups_in(alloc: Global, text: &[u8], rules: &Rules) -> Result<Groups, Refusal>
+    ensures told { IfOk result (λ groups. groups_told rules.now text.now ≡ Ok groups) }
+    ensures refuses { IfErr result (Refuses (groups_told rules.now text.now)) }
+{
+    Ok(read_groups(alloc, text, rules)?)
 }
 
 // The forms and the groups of these parts, if each form has a call of its bidder's left.
 fn read_offers(
     rt: &(impl Threads + Sync),
     alloc: Global,
-    parts: &Parts<'_>,
+    parts: &[Part<'_>],
     rules: &Rules,
 ) -> Result<(Vec<Form>, Groups), Refusal>
-    requires rules { terms_told (only_text (bytes_of parts.now.rules.items)) ≡ Ok rules.now }
-    ensures told { IfOk result (λ read. Tell parts.now rules.now read.0.items read.1) }
+    requires rules { terms_told (only_text (parts_named (codes "%rules") (parts_held parts.now)))
+        ≡ Ok rules.now }
+    ensures told { IfOk result (λ read. Tell (parts_held parts.now) rules.now read.0.items
+        read.1) }
     ensures meet { IfOk result (λ read. All (Meets rules.now) read.0.items) }
-    ensures refuses { IfErr result (RefusesInputs parts.now) }
+    ensures refuses { IfErr result (RefusesInputs (parts_held parts.now)) }
 {
-    let forms = read_forms(rt, alloc, parts.forms.as_slice(), rules)?;
-    let groups = groups_in(alloc, parts.groups.as_slice(), rules)?;
+    let texts = texts_of(alloc, parts, PartKind::Form)?;
+    let forms = read_forms(rt, alloc, texts.as_slice(), rules)?;
+    let groups = groups_in(alloc, text_of(parts, PartKind::Groups), rules)?;
     check_calls(forms.as_slice())?;
     Ok((forms, groups))
 }
@@ -89,13 +114,13 @@ fn read_offers(
 // Runs the round over the forms of these parts. With its book come the groups.
 fn close_auction<R: Threads + Wait + Sync + AllocGlobal>(
     rt: &R,
-    parts: &Parts<'_>,
+    parts: &[Part<'_>],
 ) -> Result<(ClosedBook, Groups), Refusal>
-    ensures told { IfOk result (λ run. HasRun parts.now run.0 run.1) }
-    ensures refuses { IfErr result (RefusesRun parts.now) }
+    ensures told { IfOk result (λ run. HasRun (parts_held parts.now) run.0 run.1) }
+    ensures refuses { IfErr result (RefusesRun (parts_held parts.now)) }
 {
     let alloc: Global = rt.alloc();
-    let rules = rules_in(alloc, parts.rules.as_slice())?;
+    let rules = rules_in(alloc, text_of(parts, PartKind::Rules))?;
     let (forms, groups) = read_offers(rt, alloc, parts, &rules)?;
     let book = close_round(rt, rules, forms)?;
     Ok((book, groups))
@@ -114,16 +139,16 @@ pub fn read_auction<'t, R: Threads + Wait + Sync + AllocGlobal>(
     ensures refuses { IfErr result (RefusesAuction request.now text.now) }
 {
     let parts = read_parts(rt.alloc(), request, text)?;
-    let (book, groups) = close_auction(rt, &parts)?;
+    let beside = texts_beside(rt.alloc(), parts.as_slice())?;
+    let (book, groups) = close_auction(rt, parts.as_slice())?;
     // Its contract says that the book is closed.
     let _history = book.history();
-    let Parts {
+    let Beside {
         solutions,
         certificates,
         uniques,
         ties,
-        ..
-    } = parts;
+    } = beside;
     Ok(Auction {
         book,
         groups,

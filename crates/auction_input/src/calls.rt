@@ -5,11 +5,12 @@ ghost use Rattle.auction_input.specs.Calls.{one_too_many};
 ghost use Rattle.auction_terms.specs.FirstFault.{first_fault};
 
 use crate::refusal::Refusal;
+use auction_limits::MOST_BIDDERS;
 use bid_book::CALL_LIMIT;
 use bid_forms::Form;
 
 // A count for each bidder's number, from 0 to the greatest.
-const COUNTS_LEN: usize = 257;
+const COUNTS_LEN: usize = MOST_BIDDERS + 1;
 
 /// Tests that each form finds a call left of its bidder, as every form is one recorded call.
 pub fn check_calls(forms: &[Form]) -> Result<(), Refusal>

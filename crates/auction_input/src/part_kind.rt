@@ -1,7 +1,8 @@
 //! The kinds of parts.
 
-ghost use Rattle.std.specs.Prelude.{◌≡◌};
-ghost use Rattle.auction_input.specs.inside.Parts.{for_verify, kind_named};
+ghost use Rattle.std.specs.Prelude.{◌≡◌, ◌≤◌};
+ghost use Rattle.auction_input.specs.Parts.{name_of};
+ghost use Rattle.auction_input.specs.inside.Parts.{kind_named, known_count};
 
 use requests::Request;
 
@@ -17,13 +18,42 @@ pub enum PartKind {
     Tie,
 }
 
-// A kind that is one for `verify`, and for `explain`, which lets it be.
-fn for_verify(request: &Request, kind: PartKind) -> Option<PartKind>
-    ensures { result ≡ for_verify request.now kind }
+// Those that every request knows come first.
+const KINDS: [PartKind; 7] = [
+    PartKind::Rules,
+    PartKind::Form,
+    PartKind::Groups,
+    PartKind::Solution,
+    PartKind::Certificate,
+    PartKind::Unique,
+    PartKind::Tie,
+];
+
+impl PartKind {
+    /// The name in the line that heads a part of this kind.
+    pub fn name(self) -> &'static [u8]
+        ensures { result.now ≡ name_of self }
+    {
+        match self {
+            PartKind::Rules => b"%rules".as_slice(),
+            PartKind::Form => b"%form".as_slice(),
+            PartKind::Groups => b"%groups".as_slice(),
+            PartKind::Solution => b"%solution".as_slice(),
+            PartKind::Certificate => b"%certificate".as_slice(),
+            PartKind::Unique => b"%unique".as_slice(),
+            PartKind::Tie => b"%tie".as_slice(),
+        }
+    }
+}
+
+// How many of the kinds a request knows: `verify` all, and `explain`, which lets them be.
+fn known_count(request: &Request) -> usize
+    ensures known { result ≡ known_count request.now }
+    ensures few { result ≤ 7 }
 {
     match request {
-        Request::Verify { workers: _ } | Request::Explain { bids: _ } => Some(kind),
-        _ => None,
+        Request::Verify { workers: _ } | Request::Explain { bids: _ } => 7,
+        _ => 4,
     }
 }
 
@@ -31,21 +61,6 @@ fn for_verify(request: &Request, kind: PartKind) -> Option<PartKind>
 pub fn kind_named(request: &Request, name: &[u8]) -> Option<PartKind>
     ensures { result ≡ kind_named request.now name.now }
 {
-    if name == b"%rules".as_slice() {
-        Some(PartKind::Rules)
-    } else if name == b"%form".as_slice() {
-        Some(PartKind::Form)
-    } else if name == b"%groups".as_slice() {
-        Some(PartKind::Groups)
-    } else if name == b"%solution".as_slice() {
-        Some(PartKind::Solution)
-    } else if name == b"%certificate".as_slice() {
-        for_verify(request, PartKind::Certificate)
-    } else if name == b"%unique".as_slice() {
-        for_verify(request, PartKind::Unique)
-    } else if name == b"%tie".as_slice() {
-        for_verify(request, PartKind::Tie)
-    } else {
-        None
-    }
+    let known = &KINDS[..known_count(request)];
+    known.iter().copied().find(|kind| name == kind.name())
 }

@@ -1,9 +1,11 @@
 //! The parts of the input.
 
-ghost use Rattle.std.specs.Prelude.{◌≡◌, ◌≤◌, ◌<◌, ◌++◌, ◌∷◌, ◌⊎◌, [], OnOk, drop, length, take, true};
-ghost use Rattle.auction_input.specs.Parts.{TellsParts, heads_part, bytes_before, cut_lines, parts_in};
+ghost use Rattle.std.specs.Prelude.{◌≡◌, ◌≤◌, ◌<◌, ◌++◌, ◌∷◌, ◌⊎◌, [], IfOk, OnOk, drop, filter, find, length, map, take, true};
+ghost use Rattle.std.specs.Option.{option_copied};
+ghost use Rattle.auction_input.specs.Parts.{TellsParts, heads_part, bytes_before, cut_lines, name_of, parts_held, parts_in, parts_named};
+ghost use Rattle.auction_input.specs.PartsTold.{only_text};
 ghost use Rattle.auction_terms.specs.Borrowed.{bytes_of};
-ghost use Rattle.auction_input.specs.inside.Parts.{added, held_bytes, part, part_name};
+ghost use Rattle.auction_input.specs.inside.Parts.{is_held, part, part_name};
 
 use crate::part_kind::{PartKind, kind_named};
 use auction_terms::LineReader;
@@ -11,16 +13,11 @@ use memchr::memmem;
 use requests::Request;
 use std::alloc::{AllocError, Global};
 
-/// The bytes of the parts of each kind, in the order of the input.
-#[derive(Drop)]
-pub struct Parts<'t> {
-    pub rules: Vec<&'t [u8]>,
-    pub forms: Vec<&'t [u8]>,
-    pub groups: Vec<&'t [u8]>,
-    pub solutions: Vec<&'t [u8]>,
-    pub certificates: Vec<&'t [u8]>,
-    pub uniques: Vec<&'t [u8]>,
-    pub ties: Vec<&'t [u8]>,
+/// A part of the input: its kind, and the bytes behind the line that heads it.
+#[derive(Clone, Copy)]
+pub struct Part<'t> {
+    pub kind: PartKind,
+    pub bytes: &'t [u8],
 }
 
 /// Why an input has no parts. A part is counted from 1.
@@ -110,25 +107,10 @@ fn first_part(text: &[u8]) -> FirstPart<'_>
     FirstPart { head, bytes, rest }
 }
 
-// Adds the bytes of a part to those of its kind.
-fn add_part<'t>(parts: &mut Parts<'t>, kind: PartKind, bytes: &'t [u8]) -> Result<(), AllocError>
-    ensures { OnOk result (held_bytes parts.new ≡ added kind bytes.now (held_bytes parts.old)) }
+fn add_part<'t>(parts: &mut Vec<Part<'t>>, part: Part<'t>) -> Result<(), AllocError>
+    ensures { OnOk result (parts.new.items ≡ parts.old.items ++ part.entry ∷ []) }
 {
-    match kind {
-        PartKind::Rules => add_bytes(&mut parts.rules, bytes),
-        PartKind::Form => add_bytes(&mut parts.forms, bytes),
-        PartKind::Groups => add_bytes(&mut parts.groups, bytes),
-        PartKind::Solution => add_bytes(&mut parts.solutions, bytes),
-        PartKind::Certificate => add_bytes(&mut parts.certificates, bytes),
-        PartKind::Unique => add_bytes(&mut parts.uniques, bytes),
-        PartKind::Tie => add_bytes(&mut parts.ties, bytes),
-    }
-}
-
-fn add_bytes<'t>(list: &mut Vec<&'t [u8]>, bytes: &'t [u8]) -> Result<(), AllocError>
-    ensures { OnOk result (bytes_of list.new.items ≡ bytes_of list.old.items ++ bytes.now ∷ []) }
-{
-    list.push(bytes)?;
+    parts.push(part)?;
     Ok(())
 }
 
@@ -137,31 +119,81 @@ pub fn split_parts<'t>(
     alloc: Global,
     request: &Request,
     text: &'t [u8],
-) -> Result<Parts<'t>, PartFault>
+) -> Result<Vec<Part<'t>>, PartFault>
     ensures { TellsParts request.now result text.now }
 {
     if body_end(text) > 0 {
         return Err(PartFault::BeforeFirst);
     }
-    let mut parts = Parts {
-        rules: Vec::new(alloc),
-        forms: Vec::new(alloc),
-        groups: Vec::new(alloc),
-        solutions: Vec::new(alloc),
-        certificates: Vec::new(alloc),
-        uniques: Vec::new(alloc),
-        ties: Vec::new(alloc),
-    };
+    let mut parts = Vec::new(alloc);
     let mut rest = text;
-    let mut count = 0;
     while !rest.is_empty() {
         let first = first_part(rest);
         let Some(kind) = kind_named(request, head_name(first.head)) else {
-            return Err(PartFault::PartName { part: count + 1 });
+            return Err(PartFault::PartName {
+                part: parts.len() + 1,
+            });
         };
-        add_part(&mut parts, kind, first.bytes)?;
+        let bytes = first.bytes;
+        add_part(&mut parts, Part { kind, bytes })?;
         rest = first.rest;
-        count += 1;
     }
     Ok(parts)
+}
+
+// Whether a part is of a kind.
+fn is_of(part: &Part<'_>, kind: PartKind) -> bool
+    ensures { result ≡ is_held kind part.now }
+{
+    part.kind == kind
+}
+
+/// How many parts there are of a kind.
+pub fn count_of(parts: &[Part<'_>], kind: PartKind) -> usize
+    ensures { result ≡ length (parts_named (name_of kind) (parts_held parts.now)) }
+{
+    parts.iter().filter(|part| is_of(*part, kind)).count()
+}
+
+fn texts_held<'t>(
+    alloc: Global,
+    parts: &[Part<'t>],
+    kind: PartKind,
+) -> Result<Vec<&'t [u8]>, AllocError>
+    ensures { IfOk result (λ texts. texts.items
+        ≡ map (λ part. part.bytes) (filter (is_held kind) parts.now)) }
+{
+    parts
+        .iter()
+        .filter(|part| is_of(*part, kind))
+        .map(|part| part.bytes)
+        .collect(alloc)
+}
+
+/// The bytes of the parts of a kind, in the order of the input.
+pub fn texts_of<'t>(
+    alloc: Global,
+    parts: &[Part<'t>],
+    kind: PartKind,
+) -> Result<Vec<&'t [u8]>, AllocError>
+    ensures { IfOk result (λ texts. bytes_of texts.items
+        ≡ parts_named (name_of kind) (parts_held parts.now)) }
+{
+    texts_held(alloc, parts, kind)
+}
+
+fn first_held<'p, 't>(parts: &'p [Part<'t>], kind: PartKind) -> Option<&'p Part<'t>>
+    ensures { option_copied result ≡ find (is_held kind) parts.now }
+{
+    parts.iter().find(|part| is_of(*part, kind))
+}
+
+/// The bytes of the first part of a kind; where there is none, no text.
+pub fn text_of<'t>(parts: &[Part<'t>], kind: PartKind) -> &'t [u8]
+    ensures { result.now ≡ only_text (parts_named (name_of kind) (parts_held parts.now)) }
+{
+    match first_held(parts, kind) {
+        Some(part) => part.bytes,
+        None => b"".as_slice(),
+    }
 }

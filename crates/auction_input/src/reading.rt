@@ -6,15 +6,16 @@ ghost use Rattle.bid_forms.specs.Offers.{Meets};
 ghost use Rattle.auction_input.specs.Refused.{Refuses};
 ghost use Rattle.auction_input.specs.inside.InputTexts.{AreAdded, IsAnswer, IsFirstErr};
 ghost use Rattle.auction_terms.specs.Borrowed.{bytes_of};
+ghost use Rattle.auction_input.specs.Parts.{parts_held};
 ghost use Rattle.auction_input.specs.PartsTold.{only_text};
-ghost use Rattle.auction_input.specs.Plan.{miscounted};
-ghost use Rattle.auction_input.specs.inside.Plan.{solutions_taken, takes_groups};
+ghost use Rattle.auction_input.specs.Plan.{miscounted, takes};
 ghost use Rattle.auction_input.specs.inside.TextsTold.{HaveMore, more_told};
 ghost use Rattle.auction_input.specs.TextsTold.{form_told};
 ghost use Rattle.auction_terms.specs.Stages.{each_in_turn};
 
-use crate::parts::Parts;
-use crate::refusal::{CountedPart, Refusal};
+use crate::part_kind::PartKind;
+use crate::parts::{Part, count_of};
+use crate::refusal::Refusal;
 use auction_terms::Rules;
 use bid_forms::{Form, FormFault, read_form};
 use rayon::prelude::*;
@@ -22,46 +23,36 @@ use requests::Request;
 use std::alloc::{AllocError, Global};
 use std::thread::{Threads, join};
 
-// Whether a command takes so many parts of groups.
-fn takes_groups(request: &Request, count: usize) -> bool
-    ensures { result ≡ takes_groups request.now count }
+// Whether a command takes so many parts of groups, and so many of solutions. Whether there is a solution for each group is tested once these are read.
+fn takes(request: &Request, groups: usize, solutions: usize) -> (bool, bool)
+    ensures { result ≡ takes request.now groups solutions }
 {
     match request {
-        Request::Text => count == 0,
-        Request::Explain { bids: _ } => count <= 1,
-        _ => count == 1,
-    }
-}
-
-// How many parts of solutions a command takes. Whether there is one for each group is tested once these are read.
-fn solutions_taken(request: &Request) -> Option<usize>
-    ensures { result ≡ solutions_taken request.now }
-{
-    match request {
-        Request::Map { group: _ } => Some(1),
-        Request::Report { workers: _ }
-        | Request::Verify { workers: _ }
-        | Request::Explain { bids: _ } => None,
-        _ => Some(0),
+        Request::Text => (groups == 0, solutions == 0),
+        Request::Map { group: _ } => (groups == 1, solutions == 1),
+        Request::Report { workers: _ } | Request::Verify { workers: _ } => (groups == 1, true),
+        Request::Explain { bids: _ } => (groups <= 1, true),
+        Request::Compile { workers: _ } | Request::Check => (groups == 1, solutions == 0),
     }
 }
 
 /// The first kind of which there are too few parts or too many: one with rules, and as many with groups and with solutions as the command takes.
-#[tactic(auto, using(crate::proofs::PlanFacts::plan_is))]
-pub fn miscounted(request: &Request, parts: &Parts<'_>) -> Option<CountedPart>
-    ensures { result ≡ miscounted request.now (length parts.now.rules.items)
-        (length parts.now.groups.items) (length parts.now.solutions.items) }
+pub fn miscounted(request: &Request, parts: &[Part<'_>]) -> Option<PartKind>
+    ensures { result ≡ miscounted request.now (parts_held parts.now) }
 {
-    if parts.rules.len() != 1 {
-        return Some(CountedPart::Rules);
+    let groups = count_of(parts, PartKind::Groups);
+    let solutions = count_of(parts, PartKind::Solution);
+    let (takes_groups, takes_solutions) = takes(request, groups, solutions);
+    if count_of(parts, PartKind::Rules) != 1 {
+        return Some(PartKind::Rules);
     }
-    if !takes_groups(request, parts.groups.len()) {
-        return Some(CountedPart::Groups);
+    if !takes_groups {
+        return Some(PartKind::Groups);
     }
-    match solutions_taken(request) {
-        Some(count) if parts.solutions.len() != count => Some(CountedPart::Solutions),
-        _ => None,
+    if !takes_solutions {
+        return Some(PartKind::Solution);
     }
+    None
 }
 
 /// The text of the one part of a kind; where there is none, no text.

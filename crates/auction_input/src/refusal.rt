@@ -6,6 +6,7 @@ ghost use Rattle.auction_input.specs.Told.{told_text};
 
 use crate::input::InputFault;
 use crate::name::Name;
+use crate::part_kind::PartKind;
 use crate::parts::PartFault;
 use crate::round::RoundFault;
 use crate::told::Told;
@@ -16,16 +17,6 @@ use mps_meaning::FaultKind;
 use program_faults::{CertificateFault, MpsFault, SolutionFault};
 use std::alloc::AllocError;
 
-/// The parts of which a command takes a certain number.
-#[derive(Clone, Copy, Debug, PartialEq, Eq)]
-pub enum CountedPart {
-    Rules,
-    Groups,
-    Solutions,
-    Certificates,
-    Claims,
-}
-
 const OUT_OF_MEMORY: &str = "out of memory";
 
 /// Why a run ends without its output, or with a front of it. Forms, groups, solutions and certificates count from 1.
@@ -33,8 +24,8 @@ const OUT_OF_MEMORY: &str = "out of memory";
 pub enum Refusal {
     Input(InputFault),
     Parts(PartFault),
-    /// Parts are missing, or there are too many.
-    PartCount(CountedPart),
+    /// Parts of a kind are missing, or there are too many. What is claimed, unique and tie, is counted together.
+    PartCount(PartKind),
     Rules(RulesFault),
     Form {
         form: usize,
@@ -113,16 +104,17 @@ fn in_parts(fault: PartFault) -> Told<'static>
     })
 }
 
-// What is told of parts of which there are too few or too many.
-fn in_count(part: CountedPart) -> Told<'static>
-    ensures { told_text result ≡ refusal_text (Refusal.PartCount part) }
+// What is told of parts of which there are too few or too many. Forms are not counted.
+fn in_count(kind: PartKind) -> Told<'static>
+    ensures { told_text result ≡ refusal_text (Refusal.PartCount kind) }
 {
-    Told::only(Wording::Words(match part {
-        CountedPart::Rules => "input: wrong number of rules",
-        CountedPart::Groups => "input: wrong number of groups",
-        CountedPart::Solutions => "input: wrong number of solutions",
-        CountedPart::Certificates => "input: wrong number of certificates",
-        CountedPart::Claims => "input: wrong number of unique and tie",
+    Told::only(Wording::Words(match kind {
+        PartKind::Rules => "input: wrong number of rules",
+        PartKind::Form => "input: wrong number of forms",
+        PartKind::Groups => "input: wrong number of groups",
+        PartKind::Solution => "input: wrong number of solutions",
+        PartKind::Certificate => "input: wrong number of certificates",
+        PartKind::Unique | PartKind::Tie => "input: wrong number of unique and tie",
     }))
 }
 
@@ -166,7 +158,7 @@ impl Refusal {
             | Refusal::OutOfMemory => Told::only(Wording::Words(OUT_OF_MEMORY)),
             Refusal::Input(fault) => in_input(*fault),
             Refusal::Parts(fault) => in_parts(*fault),
-            Refusal::PartCount(part) => in_count(*part),
+            Refusal::PartCount(kind) => in_count(*kind),
             Refusal::Rules(fault) => Told::in_part("rules: ", fault.wording()),
             Refusal::Form { form, fault } => Told::in_number("form ", *form, fault.wording()),
             Refusal::Groups(fault) => Told::in_part("groups: ", fault.wording()),

@@ -8,7 +8,7 @@ use Rattle.std.proofs.lemmas.List.{get_or_default, length-map}
 use denote.Ref.{Bor}
 use Rattle.auction_terms.specs.declared.choices.Choice.{Choice}
 use Rattle.bid_desk.specs.Closing.{Closing}
-use Rattle.group_compiler.specs.Compiled.{program_without}
+use Rattle.group_compiler.specs.Compiled.{Compiling, compiling, program_without}
 use Rattle.optimality.specs.Answers.{IsLimit}
 use Rattle.optimality.specs.Sizes.{IsLargeAt}
 use Rattle.optimality.specs.Verdict.{certificate_fault}
@@ -26,7 +26,7 @@ use Rattle.auction_terms.specs.Borrowed.{bytes_of}
 use Rattle.auction_terms.specs.Stages.{and_then, each_in_turn, unless}
 use Rattle.auction_input.specs.declared.auction.Auction as declared
 use Rattle.group_winners.specs.declared.certified.ClaimedBound as code
-use Rattle.auction_input.specs.declared.refusal.CountedPart.TheVariants as counted
+use Rattle.auction_input.specs.declared.part_kind.PartKind.TheVariants as part
 use Rattle.auction_input.specs.declared.refusal.Refusal.TheVariants as refusal
 use Rattle.auction_input.proofs.StageFacts.{stop}
 
@@ -140,10 +140,14 @@ module _ (auction : declared.Auction) (won : List (List Choice)) where
   abbrev texts : List (List ℕ)
   texts = bytes_of auction.certificates.items
 
-  pub bounds-are : (certificates : List Text) → certificates ≡ auction.certificates.items → bounds_by auction.book auction.groups won (bytes_of certificates) ≡ bounds_of (held auction) won
-  bounds-are certificates same = ap (λ (xs : List Text). bounds_by auction.book auction.groups won (bytes_of xs)) same
+  -- what is judged by the auction's compiler are the auction's bounds
+  pub bounds-are : (compiler : Compiling) (judged bounds : List code.ClaimedBound) (certificates : List Text) → compiler ≡ compiling auction.book auction.groups → judged ≡ bounds → certificates ≡ auction.certificates.items
+      → map (bound_held auction.book) bounds ≡ bounds_by auction.book auction.groups won (bytes_of certificates) → map (bound_held compiler.book) judged ≡ bounds_of (held auction) won
+  bounds-are compiler judged bounds certificates own same each made =
+      ap (λ (k : Compiling). map (bound_held k.book) judged) own ∙ ap (λ (bs : List code.ClaimedBound). map (bound_held auction.book) bs) same ∙ made
+      ∙ ap (λ (xs : List Text). bounds_by auction.book auction.groups won (bytes_of xs)) each
 
-  pub certificates-miscounted : length auction.certificates.items ≢ length auction.groups → Refuses (certified (held auction) won) (refusal.PartCount counted.Certificates)
+  pub certificates-miscounted : length auction.certificates.items ≢ length auction.groups → Refuses (certified (held auction) won) (refusal.PartCount part.Certificate)
   certificates-miscounted other =
       let differ : (length texts == length auction.groups) ≡ false = ne_eqb _ _ (λ same. other (sym (length-map auction.certificates.items (λ (text : Text). text.now)) ∙ same)) in
       inl (rw differ refl)

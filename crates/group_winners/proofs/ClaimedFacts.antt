@@ -15,7 +15,7 @@ use Rattle.auction_input.specs.Line.{refusal_text}
 use Rattle.auction_input.specs.Refused.{Refuses}
 use Rattle.auction_input.specs.Settled.{held}
 use Rattle.auction_input.specs.declared.auction.Auction as declared
-use Rattle.auction_input.specs.declared.refusal.CountedPart.TheVariants as counted
+use Rattle.auction_input.specs.declared.part_kind.PartKind.TheVariants as part
 use Rattle.auction_input.specs.declared.refusal.Refusal.TheVariants as refusal
 use Rattle.auction_input.specs.declared.refusal.Refusal.{Refusal}
 use Rattle.auction_input.proofs.AnswerFacts.{ok-behind, ok-is}
@@ -53,7 +53,7 @@ first-of sale n ((b ∷ group) ∷ groups) (text ∷ texts) won starts count win
 pub wins-first : (auction : Auction) (won : List (List Choice)) → winners_of_groups auction ≡ Ok won
     → (starts_empty auction.groups ≡ true) × (1 ≤ length auction.solutions) × (1 ≤ length won) × (winners_by (first_program auction) 1 (slice_index_or auction.solutions 0 []) ≡ Ok (slice_index_or won 0 []))
 wins-first auction won told =
-    let (starts, count, each) = when-both refusal.FirstGroupNotEmpty (refusal.PartCount counted.Solutions) (starts_empty auction.groups) (length auction.solutions == length auction.groups) _ won told in
+    let (starts, count, each) = when-both refusal.FirstGroupNotEmpty (refusal.PartCount part.Solution) (starts_empty auction.groups) (length auction.solutions == length auction.groups) _ won told in
     let (some, few, is) = first-of auction.sale 1 auction.groups auction.solutions won starts (eqb-true _ _ count) each in
     (starts, some, few, is)
 
@@ -87,10 +87,10 @@ module _ (auction : declared.Auction) (first : List Choice) where
   abbrev claims : List Text → List Text → Result Uniqueness Refusal
   claims uniques ties = claims_told (held auction) first (bytes_of uniques) (bytes_of ties)
 
-  pub many-claims : 1 < length auction.uniques.items + length auction.ties.items → claims_told (held auction) first (held auction).uniques (held auction).ties ≡ Err (refusal.PartCount counted.Claims)
+  pub many-claims : 1 < length auction.uniques.items + length auction.ties.items → claims_told (held auction) first (held auction).uniques (held auction).ties ≡ Err (refusal.PartCount part.Unique)
   many-claims many = by auction.uniques.items auction.ties.items many
     where
-      by : (uniques ties : List Text) → 1 < length uniques + length ties → claims uniques ties ≡ Err (refusal.PartCount counted.Claims)
+      by : (uniques ties : List Text) → 1 < length uniques + length ties → claims uniques ties ≡ Err (refusal.PartCount part.Unique)
       by [] [] many = absurd (omega arith)
       by [] (t ∷ []) many = absurd (omega arith)
       by [] (t ∷ s ∷ ties) many = refl

@@ -6,7 +6,7 @@ use Rattle.auction_input.specs.Auction.{Auction}
 use Rattle.group_winners.specs.Programs.{program_for}
 use Rattle.auction_input.specs.declared.refusal.Refusal.{Refusal}
 use Rattle.auction_terms.specs.Stages.{and_then, each_in_turn, unless}
-use Rattle.auction_input.specs.declared.refusal.CountedPart.TheVariants as counted
+use Rattle.auction_input.specs.declared.part_kind.PartKind.TheVariants as part
 use Rattle.auction_input.specs.declared.refusal.Refusal.TheVariants as refusal
 use Rattle.auction_terms.specs.Allocations.{total}
 use Rattle.auction_terms.specs.declared.choices.Choice.{Choice}
@@ -34,7 +34,7 @@ shown number bound =
 abbrev pub certified : Auction → List (List Choice) → Result (List (List Choice)) Refusal
 certified auction won =
     if length auction.certificates == length auction.groups then and_then (each_in_turn shown 1 (bounds_of auction won)) (λ all. Ok won)
-    else Err (refusal.PartCount counted.Certificates)
+    else Err (refusal.PartCount part.Certificate)
 
 -- behind some certificates that show what they are to comes one that isn't judged, since the leaf at this line has a size of 2^126 or more
 abbrev pub IsTooWide : List (Table × ℤ × List ℕ) → Refusal → Type 0

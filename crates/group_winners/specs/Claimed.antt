@@ -3,7 +3,7 @@ use Rattle.std.specs.Prelude.{◌≡◌, ◌∷◌, ℕ, Bool, List, [], Result,
 use Rattle.std.specs.Option.{option_map, option_map_or}
 use Rattle.auction_input.specs.Auction.{Auction}
 use Rattle.group_winners.specs.Programs.{program_for}
-use Rattle.auction_input.specs.declared.refusal.CountedPart.TheVariants as counted
+use Rattle.auction_input.specs.declared.part_kind.PartKind.TheVariants as part
 use Rattle.auction_input.specs.declared.refusal.Refusal.TheVariants as refusal
 use Rattle.auction_input.specs.declared.refusal.Refusal.{Refusal}
 use Rattle.auction_terms.specs.Allocations.{total}
@@ -57,7 +57,7 @@ claims_told auction first (text ∷ []) [] =
     and_then (refused_as (solution_refused (first_program auction) 1) (solution (first_program auction) (slice_index_or auction.solutions 0 []))) (λ point.
     unless (option_map refused (only_fault (first_program auction) point text)) (Ok (only_or_rival auction.sale first)))
 claims_told auction first [] (text ∷ []) = tie_told auction first text
-claims_told auction first uniques ties = Err (refusal.PartCount counted.Claims)
+claims_told auction first uniques ties = Err (refusal.PartCount part.Unique)
 
 -- the one certificate that is to show the winners to be the only ones isn't judged, since the leaf at this line has a size of 2^126 or more
 abbrev pub IsTooWideClaim : Auction → Refusal → Type 0

@@ -5,7 +5,7 @@ use Rattle.std.specs.Option.{option_map_or}
 use Rattle.group_winners.specs.Programs.{program_for}
 use Rattle.auction_input.specs.declared.refusal.Refusal.{Refusal}
 use Rattle.auction_input.specs.Auction.{Auction}
-use Rattle.auction_input.specs.declared.refusal.CountedPart.TheVariants as counted
+use Rattle.auction_input.specs.declared.part_kind.PartKind.TheVariants as part
 use Rattle.auction_terms.specs.Groups.{starts_empty}
 use Rattle.auction_terms.specs.FirstFault.{first_failed}
 use Rattle.auction_terms.specs.Stages.{and_then, each_in_turn, refused_as, unless}
@@ -33,5 +33,5 @@ abbrev pub winners_of_groups : Auction → Result (List (List Choice)) Refusal
 winners_of_groups auction =
     unless (first_failed (
     (starts_empty auction.groups, refusal.FirstGroupNotEmpty) ∷
-    (length auction.solutions == length auction.groups, refusal.PartCount counted.Solutions) ∷ []))
+    (length auction.solutions == length auction.groups, refusal.PartCount part.Solution) ∷ []))
     (each_in_turn (λ number (item : List ℕ × List ℕ). winners_by (program_for auction.sale item.0) number item.1) 1 (zip auction.groups auction.solutions))

@@ -10,9 +10,10 @@ ghost use Rattle.group_winners.specs.Certified.{IsTooWide};
 ghost use Rattle.group_winners.specs.inside.Judging.{AllShown, AreFine, IsFirstFaulty, IsJudged, IsJudgedIfBegun, bounds_by, bound_held};
 ghost use Rattle.auction_terms.specs.Borrowed.{bytes_of};
 ghost use Rattle.auction_terms.specs.Stages.{each_in_turn};
+ghost use Rattle.group_compiler.specs.Compiled.{compiling};
 
 use crate::lowest::Lowest;
-use auction_input::{Auction, CountedPart, Refusal};
+use auction_input::{Auction, PartKind, Refusal};
 use auction_terms::{Group, Groups};
 use bid_desk::ClosedBook;
 use group_compiler::Compiler;
@@ -32,15 +33,17 @@ pub struct ClaimedBound<'c> {
     pub certificate: &'c [u8],
 }
 
-/// Checks that there is a certificate for each group, and that each shows that nobody wins more without its group than the
-/// allocation that is won.
+/// Checks that there is a certificate for each group, and that each shows, by the auction's compiler, that nobody wins more
+/// without its group than the allocation that is won.
 pub fn check_certificates(
     rt: &(impl Threads + Sync),
     alloc: Global,
     auction: &Auction<'_>,
+    compiler: &Compiler<'_, '_>,
     won: &[Allocation],
 ) -> Result<(), Refusal>
-    requires { length won.now ≡ length auction.now.groups }
+    requires compiler { compiler.now ≡ compiling auction.now.book auction.now.groups }
+    requires won { length won.now ≡ length auction.now.groups }
     ensures shown { OnOk result (certified (held auction.now) won.now ≡ Ok won.now) }
     ensures refuses { IfErr result (λ r. Refuses (certified (held auction.now) won.now) r
         ⊎ ((length (held auction.now).certificates ≡ length auction.now.groups)
@@ -53,11 +56,10 @@ pub fn check_certificates(
         ..
     } = auction;
     if certificates.len() != groups.count() {
-        return Err(Refusal::PartCount(CountedPart::Certificates));
+        return Err(Refusal::PartCount(PartKind::Certificate));
     }
     let bounds = bounds_of(alloc, book, groups, won, certificates.as_slice())?;
-    let compiler = Compiler::new(rt, alloc, book, groups)?;
-    check_each(rt, alloc, &compiler, bounds.as_slice())
+    check_each(rt, alloc, compiler, bounds.as_slice())
 }
 
 // What each certificate is to show, in order.

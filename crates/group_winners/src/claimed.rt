@@ -7,6 +7,7 @@ ghost use Rattle.bid_desk.specs.Closing.{book_of};
 ghost use Rattle.bid_desk.specs.Sale.{sale_of};
 ghost use Rattle.auction_input.specs.Refused.{Refuses};
 ghost use Rattle.auction_input.specs.Settled.{held};
+ghost use Rattle.group_compiler.specs.Compiled.{compiling};
 ghost use Rattle.group_winners.specs.Claimed as claimed;
 ghost use Rattle.group_winners.specs.Claimed.{claims_told};
 ghost use Rattle.group_winners.specs.Claimed.{IsTooWideClaim};
@@ -14,22 +15,22 @@ ghost use Rattle.group_winners.specs.SolutionWinners.{winners_of_groups};
 ghost use Rattle.group_winners.specs.inside.Claiming.{IsWonFirst};
 
 use crate::winning::won_without;
-use auction_input::{Auction, CountedPart, Refusal};
+use auction_input::{Auction, PartKind, Refusal};
 use bid_desk::ClosedBook;
 use group_compiler::Compiler;
 use optimality::check_only;
 use outcome::{Allocation, Uniqueness, read_solution, same_winners, total, with_rival};
 use std::alloc::{AllocError, Global};
-use std::thread::Threads;
 
-/// What comes of the claim of an auction, of which the solutions win these allocations.
+/// What comes of the claim of an auction, by the auction's compiler, where its solutions win these allocations.
 pub fn claim_of(
-    rt: &(impl Threads + Sync),
     alloc: Global,
     auction: &Auction<'_>,
+    compiler: &Compiler<'_, '_>,
     won: &[Allocation],
 ) -> Result<Uniqueness, Refusal>
-    requires { winners_of_groups (held auction.now) ≡ Ok won.now }
+    requires compiler { compiler.now ≡ compiling auction.now.book auction.now.groups }
+    requires won { winners_of_groups (held auction.now) ≡ Ok won.now }
     ensures told { IfOk result (λ claim.
         claims_told (held auction.now) (slice_index_or won.now 0 []) (held auction.now).uniques
         (held auction.now).ties ≡ Ok claim) }
@@ -41,24 +42,25 @@ pub fn claim_of(
     let uniques = auction.uniques.len();
     let ties = auction.ties.len();
     if uniques + ties > 1 {
-        return Err(Refusal::PartCount(CountedPart::Claims));
+        return Err(Refusal::PartCount(PartKind::Unique));
     }
     if uniques == 1 {
-        return only(rt, alloc, auction, &won[0]);
+        return only(alloc, auction, compiler, &won[0]);
     }
     if ties == 1 {
-        return tie(rt, alloc, auction, &won[0]);
+        return tie(alloc, auction, compiler, &won[0]);
     }
     Ok(Uniqueness::Unasked)
 }
 
 // What comes of a certificate that nobody else can win as much.
 fn only(
-    rt: &(impl Threads + Sync),
     alloc: Global,
     auction: &Auction<'_>,
+    compiler: &Compiler<'_, '_>,
     first: &Allocation,
 ) -> Result<Uniqueness, Refusal>
+    requires compiler { compiler.now ≡ compiling auction.now.book auction.now.groups }
     requires won { IsWonFirst auction.now first.now }
     requires one { length auction.now.uniques.items ≡ 1 }
     requires alone { length auction.now.ties.items ≡ 0 }
@@ -71,7 +73,6 @@ fn only(
 {
     // Its contract says that the book is within limits.
     let _within_limits = auction.book.rules();
-    let compiler = Compiler::new(rt, alloc, &auction.book, &auction.groups)?;
     let program = compiler.program_without(alloc, auction.groups.group(1))?;
     // The solution was taken before, so that only memory can refuse it now.
     let Ok(point) = read_solution(alloc, auction.solutions[0], &program) else {
@@ -100,11 +101,12 @@ fn only_or_rival(
 
 // What comes of the solution of a tie.
 fn tie(
-    rt: &(impl Threads + Sync),
     alloc: Global,
     auction: &Auction<'_>,
+    compiler: &Compiler<'_, '_>,
     first: &Allocation,
 ) -> Result<Uniqueness, Refusal>
+    requires compiler { compiler.now ≡ compiling auction.now.book auction.now.groups }
     requires won { IsWonFirst auction.now first.now }
     requires one { length auction.now.ties.items ≡ 1 }
     requires alone { length auction.now.uniques.items ≡ 0 }
@@ -113,14 +115,7 @@ fn tie(
     ensures refuses { IfErr result (Refuses (claims_told (held auction.now) first.now
         (held auction.now).uniques (held auction.now).ties)) }
 {
-    let compiler = Compiler::new(rt, alloc, &auction.book, &auction.groups)?;
-    match won_without(
-        alloc,
-        &compiler,
-        auction.groups.group(1),
-        1,
-        auction.ties[0],
-    ) {
+    match won_without(alloc, compiler, auction.groups.group(1), 1, auction.ties[0]) {
         Ok(other) => tied(&auction.book, first, other),
         Err(refusal) => Err(of_tie(refusal)),
     }

@@ -10,5 +10,5 @@ mod winning;
 
 pub use certified::check_certificates;
 pub use claimed::claim_of;
-pub use report_run::won_by_groups;
+pub use report_run::{check_counts, won_by_groups};
 pub use winning::{allocation_won, won_without};

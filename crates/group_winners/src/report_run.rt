@@ -1,22 +1,19 @@
-//! What the solutions of all groups win, and what each group's opportunity cost is.
+//! What the solutions of all groups win.
 
-ghost use Rattle.std.specs.Prelude.{◌≡◌, ◌≤◌, ◌<◌, ◌++◌, ◌∷◌, [], IfErr, IfOk, Ok, OnOk, length, map, slice_index_or, true};
+ghost use Rattle.std.specs.Prelude.{◌≡◌, ◌≤◌, ◌<◌, ◌++◌, ◌∷◌, [], IfErr, IfOk, Ok, OnOk, length, slice_index_or, true};
 ghost use Rattle.auction_limits.specs.declared.limits.TheConstants.{MOST_WORKERS};
-ghost use Rattle.std.specs.List.{zip};
 ghost use Rattle.auction_terms.specs.Groups.{starts_empty};
 ghost use Rattle.bid_desk.specs.Sale.{sale_of};
 ghost use Rattle.auction_input.specs.Refused.{Refuses};
 ghost use Rattle.auction_input.specs.Settled.{held};
 ghost use Rattle.auction_terms.specs.Borrowed.{bytes_of};
-ghost use Rattle.auction_terms.specs.Stages.{each_in_turn};
+ghost use Rattle.group_compiler.specs.Compiled.{compiling};
 ghost use Rattle.group_winners.specs.SolutionWinners.{winners_of_groups};
-ghost use Rattle.group_winners.specs.inside.SolutionWinners.{AreMade, winners, winners_told};
+ghost use Rattle.group_winners.specs.inside.SolutionWinners.{AreMade, winners_told};
 
 use crate::lowest::Lowest;
 use crate::winning::{won_by_all, won_by_named};
-use auction_input::{Auction, CountedPart, Refusal};
-use auction_terms::Groups;
-use bid_desk::ClosedBook;
+use auction_input::{Auction, PartKind, Refusal};
 use group_compiler::{Compiler, Maker, OpenGate, make_all};
 use outcome::Allocation;
 use std::alloc::{AllocError, Global};
@@ -27,25 +24,25 @@ use std::thread::Threads;
 /// refuses is left to be read against the program of all bids, and nothing is begun behind it: so only one such program
 /// stands at a time, however many workers there are.
 #[derive(Drop)]
-pub struct Winning<'a, 't> {
-    compiler: Compiler<'a, 'a>,
+pub struct Winning<'a, 'b, 'g, 't> {
+    compiler: &'a Compiler<'b, 'g>,
     solutions: &'a [&'t [u8]],
     left: Lowest,
-    ghost each: { length solutions.now ≡ length compiler.groups },
+    ghost each: { length solutions.now ≡ length compiler.now.groups },
 }
 
-impl<'a, 't> Maker for Winning<'a, 't> {
+impl<'a, 'b, 'g, 't> Maker for Winning<'a, 'b, 'g, 't> {
     ghost use Rattle.std.specs.Prelude.{◌≡◌, ◌+◌, IfSome, Ok, length};
     ghost use Rattle.bid_desk.specs.Sale.{sale_of};
     ghost use Rattle.group_winners.specs.inside.SolutionWinners.{winners_at};
 
     type Made = Option<Allocation>;
 
-    ghost count_of = { λ w. length w.compiler.groups };
+    ghost count_of = { λ w. length w.compiler.now.groups };
 
-    ghost groups_of = { λ w. length w.compiler.groups };
+    ghost groups_of = { λ w. length w.compiler.now.groups };
 
-    ghost makes = { λ w n made. IfSome made (λ a. winners_at (sale_of w.compiler.book) w.compiler.groups (bytes_of w.solutions.now) n ≡ Ok a) };
+    ghost makes = { λ w n made. IfSome made (λ a. winners_at (sale_of w.compiler.now.book) w.compiler.now.groups (bytes_of w.solutions.now) n ≡ Ok a) };
 
     fn count(&self) -> usize {
         self.compiler.count()
@@ -63,7 +60,7 @@ impl<'a, 't> Maker for Winning<'a, 't> {
         let _few = self.compiler.count();
         let group = self.compiler.group(number + 1);
         let text = text_at(self.solutions, number);
-        let won = won_by_named(alloc, &self.compiler, group, text)?;
+        let won = won_by_named(alloc, self.compiler, group, text)?;
         if won.is_none() {
             self.left.tell(number);
         }
@@ -71,7 +68,7 @@ impl<'a, 't> Maker for Winning<'a, 't> {
     }
 }
 
-impl<'a, 't> Winning<'a, 't> {
+impl<'a, 'b, 'g, 't> Winning<'a, 'b, 'g, 't> {
     ghost use Rattle.std.specs.Prelude.{◌≡◌, ◌<◌, IfSome, Ok, length};
     ghost use Rattle.group_winners.specs.inside.SolutionWinners.{IsToldAnswer, winners_at};
 
@@ -82,11 +79,11 @@ impl<'a, 't> Winning<'a, 't> {
         number: usize,
         made: Option<Allocation>,
     ) -> Result<Allocation, Refusal>
-        requires within { number < length self.now.compiler.groups }
-        requires made { IfSome made (λ a. winners_at (sale_of self.now.compiler.book)
-            self.now.compiler.groups (bytes_of self.now.solutions.now) number ≡ Ok a) }
-        ensures { IsToldAnswer (winners_at (sale_of self.now.compiler.book) self.now.compiler.groups
-            (bytes_of self.now.solutions.now) number) result }
+        requires within { number < length self.now.compiler.now.groups }
+        requires made { IfSome made (λ a. winners_at (sale_of self.now.compiler.now.book)
+            self.now.compiler.now.groups (bytes_of self.now.solutions.now) number ≡ Ok a) }
+        ensures { IsToldAnswer (winners_at (sale_of self.now.compiler.now.book)
+            self.now.compiler.now.groups (bytes_of self.now.solutions.now) number) result }
     {
         if let Some(allocation) = made {
             return Ok(allocation);
@@ -95,7 +92,7 @@ impl<'a, 't> Winning<'a, 't> {
         let _few = self.compiler.count();
         let group = self.compiler.group(number + 1);
         let text = text_at(self.solutions, number);
-        won_by_all(alloc, &self.compiler, group, number + 1, text)
+        won_by_all(alloc, self.compiler, group, number + 1, text)
     }
 }
 
@@ -107,21 +104,14 @@ fn text_at<'t>(texts: &[&'t [u8]], place: usize) -> &'t [u8]
     texts[place]
 }
 
-/// What the solutions of an auction win, group by group.
-pub fn won_by_groups<R: Threads + Wait + Sync + AllocGlobal>(
-    rt: &R,
-    auction: &Auction<'_>,
-    workers: usize,
-) -> Result<Vec<Allocation>, Refusal>
-    requires some { 1 ≤ workers }
-    requires few { workers ≤ MOST_WORKERS }
+/// Checks that the first group is empty, and that there is a solution for each group. What this refuses is refused before
+/// anything else of solutions, so that no compiler need be made for it.
+pub fn check_counts(auction: &Auction<'_>) -> Result<(), Refusal>
     ensures first { OnOk result (starts_empty auction.now.groups ≡ true) }
-    ensures count { IfOk result (λ won. length won.items ≡ length auction.now.groups) }
-    ensures won { IfOk result (λ won. winners_of_groups (held auction.now) ≡ Ok won.items) }
+    ensures each { OnOk result (length auction.now.solutions.items ≡ length auction.now.groups) }
     ensures refuses { IfErr result (Refuses (winners_of_groups (held auction.now))) }
 {
     let Auction {
-        book,
         groups,
         solutions,
         ..
@@ -130,33 +120,32 @@ pub fn won_by_groups<R: Threads + Wait + Sync + AllocGlobal>(
         return Err(Refusal::FirstGroupNotEmpty);
     }
     if solutions.len() != groups.count() {
-        return Err(Refusal::PartCount(CountedPart::Solutions));
+        return Err(Refusal::PartCount(PartKind::Solution));
     }
-    won_by_each(rt, book, groups, workers, solutions.as_slice())
+    Ok(())
 }
 
-// What the solution of each group's program wins, in order. No more programs stand at once than there are workers.
-fn won_by_each<R: Threads + Wait + Sync + AllocGlobal>(
+/// What the solutions of an auction whose counts are right win, group by group, by the auction's compiler. No more programs
+/// stand at once than there are workers.
+pub fn won_by_groups<R: Threads + Wait + Sync + AllocGlobal>(
     rt: &R,
-    book: &ClosedBook,
-    groups: &Groups,
+    auction: &Auction<'_>,
+    compiler: &Compiler<'_, '_>,
     workers: usize,
-    solutions: &[&[u8]],
 ) -> Result<Vec<Allocation>, Refusal>
     requires some { 1 ≤ workers }
     requires few { workers ≤ MOST_WORKERS }
-    requires count { length solutions.now ≡ length groups.now }
-    ensures count { IfOk result (λ won. length won.items ≡ length groups.now) }
-    ensures won { IfOk result (λ won. each_in_turn (winners (sale_of book.now)) 1
-        (zip groups.now (bytes_of solutions.now)) ≡ Ok won.items) }
-    ensures refuses { IfErr result (Refuses (each_in_turn (winners (sale_of book.now)) 1
-        (zip groups.now (bytes_of solutions.now)))) }
+    requires compiler { compiler.now ≡ compiling auction.now.book auction.now.groups }
+    requires first { starts_empty auction.now.groups ≡ true }
+    requires each { length auction.now.solutions.items ≡ length auction.now.groups }
+    ensures count { IfOk result (λ won. length won.items ≡ length auction.now.groups) }
+    ensures won { IfOk result (λ won. winners_of_groups (held auction.now) ≡ Ok won.items) }
+    ensures refuses { IfErr result (Refuses (winners_of_groups (held auction.now))) }
 {
     let alloc: Global = rt.alloc();
-    let compiler = Compiler::new(rt, alloc, book, groups)?;
     let winning = Winning {
         compiler,
-        solutions,
+        solutions: auction.solutions.as_slice(),
         left: Lowest::none(),
     };
     let made = make_all(rt, alloc, workers, &OpenGate, &winning)?;
@@ -166,13 +155,13 @@ fn won_by_each<R: Threads + Wait + Sync + AllocGlobal>(
 // The allocations, where all solutions are taken, or the first refusal.
 fn all_won(
     alloc: Global,
-    winning: &Winning<'_, '_>,
+    winning: &Winning<'_, '_, '_, '_>,
     made: Vec<Option<Allocation>>,
 ) -> Result<Vec<Allocation>, Refusal>
-    requires { AreMade winning.now.compiler (bytes_of winning.now.solutions.now) made.items }
-    ensures won { IfOk result (λ all. winners_told winning.now.compiler
+    requires { AreMade winning.now.compiler.now (bytes_of winning.now.solutions.now) made.items }
+    ensures won { IfOk result (λ all. winners_told winning.now.compiler.now
         (bytes_of winning.now.solutions.now) ≡ Ok all.items) }
-    ensures refuses { IfErr result (Refuses (winners_told winning.now.compiler
+    ensures refuses { IfErr result (Refuses (winners_told winning.now.compiler.now
         (bytes_of winning.now.solutions.now))) }
 {
     let mut all = Vec::new(alloc);

@@ -1,6 +1,5 @@
 -- The line of a fault, with its detail.
-use Rattle.std.proofs.Common.{◌≡◌, ◌++◌, ◌∷◌, ◌∙◌, ℕ, List, [], Option, ap, append_assoc, refl}
-use Rattle.std.specs.Prelude.{codes, decimal}
+use Rattle.std.proofs.Common.{◌≡◌, ◌++◌, ◌∷◌, ℕ, List, [], Option, ap, refl}
 use Rattle.auction_input.specs.Line.{refusal_text}
 use Rattle.auction_terms.specs.FaultPlaces.{group_place, rules_place}
 use Rattle.auction_terms.specs.GroupNames.{names_in}

@@ -8,7 +8,8 @@ use Rattle.auction_input.specs.Parts.{Part, cut_lines, input_fault, parts_in, pa
 use Rattle.auction_input.specs.PartsTold.{only_text}
 use Rattle.auction_input.specs.TextsTold.{form_told, groups_told, terms_told}
 use Rattle.auction_input.specs.declared.parts.PartFault.{PartFault}
-use Rattle.auction_input.specs.declared.refusal.CountedPart.{CountedPart}
+use Rattle.auction_input.specs.Plan.{miscounted}
+use Rattle.auction_input.specs.declared.part_kind.PartKind.{PartKind}
 use Rattle.auction_input.specs.declared.refusal.Refusal.{Refusal}
 use Rattle.auction_input.specs.declared.refusal.Refusal.TheVariants as refusal
 use Rattle.auction_terms.proofs.AllGroupFaultsFacts.{begin-groups}
@@ -32,7 +33,7 @@ use Rattle.bid_forms.specs.Offers.{Offers}
 use Rattle.bid_forms.specs.declared.form_text.FormFault.TheVariants as form
 use Rattle.input_faults.proofs.BeginFacts.{as-as, begin-as, begin-each, begin-fault, begin-next, begin-sized}
 use Rattle.input_faults.specs.FaultsAs.{fault_as, faults_as}
-use Rattle.input_faults.specs.InputFaults.{call_fault, count_fault, faults_in_parts, faults_of_form, faults_of_forms, faults_of_groups, faults_of_rules, faults_of_texts, faults_under, input_faults, refusal_of, where_read}
+use Rattle.input_faults.specs.InputFaults.{call_fault, faults_in_parts, faults_of_form, faults_of_forms, faults_of_groups, faults_of_rules, faults_of_texts, faults_under, input_faults, refusal_of, where_read}
 use Rattle.input_faults.specs.declared.fault.Fault.{Fault}
 use Rattle.input_faults.specs.declared.fault.Fault.TheVariants as fault
 use Rattle.requests.specs.declared.request.Request.{Request}
@@ -76,14 +77,14 @@ begin-texts make text forms groups =
 
 -- behind the parts, whose fault is alone
 begin-parts : (asked : Request) (parts : List Part) (found : Option PartFault) (others : List (Found Fault)) (next : List Part → Result Auction Refusal) → AreFaultsOf (faults_as refusal_of others) (next parts)
-    → AreFaultsOf (faults_as refusal_of (or_else (or_else (fault_as fault.Parts found) (fault_as fault.PartCount (count_fault asked parts))) others))
-    (and_then (and_then (refused_as refusal.Parts (unless found (Ok parts))) (λ ps. refused_as refusal.PartCount (unless (count_fault asked ps) (Ok ps)))) next)
+    → AreFaultsOf (faults_as refusal_of (or_else (or_else (fault_as fault.Parts found) (fault_as fault.PartCount (miscounted asked parts))) others))
+    (and_then (and_then (refused_as refusal.Parts (unless found (Ok parts))) (λ ps. refused_as refusal.PartCount (unless (miscounted asked ps) (Ok ps)))) next)
 begin-parts asked parts (Some f) others next are = (0, [], refl)
-begin-parts asked parts None others next are = by (count_fault asked parts)
+begin-parts asked parts None others next are = by (miscounted asked parts)
   where
-    by : (o : Option CountedPart) → AreFaultsOf (faults_as refusal_of (or_else (fault_as fault.PartCount o) others)) (and_then (refused_as refusal.PartCount (unless o (Ok parts))) next)
+    by : (o : Option PartKind) → AreFaultsOf (faults_as refusal_of (or_else (fault_as fault.PartCount o) others)) (and_then (refused_as refusal.PartCount (unless o (Ok parts))) next)
     by None = are
-    by (Some part) = (0, [], refl)
+    by (Some k) = (0, [], refl)
 
 -- the auction that parts tell, with these forms and groups
 abbrev auction_in : List Part → Terms → List Offers → List (List ℕ) → Auction

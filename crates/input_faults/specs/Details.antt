@@ -16,7 +16,7 @@ use Rattle.auction_terms.specs.declared.rules.Category.{Category}
 use Rattle.auction_terms.specs.declared.rules_fields.NumberLimits.{NumberLimits}
 use Rattle.auction_terms.specs.declared.rules_text.RulesFault.{RulesFault}
 use Rattle.auction_terms.specs.declared.rules_text.RulesFault.TheVariants as rules
-use Rattle.bid_forms.specs.ToldOfRecords.{eligibility_told, points_told, reserve_told}
+use Rattle.bid_forms.specs.ToldOfRecords.{points_told, reserve_told}
 use Rattle.bid_forms.specs.declared.form_text.FormFault.{FormFault}
 use Rattle.bid_forms.specs.declared.form_text.FormFault.TheVariants as form
 use Rattle.input_faults.specs.Shown.{shown_text}

@@ -1,11 +1,10 @@
 -- All faults of an input, in the order in which they are told. Behind faulty parts nothing is looked at, and behind faulty rules no form and no groups; each form is, whatever the others are; calls are counted where every form is read.
-use Rattle.std.specs.Prelude.{◌++◌, ℕ, List, [], Option, None, Result, Ok, Err, codes, length}
+use Rattle.std.specs.Prelude.{◌++◌, ℕ, List, [], Option, None, Result, Ok, Err, codes}
 use Rattle.auction_input.specs.Calls.{one_too_many}
 use Rattle.auction_input.specs.Parts.{Part, cut_lines, input_fault, parts_in, parts_named}
 use Rattle.auction_input.specs.PartsTold.{only_text}
 use Rattle.auction_input.specs.Plan.{miscounted}
 use Rattle.auction_input.specs.TextsTold.{form_told, terms_told}
-use Rattle.auction_input.specs.declared.refusal.CountedPart.{CountedPart}
 use Rattle.auction_input.specs.declared.refusal.Refusal.{Refusal}
 use Rattle.auction_input.specs.declared.refusal.Refusal.TheVariants as refusal
 use Rattle.auction_terms.specs.AllFaults.{all_faults, or_else}
@@ -35,13 +34,9 @@ refusal_of (fault.Form n f) = refusal.Form n f
 refusal_of (fault.Groups f) = refusal.Groups f
 refusal_of (fault.CallLimit n) = refusal.CallLimit n
 
--- the first kind of part of which there are too few or too many
-abbrev pub count_fault : Request → List Part → Option CountedPart
-count_fault asked parts = miscounted asked (length (parts_named (codes "%rules") parts)) (length (parts_named (codes "%groups") parts)) (length (parts_named (codes "%solution") parts))
-
 -- the fault of the parts
 abbrev pub faults_of_parts : Request → List ℕ → List (Found Fault)
-faults_of_parts asked input = or_else (fault_as fault.Parts (input_fault asked input)) (fault_as fault.PartCount (count_fault asked (parts_in (cut_lines input))))
+faults_of_parts asked input = or_else (fault_as fault.Parts (input_fault asked input)) (fault_as fault.PartCount (miscounted asked (parts_in (cut_lines input))))
 
 -- the faults of the rules
 abbrev pub faults_of_rules : List ℕ → List (Found Fault)

@@ -3,7 +3,7 @@
 ghost use Rattle.std.specs.Prelude.{◌≡◌};
 ghost use Rattle.input_faults.specs.InputFaults.{refusal_of};
 
-use auction_input::{CountedPart, PartFault, Refusal};
+use auction_input::{PartFault, PartKind, Refusal};
 use auction_terms::{GroupFault, RulesFault};
 use bid_forms::FormFault;
 
@@ -12,7 +12,7 @@ use bid_forms::FormFault;
 pub enum Fault {
     Parts(PartFault),
     /// Parts are missing, or there are too many.
-    PartCount(CountedPart),
+    PartCount(PartKind),
     Rules(RulesFault),
     Form { form: usize, fault: FormFault },
     Groups(GroupFault),
@@ -27,7 +27,7 @@ impl Fault {
     {
         match self {
             Fault::Parts(fault) => Refusal::Parts(fault),
-            Fault::PartCount(part) => Refusal::PartCount(part),
+            Fault::PartCount(kind) => Refusal::PartCount(kind),
             Fault::Rules(fault) => Refusal::Rules(fault),
             Fault::Form { form, fault } => Refusal::Form { form, fault },
             Fault::Groups(fault) => Refusal::Groups(fault),

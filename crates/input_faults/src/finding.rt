@@ -1,18 +1,17 @@
 //! Finding all faults of an input.
 
 ghost use Rattle.std.specs.Prelude.{◌≡◌, ◌≢◌, ◌∷◌, [], IfOk, List, MatchOption, OnOk};
-ghost use Rattle.auction_input.specs.Parts.{Hold, cut_lines, parts_in};
-ghost use Rattle.auction_input.specs.PartsTold.{only_text};
+ghost use Rattle.auction_input.specs.Parts.{cut_lines, parts_held, parts_in};
 ghost use Rattle.auction_terms.specs.AllFaults.{Keeps, KeepsMore};
 ghost use Rattle.auction_terms.specs.Borrowed.{bytes_of};
 ghost use Rattle.auction_terms.specs.declared.faults.Found.{Found};
-ghost use Rattle.input_faults.specs.InputFaults.{faults_of_parts, faults_of_texts, faults_under, input_faults};
+ghost use Rattle.input_faults.specs.InputFaults.{faults_in_parts, faults_of_parts, faults_under, input_faults};
 ghost use Rattle.input_faults.specs.declared.fault.Fault as declared;
 
 use crate::fault::Fault;
 use crate::merging::add_call;
 use crate::reading::{take_forms, take_groups, take_rules};
-use auction_input::{PartFault, Parts, miscounted, only_text, split_parts};
+use auction_input::{Part, PartFault, PartKind, miscounted, split_parts, text_of, texts_of};
 use auction_terms::{Faults, Rules};
 use requests::Request;
 use std::alloc::{AllocError, Global};
@@ -33,13 +32,13 @@ fn take_parts<'t>(
     faults: &mut Faults<Fault>,
     request: &Request,
     text: &'t [u8],
-) -> Result<Option<Parts<'t>>, AllocError>
+) -> Result<Option<Vec<Part<'t>>>, AllocError>
     ensures faults { OnOk result (KeepsMore faults.old faults.new
         (faults_of_parts request.now text.now)) }
     ensures parts { IfOk result (λ parts. MatchOption parts
         ((at : Found declared.Fault) × (faults_of_parts request.now text.now ≡ at ∷ []))
         (λ held. (faults_of_parts request.now text.now ≡ [])
-        × Hold held (parts_in (cut_lines text.now)))) }
+        × (parts_held held.items ≡ parts_in (cut_lines text.now)))) }
 {
     let parts = match split_parts(alloc, request, text) {
         Ok(parts) => parts,
@@ -49,10 +48,10 @@ fn take_parts<'t>(
             return Ok(None);
         }
     };
-    match miscounted(request, &parts) {
+    match miscounted(request, parts.as_slice()) {
         None => Ok(Some(parts)),
-        Some(part) => {
-            faults.add(0, Fault::PartCount(part))?;
+        Some(kind) => {
+            faults.add(0, Fault::PartCount(kind))?;
             Ok(None)
         }
     }
@@ -79,18 +78,18 @@ fn take_under(
 fn take_texts(
     alloc: Global,
     faults: &mut Faults<Fault>,
-    parts: &Parts<'_>,
+    parts: &[Part<'_>],
 ) -> Result<(), AllocError>
     ensures { OnOk result (KeepsMore faults.old faults.new
-        (faults_of_texts (only_text (bytes_of parts.now.rules.items))
-        (bytes_of parts.now.forms.items) (only_text (bytes_of parts.now.groups.items)))) }
+        (faults_in_parts (parts_held parts.now))) }
 {
-    let rules = only_text(parts.rules.as_slice());
+    let forms = texts_of(alloc, parts, PartKind::Form)?;
+    let rules = text_of(parts, PartKind::Rules);
     let Some(rules) = take_rules(alloc, faults, rules)? else {
         return Ok(());
     };
-    let groups = only_text(parts.groups.as_slice());
-    take_under(alloc, faults, parts.forms.as_slice(), groups, &rules)?;
+    let groups = text_of(parts, PartKind::Groups);
+    take_under(alloc, faults, forms.as_slice(), groups, &rules)?;
     Ok(())
 }
 
@@ -106,6 +105,6 @@ pub fn input_faults(
     let Some(parts) = take_parts(alloc, &mut faults, request, text)? else {
         return Ok(faults);
     };
-    take_texts(alloc, &mut faults, &parts)?;
+    take_texts(alloc, &mut faults, parts.as_slice())?;
     Ok(faults)
 }

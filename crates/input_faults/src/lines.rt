@@ -29,7 +29,7 @@ use crate::reading::rules_in;
 use crate::record_cursor::RecordCursor;
 use crate::rules_details::rules_detail;
 use crate::wording::add_wording;
-use auction_input::{Parts, Told, only_text, split_parts};
+use auction_input::{PartKind, Told, split_parts, text_of, texts_of};
 use auction_terms::{Faults, Found, Rules, Version, Wording, version_of};
 use byte_sinks::{MemorySink, Sink, WriteFault, Writer};
 use requests::Request;
@@ -207,9 +207,10 @@ fn add_lines<S: Sink>(
 {
     match split_parts(alloc, request, text) {
         Ok(parts) => {
-            let rules = only_text(parts.rules.as_slice());
-            let groups = only_text(parts.groups.as_slice());
-            add_lines_in(alloc, writer, rules, parts.forms.as_slice(), groups, faults)?;
+            let rules = text_of(parts.as_slice(), PartKind::Rules);
+            let groups = text_of(parts.as_slice(), PartKind::Groups);
+            let forms = texts_of(alloc, parts.as_slice(), PartKind::Form)?;
+            add_lines_in(alloc, writer, rules, forms.as_slice(), groups, faults)?;
             Ok(())
         }
         Err(fault) => {

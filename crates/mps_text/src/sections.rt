@@ -207,7 +207,7 @@ pub fn add_entries<S: Sink>(
     ensures { Adds S.taken S.failures writer.old writer.new
         (flat_map (entry_bytes (map shown_row rows.now) name.now) entries.now) }
 {
-    if name.len() <= 14 {
+    if name.len() <= FRONT_NAME_LEN {
         if let Some(end) = write_entries(lines, rows, name, entries) {
             writer.add(&lines[..end]);
             return;

@@ -8,7 +8,8 @@ ghost use Rattle.auction_limits.specs.declared.limits.TheConstants.{MOST_WORKERS
 
 use auction_input::{Auction, Refusal};
 use byte_sinks::Sink;
-use group_winners::won_by_groups;
+use group_compiler::Compiler;
+use group_winners::{check_counts, won_by_groups};
 use outcome::report;
 use requests::Request;
 use std::sync::Wait;
@@ -29,7 +30,9 @@ pub fn write_costs<R: Threads + Wait + Sync + AllocGlobal, S: Sink>(
     ensures refused { IfErr result (Ends (output_of (Request.Report workers) (held auction.now))
         (S.taken out.old) (S.taken out.new) (S.failures out.old) (S.failures out.new)) }
 {
-    let won = won_by_groups(rt, auction, workers)?;
+    check_counts(auction)?;
+    let compiler = Compiler::new(rt, rt.alloc(), &auction.book, &auction.groups)?;
+    let won = won_by_groups(rt, auction, &compiler, workers)?;
     report(&auction.book, &auction.groups, won.as_slice(), out)?;
     Ok(())
 }

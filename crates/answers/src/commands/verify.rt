@@ -12,9 +12,11 @@ ghost use Rattle.answers.specs.inside.Output.{IsWithoutOutput};
 use crate::commands::answer_auction;
 use auction_input::{Auction, Refusal};
 use byte_sinks::Sink;
-use group_winners::{check_certificates, claim_of, won_by_groups};
+use group_compiler::Compiler;
+use group_winners::{check_certificates, check_counts, claim_of, won_by_groups};
 use outcome::report_with;
 use requests::Request;
+use std::alloc::Global;
 use std::sync::Wait;
 use std::thread::Threads;
 
@@ -55,10 +57,13 @@ pub fn write_verified<R: Threads + Wait + Sync + AllocGlobal, S: Sink>(
     ensures refused { IfErr result (IsWithoutOutput (Request.Verify workers) (held auction.now)
         (S.taken out.old) (S.taken out.new) (S.failures out.old) (S.failures out.new)) }
 {
-    let won = won_by_groups(rt, auction, workers)?;
+    check_counts(auction)?;
+    let alloc: Global = rt.alloc();
+    let compiler = Compiler::new(rt, alloc, &auction.book, &auction.groups)?;
+    let won = won_by_groups(rt, auction, &compiler, workers)?;
     let allocations = won.as_slice();
-    check_certificates(rt, rt.alloc(), auction, allocations)?;
-    let claim = claim_of(rt, rt.alloc(), auction, allocations)?;
+    check_certificates(rt, alloc, auction, &compiler, allocations)?;
+    let claim = claim_of(alloc, auction, &compiler, allocations)?;
     report_with(&auction.book, &auction.groups, allocations, &claim, out)?;
     Ok(())
 }

@@ -1,5 +1,5 @@
 -- Where readers stand that go over a text once.
-use Rattle.std.specs.Prelude.{◌≡◌, ℕ, List, Option, drop}
+use Rattle.std.specs.Prelude.{◌≡◌, ℕ, List, drop}
 use Rattle.csv.specs.Records.{fields_of}
 use Rattle.auction_terms.specs.GroupNames.{names_in}
 use Rattle.auction_terms.specs.Lines.{lines_of}

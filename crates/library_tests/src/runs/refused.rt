@@ -5,7 +5,10 @@ ghost use Rattle.std.specs.Prelude.{ℕ, List, Option, None};
 
 use super::{RUNS, Run, TWO_GROUPS, TWO_PROGRAMS, told};
 use answers::{RunFault, run, run_compile, tell};
-use auction_input::{Auction, PartFault, Parts, Refusal, Source, read_auction, split_parts};
+use auction_input::{
+    Auction, Part, PartFault, PartKind, Refusal, Source, count_of, read_auction, split_parts,
+    text_of, texts_of,
+};
 use byte_sinks::{Sink, SinkFailed};
 use group_compiler::OpenGate;
 use requests::Request;
@@ -87,20 +90,47 @@ fn answers<R: Threads + Wait + Sync + AllocGlobal>(rt: &R, row: &Run) -> Result<
     }
 }
 
+const GAMMAS: &[u8] = b"Gamma,A,B\n12,0,1\n";
+
+const LEFT_OUT: &[u8] = b"Gamma\n-\n";
+
 /// Whether these are the parts of the text of two groups.
-fn are_parts(parts: &Parts<'_>) -> bool {
-    parts.rules.len() == 1
-        && parts.forms.as_slice() == [b"Gamma,A,B\n12,0,1\n".as_slice()].as_slice()
-        && parts.groups.as_slice() == [b"Gamma\n-\n".as_slice()].as_slice()
-        && parts.solutions.is_empty()
+fn are_parts(parts: &[Part<'_>]) -> bool {
+    parts.len() == 3
+        && parts[0].kind == PartKind::Rules
+        && parts[1].kind == PartKind::Form
+        && parts[1].bytes == GAMMAS
+        && parts[2].kind == PartKind::Groups
+        && parts[2].bytes == LEFT_OUT
+}
+
+/// Whether these parts are counted, and the first of a kind found.
+fn are_found(parts: &[Part<'_>]) -> bool {
+    count_of(parts, PartKind::Form) == 1
+        && count_of(parts, PartKind::Solution) == 0
+        && text_of(parts, PartKind::Form) == GAMMAS
+        && text_of(parts, PartKind::Solution).is_empty()
 }
 
 #[test]
 fn parts_or_want_of_memory(rt: HostRuntime) -> Result<(), Fail> {
     match split_parts(rt.alloc(), &Request::Text, TWO_GROUPS) {
-        Ok(parts) => assert!(rt; are_parts(&parts)),
+        Ok(parts) => assert!(rt; are_parts(parts.as_slice()) && are_found(parts.as_slice())),
         Err(PartFault::OutOfMemory) => return Err(Fail::from("out of memory")),
         Err(_) => return Err(Fail::from("parts")),
+    }
+    Ok(())
+}
+
+#[test]
+fn texts_of_a_kind_or_want_of_memory(rt: HostRuntime) -> Result<(), Fail> {
+    let parts = [Part {
+        kind: PartKind::Groups,
+        bytes: LEFT_OUT,
+    }];
+    match texts_of(rt.alloc(), parts.as_slice(), PartKind::Groups) {
+        Ok(texts) => assert!(rt; texts.as_slice() == [LEFT_OUT].as_slice()),
+        Err(_) => return Err(Fail::from("out of memory")),
     }
     Ok(())
 }

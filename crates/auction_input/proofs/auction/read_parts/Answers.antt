@@ -12,7 +12,11 @@ returns-in_err-parts-clause-refuses c =
     if-err-of (Refuses (parts_told c.args.request.now c.args.text.now)) c.from_residual.result (refusal.Parts f) c.from_residual.ensures.1 (parts-refused c.args.request.now c.args.text.now f c.in_err-parts.ensures)
 
 pub returns-in-None-clause-told : goal.returns-in-None-clause-told
-returns-in-None-clause-told c = parts-are c.args.request.now c.args.text.now c.in_ok-parts.parts c.in_ok-parts.ensures (sym c.miscounted.ensures ∙ c.in-None.is)
+returns-in-None-clause-told c =
+    let counted = rw c.as_slice.ensures.value at c.miscounted.ensures in
+    parts-are c.args.request.now c.args.text.now c.in_ok-parts.parts c.in_ok-parts.ensures (sym counted ∙ c.in-None.is)
 
 pub returns-clause-refuses : goal.returns-clause-refuses
-returns-clause-refuses c = parts-miscounted c.args.request.now c.args.text.now c.in_ok-parts.parts c.in-Some.part c.in_ok-parts.ensures (sym c.miscounted.ensures ∙ c.in-Some.is)
+returns-clause-refuses c =
+    let counted = rw c.as_slice.ensures.value at c.miscounted.ensures in
+    parts-miscounted c.args.request.now c.args.text.now c.in_ok-parts.parts c.in-Some.kind c.in_ok-parts.ensures (sym counted ∙ c.in-Some.is)

@@ -1,11 +1,9 @@
-use Rattle.std.proofs.Common.{◌∙◌, ℕ, List, ap, sym, subst}
+use Rattle.std.proofs.Common.{ap}
 use Rattle.auction_input.specs.Refused.{Refuses}
-use Rattle.auction_input.specs.PartsTold.{only_text}
 use Rattle.auction_terms.specs.Records.{records_of}
 use Rattle.auction_terms.specs.RulesText.{rules_of_records}
 use Rattle.auction_limits.specs.declared.limits.TheConstants.{TEXT_LIMIT}
 use Rattle.auction_terms.specs.declared.rules_text.RulesFault.TheVariants as rules_fault
-use Rattle.auction_terms.specs.Borrowed.{bytes_of}
 use Rattle.auction_terms.specs.Stages.{refused_as}
 use Rattle.auction_input.specs.TextsTold.{terms_told}
 use Rattle.auction_input.specs.declared.refusal.Refusal.TheVariants as refusal
@@ -16,15 +14,12 @@ use Rattle.auction_input.proofs.auction.rules_in.Goals as goal
 
 pub returns-clause-told : goal.returns-clause-told
 returns-clause-told c =
-    let text = c.only_text.result.now in
-    let t = c.in_ok-read_rules.field-0 in
-    let told = rules-tell text t c.in_ok-read_rules.ensures.too_large c.in_ok-read_rules.ensures.answer in
-    ap (λ (bytes : List ℕ). terms_told bytes) (sym c.only_text.ensures) ∙ ap (λ r. refused_as refusal.Rules r) told
+    let told = rules-tell c.args.text.now c.in_ok-read_rules.field-0 c.in_ok-read_rules.ensures.too_large c.in_ok-read_rules.ensures.answer in
+    ap (λ r. refused_as refusal.Rules r) told
 
 pub returns-in_err-read_rules-clause-refuses : goal.returns-in_err-read_rules-clause-refuses
 returns-in_err-read_rules-clause-refuses c =
-    let text = c.only_text.result.now in
+    let text = c.args.text.now in
     let f = c.in_err-read_rules.field-0.0 in
     let refused = rules-refuse f (sized TEXT_LIMIT rules_fault.TooLarge (λ rules. rules_of_records (records_of rules)) text) (rules-faulted text f c.in_err-read_rules.ensures.too_large c.in_err-read_rules.ensures.answer) in
-    if-err-of (Refuses (terms_told (only_text (bytes_of c.args.texts.now)))) c.from_residual.result (refusal.Rules f) c.from_residual.ensures.1
-    (subst (λ (bytes : List ℕ). Refuses (terms_told bytes) (refusal.Rules f)) c.only_text.ensures refused)
+    if-err-of (Refuses (terms_told text)) c.from_residual.result (refusal.Rules f) c.from_residual.ensures.1 refused

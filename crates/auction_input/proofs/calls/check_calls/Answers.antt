@@ -5,6 +5,8 @@ use Rattle.auction_terms.proofs.FirstFaultFacts.{CheckedSoFar, checked-all, chec
 use Rattle.bid_forms.specs.Offers.{Offers}
 use Rattle.auction_input.specs.Calls.{one_too_many}
 use Rattle.auction_input.specs.Submissions.{forms_of}
+use Rattle.auction_input.specs.declared.calls.TheConstants.{COUNTS_LEN}
+use Rattle.bid_book.specs.declared.records.TheConstants.{CALL_LIMIT}
 use Rattle.auction_input.proofs.CallFacts.{call-left, counted-more, no-call-left}
 use Rattle.auction_input.proofs.calls.check_calls.Goals as goal
 
@@ -17,7 +19,7 @@ last-form : (forms : List Offers) (k : ℕ) (form : Offers) → k < length forms
 last-form forms k form within is = take_more forms k form within ∙ ap (λ (x : Offers). take k forms ++ x ∷ []) (sym is)
 
 pub loop-place-init : goal.loop-place-init
-loop-place-init c = (refl, λ b within. get_or-replicate 257 b 0 0 within, record { all_is = refl; fault_is = refl })
+loop-place-init c = (refl, λ b within. get_or-replicate COUNTS_LEN b 0 0 within, record { all_is = refl; fault_is = refl })
 
 pub loop-place-preserved : goal.loop-place-preserved
 loop-place-preserved c =
@@ -29,12 +31,12 @@ loop-place-preserved c =
     let before = take place forms in
     let within : place < length forms = c.loop-place-test.true in
     let bidder : c.from-bidder.result ≡ form.bidder = (cc) in
-    let small : form.bidder < 257 = (let few = c.bidder.ensures.form.bidders in omega arith) in
+    let small : form.bidder < COUNTS_LEN = (let few = c.bidder.ensures.form.bidders in omega arith) in
     let count = slice_index_or counts c.from-bidder.result 0 + 1 in
     let own = counted form.bidder small in
     let equal : slice_index_or counts c.from-bidder.result 0 ≡ slice_index_or counts form.bidder 0 = ap (λ i. slice_index_or counts i 0) bidder in
-    let few : length (forms_of form.bidder before) < 1000 = (let limit = c.if-counts-bidder-ge-CALL_LIMIT.false in omega arith) in
-    let room : 257 ≤ length counts = omega arith in
+    let few : length (forms_of form.bidder before) < CALL_LIMIT = (let limit = c.if-counts-bidder-ge-CALL_LIMIT.false in omega arith) in
+    let room : COUNTS_LEN ≤ length counts = omega arith in
     let more = counted-more counts before form count room small counted (ap (λ n. n + 1) equal) in
     let taken = last-form forms place form within c.index-forms-place.is in
     let checked = checked-more one_too_many forms before (drop place forms) (drop (place + 1) forms) form so_far (next-form forms place form within c.index-forms-place.is) (call-left before form few) in (
@@ -53,10 +55,10 @@ returns-then-counts-bidder-ge-CALL_LIMIT-clause-refused c =
     let before = take place forms in
     let within : place < length forms = c.loop-place-test.true in
     let bidder : c.from-bidder.result ≡ form.bidder = (cc) in
-    let small : form.bidder < 257 = (let few = c.bidder.ensures.form.bidders in omega arith) in
+    let small : form.bidder < COUNTS_LEN = (let few = c.bidder.ensures.form.bidders in omega arith) in
     let own = counted form.bidder small in
     let equal : slice_index_or counts c.from-bidder.result 0 ≡ slice_index_or counts form.bidder 0 = ap (λ i. slice_index_or counts i 0) bidder in
-    let many : 1000 ≤ length (forms_of form.bidder before) = (let limit = c.if-counts-bidder-ge-CALL_LIMIT.true in omega arith) in
+    let many : CALL_LIMIT ≤ length (forms_of form.bidder before) = (let limit = c.if-counts-bidder-ge-CALL_LIMIT.true in omega arith) in
     let number : length before ≡ place = length-take-le place forms (omega arith) in
     let found = no-call-left before form many ∙ ap (λ n. Some (n + 1)) number in
     (place + 1, checked-fault one_too_many forms before (drop place forms) (drop (place + 1) forms) form (place + 1) so_far (next-form forms place form within c.index-forms-place.is) found, refl)

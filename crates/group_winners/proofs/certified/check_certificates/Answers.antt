@@ -1,9 +1,5 @@
-use Rattle.std.proofs.Common.{◌≡◌, ◌≢◌, ◌∙◌, List, ap, inl, length, map, rules}
-use Rattle.group_winners.specs.Certified.{bounds_of}
-use Rattle.group_compiler.specs.Compiled.{Compiling}
-use Rattle.auction_input.specs.Settled.{held}
+use Rattle.std.proofs.Common.{◌≡◌, ◌≢◌, inl, length, map, rules}
 use Rattle.group_winners.specs.inside.Judging.{bound_held}
-use Rattle.group_winners.specs.declared.certified.ClaimedBound as code
 use Rattle.group_winners.proofs.CertifiedFacts.{are-certified-by, are-refused-by, bounds-are, certificates-miscounted}
 use Rattle.group_winners.proofs.certified.check_certificates.Goals as goal
 
@@ -18,17 +14,13 @@ returns-clause-shown g c =
     let auction = c.args.auction.now in
     let won = c.args.won.now in
     let each : length auction.certificates.items ≡ length auction.groups = search rules in
-    let same : map (bound_held c.in_ok-compiler.compiler.book) c.as_slice-2.result.now ≡ bounds_of (held auction) won =
-    ap (λ (k : Compiling). map (bound_held k.book) c.as_slice-2.result.now) c.in_ok-compiler.ensures
-    ∙ ap (λ (bs : List code.ClaimedBound). map (bound_held auction.book) bs) c.as_slice-2.ensures.value ∙ c.in_ok-bounds.ensures ∙ bounds-are auction won c.as_slice.result.now c.as_slice.ensures.value in
-    are-certified-by auction won each (map (bound_held c.in_ok-compiler.compiler.book) c.as_slice-2.result.now) c.check_each.result same c.check_each.ensures.shown
+    let same = bounds-are auction won c.args.compiler.now c.as_slice-2.result.now c.in_ok-bounds.bounds.items c.as_slice.result.now c.requires.compiler c.as_slice-2.ensures.value c.as_slice.ensures.value c.in_ok-bounds.ensures in
+    are-certified-by auction won each (map (bound_held c.args.compiler.now.book) c.as_slice-2.result.now) c.check_each.result same c.check_each.ensures.shown
 
 pub returns-clause-refuses : goal.returns-clause-refuses
 returns-clause-refuses g c =
     let auction = c.args.auction.now in
     let won = c.args.won.now in
     let each : length auction.certificates.items ≡ length auction.groups = search rules in
-    let same : map (bound_held c.in_ok-compiler.compiler.book) c.as_slice-2.result.now ≡ bounds_of (held auction) won =
-    ap (λ (k : Compiling). map (bound_held k.book) c.as_slice-2.result.now) c.in_ok-compiler.ensures
-    ∙ ap (λ (bs : List code.ClaimedBound). map (bound_held auction.book) bs) c.as_slice-2.ensures.value ∙ c.in_ok-bounds.ensures ∙ bounds-are auction won c.as_slice.result.now c.as_slice.ensures.value in
-    are-refused-by auction won each (map (bound_held c.in_ok-compiler.compiler.book) c.as_slice-2.result.now) c.check_each.result same c.check_each.ensures.refuses
+    let same = bounds-are auction won c.args.compiler.now c.as_slice-2.result.now c.in_ok-bounds.bounds.items c.as_slice.result.now c.requires.compiler c.as_slice-2.ensures.value c.as_slice.ensures.value c.in_ok-bounds.ensures in
+    are-refused-by auction won each (map (bound_held c.args.compiler.now.book) c.as_slice-2.result.now) c.check_each.result same c.check_each.ensures.refuses

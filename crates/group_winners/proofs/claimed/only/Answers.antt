@@ -17,15 +17,15 @@ use Rattle.group_winners.proofs.WinningFacts.{allowed-length}
 use Rattle.group_winners.proofs.claimed.only.Goals as goal
 
 pub check_only-requires : goal.check_only-requires
-check_only-requires g c = allowed-length c.in_ok-program.program.columns c.in-Ok.point c.in-Ok.ensures.point.allowed
+check_only-requires c = allowed-length c.in_ok-program.program.columns c.in-Ok.point c.in-Ok.ensures.point.allowed
 
 pub returns-in-Err-clause-refuses : goal.returns-in-Err-clause-refuses
-returns-in-Err-clause-refuses g c =
+returns-in-Err-clause-refuses c =
     let auction = c.args.auction.now in
     let point = c.in-Ok.point in
     let nobody : c.group.result.now ≡ [] = c.group.ensures ∙ first-empty auction.groups c.requires.won.starts in
     let same : c.in_ok-program.program ≡ program_without auction.book [] =
-    c.in_ok-program.ensures ∙ ap (λ (k : Compiling). program_without k.book c.group.result.now) c.in_ok-compiler.ensures ∙ ap (λ (group : List ℕ). program_without auction.book group) nobody in
+    c.in_ok-program.ensures ∙ ap (λ (k : Compiling). program_without k.book c.group.result.now) c.requires.compiler ∙ ap (λ (group : List ℕ). program_without auction.book group) nobody in
     let text = text-at auction.solutions.items 0 c.index.result.now c.requires.won.some c.index.ensures in
     let solved : solution (program_without auction.book []) (slice_index_or (bytes_of auction.solutions.items) 0 []) ≡ Ok point = sym (subst (λ (t : List ℕ). Ok point ≡ solution (program_without auction.book []) t) text (subst (λ (p : Table). Ok point ≡ solution p c.index.result.now.now) same c.in-Ok.ensures.answer)) in
     let (claimed, one, alone) = one-unique auction c.args.first.now c.index-2.result.now c.requires.one c.requires.alone c.index-2.ensures in
@@ -34,17 +34,17 @@ returns-in-Err-clause-refuses g c =
     rw claimed (only-refused (held auction) c.args.first.now c.index-2.result.now.now point solved c.in-Err.fault found large one alone)
 
 pub only_or_rival-requires : goal.only_or_rival-requires
-only_or_rival-requires g c =
+only_or_rival-requires c =
     let auction = c.args.auction.now in
     feasible-of (sale_of auction.book) 1 [] (slice_index_or (bytes_of auction.solutions.items) 0 []) c.args.first.now c.rules-within_limits.ensures.book c.requires.won.won
 
 pub returns-clause-told : goal.returns-clause-told
-returns-clause-told g c =
+returns-clause-told c =
     let auction = c.args.auction.now in
     let point = c.in-Ok.point in
     let nobody : c.group.result.now ≡ [] = c.group.ensures ∙ first-empty auction.groups c.requires.won.starts in
     let same : c.in_ok-program.program ≡ program_without auction.book [] =
-    c.in_ok-program.ensures ∙ ap (λ (k : Compiling). program_without k.book c.group.result.now) c.in_ok-compiler.ensures ∙ ap (λ (group : List ℕ). program_without auction.book group) nobody in
+    c.in_ok-program.ensures ∙ ap (λ (k : Compiling). program_without k.book c.group.result.now) c.requires.compiler ∙ ap (λ (group : List ℕ). program_without auction.book group) nobody in
     let text = text-at auction.solutions.items 0 c.index.result.now c.requires.won.some c.index.ensures in
     let solved : solution (program_without auction.book []) (slice_index_or (bytes_of auction.solutions.items) 0 []) ≡ Ok point = sym (subst (λ (t : List ℕ). Ok point ≡ solution (program_without auction.book []) t) text (subst (λ (p : Table). Ok point ≡ solution p c.index.result.now.now) same c.in-Ok.ensures.answer)) in
     let (claimed, one, alone) = one-unique auction c.args.first.now c.index-2.result.now c.requires.one c.requires.alone c.index-2.ensures in

@@ -14,34 +14,34 @@ abbrev Told : Type 0
 Told = Result Uniqueness Refusal
 
 pub returns-in-Ok-clause-told : goal.returns-in-Ok-clause-told
-returns-in-Ok-clause-told g c =
+returns-in-Ok-clause-told c =
     let auction = c.args.auction.now in
     let text = c.index.result.now in
     let nobody : c.group.result.now ≡ [] = c.group.ensures ∙ first-empty auction.groups c.requires.won.starts in
-    let same : program_without c.in_ok-compiler.compiler.book c.group.result.now ≡ program_without auction.book [] =
-    ap (λ (k : Compiling). program_without k.book c.group.result.now) c.in_ok-compiler.ensures ∙ ap (λ (group : List ℕ). program_without auction.book group) nobody in
+    let same : program_without c.args.compiler.now.book c.group.result.now ≡ program_without auction.book [] =
+    ap (λ (k : Compiling). program_without k.book c.group.result.now) c.requires.compiler ∙ ap (λ (group : List ℕ). program_without auction.book group) nobody in
     let won = subst (λ p. winners_by p 1 text.now ≡ Ok c.in-Ok.other) same c.in-Ok.ensures.won in
     let claimed = one-tie auction c.args.first.now text c.requires.one c.requires.alone c.index.ensures in
     subst (λ (told : Told). IfOk c.tied.result (λ claim. told ≡ Ok claim)) (sym claimed) (tie-told (held auction) c.args.first.now text.now c.in-Ok.other won c.tied.result c.tied.ensures.told)
 
 pub returns-in-Ok-clause-refuses : goal.returns-in-Ok-clause-refuses
-returns-in-Ok-clause-refuses g c =
+returns-in-Ok-clause-refuses c =
     let auction = c.args.auction.now in
     let text = c.index.result.now in
     let nobody : c.group.result.now ≡ [] = c.group.ensures ∙ first-empty auction.groups c.requires.won.starts in
-    let same : program_without c.in_ok-compiler.compiler.book c.group.result.now ≡ program_without auction.book [] =
-    ap (λ (k : Compiling). program_without k.book c.group.result.now) c.in_ok-compiler.ensures ∙ ap (λ (group : List ℕ). program_without auction.book group) nobody in
+    let same : program_without c.args.compiler.now.book c.group.result.now ≡ program_without auction.book [] =
+    ap (λ (k : Compiling). program_without k.book c.group.result.now) c.requires.compiler ∙ ap (λ (group : List ℕ). program_without auction.book group) nobody in
     let won = subst (λ p. winners_by p 1 text.now ≡ Ok c.in-Ok.other) same c.in-Ok.ensures.won in
     let claimed = one-tie auction c.args.first.now text c.requires.one c.requires.alone c.index.ensures in
     subst (λ (told : Told). IfErr c.tied.result (Refuses told)) (sym claimed) (tie-refused (held auction) c.args.first.now text.now c.in-Ok.other won c.tied.result c.tied.ensures.refuses)
 
-pub returns-clause-refuses : goal.returns-clause-refuses
-returns-clause-refuses g c =
+pub returns-in-Err-clause-refuses : goal.returns-in-Err-clause-refuses
+returns-in-Err-clause-refuses c =
     let auction = c.args.auction.now in
     let text = c.index.result.now in
     let nobody : c.group.result.now ≡ [] = c.group.ensures ∙ first-empty auction.groups c.requires.won.starts in
-    let same : program_without c.in_ok-compiler.compiler.book c.group.result.now ≡ program_without auction.book [] =
-    ap (λ (k : Compiling). program_without k.book c.group.result.now) c.in_ok-compiler.ensures ∙ ap (λ (group : List ℕ). program_without auction.book group) nobody in
+    let same : program_without c.args.compiler.now.book c.group.result.now ≡ program_without auction.book [] =
+    ap (λ (k : Compiling). program_without k.book c.group.result.now) c.requires.compiler ∙ ap (λ (group : List ℕ). program_without auction.book group) nobody in
     let refused = subst (λ p. Refuses (winners_by p 1 text.now) c.in-Err.refusal) same c.in-Err.ensures.refuses in
     let claimed = one-tie auction c.args.first.now text c.requires.one c.requires.alone c.index.ensures in
     rw (claimed, c.of_tie.ensures) (stop _ _ _ (refuses-tie _ c.in-Err.refusal refused))

@@ -1,33 +1,37 @@
-use Rattle.std.proofs.Common.{◌≡◌, ◌≢◌, ◌∙◌, IfErr, IfOk, Ok, sym, true, false, length, rules, subst}
-use Rattle.auction_terms.specs.Groups.{starts_empty}
+use Rattle.std.proofs.Common.{◌≡◌, ◌∙◌, IfErr, IfOk, List, ℕ, Ok, Bor, ap, length, subst, sym}
+use Rattle.std.proofs.lemmas.List.{length-map}
+use Rattle.std.proofs.lemmas.Result.{IfOk-weaker}
 use Rattle.auction_input.specs.Refused.{Refuses}
-use Rattle.group_winners.proofs.CountFacts.{goes-over, not-empty, solutions-miscounted}
+use Rattle.auction_input.specs.Settled.{held}
+use Rattle.auction_terms.specs.Borrowed.{bytes_of}
+use Rattle.group_compiler.specs.Compiled.{Compiling}
+use Rattle.group_winners.specs.SolutionWinners.{winners_of_groups}
+use Rattle.group_winners.specs.inside.SolutionWinners.{winners_told}
+use Rattle.group_winners.proofs.CountFacts.{goes-over}
+use Rattle.group_winners.proofs.ReportFacts.{as-many}
 use Rattle.group_winners.proofs.report_run.won_by_groups.Goals as goal
 
-pub returns-then-not-starts_empty-clause-refuses : goal.returns-then-not-starts_empty-clause-refuses
-returns-then-not-starts_empty-clause-refuses g c =
-    let some : starts_empty c.args.auction.now.groups ≡ false = sym c.starts_empty.ensures ∙ c.if-not-starts_empty.true in
-    not-empty c.args.auction.now some
-
-pub returns-then-len-count-clause-refuses : goal.returns-then-len-count-clause-refuses
-returns-then-len-count-clause-refuses g c =
-    let auction = c.args.auction.now in
-    let empty : starts_empty auction.groups ≡ true = search rules in
-    let other : length auction.solutions.items ≢ length auction.groups = (λ same. search rules) in
-    solutions-miscounted auction empty other
+pub returns-clause-count : goal.returns-clause-count
+returns-clause-count g c =
+    let compiler = c.args.compiler.now in
+    let solutions = c.as_slice.result.now in
+    let groups : length compiler.groups ≡ length c.args.auction.now.groups = ap (λ (k : Compiling). length k.groups) c.requires.compiler in
+    let same : length (bytes_of solutions) ≡ length compiler.groups = length-map solutions _ ∙ ap (λ (xs : List (Bor (List ℕ))). length xs) c.as_slice.ensures.value ∙ c.requires.each ∙ sym groups in
+    IfOk-weaker c.all_won.result (λ all. winners_told compiler (bytes_of solutions) ≡ Ok all.items) (λ all. length all.items ≡ length c.args.auction.now.groups)
+    (λ all told. as-many compiler (bytes_of solutions) same all.items told ∙ groups) c.all_won.ensures.won
 
 pub returns-clause-won : goal.returns-clause-won
 returns-clause-won g c =
     let auction = c.args.auction.now in
-    let empty : starts_empty auction.groups ≡ true = search rules in
-    let each : length auction.solutions.items ≡ length auction.groups = search rules in
-    let over = goes-over auction empty c.as_slice.result.now each c.as_slice.ensures.value in
-    subst (λ told. IfOk c.won_by_each.result (λ won. told ≡ Ok won.items)) (sym over) c.won_by_each.ensures.won
+    let solutions = c.as_slice.result.now in
+    let told : winners_told c.args.compiler.now (bytes_of solutions) ≡ winners_of_groups (held auction) =
+    ap (λ (k : Compiling). winners_told k (bytes_of solutions)) c.requires.compiler ∙ sym (goes-over auction c.requires.first solutions c.requires.each c.as_slice.ensures.value) in
+    subst (λ told. IfOk c.all_won.result (λ won. told ≡ Ok won.items)) told c.all_won.ensures.won
 
 pub returns-clause-refuses : goal.returns-clause-refuses
 returns-clause-refuses g c =
     let auction = c.args.auction.now in
-    let empty : starts_empty auction.groups ≡ true = search rules in
-    let each : length auction.solutions.items ≡ length auction.groups = search rules in
-    let over = goes-over auction empty c.as_slice.result.now each c.as_slice.ensures.value in
-    subst (λ told. IfErr c.won_by_each.result (Refuses told)) (sym over) c.won_by_each.ensures.refuses
+    let solutions = c.as_slice.result.now in
+    let told : winners_told c.args.compiler.now (bytes_of solutions) ≡ winners_of_groups (held auction) =
+    ap (λ (k : Compiling). winners_told k (bytes_of solutions)) c.requires.compiler ∙ sym (goes-over auction c.requires.first solutions c.requires.each c.as_slice.ensures.value) in
+    subst (λ told. IfErr c.all_won.result (Refuses told)) told c.all_won.ensures.refuses

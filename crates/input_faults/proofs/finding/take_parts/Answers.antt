@@ -1,5 +1,6 @@
 use Rattle.std.proofs.Common.{◌∙◌, None, Some, sym}
 use Rattle.auction_terms.proofs.AllFaultsFacts.{keeps-none}
+use Rattle.auction_input.specs.Parts.{parts_held}
 use Rattle.auction_terms.specs.AllFaults.{found}
 use Rattle.input_faults.specs.declared.fault.Fault.TheVariants as fault
 use Rattle.input_faults.proofs.PartsFacts.{part-told, parts-counted, parts-unknown}
@@ -15,13 +16,15 @@ returns-in-Err c =
 
 pub returns-in-None : goal.returns-in-None
 returns-in-None c =
-    let (none, hold) = c.in-Ok.ensures in
-    let is = parts-counted c.args.request.now c.args.text.now c.in-Ok.parts none hold None (sym c.miscounted.ensures ∙ c.in-None.is) in
-    record { faults = rw is (keeps-none c.args.faults.now); parts = (is, hold) }
+    let (none, held) = c.in-Ok.ensures in
+    let counted = rw c.as_slice.ensures.value at c.miscounted.ensures in
+    let is = parts-counted c.args.request.now c.args.text.now (parts_held c.in-Ok.parts.items) None none held (sym counted ∙ c.in-None.is) in
+    record { faults = rw is (keeps-none c.args.faults.now); parts = (is, held) }
 
 pub returns : goal.returns
 returns c =
-    let (none, hold) = c.in-Ok.ensures in
-    let part = c.in-Some.part in
-    let is = parts-counted c.args.request.now c.args.text.now c.in-Ok.parts none hold (Some part) (sym c.miscounted.ensures ∙ c.in-Some.is) in
-    record { faults = rw is c.in_ok-add-in-Some.ensures; parts = (found 0 (fault.PartCount part), is) }
+    let (none, held) = c.in-Ok.ensures in
+    let kind = c.in-Some.kind in
+    let counted = rw c.as_slice.ensures.value at c.miscounted.ensures in
+    let is = parts-counted c.args.request.now c.args.text.now (parts_held c.in-Ok.parts.items) (Some kind) none held (sym counted ∙ c.in-Some.is) in
+    record { faults = rw is c.in_ok-add-in-Some.ensures; parts = (found 0 (fault.PartCount kind), is) }

@@ -1,4 +1,4 @@
-use Rattle.std.proofs.Common.{◌≡◌, take}
+use Rattle.std.proofs.Common.{take}
 use Rattle.std.specs.Prelude.{flat_map}
 use Rattle.auction_terms.specs.Borrowed.{bytes_of}
 use Rattle.byte_sinks.specs.Adds.{Adds}

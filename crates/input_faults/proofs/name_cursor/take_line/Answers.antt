@@ -1,4 +1,4 @@
-use Rattle.std.proofs.Common.{◌≡◌, ◌∙◌, sym}
+use Rattle.std.proofs.Common.{◌∙◌, sym}
 use Rattle.input_faults.proofs.CursorFacts.{next-item, no-item}
 use Rattle.input_faults.proofs.name_cursor.take_line.Goals as goal
 

@@ -1,4 +1,4 @@
-use Rattle.std.proofs.Common.{◌≡◌, ◌∷◌, ◌∙◌, [], drop, refl, sym}
+use Rattle.std.proofs.Common.{◌≡◌, ◌∷◌, ◌∙◌, [], sym}
 use Rattle.csv.specs.Records.{fields_of}
 use Rattle.input_faults.proofs.CursorFacts.{next-item, no-item}
 use Rattle.input_faults.proofs.record_cursor.take_record.Goals as goal

@@ -1,4 +1,4 @@
-use Rattle.std.proofs.Common.{List, refl, subst}
+use Rattle.std.proofs.Common.{List, inr, refl, subst}
 use Rattle.std.specs.Io.KnownBytes.{Appends}
 use Rattle.auction_terms.specs.declared.choices.Choice.{Choice}
 use Rattle.byte_sinks.specs.Sinks.{SentFront}
@@ -22,12 +22,27 @@ returns-clause-written g c =
     let sent = subst (λ (won : List (List Choice)). Appends (g.S.Sink.taken c.args.out.now) (g.S.Sink.taken c.report.new.sink) (report_text (sale_of auction.book) auction.groups won)) c.as_slice.ensures.value c.in_ok-report.ensures.ok in
     (report_text (sale_of auction.book) auction.groups all, next _ all _ _ c.in_ok-won.ensures.won refl, sent)
 
+pub returns-in_err-check_counts-clause-refused : goal.returns-in_err-check_counts-clause-refused
+returns-in_err-check_counts-clause-refused g c =
+    let taken = g.S.Sink.taken c.args.out.now in
+    let failures = g.S.Sink.failures c.args.out.now in
+    let r = c.in_err-check_counts.field-0.0 in
+    if-err-of (Ends (output_of (request.Report c.args.workers) (held c.args.auction.now)) taken taken failures failures) c.from_residual.result r c.from_residual.ensures.1
+    (by_refusal (stop _ _ r c.in_err-check_counts.ensures.refuses) refl)
+
+pub returns-in_err-compiler-clause-refused : goal.returns-in_err-compiler-clause-refused
+returns-in_err-compiler-clause-refused g c =
+    let taken = g.S.Sink.taken c.args.out.now in
+    let failures = g.S.Sink.failures c.args.out.now in
+    if-err-of (Ends (output_of (request.Report c.args.workers) (held c.args.auction.now)) taken taken failures failures) c.from_residual-in_err-compiler.result refusal.OutOfMemory c.from_residual-in_err-compiler.ensures.1
+    (by_refusal (inr refl) refl)
+
 pub returns-in_err-won-clause-refused : goal.returns-in_err-won-clause-refused
 returns-in_err-won-clause-refused g c =
     let taken = g.S.Sink.taken c.args.out.now in
     let failures = g.S.Sink.failures c.args.out.now in
     let r = c.in_err-won.field-0.0 in
-    if-err-of (Ends (output_of (request.Report c.args.workers) (held c.args.auction.now)) taken taken failures failures) c.from_residual.result r c.from_residual.ensures.1
+    if-err-of (Ends (output_of (request.Report c.args.workers) (held c.args.auction.now)) taken taken failures failures) c.from_residual-in_err-won.result r c.from_residual-in_err-won.ensures.1
     (by_refusal (stop _ _ r c.in_err-won.ensures.refuses) refl)
 
 pub returns-in_err-report-clause-refused : goal.returns-in_err-report-clause-refused

@@ -1,4 +1,4 @@
-use Rattle.std.proofs.Common.{◌++◌, ◌∙◌, List, Ok, ap, inl, refl, sym}
+use Rattle.std.proofs.Common.{◌++◌, ◌∙◌, List, Ok, ap, inl, inr, refl, sym}
 use Rattle.auction_terms.specs.declared.choices.Choice.{Choice}
 use Rattle.outcome.specs.Report.{report_text}
 use Rattle.bid_desk.specs.Sale.{sale_of}
@@ -23,13 +23,30 @@ returns-clause-written g c =
     let sent = c.in_ok-report_with.ensures.ok in
     (report_text (sale_of auction.book) auction.groups all ++ uniqueness_text (sale_of auction.book) claim, next _ all _ _ (next _ all _ _ won c.in_ok-check_certificates.ensures.shown) (next _ claim _ _ c.in_ok-claim.ensures.told refl), sent)
 
+pub returns-in_err-check_counts-clause-refused : goal.returns-in_err-check_counts-clause-refused
+returns-in_err-check_counts-clause-refused g c =
+    let auction = held c.args.auction.now in
+    let taken = g.S.Sink.taken c.args.out.now in
+    let failures = g.S.Sink.failures c.args.out.now in
+    let r = c.in_err-check_counts.field-0.0 in
+    if-err-of (IsWithoutOutput (request.Verify c.args.workers) auction taken taken failures failures) c.from_residual.result r c.from_residual.ensures.1
+    (inl (by_refusal (stop _ _ r (stop _ _ r c.in_err-check_counts.ensures.refuses)) refl))
+
+pub returns-in_err-compiler-clause-refused : goal.returns-in_err-compiler-clause-refused
+returns-in_err-compiler-clause-refused g c =
+    let auction = held c.args.auction.now in
+    let taken = g.S.Sink.taken c.args.out.now in
+    let failures = g.S.Sink.failures c.args.out.now in
+    if-err-of (IsWithoutOutput (request.Verify c.args.workers) auction taken taken failures failures) c.from_residual-in_err-compiler.result refusal.OutOfMemory c.from_residual-in_err-compiler.ensures.1
+    (inl (by_refusal (inr refl) refl))
+
 pub returns-in_err-won-clause-refused : goal.returns-in_err-won-clause-refused
 returns-in_err-won-clause-refused g c =
     let auction = held c.args.auction.now in
     let taken = g.S.Sink.taken c.args.out.now in
     let failures = g.S.Sink.failures c.args.out.now in
     let r = c.in_err-won.field-0.0 in
-    if-err-of (IsWithoutOutput (request.Verify c.args.workers) auction taken taken failures failures) c.from_residual.result r c.from_residual.ensures.1
+    if-err-of (IsWithoutOutput (request.Verify c.args.workers) auction taken taken failures failures) c.from_residual-in_err-won.result r c.from_residual-in_err-won.ensures.1
     (inl (by_refusal (stop _ _ r (stop _ _ r c.in_err-won.ensures.refuses)) refl))
 
 pub returns-in_err-check_certificates-clause-refused : goal.returns-in_err-check_certificates-clause-refused
