@@ -10,7 +10,7 @@ import wdp
 from wdp import example
 
 EXAMPLE = re.compile(r"`([^`]+)` → `([^`]*)`: `(wdp: [^`]+)`")
-ROW = re.compile(r"^\| (?P<number>[0-9]*) \| (?P<name>[A-Za-z]*) \|.*\|$")
+ROW = re.compile(r"^\| (?P<number>[0-9]+) (?P<name>[A-Za-z]+) \|.*\|$")
 PLACE = re.compile(r" at (record|line|row|column) ([A-Za-z0-9]+)(?:, (?:earlier bid|column) ([0-9]+))?$")
 
 

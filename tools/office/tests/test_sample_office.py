@@ -101,7 +101,7 @@ class Document(unittest.TestCase):
                                           stderr=subprocess.STDOUT, env={**os.environ, "LC_ALL": "C"}, timeout=300)
                     self.assertEqual(seen.stdout.decode(), wanted)
                 count += 1
-            self.assertGreater(count, 20)
+            self.assertGreater(count, 14)
             with open(os.path.join(folder, "input.txt"), "rb") as file:
                 self.assertEqual(file.read(), INPUT)
 
