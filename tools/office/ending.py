@@ -7,6 +7,7 @@ import subprocess
 
 PR_SET_PDEATHSIG = 1
 ENDINGS = (signal.SIGTERM, signal.SIGHUP)
+DISMISSED = b"."
 libc = ctypes.CDLL(None, use_errno=True)
 
 
@@ -38,14 +39,9 @@ def endings_held():
         signal.pthread_sigmask(signal.SIG_SETMASK, before)
 
 
-def watch_over(group):
-    """Starts a watcher, which kills a process group unless it is dismissed."""
-    return watcher_who(lambda: kill_group(group))
-
-
 def watcher_who(acts):
     """Starts a watcher, who acts as soon as nobody holds the handle that is given back, unless it is dismissed. The handle is
-    closed with this process, whatever ends it."""
+    closed with this process, whatever ends it. What is written to it before goes to the act."""
     reading, writing = os.pipe()
     watcher = os.fork()
     if watcher == 0:
@@ -54,8 +50,11 @@ def watcher_who(acts):
             for number in (signal.SIGINT, *ENDINGS):
                 signal.signal(number, signal.SIG_IGN)
             close_all_but(reading)
-            if not os.read(reading, 1):
-                acts()
+            told = b""
+            while not told.endswith(DISMISSED) and (more := os.read(reading, 64)):
+                told += more
+            if not told.endswith(DISMISSED):
+                acts(told)
         finally:
             os._exit(0)
     os.close(reading)
@@ -65,7 +64,7 @@ def watcher_who(acts):
 def dismiss(watcher, handle):
     """Ends a watcher, who has nothing to do any more."""
     with contextlib.suppress(BrokenPipeError):
-        os.write(handle, b".")
+        os.write(handle, DISMISSED)
     os.close(handle)
     with contextlib.suppress(ChildProcessError):
         os.waitpid(watcher, 0)
@@ -76,14 +75,36 @@ def close_all_but(handle):
     os.closerange(handle + 1, os.sysconf("SC_OPEN_MAX"))
 
 
+def kill_told(number):
+    """Kills the process group of which a watcher was told, if it was."""
+    if number:
+        kill_group(int(number))
+
+
+def put_down(program, watcher, handle):
+    kill_group(program.pid)
+    dismiss(watcher, handle)
+    program.wait()
+
+
 @contextlib.contextmanager
 def started(words, **how):
-    """A program with a process group of its own, of which nothing is left at the end."""
-    program = subprocess.Popen(words, stdin=subprocess.DEVNULL, start_new_session=True, preexec_fn=end_with_parent, **how)
-    watcher, handle = watch_over(program.pid)
-    try:
+    """A program with a process group of its own, of which nothing is left at the end, whatever ends this process, and when."""
+    with contextlib.ExitStack() as ended:
+        # (until it is known how to put the program down, what ends the work waits)
+        with endings_held() as before:
+            watcher, handle = watcher_who(kill_told)
+
+            def begin():
+                # (the watcher knows the group before the program does anything)
+                os.write(handle, b"%d" % os.getpid())
+                end_with_parent()
+                signal.pthread_sigmask(signal.SIG_SETMASK, before)
+
+            try:
+                program = subprocess.Popen(words, stdin=subprocess.DEVNULL, start_new_session=True, preexec_fn=begin, **how)
+            except OSError:
+                dismiss(watcher, handle)
+                raise
+            ended.callback(put_down, program, watcher, handle)
         yield program
-    finally:
-        kill_group(program.pid)
-        dismiss(watcher, handle)
-        program.wait()

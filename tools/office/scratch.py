@@ -26,7 +26,7 @@ def temporary_folder(where, prefix):
                 folder = tempfile.TemporaryDirectory(prefix=prefix, dir=where)
             except OSError as error:
                 raise Stopped("%s: %s" % (where, error.strerror))
-            undone.callback(put_away, folder, *watcher_who(lambda: remove(folder)))
+            undone.callback(put_away, folder, *watcher_who(lambda told: remove(folder)))
         yield folder.name
 
 

@@ -2,6 +2,7 @@
 import os
 import signal
 import subprocess
+import sys
 import tempfile
 import time
 import types
@@ -198,15 +199,19 @@ class Ends(unittest.TestCase):
             file.write("#!/bin/sh\necho begun\nsleep 1000 &\necho $! > %s.part; mv %s.part %s\nwait\n" % (self.started, self.started, self.started))
         os.chmod(path, 0o755)
         self.log = os.path.join(self.folder, "log")
-        self.tool = subprocess.Popen([os.path.join(TOOLS, "solve"), "--solver-command", path + " {mps}", "--log", self.log],
-                                     stdin=subprocess.PIPE, stdout=subprocess.PIPE, stderr=subprocess.PIPE)
+        self.tool = self.begin(path)
         self.addCleanup(lambda: (self.tool.kill(), self.tool.communicate()))
-        self.tool.stdin.write(PROGRAM)
-        self.tool.stdin.close()
-        self.tool.stdin = None
         self.wait_for(lambda: os.path.exists(self.started))
         with open(self.started) as file:
             self.number = int(file.read())
+
+    def begin(self, path):
+        tool = subprocess.Popen([os.path.join(TOOLS, "solve"), "--solver-command", path + " {mps}", "--log", self.log],
+                                stdin=subprocess.PIPE, stdout=subprocess.PIPE, stderr=subprocess.PIPE)
+        tool.stdin.write(PROGRAM)
+        tool.stdin.close()
+        tool.stdin = None
+        return tool
 
     def wait_for(self, holds):
         end = time.monotonic() + 120
@@ -231,6 +236,42 @@ class Ends(unittest.TestCase):
         self.tool.send_signal(signal.SIGTERM)
         printed, messages = self.tool.communicate(timeout=30)
         self.assertEqual((self.tool.returncode, printed, messages), (1, b"", b"solve: interrupted\n"))
+        self.wait_for(self.is_gone)
+
+
+# Starts a program as the tools do, and takes a second to hear of it.
+SLOW = """
+import subprocess, sys, time
+sys.path.insert(0, sys.argv[1])
+from office import ending
+begun = subprocess.Popen
+
+def slowly(*words, **how):
+    program = begun(*words, **how)
+    time.sleep(1)
+    return program
+
+subprocess.Popen = slowly
+ending.end_by_interrupt()
+with ending.started([sys.argv[2]]):
+    time.sleep(1000)
+"""
+
+
+class EndsWhileItStarts(Ends):
+    """A tool that is ended while the solver works already, and before it knows of it."""
+
+    def begin(self, path):
+        self.log = "/dev/null"
+        return subprocess.Popen([sys.executable, "-c", SLOW, TOOLS, path], stdin=subprocess.PIPE, stdout=subprocess.PIPE, stderr=subprocess.PIPE)
+
+    def test_nothing_is_left_however_the_tool_ends(self):
+        self.tool.kill()
+        self.wait_for(self.is_gone)
+
+    def test_terminated(self):
+        self.tool.send_signal(signal.SIGTERM)
+        self.tool.communicate(timeout=30)
         self.wait_for(self.is_gone)
 
 
