@@ -20,7 +20,7 @@ MIB = 1 << 20
 INPUT_LIMIT = 128 * MIB
 PAGE = 4096
 STACK = 512 << 10  # what docs/wdp.1 says
-LEAST_STACK = 128 << 10  # with less than 84 the program doesn't get as far as its first call
+LEAST_STACK = 128 << 10  # from 24 kB on the program gets to its first call, where words and environment are short
 
 # Each command with an input and its output.
 COMMANDS = {

@@ -11,7 +11,7 @@ from wdp.running import Limits, Path, Ran, ran, tree_of_package
 from wdp.texts import whole
 
 
-LONGEST_GRACE = 60  # seconds: tools/solve stops a solver that oversteps its limit by half of it
+LONGEST_GRACE = 60  # seconds: tools/solve lets a solver overstep its limit by 30 at most
 MOST_OF_A_SOLUTION = 67_108_864  # bytes that the program reads of one
 
 
