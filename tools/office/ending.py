@@ -103,7 +103,7 @@ def started(words, **how):
 
             try:
                 program = subprocess.Popen(words, stdin=subprocess.DEVNULL, start_new_session=True, preexec_fn=begin, **how)
-            except OSError:
+            except (OSError, subprocess.SubprocessError):
                 dismiss(watcher, handle)
                 raise
             ended.callback(put_down, program, watcher, handle)
