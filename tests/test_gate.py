@@ -17,7 +17,7 @@ import unittest
 from pathlib import Path
 from unittest import mock
 
-from gate import lanes, toolchain
+from gate import batches, lanes, toolchain
 from gate.batches import MOST_COPIES, Trial, goals_in, is_within
 from gate.steps import Steps
 
@@ -373,6 +373,40 @@ class Copies(unittest.TestCase):
         self.assertIn(block, self.checks[0][0]["src/names.rt"])
         self.assertIn("        low.other()", self.checks[1][0]["src/names.rt"])
 
+    def tried_of_a_constant(self, law):
+        """What is answered of an edit of a constant beside one of a function, where this law states the number, and the checks."""
+        (self.folder / "src" / "limits.rt").write_text("/// The most pools.\npub const MOST: usize = 16;\npub const MOST_LOTS: usize = 16;\n")
+        (self.folder / "src" / "laws.rt").write_text(law)
+        paths = [str(self.folder / (name + ".edit")) for name in "ab"]
+        Path(paths[0]).write_text("file: src/limits.rt\nold: pub const MOST: usize = 16;\nnew: pub const MOST: usize = 17;\n")
+        Path(paths[1]).write_text("file: src/names.rt\nold:     7\nnew:     1\n")
+        checks = []
+
+        def check(texts, functions):
+            checks.append((texts, functions))
+            return said({name: OPEN % "returns" for name in functions} or {"laws::limits": OPEN % "returns"})
+
+        trial = Trial("c", str(self.folder), paths, check, lambda path: None, is_proved=True, proved=["laws::limits", *NAMES], in_copies=True)
+        return [is_refused for is_refused, _ in trial.run()], checks
+
+    def test_a_constant_has_a_copy_with_one_of_its_law(self):
+        law = ("ghost use Rattle.c.specs.declared.limits.TheConstants.{MOST, MOST_LOTS};\n\n"
+               "/// These.\npub fn limits()\n    ensures pools { MOST ≡ 16 }\n    ensures lots { MOST_LOTS ≡ 16 }\n{}\n")
+        answers, checks = self.tried_of_a_constant(law)
+        (texts, functions), = checks
+        self.assertEqual((answers, functions), ([True, True], ["laws::limits_edited_1", "names::first_edited_1"]))
+        self.assertEqual(texts["src/limits.rt"], "/// The most pools.\npub const MOST: usize = 16;\n\npub const MOST_EDITED_1: usize = 17;\n"
+                                                 "pub const MOST_LOTS: usize = 16;\n")
+        head, body = law.split("\n\n")
+        copy = body.replace("limits()", "limits_edited_1()").replace("MOST ≡", "MOST_EDITED_1 ≡")
+        self.assertEqual(texts["src/laws.rt"], "%s\n\nghost use Rattle.c.specs.declared.limits.TheConstants.{MOST_EDITED_1};\n\n%s\n%s" % (head, body, copy))
+
+    def test_a_constant_that_its_law_does_not_import_is_tried_in_its_place(self):
+        answers, checks = self.tried_of_a_constant("pub fn limits()\n    ensures { MOST ≡ 16 }\n{}\n")
+        self.assertEqual(answers, [True, True])
+        self.assertEqual([functions for _, functions in checks], [["names::first_edited_1"], ["laws::limits"]])
+        self.assertIn("const MOST: usize = 17;", checks[1][0]["src/limits.rt"])
+
     def test_answers_that_name_what_is_gone_are_left_out(self):
         proof = self.folder / "proofs" / "names" / "first"
         proof.mkdir(parents=True)
@@ -388,6 +422,15 @@ class Copies(unittest.TestCase):
         self.assertTrue(self.tried({"a": ("    7", "    1")}, answer)["a"][0])
         self.assertEqual(self.checks[-1][0]["proofs/names/first_edited_1/Answers.antt"],
                          "use Rattle.c.proofs.names.first_edited_1.Goals as goal\n\npub more : goal.more\nmore c = c.eight\n")
+
+    def test_imports_of_goals_that_no_answer_has_any_more_go_at_once(self):
+        answers = ("use Rattle.c.proofs.Facts.{all-one, ◌≡◌}\nuse Rattle.c.proofs.f.Goals.{in-Some, in-None, then-x}\n"
+                   "use Rattle.c.proofs.f.Goals as goal\n\n"
+                   "pub returns : goal.returns\nreturns c = elim c [ in-Some w ↦ all-one w | in-None w ↦ w ]\n\n"
+                   "pub more : goal.more\nmore (c : then-x) = c.eight\n")
+        self.assertEqual(batches.without_what_is_gone(answers, [], ["in-Some"]),
+                         "use Rattle.c.proofs.Facts.{all-one, ◌≡◌}\nuse Rattle.c.proofs.f.Goals.{then-x}\n"
+                         "use Rattle.c.proofs.f.Goals as goal\n\npub more : goal.more\nmore (c : then-x) = c.eight\n")
 
     def test_where_no_body_can_be_left_out(self):
         def answer(texts, functions):
@@ -497,13 +540,13 @@ class Tasks(unittest.TestCase):
             lanes.Lanes(tasks, 4, 100).run()
         # (the last one has what the others leave when it is begun)
         del given["program"]
-        self.assertEqual(given, {"low": 4, "other": 4, "another": 2, "none": 1})
+        self.assertEqual(given, {"low": 4, "other": 2, "another": 1, "none": 1})
         for name, work, kind in (("many", 9, "edits"), ("few", 5, "edits"), ("tests", 2, "tests")):
             tasks[name, kind] = [("low", "proof")], work, 1, call_of(name)
         with contextlib.redirect_stdout(io.StringIO()):
             lanes.Lanes(tasks, 4, 100).run()
         self.assertEqual({name: given[name] for name in ("low", "other", "another", "none", "many", "few")},
-                         {"low": 4, "other": 4, "another": 2, "none": 1, "many": 1, "few": 1})
+                         {"low": 4, "other": 2, "another": 1, "none": 1, "many": 1, "few": 1})
         self.assertGreater(given["tests"], 1)
 
     def test_the_order_goes_by_seconds_where_they_were_measured(self):
@@ -526,7 +569,7 @@ class Tasks(unittest.TestCase):
         own = os.getpriority(os.PRIO_PROCESS, 0)
         with contextlib.redirect_stdout(io.StringIO()):
             lanes.Lanes(tasks, 4, 100, {("a", "proof"): 30, ("b", "proof"): 20, ("c", "proof"): 10}).run()
-        self.assertEqual(begun, {"a": (4, own), "b": (2, max(own, 4)), "c": (1, max(own, 4))})
+        self.assertEqual(begun, {"a": (2, own), "b": (1, max(own, 4)), "c": (1, max(own, 4))})
 
     def test_each_crate_has_its_seconds(self):
         with open(ROOT / "crates.txt", encoding="utf-8") as file:
@@ -558,12 +601,12 @@ class Tasks(unittest.TestCase):
                  ("b", "proof"): ([], 5, 10, lambda _, jobs: given.setdefault("b", jobs))}
         with contextlib.redirect_stdout(io.StringIO()):
             lanes.Lanes(tasks, 4, 25).run()
-        # (22 for the three jobs of the first one leave too little for another)
-        self.assertEqual(given, {"a": 3, "b": 3})
+        # (16 for the two jobs of the first one leave too little for another)
+        self.assertEqual(given, {"a": 2, "b": 3})
         given.clear()
         with contextlib.redirect_stdout(io.StringIO()):
             lanes.Lanes(tasks, 4, 40).run()
-        self.assertEqual(given, {"a": 4, "b": 1})
+        self.assertEqual(given, {"a": 2, "b": 2})
         given.clear()
         with contextlib.redirect_stdout(io.StringIO()):
             lanes.Lanes(tasks, 4, 15).run()

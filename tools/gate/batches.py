@@ -12,8 +12,8 @@ alone.
 The other functions of a crate that was just proved aren't proved once more: what they state is taken, by a hole in the place of
 each one's proof. A wrong body changes no contract, so none of them can break by it.
 
-An edit of a constant is one of the law that states its number: a function with an empty body, a clause of which says `NAME ≡`. It
-is tried alone, since other functions stand on the constant too.
+An edit of a constant is one of the law that states its number: a function with an empty body, a clause of which says `NAME ≡`. Where
+no copy tells of it, it is tried alone, since other functions stand on the constant too.
 """
 import os
 import re
@@ -24,7 +24,7 @@ import time
 from collections import Counter
 from dataclasses import dataclass, field
 
-from gate.copies import copy_of, proofs_of, with_copies
+from gate.copies import CONSTANT, copy_of, copy_of_law, proofs_of, with_copies
 from gate.sources import functions_of
 from gate.toolchain import is_refused
 
@@ -36,8 +36,6 @@ ANSWER = re.compile(r"^(?:\./)?proofs/(\S+)/(?:Answers|Invariants|Proof)\.antt:\
 LOST = re.compile(r"has no field|is not in scope|has no `|was not admitted")
 # The last line of a check that came to its end.
 VERDICT = re.compile(r"^(?:logic=(?:proved|not-proved)|only=\d+)\b", re.M)
-# A constant, at the head of its line.
-CONSTANT = re.compile(r"^ *(?:pub(?:\([^)]*\))? )?const (\w+):", re.M)
 # What stands in the place of a proof, and what a check says where it can't stand there.
 HOLE = """use Rattle.%s.proofs.%s.Statement as stated
 pub %s_spec : {M : Type 1} → stated.statement M
@@ -49,8 +47,8 @@ NO_HOLE = re.compile(r"^(?:\./)?(proofs/\S+/Proof\.antt):(?:\d+:\d+:)? error", r
 PROVED = ("proved", "no holes", "depends on a hole")
 # How often answers that name what is gone are made shorter.
 MOST_TIMES = 4
-# So many copies stand in one check: with more, a crate's last check would go on with the processors that it began with.
-MOST_COPIES = 24
+# So many copies stand in one check: a check without any takes some 25 seconds of processor time.
+MOST_COPIES = 96
 # What a goal is of, by its name: `returns-in-Some-clause-answer`, `loop-row-preserved`, `push-requires`, `invariant_of-result`.
 PROMISES = re.compile(r"^(returns|loop-|invariant_of|decreases)|-requires(-|$)")
 
@@ -253,18 +251,27 @@ def what_is_gone(said, name):
 
 
 def without_what_is_gone(text, lines, names):
-    """Answers without those that have one of these lines or names, and imports without these names."""
+    """Answers without those that have one of these lines or names, and imports without these names, and without names of goals that
+    no answer has any more: a check tells one name of an import at a time."""
     kept, at = [], 1
     for piece in re.split(r"(?m)^(?=pub |use )", text):
         behind = at + piece.count("\n")
-        if piece.startswith("use "):
-            named = re.match(r"(?s)(use [^{]*\{)([^}]*)(\}.*)", piece)
-            left = [it for it in named[2].split(", ") if it not in names] if named else []
-            kept.append(named[1] + ", ".join(left) + named[3] if left else "" if named else piece)
-        elif not any(at <= line < max(behind, at + 1) for line in lines) and not any(name in piece for name in names):
+        is_gone = any(at <= line < max(behind, at + 1) for line in lines) or any(name in piece for name in names)
+        if piece.startswith("use ") or not is_gone:
             kept.append(piece)
         at = behind
-    return "".join(kept)
+    answers = "".join(piece for piece in kept if not piece.startswith("use "))
+    return "".join(without_names(piece, names, answers) if piece.startswith("use ") else piece for piece in kept)
+
+
+def without_names(line, names, answers):
+    """A line of imports without these names, and of a function's goals without those that no answer has."""
+    listed = re.match(r"(?s)(use ([^{]*)\{)([^}]*)(\}.*)", line)
+    if listed is None:
+        return line
+    is_of_goals = listed[2].endswith(".Goals.")
+    left = [it for it in re.split(r",\s*", listed[3]) if it not in names and (it in answers or not is_of_goals)]
+    return listed[1] + ", ".join(left) + listed[4] if left else ""
 
 
 class Trial:
@@ -367,10 +374,11 @@ class Trial:
         """A copy for each edit that can have one."""
         made, numbers = [], Counter()
         for edit in self.edits:
-            of = self.name_of(edit, self.proved) if edit.is_in_one_body and edit.path not in self.answers else None
+            can_have_one = edit.path not in self.answers and (edit.is_in_one_body or edit.is_of_constant)
+            of = self.name_of(edit, self.proved) if can_have_one else None
             if of:
                 numbers[of] += 1
-                made.append(copy_of(edit, of, numbers[of], self.folder))
+                made.append((copy_of_law if edit.is_of_constant else copy_of)(edit, of, numbers[of], self.folder))
         return [copy for copy in made if copy]
 
     def said_of_copies(self, copies, shorter):

@@ -2,7 +2,8 @@
 
 So edits of one function, and of one that it calls, stand in one check: a copy calls what is unchanged, and nothing calls a copy.
 Proofs go by contracts: of the functions that are unchanged, and proved, the bodies tell a check nothing, and it has a loop in the
-place of each. A function of a trait has no copy, since its trait has no room for one.
+place of each. A function of a trait has no copy, since its trait has no room for one. For an edit of a constant stands a copy of the
+constant, and one of the law that states its number.
 """
 import os
 import re
@@ -10,6 +11,8 @@ from dataclasses import dataclass
 
 from gate.sources import functions_of
 
+# A constant, at the head of its line.
+CONSTANT = re.compile(r"^ *(?:pub(?:\([^)]*\))? )?const (\w+):", re.M)
 BLOCK = re.compile(r"(?:pub(?:\([^)]*\))? )?(?:unsafe )?(impl|trait)\b(.*)")
 ABOVE = re.compile(r" *(#\[|//)")
 
@@ -24,9 +27,11 @@ class Copy:
     # behind which line it stands, and its text
     behind: int
     text: str
+    # what else it needs, each behind which line of which file
+    more: tuple = ()
 
-    def own_name(self):
-        return self.name.split("::")[-1]
+    def pieces(self):
+        return [(self.file, self.behind, self.text), *self.more]
 
 
 def read(path):
@@ -67,6 +72,25 @@ def copy_of(edit, of, number, folder):
     return Copy(edit, of, "::".join([*of.split("::")[:-1], own]), file, function.end, text) if heads else None
 
 
+def copy_of_law(edit, of, number, folder):
+    """The copy for an edit of a constant, of the law that the check calls `of`; None where there can't be one."""
+    (source, old, new), *others = edit.pairs
+    texts = read(os.path.join(folder, source)).split("\n")
+    at = next((n for n, line in enumerate(texts) if old in line), None)
+    named = CONSTANT.match(texts[at]) if at is not None else None
+    lines = read(os.path.join(folder, edit.place[0])).split("\n")
+    imports = re.compile(r"ghost use (\S+\.TheConstants\.)\{[^}]*\b%s\b[^}]*\};" % named[1]) if named else None
+    line = next((n for n, it in enumerate(lines, 1) if imports and imports.match(it)), None)
+    if others or line is None or not texts[at].endswith(";"):
+        return None
+    law, constant = "%s_edited_%d" % (edit.function.name, number), "%s_EDITED_%d" % (named[1], number)
+    text = "\n".join(lines[first_line(edit.function, lines) - 1:edit.function.end])
+    text = re.sub(r"\b%s\b" % named[1], constant, re.sub(r"\bfn %s\b" % edit.function.name, "fn " + law, text, count=1))
+    more = ((source, at + 1, texts[at].replace(old, new).replace(named[1], constant, 1)),
+            (edit.place[0], line, "ghost use %s{%s};" % (imports.match(lines[line - 1])[1], constant)))
+    return Copy(edit, of, "::".join([*of.split("::")[:-1], law]), edit.place[0], edit.function.end, text, more)
+
+
 def path_of(name):
     """Below which folder a function's proof stands, by its name behind the crate's."""
     return "proofs/" + name.replace("::", "/")
@@ -103,13 +127,13 @@ def sources(folder):
 def with_copies(copies, folder, is_stated=None):
     """The files that have the copies, and what is written of their proofs; where it is said of which functions the statement is
     enough (`is_stated(file, function)`), all files without the bodies of these."""
-    texts = {}
-    for file in sources(folder) if is_stated else sorted({copy.file for copy in copies}):
+    texts, pieces = {}, [piece for copy in copies for piece in copy.pieces()]
+    for file in sources(folder) if is_stated else sorted({file for file, _, _ in pieces}):
         lines = read(os.path.join(folder, file)).split("\n")
         if is_stated:
             lines = without_bodies(lines, lambda function, file=file: is_stated(file, function))
-        for copy in sorted((it for it in copies if it.file == file), key=lambda it: -it.behind):
-            lines[copy.behind:copy.behind] = ["", *copy.text.split("\n")]
+        for _, behind, text in sorted((it for it in pieces if it[0] == file), key=lambda it: -it[1]):
+            lines[behind:behind] = ["", *text.split("\n")]
         texts[file] = "\n".join(lines)
     for copy in copies:
         texts.update(proofs_of(copy, folder))

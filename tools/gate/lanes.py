@@ -12,7 +12,7 @@ MEMORY_OF_A_JOB = 0.6
 # How many seconds a task takes for each of its lines, where none are measured.
 SECONDS_OF_A_LINE = 0.06
 # With how many processes a proof is begun: the one with the longest chain behind it, the next one, and each other.
-JOBS_BY_RANK = (MOST_JOBS, 2, 1)
+JOBS_BY_RANK = (2, 1, 1)
 # The priorities: of the proof with the longest chain, of other proofs, and of tests and edits.
 NICE = {"longest": 0, "proofs": 4, "fillers": 10}
 MEASURED = os.path.join(os.path.dirname(os.path.abspath(__file__)), "seconds")
@@ -69,7 +69,7 @@ class Lanes:
 
     Each further process of a check reads the crate anew (`bid_book` takes 55 s of processor time with one, 103 with four). So a proof
     has one, and more where processors would be idle. But the one with the longest chain behind it, which all waits for in the end,
-    has as many as serve it, and goes before others.
+    has two, and goes before others.
     A task is what it waits for, its work in lines, its memory, and a call that gets what was given and how many jobs it may use.
     `took` tells the seconds of those that were measured.
     """
