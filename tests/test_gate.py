@@ -521,7 +521,7 @@ class Tasks(unittest.TestCase):
             # a task takes its memory, and six tenths for each further job; one that fits nowhere stands alone
             self.assertTrue(all(many == 1 or 4 * (many + lanes.MEMORY_OF_A_JOB * (jobs - many)) <= memory for many, jobs in most))
 
-    def test_proofs_and_fillers_share_the_processors_and_the_longest_chain_has_more(self):
+    def test_proofs_share_the_processors(self):
         given = {}
 
         def call_of(name):
@@ -541,13 +541,40 @@ class Tasks(unittest.TestCase):
         # (the last one has what the others leave when it is begun)
         del given["program"]
         self.assertEqual(given, {"low": 4, "other": 2, "another": 1, "none": 1})
-        for name, work, kind in (("many", 9, "edits"), ("few", 5, "edits"), ("tests", 2, "tests")):
-            tasks[name, kind] = [("low", "proof")], work, 1, call_of(name)
+
+    def test_tests_and_edits_wait_until_a_processor_is_idle(self):
+        running, beside = set(), []
+
+        def call_of(name, seconds):
+            def call(_, jobs):
+                if name == "edits":
+                    beside.append(set(running))
+                running.add(name)
+                time.sleep(seconds)
+                running.discard(name)
+                return True
+            return call
+
+        tasks = {("done", "proof"): ([], 0, 1, lambda given, jobs: True), ("done", "edits"): ([("done", "proof")], 9, 1, call_of("edits", 0)),
+                 ("long", "proof"): ([], 9, 1, call_of("long", 0.2)), ("short", "proof"): ([], 5, 1, call_of("short", 0.05))}
         with contextlib.redirect_stdout(io.StringIO()):
-            lanes.Lanes(tasks, 4, 100).run()
-        self.assertEqual({name: given[name] for name in ("low", "other", "another", "none", "many", "few")},
-                         {"low": 4, "other": 2, "another": 1, "none": 1, "many": 1, "few": 1})
-        self.assertGreater(given["tests"], 1)
+            lanes.Lanes(tasks, 2, 100).run()
+        self.assertEqual(beside, [{"long"}])
+
+    def test_the_proof_with_the_longest_chain_is_begun_beside_edits(self):
+        begun, both = [], threading.Barrier(2, timeout=10)
+
+        def call(given, jobs):
+            begun.append(jobs)
+            both.wait()
+            return True
+
+        tasks = {("low", "proof"): ([], 0, 1, lambda given, jobs: True), ("low", "edits"): ([("low", "proof")], 9, 1, call),
+                 # (what has no work takes no processor)
+                 ("middle", "proof"): ([("low", "proof")], 0, 1, lambda given, jobs: time.sleep(0.05)), ("top", "proof"): ([("middle", "proof")], 9, 1, call)}
+        with contextlib.redirect_stdout(io.StringIO()):
+            lanes.Lanes(tasks, 1, 100).run()
+        self.assertEqual(begun, [1, 1])
 
     def test_the_order_goes_by_seconds_where_they_were_measured(self):
         begun = []
@@ -556,7 +583,7 @@ class Tasks(unittest.TestCase):
             lanes.Lanes(tasks, 1, 100, {("short", "proof"): 5, ("long", "proof"): 50}).run()
         self.assertEqual(begun, ["long", "new", "short"])
 
-    def test_the_longest_chains_have_more_processes(self):
+    def test_the_longest_chain_goes_before_others(self):
         begun, both = {}, threading.Barrier(3, timeout=10)
 
         def call_of(name):

@@ -11,8 +11,6 @@ MOST_JOBS = 4
 MEMORY_OF_A_JOB = 0.6
 # How many seconds a task takes for each of its lines, where none are measured.
 SECONDS_OF_A_LINE = 0.06
-# With how many processes a proof is begun: the one with the longest chain behind it, the next one, and each other.
-JOBS_BY_RANK = (2, 1, 1)
 # The priorities: of the proof with the longest chain, of other proofs, and of tests and edits.
 NICE = {"longest": 0, "proofs": 4, "fillers": 10}
 MEASURED = os.path.join(os.path.dirname(os.path.abspath(__file__)), "seconds")
@@ -67,9 +65,10 @@ class Lanes:
     """Runs tasks side by side. Proofs of crates come first, those with the longest chain behind them before others; tests and
     edits, which none waits for, run beside them at a low priority, on what they leave idle.
 
-    Each further process of a check reads the crate anew (`bid_book` takes 55 s of processor time with one, 103 with four). So a proof
-    has one, and more where processors would be idle. But the one with the longest chain behind it, which all waits for in the end,
-    has two, and goes before others.
+    Each further process of a check reads the crate anew (`bid_book` takes 55 s of processor time with one, 103 with four). So a task
+    has one, and more where processors would be idle. And more tasks than processors take each other's caches: eight checks on four
+    processors take a fifth more of processor time than four. So one is begun where a processor is idle; but the proof with the
+    longest chain behind it, which all waits for in the end, at once.
     A task is what it waits for, its work in lines, its memory, and a call that gets what was given and how many jobs it may use.
     `took` tells the seconds of those that were measured.
     """
@@ -89,6 +88,10 @@ class Lanes:
         """The jobs of the tasks at work."""
         # (other threads ask, too)
         return [jobs for key, jobs, _ in [*self.running.values()] if is_filler(key) == fills and jobs]
+
+    def idle(self):
+        """How many processors nothing has."""
+        return max(self.processors - sum(self.at_work(False)) - sum(self.at_work(True)), 0)
 
     def share(self):
         """How many processors a task at work may use from now on: an equal part."""
@@ -115,9 +118,7 @@ class Lanes:
 
     def jobs_of(self, key, idle, many):
         """With how many jobs a task is begun, where so many processors are idle for so many tasks."""
-        share = -(-idle // many)
-        least = 1 if is_filler(key) else JOBS_BY_RANK[min(self.rank(key), len(JOBS_BY_RANK) - 1)]
-        return self.fitting(key, min(most_jobs(key), self.processors, max(share, least)))
+        return self.fitting(key, min(most_jobs(key), self.processors, max(-(-idle // many), 1)))
 
     def start_all(self, pool_of, fills):
         """Starts what is ready, as many tasks as there are processors. (`pool_of(key)`: which threads run a task.)"""
@@ -125,11 +126,10 @@ class Lanes:
             self.start(pool_of(key), key, 1)
         ready = self.ready(fills)
         while ready and (places := self.processors - len(self.at_work(fills))) > 0:
-            key, idle = ready[0], self.processors - sum(self.at_work(fills))
-            if fills and idle <= 0:
+            key, idle = ready.pop(0), self.idle()
+            if not idle and (fills or self.rank(key)):
                 return
-            jobs = self.jobs_of(key, max(idle, 0), min(len(ready), places))
-            ready.pop(0)
+            jobs = self.jobs_of(key, idle, min(len(ready) + 1, places))
             if jobs:
                 self.start(pool_of(key), key, jobs)
 
