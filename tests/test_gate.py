@@ -598,6 +598,16 @@ class Tasks(unittest.TestCase):
             lanes.Lanes(tasks, 4, 100, {("a", "proof"): 30, ("b", "proof"): 20, ("c", "proof"): 10}).run()
         self.assertEqual(begun, {"a": (2, own), "b": (1, max(own, 4)), "c": (1, max(own, 4))})
 
+    def test_the_longest_chain_has_two_processes_where_there_are_only_proofs(self):
+        for work, jobs in ((0, 2), (9, 1)):
+            given = {}
+            tasks = {(name, "proof"): ([], lines, 1, lambda _, jobs, name=name: given.setdefault(name, jobs) and time.sleep(0.05))
+                     for name, lines in (("a", 30), ("b", 20), ("c", 10))}
+            tasks["a", "edits"] = [("a", "proof")], work, 1, lambda given, jobs: True
+            with contextlib.redirect_stdout(io.StringIO()):
+                lanes.Lanes(tasks, 3, 100).run()
+            self.assertEqual((given["a"], given["b"]), (jobs, 1))
+
     def test_each_crate_has_its_seconds(self):
         with open(ROOT / "crates.txt", encoding="utf-8") as file:
             crates = [line.split(":")[0].split()[0] for line in file if line.strip() and not line.startswith("#")]

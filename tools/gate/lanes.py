@@ -68,7 +68,7 @@ class Lanes:
     Each further process of a check reads the crate anew (`bid_book` takes 55 s of processor time with one, 103 with four). So a task
     has one, and more where processors would be idle. And more tasks than processors take each other's caches: eight checks on four
     processors take a fifth more of processor time than four. So one is begun where a processor is idle; but the proof with the
-    longest chain behind it, which all waits for in the end, at once.
+    longest chain behind it, which all waits for in the end, at once, and with two where there are only proofs.
     A task is what it waits for, its work in lines, its memory, and a call that gets what was given and how many jobs it may use.
     `took` tells the seconds of those that were measured.
     """
@@ -118,7 +118,9 @@ class Lanes:
 
     def jobs_of(self, key, idle, many):
         """With how many jobs a task is begun, where so many processors are idle for so many tasks."""
-        return self.fitting(key, min(most_jobs(key), self.processors, max(-(-idle // many), 1)))
+        # (where no tests and edits fill the processors, all waits for the longest chain)
+        is_waited_for = not self.rank(key) and not any(is_filler(it) and work for it, (_, work, _, _) in self.tasks.items())
+        return self.fitting(key, min(most_jobs(key), self.processors, max(-(-idle // many), 1 + is_waited_for)))
 
     def start_all(self, pool_of, fills):
         """Starts what is ready, as many tasks as there are processors. (`pool_of(key)`: which threads run a task.)"""
