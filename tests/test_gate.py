@@ -1,4 +1,5 @@
 """What the gate is made of (tools/gate/) on made-up checks, tasks and steps, without the toolchain."""
+import concurrent.futures
 import contextlib
 import importlib.machinery
 import importlib.util
@@ -716,6 +717,14 @@ class Counts(unittest.TestCase):
             self.assertEqual(steps.sums(), (5, 0))
             steps.refuse("third", "it can't be run")
             self.assertEqual(steps.sums(), (5, 1))
+
+    def test_two_take_steps_from_one_list(self):
+        steps, left = Steps("/"), [("s%d" % n, ["sh", "-c", "sleep 0.05; echo %d passed, %d failed; exit %d" % (n, n % 2, n % 2)]) for n in range(6)]
+        bad = [step for step in left if step[1][2][-1] == "1"]
+        with mock.patch.object(steps, "show"), concurrent.futures.ThreadPoolExecutor(2) as pool:
+            failed = [pool.submit(steps.run_from, left, 0) for _ in range(2)]
+        self.assertEqual(sorted(failed[0].result() + failed[1].result()), bad)
+        self.assertEqual((len(steps.told), steps.sums(), left), (6, (15, 3), []))
 
     def test_a_run_that_is_ended_leaves_nothing(self):
         text = ("import sys; sys.path.insert(0, %r); sys.dont_write_bytecode = True; "

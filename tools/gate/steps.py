@@ -97,6 +97,16 @@ class Steps:
         with ThreadPoolExecutor(side_by_side) as pool:
             return [step for step, is_well in zip(steps, pool.map(lambda step: self.run(*step, niceness=niceness), steps)) if not is_well]
 
+    def run_from(self, left, niceness):
+        """Runs steps from a list, from which others may take some too, until none is left, and returns those that failed."""
+        failed = []
+        with contextlib.suppress(IndexError):
+            while True:
+                step = left.pop(0)
+                if not self.run(*step, niceness=niceness):
+                    failed.append(step)
+        return failed
+
     def sums(self):
         """How many passed and failed in all."""
         return tuple(sum(told[place] for told in self.told.values()) for place in (1, 2))
