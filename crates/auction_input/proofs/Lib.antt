@@ -1,6 +1,6 @@
 pub mod AnswerFacts
 pub mod AuctionFacts
-pub mod CallFacts
+mod CallFacts
 pub mod FaultFacts
 pub mod FormStageFacts
 pub mod InputTextFacts

@@ -18,6 +18,7 @@ mod source;
 mod told;
 
 pub use auction::{Auction, read_auction};
+pub use calls::Calls;
 pub use input::{INPUT_LIMIT, InputFault, read_input};
 pub use name::Name;
 pub use part_kind::PartKind;

@@ -1,8 +1,8 @@
 //! The kinds of parts.
 
-ghost use Rattle.std.specs.Prelude.{◌≡◌, ◌≤◌};
-ghost use Rattle.auction_input.specs.Parts.{name_of};
-ghost use Rattle.auction_input.specs.inside.Parts.{kind_named, known_count};
+ghost use Rattle.std.specs.Prelude.{◌≡◌};
+ghost use Rattle.auction_input.specs.Parts.{known_kinds, name_of};
+ghost use Rattle.auction_input.specs.inside.Parts.{kind_named};
 
 use requests::Request;
 
@@ -18,8 +18,16 @@ pub enum PartKind {
     Tie,
 }
 
-// Those that every request knows come first.
-const KINDS: [PartKind; 7] = [
+// What every request knows.
+const OF_ALL: [PartKind; 4] = [
+    PartKind::Rules,
+    PartKind::Form,
+    PartKind::Groups,
+    PartKind::Solution,
+];
+
+// And what `verify` judges too.
+const OF_VERIFY: [PartKind; 7] = [
     PartKind::Rules,
     PartKind::Form,
     PartKind::Groups,
@@ -46,14 +54,13 @@ impl PartKind {
     }
 }
 
-// How many of the kinds a request knows: `verify` all, and `explain`, which lets them be.
-fn known_count(request: &Request) -> usize
-    ensures known { result ≡ known_count request.now }
-    ensures few { result ≤ 7 }
+// The kinds that a request knows: `explain` those of `verify`, and lets them be.
+fn known_kinds(request: &Request) -> &'static [PartKind]
+    ensures { result.now ≡ known_kinds request.now }
 {
     match request {
-        Request::Verify { workers: _ } | Request::Explain { bids: _ } => 7,
-        _ => 4,
+        Request::Verify { workers: _ } | Request::Explain { bids: _ } => OF_VERIFY.as_slice(),
+        _ => OF_ALL.as_slice(),
     }
 }
 
@@ -61,6 +68,8 @@ fn known_count(request: &Request) -> usize
 pub fn kind_named(request: &Request, name: &[u8]) -> Option<PartKind>
     ensures { result ≡ kind_named request.now name.now }
 {
-    let known = &KINDS[..known_count(request)];
-    known.iter().copied().find(|kind| name == kind.name())
+    known_kinds(request)
+        .iter()
+        .copied()
+        .find(|kind| name == kind.name())
 }

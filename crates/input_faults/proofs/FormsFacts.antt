@@ -3,15 +3,15 @@ use Rattle.std.proofs.Common.{◌≡◌, ◌≤◌, ◌<◌, ◌+◌, ◌++◌, 
 use Rattle.std.proofs.lemmas.List.{drop_more, length-append}
 use Rattle.auction_input.proofs.InputTextFacts.{Text}
 use Rattle.auction_input.proofs.StageFacts.{IsLeft, left-fault, left-first, left-more, left-none}
+use Rattle.auction_input.specs.Calls.{CountsCalls}
 use Rattle.auction_input.specs.TextsTold.{form_told}
+use Rattle.auction_input.specs.declared.calls.Calls.{Calls}
 use Rattle.auction_input.specs.declared.refusal.Refusal.{Refusal}
 use Rattle.auction_terms.specs.Borrowed.{bytes_of}
 use Rattle.auction_terms.specs.Stages.{each_in_turn}
 use Rattle.auction_terms.specs.Terms.{Terms}
 use Rattle.bid_forms.specs.Offers.{Offers}
 use Rattle.input_faults.specs.InputFaults.{call_fault}
-use Rattle.input_faults.specs.declared.calls.Calls.{Calls}
-use Rattle.input_faults.specs.inside.CountedCalls.{CountsCalls}
 
 -- of the forms before a place either each is read and its call counted, or a refusal is known
 abbrev pub HasRead : Bool → Terms → List Text → ℕ → Calls → Type 0

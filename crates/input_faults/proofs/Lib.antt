@@ -1,5 +1,4 @@
 pub mod BeginFacts
-pub mod CallFacts
 pub mod ColumnFacts
 pub mod CursorFacts
 pub mod DetailFacts

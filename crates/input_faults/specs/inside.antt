@@ -1,4 +1,3 @@
-pub mod CountedCalls
 pub mod HeldLines
 pub mod DetailText
 pub mod Cursors

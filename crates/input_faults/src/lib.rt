@@ -1,7 +1,6 @@
 //! All faults of an input, in the order in which they are told, and their lines.
 #![tactic(auto)]
 
-mod calls;
 mod detail;
 mod explaining;
 mod fault;

@@ -10,9 +10,9 @@ ghost use Rattle.auction_terms.specs.Stages.{each_in_turn};
 ghost use Rattle.bid_forms.specs.FormText.{is_form_memory};
 ghost use Rattle.input_faults.specs.InputFaults.{call_fault, faults_of_form, faults_of_forms, faults_of_groups, faults_of_rules};
 
-use crate::calls::Calls;
 use crate::fault::Fault;
 use crate::merging::{add_form, add_groups, add_rules};
+use auction_input::Calls;
 use auction_terms::{Faults, Rules, RulesFault, group_faults, read_rules, rules_faults};
 use bid_forms::{Form, FormFault, form_faults, read_form};
 use std::alloc::{AllocError, Global};

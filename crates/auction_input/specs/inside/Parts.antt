@@ -1,12 +1,10 @@
 -- The parts of the input, by their kinds, as the code sorts them.
-use Rattle.std.specs.Prelude.{Bool, ℕ, List, [], ◌∷◌, Option, find, slice_index_or, take}
+use Rattle.std.specs.Prelude.{Bool, ℕ, List, [], Option, find, slice_index_or}
 use Rattle.std.specs.Str.{bytes_eq}
-use Rattle.auction_input.specs.declared.part_kind.PartKind.TheVariants as kind
 use Rattle.auction_input.specs.declared.part_kind.PartKind.{PartKind}
 use Rattle.auction_input.specs.declared.parts.Part as declared
-use Rattle.requests.specs.declared.request.Request.TheVariants as request
 use Rattle.requests.specs.declared.request.Request.{Request}
-use Rattle.auction_input.specs.Parts.{Part, name_of}
+use Rattle.auction_input.specs.Parts.{Part, known_kinds, name_of}
 use Rattle.auction_terms.specs.Lines.{lines_of}
 
 -- the name in the line that heads a part
@@ -20,16 +18,6 @@ part head bytes = record { name = part_name head; bytes = bytes }
 abbrev pub is_held : PartKind → declared.Part → Bool
 is_held k part = bytes_eq (name_of part.kind) (name_of k)
 
--- every kind, those first that each request knows
-abbrev pub kinds : List PartKind
-kinds = kind.Rules ∷ kind.Form ∷ kind.Groups ∷ kind.Solution ∷ kind.Certificate ∷ kind.Unique ∷ kind.Tie ∷ []
-
--- how many of them a request knows
-abbrev pub known_count : Request → ℕ
-known_count (request.Verify workers) = 7
-known_count (request.Explain bids) = 7
-known_count asked = 4
-
 -- the kind that a name tells to a request
 abbrev pub kind_named : Request → List ℕ → Option PartKind
-kind_named asked name = find (λ k. bytes_eq name (name_of k)) (take (known_count asked) kinds)
+kind_named asked name = find (λ k. bytes_eq name (name_of k)) (known_kinds asked)
