@@ -11,6 +11,9 @@ MOST_JOBS = 4
 MEMORY_OF_A_JOB = 0.6
 # How many seconds a task takes for each of its lines, where none are measured.
 SECONDS_OF_A_LINE = 0.06
+# With how many processes a proof is begun where no tests and edits fill the processors, and all waits for the longest chain of
+# proofs: the one that has it behind it, the next one, and each other.
+JOBS_BY_RANK = (MOST_JOBS, 2, 1)
 # The priorities: of the proof with the longest chain, of other proofs, and of tests and edits.
 NICE = {"longest": 0, "proofs": 4, "fillers": 10}
 MEASURED = os.path.join(os.path.dirname(os.path.abspath(__file__)), "seconds")
@@ -68,7 +71,7 @@ class Lanes:
     Each further process of a check reads the crate anew (`bid_book` takes 55 s of processor time with one, 103 with four). So a task
     has one, and more where processors would be idle. And more tasks than processors take each other's caches: eight checks on four
     processors take a fifth more of processor time than four. So one is begun where a processor is idle; but the proof with the
-    longest chain behind it, which all waits for in the end, at once, and with two where there are only proofs.
+    longest chain behind it, which all waits for in the end, at once; where there are only proofs, with more processes.
     A task is what it waits for, its work in lines, its memory, and a call that gets what was given and how many jobs it may use.
     `took` tells the seconds of those that were measured.
     """
@@ -79,6 +82,8 @@ class Lanes:
         self.behind = chains(tasks, self.seconds)
         # (tests take longer alone than edits, which are tried in several checks)
         self.left = sorted(tasks, key=lambda key: (key[1] == "edits", -self.behind[key]))
+        # whether tests or edits fill the processors
+        self.is_filled = any(is_filler(key) and work for key, (_, work, _, _) in tasks.items())
         self.running, self.given = {}, {}
 
     def ready(self, fills):
@@ -118,9 +123,8 @@ class Lanes:
 
     def jobs_of(self, key, idle, many):
         """With how many jobs a task is begun, where so many processors are idle for so many tasks."""
-        # (where no tests and edits fill the processors, all waits for the longest chain)
-        is_waited_for = not self.rank(key) and not any(is_filler(it) and work for it, (_, work, _, _) in self.tasks.items())
-        return self.fitting(key, min(most_jobs(key), self.processors, max(-(-idle // many), 1 + is_waited_for)))
+        least = 1 if self.is_filled else JOBS_BY_RANK[min(self.rank(key), len(JOBS_BY_RANK) - 1)]
+        return self.fitting(key, min(most_jobs(key), self.processors, max(-(-idle // many), least)))
 
     def start_all(self, pool_of, fills):
         """Starts what is ready, as many tasks as there are processors. (`pool_of(key)`: which threads run a task.)"""
@@ -129,7 +133,7 @@ class Lanes:
         ready = self.ready(fills)
         while ready and (places := self.processors - len(self.at_work(fills))) > 0:
             key, idle = ready.pop(0), self.idle()
-            if not idle and (fills or self.rank(key)):
+            if not idle and self.is_filled and (fills or self.rank(key)):
                 return
             jobs = self.jobs_of(key, idle, min(len(ready) + 1, places))
             if jobs:

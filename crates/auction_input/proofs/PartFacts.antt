@@ -8,11 +8,12 @@ use Rattle.auction_terms.specs.Lines.{is_line_feed}
 use Rattle.std.proofs.lemmas.List.{length-map, map-append}
 use Rattle.std.proofs.lemmas.List.Sums.{length-filter}
 use Rattle.auction_input.specs.declared.part_kind.PartKind.{PartKind}
+use Rattle.requests.specs.declared.request.Request.TheVariants as request
 use Rattle.requests.specs.declared.request.Request.{Request}
 use Rattle.memchr.specs.Find.{FindsNeedle, OccursAt}
-use Rattle.auction_input.specs.Parts.{Part, bytes_before, onto_first_line, cut_lines, heads_part, input_fault, known_kinds, name_of, part_fault, parts_held, parts_in, parts_named}
+use Rattle.auction_input.specs.Parts.{Part, bytes_before, onto_first_line, cut_lines, heads_part, input_fault, name_of, part_fault, part_names, parts_held, parts_in, parts_named}
 use Rattle.auction_input.specs.PartsTold.{only_text}
-use Rattle.auction_input.specs.inside.Parts.{is_held, kind_named, part}
+use Rattle.auction_input.specs.inside.Parts.{is_held, kind_named, known_kinds, part}
 use Rattle.auction_input.specs.declared.parts.Part as declared
 use Rattle.auction_terms.specs.Borrowed.{bytes_of}
 use Rattle.std.specs.Option.{option_map_or}
@@ -91,13 +92,18 @@ module _ (name : List ℕ) where
       by true is rest = rw is ((bytes_eq-Decides name (name_of k)).0 is, ap (λ (t : Bool). t || list_any (bytes_eq name) (map name_of ks)) is)
       by false is rest = rw is (behind (name_of k) (map name_of ks) (find is_named ks) is rest)
 
-  named-so : (asked : Request) (found : Option PartKind) → kind_named asked name ≡ found → NamedIn (map name_of (known_kinds asked)) found
-  named-so asked found is = subst (NamedIn (map name_of (known_kinds asked))) is (named-in (known_kinds asked))
+  names-known : (asked : Request) → part_names asked ≡ map name_of (known_kinds asked)
+  names-known (request.Verify workers) = refl
+  names-known (request.Explain bids) = refl
+  names-known asked = refl
 
-  pub name-told : (asked : Request) (k : PartKind) → kind_named asked name ≡ Some k → (name ≡ name_of k) × (list_any (bytes_eq name) (map name_of (known_kinds asked)) ≡ true)
+  named-so : (asked : Request) (found : Option PartKind) → kind_named asked name ≡ found → NamedIn (part_names asked) found
+  named-so asked found is = rw (names-known asked) (subst (NamedIn (map name_of (known_kinds asked))) is (named-in (known_kinds asked)))
+
+  pub name-told : (asked : Request) (k : PartKind) → kind_named asked name ≡ Some k → (name ≡ name_of k) × (list_any (bytes_eq name) (part_names asked) ≡ true)
   name-told asked k is = named-so asked (Some k) is
 
-  pub no-name-told : (asked : Request) → kind_named asked name ≡ None → list_any (bytes_eq name) (map name_of (known_kinds asked)) ≡ false
+  pub no-name-told : (asked : Request) → kind_named asked name ≡ None → list_any (bytes_eq name) (part_names asked) ≡ false
   no-name-told asked is = named-so asked None is
 
 -- ---- parts, by their names

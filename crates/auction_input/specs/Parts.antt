@@ -42,25 +42,15 @@ abbrev pub parts_in : List (List ℕ) → List Part
 parts_in [] = []
 parts_in (line ∷ more) = if heads_part line then record { name = slice_index_or (lines_of line) 0 []; bytes = bytes_before more } ∷ parts_in more else parts_in more
 
--- the kinds that a request knows; certificates, and what is claimed of other outcomes, are for `verify`, and for `explain`, which lets them be
-abbrev pub known_kinds : Request → List PartKind
-known_kinds (request.Verify workers) = kind.Rules ∷ kind.Form ∷ kind.Groups ∷ kind.Solution ∷ kind.Certificate ∷ kind.Unique ∷ kind.Tie ∷ []
-known_kinds (request.Explain bids) = kind.Rules ∷ kind.Form ∷ kind.Groups ∷ kind.Solution ∷ kind.Certificate ∷ kind.Unique ∷ kind.Tie ∷ []
-known_kinds asked = kind.Rules ∷ kind.Form ∷ kind.Groups ∷ kind.Solution ∷ []
+-- the names that a part may have; certificates, and what is claimed of other outcomes, are for `verify`, and for `explain`, which lets them be
+abbrev pub part_names : Request → List (List ℕ)
+part_names (request.Verify workers) = codes "%rules" ∷ codes "%form" ∷ codes "%groups" ∷ codes "%solution" ∷ codes "%certificate" ∷ codes "%unique" ∷ codes "%tie" ∷ []
+part_names (request.Explain bids) = codes "%rules" ∷ codes "%form" ∷ codes "%groups" ∷ codes "%solution" ∷ codes "%certificate" ∷ codes "%unique" ∷ codes "%tie" ∷ []
+part_names asked = codes "%rules" ∷ codes "%form" ∷ codes "%groups" ∷ codes "%solution" ∷ []
 
--- the name in the line that heads a part of a kind
-abbrev pub name_of : PartKind → List ℕ
-name_of kind.Rules = codes "%rules"
-name_of kind.Form = codes "%form"
-name_of kind.Groups = codes "%groups"
-name_of kind.Solution = codes "%solution"
-name_of kind.Certificate = codes "%certificate"
-name_of kind.Unique = codes "%unique"
-name_of kind.Tie = codes "%tie"
-
--- a part whose name is of no such kind, given the parts before it
+-- a part of no such name, given the parts before it
 abbrev pub part_fault : Request → List Part → Part → Option PartFault
-part_fault asked before p = if list_any (bytes_eq p.name) (map name_of (known_kinds asked)) then None else Some (fault.PartName (length before + 1))
+part_fault asked before p = if list_any (bytes_eq p.name) (part_names asked) then None else Some (fault.PartName (length before + 1))
 
 -- the first fault of the input
 abbrev pub input_fault : Request → List ℕ → Option PartFault
@@ -71,6 +61,16 @@ input_fault asked text =
 -- the bytes of the parts of a name, in the order of the input
 abbrev pub parts_named : List ℕ → List Part → List (List ℕ)
 parts_named name parts = map (λ p. p.bytes) (filter (λ (p : Part). bytes_eq p.name name) parts)
+
+-- the name in the line that heads a part of a kind
+abbrev pub name_of : PartKind → List ℕ
+name_of kind.Rules = codes "%rules"
+name_of kind.Form = codes "%form"
+name_of kind.Groups = codes "%groups"
+name_of kind.Solution = codes "%solution"
+name_of kind.Certificate = codes "%certificate"
+name_of kind.Unique = codes "%unique"
+name_of kind.Tie = codes "%tie"
 
 -- what is held of parts, by the names of their kinds
 abbrev pub parts_held : List declared.Part → List Part

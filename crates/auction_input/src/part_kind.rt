@@ -1,8 +1,8 @@
 //! The kinds of parts.
 
 ghost use Rattle.std.specs.Prelude.{◌≡◌};
-ghost use Rattle.auction_input.specs.Parts.{known_kinds, name_of};
-ghost use Rattle.auction_input.specs.inside.Parts.{kind_named};
+ghost use Rattle.auction_input.specs.Parts.{name_of};
+ghost use Rattle.auction_input.specs.inside.Parts.{kind_named, known_kinds};
 
 use requests::Request;
 

@@ -1,10 +1,12 @@
 -- The parts of the input, by their kinds, as the code sorts them.
-use Rattle.std.specs.Prelude.{Bool, ℕ, List, [], Option, find, slice_index_or}
+use Rattle.std.specs.Prelude.{Bool, ℕ, List, [], ◌∷◌, Option, find, slice_index_or}
 use Rattle.std.specs.Str.{bytes_eq}
+use Rattle.auction_input.specs.declared.part_kind.PartKind.TheVariants as kind
 use Rattle.auction_input.specs.declared.part_kind.PartKind.{PartKind}
 use Rattle.auction_input.specs.declared.parts.Part as declared
+use Rattle.requests.specs.declared.request.Request.TheVariants as request
 use Rattle.requests.specs.declared.request.Request.{Request}
-use Rattle.auction_input.specs.Parts.{Part, known_kinds, name_of}
+use Rattle.auction_input.specs.Parts.{Part, name_of}
 use Rattle.auction_terms.specs.Lines.{lines_of}
 
 -- the name in the line that heads a part
@@ -17,6 +19,12 @@ part head bytes = record { name = part_name head; bytes = bytes }
 -- whether a part that is held is of a kind
 abbrev pub is_held : PartKind → declared.Part → Bool
 is_held k part = bytes_eq (name_of part.kind) (name_of k)
+
+-- the kinds that a request knows
+abbrev pub known_kinds : Request → List PartKind
+known_kinds (request.Verify workers) = kind.Rules ∷ kind.Form ∷ kind.Groups ∷ kind.Solution ∷ kind.Certificate ∷ kind.Unique ∷ kind.Tie ∷ []
+known_kinds (request.Explain bids) = kind.Rules ∷ kind.Form ∷ kind.Groups ∷ kind.Solution ∷ kind.Certificate ∷ kind.Unique ∷ kind.Tie ∷ []
+known_kinds asked = kind.Rules ∷ kind.Form ∷ kind.Groups ∷ kind.Solution ∷ []
 
 -- the kind that a name tells to a request
 abbrev pub kind_named : Request → List ℕ → Option PartKind
