@@ -77,6 +77,8 @@ EDITS = {
     "stands_in_no_body": ([("const FIRST: u64 = 7;\n", "const FIRST: u64 = 8;\n")], r"BAD EDIT: its first old text stands in no function's body"),
     "changes_a_stated_constant": ([("pub const MOST: u64 = 12;\n", "pub const MOST: u64 = 13;\n")],
                                   r"refused, as it must be, in the_limits_are_these: what it ensures"),
+    "states_the_same_number": ([("pub const MOST: u64 = 12;\n", "pub const MOST: u64 = 11 + 1;\n")],
+                               r"NOT REFUSED: the_limits_are_these is still proved$"),
     "old_text_is_gone": ([("    middle\n", "    0\n")], r"BAD EDIT: "),
     "does_not_parse": ([("    FIRST\n", "    FIRST +\n")], r"BAD EDIT: "),
 }
@@ -118,5 +120,5 @@ def test_counts(tried):
 
 def test_most_edits_are_tried_together(tried):
     """An edit that doesn't parse leaves the others together."""
-    alone = re.search(r"sample: 6 of 13 edits refused, in \d+ checks of many and (\d+) of one", tried[1])
+    alone = re.search(r"sample: 6 of 14 edits refused, in \d+ checks of many and (\d+) of one", tried[1])
     assert alone and int(alone[1]) <= 9

@@ -81,14 +81,16 @@ def copy_of_law(edit, of, number, folder):
     lines = read(os.path.join(folder, edit.place[0])).split("\n")
     imports = re.compile(r"ghost use (\S+\.TheConstants\.)\{[^}]*\b%s\b[^}]*\};" % named[1]) if named else None
     line = next((n for n, it in enumerate(lines, 1) if imports and imports.match(it)), None)
-    if others or line is None or not texts[at].endswith(";"):
+    # (where both stand in one file, the law needs no import)
+    if others or named is None or not texts[at].endswith(";") or line is None and source != edit.place[0]:
         return None
     law, constant = "%s_edited_%d" % (edit.function.name, number), "%s_EDITED_%d" % (named[1], number)
     text = "\n".join(lines[first_line(edit.function, lines) - 1:edit.function.end])
     text = re.sub(r"\b%s\b" % named[1], constant, re.sub(r"\bfn %s\b" % edit.function.name, "fn " + law, text, count=1))
-    more = ((source, at + 1, texts[at].replace(old, new).replace(named[1], constant, 1)),
-            (edit.place[0], line, "ghost use %s{%s};" % (imports.match(lines[line - 1])[1], constant)))
-    return Copy(edit, of, "::".join([*of.split("::")[:-1], law]), edit.place[0], edit.function.end, text, more)
+    more = [(source, at + 1, texts[at].replace(old, new).replace(named[1], constant, 1))]
+    if line:
+        more.append((edit.place[0], line, "ghost use %s{%s};" % (imports.match(lines[line - 1])[1], constant)))
+    return Copy(edit, of, "::".join([*of.split("::")[:-1], law]), edit.place[0], edit.function.end, text, tuple(more))
 
 
 def path_of(name):
