@@ -541,7 +541,7 @@ class Tasks(unittest.TestCase):
             lanes.Lanes(tasks, 4, 100).run()
         # (the last one has what the others leave when it is begun)
         del given["program"]
-        self.assertEqual(given, {"low": 4, "other": 4, "another": 2, "none": 1})
+        self.assertEqual(given, {"low": 4, "other": 2, "another": 1, "none": 1})
 
     def test_tests_and_edits_wait_until_a_processor_is_idle(self):
         running, beside = set(), []
@@ -597,10 +597,10 @@ class Tasks(unittest.TestCase):
         own = os.getpriority(os.PRIO_PROCESS, 0)
         with contextlib.redirect_stdout(io.StringIO()):
             lanes.Lanes(tasks, 4, 100, {("a", "proof"): 30, ("b", "proof"): 20, ("c", "proof"): 10}).run()
-        self.assertEqual(begun, {"a": (4, own), "b": (2, max(own, 4)), "c": (1, max(own, 4))})
+        self.assertEqual(begun, {"a": (2, own), "b": (1, max(own, 4)), "c": (1, max(own, 4))})
 
     def test_the_longest_chain_has_more_processes_where_there_are_only_proofs(self):
-        for work, jobs in ((0, (3, 2, 1)), (9, (1, 1, 1))):
+        for work, jobs in ((0, (2, 1, 1)), (9, (1, 1, 1))):
             given = {}
             tasks = {(name, "proof"): ([], lines, 1, lambda _, jobs, name=name: given.setdefault(name, jobs) and time.sleep(0.05))
                      for name, lines in (("a", 30), ("b", 20), ("c", 10))}
@@ -638,13 +638,13 @@ class Tasks(unittest.TestCase):
         tasks = {("a", "proof"): ([], 9, 10, lambda _, jobs: given.setdefault("a", jobs) and time.sleep(0.05)),
                  ("b", "proof"): ([], 5, 10, lambda _, jobs: given.setdefault("b", jobs))}
         with contextlib.redirect_stdout(io.StringIO()):
-            lanes.Lanes(tasks, 4, 25).run()
-        # (22 for the three jobs of the first one leave too little for another)
-        self.assertEqual(given, {"a": 3, "b": 3})
+            lanes.Lanes(tasks, 4, 20).run()
+        # (16 for two jobs of the first one leave too little for another, and 22 for three jobs are too many)
+        self.assertEqual(given, {"a": 2, "b": 2})
         given.clear()
         with contextlib.redirect_stdout(io.StringIO()):
-            lanes.Lanes(tasks, 4, 40).run()
-        self.assertEqual(given, {"a": 4, "b": 1})
+            lanes.Lanes(tasks, 4, 30).run()
+        self.assertEqual(given, {"a": 2, "b": 1})
         given.clear()
         with contextlib.redirect_stdout(io.StringIO()):
             lanes.Lanes(tasks, 4, 15).run()

@@ -11,9 +11,9 @@ MOST_JOBS = 4
 MEMORY_OF_A_JOB = 0.6
 # How many seconds a task takes for each of its lines, where none are measured.
 SECONDS_OF_A_LINE = 0.06
-# With how many processes a proof is begun where no tests and edits fill the processors, and all waits for the longest chain of
-# proofs: the one that has it behind it, the next one, and each other.
-JOBS_BY_RANK = (MOST_JOBS, 2, 1)
+# With how many processes the proof that has the longest chain of proofs behind it is begun at least, where no tests and edits fill
+# the processors, and all waits for that chain.
+LEAST_OF_LONGEST = 2
 # The priorities: of the proof with the longest chain, of other proofs, and of tests and edits.
 NICE = {"longest": 0, "proofs": 4, "fillers": 10}
 MEASURED = os.path.join(os.path.dirname(os.path.abspath(__file__)), "seconds")
@@ -71,7 +71,7 @@ class Lanes:
     Each further process of a check reads the crate anew (`bid_book` takes 55 s of processor time with one, 103 with four). So a task
     has one, and more where processors would be idle. And more tasks than processors take each other's caches: eight checks on four
     processors take a fifth more of processor time than four. So one is begun where a processor is idle; but the proof with the
-    longest chain behind it, which all waits for in the end, at once; where there are only proofs, with more processes.
+    longest chain behind it, which all waits for in the end, at once; where there are only proofs, with two processes.
     A task is what it waits for, its work in lines, its memory, and a call that gets what was given and how many jobs it may use.
     `took` tells the seconds of those that were measured.
     """
@@ -123,7 +123,7 @@ class Lanes:
 
     def jobs_of(self, key, idle, many):
         """With how many jobs a task is begun, where so many processors are idle for so many tasks."""
-        least = 1 if self.is_filled else JOBS_BY_RANK[min(self.rank(key), len(JOBS_BY_RANK) - 1)]
+        least = 1 if self.is_filled or self.rank(key) else LEAST_OF_LONGEST
         return self.fitting(key, min(most_jobs(key), self.processors, max(-(-idle // many), least)))
 
     def start_all(self, pool_of, fills):
