@@ -1,13 +1,15 @@
 -- What single records of rules tell, the first one, and what stands behind it.
-use Rattle.std.specs.Prelude.{◌+◌, ℕ, List, [], ◌∷◌, Result, Ok, Err, length, ok_or}
-use Rattle.auction_terms.specs.Entries.{terms_of}
+use Rattle.std.specs.Prelude.{◌+◌, Bool, ℕ, List, [], ◌∷◌, Result, Ok, Err, length, ok_or}
+use Rattle.auction_terms.specs.Entries.{Entries, terms_of}
 use Rattle.auction_terms.specs.FirstFault.{first_failed, first_fault}
 use Rattle.auction_terms.specs.Records.{Record}
-use Rattle.auction_terms.specs.RulesText.{end_checks, entries_of, entry_fault, field_number, header_checks, record_field, version_of}
+use Rattle.auction_terms.specs.RulesText.{end_checks, entries_of, entry_fault, field_number, header_checks, kind_checks, record_field, version_of}
 use Rattle.auction_terms.specs.Stages.{and_then, unless}
 use Rattle.auction_terms.specs.Terms.{Terms}
 use Rattle.auction_terms.specs.declared.draft.Member.{Member}
 use Rattle.auction_terms.specs.declared.draft.NamedCap.{NamedCap}
+use Rattle.auction_terms.specs.declared.record_kinds.RecordKind.{RecordKind}
+use Rattle.auction_terms.specs.declared.record_kinds.Version.TheVariants as version
 use Rattle.auction_terms.specs.declared.rules.Bidder.{Bidder}
 use Rattle.auction_terms.specs.declared.rules_text.Header.{Header}
 use Rattle.auction_terms.specs.declared.rules_text.RulesFault.{RulesFault}
@@ -21,6 +23,10 @@ pool_of r = record { name = record_field 2 r; cap = field_number 3 r }
 
 abbrev pub member_of : Record → Member
 member_of r = record { pool = record_field 2 r; category = record_field 3 r; weight = field_number 4 r }
+
+-- the checks of a bidder, a pool or a member: those of the last version, which no other has otherwise, so that an entry of any version has them
+abbrev pub checks_in_every_version : ℕ → Entries → Record → RecordKind → List (Bool × RulesFault)
+checks_in_every_version place before r k = kind_checks version.Three place before r k
 
 -- the version and the step that the first record tells
 abbrev pub first_record_told : List Record → Result Header RulesFault
