@@ -15,4 +15,4 @@ pub use memory_sink::MemorySink;
 pub use sink::{Sink, SinkFailed};
 pub use std_sink::StdSink;
 pub use write_fault::WriteFault;
-pub use writer::{BLOCK_LEN, Writer};
+pub use writer::{BLOCK_LEN, PIECE_LEN, Writer};

@@ -5,13 +5,13 @@ ghost use Rattle.std.specs.Io.KnownBytes.{Appends, append_known};
 ghost use Rattle.byte_sinks.specs.Sinks.{HasFailed, IsFront, Counts};
 
 use crate::sink::{Sink, SinkFailed};
-use crate::writer::BLOCK_LEN;
+use crate::writer::PIECE_LEN;
 
-/// The first bytes, as many as a block has room for.
-fn front_block(bytes: &[u8]) -> &[u8]
-    ensures { result.now ≡ take (min (length bytes.now) BLOCK_LEN) bytes.now }
+/// The first bytes, as many as a piece has at most.
+fn front_piece(bytes: &[u8]) -> &[u8]
+    ensures { result.now ≡ take (min (length bytes.now) PIECE_LEN) bytes.now }
 {
-    let end = bytes.len().min(BLOCK_LEN);
+    let end = bytes.len().min(PIECE_LEN);
     &bytes[..end]
 }
 
@@ -29,7 +29,7 @@ pub(crate) fn put_all<S: Sink>(sink: &mut S, bytes: &[u8], sent: &mut u64) -> Re
     let _known = *sent;
     let mut from = 0;
     while from < bytes.len() {
-        let n = sink.put(front_block(&bytes[from..]))?;
+        let n = sink.put(front_piece(&bytes[from..]))?;
         from += n;
         *sent = sent.saturating_add(n as u64);
     }

@@ -7,8 +7,11 @@ use crate::sink::{Sink, SinkFailed};
 use crate::write_fault::WriteFault;
 use arrayvec::ArrayVec;
 
-/// How many bytes a writer has room for, and how long a piece is at most that it puts.
-pub const BLOCK_LEN: usize = 65_536;
+/// How many bytes a writer has room for. Each writer clears them first, so there are no more than small writes need.
+pub const BLOCK_LEN: usize = 16_384;
+
+/// How long a piece is at most that a writer puts.
+pub const PIECE_LEN: usize = 65_536;
 
 /// A sink, and the bytes that wait for it. It remembers a failed put: nothing is put after it, and `flush` tells it.
 #[derive(Drop)]

@@ -1,7 +1,7 @@
 use Rattle.std.proofs.Common.{take, drop, rules, arith, sym, ◌∙◌}
 use Rattle.std.proofs.lemmas.List.{length-drop, take-append-drop}
 use Rattle.byte_sinks.proofs.Known.{Appends-nothing, Appends-then, Appends-keeps, IsFront-from, OnErr-any, piece-step, piece-within}
-use Rattle.byte_sinks.specs.declared.writer.TheConstants.{BLOCK_LEN}
+use Rattle.byte_sinks.specs.declared.writer.TheConstants.{PIECE_LEN}
 use Rattle.byte_sinks.proofs.sending.put_all.Goals as goal
 
 pub loop-from-init : goal.loop-from-init
@@ -16,8 +16,8 @@ pub loop-from-preserved : goal.loop-from-preserved
 loop-from-preserved g c =
     let i = c.loop-from.invariant in
     record {
-      within = piece-within c.loop-from.from c.in_ok-n.n BLOCK_LEN c.args.bytes.now c.front_block.result.now c.front_block.ensures c.in_ok-n.ensures.within i.within;
-      gone = Appends-then _ _ _ _ _ _ (piece-step c.loop-from.from c.in_ok-n.n BLOCK_LEN c.args.bytes.now c.front_block.result.now c.front_block.ensures c.in_ok-n.ensures.within) i.gone c.in_ok-n.ensures.took;
+      within = piece-within c.loop-from.from c.in_ok-n.n PIECE_LEN c.args.bytes.now c.front_piece.result.now c.front_piece.ensures c.in_ok-n.ensures.within i.within;
+      gone = Appends-then _ _ _ _ _ _ (piece-step c.loop-from.from c.in_ok-n.n PIECE_LEN c.args.bytes.now c.front_piece.result.now c.front_piece.ensures c.in_ok-n.ensures.within) i.gone c.in_ok-n.ensures.took;
       count = omega (arith, i.count, c.saturating_add.ensures);
       failures = c.in_ok-n.ensures.succeeded ∙ i.failures;
     }
