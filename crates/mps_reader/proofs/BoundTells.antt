@@ -1,9 +1,11 @@
 -- Bounds are those of the lines so far.
-use Rattle.std.proofs.Common.{◌≡◌, ℕ, zero, suc, Bool, true, false, not, ◌||◌, ◌&&◌, List, [], ◌∷◌, length, map, refl, sym, ap, subst, ◌∙◌, Option, Some, None, pos, ◌+◌, drop, arith}
-use Rattle.std.specs.Prelude.{slice_get, bytes_eq, codes, nat_le, if◌then◌else◌}
+use Rattle.std.proofs.Common.{◌≡◌, ℕ, zero, suc, Bool, true, false, not, ◌||◌, ◌&&◌, List, [], ◌∷◌, length, map, refl, sym, ap, subst, ◌∙◌, Option, Some, None, pos, ◌+◌, ◌<◌, drop, get_or, arith}
+use Rattle.std.specs.Prelude.{◌==◌, slice_get, bytes_eq, codes, nat_le, if◌then◌else◌}
+use denote.Ref.{Bor}
+use Rattle.auction_terms.specs.Borrowed.{bytes_of}
 use Rattle.std.specs.List.{list_any, slice_set, AllByRecursion, IsDistinct}
 use Rattle.line_words.specs.Lines.{LineFields, field}
-use Rattle.mps_meaning.specs.Described.{is_one_of, value, is_binary_bound, columns_named, column_lines, bound_pair, is_column}
+use Rattle.mps_meaning.specs.Described.{is_one_of, value, is_binary_bound, columns_named, bound_pair, is_column}
 use Rattle.mps_meaning.specs.Faults.{bound_fault, earliest_fault, stands_in_integers}
 use Rattle.mps_meaning.specs.declared.fault.FaultKind.{FaultKind}
 use Rattle.mps_meaning.specs.declared.fault.FaultKind.TheVariants.{BoundType, Fields, UnknownColumn}
@@ -11,7 +13,8 @@ use Rattle.mps_reader.specs.inside.Rows.{names_of}
 use Rattle.mps_reader.specs.inside.Tracking.{ColumnsTell, state_values, told_values, bounded_values}
 use Rattle.mps_reader.specs.declared.column_state.ColumnState.{ColumnState}
 use Rattle.mps_reader.specs.declared.column_table.ColumnTable.{ColumnTable}
-use Rattle.mps_reader.proofs.NameFacts.{same_name}
+use Rattle.mps_reader.proofs.NameFacts.{same_name, any-names, length-bytes}
+use Rattle.mps_reader.proofs.RowSteps.{no_name, field-at}
 use Rattle.mps_reader.proofs.PairTells.{flip-name, all-at}
 use Rattle.mps_reader.proofs.LineTells.{columns-any}
 use Rattle.mps_reader.specs.inside.Reading.{bit_fault}
@@ -19,17 +22,15 @@ use Rattle.std.specs.Bool.{then_some as when}
 
 -- ---- fields behind others
 
-pub first-behind : (k : ℕ) (f : LineFields) → field 0 (drop k f) ≡ field k f
-first-behind zero f = refl
-first-behind (suc k) [] = refl
+first-behind : (k : ℕ) (f : LineFields) → field 0 (drop k f) ≡ field k f
 first-behind (suc k) (x ∷ f) = first-behind k f
+first-behind _ _ = refl
 
 next-behind : (k : ℕ) (f : LineFields) → field 1 (drop k f) ≡ field (suc k) f
-next-behind zero f = refl
-next-behind (suc k) [] = refl
 next-behind (suc k) (x ∷ f) = next-behind k f
+next-behind _ _ = refl
 
-pub second-behind : (k : ℕ) (f : LineFields) → field 1 (drop k f) ≡ field (k + 1) f
+second-behind : (k : ℕ) (f : LineFields) → field 1 (drop k f) ≡ field (k + 1) f
 second-behind k f = let next : suc k ≡ k + 1 = omega arith in next-behind k f ∙ ap (λ (n : ℕ). field n f) next
 
 -- ---- faults
@@ -46,14 +47,12 @@ type_fault f = earliest_fault (when (not (is_one_of (field 0 f) (codes "UP" ∷ 
     ∷ when (not (if is_binary_bound f then nat_le 2 (length f) && nat_le (length f) 4 else nat_le 3 (length f) && nat_le (length f) 4)) Fields ∷ [])
 
 early : (a b : Bool) (more : List (Option FaultKind)) (kind : FaultKind) → earliest_fault (when (not a) BoundType ∷ when (not b) Fields ∷ []) ≡ Some kind → earliest_fault (when (not a) BoundType ∷ when (not b) Fields ∷ more) ≡ Some kind
-early false b more kind h = h
-early true false more kind h = h
 early true true more kind h = absurd cc
+early _ _ more kind h = h
 
 rest : (a b : Bool) (more : List (Option FaultKind)) → earliest_fault (when (not a) BoundType ∷ when (not b) Fields ∷ []) ≡ None → earliest_fault (when (not a) BoundType ∷ when (not b) Fields ∷ more) ≡ earliest_fault more
-rest false b more h = absurd cc
-rest true false more h = absurd cc
 rest true true more h = refl
+rest _ _ more h = absurd cc
 
 abbrev behind : List LineFields → LineFields → List (Option FaultKind)
 behind lines f = when (not (is_column lines (field 0 (bound_pair f)))) UnknownColumn ∷ (if is_binary_bound f then None else bit_fault (field 1 (bound_pair f))) ∷ []
@@ -72,9 +71,20 @@ pub last-one : (o : Option FaultKind) → earliest_fault (o ∷ []) ≡ o
 last-one None = refl
 last-one (Some k) = refl
 
+-- ---- the column and the number of a bound, where the code looks for them
+
+place-is : (fs : List (Bor (List ℕ))) (binary : Bool) (at : ℕ) → binary ≡ is_binary_bound (bytes_of fs) → at ≡ (if length fs == (if binary then 2 else 3) then 1 else 2) → (if length (bytes_of fs) == (if is_binary_bound (bytes_of fs) then 2 else 3) then 1 else 2) ≡ at
+place-is fs binary at is e = rw (length-bytes fs, sym is) (sym e)
+
+pub column-at : (fs : List (Bor (List ℕ))) (binary : Bool) (at : ℕ) → binary ≡ is_binary_bound (bytes_of fs) → at ≡ (if length fs == (if binary then 2 else 3) then 1 else 2) → at < length fs → field 0 (bound_pair (bytes_of fs)) ≡ (get_or fs at no_name).now
+column-at fs binary at is e within = first-behind _ (bytes_of fs) ∙ ap (λ n. field n (bytes_of fs)) (place-is fs binary at is e) ∙ field-at fs at within
+
+pub number-at : (fs : List (Bor (List ℕ))) (binary : Bool) (at : ℕ) → binary ≡ is_binary_bound (bytes_of fs) → at ≡ (if length fs == (if binary then 2 else 3) then 1 else 2) → at + 1 < length fs → field 1 (bound_pair (bytes_of fs)) ≡ (get_or fs (at + 1) no_name).now
+number-at fs binary at is e within = second-behind _ (bytes_of fs) ∙ ap (λ n. field (n + 1) (bytes_of fs)) (place-is fs binary at is e) ∙ field-at fs (at + 1) within
+
 -- a name of a column is a column of the lines
-pub column-any : (lines : List LineFields) (names : List (List ℕ)) (name : List ℕ) → names ≡ columns_named lines → is_column lines name ≡ list_any (bytes_eq name) names
-column-any lines names name h = sym (ap (list_any (bytes_eq name)) h ∙ columns-any name lines)
+pub known-is : (lines : List LineFields) (keys : List (Bor (List ℕ))) (word name : List ℕ) (b : Bool) → bytes_of keys ≡ columns_named lines → word ≡ name → b ≡ list_any (λ k. bytes_eq name k.now) keys → is_column lines word ≡ b
+known-is lines keys word name b h same found = sym (ap (list_any (bytes_eq word)) h ∙ columns-any word lines) ∙ ap (λ n. list_any (bytes_eq n) (bytes_of keys)) same ∙ sym (any-names name keys) ∙ sym found
 
 -- ---- values
 
@@ -176,14 +186,13 @@ set-told f lines bounds (x ∷ states) (n ∷ ns) (suc i) s d e h is =
     ap (λ v. v ∷ map state_values (slice_set states i s)) (head ∙ sym (values-other f lines bounds n (all-at (λ y. bytes_eq n y ≡ false) ns i (field 0 (bound_pair f)) e d.0))) ∙ ap (λ vs. told_values lines (f ∷ bounds) n ∷ vs) (set-told f lines bounds states ns i s d.1 e tail is)
 
 pub told-at : (lines bounds : List LineFields) (states : List ColumnState) (ns : List (List ℕ)) (i : ℕ) (s : ColumnState) (n : List ℕ) → slice_get states i ≡ Some s → slice_get ns i ≡ Some n → map state_values states ≡ map (told_values lines bounds) ns → state_values s ≡ told_values lines bounds n
-told-at lines bounds states [] i s n a b h = absurd cc
-told-at lines bounds [] (m ∷ ns) i s n a b h = absurd cc
 told-at lines bounds (x ∷ states) (m ∷ ns) zero s n a b h =
     let head : state_values x ≡ told_values lines bounds m = cc in
     let one : x ≡ s = cc in
     let two : m ≡ n = cc in
     ap state_values (sym one) ∙ head ∙ ap (told_values lines bounds) two
 told-at lines bounds (x ∷ states) (m ∷ ns) (suc i) s n a b h = let tail : map state_values states ≡ map (told_values lines bounds) ns = cc in told-at lines bounds states ns i s n a b tail
+told-at lines bounds _ _ i s n a b h = absurd cc
 
 pub bound-tells : (f : LineFields) (o : Option (List ℕ)) (rows : List (List ℕ)) (lines bounds : List LineFields) (old new : ColumnTable) (i : ℕ) (s : ColumnState) → new ≡ record old { states = new.states } → new.states.items ≡ slice_set old.states.items i s
     → IsDistinct bytes_eq (names_of old.names) → slice_get (names_of old.names) i ≡ Some (field 0 (bound_pair f)) → state_values s ≡ told_values lines (f ∷ bounds) (field 0 (bound_pair f)) → ColumnsTell o rows lines bounds old → ColumnsTell o rows lines (f ∷ bounds) new

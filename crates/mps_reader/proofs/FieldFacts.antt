@@ -1,19 +1,18 @@
 -- The first field of a line.
-use Rattle.std.proofs.Common.{◌≡◌, ℕ, zero, suc, ◌+◌, ◌<◌, ◌≤◌, Bool, true, false, cond, not, List, [], ◌∷◌, ◌++◌, length, take, drop, get_or, refl, ap, ◌∙◌, arith, length-take, Some, None}
+use Rattle.std.proofs.Common.{◌≡◌, ℕ, zero, suc, ◌+◌, ◌<◌, ◌≤◌, Bool, true, false, cond, not, List, [], ◌∷◌, ◌++◌, length, take, drop, get_or, refl, sym, ap, ◌∙◌, arith, add-one, drop-cons, Some, None}
 use Rattle.std.specs.Prelude.{◌==◌, nat_lt, position}
 use Rattle.std.specs.List.{slice_split, position_or_len, onto_first, filter, list_all, AllByRecursion}
+use Rattle.std.proofs.Math.Seq.{take-length}
 use Rattle.std.proofs.lemmas.Bool.{ltb-true, ltb-false, lt-ltb, le-ltb, ne_eqb, and_parts}
 use Rattle.std.proofs.lemmas.Bool.Decides.{nat_tests}
 use Rattle.std.proofs.lemmas.Grind.{common_steps}
-use Rattle.std.proofs.lemmas.List.Sums.{position_or_len_is}
-use Rattle.std.proofs.lemmas.List.Splits.{slice_split_first}
+use Rattle.std.proofs.lemmas.List.{drop_all}
+use Rattle.std.proofs.lemmas.List.Sums.{position_or_len_is, passes_at_first}
+use Rattle.std.proofs.lemmas.List.Sums.{prefix_len-le-length}
 use Rattle.line_words.specs.Lines.{fields, is_space}
+use Rattle.line_words.proofs.FieldLaws.{skipped, first_field}
 use Rattle.program_rows.specs.Parts.{IsName}
 use Rattle.mps_reader.specs.inside.Reading.{is_other, is_text_byte}
-
--- the parts that are not empty
-abbrev pieces : (ℕ → Bool) → List ℕ → List (List ℕ)
-pieces p bs = filter (λ part. not (length part == 0)) (slice_split p bs)
 
 pub some-is : (b : Bool) (x i : ℕ) → Some i ≡ cond b (Some x) None → (b ≡ true) × (x ≡ i)
 some-is true x i h = (refl, cc)
@@ -23,76 +22,14 @@ pub none-is : (b : Bool) (x : ℕ) → None ≡ cond b (Some x) None → b ≡ f
 none-is true x h = absurd cc
 none-is false x h = refl
 
-skip-same : (p : ℕ → Bool) (bs : List ℕ) → pieces p bs ≡ pieces p (drop (position_or_len (λ b. not (p b)) bs) bs)
-skip-same p [] = refl
-skip-same p (b ∷ bs) = by (p b) refl (skip-same p bs)
-  where
-    by : (s : Bool) → p b ≡ s → pieces p bs ≡ pieces p (drop (position_or_len (λ b. not (p b)) bs) bs) → pieces p (b ∷ bs) ≡ pieces p (drop (position_or_len (λ b. not (p b)) (b ∷ bs)) (b ∷ bs))
-    by true e h = let next : 1 + position_or_len (λ b. not (p b)) bs ≡ suc (position_or_len (λ b. not (p b)) bs) = omega arith in rw (e, next) h
-    by false e h = rw (e, e) refl
-
--- what stands behind the white space begins with another byte
-skip-head : (p : ℕ → Bool) (bs : List ℕ) → position_or_len (λ b. not (p b)) bs < length bs → 0 < position_or_len p (drop (position_or_len (λ b. not (p b)) bs) bs)
-skip-head p [] h = absurd (omega arith)
-skip-head p (b ∷ bs) h = by (p b) refl (λ k. skip-head p bs k)
-  where
-    by : (s : Bool) → p b ≡ s → (position_or_len (λ b. not (p b)) bs < length bs → 0 < position_or_len p (drop (position_or_len (λ b. not (p b)) bs) bs)) → 0 < position_or_len p (drop (position_or_len (λ b. not (p b)) (b ∷ bs)) (b ∷ bs))
-    by true e more =
-        let next : 1 + position_or_len (λ b. not (p b)) bs ≡ suc (position_or_len (λ b. not (p b)) bs) = omega arith in
-        let here : 1 + position_or_len (λ b. not (p b)) bs < suc (length bs) = rw e at h in
-        rw (e, next) (more (omega arith))
-    by false e more = rw (e, e) (omega arith)
-
-filled : (i : ℕ) (bs : List ℕ) → 0 < i → i ≤ length bs → not (length (take i bs) == 0) ≡ true
-filled i bs h le = let size = length-take i bs in rw (ne_eqb (length (take i bs)) 0 (λ e. omega arith)) refl
-
-first-piece : (p : ℕ → Bool) (bs : List ℕ) → 0 < position_or_len p bs → position_or_len p bs < length bs → pieces p bs ≡ take (position_or_len p bs) bs ∷ pieces p (drop (position_or_len p bs + 1) bs)
-first-piece p bs some less = rw (slice_split_first p bs 0 less, filled (position_or_len p bs) bs some (omega arith)) refl
-
-alone : (p : ℕ → Bool) (bs : List ℕ) → length bs ≤ position_or_len p bs → slice_split p bs ≡ bs ∷ []
-alone p [] h = refl
-alone p (b ∷ bs) h = by (p b) h (alone p bs)
-  where
-    by : (s : Bool) → suc (length bs) ≤ cond (not s) (1 + position_or_len p bs) 0 → (length bs ≤ position_or_len p bs → slice_split p bs ≡ bs ∷ []) → cond s ([] ∷ slice_split p bs) (onto_first b (slice_split p bs)) ≡ (b ∷ bs) ∷ []
-    by true k more = absurd (omega arith)
-    by false k more = ap (onto_first b) (more (omega arith))
-
-last-piece : (p : ℕ → Bool) (bs : List ℕ) → 0 < length bs → length bs ≤ position_or_len p bs → pieces p bs ≡ bs ∷ []
-last-piece p bs some h = let test : not (length bs == 0) ≡ true = rw (ne_eqb (length bs) 0 (λ e. omega arith)) refl in rw (alone p bs h, test) refl
-
-pub drop-all : (bs : List ℕ) (k : ℕ) → length bs ≤ k → drop k bs ≡ []
-drop-all [] zero h = refl
-drop-all [] (suc k) h = refl
-drop-all (b ∷ bs) zero h = absurd (omega arith)
-drop-all (b ∷ bs) (suc k) h = drop-all bs k (omega arith)
+nothing : fields [] ≡ []
+unfolding fields
+nothing = refl
 
 pub no-field : (bs : List ℕ) → None ≡ position is_other bs → fields bs ≡ []
-unfolding fields
 no-field bs h =
     let far = ltb-false _ _ (none-is (nat_lt (position_or_len is_other bs) (length bs)) (position_or_len is_other bs) h) in
-    skip-same is_space bs ∙ rw (drop-all bs (position_or_len is_other bs) far) refl
-
-field-before : (bs : List ℕ) (i j : ℕ) → Some i ≡ position is_other bs → Some j ≡ position is_space (drop i bs) → fields bs ≡ take j (drop i bs) ∷ fields (drop (j + 1) (drop i bs))
-unfolding fields
-field-before bs i j h k =
-    let found = some-is (nat_lt (position_or_len is_other bs) (length bs)) (position_or_len is_other bs) i h in
-    let ended = some-is (nat_lt (position_or_len is_space (drop i bs)) (length (drop i bs))) (position_or_len is_space (drop i bs)) j k in
-    let some : 0 < position_or_len is_space (drop i bs) = rw found.1 at (skip-head is_space bs (ltb-true _ _ found.0)) in
-    let parts = first-piece is_space (drop i bs) some (ltb-true _ _ ended.0) in
-    skip-same is_space bs ∙ rw found.1 (parts ∙ rw ended.1 refl)
-
-field-last : (bs : List ℕ) (i : ℕ) → Some i ≡ position is_other bs → None ≡ position is_space (drop i bs) → fields bs ≡ drop i bs ∷ fields (drop (length (drop i bs)) (drop i bs))
-unfolding fields
-field-last bs i h k =
-    let found = some-is (nat_lt (position_or_len is_other bs) (length bs)) (position_or_len is_other bs) i h in
-    let far = ltb-false _ _ (none-is (nat_lt (position_or_len is_space (drop i bs)) (length (drop i bs))) (position_or_len is_space (drop i bs)) k) in
-    let some : 0 < position_or_len is_space (drop i bs) = rw found.1 at (skip-head is_space bs (ltb-true _ _ found.0)) in
-    let filled-rest : 0 < length (drop i bs) = nonempty (drop i bs) some in
-    skip-same is_space bs ∙ rw found.1 (last-piece is_space (drop i bs) filled-rest far ∙ rw (drop-all (drop i bs) (length (drop i bs)) (omega arith)) refl)
-  where
-    nonempty : (xs : List ℕ) → 0 < position_or_len is_space xs → 0 < length xs
-    nonempty [] k = absurd (omega arith)
-    nonempty (x ∷ xs) k = omega arith
+    skipped bs ∙ ap fields (drop_all (position_or_len is_other bs) bs far) ∙ nothing
 
 -- ---- the fields of a text are names
 
@@ -124,25 +61,45 @@ filled-names ((b ∷ part) ∷ ps) h =
     rw test ((omega arith, h.0), filled-names ps h.1)
 
 take-all : (n : ℕ) (ps : List (List ℕ)) → AllByRecursion IsName ps → AllByRecursion IsName (take n ps)
-take-all zero ps h = tt
-take-all (suc n) [] h = tt
 take-all (suc n) (p ∷ ps) h = (h.0, take-all n ps h.1)
+take-all _ _ h = tt
 
 pub fields_names : (bs : List ℕ) → list_all is_text_byte bs ≡ true → AllByRecursion IsName (take 6 (fields bs))
 unfolding fields
 fields_names bs h = take-all 6 (filter (λ part. not (length part == 0)) (slice_split is_space bs)) (filled-names (slice_split is_space bs) (parts-printable bs h))
 
+-- white space behind a field is no part of the next
+space-first : (b : ℕ) (bs : List ℕ) → is_space b ≡ true → fields (b ∷ bs) ≡ fields bs
+unfolding fields
+space-first b bs h = rw h refl
+
+behind-space : (text : List ℕ) (j : ℕ) → j < length text → is_space (get_or text j 0) ≡ true → fields (drop j text) ≡ fields (drop (j + 1) text)
+behind-space text j less space = ap fields parts ∙ space-first (get_or text j 0) (drop (j + 1) text) space
+  where
+    parts : drop j text ≡ get_or text j 0 ∷ drop (j + 1) text
+    parts = rw (add-one, drop-cons text j 0) refl
+
 pub field-found : (bs text rest : List ℕ) (i j : ℕ) → Some i ≡ position is_other bs → text ≡ drop i bs → Some j ≡ position is_space text → rest ≡ drop (j + 1) text → fields bs ≡ take j text ∷ fields rest
-field-found bs text rest i j h t k r = rw (r, t) (field-before bs i j h (k ∙ ap (position is_space) t))
+field-found bs text rest i j h t k r =
+    let found = some-is (nat_lt (position_or_len is_other bs) (length bs)) (position_or_len is_other bs) i h in
+    let ended = some-is (nat_lt (position_or_len is_space text) (length text)) (position_or_len is_space text) j k in
+    let within : i < length bs = rw found.1 at (ltb-true _ _ found.0) in
+    let less : j < length text = rw ended.1 at (ltb-true _ _ ended.0) in
+    let space : is_space (get_or text j 0) ≡ true = rw ended.1 at (passes_at_first is_space text 0 (ltb-true _ _ ended.0)) in
+    first_field bs text i j (sym found.1) within t (sym ended.1) (omega arith) ∙ ap (λ fs. take j text ∷ fs) (behind-space text j less space ∙ ap fields (sym r))
 
 pub field-at-end : (bs text rest : List ℕ) (i : ℕ) → Some i ≡ position is_other bs → text ≡ drop i bs → None ≡ position is_space text → rest ≡ drop (length text) text → fields bs ≡ text ∷ fields rest
-field-at-end bs text rest i h t k r = rw (r, t) (field-last bs i h (k ∙ ap (position is_space) t))
+field-at-end bs text rest i h t k r =
+    let found = some-is (nat_lt (position_or_len is_other bs) (length bs)) (position_or_len is_other bs) i h in
+    let far = ltb-false _ _ (none-is (nat_lt (position_or_len is_space text) (length text)) (position_or_len is_space text) k) in
+    let end : length text ≡ position_or_len is_space text = omega (arith, prefix_len-le-length (λ b. not (is_space b)) text) in
+    let within : i < length bs = rw found.1 at (ltb-true _ _ found.0) in
+    first_field bs text i (length text) (sym found.1) within t end (omega arith) ∙ ap (λ fs. fs ∷ fields (drop (length text) text)) (take-length text) ∙ ap (λ fs. text ∷ fields fs) (sym r)
 
 pub take-front : (n : ℕ) (xs ys : List (List ℕ)) → length xs ≡ n → xs ≡ take n (xs ++ ys)
 take-front zero [] ys h = refl
-take-front zero (x ∷ xs) ys h = absurd (omega arith)
-take-front (suc n) [] ys h = absurd (omega arith)
 take-front (suc n) (x ∷ xs) ys h = ap (λ zs. x ∷ zs) (take-front n xs ys (omega arith))
+take-front _ _ ys h = absurd (omega arith)
 
 -- ---- the first byte that passes a test, by a loop
 

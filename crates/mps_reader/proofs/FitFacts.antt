@@ -44,14 +44,8 @@ empty-columns count c e = record {
 }
 
 pub closed-any : (s : Section) (c : ColumnTable) → is_some c.current ≡ false → IsClosed s c
-closed-any sections.Start c h = h
-closed-any sections.Name c h = h
-closed-any sections.Sense c h = h
-closed-any sections.Rows c h = h
 closed-any sections.Columns c h = tt
-closed-any sections.RightSides c h = h
-closed-any sections.Bounds c h = h
-closed-any sections.End c h = h
+closed-any _ c h = h
 
 -- other rows, of which there are as many or more, while no column is open
 pub both-closed : (r new : Rows) (c : ColumnTable) → length r.rows.items ≤ length new.rows.items → is_some c.current ≡ false → BothFit r c → BothFit new c
@@ -109,16 +103,13 @@ sided-fit r new fit names places objective stamps rows = record {
 -- ---- the program
 
 names-bounded : (cs : List TableColumn) (bs : List Bounds) → length bs ≡ length cs → map (λ (c : TableColumn). c.name) (bounded cs bs) ≡ map (λ (c : TableColumn). c.name) cs
-names-bounded [] [] h = refl
-names-bounded [] (b ∷ bs) h = refl
 names-bounded (c ∷ cs) [] h = absurd (omega arith)
 names-bounded (c ∷ cs) (b ∷ bs) h = ap (λ ns. c.name ∷ ns) (names-bounded cs bs (omega arith))
+names-bounded [] _ h = refl
 
 entries-bounded : (count : ℕ) (cs : List TableColumn) (bs : List Bounds) → AllByRecursion (λ k. AreEntries count k.entries) cs → AllByRecursion (λ k. AreEntries count k.entries) (bounded cs bs)
-entries-bounded count [] [] h = tt
-entries-bounded count [] (b ∷ bs) h = tt
-entries-bounded count (c ∷ cs) [] h = tt
 entries-bounded count (c ∷ cs) (b ∷ bs) h = (h.0, entries-bounded count cs bs h.1)
+entries-bounded count _ _ h = tt
 
 append-nothing : {A : Type 0} (xs : List A) → xs ++ [] ≡ xs
 append-nothing [] = refl

@@ -46,17 +46,13 @@ state-binary : (s : ColumnState) → is_binary_state s ≡ binary-values (state_
 state-binary s = ap (λ b. s.is_integer && b) (by s.upper s.lower)
   where
     by : (u : Option Bool) (l : Bool) → below_or_equal u l ≡ option_map_or (λ high. not (int_lt high (bit l))) (option_map bit u) false
-    by None l = refl
     by (Some true) true = refl
-    by (Some true) false = refl
     by (Some false) true = refl
-    by (Some false) false = refl
+    by _ _ = refl
 
 at-or-len : (before : Sections) (ss : List ColumnState) (ns : List (List ℕ)) → map state_values ss ≡ map (told_values before.columns before.bounds) ns
     → position_or_len (λ s. not (is_binary_state s)) ss ≡ position_or_len (λ n. not (is_binary before n)) ns
 at-or-len before [] [] h = refl
-at-or-len before [] (n ∷ ns) h = absurd cc
-at-or-len before (s ∷ ss) [] h = absurd cc
 at-or-len before (s ∷ ss) (n ∷ ns) h =
     let head : state_values s ≡ told_values before.columns before.bounds n = cc in
     let rest : map state_values ss ≡ map (told_values before.columns before.bounds) ns = cc in
@@ -67,6 +63,7 @@ at-or-len before (s ∷ ss) (n ∷ ns) h =
         → (if not (not (is_binary_state s)) then 1 + position_or_len (λ x. not (is_binary_state x)) ss else 0) ≡ (if not b then 1 + position_or_len (λ x. not (is_binary before x)) ns else 0)
     by true e more = rw e refl
     by false e more = rw e (ap (λ (k : ℕ). 1 + k) more)
+at-or-len before _ _ h = absurd cc
 
 pub first-open : (before : Sections) (states : List ColumnState) → map state_values states ≡ map (told_values before.columns before.bounds) (columns_named before.columns)
     → option_map NotBinary (position (λ s. not (is_binary_state s)) states) ≡ option_map NotBinary (position (λ column. not (is_binary before column)) (columns_named before.columns))

@@ -12,7 +12,7 @@ pub mod PairSteps
 pub mod PairTells
 pub mod PairFaults
 pub mod AnswerFacts
-pub mod EntriesTell
+pub mod LinePairs
 pub mod ColumnSteps
 pub mod ColumnTells
 pub mod LineTells

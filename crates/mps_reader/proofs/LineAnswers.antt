@@ -64,7 +64,5 @@ meaning-stops text place seen lines h e = h ∙ rw e refl
 -- the line that ends a text says nothing of the program
 pub program-ended : (seen : Sections) (line : Line) → is_end line ≡ true → program (with_line seen line) ≡ program seen
 unfolding program
-program-ended seen Skipped h = absurd cc
-program-ended seen Unprintable h = absurd cc
 program-ended seen (Header word more) h = refl
-program-ended seen (Data fields) h = absurd cc
+program-ended seen _ h = absurd cc

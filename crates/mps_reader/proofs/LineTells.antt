@@ -7,6 +7,7 @@ use Rattle.std.specs.Ordering.{int_eq}
 use Rattle.std.proofs.lemmas.List.{map-append}
 use Rattle.std.proofs.lemmas.List.Folds.{list_any-append}
 use Rattle.std.proofs.lemmas.Bool.{ne_eqb}
+use Rattle.std.proofs.Math.Bool.{and_comm}
 use denote.Ref.{Bor}
 use Rattle.program_rows.specs.declared.bounds.Bounds.TheVariants.{ZeroOrOne}
 use Rattle.program_rows.specs.Program.{TableColumn}
@@ -31,9 +32,7 @@ use Rattle.std.specs.Bool.{then_some as when}
 
 or-last : (a b : Bool) → (a || (b || false)) ≡ (b || a)
 or-last true true = refl
-or-last true false = refl
-or-last false true = refl
-or-last false false = refl
+or-last _ _ = refl
 
 pub columns-any : (name : List ℕ) (lines : List LineFields) → list_any (bytes_eq name) (columns_named lines) ≡ is_column lines name
 columns-any name [] = refl
@@ -184,12 +183,11 @@ ready-same f o rows lines r c m current fit h at =
 
 pub none-stamped : (stamps : List ℕ) (ns : List (List ℕ)) (most : ℕ) (has : List ℕ → Bool) → length stamps ≡ length ns → AllByRecursion (λ s. s ≤ most) stamps → ((n : List ℕ) → has n ≡ false) → StampsAre stamps (most + 1) ns has
 none-stamped [] [] most has size low h = refl
-none-stamped [] (n ∷ ns) most has size low h = absurd (omega arith)
-none-stamped (s ∷ stamps) [] most has size low h = absurd (omega arith)
 none-stamped (s ∷ stamps) (n ∷ ns) most has size low h =
     let under = low.0 in
     let other : (s == most + 1) ≡ false = ne_eqb s (most + 1) (λ e. omega arith) in
     rw (other, h n) (ap (λ bs. false ∷ bs) (none-stamped stamps ns most has (omega arith) low.1 h))
+none-stamped _ _ most has size low h = absurd (omega arith)
 
 low-up : (stamps : List ℕ) (a b : ℕ) → a ≤ b → AllByRecursion (λ s. s ≤ a) stamps → AllByRecursion (λ s. s ≤ b) stamps
 low-up [] a b le h = tt
@@ -282,27 +280,21 @@ line-stays f lines r new c column m current kept low stamps =
 
 -- ---- faults
 
-and-swap : (a b : Bool) → (a && b) ≡ (b && a)
-and-swap true true = refl
-and-swap true false = refl
-and-swap false true = refl
-and-swap false false = refl
-
 split-lines : (lines : List LineFields) (c : Option (Bor (List ℕ))) (name : List ℕ) → option_now c ≡ nearest_column lines
     → (list_any (λ fields. bytes_eq name (field 0 fields)) (column_lines lines) && option_map_or (λ nearest. is_marker nearest || not (bytes_eq name (field 0 nearest))) (slice_get lines 0) false)
     ≡ (not (is_current c name) && list_any (bytes_eq name) (columns_named lines))
-split-lines [] c name e = sym (and-swap (not (is_current c name)) false)
+split-lines [] c name e = sym (and_comm (not (is_current c name)) false)
 split-lines (g ∷ lines) c name e = ap (λ b. b && (is_marker g || not (bytes_eq name (field 0 g)))) (sym (columns-any name (g ∷ lines))) ∙ by (is_marker g) refl c e
   where
     by : (b : Bool) → is_marker g ≡ b → (c : Option (Bor (List ℕ))) → option_now c ≡ (if is_marker g then None else Some (field 0 g))
         → (list_any (bytes_eq name) (columns_named (g ∷ lines)) && (is_marker g || not (bytes_eq name (field 0 g)))) ≡ (not (is_current c name) && list_any (bytes_eq name) (columns_named (g ∷ lines)))
-    by true m None e = ap (λ b. list_any (bytes_eq name) (columns_named (g ∷ lines)) && (b || not (bytes_eq name (field 0 g)))) m ∙ and-swap (list_any (bytes_eq name) (columns_named (g ∷ lines))) true
+    by true m None e = ap (λ b. list_any (bytes_eq name) (columns_named (g ∷ lines)) && (b || not (bytes_eq name (field 0 g)))) m ∙ and_comm (list_any (bytes_eq name) (columns_named (g ∷ lines))) true
     by true m (Some x) e = absurd (let none : Some x.now ≡ None = e ∙ rw m refl in cc)
     by false m None e = absurd (let some : None ≡ Some (field 0 g) = e ∙ rw m refl in cc)
     by false m (Some x) e =
         let some : Some x.now ≡ Some (field 0 g) = e ∙ rw m refl in
         let same : x.now ≡ field 0 g = cc in
-        ap (λ b. list_any (bytes_eq name) (columns_named (g ∷ lines)) && (b || not (bytes_eq name (field 0 g)))) m ∙ and-swap (list_any (bytes_eq name) (columns_named (g ∷ lines))) (not (bytes_eq name (field 0 g)))
+        ap (λ b. list_any (bytes_eq name) (columns_named (g ∷ lines)) && (b || not (bytes_eq name (field 0 g)))) m ∙ and_comm (list_any (bytes_eq name) (columns_named (g ∷ lines))) (not (bytes_eq name (field 0 g)))
         ∙ ap (λ n. not (bytes_eq name n) && list_any (bytes_eq name) (columns_named (g ∷ lines))) (sym same)
 
 pub split-is : (before : Sections) (c : ColumnTable) (name : List ℕ) → option_now c.current ≡ nearest_column before.columns → names_of c.names ≡ columns_named before.columns

@@ -16,13 +16,11 @@ begins-again lines f begun h e = by (bytes_eq (field 2 f) (codes "'INTORG'")) be
   where
     by : (b t : Bool) → bytes_eq (field 2 f) (codes "'INTORG'") ≡ b → is_integer_open lines ≡ t → (b && t) ≡ true → marker_fault lines f ≡ Some Marker
     by true true word open_now e = let same = same_name (field 2 f) (codes "'INTORG'") word in rw (open_now, same) (none-right (length f == 3))
-    by true false word open_now e = absurd cc
-    by false t word open_now e = absurd cc
+    by _ _ word open_now e = absurd cc
 
 pub ends-none : (lines : List LineFields) (f : LineFields) (begun : Bool) → is_integer_open lines ≡ begun → (bytes_eq (field 2 f) (codes "'INTEND'") && not begun) ≡ true → marker_fault lines f ≡ Some Marker
 ends-none lines f begun h e = by (bytes_eq (field 2 f) (codes "'INTEND'")) begun refl h e
   where
     by : (b t : Bool) → bytes_eq (field 2 f) (codes "'INTEND'") ≡ b → is_integer_open lines ≡ t → (b && not t) ≡ true → marker_fault lines f ≡ Some Marker
     by true false word open_now e = let same = same_name (field 2 f) (codes "'INTEND'") word in rw (open_now, same) (none-right (length f == 3))
-    by true true word open_now e = absurd cc
-    by false t word open_now e = absurd cc
+    by _ _ word open_now e = absurd cc

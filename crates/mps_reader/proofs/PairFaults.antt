@@ -19,12 +19,8 @@ pair_checks known repeated number own = earliest_fault (when (not known) Unknown
 -- what the checks of a pair find, if they find nothing goes to those of the next
 goes-on : (known repeated : Bool) (number own more fault : Option FaultKind) → earliest_fault (when (not known) UnknownRow ∷ when repeated EntryRepeated ∷ number ∷ own ∷ []) ≡ fault
     → earliest_fault (when (not known) UnknownRow ∷ when repeated EntryRepeated ∷ number ∷ own ∷ more ∷ []) ≡ (if is_none fault then more else fault)
-goes-on false repeated number own more fault h = rw (sym h) refl
-goes-on true true number own more fault h = rw (sym h) refl
-goes-on true false (Some kind) own more fault h = rw (sym h) refl
-goes-on true false None (Some kind) more fault h = rw (sym h) refl
 goes-on true false None None None fault h = rw (sym h) refl
-goes-on true false None None (Some kind) fault h = rw (sym h) refl
+goes-on _ _ _ _ _ fault h = rw (sym h) refl
 
 -- whether a pair names the row
 abbrev pub has_row : List (List ℕ × List ℕ) → List ℕ → Bool
@@ -33,21 +29,21 @@ has_row earlier n = list_any (λ other. bytes_eq n other.0) earlier
 abbrev pub constant_check : Option (List ℕ) → List ℕ → List ℕ → Option FaultKind
 constant_check objective row number = when (option_map_or (bytes_eq row) objective false && not (int_eq (value number) (pos 0))) ObjectiveConstant
 
-pub begins : (lines : List LineFields) (objective : Option (List ℕ)) (earlier : List (List ℕ × List ℕ)) (row number : List ℕ) (more : List (List ℕ × List ℕ)) (known : Bool) (fault : Option FaultKind) → is_declared lines row ≡ known
-    → pair_checks known (has_row earlier row) number (constant_check objective row number) ≡ fault → pairs_fault lines objective earlier ((row, number) ∷ more) ≡ (if is_none fault then pairs_fault lines objective ((row, number) ∷ earlier) more else fault)
-begins lines objective earlier row number more known fault d h = rw d (goes-on known (has_row earlier row) (number_fault (token_number number)) (constant_check objective row number) (pairs_fault lines objective ((row, number) ∷ earlier) more) fault h)
+pub begins : (lines : List LineFields) (objective : Option (List ℕ)) (earlier ps : List (List ℕ × List ℕ)) (row number : List ℕ) (more : List (List ℕ × List ℕ)) (known : Bool) (fault : Option FaultKind) → ps ≡ (row, number) ∷ more → is_declared lines row ≡ known
+    → pair_checks known (has_row earlier row) number (constant_check objective row number) ≡ fault → pairs_fault lines objective earlier ps ≡ (if is_none fault then pairs_fault lines objective ((row, number) ∷ earlier) more else fault)
+begins lines objective earlier ps row number more known fault e d h = rw (e, d) (goes-on known (has_row earlier row) (number_fault (token_number number)) (constant_check objective row number) (pairs_fault lines objective ((row, number) ∷ earlier) more) fault h)
 
 if-none : (fault : Option FaultKind) → (if is_none fault then None else fault) ≡ fault
 if-none None = refl
 if-none (Some kind) = refl
 
 -- the fault of the second of two pairs, where the first has none
-pub second : (lines : List LineFields) (objective : Option (List ℕ)) (earlier : List (List ℕ × List ℕ)) (row number row2 number2 : List ℕ) (known known2 : Bool) → is_declared lines row ≡ known → is_declared lines row2 ≡ known2
+pub second : (lines : List LineFields) (objective : Option (List ℕ)) (earlier ps : List (List ℕ × List ℕ)) (row number row2 number2 : List ℕ) (known known2 : Bool) → ps ≡ (row, number) ∷ (row2, number2) ∷ [] → is_declared lines row ≡ known → is_declared lines row2 ≡ known2
     → pair_checks known (has_row earlier row) number (constant_check objective row number) ≡ None
-    → pairs_fault lines objective earlier ((row, number) ∷ (row2, number2) ∷ []) ≡ pair_checks known2 (bytes_eq row2 row || has_row earlier row2) number2 (constant_check objective row2 number2)
-second lines objective earlier row number row2 number2 known known2 d d2 h =
-    begins lines objective earlier row number ((row2, number2) ∷ []) known None d h
-    ∙ begins lines objective ((row, number) ∷ earlier) row2 number2 [] known2 (pair_checks known2 (bytes_eq row2 row || has_row earlier row2) number2 (constant_check objective row2 number2)) d2 refl ∙ if-none _
+    → pairs_fault lines objective earlier ps ≡ pair_checks known2 (bytes_eq row2 row || has_row earlier row2) number2 (constant_check objective row2 number2)
+second lines objective earlier ps row number row2 number2 known known2 e d d2 h =
+    begins lines objective earlier ps row number ((row2, number2) ∷ []) known None e d h
+    ∙ begins lines objective ((row, number) ∷ earlier) ((row2, number2) ∷ []) row2 number2 [] known2 (pair_checks known2 (bytes_eq row2 row || has_row earlier row2) number2 (constant_check objective row2 number2)) refl d2 refl ∙ if-none _
 
 -- a pair without a check of its section's own
 pub without-own : (known repeated : Bool) (number : List ℕ) (fault : Option FaultKind) → earliest_fault (when (not known) UnknownRow ∷ when repeated EntryRepeated ∷ number_fault (token_number number) ∷ []) ≡ fault → pair_checks known repeated number None ≡ fault
@@ -55,12 +51,9 @@ without-own known repeated number fault h = by known repeated (number_fault (tok
   where
     by : (k r : Bool) (n : Option FaultKind) → earliest_fault (when (not k) UnknownRow ∷ when r EntryRepeated ∷ n ∷ []) ≡ fault → earliest_fault (when (not k) UnknownRow ∷ when r EntryRepeated ∷ n ∷ None ∷ []) ≡ fault
     by false r n h = h
-    by true true n h = h
-    by true false None h = h
-    by true false (Some kind) h = h
+    by _ _ _ h = h
 
 -- a pair that is taken repeats none
 pub not-repeated : (known r : Bool) (more : Option FaultKind) → option_or (when (not known) UnknownRow) (option_or (when r EntryRepeated) more) ≡ None → r ≡ false
-not-repeated false r checks h = absurd cc
-not-repeated true true checks h = absurd cc
 not-repeated true false checks h = refl
+not-repeated _ _ checks h = absurd cc

@@ -15,11 +15,9 @@ use Rattle.mps_reader.proofs.NameFacts.{length-bytes, placed, apart}
 use Rattle.mps_reader.proofs.EntryFacts.{entries-push, none-at-push}
 
 pub get-set : (xs : List ℕ) (i j v : ℕ) → i ≢ j → slice_get (slice_set xs i v) j ≡ slice_get xs j
-get-set [] i j v h = refl
 get-set (x ∷ xs) zero zero v h = absurd (h refl)
-get-set (x ∷ xs) zero (suc j) v h = refl
-get-set (x ∷ xs) (suc i) zero v h = refl
 get-set (x ∷ xs) (suc i) (suc j) v h = get-set xs i j v (λ e. h (ap suc e))
+get-set _ _ _ v h = refl
 
 pub get-set-same : (xs : List ℕ) (i v d : ℕ) → slice_get (slice_set xs i v) i ≡ Some d → d ≡ v
 get-set-same [] i v d h = absurd cc
@@ -55,13 +53,12 @@ apart-put ns ps rows stamps entries i stamp cost place v at here h = λ j q d th
         put-none cost place q (λ p e. differ ns ps rows i j p q at (here ∙ ap (λ o. Some o) e) there apart-rows) (h j q d there (sym (get-set stamps i j stamp apart-rows) ∙ stamped) other)
 
 pub entries-put : (count : ℕ) (entries : List (ℕ × ℤ)) (cost : Bool) (place : Option ℕ) (v : ℤ) → ((p : ℕ) → place ≡ Some p → (p < count) × AllByRecursion (λ e. (e.0 == p) ≡ false) entries) → AreDistinctEntries count entries → AreDistinctEntries count (put_entries cost place v entries)
-entries-put count entries true place v f d = d
-entries-put count entries false None v f d = d
 entries-put count entries false (Some p) v f d = by (int_eq v (pos 0)) refl
   where
     by : (b : Bool) → int_eq v (pos 0) ≡ b → AreDistinctEntries count (if b then entries else entries ++ (p, v) ∷ [])
     by true e = d
     by false e = entries-push count entries p v (f p refl).0 (λ k. both_ways _ e ((Decides-int_eq v (pos 0)).1 k)) (f p refl).1 d
+entries-put count entries _ _ v f d = d
 
 pub get-below : {A : Type 0} (xs : List A) (i : ℕ) (x : A) → slice_get xs i ≡ Some x → i < length xs
 get-below [] i x h = absurd cc
@@ -106,6 +103,5 @@ pair-fits r new column after stamp i row cost place v fit at here fresh places r
     }
 
 pub length-stamped : (xs : List ℕ) (i v : ℕ) → length (slice_set xs i v) ≡ length xs
-length-stamped [] i v = refl
-length-stamped (x ∷ xs) zero v = refl
 length-stamped (x ∷ xs) (suc i) v = ap suc (length-stamped xs i v)
+length-stamped _ _ v = refl

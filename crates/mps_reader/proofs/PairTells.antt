@@ -66,29 +66,23 @@ low-stamped (s ∷ stamps) (suc i) stamp h = (h.0, low-stamped stamps i stamp h.
 pub free-apart : (p : ℕ) (ns : List (List ℕ)) (ps : List (Option ℕ)) (rows : List (List ℕ)) (i : ℕ) (row : List ℕ) → AreAt p ns ps rows → IsDistinct bytes_eq ns → slice_get ns i ≡ Some row → slice_get ps i ≡ Some None → AllByRecursion (λ r. bytes_eq row r ≡ false) rows
 unfolding IsDistinct
 free-apart p [] [] [] i row h d e f = absurd cc
-free-apart p [] [] (r ∷ rows) i row h d e f = absurd h
-free-apart p [] (o ∷ ps) rows i row h d e f = absurd h
-free-apart p (m ∷ ns) [] rows i row h d e f = absurd h
 free-apart p (m ∷ ns) (None ∷ ps) rows zero row h d e f = let same : m ≡ row = cc in subst (λ x. AllByRecursion (λ r. bytes_eq x r ≡ false) rows) same (all-rows (λ y. bytes_eq m y ≡ false) p ns ps rows h d.0)
 free-apart p (m ∷ ns) (None ∷ ps) rows (suc i) row h d e f = free-apart p ns ps rows i row h d.1 e f
-free-apart p (m ∷ ns) (Some k ∷ ps) [] i row h d e f = absurd h
 free-apart p (m ∷ ns) (Some k ∷ ps) (r ∷ rows) zero row h d e f = absurd cc
 free-apart p (m ∷ ns) (Some k ∷ ps) (r ∷ rows) (suc i) row h d e f =
     (subst (λ x. bytes_eq row x ≡ false) (sym h.1) (flip-name m row (all-at (λ y. bytes_eq m y ≡ false) ns i row e d.0)), free-apart (suc p) ns ps rows i row h.2 d.1 e f)
+free-apart p _ _ _ i row h d e f = absurd h
 
 -- a row with a place stands there
 pub row-at : (p : ℕ) (ns : List (List ℕ)) (ps : List (Option ℕ)) (rows : List (List ℕ)) (i k : ℕ) (row : List ℕ) → AreAt p ns ps rows → slice_get ns i ≡ Some row → slice_get ps i ≡ Some (Some (k + p)) → slice_get rows k ≡ Some row
 row-at p [] [] [] i k row h e f = absurd cc
-row-at p [] [] (r ∷ rows) i k row h e f = absurd h
-row-at p [] (o ∷ ps) rows i k row h e f = absurd h
-row-at p (m ∷ ns) [] rows i k row h e f = absurd h
 row-at p (m ∷ ns) (None ∷ ps) rows zero k row h e f = absurd cc
 row-at p (m ∷ ns) (None ∷ ps) rows (suc i) k row h e f = row-at p ns ps rows i k row h e f
-row-at p (m ∷ ns) (Some q ∷ ps) [] i k row h e f = absurd h
 row-at p (m ∷ ns) (Some q ∷ ps) (r ∷ rows) zero zero row h e f = let same : m ≡ row = cc in ap (λ n. Some n) (h.1 ∙ same)
 row-at p (m ∷ ns) (Some q ∷ ps) (r ∷ rows) zero (suc k) row h e f = let same : q ≡ suc k + p = cc in let at = h.0 in absurd (omega arith)
 row-at p (m ∷ ns) (Some q ∷ ps) (r ∷ rows) (suc i) zero row h e f = let low = placed (suc p) ns ps rows i p h.2 (f ∙ ap (λ n. Some (Some n)) (omega arith)) in absurd (omega (arith, low.0))
 row-at p (m ∷ ns) (Some q ∷ ps) (r ∷ rows) (suc i) (suc k) row h e f = row-at (suc p) ns ps rows i k row h.2 e (f ∙ ap (λ n. Some (Some n)) (omega arith))
+row-at p _ _ _ i k row h e f = absurd h
 
 -- ---- the number at a place
 

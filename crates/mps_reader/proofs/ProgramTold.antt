@@ -36,12 +36,9 @@ values-bounds : (s : ColumnState) → state_bounds s ≡ (if int_eq (bit s.lower
 values-bounds s = by s.lower s.upper
   where
     by : (l : Bool) (u : Option Bool) → (if l then One else upper_bounds u) ≡ (if int_eq (bit l) (pos 1) then One else (if int_eq (unwrap_or (option_map bit u) (pos 1)) (pos 0) then Zero else ZeroOrOne))
-    by true None = refl
-    by true (Some true) = refl
-    by true (Some false) = refl
     by false None = refl
     by false (Some true) = refl
-    by false (Some false) = refl
+    by _ _ = refl
 
 bounds-told : (before : Sections) (s : ColumnState) (n : List ℕ) → state_values s ≡ told_values before.columns before.bounds n → state_bounds s ≡ (if int_eq (lower before.bounds n) (pos 1) then One else (if int_eq (unwrap_or (upper before.bounds n) (pos 1)) (pos 0) then Zero else ZeroOrOne))
 bounds-told before s n h = values-bounds s ∙ ap (λ (v : Bool × ℤ × Option ℤ). if int_eq v.1 (pos 1) then One else (if int_eq (unwrap_or v.2 (pos 1)) (pos 0) then Zero else ZeroOrOne)) h
@@ -59,15 +56,13 @@ columns-told : (before : Sections) (o : Option (List ℕ)) (names : List (List �
     → AllByRecursion (λ k. k ≡ told_column o names before.columns k.name) ks → map (λ (k : TableColumn). k.name) ks ≡ ns
     → map state_values ss ≡ map (told_values before.columns before.bounds) ns → bounded ks (map state_bounds ss) ≡ map (table_column before) ns
 columns-told before o names [] ss [] oi ni told named h = refl
-columns-told before o names [] ss (n ∷ ns) oi ni told named h = absurd cc
-columns-told before o names (k ∷ ks) ss [] oi ni told named h = absurd cc
-columns-told before o names (k ∷ ks) [] (n ∷ ns) oi ni told named h = absurd cc
 columns-told before o names (k ∷ ks) (s ∷ ss) (n ∷ ns) oi ni told named h =
     let one : k.name ≡ n = cc in
     let rest : map (λ (q : TableColumn). q.name) ks ≡ ns = cc in
     let head : state_values s ≡ told_values before.columns before.bounds n = cc in
     let tail : map state_values ss ≡ map (told_values before.columns before.bounds) ns = cc in
     ap (λ c. c ∷ bounded ks (map state_bounds ss)) (column-told before o names k s n oi ni told.0 one head) ∙ ap (λ cs. table_column before n ∷ cs) (columns-told before o names ks ss ns oi ni told.1 rest tail)
+columns-told before o names _ _ _ oi ni told named h = absurd cc
 
 pub program-told : (before : Sections) (r : Reading) (name : List ℕ) (made : List Bounds) → ReadingFits r → is_some r.columns.current ≡ false → option_now r.rows.objective ≡ Some name → made ≡ map state_bounds r.columns.states.items → ReadingTells before r
     → program before ≡ record { objective = name; rows = map shown_row r.rows.rows.items; columns = bounded r.columns.done made }

@@ -43,9 +43,8 @@ tells-free f rows old mid new name free same names kept objective adds h = recor
   where
     by : (o : Option _) (t : Option LineFields) → option_now o ≡ option_map (field 1) t → (if is_none o then Some name else option_now o) ≡ option_map (field 1) (option_or t (find is_free (f ∷ [])))
     by None None e = rw free (ap (λ n. Some n) (sym same))
-    by None (Some t) e = absurd cc
-    by (Some x) None e = absurd cc
     by (Some x) (Some t) e = e
+    by _ _ e = absurd cc
 
 pub tells-bound : (f : LineFields) (rows : List LineFields) (old mid new : Rows) (letter name : List ℕ) → is_free f ≡ false → field 0 f ≡ letter → field 1 f ≡ name → names_of mid.names ≡ names_of old.names ++ name ∷ [] → mid.rows ≡ old.rows → mid.objective ≡ old.objective
     → AddsBound letter name mid new → RowsTell rows [] old → RowsTell (f ∷ rows) [] new
@@ -71,6 +70,4 @@ declared-any name (f ∷ rows) =
   where
     swap : (a b : Bool) → (a || (b || false)) ≡ (b || a)
     swap true true = refl
-    swap true false = refl
-    swap false true = refl
-    swap false false = refl
+    swap _ _ = refl

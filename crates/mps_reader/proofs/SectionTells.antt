@@ -34,10 +34,6 @@ no-column P None h = tt
 no-column P (Some x) h = absurd cc
 
 from-rows : (new : Section) (lines rights bounds : List LineFields) (r : Rows) (c : ColumnTable) → 3 < place_of (word_of new) → is_some c.current ≡ false → length r.stamps.items ≡ length (names_of r.names) → InRows lines rights bounds r c → SectionTells new [] lines rights bounds r c
-from-rows sections.Start lines rights bounds r c up none size h = absurd (omega arith)
-from-rows sections.Name lines rights bounds r c up none size h = absurd (omega arith)
-from-rows sections.Sense lines rights bounds r c up none size h = absurd (omega arith)
-from-rows sections.Rows lines rights bounds r c up none size h = absurd (omega arith)
 from-rows sections.Columns lines rights bounds r c up none size h = record {
   no_rights = h.no_rights;
   no_bounds = h.no_bounds;
@@ -51,50 +47,38 @@ from-rows sections.RightSides lines rights bounds r c up none size h = record {
 }
 from-rows sections.Bounds lines rights bounds r c up none size h = tt
 from-rows sections.End lines rights bounds r c up none size h = tt
+from-rows _ lines rights bounds r c up none size h = absurd (omega arith)
 
 -- the rows of the lines play no part behind ROWS
 behind-rows : (new : Section) (rows lines rights bounds : List LineFields) (r : Rows) (c : ColumnTable) → 3 < place_of (word_of new) → SectionTells new [] lines rights bounds r c → SectionTells new rows lines rights bounds r c
-behind-rows sections.Start rows lines rights bounds r c up h = absurd (omega arith)
-behind-rows sections.Name rows lines rights bounds r c up h = absurd (omega arith)
-behind-rows sections.Sense rows lines rights bounds r c up h = absurd (omega arith)
-behind-rows sections.Rows rows lines rights bounds r c up h = absurd (omega arith)
 behind-rows sections.Columns rows lines rights bounds r c up h = h
 behind-rows sections.RightSides rows lines rights bounds r c up h = h
 behind-rows sections.Bounds rows lines rights bounds r c up h = h
 behind-rows sections.End rows lines rights bounds r c up h = h
+behind-rows _ rows lines rights bounds r c up h = absurd (omega arith)
 
 from-before : (new : Section) (rows lines rights bounds : List LineFields) (r : Rows) (c : ColumnTable) → 0 < place_of (word_of new) → is_some c.current ≡ false → length r.stamps.items ≡ length (names_of r.names) → BeforeRows rows lines rights bounds r c → SectionTells new rows lines rights bounds r c
 from-before sections.Start rows lines rights bounds r c up none size h = absurd (omega arith)
-from-before sections.Name rows lines rights bounds r c up none size h = h
-from-before sections.Sense rows lines rights bounds r c up none size h = h
 from-before sections.Rows rows lines rights bounds r c up none size h = h.after
 from-before sections.Columns rows lines rights bounds r c up none size h = from-rows sections.Columns lines rights bounds r c (omega arith) none size h.after
 from-before sections.RightSides rows lines rights bounds r c up none size h = from-rows sections.RightSides lines rights bounds r c (omega arith) none size h.after
 from-before sections.Bounds rows lines rights bounds r c up none size h = tt
 from-before sections.End rows lines rights bounds r c up none size h = tt
+from-before _ rows lines rights bounds r c up none size h = h
 
 from-columns : (new : Section) (rows lines rights bounds : List LineFields) (r : Rows) (c : ColumnTable) → 4 < place_of (word_of new) → length r.stamps.items ≡ length (names_of r.names) → rights ≡ [] → bounds ≡ [] → AreStampsUpTo (length (names_of c.names)) r → SectionTells new rows lines rights bounds r c
-from-columns sections.Start rows lines rights bounds r c up size h b low = absurd (omega arith)
-from-columns sections.Name rows lines rights bounds r c up size h b low = absurd (omega arith)
-from-columns sections.Sense rows lines rights bounds r c up size h b low = absurd (omega arith)
-from-columns sections.Rows rows lines rights bounds r c up size h b low = absurd (omega arith)
-from-columns sections.Columns rows lines rights bounds r c up size h b low = absurd (omega arith)
 from-columns sections.RightSides rows lines rights bounds r c up size h b low = record {
   no_bounds = b;
   stamps = rw h (none-stamped r.stamps.items (names_of r.names) (length (names_of c.names)) (λ n. false) size low (λ n. refl));
 }
 from-columns sections.Bounds rows lines rights bounds r c up size h b low = tt
 from-columns sections.End rows lines rights bounds r c up size h b low = tt
+from-columns _ rows lines rights bounds r c up size h b low = absurd (omega arith)
 
 from-last : (new : Section) (rows lines rights bounds : List LineFields) (r : Rows) (c : ColumnTable) → 5 < place_of (word_of new) → SectionTells new rows lines rights bounds r c
-from-last sections.Start rows lines rights bounds r c up = absurd (omega arith)
-from-last sections.Name rows lines rights bounds r c up = absurd (omega arith)
-from-last sections.Sense rows lines rights bounds r c up = absurd (omega arith)
-from-last sections.Rows rows lines rights bounds r c up = absurd (omega arith)
-from-last sections.Columns rows lines rights bounds r c up = absurd (omega arith)
-from-last sections.RightSides rows lines rights bounds r c up = absurd (omega arith)
 from-last sections.Bounds rows lines rights bounds r c up = tt
 from-last sections.End rows lines rights bounds r c up = tt
+from-last _ rows lines rights bounds r c up = absurd (omega arith)
 
 pub section-opens : (old new : Section) (rows lines rights bounds : List LineFields) (r : Rows) (before c : ColumnTable) → place_of (word_of old) < place_of (word_of new) → c.names ≡ before.names → is_some c.current ≡ false → length r.stamps.items ≡ length (names_of r.names)
     → SectionTells old rows lines rights bounds r before → SectionTells new rows lines rights bounds r c
@@ -212,13 +196,8 @@ is-fault word first e = by (bytes_eq word (codes "OBJSENSE")) (bytes_eq word (co
   where
     by : (a b c d f g : Bool)
         → (if a then Some kinds.Fields else (if b then Some kinds.Fields else (if c then Some kinds.Fields else (if d then Some kinds.Fields else (if f then earliest_fault (when (not g) kinds.BoundType ∷ Some kinds.Fields ∷ []) else Some kinds.Section))))) ≡ None → ⊥
-    by true b c d f g e = absurd cc
-    by false true c d f g e = absurd cc
-    by false false true d f g e = absurd cc
-    by false false false true f g e = absurd cc
     by false false false false true true e = absurd cc
-    by false false false false true false e = absurd cc
-    by false false false false false g e = absurd cc
+    by _ _ _ _ _ _ e = absurd cc
 
 few-or-many : (n : ℕ) → (n ≤ 5) ⊎ (6 ≤ n)
 few-or-many n = by (nat_lt 5 n) refl

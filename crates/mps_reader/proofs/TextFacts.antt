@@ -5,10 +5,11 @@ use Rattle.std.specs.List.{position_or_len, list_all}
 use Rattle.std.proofs.lemmas.Bool.{ltb-true, ltb-false, le-ltb, ne_eqb}
 use Rattle.std.proofs.lemmas.Bool.Decides.{nat_tests}
 use Rattle.std.proofs.lemmas.Grind.{common_steps}
+use Rattle.std.proofs.lemmas.List.{drop_all}
 use Rattle.std.proofs.lemmas.List.Sums.{passes_at_first}
 use Rattle.line_words.specs.Lines.{fields, is_space}
 use Rattle.mps_reader.specs.inside.Reading.{is_other, is_behind, is_text_byte}
-use Rattle.mps_reader.proofs.FieldFacts.{some-is, none-is, drop-all, field-found, field-at-end}
+use Rattle.mps_reader.proofs.FieldFacts.{some-is, none-is, field-found, field-at-end}
 
 -- before the first byte that passes the test p all are of a text
 text-behind : (p t : ℕ → Bool) → ((b : ℕ) → p b ≡ false → t b ≡ true) → (bs : List ℕ) → list_all t bs ≡ list_all t (drop (position_or_len p bs) bs)
@@ -69,7 +70,7 @@ is-far : (p : ℕ → Bool) (bs : List ℕ) → None ≡ position p bs → lengt
 is-far p bs h = ltb-false _ _ (none-is (nat_lt (position_or_len p bs) (length bs)) (position_or_len p bs) h)
 
 pub blank-text : (bs : List ℕ) → None ≡ position is_other bs → list_all is_text_byte bs ≡ true
-blank-text bs h = text-behind is_other is_text_byte space-text bs ∙ rw (drop-all bs (position_or_len is_other bs) (is-far is_other bs h)) refl
+blank-text bs h = text-behind is_other is_text_byte space-text bs ∙ rw (drop_all (position_or_len is_other bs) bs (is-far is_other bs h)) refl
 
 front-text : (bs text : List ℕ) (i : ℕ) → Some i ≡ position is_other bs → text ≡ drop i bs → list_all is_text_byte bs ≡ list_all is_text_byte text
 front-text bs text i h t = text-behind is_other is_text_byte space-text bs ∙ ap (λ (n : ℕ). list_all is_text_byte (drop n bs)) (is-at is_other bs i h).1 ∙ ap (list_all is_text_byte) (sym t)
@@ -98,7 +99,7 @@ pub last-text : (bs text rest : List ℕ) (i : ℕ) → Some i ≡ position is_o
 last-text bs text rest i h t k r =
     front-text bs text i h t
     ∙ text-behind is_behind is_text_byte inner-text text
-    ∙ ap (list_all is_text_byte) (drop-all text (position_or_len is_behind text) (is-far is_behind text k) ∙ sym (drop-all text (length text) (omega arith)) ∙ sym r)
+    ∙ ap (list_all is_text_byte) (drop_all (position_or_len is_behind text) text (is-far is_behind text k) ∙ sym (drop_all (length text) text (omega arith)) ∙ sym r)
 
 pub last-field : (text : List ℕ) → None ≡ position is_behind text → None ≡ position is_space text
 last-field text k = rw (le-ltb _ _ (no-end text (is-far is_behind text k))) refl

@@ -1,94 +1,64 @@
 use Rattle.std.proofs.Common.{rules, ◌≡◌, ◌+◌, ◌∙◌, ap, sym, refl, arith, Bool, Some, None, true, false, map, get_or}
-use Rattle.std.specs.Prelude.{bytes_eq, codes, Err, slice_get, length, if◌then◌else◌, ◌==◌}
-use Rattle.std.specs.List.{list_any}
+use Rattle.std.specs.Prelude.{codes, slice_get}
 use Rattle.mps_meaning.specs.declared.fault.FaultKind.TheVariants.{UnknownColumn}
 use Rattle.line_words.specs.Lines.{field}
-use Rattle.mps_meaning.specs.Described.{value, is_binary_bound, bound_pair, is_column}
+use Rattle.mps_meaning.specs.Described.{value, bound_pair}
 use Rattle.auction_terms.specs.Borrowed.{bytes_of}
 use Rattle.mps_reader.specs.inside.Rows.{names_of}
 use Rattle.mps_reader.specs.inside.Tracking.{state_values, told_values, bounded_values}
-use Rattle.mps_reader.proofs.NameFacts.{any-names, length-bytes, own_name, same_name}
+use Rattle.mps_reader.proofs.NameFacts.{length-bytes, own_name, same_name}
 use Rattle.mps_reader.proofs.RowSteps.{no_name, field-at}
 use Rattle.mps_reader.proofs.StampFacts.{found-row}
 use Rattle.mps_reader.proofs.PairSteps.{get-below, get-from}
 use Rattle.mps_reader.specs.declared.column_state.ColumnState.{ColumnState}
 use Rattle.mps_reader.proofs.AnswerFacts.{handed-on}
-use Rattle.mps_reader.proofs.BoundTells.{type-refused, type-taken, column-any, last-one, values-binary, values-of, told-at, bound-tells, first-behind, second-behind}
+use Rattle.mps_reader.proofs.BoundTells.{type-refused, type-taken, column-at, number-at, known-is, last-one, values-binary, values-of, told-at, bound-tells}
 use Rattle.mps_reader.specs.inside.Reading.{bit_fault}
 use Rattle.mps_reader.proofs.bounds.take_bound.Goals as goal
 
 pub returns-in_err-is_binary-clause-fault : goal.returns-in_err-is_binary-clause-fault
 returns-in_err-is_binary-clause-fault c = λ before names.
-    let r : c.from_residual.result ≡ Err c.in_err-is_binary.field-0.0 = search rules in
-    handed-on Bool c.from_residual.result c.in_err-is_binary.field-0.0 _ _ r (λ kind. type-refused before (bytes_of c.args.fields.now) kind) c.in_err-is_binary.ensures.fault
+    handed-on Bool c.from_residual.result c.in_err-is_binary.field-0.0 _ _ (search rules) (λ kind. type-refused before (bytes_of c.args.fields.now) kind) c.in_err-is_binary.ensures.fault
 
 pub returns-in_default-clause-fault : goal.returns-in_default-clause-fault
 returns-in_default-clause-fault c = λ before names.
-    let fields = bytes_of c.args.fields.now in
-    let binary : is_binary_bound fields ≡ c.in_ok-is_binary.is_binary = sym c.in_ok-is_binary.ensures.binary in
-    let place : (if length fields == (if is_binary_bound fields then 2 else 3) then 1 else 2) ≡ c.place_of_column-at.result = rw (length-bytes c.args.fields.now, binary) (sym c.place_of_column-at.ensures.value) in
-    let column : field 0 (bound_pair fields) ≡ (get_or c.args.fields.now c.place_of_column-at.result no_name).now = first-behind _ fields ∙ ap (λ n. field n fields) place ∙ field-at c.args.fields.now c.place_of_column-at.result c.place_of_column-at.ensures.within in
-    let known : is_column before (field 0 (bound_pair fields)) ≡ false = column-any before (names_of c.args.columns.now.names) (field 0 (bound_pair fields)) names ∙ ap (λ n. list_any (bytes_eq n) (names_of c.args.columns.now.names)) column
-    ∙ sym (any-names (get_or c.args.fields.now c.place_of_column-at.result no_name).now c.args.columns.now.names.keys) ∙ sym c.in_default.ensures.found in
-    type-taken before fields false (is_binary_bound fields) (Some UnknownColumn) c.in_ok-is_binary.ensures.fault known refl refl
+    let column = column-at c.args.fields.now _ _ c.in_ok-is_binary.ensures.binary c.place_of_column-at.ensures.value c.place_of_column-at.ensures.within in
+    type-taken before (bytes_of c.args.fields.now) false _ (Some UnknownColumn) c.in_ok-is_binary.ensures.fault (known-is before c.args.columns.now.names.keys _ _ _ names column c.in_default.ensures.found) refl refl
 
 pub returns-then-is_binary-clause-fault : goal.returns-then-is_binary-clause-fault
 returns-then-is_binary-clause-fault c = λ before names.
-    let fields = bytes_of c.args.fields.now in
-    let binary : is_binary_bound fields ≡ c.in_ok-is_binary.is_binary = sym c.in_ok-is_binary.ensures.binary in
-    let place : (if length fields == (if is_binary_bound fields then 2 else 3) then 1 else 2) ≡ c.place_of_column-at.result = rw (length-bytes c.args.fields.now, binary) (sym c.place_of_column-at.ensures.value) in
-    let column : field 0 (bound_pair fields) ≡ (get_or c.args.fields.now c.place_of_column-at.result no_name).now = first-behind _ fields ∙ ap (λ n. field n fields) place ∙ field-at c.args.fields.now c.place_of_column-at.result c.place_of_column-at.ensures.within in
-    let known : is_column before (field 0 (bound_pair fields)) ≡ true = column-any before (names_of c.args.columns.now.names) (field 0 (bound_pair fields)) names ∙ ap (λ n. list_any (bytes_eq n) (names_of c.args.columns.now.names)) column
-    ∙ sym (any-names (get_or c.args.fields.now c.place_of_column-at.result no_name).now c.args.columns.now.names.keys) ∙ sym c.in-Some.ensures.found in
-    let is : is_binary_bound fields ≡ true = binary ∙ c.if-is_binary.true in
-    type-taken before fields true true None c.in_ok-is_binary.ensures.fault known is refl
+    let column = column-at c.args.fields.now _ _ c.in_ok-is_binary.ensures.binary c.place_of_column-at.ensures.value c.place_of_column-at.ensures.within in
+    type-taken before (bytes_of c.args.fields.now) true true None c.in_ok-is_binary.ensures.fault (known-is before c.args.columns.now.names.keys _ _ _ names column c.in-Some.ensures.found) (sym c.in_ok-is_binary.ensures.binary ∙ c.if-is_binary.true) refl
 
 pub returns-then-is_binary-clause-tells : goal.returns-then-is_binary-clause-tells
 returns-then-is_binary-clause-tells c = λ objective rows lines bounds distinct h.
     let fields = bytes_of c.args.fields.now in
-    let binary : is_binary_bound fields ≡ c.in_ok-is_binary.is_binary = sym c.in_ok-is_binary.ensures.binary in
-    let place : (if length fields == (if is_binary_bound fields then 2 else 3) then 1 else 2) ≡ c.place_of_column-at.result = rw (length-bytes c.args.fields.now, binary) (sym c.place_of_column-at.ensures.value) in
-    let column : field 0 (bound_pair fields) ≡ (get_or c.args.fields.now c.place_of_column-at.result no_name).now = first-behind _ fields ∙ ap (λ n. field n fields) place ∙ field-at c.args.fields.now c.place_of_column-at.result c.place_of_column-at.ensures.within in
-    let at : slice_get (names_of c.args.columns.now.names) c.in-Some.index ≡ Some (field 0 (bound_pair fields)) = found-row (get_or c.args.fields.now c.place_of_column-at.result no_name).now c.args.columns.now.names.keys c.in-Some.index c.in-Some.ensures.index ∙ ap (λ n. Some n) (sym column) in
-    let word : field 0 fields ≡ codes "BV" = same_name _ _ (binary ∙ c.if-is_binary.true) in
-    bound-tells fields objective rows lines bounds c.args.columns.now _ c.in-Some.index _ refl refl distinct at (sym (values-binary fields lines bounds (field 0 (bound_pair fields)) (own_name (field 0 (bound_pair fields))) word)) h
+    let column = column-at c.args.fields.now _ _ c.in_ok-is_binary.ensures.binary c.place_of_column-at.ensures.value c.place_of_column-at.ensures.within in
+    let word : field 0 fields ≡ codes "BV" = same_name _ _ (sym c.in_ok-is_binary.ensures.binary ∙ c.if-is_binary.true) in
+    bound-tells fields objective rows lines bounds c.args.columns.now _ c.in-Some.index _ refl refl distinct (found-row _ c.args.columns.now.names.keys c.in-Some.index c.in-Some.ensures.index ∙ ap (λ n. Some n) (sym column))
+    (sym (values-binary fields lines bounds (field 0 (bound_pair fields)) (own_name (field 0 (bound_pair fields))) word)) h
 
 pub returns-in_err-state-clause-fault : goal.returns-in_err-state-clause-fault
 returns-in_err-state-clause-fault c = λ before names.
-    let fields = bytes_of c.args.fields.now in
-    let binary : is_binary_bound fields ≡ c.in_ok-is_binary.is_binary = sym c.in_ok-is_binary.ensures.binary in
-    let place : (if length fields == (if is_binary_bound fields then 2 else 3) then 1 else 2) ≡ c.place_of_column-at.result = rw (length-bytes c.args.fields.now, binary) (sym c.place_of_column-at.ensures.value) in
-    let column : field 0 (bound_pair fields) ≡ (get_or c.args.fields.now c.place_of_column-at.result no_name).now = first-behind _ fields ∙ ap (λ n. field n fields) place ∙ field-at c.args.fields.now c.place_of_column-at.result c.place_of_column-at.ensures.within in
-    let known : is_column before (field 0 (bound_pair fields)) ≡ true = column-any before (names_of c.args.columns.now.names) (field 0 (bound_pair fields)) names ∙ ap (λ n. list_any (bytes_eq n) (names_of c.args.columns.now.names)) column
-    ∙ sym (any-names (get_or c.args.fields.now c.place_of_column-at.result no_name).now c.args.columns.now.names.keys) ∙ sym c.in-Some.ensures.found in
-    let number : field 1 (bound_pair fields) ≡ (get_or c.args.fields.now (c.place_of_column-at.result + 1) no_name).now = second-behind _ fields ∙ ap (λ n. field (n + 1) fields) place ∙ field-at c.args.fields.now (c.place_of_column-at.result + 1) (c.place_of_column-at.ensures.number c.if-is_binary.false) in
-    let plain : is_binary_bound fields ≡ false = binary ∙ c.if-is_binary.false in
-    let r : c.from_residual-in_err-state.result ≡ Err c.in_err-state.field-0.0 = search rules in
-    handed-on ColumnState c.from_residual-in_err-state.result c.in_err-state.field-0.0 _ _ r
-    (λ kind k. type-taken before fields true false (Some kind) c.in_ok-is_binary.ensures.fault known plain (last-one (bit_fault (field 1 (bound_pair fields))) ∙ ap bit_fault number ∙ k)) c.in_err-state.ensures.fault
+    let column = column-at c.args.fields.now _ _ c.in_ok-is_binary.ensures.binary c.place_of_column-at.ensures.value c.place_of_column-at.ensures.within in
+    let number = number-at c.args.fields.now _ _ c.in_ok-is_binary.ensures.binary c.place_of_column-at.ensures.value (c.place_of_column-at.ensures.number c.if-is_binary.false) in
+    handed-on ColumnState c.from_residual-in_err-state.result c.in_err-state.field-0.0 _ _ (search rules)
+    (λ kind k. type-taken before (bytes_of c.args.fields.now) true false (Some kind) c.in_ok-is_binary.ensures.fault (known-is before c.args.columns.now.names.keys _ _ _ names column c.in-Some.ensures.found) (sym c.in_ok-is_binary.ensures.binary ∙ c.if-is_binary.false)
+    (last-one _ ∙ ap bit_fault number ∙ k)) c.in_err-state.ensures.fault
 
 pub returns-clause-fault : goal.returns-clause-fault
 returns-clause-fault c = λ before names.
-    let fields = bytes_of c.args.fields.now in
-    let binary : is_binary_bound fields ≡ c.in_ok-is_binary.is_binary = sym c.in_ok-is_binary.ensures.binary in
-    let place : (if length fields == (if is_binary_bound fields then 2 else 3) then 1 else 2) ≡ c.place_of_column-at.result = rw (length-bytes c.args.fields.now, binary) (sym c.place_of_column-at.ensures.value) in
-    let column : field 0 (bound_pair fields) ≡ (get_or c.args.fields.now c.place_of_column-at.result no_name).now = first-behind _ fields ∙ ap (λ n. field n fields) place ∙ field-at c.args.fields.now c.place_of_column-at.result c.place_of_column-at.ensures.within in
-    let known : is_column before (field 0 (bound_pair fields)) ≡ true = column-any before (names_of c.args.columns.now.names) (field 0 (bound_pair fields)) names ∙ ap (λ n. list_any (bytes_eq n) (names_of c.args.columns.now.names)) column
-    ∙ sym (any-names (get_or c.args.fields.now c.place_of_column-at.result no_name).now c.args.columns.now.names.keys) ∙ sym c.in-Some.ensures.found in
-    let number : field 1 (bound_pair fields) ≡ (get_or c.args.fields.now (c.place_of_column-at.result + 1) no_name).now = second-behind _ fields ∙ ap (λ n. field (n + 1) fields) place ∙ field-at c.args.fields.now (c.place_of_column-at.result + 1) (c.place_of_column-at.ensures.number c.if-is_binary.false) in
-    let plain : is_binary_bound fields ≡ false = binary ∙ c.if-is_binary.false in
-    type-taken before fields true false None c.in_ok-is_binary.ensures.fault known plain (last-one (bit_fault (field 1 (bound_pair fields))) ∙ ap bit_fault number ∙ c.in_ok-state.ensures.fault)
+    let column = column-at c.args.fields.now _ _ c.in_ok-is_binary.ensures.binary c.place_of_column-at.ensures.value c.place_of_column-at.ensures.within in
+    let number = number-at c.args.fields.now _ _ c.in_ok-is_binary.ensures.binary c.place_of_column-at.ensures.value (c.place_of_column-at.ensures.number c.if-is_binary.false) in
+    type-taken before (bytes_of c.args.fields.now) true false None c.in_ok-is_binary.ensures.fault (known-is before c.args.columns.now.names.keys _ _ _ names column c.in-Some.ensures.found) (sym c.in_ok-is_binary.ensures.binary ∙ c.if-is_binary.false)
+    (last-one _ ∙ ap bit_fault number ∙ c.in_ok-state.ensures.fault)
 
 pub returns-clause-tells : goal.returns-clause-tells
 returns-clause-tells c = λ objective rows lines bounds distinct h.
     let fields = bytes_of c.args.fields.now in
-    let binary : is_binary_bound fields ≡ c.in_ok-is_binary.is_binary = sym c.in_ok-is_binary.ensures.binary in
-    let place : (if length fields == (if is_binary_bound fields then 2 else 3) then 1 else 2) ≡ c.place_of_column-at.result = rw (length-bytes c.args.fields.now, binary) (sym c.place_of_column-at.ensures.value) in
-    let column : field 0 (bound_pair fields) ≡ (get_or c.args.fields.now c.place_of_column-at.result no_name).now = first-behind _ fields ∙ ap (λ n. field n fields) place ∙ field-at c.args.fields.now c.place_of_column-at.result c.place_of_column-at.ensures.within in
-    let number : field 1 (bound_pair fields) ≡ (get_or c.args.fields.now (c.place_of_column-at.result + 1) no_name).now = second-behind _ fields ∙ ap (λ n. field (n + 1) fields) place ∙ field-at c.args.fields.now (c.place_of_column-at.result + 1) (c.place_of_column-at.ensures.number c.if-is_binary.false) in
-    let plain : is_binary_bound fields ≡ false = binary ∙ c.if-is_binary.false in
-    let at : slice_get (names_of c.args.columns.now.names) c.in-Some.index ≡ Some (field 0 (bound_pair fields)) = found-row (get_or c.args.fields.now c.place_of_column-at.result no_name).now c.args.columns.now.names.keys c.in-Some.index c.in-Some.ensures.index ∙ ap (λ n. Some n) (sym column) in
-    let some = c.in_ok-is_binary.ensures.number c.if-is_binary.false in
+    let column = column-at c.args.fields.now _ _ c.in_ok-is_binary.ensures.binary c.place_of_column-at.ensures.value c.place_of_column-at.ensures.within in
+    let number = number-at c.args.fields.now _ _ c.in_ok-is_binary.ensures.binary c.place_of_column-at.ensures.value (c.place_of_column-at.ensures.number c.if-is_binary.false) in
+    let at = found-row _ c.args.columns.now.names.keys c.in-Some.index c.in-Some.ensures.index ∙ ap (λ n. Some n) (sym column) in
     let states = c.requires.states in
     let size = length-bytes c.args.columns.now.names.keys in
     let low = get-below (names_of c.args.columns.now.names) c.in-Some.index (field 0 (bound_pair fields)) at in
@@ -97,5 +67,5 @@ returns-clause-tells c = λ objective rows lines bounds distinct h.
     let word : (get_or c.args.fields.now 0 no_name).now ≡ field 0 fields = sym (field-at c.args.fields.now 0 (omega (arith, c.requires.some))) in
     let told = c.in_ok-state.ensures.values ∙ ap (λ w. bounded_values w (value (get_or c.args.fields.now (c.place_of_column-at.result + 1) no_name).now) (state_values c.index.result.now)) word
     ∙ ap (λ n. bounded_values (field 0 fields) (value n) (state_values c.index.result.now)) (sym number) ∙ ap (bounded_values (field 0 fields) (value (field 1 (bound_pair fields)))) before
-    ∙ sym (values-of fields lines bounds (field 0 (bound_pair fields)) (own_name (field 0 (bound_pair fields))) some) in
+    ∙ sym (values-of fields lines bounds (field 0 (bound_pair fields)) (own_name (field 0 (bound_pair fields))) (c.in_ok-is_binary.ensures.number c.if-is_binary.false)) in
     bound-tells fields objective rows lines bounds c.args.columns.now _ c.in-Some.index c.in_ok-state.state refl refl distinct at told h
