@@ -113,22 +113,19 @@ rows-alike p cuts scale ys rows other alike =
 abbrev CutsAlike : List Cut → List Cut → Type 0
 CutsAlike [] [] = Unit {0}
 CutsAlike (cut ∷ cuts) (other ∷ others) = (cut.most ≡ other.most) × AreAlike cut.form other.form × CutsAlike cuts others
-CutsAlike [] (other ∷ others) = ⊥
-CutsAlike (cut ∷ cuts) [] = ⊥
+CutsAlike _ _ = ⊥
 
 cuts-number-alike : (ys : List ℕ) (cuts others : List Cut) (q : ℕ) → CutsAlike cuts others → cuts_number ys cuts q ≡ cuts_number ys others q
-cuts-number-alike [] cuts others q alike = refl
-cuts-number-alike (y ∷ ys) [] [] q alike = refl
 cuts-number-alike (y ∷ ys) [] (other ∷ others) q alike = absurd alike
 cuts-number-alike (y ∷ ys) (cut ∷ cuts) [] q alike = absurd alike
 cuts-number-alike (y ∷ ys) (cut ∷ cuts) (other ∷ others) q alike = ap₂ (λ (a b : ℤ). pos y *ℤ a +ℤ b) (alike.1 q) (cuts-number-alike ys cuts others q alike.2)
+cuts-number-alike _ _ _ q alike = refl
 
 cuts-right-alike : (ys : List ℕ) (cuts others : List Cut) → CutsAlike cuts others → cuts_right ys cuts ≡ cuts_right ys others
-cuts-right-alike [] cuts others alike = refl
-cuts-right-alike (y ∷ ys) [] [] alike = refl
 cuts-right-alike (y ∷ ys) [] (other ∷ others) alike = absurd alike
 cuts-right-alike (y ∷ ys) (cut ∷ cuts) [] alike = absurd alike
 cuts-right-alike (y ∷ ys) (cut ∷ cuts) (other ∷ others) alike = ap₂ (λ (a b : ℤ). pos y *ℤ a +ℤ b) alike.0 (cuts-right-alike ys cuts others alike.2)
+cuts-right-alike _ _ _ alike = refl
 
 value-alike : (p : Table) (cuts others : List Cut) (scale : ℕ) (ys : List ℕ) (rows : Form) → CutsAlike cuts others → leaf_value p cuts scale ys rows ≡ leaf_value p others scale ys rows
 value-alike p cuts others scale ys rows alike =
@@ -141,8 +138,7 @@ value-alike p cuts others scale ys rows alike =
 abbrev pub BranchesAlike : List Branch → List Branch → Type 0
 BranchesAlike [] [] = Unit {0}
 BranchesAlike (At is_second form most ∷ above) (At other_second other other_most ∷ others) = (is_second ≡ other_second) × (most ≡ other_most) × AreAlike form other × AreNoLarger other form × BranchesAlike above others
-BranchesAlike [] (b ∷ others) = ⊥
-BranchesAlike (b ∷ above) [] = ⊥
+BranchesAlike _ _ = ⊥
 
 pub branches-themselves : (branches : List Branch) → BranchesAlike branches branches
 branches-themselves [] = tt
@@ -150,9 +146,8 @@ branches-themselves (At is_second form most ∷ above) = (refl, refl, λ _. refl
 
 lengths-alike : (branches others : List Branch) → BranchesAlike branches others → length branches ≡ length others
 lengths-alike [] [] alike = refl
-lengths-alike [] (b ∷ others) alike = absurd alike
-lengths-alike (b ∷ above) [] alike = absurd alike
 lengths-alike (At is_second form most ∷ above) (At other_second other other_most ∷ others) alike = ap suc (lengths-alike above others alike.4)
+lengths-alike _ _ alike = absurd alike
 
 sides-alike : (is_second : Bool) (form other : Form) (most : ℤ) → AreAlike form other → CutsAlike (side is_second form most ∷ []) (side is_second other most ∷ [])
 sides-alike false form other most alike = (refl, alike, tt)
@@ -160,19 +155,17 @@ sides-alike true form other most alike = (refl, λ q. negated-in form most q ∙
 
 cuts-joined : (cuts others more_cuts more_others : List Cut) → CutsAlike cuts others → CutsAlike more_cuts more_others → CutsAlike (cuts ++ more_cuts) (others ++ more_others)
 cuts-joined [] [] more_cuts more_others alike more = more
-cuts-joined [] (other ∷ others) more_cuts more_others alike more = absurd alike
-cuts-joined (cut ∷ cuts) [] more_cuts more_others alike more = absurd alike
 cuts-joined (cut ∷ cuts) (other ∷ others) more_cuts more_others alike more = (alike.0, alike.1, cuts-joined cuts others more_cuts more_others alike.2 more)
+cuts-joined _ _ more_cuts more_others alike more = absurd alike
 
 cuts-above-alike : (branches others : List Branch) → BranchesAlike branches others → CutsAlike (cuts_above branches) (cuts_above others)
 cuts-above-alike [] [] alike = tt
-cuts-above-alike [] (b ∷ others) alike = absurd alike
-cuts-above-alike (b ∷ above) [] alike = absurd alike
 cuts-above-alike (At is_second form most ∷ above) (At other_second other other_most ∷ others) alike =
     let last : CutsAlike (side is_second form most ∷ []) (side other_second other other_most ∷ []) =
     subst (λ (s : Bool). CutsAlike (side is_second form most ∷ []) (side s other other_most ∷ [])) alike.0
     (subst (λ (k : ℤ). CutsAlike (side is_second form most ∷ []) (side is_second other k ∷ [])) alike.1 (sides-alike is_second form other most alike.2)) in
     cuts-joined (cuts_above above) (cuts_above others) (side is_second form most ∷ []) (side other_second other other_most ∷ []) (cuts-above-alike above others alike.4) last
+cuts-above-alike _ _ alike = absurd alike
 
 -- ---------- behind a line ----------
 
@@ -183,19 +176,15 @@ abbrev OpenAlike : Opened → Opened → Type 0
 OpenAlike (Ok None) (Ok None) = Unit {0}
 OpenAlike (Ok (Some branches)) (Ok (Some others)) = BranchesAlike branches others
 OpenAlike (Err kind) (Err other) = kind ≡ other
-OpenAlike (Ok None) (Ok (Some others)) = ⊥
-OpenAlike (Ok (Some branches)) (Ok None) = ⊥
-OpenAlike (Ok o) (Err kind) = ⊥
-OpenAlike (Err kind) (Ok o) = ⊥
+OpenAlike _ _ = ⊥
 
 closed-alike : (branches others : List Branch) → BranchesAlike branches others → OpenAlike (Ok (closed branches)) (Ok (closed others))
 closed-alike [] [] alike = tt
-closed-alike [] (b ∷ others) alike = absurd alike
-closed-alike (b ∷ above) [] alike = absurd alike
 closed-alike (At true form most ∷ above) (At true other other_most ∷ others) alike = closed-alike above others alike.4
 closed-alike (At false form most ∷ above) (At false other other_most ∷ others) alike = (refl, alike.1, alike.2, alike.3, alike.4)
 closed-alike (At true form most ∷ above) (At false other other_most ∷ others) alike = let apart = alike.0 in absurd cc
 closed-alike (At false form most ∷ above) (At true other other_most ∷ others) alike = let apart = alike.0 in absurd cc
+closed-alike _ _ alike = absurd alike
 
 taken-alike : (p : Table) (least : ℤ) (branches others : List Branch) (told : Told) → BranchesAlike branches others → OpenAlike (taken p least branches told) (taken p least others told)
 taken-alike p least branches others (SplitLine form most) alike = (refl, refl, λ _. refl, λ _. omega arith, alike)
@@ -217,24 +206,20 @@ behind p least line branches = and_then (ok_or branches Beyond) (λ above. and_t
 
 behind-alike : (p : Table) (least : ℤ) (line : List ℕ) (branches others : Option (List Branch)) → OpenAlike (Ok branches) (Ok others) → OpenAlike (behind p least line branches) (behind p least line others)
 behind-alike p least line None None alike = refl
-behind-alike p least line None (Some others) alike = absurd alike
-behind-alike p least line (Some branches) None alike = absurd alike
 behind-alike p least line (Some branches) (Some others) alike =
     subst (λ (depth : ℕ). OpenAlike (and_then (line_told p (length branches) (fields line)) (taken p least branches)) (and_then (line_told p depth (fields line)) (taken p least others))) (lengths-alike branches others alike)
     (told-alike p least branches others (line_told p (length branches) (fields line)) alike)
+behind-alike p least line _ _ alike = absurd alike
 
 -- the first fault is the same
 pub fault-alike : (p : Table) (least : ℤ) (place : ℕ) (lines : List (List ℕ)) (told other : Opened) → OpenAlike told other → fault_from p least told place lines ≡ fault_from p least other place lines
 fault-alike p least place lines (Err kind) (Err other) alike = ap (λ (k : FaultKind). Some (place, k)) alike
-fault-alike p least place lines (Err kind) (Ok o) alike = absurd alike
 fault-alike p least place lines (Ok o) (Err kind) alike = absurd (by o alike)
   where
     by : (o : Option (List Branch)) → OpenAlike (Ok o) (Err kind) → ⊥
     by None h = h
     by (Some branches) h = h
 fault-alike p least place [] (Ok None) (Ok None) alike = refl
-fault-alike p least place [] (Ok None) (Ok (Some others)) alike = absurd alike
-fault-alike p least place [] (Ok (Some branches)) (Ok None) alike = absurd alike
 fault-alike p least place [] (Ok (Some branches)) (Ok (Some others)) alike = refl
 fault-alike p least place (line ∷ lines) (Ok branches) (Ok others) alike =
     by (fault-alike p least (suc place) lines (Ok branches) (Ok others) alike) (fault-alike p least (suc place) lines (behind p least line branches) (behind p least line others) (behind-alike p least line branches others alike)) (is_skipped line)
@@ -243,6 +228,7 @@ fault-alike p least place (line ∷ lines) (Ok branches) (Ok others) alike =
         → (b : Bool) → fault_from p least (if b then Ok branches else behind p least line branches) (suc place) lines ≡ fault_from p least (if b then Ok others else behind p least line others) (suc place) lines
     by skipped told true = skipped
     by skipped told false = told
+fault-alike p least place _ _ _ alike = absurd alike
 
 -- ---------- sizes ----------
 
@@ -250,24 +236,21 @@ fault-alike p least place (line ∷ lines) (Ok branches) (Ok others) alike =
 abbrev CutsNoLarger : List Cut → List Cut → Type 0
 CutsNoLarger [] [] = Unit {0}
 CutsNoLarger (other ∷ others) (cut ∷ cuts) = (cut_size other ≤ cut_size cut) × CutsNoLarger others cuts
-CutsNoLarger [] (cut ∷ cuts) = ⊥
-CutsNoLarger (other ∷ others) [] = ⊥
+CutsNoLarger _ _ = ⊥
 
 cuts-size : (ys : List ℕ) (others cuts : List Cut) → CutsNoLarger others cuts → size_of (λ e. e.0 * cut_size e.1) (zip ys others) ≤ size_of (λ e. e.0 * cut_size e.1) (zip ys cuts)
-cuts-size [] others cuts h = omega arith
-cuts-size (y ∷ ys) [] [] h = omega arith
 cuts-size (y ∷ ys) [] (cut ∷ cuts) h = absurd h
 cuts-size (y ∷ ys) (other ∷ others) [] h = absurd h
 cuts-size (y ∷ ys) (other ∷ others) (cut ∷ cuts) h =
     let first : y * cut_size other ≤ y * cut_size cut = mul-le-mul_left y h.0 in
     let later = cuts-size ys others cuts h.1 in
     omega arith
+cuts-size _ _ _ h = omega arith
 
 larger-joined : (others cuts more_others more_cuts : List Cut) → CutsNoLarger others cuts → CutsNoLarger more_others more_cuts → CutsNoLarger (others ++ more_others) (cuts ++ more_cuts)
 larger-joined [] [] more_others more_cuts h more = more
-larger-joined [] (cut ∷ cuts) more_others more_cuts h more = absurd h
-larger-joined (other ∷ others) [] more_others more_cuts h more = absurd h
 larger-joined (other ∷ others) (cut ∷ cuts) more_others more_cuts h more = (h.0, larger-joined others cuts more_others more_cuts h.1 more)
+larger-joined _ _ more_others more_cuts h more = absurd h
 
 side-size : (is_second : Bool) (form : Form) (most : ℤ) → cut_size (side is_second form most) ≡ form_size form + unsigned_abs (side is_second [] most).most
 side-size true form most = ap (λ (n : ℕ). n + unsigned_abs (neg_ℤ (most +ℤ pos 1))) (negated-size form most)
@@ -275,8 +258,6 @@ side-size false form most = refl
 
 cuts-above-size : (branches others : List Branch) → BranchesAlike branches others → CutsNoLarger (cuts_above others) (cuts_above branches)
 cuts-above-size [] [] alike = tt
-cuts-above-size [] (b ∷ others) alike = absurd alike
-cuts-above-size (b ∷ above) [] alike = absurd alike
 cuts-above-size (At is_second form most ∷ above) (At other_second other other_most ∷ others) alike =
     let left = side-size is_second form most in
     let right = side-size other_second other other_most in
@@ -284,22 +265,21 @@ cuts-above-size (At is_second form most ∷ above) (At other_second other other_
     let less = form-no-larger other form alike.3 in
     let last : cut_size (side other_second other other_most) ≤ cut_size (side is_second form most) = omega arith in
     larger-joined (cuts_above others) (cuts_above above) (side other_second other other_most ∷ []) (side is_second form most ∷ []) (cuts-above-size above others alike.4) (last, tt)
+cuts-above-size _ _ alike = absurd alike
 
 told-large : (p : Table) (least : ℤ) (branches others : List Branch) (told : Result Told FaultKind) → BranchesAlike branches others → IsLargeTold p least others told → IsLargeTold p least branches told
-told-large p least branches others (Err kind) alike h = absurd h
-told-large p least branches others (Ok (SplitLine form most)) alike h = absurd h
 told-large p least branches others (Ok (BoundLine scale ys rows)) alike h =
     let less = cuts-size ys (cuts_above others) (cuts_above branches) (cuts-above-size branches others alike) in
     let large : 2 ^ 126 ≤ leaf_size p least (cuts_above others) scale ys rows = h in
     omega arith
+told-large p least branches others _ alike h = absurd h
 
 line-large : (p : Table) (least : ℤ) (line : List ℕ) (branches others : Option (List Branch)) → OpenAlike (Ok branches) (Ok others) → IsLargeLine p least others line → IsLargeLine p least branches line
 line-large p least line None None alike h = absurd h
-line-large p least line None (Some others) alike h = absurd alike
-line-large p least line (Some branches) None alike h = absurd alike
 line-large p least line (Some branches) (Some others) alike h =
     let moved : IsLargeTold p least others (line_told p (length branches) (fields line)) = subst (λ (depth : ℕ). IsLargeTold p least others (line_told p depth (fields line))) (sym (lengths-alike branches others alike)) h in
     told-large p least branches others (line_told p (length branches) (fields line)) alike moved
+line-large p least line _ _ alike h = absurd alike
 
 passed-alike : (p : Table) (least : ℤ) (line : List ℕ) (branches others : Option (List Branch)) → OpenAlike (Ok branches) (Ok others) → OpenAlike (after_line p least branches line) (after_line p least others line)
 passed-alike p least line branches others alike = by (is_skipped line)

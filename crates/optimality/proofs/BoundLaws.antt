@@ -29,19 +29,17 @@ lesser false false n e = omega (arith, ints)
 
 below : (b : Bounds) (v : Bool) (n : ℤ) → allows b v ≡ true → least_part b n ≤ℤ cond v n (pos 0)
 below ZeroOrOne v n h = lesser (int_lt n (pos 0)) v n refl
-below Zero true n h = absurd (cc)
 below Zero false n h = omega (arith, ints)
 below One true n h = omega (arith, ints)
-below One false n h = absurd (cc)
+below _ _ n h = absurd (cc)
 
 pub least-below : (f : ℕ → TableColumn → ℤ) (p : ℕ) (cs : List TableColumn) (vs : List Bool) → AreAllowed cs vs → least_sum f p cs ≤ℤ sum_over f p cs vs
 least-below f p [] [] h = omega (arith, ints)
-least-below f p [] (v ∷ vs) h = absurd h
-least-below f p (c ∷ cs) [] h = absurd h
 least-below f p (c ∷ cs) (v ∷ vs) h =
     let here : least_part c.bounds (f p c) ≤ℤ cond v (f p c) (pos 0) = below c.bounds v (f p c) h.0 in
     let rest : least_sum f (p + 1) cs ≤ℤ sum_over f (p + 1) cs vs = least-below f (p + 1) cs vs h.1 in
     omega (arith, ints)
+least-below f p _ _ h = absurd h
 
 -- ---------- cuts ----------
 
@@ -50,8 +48,6 @@ abbrev pub IsWithin : List Cut → List Bool → Type 0
 IsWithin cuts values = AllByRecursion (λ cut. form_sum cut.form values ≤ℤ cut.most) cuts
 
 pub cuts-below : (ys : List ℕ) (cuts : List Cut) (cs : List TableColumn) (vs : List Bool) → length vs ≡ length cs → IsWithin cuts vs → sum_over (λ q c. cuts_number ys cuts q) 0 cs vs ≤ℤ cuts_right ys cuts
-cuts-below [] cuts cs vs l h = rw (over-none 0 cs vs) (omega (arith, ints))
-cuts-below (y ∷ ys) [] cs vs l h = rw (over-none 0 cs vs) (omega (arith, ints))
 cuts-below (y ∷ ys) (cut ∷ cuts) cs vs l h =
     let split : sum_over (λ q c. cuts_number (y ∷ ys) (cut ∷ cuts) q) 0 cs vs ≡ pos y *ℤ form_sum cut.form vs +ℤ sum_over (λ q c. cuts_number ys cuts q) 0 cs vs =
     over-sum (λ q c. pos y *ℤ number_in cut.form q) (λ q c. cuts_number ys cuts q) 0 cs vs
@@ -59,6 +55,7 @@ cuts-below (y ∷ ys) (cut ∷ cuts) cs vs l h =
     let here : (pos y *ℤ form_sum cut.form vs) ≤ℤ (pos y *ℤ cut.most) = times-natural y (form_sum cut.form vs) cut.most h.0 in
     let rest : sum_over (λ q c. cuts_number ys cuts q) 0 cs vs ≤ℤ cuts_right ys cuts = cuts-below ys cuts cs vs l h.1 in
     rw split (omega (arith, ints))
+cuts-below _ _ cs vs l h = rw (over-none 0 cs vs) (omega (arith, ints))
 
 -- ---------- rows ----------
 

@@ -30,8 +30,7 @@ lesser false n = omega arith
 
 pub part-size : (b : Bounds) (n : ℤ) → unsigned_abs (least_part b n) ≤ unsigned_abs n
 part-size ZeroOrOne n = lesser (int_lt n (pos 0)) n
-part-size Zero n = omega arith
-part-size One n = omega arith
+part-size _ n = omega arith
 
 apart : (a b : Bool) (n m : ℤ) → int_lt (m +ℤ n) (pos 0) ≡ a → int_lt m (pos 0) ≡ b → unsigned_abs ((if a then m +ℤ n else pos 0) -ℤ (if b then m else pos 0)) ≤ unsigned_abs n
 apart true true n m e f = omega (arith, ints)

@@ -15,7 +15,6 @@ pub line_by_word : (p : Table) (depth : ℕ) (word : List ℕ) (fs : List (List 
 line_by_word p depth word [] = by (bytes_eq word (codes "split")) (bytes_eq word (codes "bound"))
   where
     by : (a b : Bool) → none ≡ (if a then none else (if b then none else none))
-    by true b = refl
-    by false true = refl
     by false false = refl
+    by _ _ = refl
 line_by_word p depth word (token ∷ fs) = refl

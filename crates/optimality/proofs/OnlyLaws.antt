@@ -46,38 +46,31 @@ one-column false v x w place form all n a e f h = omega (arith, ints)
 measured : (all : List Bool) (place : ℕ) (cs : List TableColumn) (vs xs : List Bool) → AreAllowed cs vs → AreAllowed cs xs → ((k m : ℕ) → m ≡ place + k → slice_index_or all m false ≡ slice_index_or xs k false)
     → form_sum (distance place cs vs) all +ℤ pos (free_ones cs vs) ≡ pos (apart cs vs xs)
 measured all place [] [] [] h i same = refl
-measured all place [] [] (x ∷ xs) h i same = absurd i
 measured all place [] (v ∷ vs) xs h i same = absurd h
 measured all place (c ∷ cs) [] xs h i same = absurd h
-measured all place (c ∷ cs) (v ∷ vs) [] h i same = absurd i
 measured all place (c ∷ cs) (v ∷ vs) (x ∷ xs) h i same =
     let rest = measured all (suc place) cs vs xs h.1 i.1 (λ k m e. same (suc k) m (omega arith)) in
     one-column (is_zero_or_one c.bounds) v x x place (distance (suc place) cs vs) all (free_ones cs vs) (apart cs vs xs) (same 0 place (omega arith)) refl rest
+measured all place _ _ _ h i same = absurd i
 
 same-value : (b : Bounds) (v x : Bool) → allows b v ≡ true → allows b x ≡ true → cond (is_zero_or_one b) (differ v x) 0 ≡ 0 → x ≡ v
 same-value ZeroOrOne true true h i e = refl
-same-value ZeroOrOne true false h i e = absurd cc
-same-value ZeroOrOne false true h i e = absurd cc
 same-value ZeroOrOne false false h i e = refl
-same-value Zero true x h i e = absurd cc
-same-value Zero false true h i e = absurd cc
 same-value Zero false false h i e = refl
 same-value One true true h i e = refl
-same-value One true false h i e = absurd cc
-same-value One false x h i e = absurd cc
+same-value _ _ _ h i e = absurd cc
 
 -- values that are nowhere apart are the same
 not-apart : (cs : List TableColumn) (vs xs : List Bool) → AreAllowed cs vs → AreAllowed cs xs → apart cs vs xs ≡ 0 → xs ≡ vs
 not-apart [] [] [] h i e = refl
-not-apart [] [] (x ∷ xs) h i e = absurd i
 not-apart [] (v ∷ vs) xs h i e = absurd h
 not-apart (c ∷ cs) [] xs h i e = absurd h
-not-apart (c ∷ cs) (v ∷ vs) [] h i e = absurd i
 not-apart (c ∷ cs) (v ∷ vs) (x ∷ xs) h i e =
     let n : ℕ = cond (is_zero_or_one c.bounds) (differ v x) 0 in
     let m : ℕ = apart cs vs xs in
     let none : n + m ≡ 0 = e in
     ap₂ (λ (y : Bool) (ys : List Bool). y ∷ ys) (same-value c.bounds v x h.0 i.0 (omega arith)) (not-apart cs vs xs h.1 i.1 (omega arith))
+not-apart _ _ _ h i e = absurd i
 
 -- ---------- the law ----------
 
@@ -104,33 +97,29 @@ chosen false t form = refl
 -- the term of the column at a place, and then those behind it
 pub distance-at : (i place : ℕ) (cs : List TableColumn) (vs : List Bool) (b : Bounds) (v : Bool) → option_map (λ c. c.bounds) (slice_get cs i) ≡ Some b → slice_get vs i ≡ Some v
     → distance place (drop i cs) (drop i vs) ≡ (if is_zero_or_one b then term place v ∷ [] else []) ++ distance (suc place) (drop (suc i) cs) (drop (suc i) vs)
-distance-at zero place [] vs b v e f = cc e
 distance-at zero place (c ∷ cs) [] b v e f = cc f
 distance-at zero place (c ∷ cs) (w ∷ vs) b v e f =
     let bounds : c.bounds ≡ b = cc in
     let value : w ≡ v = cc in
     rw (sym bounds, sym value) (chosen (is_zero_or_one c.bounds) (term place w) (distance (suc place) cs vs))
-distance-at (suc i) place [] vs b v e f = cc e
 distance-at (suc i) place (c ∷ cs) [] b v e f = cc f
 distance-at (suc i) place (c ∷ cs) (w ∷ vs) b v e f = distance-at i place cs vs b v e f
+distance-at _ place [] vs b v e f = cc e
 
 pub free_ones-at : (i : ℕ) (cs : List TableColumn) (vs : List Bool) (b : Bounds) (v : Bool) → option_map (λ c. c.bounds) (slice_get cs i) ≡ Some b → slice_get vs i ≡ Some v
     → free_ones (drop i cs) (drop i vs) ≡ one_of (is_zero_or_one b && v) + free_ones (drop (suc i) cs) (drop (suc i) vs)
-free_ones-at zero [] vs b v e f = cc e
 free_ones-at zero (c ∷ cs) [] b v e f = cc f
 free_ones-at zero (c ∷ cs) (w ∷ vs) b v e f =
     let bounds : c.bounds ≡ b = cc in
     let value : w ≡ v = cc in
     rw (sym bounds, sym value) refl
-free_ones-at (suc i) [] vs b v e f = cc e
 free_ones-at (suc i) (c ∷ cs) [] b v e f = cc f
 free_ones-at (suc i) (c ∷ cs) (w ∷ vs) b v e f = free_ones-at i cs vs b v e f
+free_ones-at _ [] vs b v e f = cc e
 
 -- the cost of the column at a place, if it is 1, and those behind it
 pub cost-at : (i : ℕ) (cs : List TableColumn) (vs : List Bool) (n : ℤ) (v : Bool) → option_map (λ c. c.cost) (slice_get cs i) ≡ Some n → slice_get vs i ≡ Some v
     → sum_at_one (λ c. c.cost) (drop i cs) (drop i vs) ≡ cond v n (pos 0) +ℤ sum_at_one (λ c. c.cost) (drop (suc i) cs) (drop (suc i) vs)
-cost-at i [] vs n v of_cost of_value = absurd cc
-cost-at i (c ∷ cs) [] n v of_cost of_value = absurd cc
 cost-at zero (c ∷ cs) (w ∷ vs) n v of_cost of_value =
     let cost : c.cost ≡ n = cc in
     let value : w ≡ v = cc in
@@ -140,3 +129,4 @@ cost-at zero (c ∷ cs) (w ∷ vs) n v of_cost of_value =
     by true = refl
     by false = omega (arith, ints)
 cost-at (suc i) (c ∷ cs) (w ∷ vs) n v of_cost of_value = cost-at i cs vs n v of_cost of_value
+cost-at i _ _ n v of_cost of_value = absurd cc

@@ -2,7 +2,7 @@
 use Rattle.std.proofs.Common.{◌≡◌, ℕ, zero, suc, ◌+◌, ◌<◌, ◌≤◌, Bool, true, false, cond, List, [], ◌∷◌, ◌++◌, length, drop, drop-cons, get_or, slice_set, refl, sym, ap, ◌∙◌, arith, get_or-set_other, length-set, ℤ, pos, neg_ℤ, ◌+ℤ◌, ◌≢◌}
 use Rattle.std.specs.Prelude.{◌*ℤ◌, ◌==◌, ◌||◌, Some}
 use Rattle.std.proofs.lemmas.Grind.{get_or-set_at}
-use Rattle.std.proofs.lemmas.List.{get_or_past}
+use Rattle.std.proofs.lemmas.List.{get_or_past, drop_all}
 use Rattle.std.proofs.lemmas.Int.{ints, by_lt_z}
 use Rattle.std.proofs.lemmas.Bool.Decides.{nat_tests}
 use lib.IntN.{*ℤ-zero}
@@ -166,15 +166,9 @@ pub form-step : (k : ℤ) (form : Form) (i : ℕ) (d : ℕ × ℤ) (start before
 form-step k form i d start before after l more h =
     given-step (form_given k (drop i form)) (at_place (get_or form i d).0 (k *ℤ (get_or form i d).1)) (form_given k (drop (i + 1) form)) start before after (form_given k form) (λ q. form-rest k form i d q l) more h
 
-nothing-left : (form : Form) (i : ℕ) → length form ≤ i → drop i form ≡ []
-nothing-left [] zero h = refl
-nothing-left [] (suc i) h = refl
-nothing-left (t ∷ form) zero h = absurd (omega arith)
-nothing-left (t ∷ form) (suc i) h = nothing-left form i (omega arith)
-
 pub form-end : (k : ℤ) (form : Form) (i : ℕ) (start after : List ℤ) → length form ≤ i → ((q : ℕ) → number_at after q +ℤ form_given k (drop i form) q ≡ number_at start q +ℤ form_given k form q) → AreGivenMore (form_given k form) start after
 form-end k form i start after l h q =
-    let e : number_at after q +ℤ k *ℤ pos 0 ≡ number_at start q +ℤ form_given k form q = ap (λ (f : Form). number_at after q +ℤ form_given k f q) (sym (nothing-left form i l)) ∙ h q in
+    let e : number_at after q +ℤ k *ℤ pos 0 ≡ number_at start q +ℤ form_given k form q = ap (λ (f : Form). number_at after q +ℤ form_given k f q) (sym (drop_all i form l)) ∙ h q in
     let none : k *ℤ pos 0 ≡ pos 0 = *ℤ-zero k in
     omega (arith, ints)
 

@@ -112,8 +112,6 @@ signed-size false n = refl
 -- what was taken of the sum over cuts, and the sizes of those that are left
 cuts-part : (f : ℕ × Cut → ℤ) (g : ℕ × Cut → ℕ) → ((e : ℕ × Cut) → unsigned_abs (f e) ≤ g e) → (ys : List ℕ) (splits : List OpenSplit) (i : ℕ) → i < length ys → i < length splits
     → unsigned_abs (sum_of f (zip ys (cuts_of splits)) -ℤ sum_of f (zip (drop i ys) (cuts_of (drop i splits)))) + size_of g (zip (drop i ys) (cuts_of (drop i splits))) ≤ size_of g (zip ys (cuts_of splits))
-cuts-part f g within [] splits i l m = absurd (omega arith)
-cuts-part f g within (y ∷ ys) [] i l m = absurd (omega arith)
 cuts-part f g within (y ∷ ys) (s ∷ splits) zero l m =
     let all = sum_of f (zip (y ∷ ys) (cuts_of (s ∷ splits))) in
     let none : unsigned_abs (all -ℤ all) ≡ 0 = omega (arith, ints) in
@@ -127,12 +125,12 @@ cuts-part f g within (y ∷ ys) (s ∷ splits) (suc i) l m =
     let both = abs-sum (f (y, cut_of s)) (whole -ℤ left) in
     let moved : unsigned_abs ((f (y, cut_of s) +ℤ whole) -ℤ left) ≡ unsigned_abs (f (y, cut_of s) +ℤ (whole -ℤ left)) = ap unsigned_abs split in
     omega arith
+cuts-part f g within _ _ i l m = absurd (omega arith)
 
 cuts-item : (g : ℕ × Cut → ℕ) (ys : List ℕ) (splits : List OpenSplit) (i : ℕ) (e : ℕ) (d : OpenSplit) → i < length ys → i < length splits → g (get_or ys i e, cut_of (get_or splits i d)) ≤ size_of g (zip (drop i ys) (cuts_of (drop i splits)))
-cuts-item g [] splits i e d l m = absurd (omega arith)
-cuts-item g (y ∷ ys) [] i e d l m = absurd (omega arith)
 cuts-item g (y ∷ ys) (s ∷ splits) zero e d l m = omega arith
 cuts-item g (y ∷ ys) (s ∷ splits) (suc i) e d l m = cuts-item g ys splits i e d (omega arith) (omega arith)
+cuts-item g _ _ i e d l m = absurd (omega arith)
 
 -- a sum over cuts so far, and the next cut
 pub cuts-step-within : (f : ℕ × Cut → ℤ) (g : ℕ × Cut → ℕ) → ((e : ℕ × Cut) → unsigned_abs (f e) ≤ g e) → (ys : List ℕ) (splits : List OpenSplit) (i : ℕ) (e : ℕ) (d : OpenSplit) (now start : ℤ) → i < length ys → i < length splits

@@ -7,9 +7,8 @@ use Rattle.optimality.specs.inside.Stopping.{TooLargeOnly}
 
 -- by a last call
 pub too-large-weaker : {X P Q : Type 0} → (r : Result X Limit) → TooLargeOnly P r → (P → Q) → TooLargeOnly Q r
-too-large-weaker (Ok x) h f = tt
-too-large-weaker (Err Memory) h f = tt
 too-large-weaker (Err TooLarge) h f = f h
+too-large-weaker _ h f = tt
 
 -- by `?`
 pub too-large-passed : {X P Q : Type 0} → (Y : Type 0) (r : Result X Limit) (e : Limit) → IsErrAnd r (λ y. y ≡ e) → TooLargeOnly {X = Y} P (Err e) → (P → Q) → TooLargeOnly Q r

@@ -46,9 +46,8 @@ Holds p least None lines = lines ≡ []
 Holds p least (Some branches) lines = Awaits p least branches lines
 
 closes : (p : Table) (least : ℤ) (branches : List Branch) (lines : List (List ℕ)) → Completes p least branches lines ↔ Holds p least (closed branches) lines
-closes p least [] lines = (λ h. h, λ h. h)
 closes p least (At true form most ∷ above) lines = closes p least above lines
-closes p least (At false form most ∷ above) lines = (λ h. h, λ h. h)
+closes p least _ lines = (λ h. h, λ h. h)
 
 nothing-told : (p : Table) (depth : ℕ) (t : Certificate) (left : List (List ℕ)) → TellsCertificate p depth t [] left → ⊥
 nothing-told p depth (Bound scale ys rows) left h = h
