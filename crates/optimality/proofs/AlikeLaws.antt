@@ -106,8 +106,7 @@ pub rows-alike : (p : Table) (cuts : List Cut) (scale : ℕ) (ys : List ℕ) (ro
 rows-alike p cuts scale ys rows other alike =
     let columns : least_sum (reduced scale ys cuts rows) 0 p.columns ≡ least_sum (reduced scale ys cuts other) 0 p.columns =
     least-same (reduced scale ys cuts rows) (reduced scale ys cuts other) 0 p.columns (λ i j c place at. ap (λ (n : ℤ). pos scale *ℤ c.cost +ℤ (cuts_number ys cuts i +ℤ n)) (sum-alike rows other (λ row. coefficient_at row c) alike)) in
-    let right = sum-alike rows other (λ row. right_side_at p.rows row) alike in
-    ap₂ (λ (a b : ℤ). a -ℤ (cuts_right ys cuts +ℤ b)) columns right
+    ap₂ (λ (a b : ℤ). a -ℤ (cuts_right ys cuts +ℤ b)) columns (sum-alike rows other (λ row. right_side_at p.rows row) alike)
 
 -- cuts that are alike
 abbrev CutsAlike : List Cut → List Cut → Type 0
@@ -243,8 +242,7 @@ cuts-size (y ∷ ys) [] (cut ∷ cuts) h = absurd h
 cuts-size (y ∷ ys) (other ∷ others) [] h = absurd h
 cuts-size (y ∷ ys) (other ∷ others) (cut ∷ cuts) h =
     let first : y * cut_size other ≤ y * cut_size cut = mul-le-mul_left y h.0 in
-    let later = cuts-size ys others cuts h.1 in
-    omega arith
+    omega (arith, cuts-size ys others cuts h.1)
 cuts-size _ _ _ h = omega arith
 
 larger-joined : (others cuts more_others more_cuts : List Cut) → CutsNoLarger others cuts → CutsNoLarger more_others more_cuts → CutsNoLarger (others ++ more_others) (cuts ++ more_cuts)
@@ -269,9 +267,8 @@ cuts-above-size _ _ alike = absurd alike
 
 told-large : (p : Table) (least : ℤ) (branches others : List Branch) (told : Result Told FaultKind) → BranchesAlike branches others → IsLargeTold p least others told → IsLargeTold p least branches told
 told-large p least branches others (Ok (BoundLine scale ys rows)) alike h =
-    let less = cuts-size ys (cuts_above others) (cuts_above branches) (cuts-above-size branches others alike) in
     let large : 2 ^ 126 ≤ leaf_size p least (cuts_above others) scale ys rows = h in
-    omega arith
+    omega (arith, cuts-size ys (cuts_above others) (cuts_above branches) (cuts-above-size branches others alike))
 told-large p least branches others _ alike h = absurd h
 
 line-large : (p : Table) (least : ℤ) (line : List ℕ) (branches others : Option (List Branch)) → OpenAlike (Ok branches) (Ok others) → IsLargeLine p least others line → IsLargeLine p least branches line

@@ -54,9 +54,8 @@ alone-size cs = sum-within (λ (c : TableColumn). least_part c.bounds c.cost) (�
 
 pub scaled-size : (scale m : ℕ) (n : ℤ) → unsigned_abs n ≤ m → unsigned_abs (pos scale *ℤ n) ≤ scale * m
 scaled-size scale m n h =
-    let size = unsigned_abs-mul (pos scale) n in
     let more : scale * unsigned_abs n ≤ scale * m = mul-le-mul_left scale h in
-    omega arith
+    omega (arith, unsigned_abs-mul (pos scale) n)
 
 -- ---------- taking all ----------
 
@@ -72,21 +71,15 @@ change-below cs factor place n before after taken = by (slice_get cs place) refl
     by : (o : Option TableColumn) → slice_get cs place ≡ o
         → sizes_below (length cs) after + unsigned_abs (option_map_or (λ c. least_part c.bounds (factor *ℤ c.cost +ℤ n) -ℤ least_part c.bounds (factor *ℤ c.cost)) o (pos 0)) ≤ sizes_below (length cs) before
     by None e = let less = below-taken (length cs) before after (place, n) taken in omega arith
-    by (Some c) e =
-        let less = below-taken-from (length cs) before after (place, n) taken (within cs place c e) in
-        let small = part-apart c.bounds (factor *ℤ c.cost) n in
-        omega arith
+    by (Some c) e = omega (arith, below-taken-from (length cs) before after (place, n) taken (within cs place c e), part-apart c.bounds (factor *ℤ c.cost) n)
 
 -- what stops the total is reached by the costs and the sums
 pub by-either : (cs : List TableColumn) (scale place : ℕ) (n total : ℤ) (before after start : List ℤ) → IsTaken (Some (place, n)) before after → sizes_below (length cs) before ≤ sizes_below (length cs) start
     → unsigned_abs total + sizes_below (length cs) before ≤ scale * costs_size cs + sizes_below (length cs) start
     → ((place < length cs) × (2 ^ 126 ≤ scale * costs_size cs + unsigned_abs n)) ⊎ (2 ^ 126 ≤ unsigned_abs total + unsigned_abs (change_at cs (pos scale) place n)) → 2 ^ 126 ≤ scale * costs_size cs + sizes_below (length cs) start
 by-either cs scale place n total before after start taken held room (inl large) =
-    let less = below-taken-from (length cs) before after (place, n) taken large.0 in
-    omega (arith, large.1)
-by-either cs scale place n total before after start taken held room (inr large) =
-    let moved = change-below cs (pos scale) place n before after taken in
-    omega arith
+    omega (arith, large.1, below-taken-from (length cs) before after (place, n) taken large.0)
+by-either cs scale place n total before after start taken held room (inr large) = omega (arith, change-below cs (pos scale) place n before after taken)
 
 -- ---------- the parts of a leaf ----------
 
@@ -94,24 +87,19 @@ rows-below : (p : Table) → IsProgram p → (rows : Form) → size_of (λ t. un
 rows-below p h [] = omega arith
 rows-below p h (t ∷ rows) =
     let first : unsigned_abs t.1 * form_size (form_at (row_forms p) t.0) ≤ unsigned_abs t.1 * coefficients_size p.columns t.0 = mul-le-mul_left (unsigned_abs t.1) (row-form-within p h t.0) in
-    let later = rows-below p h rows in
-    omega arith
+    omega (arith, rows-below p h rows)
 
 -- what is reached by the forms of rows is reached by their coefficients
 pub given-reached : (p : Table) → IsProgram p → (ys : List ℕ) (cuts : List Cut) (rows : Form) (n : ℤ) (q : ℕ) → n ≡ cuts_given ys cuts q → 2 ^ 126 ≤ unsigned_abs n + size_of (λ t. unsigned_abs t.1 * form_size (form_at (row_forms p) t.0)) rows
     → 2 ^ 126 ≤ given_size p.columns ys cuts rows
 given-reached p h ys cuts rows n q e large =
     let of_cuts = sum-within (λ (e : ℕ × Cut). pos e.0 *ℤ number_in e.1.form q) (λ (e : ℕ × Cut). e.0 * form_size e.1.form) (cut-within q) (zip ys cuts) in
-    let of_rows = rows-below p h rows in
     let is : unsigned_abs n ≡ unsigned_abs (cuts_given ys cuts q) = ap unsigned_abs e in
-    omega arith
+    omega (arith, rows-below p h rows)
 
 pub sizes-given : (p : Table) → IsProgram p → (m : ℕ) (ys : List ℕ) (cuts : List Cut) (rows : Form) (numbers : List ℤ) → ((q : ℕ) → number_at numbers q ≡ cuts_given ys cuts q +ℤ rows_given rows (row_forms p) q)
     → sizes_below m numbers ≤ given_size p.columns ys cuts rows
-sizes-given p h m ys cuts rows numbers given =
-    let by_forms = given-within m ys cuts rows (row_forms p) numbers given in
-    let of_rows = rows-below p h rows in
-    omega arith
+sizes-given p h m ys cuts rows numbers given = omega (arith, given-within m ys cuts rows (row_forms p) numbers given, rows-below p h rows)
 
 pub right-within : (table : List TableRow) (ys : List ℕ) (cuts : List Cut) (rows : Form) → unsigned_abs (cuts_right ys cuts) + unsigned_abs (rows_right table rows) ≤ right_size table ys cuts rows
 right-within table ys cuts rows =
@@ -131,10 +119,8 @@ rows-both p (t ∷ rows) = let later = rows-both p rows in omega arith
 pub leaf-parts : (p : Table) (least : ℤ) (cuts : List Cut) (scale : ℕ) (ys : List ℕ) (rows told : Form) → AreNoLarger rows told
     → (scale * costs_size p.columns + given_size p.columns ys cuts rows) + right_size p.rows ys cuts rows ≤ leaf_size p least cuts scale ys told
 leaf-parts p least cuts scale ys rows told less =
-    let of_cuts = cuts-both (zip ys cuts) in
-    let of_rows = rows-both p rows in
     let fewer : size_of (λ t. unsigned_abs t.1 * row_size p t.0) rows ≤ size_of (λ t. unsigned_abs t.1 * row_size p t.0) told = no-larger rows told (row_size p) less in
-    omega arith
+    omega (arith, cuts-both (zip ys cuts), rows-both p rows)
 
 pub bound-part : (p : Table) (least : ℤ) (cuts : List Cut) (scale : ℕ) (ys : List ℕ) (rows : Form) → scale * unsigned_abs (least -ℤ pos 1) ≤ leaf_size p least cuts scale ys rows
 bound-part p least cuts scale ys rows = omega arith

@@ -91,9 +91,7 @@ least-taken factor cs place n before after taken =
 
 pub total-step : (factor : ℤ) (cs : List TableColumn) (place : ℕ) (n : ℤ) (before after start : List ℤ) (total next alone : ℤ) → IsTaken (Some (place, n)) before after → next ≡ total +ℤ change_at cs factor place n
     → total +ℤ least_with factor (number_at before) cs ≡ alone +ℤ least_with factor (number_at start) cs → next +ℤ least_with factor (number_at after) cs ≡ alone +ℤ least_with factor (number_at start) cs
-total-step factor cs place n before after start total next alone taken e h =
-    let split = least-taken factor cs place n before after taken in
-    omega (arith, ints)
+total-step factor cs place n before after start total next alone taken e h = omega (arith, ints, least-taken factor cs place n before after taken)
 
 -- with nothing left
 pub total-end : (factor : ℤ) (cs : List TableColumn) (numbers start : List ℤ) (total alone : ℤ) → AreNone numbers → total +ℤ least_with factor (number_at numbers) cs ≡ alone +ℤ least_with factor (number_at start) cs
@@ -141,9 +139,7 @@ scaled-part ZeroOrOne k n = by_lt_z n (pos 0) (negative k) (λ more. let up : (p
   where
     negative : (k : ℕ) → n <ℤ pos 0 → part (pos k *ℤ n) ≡ pos k *ℤ part n
     negative zero less = rw (zero-*ℤ n, zero-*ℤ (part n)) refl
-    negative (suc k) less =
-        let down : (pos (suc k) *ℤ n) <ℤ pos 0 = below-none k n less in
-        part-below (pos (suc k) *ℤ n) down ∙ ap (λ (m : ℤ). pos (suc k) *ℤ m) (sym (part-below n less))
+    negative (suc k) less = part-below (pos (suc k) *ℤ n) (below-none k n less) ∙ ap (λ (m : ℤ). pos (suc k) *ℤ m) (sym (part-below n less))
 
 least-scaled : (scale p : ℕ) (cs : List TableColumn) → least_sum (with_given (pos scale) (λ _. pos 0)) p cs ≡ pos scale *ℤ least_alone cs
 least-scaled scale p [] = sym (*ℤ-zero (pos scale))

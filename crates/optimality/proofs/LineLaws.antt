@@ -1,5 +1,5 @@
 -- What a line tells, by its word and by what stands behind it.
-use Rattle.std.proofs.Common.{◌≡◌, ℕ, Bool, true, false, List, [], ◌∷◌, Result, Err, refl}
+use Rattle.std.proofs.Common.{◌≡◌, ℕ, Bool, false, List, [], ◌∷◌, Result, Err, refl}
 use Rattle.std.specs.Prelude.{bytes_eq, codes, if◌then◌else◌}
 use Rattle.program_rows.specs.Program.{Table}
 use Rattle.program_faults.specs.declared.certificate_fault.FaultKind.{FaultKind}

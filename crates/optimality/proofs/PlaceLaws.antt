@@ -155,11 +155,7 @@ abbrev pub IsSplit : (ℕ → ℤ) → (ℕ → ℤ) → (ℕ → ℤ) → Type 
 IsSplit all first later = (q : ℕ) → all q ≡ first q +ℤ later q
 
 pub given-step : (all first later : ℕ → ℤ) (start before after : List ℤ) (total : ℕ → ℤ) → IsSplit all first later → AreGivenMore first before after → ((q : ℕ) → number_at before q +ℤ all q ≡ number_at start q +ℤ total q) → (q : ℕ) → number_at after q +ℤ later q ≡ number_at start q +ℤ total q
-given-step all first later start before after total split more h q =
-    let s = split q in
-    let m = more q in
-    let e = h q in
-    omega (arith, ints)
+given-step all first later start before after total split more h q = omega (arith, ints, split q, more q, h q)
 
 pub form-step : (k : ℤ) (form : Form) (i : ℕ) (d : ℕ × ℤ) (start before after : List ℤ) → i < length form → AreGivenMore (at_place (get_or form i d).0 (k *ℤ (get_or form i d).1)) before after
     → ((q : ℕ) → number_at before q +ℤ form_given k (drop i form) q ≡ number_at start q +ℤ form_given k form q) → (q : ℕ) → number_at after q +ℤ form_given k (drop (i + 1) form) q ≡ number_at start q +ℤ form_given k form q
@@ -186,10 +182,7 @@ negated false n = refl
 
 pub negated-in : (form : Form) (most : ℤ) (q : ℕ) → number_in (side true form most).form q ≡ neg_ℤ (number_in form q)
 negated-in [] most q = refl
-negated-in (t ∷ form) most q =
-    let first = negated (t.0 == q) t.1 in
-    let later = negated-in form most q in
-    omega (arith, ints)
+negated-in (t ∷ form) most q = omega (arith, ints, negated (t.0 == q) t.1, negated-in form most q)
 
 -- ---------- taking all ----------
 
@@ -200,9 +193,7 @@ number-last (s ∷ form) t q = let later = number-last form t q in omega (arith,
 pub taken-pushed : (all : ℕ → ℤ) (form next : Form) (t : ℕ × ℤ) (before after : List ℤ) → IsTaken (Some t) before after → next ≡ form ++ t ∷ [] → ((q : ℕ) → all q ≡ number_in form q +ℤ number_at before q) → (q : ℕ) → all q ≡ number_in next q +ℤ number_at after q
 taken-pushed all form next t before after taken e h q =
     let pushed : number_in next q ≡ number_in form q +ℤ at_place t.0 t.1 q = ap (λ (f : Form). number_in f q) e ∙ number-last form t q in
-    let split = taken.1 q in
-    let held = h q in
-    omega (arith, ints)
+    omega (arith, ints, taken.1 q, h q)
 
 nothing-at : (place q : ℕ) (n : ℤ) → n ≡ pos 0 → at_place place n q ≡ pos 0
 nothing-at place q n e = by (place == q)
@@ -212,8 +203,4 @@ nothing-at place q n e = by (place == q)
     by false = refl
 
 pub taken-dropped : (all : ℕ → ℤ) (form : Form) (place : ℕ) (n : ℤ) (before after : List ℤ) → IsTaken (Some (place, n)) before after → n ≡ pos 0 → ((q : ℕ) → all q ≡ number_in form q +ℤ number_at before q) → (q : ℕ) → all q ≡ number_in form q +ℤ number_at after q
-taken-dropped all form place n before after taken e h q =
-    let split = taken.1 q in
-    let held = h q in
-    let none = nothing-at place q n e in
-    omega (arith, ints)
+taken-dropped all form place n before after taken e h q = omega (arith, ints, taken.1 q, h q, nothing-at place q n e)

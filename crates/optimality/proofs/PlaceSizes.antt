@@ -19,10 +19,7 @@ over (suc m) s = over m s + s m
 
 over-below : (m : ℕ) (s other : ℕ → ℕ) → ((q : ℕ) → s q ≤ other q) → over m s ≤ over m other
 over-below zero s other h = omega arith
-over-below (suc m) s other h =
-    let later = over-below m s other h in
-    let here = h m in
-    omega arith
+over-below (suc m) s other h = omega (arith, over-below m s other h, h m)
 
 over-both : (m : ℕ) (s other : ℕ → ℕ) → over m (λ q. s q + other q) ≡ over m s + over m other
 over-both zero s other = refl
@@ -71,9 +68,7 @@ one-place (suc m) place n h l = by (one-place m place n h) (place == m) refl
         omega arith
     by earlier false e =
         let less : place < m = grind (arith, nat_tests) in
-        let later = earlier less in
-        let none = elsewhere place m n h e in
-        omega arith
+        omega (arith, earlier less, elsewhere place m n h e)
 
 none-times : (k : ℕ) → 0 * k ≡ 0
 none-times k = omega arith
@@ -115,9 +110,7 @@ plain-size (t ∷ form) = let later = plain-size form in omega arith
 pub form-no-larger : (form other : Form) → AreNoLarger form other → form_size form ≤ form_size other
 form-no-larger form other less =
     let weighed = no-larger form other (λ _. 1) less in
-    let left = plain-size form in
-    let right = plain-size other in
-    omega arith
+    omega (arith, plain-size form, plain-size other)
 
 -- ---------- what a form gives ----------
 
@@ -163,21 +156,18 @@ sizes-over m k s b within [] = let none = over-none m in omega arith
 sizes-over m k s b within (x ∷ xs) =
     let later = sizes-over m k s b within xs in
     let both = over-both m (λ q. k x * s x q) (λ q. size_of (λ y. k y * s y q) xs) in
-    let times = over-times m (k x) (s x) in
     let first : k x * over m (s x) ≤ k x * b x = mul-le-mul_left (k x) (within x) in
-    omega arith
+    omega (arith, over-times m (k x) (s x))
 
 cut-term : (q : ℕ) (e : ℕ × Cut) → unsigned_abs (pos e.0 *ℤ number_in e.1.form q) ≤ e.0 * size_in e.1.form q
 cut-term q e =
-    let size = unsigned_abs-mul (pos e.0) (number_in e.1.form q) in
     let more : e.0 * unsigned_abs (number_in e.1.form q) ≤ e.0 * size_in e.1.form q = mul-le-mul_left e.0 (number-size e.1.form q) in
-    omega arith
+    omega (arith, unsigned_abs-mul (pos e.0) (number_in e.1.form q))
 
 row-term : (forms : List Form) (q : ℕ) (t : ℕ × ℤ) → unsigned_abs (t.1 *ℤ number_in (form_at forms t.0) q) ≤ unsigned_abs t.1 * size_in (form_at forms t.0) q
 row-term forms q t =
-    let size = unsigned_abs-mul t.1 (number_in (form_at forms t.0) q) in
     let more : unsigned_abs t.1 * unsigned_abs (number_in (form_at forms t.0) q) ≤ unsigned_abs t.1 * size_in (form_at forms t.0) q = mul-le-mul_left (unsigned_abs t.1) (number-size (form_at forms t.0) q) in
-    omega arith
+    omega (arith, unsigned_abs-mul t.1 (number_in (form_at forms t.0) q))
 
 sizes-are : (m : ℕ) (numbers : List ℤ) → sizes_below m numbers ≡ over m (λ q. unsigned_abs (number_at numbers q))
 sizes-are zero numbers = refl
@@ -195,17 +185,15 @@ given-within m ys cuts rows forms numbers given =
     let cuts_all : over m of_cuts ≤ size_of (λ e. e.0 * form_size e.1.form) (zip ys cuts) = sizes-over m (λ (e : ℕ × Cut). e.0) (λ (e : ℕ × Cut) (q : ℕ). size_in e.1.form q) (λ (e : ℕ × Cut). form_size e.1.form) (λ e. form-over m e.1.form) (zip ys cuts) in
     let rows_all : over m of_rows ≤ size_of (λ t. unsigned_abs t.1 * form_size (form_at forms t.0)) rows =
     sizes-over m (λ (t : ℕ × ℤ). unsigned_abs t.1) (λ (t : ℕ × ℤ) (q : ℕ). size_in (form_at forms t.0) q) (λ (t : ℕ × ℤ). form_size (form_at forms t.0)) (λ t. form-over m (form_at forms t.0)) rows in
-    let is = sizes-are m numbers in
-    omega arith
+    omega (arith, sizes-are m numbers)
   where
     one : (q : ℕ) → unsigned_abs (number_at numbers q) ≤ size_of (λ (e : ℕ × Cut). e.0 * size_in e.1.form q) (zip ys cuts) + size_of (λ (t : ℕ × ℤ). unsigned_abs t.1 * size_in (form_at forms t.0) q) rows
     one q =
         let left : unsigned_abs (cuts_given ys cuts q) ≤ size_of (λ (e : ℕ × Cut). e.0 * size_in e.1.form q) (zip ys cuts) = sum-within (λ (e : ℕ × Cut). pos e.0 *ℤ number_in e.1.form q) (λ (e : ℕ × Cut). e.0 * size_in e.1.form q) (cut-term q) (zip ys cuts) in
         let right : unsigned_abs (rows_given rows forms q) ≤ size_of (λ (t : ℕ × ℤ). unsigned_abs t.1 * size_in (form_at forms t.0) q) rows =
         sum-within (λ (t : ℕ × ℤ). t.1 *ℤ number_in (form_at forms t.0) q) (λ (t : ℕ × ℤ). unsigned_abs t.1 * size_in (form_at forms t.0) q) (row-term forms q) rows in
-        let split = abs-sum (cuts_given ys cuts q) (rows_given rows forms q) in
         let is : unsigned_abs (number_at numbers q) ≡ unsigned_abs (cuts_given ys cuts q +ℤ rows_given rows forms q) = ap unsigned_abs (given q) in
-        omega arith
+        omega (arith, abs-sum (cuts_given ys cuts q) (rows_given rows forms q))
 
 -- ---------- taking all ----------
 
@@ -233,24 +221,16 @@ pub size-pushed : (all : ℕ → ℕ) (form next : Form) (t : ℕ × ℤ) (befor
     → (q : ℕ) → size_in next q + unsigned_abs (number_at after q) ≤ all q
 size-pushed all form next t before after taken e h q =
     let pushed : size_in next q ≡ size_in form q + cond (t.0 == q) (unsigned_abs t.1) 0 = ap (λ (f : Form). size_in f q) e ∙ size-last form t q in
-    let left = left-at before after t q taken in
-    let held = h q in
-    omega arith
+    omega (arith, left-at before after t q taken, h q)
 
 pub size-dropped : (all : ℕ → ℕ) (form : Form) (t : ℕ × ℤ) (before after : List ℤ) → IsTaken (Some t) before after → ((q : ℕ) → size_in form q + unsigned_abs (number_at before q) ≤ all q)
     → (q : ℕ) → size_in form q + unsigned_abs (number_at after q) ≤ all q
-size-dropped all form t before after taken h q =
-    let left = left-at before after t q taken in
-    let held = h q in
-    omega arith
+size-dropped all form t before after taken h q = omega (arith, left-at before after t q taken, h q)
 
 -- the sizes of the first places before one of them is taken, and those after
 pub below-taken : (m : ℕ) (before after : List ℤ) (t : ℕ × ℤ) → IsTaken (Some t) before after → sizes_below m after ≤ sizes_below m before
 below-taken zero before after t taken = omega arith
-below-taken (suc m) before after t taken =
-    let later = below-taken m before after t taken in
-    let left = left-at before after t m taken in
-    omega arith
+below-taken (suc m) before after t taken = omega (arith, below-taken m before after t taken, left-at before after t m taken)
 
 pub below-taken-from : (m : ℕ) (before after : List ℤ) (t : ℕ × ℤ) → IsTaken (Some t) before after → t.0 < m → sizes_below m after + unsigned_abs t.1 ≤ sizes_below m before
 below-taken-from zero before after t taken l = absurd (omega arith)
@@ -260,16 +240,13 @@ below-taken-from (suc m) before after t taken l = by (below-taken-from m before 
     by earlier true e left = let later = below-taken m before after t taken in omega arith
     by earlier false e left =
         let less : t.0 < m = grind (arith, nat_tests) in
-        let later = earlier less in
-        omega arith
+        omega (arith, earlier less)
 
 -- a number more at a place
 pub more-within : (before after : List ℤ) (t : ℕ × ℤ) → AreGivenMore (at_place t.0 t.1) before after → (q : ℕ) → unsigned_abs (number_at after q) ≤ unsigned_abs (number_at before q) + unsigned_abs t.1
 more-within before after t more q =
     let is : unsigned_abs (number_at after q) ≡ unsigned_abs (number_at before q +ℤ at_place t.0 t.1 q) = ap unsigned_abs (more q) in
-    let both = abs-sum (number_at before q) (at_place t.0 t.1 q) in
-    let small = one-number (t.0 == q) t.1 in
-    omega arith
+    omega (arith, abs-sum (number_at before q) (at_place t.0 t.1 q), one-number (t.0 == q) t.1)
   where
     one-number : (b : Bool) (n : ℤ) → unsigned_abs (cond b n (pos 0)) ≤ unsigned_abs n
     one-number true n = omega arith

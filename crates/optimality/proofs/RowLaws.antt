@@ -90,10 +90,8 @@ entries-at place [] forms row i h = by (place == i)
     by false = omega (arith, ints)
 entries-at place (e ∷ es) forms row i h =
     let longer : row < length (with_term e.0 (place, e.1) forms) = omega (arith, length-term e.0 (place, e.1) forms) in
-    let later = entries-at place es (with_term e.0 (place, e.1) forms) row i longer in
-    let first = term-at e.0 (place, e.1) forms row i h in
     let both = exchanged (e.0 == row) (place == i) e.1 (number_in es row) in
-    omega (arith, ints)
+    omega (arith, ints, entries-at place es (with_term e.0 (place, e.1) forms) row i longer, term-at e.0 (place, e.1) forms row i h)
 
 -- columns behind a place give it nothing
 passed : (place : ℕ) (cs : List TableColumn) (forms : List Form) (row i : ℕ) → row < length forms → i < place → given (with_columns place cs forms) row i ≡ given forms row i
@@ -141,8 +139,7 @@ entry-is m row (e ∷ es) h = by (entry-is m row es h.3) (e.0 == row) refl
     by : number_in es row ≡ option_map_or (λ x. x.1) (find (λ x. x.0 == row) es) (pos 0) → (b : Bool) → (e.0 == row) ≡ b → cond b e.1 (pos 0) +ℤ number_in es row ≡ option_map_or (λ x. x.1) (cond b (Some e) (find (λ x. x.0 == row) es)) (pos 0)
     by rest true q =
         let same : row ≡ e.0 = grind (arith, nat_tests) in
-        let later = none-later row e.0 es same h.2 in
-        omega (arith, ints)
+        omega (arith, ints, none-later row e.0 es same h.2)
     by rest false q = omega (arith, ints)
 
 -- no entry stands behind the last row

@@ -42,17 +42,13 @@ entries-at : (place : ℕ) (es : List (ℕ × ℤ)) (forms : List Form) (row : �
 entries-at place [] forms row h = omega arith
 entries-at place (e ∷ es) forms row h =
     let longer : row < length (with_term e.0 (place, e.1) forms) = omega (arith, length-term e.0 (place, e.1) forms) in
-    let later = entries-at place es (with_term e.0 (place, e.1) forms) row longer in
-    let first = term-at e.0 (place, e.1) forms row h in
-    omega arith
+    omega (arith, entries-at place es (with_term e.0 (place, e.1) forms) row longer, term-at e.0 (place, e.1) forms row h)
 
 columns-at : (place : ℕ) (cs : List TableColumn) (forms : List Form) (row : ℕ) → row < length forms → held (with_columns place cs forms) row ≡ held forms row + size_of (λ c. size_in c.entries row) cs
 columns-at place [] forms row h = omega arith
 columns-at place (c ∷ cs) forms row h =
     let longer : row < length (with_entries place c.entries forms) = omega (arith, length-entries place c.entries forms) in
-    let later = columns-at (suc place) cs (with_entries place c.entries forms) row longer in
-    let first = entries-at place c.entries forms row h in
-    omega arith
+    omega (arith, columns-at (suc place) cs (with_entries place c.entries forms) row longer, entries-at place c.entries forms row h)
 
 -- ---------- entries ----------
 
@@ -70,16 +66,12 @@ entry-is m row (e ∷ es) h = by (entry-is m row es h.3) (e.0 == row) refl
         → cond b (unsigned_abs e.1) 0 + size_in es row ≡ unsigned_abs (option_map_or (λ x. x.1) (cond b (Some e) (find (λ x. x.0 == row) es)) (pos 0))
     by rest true q =
         let same : row ≡ e.0 = grind (arith, nat_tests) in
-        let later = none-later row e.0 es same h.2 in
-        omega arith
+        omega (arith, none-later row e.0 es same h.2)
     by rest false q = omega arith
 
 columns-are : (m row : ℕ) (cs : List TableColumn) → AllByRecursion (λ d. AreEntries m d.entries) cs → size_of (λ c. size_in c.entries row) cs ≡ coefficients_size cs row
 columns-are m row [] h = refl
-columns-are m row (c ∷ cs) h =
-    let first = entry-is m row c.entries h.0 in
-    let later = columns-are m row cs h.1 in
-    omega arith
+columns-are m row (c ∷ cs) h = omega (arith, entry-is m row c.entries h.0, columns-are m row cs h.1)
 
 pub row-form-within : (p : Table) → IsProgram p → (row : ℕ) → form_size (form_at (row_forms p) row) ≤ coefficients_size p.columns row
 row-form-within p h row =

@@ -30,10 +30,7 @@ abs-negated n = omega (arith, ints)
 -- no more than the sum of larger sizes
 pub sum-within : {X : Type 0} → (f : X → ℤ) (g : X → ℕ) → ((x : X) → unsigned_abs (f x) ≤ g x) → (xs : List X) → unsigned_abs (sum_of f xs) ≤ size_of g xs
 sum-within f g within [] = omega arith
-sum-within f g within (x ∷ xs) =
-    let first = within x in
-    let later = sum-within f g within xs in
-    omega (arith, ints, abs-sum (f x) (sum_of f xs))
+sum-within f g within (x ∷ xs) = omega (arith, ints, abs-sum (f x) (sum_of f xs), within x, sum-within f g within xs)
 
 -- what was taken of a sum, and the sizes of what is left
 pub part-within : {X : Type 0} → (f : X → ℤ) (g : X → ℕ) → ((x : X) → unsigned_abs (f x) ≤ g x) → (xs : List X) (i : ℕ) → unsigned_abs (sum_of f xs -ℤ sum_of f (drop i xs)) + size_of g (drop i xs) ≤ size_of g xs
@@ -45,9 +42,8 @@ part-within f g within (x ∷ xs) (suc i) =
     let whole = sum_of f xs in
     let left = sum_of f (drop i xs) in
     let split : (f x +ℤ whole) -ℤ left ≡ f x +ℤ (whole -ℤ left) = omega (arith, ints) in
-    let both = abs-sum (f x) (whole -ℤ left) in
     let moved : unsigned_abs ((f x +ℤ whole) -ℤ left) ≡ unsigned_abs (f x +ℤ (whole -ℤ left)) = ap unsigned_abs split in
-    omega arith
+    omega (arith, abs-sum (f x) (whole -ℤ left))
 
 -- the size of an item, among those that are left
 pub item-within : {X : Type 0} → (g : X → ℕ) (xs : List X) (i : ℕ) (d : X) → i < length xs → g (get_or xs i d) ≤ size_of g (drop i xs)
@@ -63,9 +59,8 @@ step-within f g within xs i d now start l h =
     let item = item-within g xs i d l in
     let apart = sum_of f xs -ℤ sum_of f (drop i xs) in
     let is : now ≡ start +ℤ apart = omega (arith, ints) in
-    let both = abs-sum start apart in
     let moved : unsigned_abs now ≡ unsigned_abs (start +ℤ apart) = ap unsigned_abs is in
-    omega arith
+    omega (arith, abs-sum start apart)
 
 -- ---------- forms ----------
 
@@ -122,9 +117,8 @@ cuts-part f g within (y ∷ ys) (s ∷ splits) (suc i) l m =
     let whole = sum_of f (zip ys (cuts_of splits)) in
     let left = sum_of f (zip (drop i ys) (cuts_of (drop i splits))) in
     let split : (f (y, cut_of s) +ℤ whole) -ℤ left ≡ f (y, cut_of s) +ℤ (whole -ℤ left) = omega (arith, ints) in
-    let both = abs-sum (f (y, cut_of s)) (whole -ℤ left) in
     let moved : unsigned_abs ((f (y, cut_of s) +ℤ whole) -ℤ left) ≡ unsigned_abs (f (y, cut_of s) +ℤ (whole -ℤ left)) = ap unsigned_abs split in
-    omega arith
+    omega (arith, abs-sum (f (y, cut_of s)) (whole -ℤ left))
 cuts-part f g within _ _ i l m = absurd (omega arith)
 
 cuts-item : (g : ℕ × Cut → ℕ) (ys : List ℕ) (splits : List OpenSplit) (i : ℕ) (e : ℕ) (d : OpenSplit) → i < length ys → i < length splits → g (get_or ys i e, cut_of (get_or splits i d)) ≤ size_of g (zip (drop i ys) (cuts_of (drop i splits)))
@@ -140,17 +134,15 @@ cuts-step-within f g within ys splits i e d now start l m h =
     let item = cuts-item g ys splits i e d l m in
     let apart = sum_of f (zip ys (cuts_of splits)) -ℤ sum_of f (zip (drop i ys) (cuts_of (drop i splits))) in
     let is : now ≡ start +ℤ apart = omega (arith, ints) in
-    let both = abs-sum start apart in
     let moved : unsigned_abs now ≡ unsigned_abs (start +ℤ apart) = ap unsigned_abs is in
-    omega arith
+    omega (arith, abs-sum start apart)
 
 -- ---------- terms of a leaf ----------
 
 times-within : (a b : ℤ) (m : ℕ) → unsigned_abs b ≤ m → unsigned_abs (a *ℤ b) ≤ unsigned_abs a * m
 times-within a b m h =
-    let size = unsigned_abs-mul a b in
     let more : unsigned_abs a * unsigned_abs b ≤ unsigned_abs a * m = mul-le-mul_left (unsigned_abs a) h in
-    omega arith
+    omega (arith, unsigned_abs-mul a b)
 
 pub cut-within : (q : ℕ) (e : ℕ × Cut) → unsigned_abs (pos e.0 *ℤ number_in e.1.form q) ≤ e.0 * form_size e.1.form
 cut-within q e = times-within (pos e.0) (number_in e.1.form q) (form_size e.1.form) (number-within e.1.form q)

@@ -12,6 +12,4 @@ returns-clause-size c q =
     let none = c.clear.ensures q in
     let is : number_at c.add_terms.new.sums.numbers.items q ≡ number_in c.args.terms.now q = omega (arith, ints) in
     let same : unsigned_abs (number_at c.add_terms.new.sums.numbers.items q) ≡ unsigned_abs (number_in c.args.terms.now q) = ap unsigned_abs is in
-    let held = c.in_ok-taken.ensures.size q in
-    let size = number-size c.args.terms.now q in
-    omega arith
+    omega (arith, c.in_ok-taken.ensures.size q, number-size c.args.terms.now q)

@@ -23,9 +23,8 @@ returns-clause-value c =
     let wide : c.from.result ≡ pos leaf.scale = c.from.ensures in
     let times = simp to_z-of_z at c.in_ok-alone.ensures.value in
     let alone : c.in_ok-alone.alone ≡ pos leaf.scale *ℤ least_alone p.columns = times ∙ ap₂ (λ (a b : ℤ). a *ℤ b) wide c.requires.prepared.alone in
-    let total = simp to_z-of_z at c.least_total.ensures.value in
     IfOk-weaker c.least_total.result _ _ (λ n e. least-is p leaf.scale leaf.multipliers.items (cuts_of c.args.splits.now) c.args.rows.now numbers c.well_formed-2.ensures c.in_ok-reduce.ensures.value n
-    (e ∙ ap (λ (a : ℤ). a +ℤ least_with (pos leaf.scale) (number_at numbers) p.columns) alone)) total
+    (e ∙ ap (λ (a : ℤ). a +ℤ least_with (pos leaf.scale) (number_at numbers) p.columns) alone)) (simp to_z-of_z at c.least_total.ensures.value)
 
 pub returns-in_err-alone-clause-too_large : goal.returns-in_err-alone-clause-too_large
 returns-in_err-alone-clause-too_large c =

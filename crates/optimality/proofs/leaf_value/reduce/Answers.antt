@@ -35,7 +35,6 @@ returns-clause-value c =
 pub returns-clause-too_large : goal.returns-clause-too_large
 returns-clause-too_large c =
     let leaf = c.args.leaf.now in
-    let p = c.args.checker.now.program.now in
     let forms = ap forms_held c.as_slice-2.ensures.value ∙ c.requires.prepared.forms in
     let empty = c.clear.new.self.numbers.items in
     let with_cuts = c.add_cuts.new.sums.numbers.items in
@@ -45,5 +44,5 @@ returns-clause-too_large c =
     let q = reached.0 in
     let given : number_at with_cuts q ≡ cuts_given leaf.multipliers.items cuts q =
     from_none (number_at empty q) (number_at with_cuts q) (cuts_given leaf.multipliers.items cuts q) (c.clear.ensures q) (c.in_ok-add_cuts.ensures.value q ∙ ap (λ (ys : List ℕ). number_at empty q +ℤ cuts_given ys cuts q) c.as_slice.ensures.value) in
-    given-reached p c.well_formed-2.ensures leaf.multipliers.items cuts c.args.rows.now (number_at with_cuts q) q given
+    given-reached c.args.checker.now.program.now c.well_formed-2.ensures leaf.multipliers.items cuts c.args.rows.now (number_at with_cuts q) q given
     (subst (λ (fs : List Form). 2 ^ 126 ≤ unsigned_abs (number_at with_cuts q) + size_of (λ t. unsigned_abs t.1 * form_size (form_at fs t.0)) c.args.rows.now) forms reached.1))
