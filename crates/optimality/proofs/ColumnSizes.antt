@@ -122,9 +122,6 @@ leaf-parts p least cuts scale ys rows told less =
     let fewer : size_of (λ t. unsigned_abs t.1 * row_size p t.0) rows ≤ size_of (λ t. unsigned_abs t.1 * row_size p t.0) told = no-larger rows told (row_size p) less in
     omega (arith, cuts-both (zip ys cuts), rows-both p rows)
 
-pub bound-part : (p : Table) (least : ℤ) (cuts : List Cut) (scale : ℕ) (ys : List ℕ) (rows : Form) → scale * unsigned_abs (least -ℤ pos 1) ≤ leaf_size p least cuts scale ys rows
-bound-part p least cuts scale ys rows = omega arith
-
 -- ---------- sums of costs ----------
 
 -- a cost more, where there are as many as places

@@ -1,5 +1,5 @@
 -- Numbers by place: what a write, a step of a loop and a taken place leave.
-use Rattle.std.proofs.Common.{◌≡◌, ℕ, zero, suc, ◌+◌, ◌<◌, ◌≤◌, Bool, true, false, cond, List, [], ◌∷◌, ◌++◌, length, drop, drop-cons, get_or, slice_set, refl, sym, ap, ◌∙◌, arith, get_or-set_other, length-set, ℤ, pos, neg_ℤ, ◌+ℤ◌, ◌≢◌}
+use Rattle.std.proofs.Common.{◌≡◌, ℕ, suc, ◌+◌, ◌<◌, ◌≤◌, Bool, true, false, cond, List, [], ◌∷◌, ◌++◌, length, drop, drop-cons, get_or, slice_set, refl, sym, ap, ◌∙◌, arith, get_or-set_other, length-set, ℤ, pos, neg_ℤ, ◌+ℤ◌, ◌≢◌}
 use Rattle.std.specs.Prelude.{◌*ℤ◌, ◌==◌, ◌||◌, Some}
 use Rattle.std.proofs.lemmas.Grind.{get_or-set_at}
 use Rattle.std.proofs.lemmas.List.{get_or_past, drop_all}
@@ -32,13 +32,6 @@ zero-at numbers place q = by_lt_z (pos place) (pos (length numbers))
         get_or_past (slice_set numbers place (pos 0)) q (pos 0) behind
     by past false e = let other : q ≢ place = grind (arith, nat_tests) in get_or-set_other numbers place q (pos 0) (pos 0) other
 
--- one 0 more at the end
-pub one-zero-more : (numbers : List ℤ) (q : ℕ) → number_at (numbers ++ pos 0 ∷ []) q ≡ number_at numbers q
-one-zero-more [] zero = refl
-one-zero-more [] (suc q) = refl
-one-zero-more (n ∷ numbers) zero = refl
-one-zero-more (n ∷ numbers) (suc q) = one-zero-more numbers q
-
 -- ---------- listed places ----------
 
 not-pushed : (places : List ℕ) (place q : ℕ) → has_place (places ++ place ∷ []) q ≡ false → (has_place places q ≡ false) × ((place == q) ≡ false)
@@ -64,10 +57,6 @@ not-listed-last (p ∷ places) place q h e = by (λ none. not-listed-last places
     by : (has_place places q ≡ false → has_place (places ++ place ∷ []) q ≡ false) → (b : Bool) → (b || has_place places q) ≡ false → (b || has_place (places ++ place ∷ []) q) ≡ false
     by later true h = absurd cc
     by later false h = later h
-
--- the same numbers are listed
-pub listed-as-before : (places : List ℕ) (before after : List ℤ) → AreListed places before → AreAsBefore before after → AreListed places after
-listed-as-before places before after h same = λ q none. same q ∙ h q none
 
 -- ---------- a number more ----------
 
@@ -114,23 +103,6 @@ listed-taken places numbers place listed q none = zero-at numbers place q ∙ by
     by : (b : Bool) → (place == q) ≡ b → cond b (pos 0) (number_at numbers q) ≡ pos 0
     by true e = refl
     by false e = listed q (not-listed-last places place q none e)
-
-pub is-taken : (numbers : List ℤ) (place : ℕ) → IsTaken (Some (place, number_at numbers place)) numbers (slice_set numbers place (pos 0))
-is-taken numbers place = (zero-at numbers place place ∙ here (place == place) (grind (arith, nat_tests)), λ q. by q (place == q) refl)
-  where
-    here : (b : Bool) → b ≡ true → cond b (pos 0) (number_at numbers place) ≡ pos 0
-    here true e = refl
-    here false e = absurd cc
-
-    by : (q : ℕ) (b : Bool) → (place == q) ≡ b → number_at numbers q ≡ number_at (slice_set numbers place (pos 0)) q +ℤ cond b (number_at numbers place) (pos 0)
-    by q true e =
-        let same : q ≡ place = grind (arith, nat_tests) in
-        let now : number_at (slice_set numbers place (pos 0)) q ≡ pos 0 = zero-at numbers place q ∙ ap (λ (c : Bool). cond c (pos 0) (number_at numbers q)) e in
-        let was : number_at numbers q ≡ number_at numbers place = ap (λ (k : ℕ). number_at numbers k) same in
-        omega (arith, ints)
-    by q false e =
-        let now : number_at (slice_set numbers place (pos 0)) q ≡ number_at numbers q = zero-at numbers place q ∙ ap (λ (c : Bool). cond c (pos 0) (number_at numbers q)) e in
-        omega (arith, ints)
 
 -- ---------- steps of loops ----------
 
@@ -194,13 +166,3 @@ pub taken-pushed : (all : ℕ → ℤ) (form next : Form) (t : ℕ × ℤ) (befo
 taken-pushed all form next t before after taken e h q =
     let pushed : number_in next q ≡ number_in form q +ℤ at_place t.0 t.1 q = ap (λ (f : Form). number_in f q) e ∙ number-last form t q in
     omega (arith, ints, taken.1 q, h q)
-
-nothing-at : (place q : ℕ) (n : ℤ) → n ≡ pos 0 → at_place place n q ≡ pos 0
-nothing-at place q n e = by (place == q)
-  where
-    by : (b : Bool) → cond b n (pos 0) ≡ pos 0
-    by true = e
-    by false = refl
-
-pub taken-dropped : (all : ℕ → ℤ) (form : Form) (place : ℕ) (n : ℤ) (before after : List ℤ) → IsTaken (Some (place, n)) before after → n ≡ pos 0 → ((q : ℕ) → all q ≡ number_in form q +ℤ number_at before q) → (q : ℕ) → all q ≡ number_in form q +ℤ number_at after q
-taken-dropped all form place n before after taken e h q = omega (arith, ints, taken.1 q, h q, nothing-at place q n e)

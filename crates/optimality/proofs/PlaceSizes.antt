@@ -223,10 +223,6 @@ size-pushed all form next t before after taken e h q =
     let pushed : size_in next q ≡ size_in form q + cond (t.0 == q) (unsigned_abs t.1) 0 = ap (λ (f : Form). size_in f q) e ∙ size-last form t q in
     omega (arith, left-at before after t q taken, h q)
 
-pub size-dropped : (all : ℕ → ℕ) (form : Form) (t : ℕ × ℤ) (before after : List ℤ) → IsTaken (Some t) before after → ((q : ℕ) → size_in form q + unsigned_abs (number_at before q) ≤ all q)
-    → (q : ℕ) → size_in form q + unsigned_abs (number_at after q) ≤ all q
-size-dropped all form t before after taken h q = omega (arith, left-at before after t q taken, h q)
-
 -- the sizes of the first places before one of them is taken, and those after
 pub below-taken : (m : ℕ) (before after : List ℤ) (t : ℕ × ℤ) → IsTaken (Some t) before after → sizes_below m after ≤ sizes_below m before
 below-taken zero before after t taken = omega arith

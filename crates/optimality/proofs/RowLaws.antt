@@ -5,7 +5,7 @@ use Rattle.std.specs.Option.{option_map, option_map_or}
 use Rattle.std.specs.List.{AllByRecursion}
 use Rattle.std.specs.declared.vec.Vec.{Vec}
 use Rattle.std.specs.declared.alloc.Global.{Global}
-use Rattle.std.proofs.lemmas.List.{length-replicate, get_or-replicate, get_or_past, get_or-map, map-append, map-set, replicate_more}
+use Rattle.std.proofs.lemmas.List.{length-replicate, get_or-replicate, get_or_past, get_or-map, map-set}
 use Rattle.std.proofs.lemmas.Grind.{get_or-set_at}
 use Rattle.std.proofs.lemmas.Int.{ints, by_lt_z}
 use Rattle.std.proofs.lemmas.Bool.Decides.{nat_tests}
@@ -23,12 +23,6 @@ pub term-pushed : (forms : List (Vec (ℕ × ℤ) Global)) (row : ℕ) (t : ℕ 
 term-pushed forms row t d next h e =
     map-set (λ (form : Vec (ℕ × ℤ) Global). form.items) forms row next
     ∙ ap (λ (form : Form). slice_set (forms_held forms) row form) (e ∙ ap (λ (form : Form). form ++ t ∷ []) (sym (get_or-map (λ (form : Vec (ℕ × ℤ) Global). form.items) forms row d [] h)))
-
--- one empty form more
-pub form-pushed : (forms next : List (Vec (ℕ × ℤ) Global)) (form : Vec (ℕ × ℤ) Global) (n : ℕ) → form.items ≡ [] → next ≡ forms ++ form ∷ [] → forms_held forms ≡ replicate n [] → forms_held next ≡ replicate (n + 1) []
-form-pushed forms next form n e p h =
-    ap forms_held p ∙ map-append (λ (f : Vec (ℕ × ℤ) Global). f.items) forms (form ∷ [])
-    ∙ ap (λ (fs : List Form). fs ++ form.items ∷ []) h ∙ ap (λ (f : Form). replicate n [] ++ f ∷ []) e ∙ replicate_more {X = Form} n []
 
 columns_there : (place i : ℕ) (cs : List TableColumn) (es : List (ℕ × ℤ)) (forms : List Form) → option_map (λ c. c.entries) (slice_get cs i) ≡ Some es → with_columns place (drop i cs) forms ≡ with_columns (suc place) (drop (suc i) cs) (with_entries place es forms)
 columns_there place i [] es forms h = absurd cc

@@ -1,7 +1,6 @@
 -- One step of each loop over what a leaf adds up.
 use Rattle.std.proofs.Common.{◌≡◌, ℕ, ◌+◌, ◌<◌, Bool, true, false, List, length, drop, get_or, refl, sym, ap, ap₂, ◌∙◌, arith, ℤ, pos, neg_ℤ, ◌+ℤ◌}
 use Rattle.std.specs.Prelude.{◌*ℤ◌, if◌then◌else◌}
-use lib.IntN.{zero-*ℤ}
 use borrow.Author.Differences.{product_is, neg_is, same_in}
 use Rattle.std.proofs.lemmas.Int.{ints}
 use Rattle.program_rows.specs.Program.{TableRow}
@@ -33,9 +32,6 @@ turned k a =
 pub side-given : (high : Bool) (k : ℤ) (form : Form) (most : ℤ) (q : ℕ) → form_given (if high then neg_ℤ k else k) form q ≡ form_given k (side high form most).form q
 side-given true k form most q = turned k (number_in form q) ∙ ap (λ (n : ℤ). k *ℤ n) (sym (negated-in form most q))
 side-given false k form most q = refl
-
-pub nothing-given : (form : Form) (numbers : List ℤ) → AreGivenMore (form_given (pos 0) form) numbers numbers
-nothing-given form numbers q = let none = zero-*ℤ (number_in form q) in omega (arith, ints)
 
 -- the cut at a place, and those behind it
 pub cuts-rest : (ys : List ℕ) (splits : List OpenSplit) (i : ℕ) (e : ℕ) (d : OpenSplit) (q : ℕ) → i < length ys → i < length splits
