@@ -1,5 +1,6 @@
 -- Bounds are those of the lines so far.
 use Rattle.std.proofs.Common.{◌≡◌, ℕ, zero, suc, Bool, true, false, not, ◌||◌, ◌&&◌, List, [], ◌∷◌, length, map, refl, sym, ap, subst, ◌∙◌, Option, Some, None, pos, ◌+◌, ◌<◌, drop, get_or, arith}
+use Rattle.program_rows.proofs.NamedItems.{bytes_flip}
 use Rattle.std.specs.Prelude.{◌==◌, slice_get, bytes_eq, codes, nat_le, if◌then◌else◌}
 use denote.Ref.{Bor}
 use Rattle.auction_terms.specs.Borrowed.{bytes_of}
@@ -15,7 +16,7 @@ use Rattle.mps_reader.specs.declared.column_state.ColumnState.{ColumnState}
 use Rattle.mps_reader.specs.declared.column_table.ColumnTable.{ColumnTable}
 use Rattle.mps_reader.proofs.NameFacts.{same_name, any-names, length-bytes}
 use Rattle.mps_reader.proofs.RowSteps.{no_name, field-at}
-use Rattle.mps_reader.proofs.PairTells.{flip-name, all-at}
+use Rattle.mps_reader.proofs.PairTells.{all-at}
 use Rattle.mps_reader.proofs.LineTells.{columns-any}
 use Rattle.mps_reader.specs.inside.Reading.{bit_fault}
 use Rattle.std.specs.Bool.{then_some as when}
@@ -67,10 +68,6 @@ type-taken lines f known binary fault h k is e =
     let all = subst (λ b. earliest_fault (when (not b) UnknownColumn ∷ (if is_binary_bound f then None else bit_fault (field 1 (bound_pair f))) ∷ []) ≡ fault) (sym k) kept in
     rest (type_ok f) (count_ok f) (behind lines f) h ∙ all
 
-pub last-one : (o : Option FaultKind) → earliest_fault (o ∷ []) ≡ o
-last-one None = refl
-last-one (Some k) = refl
-
 -- ---- the column and the number of a bound, where the code looks for them
 
 place-is : (fs : List (Bor (List ℕ))) (binary : Bool) (at : ℕ) → binary ≡ is_binary_bound (bytes_of fs) → at ≡ (if length fs == (if binary then 2 else 3) then 1 else 2) → (if length (bytes_of fs) == (if is_binary_bound (bytes_of fs) then 2 else 3) then 1 else 2) ≡ at
@@ -88,7 +85,7 @@ known-is lines keys word name b h same found = sym (ap (list_any (bytes_eq word)
 
 -- ---- values
 
-and-false : (a : Bool) → (a && false) ≡ false
+pub and-false : (a : Bool) → (a && false) ≡ false
 and-false true = refl
 and-false false = refl
 
@@ -169,7 +166,7 @@ values-of f lines bounds n h one = by (bytes_eq (field 0 f) (codes "UP")) refl
 others-told : (f : LineFields) (lines bounds : List LineFields) (ns : List (List ℕ)) → AllByRecursion (λ n. bytes_eq (field 0 (bound_pair f)) n ≡ false) ns → map (told_values lines bounds) ns ≡ map (told_values lines (f ∷ bounds)) ns
 others-told f lines bounds [] h = refl
 others-told f lines bounds (n ∷ ns) h =
-    ap (λ v. v ∷ map (told_values lines bounds) ns) (sym (values-other f lines bounds n (flip-name (field 0 (bound_pair f)) n h.0))) ∙ ap (λ vs. told_values lines (f ∷ bounds) n ∷ vs) (others-told f lines bounds ns h.1)
+    ap (λ v. v ∷ map (told_values lines bounds) ns) (sym (values-other f lines bounds n (bytes_flip (field 0 (bound_pair f)) n h.0))) ∙ ap (λ vs. told_values lines (f ∷ bounds) n ∷ vs) (others-told f lines bounds ns h.1)
 
 pub set-told : (f : LineFields) (lines bounds : List LineFields) (states : List ColumnState) (ns : List (List ℕ)) (i : ℕ) (s : ColumnState) → IsDistinct bytes_eq ns → slice_get ns i ≡ Some (field 0 (bound_pair f))
     → map state_values states ≡ map (told_values lines bounds) ns → state_values s ≡ told_values lines (f ∷ bounds) (field 0 (bound_pair f)) → map state_values (slice_set states i s) ≡ map (told_values lines (f ∷ bounds)) ns

@@ -5,7 +5,7 @@ use Rattle.std.specs.Option.{option_to_list, option_map_or}
 use Rattle.std.proofs.lemmas.Bool.{both_ways}
 use Rattle.std.specs.List.{AllByRecursion, IsDistinct}
 use Rattle.std.specs.List.Sorted.{IsPermutation, IsNonDecreasingBy}
-use Rattle.std.proofs.lemmas.List.{map_push}
+use Rattle.std.proofs.lemmas.List.{map_push, append-nil}
 use denote.Ref.{Bor}
 use Rattle.program_rows.specs.declared.bounds.Bounds.TheVariants.{ZeroOrOne}
 use Rattle.program_rows.specs.Program.{TableColumn}
@@ -18,11 +18,7 @@ use Rattle.mps_reader.specs.declared.open_column.OpenColumn.{OpenColumn}
 use Rattle.mps_reader.proofs.NameFacts.{length-bytes, all-push, same_name}
 use Rattle.mps_reader.proofs.EntryFacts.{sorted-entries}
 
-append-nothing : {A : Type 0} (xs : List A) → xs ++ [] ≡ xs
-append-nothing [] = refl
-append-nothing (x ∷ xs) = ap (λ ys. x ∷ ys) (append-nothing xs)
-
-none-from : {A : Type 0} (o : Option A) → is_some o ≡ false → o ≡ None
+pub none-from : {A : Type 0} (o : Option A) → is_some o ≡ false → o ≡ None
 none-from None h = refl
 none-from (Some x) h = absurd cc
 
@@ -39,7 +35,7 @@ closed-fit count old new sorted name cost fit current moved up names states done
       distinct = subst (λ s. IsDistinct bytes_eq (names_of s)) (sym names) fit.distinct;
       plain = subst (λ s. AllByRecursion IsName (names_of s)) (sym names) fit.plain;
       states = ap (λ s. length s.items) states ∙ fit.states ∙ ap (λ s. length s.keys) (sym names);
-      done = ap names_of names ∙ fit.done ∙ ap (λ o. map (λ (k : TableColumn). k.name) old.done ++ option_to_list (option_now o)) current ∙ sym all ∙ sym (append-nothing (map (λ (k : TableColumn). k.name) new.done)) ∙ ap (λ o. map (λ (k : TableColumn). k.name) new.done ++ option_to_list (option_now o)) (sym none);
+      done = ap names_of names ∙ fit.done ∙ ap (λ o. map (λ (k : TableColumn). k.name) old.done ++ option_to_list (option_now o)) current ∙ sym all ∙ sym (append-nil (map (λ (k : TableColumn). k.name) new.done)) ∙ ap (λ o. map (λ (k : TableColumn). k.name) new.done ++ option_to_list (option_now o)) (sym none);
       entries = subst (λ ks. AllByRecursion (λ (k : TableColumn). AreEntries count k.entries) ks) (sym done) (all-push (λ (k : TableColumn). AreEntries count k.entries) old.done last fit.entries (sorted-entries count old.current_column.entries.items sorted moved up fit.opened));
       opened = subst (λ es. AreDistinctEntries count es) (sym empty) (no-entries count);
       closed = λ _. empty;
@@ -52,7 +48,7 @@ opened-fit count old new name fit none plain adds =
       distinct = adds.distinct;
       plain = subst (λ ns. AllByRecursion IsName ns) (sym adds.names) (all-push IsName (names_of old.names) name fit.plain plain);
       states = ap length adds.states ∙ length-append old.states.items _ ∙ ap (λ (n : ℕ). n + 1) (fit.states ∙ sym (length-bytes old.names.keys)) ∙ sym (length-append (names_of old.names) (name ∷ [])) ∙ sym (ap length adds.names) ∙ length-bytes new.names.keys;
-      done = adds.names ∙ ap (λ ns. ns ++ name ∷ []) (fit.done ∙ ap (λ o. map (λ (k : TableColumn). k.name) old.done ++ option_to_list (option_now o)) now ∙ append-nothing (map (λ (k : TableColumn). k.name) old.done)) ∙ ap (λ ks. map (λ (k : TableColumn). k.name) ks ++ name ∷ []) (sym adds.done) ∙ ap (λ o. map (λ (k : TableColumn). k.name) new.done ++ option_to_list o) (sym adds.current);
+      done = adds.names ∙ ap (λ ns. ns ++ name ∷ []) (fit.done ∙ ap (λ o. map (λ (k : TableColumn). k.name) old.done ++ option_to_list (option_now o)) now ∙ append-nil (map (λ (k : TableColumn). k.name) old.done)) ∙ ap (λ ks. map (λ (k : TableColumn). k.name) ks ++ name ∷ []) (sym adds.done) ∙ ap (λ o. map (λ (k : TableColumn). k.name) new.done ++ option_to_list o) (sym adds.current);
       entries = subst (λ ks. AllByRecursion (λ (k : TableColumn). AreEntries count k.entries) ks) (sym adds.done) fit.entries;
       opened = subst (λ c. AreDistinctEntries count c.entries.items) (sym adds.opened) fit.opened;
       closed = λ e. ap (λ c. c.entries.items) adds.opened ∙ fit.closed none;

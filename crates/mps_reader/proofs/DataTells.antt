@@ -9,7 +9,7 @@ use Rattle.line_words.specs.Lines.{LineFields, field}
 use Rattle.mps_meaning.specs.MpsLines.{Data}
 use Rattle.mps_meaning.specs.Sections.{Sections, with_line}
 use Rattle.mps_meaning.specs.Described.{is_one_of, first_free, column_pairs, number_beside, line_right_sides}
-use Rattle.mps_meaning.specs.Faults.{earliest_fault, is_declared, row_fault, column_fault, right_side_fault, bound_fault, fault, sense_fault}
+use Rattle.mps_meaning.specs.Faults.{earliest_fault, is_declared, row_fault, column_fault, right_side_fault, bound_fault, fault}
 use Rattle.program_rows.specs.Program.{TableColumn}
 use Rattle.mps_reader.specs.inside.Rows.{names_of, option_now, declared_row_names, StampsAre, bound_lines_of}
 use Rattle.mps_reader.specs.inside.Columns.{ColumnsFit}
@@ -23,7 +23,7 @@ use Rattle.mps_reader.specs.declared.reading_state.Reading.{Reading}
 use Rattle.mps_reader.proofs.NameFacts.{length-bytes}
 use Rattle.mps_reader.proofs.RowTells.{declared-any}
 use Rattle.mps_reader.proofs.SideTells.{row-names-by}
-use Rattle.mps_reader.proofs.SectionTells.{tells-rows, tells-columns, tells-right-sides, tells-bounds, tells-sense}
+use Rattle.mps_reader.proofs.SectionTells.{tells-rows, tells-right-sides, tells-bounds}
 use Rattle.std.specs.Bool.{then_some as when}
 
 -- ---- what the checks of a line ask
@@ -37,10 +37,6 @@ objective-any name (Some x) = refl
 
 pub objective-is : (before : Sections) (rights : List LineFields) (r : Rows) → RowsTell before.rows rights r → (name : List ℕ) → option_map_or (bytes_eq name) (first_free before.rows) false ≡ option_map_or (λ other. bytes_eq name other.now) r.objective false
 objective-is before rights r h name = ap (λ o. option_map_or (bytes_eq name) o false) (sym h.objective) ∙ objective-any name r.objective
-
-pub in-sense : (before : Sections) (f : LineFields) → before.section ≡ codes "OBJSENSE" → fault before (Data f) ≡ sense_fault f
-unfolding fault
-in-sense before f s = rw s refl
 
 pub in-rows : (before : Sections) (f : LineFields) → before.section ≡ codes "ROWS" → fault before (Data f) ≡ row_fault before.rows f
 unfolding fault
@@ -104,19 +100,6 @@ at-columns before r is h =
       subst (λ bs. ColumnsTell (option_now r.rows.objective) (declared_row_names r.rows.rows.items) before.columns bs r.columns) at.no_bounds h.lines.of_columns,
     )
 
-pub column-step : (before : Sections) (f : LineFields) (r : Reading) (new : Rows) (columns : ColumnTable) → r.section ≡ sections.Columns → new ≡ record r.rows { stamps = new.stamps }
-    → ColumnsTell (option_now r.rows.objective) (declared_row_names r.rows.rows.items) (f ∷ before.columns) [] columns → InColumns (f ∷ before.columns) [] [] new columns
-    → ReadingTells before r → ReadingTells (with_line before (Data f)) (record r { rows = new; columns = columns })
-column-step before f r new columns is same told now h =
-    let at : InColumns before.columns before.right_sides before.bounds r.rows r.columns = subst (λ s. SectionTells s before.rows before.columns before.right_sides before.bounds r.rows r.columns) is h.lines.of_section in
-    tells-columns before f (record r { rows = new; columns = columns }) (h.section ∙ ap word_of is) h.section (record {
-      of_rows = subst (λ q. RowsTell before.rows before.right_sides q) (sym same) (record { names = h.lines.of_rows.names; shown = h.lines.of_rows.shown; objective = h.lines.of_rows.objective });
-      of_columns = subst (λ (q : Rows). ColumnsTell (option_now q.objective) (declared_row_names q.rows.items) (f ∷ before.columns) before.bounds columns) (sym same)
-          (subst (λ bs. ColumnsTell (option_now r.rows.objective) (declared_row_names r.rows.rows.items) (f ∷ before.columns) bs columns) (sym at.no_bounds) told);
-      of_section = subst (λ s. SectionTells s before.rows (f ∷ before.columns) before.right_sides before.bounds new columns) (sym is)
-          (record { no_rights = at.no_rights; no_bounds = at.no_bounds; low = now.low; current = now.current; stamps = now.stamps });
-    })
-
 -- ---- a line of RHS
 
 pub at-right-sides : (before : Sections) (r : Reading) → r.section ≡ sections.RightSides → ReadingTells before r → InRightSides before.right_sides before.bounds r.rows r.columns
@@ -146,9 +129,6 @@ bound-step before f r columns is told h = tells-bounds before f (record r { colu
   of_columns = told;
   of_section = subst (λ s. SectionTells s before.rows before.columns before.right_sides (f ∷ before.bounds) r.rows columns) (sym is) tt;
 })
-
-pub sense-step : (before : Sections) (f : LineFields) (r : Reading) → r.section ≡ sections.Sense → ReadingTells before r → ReadingTells (with_line before (Data f)) r
-sense-step before f r is h = tells-sense before f r (h.section ∙ ap word_of is) h.section h.lines
 
 -- ---- the fault of a data line, as the code looks for it
 

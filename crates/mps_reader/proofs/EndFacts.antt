@@ -1,24 +1,5 @@
 -- The line that ends a text.
-use Rattle.std.proofs.Common.{◌≡◌, ◌≢◌, ℕ, List, [], ◌∷◌, ◌++◌, length, refl, sym, ap, ◌∙◌, arith, drop}
-use Rattle.std.specs.Prelude.{bytes_eq, codes}
-use Rattle.line_words.specs.Lines.{field}
-use Rattle.mps_meaning.specs.MpsLines.{Skipped, Unprintable, Data, Header}
-use Rattle.mps_meaning.specs.Sections.{is_end}
-use Rattle.mps_reader.specs.inside.Reading.{AreFirst}
-
-pub end-of : (shown all : List (List ℕ)) → AreFirst shown all → bytes_eq (field 0 shown) (codes "ENDATA") ≡ is_end (Header (field 0 all) (drop 1 all))
-end-of shown [] f = absurd (let size : length shown ≡ 0 = ap length f.front in let some = f.some in omega arith)
-end-of shown (word ∷ more) f = ap (λ ws. bytes_eq (field 0 ws) (codes "ENDATA")) f.front
-
-pub header-text : (all : List (List ℕ)) → Header (field 0 all) (drop 1 all) ≢ Unprintable
-header-text [] e = absurd cc
-header-text (word ∷ more) e = absurd cc
-
-pub skipped-text : Skipped ≢ Unprintable
-skipped-text e = absurd cc
-
-pub data-text : (all : List (List ℕ)) → Data all ≢ Unprintable
-data-text all e = absurd cc
+use Rattle.std.proofs.Common.{◌≡◌, ℕ, List, [], ◌∷◌, ◌++◌, refl, sym, ap, ◌∙◌}
 
 -- ---- the lines so far
 

@@ -1,5 +1,6 @@
 -- Entries of the current column: each place once, and sorted at its end.
 use Rattle.std.proofs.Common.{◌≡◌, ◌≢◌, ℕ, suc, ◌<◌, ◌≤◌, Bool, true, false, List, [], ◌∷◌, ◌++◌, length, refl, sym, ◌∙◌, arith, ℤ, pos, get_or}
+use Rattle.mps_reader.proofs.NameFacts.{all-push}
 use Rattle.std.specs.Prelude.{◌==◌}
 use Rattle.std.specs.List.{AllByRecursion, IsDistinct}
 use Rattle.std.specs.List.Sorted.{IsPermutation, IsNonDecreasingBy}
@@ -47,10 +48,6 @@ more-inside few many [] le h = tt
 more-inside few many (x ∷ xs) le h = ((omega (arith, h.0.0), h.0.1), more-inside few many xs le h.1)
 
 -- ---- one entry more
-
-all-push : (P : ℕ × ℤ → Type 0) (xs : List (ℕ × ℤ)) (x : ℕ × ℤ) → AllByRecursion P xs → P x → AllByRecursion P (xs ++ x ∷ [])
-all-push P [] x h p = (p, tt)
-all-push P (y ∷ xs) x h p = (h.0, all-push P xs x h.1 p)
 
 distinct-push : (xs : List (ℕ × ℤ)) (p : ℕ) (v : ℤ) → IsDistinct same_place xs → AllByRecursion (λ e. (e.0 == p) ≡ false) xs → IsDistinct same_place (xs ++ (p, v) ∷ [])
 unfolding IsDistinct

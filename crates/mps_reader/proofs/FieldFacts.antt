@@ -1,5 +1,5 @@
 -- The first field of a line.
-use Rattle.std.proofs.Common.{◌≡◌, ℕ, zero, suc, ◌+◌, ◌<◌, ◌≤◌, Bool, true, false, cond, not, List, [], ◌∷◌, ◌++◌, length, take, drop, get_or, refl, sym, ap, ◌∙◌, arith, add-one, drop-cons, Some, None}
+use Rattle.std.proofs.Common.{◌≡◌, ℕ, suc, ◌+◌, ◌<◌, ◌≤◌, Bool, true, false, cond, not, List, [], ◌∷◌, length, take, drop, get_or, refl, sym, ap, ◌∙◌, arith, add-one, drop-cons, Some, None}
 use Rattle.std.specs.Prelude.{◌==◌, nat_lt, position}
 use Rattle.std.specs.List.{slice_split, position_or_len, onto_first, filter, list_all, AllByRecursion}
 use Rattle.std.proofs.Math.Seq.{take-length}
@@ -95,11 +95,6 @@ field-at-end bs text rest i h t k r =
     let end : length text ≡ position_or_len is_space text = omega (arith, prefix_len-le-length (λ b. not (is_space b)) text) in
     let within : i < length bs = rw found.1 at (ltb-true _ _ found.0) in
     first_field bs text i (length text) (sym found.1) within t end (omega arith) ∙ ap (λ fs. fs ∷ fields (drop (length text) text)) (take-length text) ∙ ap (λ fs. text ∷ fields fs) (sym r)
-
-pub take-front : (n : ℕ) (xs ys : List (List ℕ)) → length xs ≡ n → xs ≡ take n (xs ++ ys)
-take-front zero [] ys h = refl
-take-front (suc n) (x ∷ xs) ys h = ap (λ zs. x ∷ zs) (take-front n xs ys (omega arith))
-take-front _ _ ys h = absurd (omega arith)
 
 -- ---- the first byte that passes a test, by a loop
 

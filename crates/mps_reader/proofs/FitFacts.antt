@@ -1,5 +1,6 @@
 -- What holds of a reading, kept line by line.
 use Rattle.std.proofs.Common.{◌≡◌, ℕ, zero, suc, ◌<◌, ◌≤◌, false, List, [], ◌∷◌, ◌++◌, length, map, refl, sym, ap, subst, ◌∙◌, arith, Option, Some, None, ℤ, get_or}
+use Rattle.std.proofs.lemmas.List.{append-nil, length-map}
 use Rattle.std.specs.Prelude.{is_some, IfSome, bytes_eq}
 use Rattle.std.specs.Option.{option_to_list}
 use Rattle.std.specs.List.{AllByRecursion, IsDistinct, slice_set}
@@ -9,7 +10,7 @@ use Rattle.program_rows.specs.Program.{TableRow, TableColumn}
 use Rattle.program_rows.specs.Bounded.{bounded}
 use Rattle.program_rows.specs.Parts.{IsName, AreEntries, IsProgram, shown_row}
 use Rattle.mps_reader.specs.inside.Rows.{names_of, option_now, declared_row_names, with_side, IsObjective, RowsFit, IsEmptyTable}
-use Rattle.mps_reader.specs.inside.Columns.{ColumnsFit, BothFit, IsApart, AreDistinctEntries, IsEmptyColumns}
+use Rattle.mps_reader.specs.inside.Columns.{ColumnsFit, BothFit, AreDistinctEntries, IsEmptyColumns}
 use Rattle.mps_reader.specs.inside.Agreeing.{IsClosed, ReadingFits}
 use Rattle.mps_reader.specs.declared.sections.Section.{Section}
 use Rattle.mps_reader.specs.declared.sections.Section.TheVariants as sections
@@ -19,7 +20,7 @@ use Rattle.mps_reader.specs.declared.reading_state.Reading.{Reading}
 use Rattle.mps_reader.proofs.NameFacts.{all-rows, distinct-rows, length-bytes}
 use Rattle.mps_reader.proofs.RowSteps.{names-shown}
 use Rattle.mps_reader.proofs.EntryFacts.{more-rows, more-inside}
-use Rattle.mps_reader.proofs.ColumnSteps.{no-entries, apart-none}
+use Rattle.mps_reader.proofs.ColumnSteps.{no-entries, apart-none, none-from}
 
 pub empty-fits : (r : Rows) → IsEmptyTable r → RowsFit r
 unfolding IsDistinct
@@ -66,21 +67,6 @@ both-closed r new c le none both = record {
     all-more [] h = tt
     all-more (k ∷ ks) h = (more-rows (length r.rows.items) (length new.rows.items) k.entries le h.0, all-more ks h.1)
 
--- other states of columns
-pub states-fit : (r : Rows) (old new : ColumnTable) → BothFit r old → new.names ≡ old.names → length new.states.items ≡ length old.states.items → new.done ≡ old.done → new.current ≡ old.current → new.current_column ≡ old.current_column → BothFit r new
-states-fit r old new both names states done current column = record {
-  columns = record {
-    distinct = subst (λ s. IsDistinct bytes_eq (names_of s)) (sym names) both.columns.distinct;
-    plain = subst (λ s. AllByRecursion IsName (names_of s)) (sym names) both.columns.plain;
-    states = states ∙ both.columns.states ∙ ap (λ s. length s.keys) (sym names);
-    done = ap names_of names ∙ both.columns.done ∙ ap (λ ks. map (λ (k : TableColumn). k.name) ks ++ option_to_list (option_now old.current)) (sym done) ∙ ap (λ o. map (λ (k : TableColumn). k.name) new.done ++ option_to_list (option_now o)) (sym current);
-    entries = subst (λ ks. AllByRecursion (λ (k : TableColumn). AreEntries (length r.rows.items) k.entries) ks) (sym done) both.columns.entries;
-    opened = subst (λ c. AreDistinctEntries (length r.rows.items) c.entries.items) (sym column) both.columns.opened;
-    closed = λ e. ap (λ c. c.entries.items) column ∙ both.columns.closed (ap is_some (sym current) ∙ e);
-  };
-  apart = subst (λ s. IsApart r.stamps.items r.places.items (length (names_of s)) new.current_column.entries.items) (sym names) (subst (λ c. IsApart r.stamps.items r.places.items (length (names_of old.names)) c.entries.items) (sym column) both.apart);
-}
-
 -- ---- right sides
 
 names-with-side : (p : ℕ) (v : ℤ) (rows : List TableRow) → map (λ (r : TableRow). r.name) (with_side p v rows) ≡ map (λ (r : TableRow). r.name) rows
@@ -111,27 +97,11 @@ entries-bounded : (count : ℕ) (cs : List TableColumn) (bs : List Bounds) → A
 entries-bounded count (c ∷ cs) (b ∷ bs) h = (h.0, entries-bounded count cs bs h.1)
 entries-bounded count _ _ h = tt
 
-append-nothing : {A : Type 0} (xs : List A) → xs ++ [] ≡ xs
-append-nothing [] = refl
-append-nothing (x ∷ xs) = ap (λ ys. x ∷ ys) (append-nothing xs)
-
-none-from : {A : Type 0} (o : Option A) → is_some o ≡ false → o ≡ None
-none-from None h = refl
-none-from (Some x) h = absurd cc
-
 pub done-names : (count : ℕ) (c : ColumnTable) → ColumnsFit count c → is_some c.current ≡ false → names_of c.names ≡ map (λ (k : TableColumn). k.name) c.done
-done-names count c fit none = fit.done ∙ ap (λ o. map (λ (k : TableColumn). k.name) c.done ++ option_to_list (option_now o)) (none-from c.current none) ∙ append-nothing (map (λ (k : TableColumn). k.name) c.done)
-
-length-names : (ks : List TableColumn) → length (map (λ (k : TableColumn). k.name) ks) ≡ length ks
-length-names [] = refl
-length-names (k ∷ ks) = ap suc (length-names ks)
-
-length-shown : (rs : List Row) → length (map shown_row rs) ≡ length rs
-length-shown [] = refl
-length-shown (r ∷ rs) = ap suc (length-shown rs)
+done-names count c fit none = fit.done ∙ ap (λ o. map (λ (k : TableColumn). k.name) c.done ++ option_to_list (option_now o)) (none-from c.current none) ∙ append-nil (map (λ (k : TableColumn). k.name) c.done)
 
 pub done-length : (count : ℕ) (c : ColumnTable) → ColumnsFit count c → is_some c.current ≡ false → length c.states.items ≡ length c.done
-done-length count c fit none = fit.states ∙ sym (length-bytes c.names.keys) ∙ ap length (done-names count c fit none) ∙ length-names c.done
+done-length count c fit none = fit.states ∙ sym (length-bytes c.names.keys) ∙ ap length (done-names count c fit none) ∙ length-map c.done (λ k. k.name)
 
 pub program-fits : (r : Rows) (c : ColumnTable) (objective : List ℕ) (bounds : List Bounds) → RowsFit r → ColumnsFit (length r.rows.items) c → is_some c.current ≡ false → option_now r.objective ≡ Some objective → length bounds ≡ length c.done
     → IsProgram (record { objective = objective; rows = map shown_row r.rows.items; columns = bounded c.done bounds })
@@ -145,7 +115,7 @@ program-fits r c objective bounds fit columns none is size =
       rows_differ = (subst (λ ns. AllByRecursion (λ n. bytes_eq objective n ≡ false) ns) (sym rows) own.apart, subst (λ ns. IsDistinct bytes_eq ns) (sym rows) (distinct-rows 0 (names_of r.names) r.places.items (declared_row_names r.rows.items) fit.places fit.distinct));
       column_names = subst (λ ns. AllByRecursion IsName ns) (sym names) columns.plain;
       columns_differ = subst (λ ns. IsDistinct bytes_eq ns) (sym names) columns.distinct;
-      entries = entries-bounded (length (map shown_row r.rows.items)) c.done bounds (subst (λ n. AllByRecursion (λ k. AreEntries n k.entries) c.done) (sym (length-shown r.rows.items)) columns.entries);
+      entries = entries-bounded (length (map shown_row r.rows.items)) c.done bounds (subst (λ n. AllByRecursion (λ k. AreEntries n k.entries) c.done) (sym (length-map r.rows.items shown_row)) columns.entries);
     }
   where
     objective-from : (o : Option _) → option_now o ≡ Some objective → IfSome o (λ x. IsObjective (names_of r.names) (declared_row_names r.rows.items) x.now) → IsObjective (names_of r.names) (declared_row_names r.rows.items) objective
@@ -153,7 +123,7 @@ program-fits r c objective bounds fit columns none is size =
     objective-from (Some x) e h = let same : x.now ≡ objective = cc in subst (λ n. IsObjective (names_of r.names) (declared_row_names r.rows.items) n) same h
 
 pub side-count : (p : ℕ) (v : ℤ) (new old : List Row) → map shown_row new ≡ with_side p v (map shown_row old) → length new ≡ length old
-side-count p v new old h = sym (length-shown new) ∙ ap length h ∙ length-side p v (map shown_row old) ∙ length-shown old
+side-count p v new old h = sym (length-map new shown_row) ∙ ap length h ∙ length-side p v (map shown_row old) ∙ length-map old shown_row
   where
     length-side : (p : ℕ) (v : ℤ) (rows : List TableRow) → length (with_side p v rows) ≡ length rows
     length-side p v [] = refl

@@ -1,19 +1,16 @@
 -- The fault of a header, check by check.
 use Rattle.std.proofs.Common.{◌≡◌, ℕ, true, false, ◌&&◌, List, [], ◌∷◌, length, refl, Option, Some, None}
+use Rattle.mps_reader.proofs.PairFaults.{last-one}
 use Rattle.std.specs.Prelude.{nat_lt, is_none, codes, bytes_eq, if◌then◌else◌, position, option_map, not}
 use Rattle.line_words.specs.Lines.{LineFields}
 use Rattle.mps_meaning.specs.Sections.{Sections}
 use Rattle.mps_meaning.specs.Described.{is_one_of, first_free, columns_named}
-use Rattle.mps_meaning.specs.Faults.{place_of, earliest_fault, sense_fault, header_fault, is_binary, sections_left_out}
+use Rattle.mps_meaning.specs.Faults.{place_of, sense_fault, header_fault, is_binary, sections_left_out}
 use Rattle.mps_meaning.specs.declared.fault.FaultKind.{FaultKind}
 use Rattle.mps_meaning.specs.declared.fault.FaultKind.TheVariants.{Section, NoObjective, NotBinary}
 
 pub header-place : (before : Sections) (word : List ℕ) (more : LineFields) → is_one_of word sections_left_out ≡ false → nat_lt (place_of before.section) (place_of word) ≡ false → header_fault before word more ≡ Some Section
 header-place before word more a b = rw (a, b) refl
-
-last-fault : (o : Option FaultKind) → earliest_fault (o ∷ []) ≡ o
-last-fault None = refl
-last-fault (Some f) = refl
 
 abbrev pub word_sense : List ℕ → LineFields → Option FaultKind
 word_sense word more = if bytes_eq word (codes "OBJSENSE") && nat_lt 0 (length more) then sense_fault more else None
@@ -22,7 +19,7 @@ pub header-rest : (before : Sections) (word : List ℕ) (more : LineFields) → 
     → (is_one_of word (codes "ROWS" ∷ codes "COLUMNS" ∷ codes "RHS" ∷ codes "BOUNDS" ∷ []) && nat_lt 0 (length more)) ≡ false → word_sense word more ≡ None
     → (is_one_of word (codes "COLUMNS" ∷ codes "RHS" ∷ codes "BOUNDS" ∷ codes "ENDATA" ∷ []) && is_none (first_free before.rows)) ≡ false
     → header_fault before word more ≡ (if bytes_eq word (codes "ENDATA") then option_map NotBinary (position (λ column. not (is_binary before column)) (columns_named before.columns)) else None)
-header-rest before word more a b m s l = rw (a, b, m, s, l) (last-fault (if bytes_eq word (codes "ENDATA") then option_map NotBinary (position (λ column. not (is_binary before column)) (columns_named before.columns)) else None))
+header-rest before word more a b m s l = rw (a, b, m, s, l) (last-one (if bytes_eq word (codes "ENDATA") then option_map NotBinary (position (λ column. not (is_binary before column)) (columns_named before.columns)) else None))
 
 pub header-lacks : (before : Sections) (word : List ℕ) (more : LineFields) → is_one_of word sections_left_out ≡ false → nat_lt (place_of before.section) (place_of word) ≡ true
     → (is_one_of word (codes "ROWS" ∷ codes "COLUMNS" ∷ codes "RHS" ∷ codes "BOUNDS" ∷ []) && nat_lt 0 (length more)) ≡ false → word_sense word more ≡ None

@@ -1,12 +1,13 @@
 -- A header more.
-use Rattle.std.proofs.Common.{◌≡◌, ℕ, ◌+◌, ◌<◌, Bool, true, false, not, ◌&&◌, List, [], ◌∷◌, length, map, take, drop, refl, sym, ap, subst, ◌∙◌, Option, Some, None, ℤ}
+use Rattle.std.proofs.Common.{◌≡◌, ℕ, ◌+◌, ◌<◌, Bool, true, false, not, ◌&&◌, List, [], ◌∷◌, length, map, take, drop, get_or, refl, sym, ap, subst, ◌∙◌, arith, ◌≤◌, Option, Some, None, ℤ}
+use Rattle.mps_reader.proofs.RowSteps.{no_name, field-at}
 use Rattle.std.specs.Prelude.{◌-◌, is_some, is_none, codes, bytes_eq, position, option_map, int_lt, if◌then◌else◌}
 use Rattle.std.specs.List.{position_or_len}
 use Rattle.std.specs.Option.{option_map_or}
-use Rattle.std.proofs.lemmas.List.{length-drop, length-map}
+use Rattle.std.proofs.lemmas.List.{length-drop, length-map, drop-map}
 use Rattle.std.proofs.Math.Seq.{take-length}
 use denote.Ref.{Bor}
-use Rattle.line_words.specs.Lines.{LineFields}
+use Rattle.line_words.specs.Lines.{LineFields, field}
 use Rattle.mps_meaning.specs.MpsLines.{Header}
 use Rattle.mps_meaning.specs.Sections.{Sections, with_line}
 use Rattle.mps_meaning.specs.Described.{first_free, columns_named}
@@ -26,13 +27,16 @@ use Rattle.mps_reader.specs.declared.column_table.ColumnTable.{ColumnTable}
 use Rattle.mps_reader.specs.declared.reading_state.Reading.{Reading}
 use Rattle.mps_reader.proofs.NameFacts.{length-bytes}
 use Rattle.mps_reader.proofs.PairSteps.{length-names}
-use Rattle.mps_reader.proofs.SideTells.{bytes-drop}
 use Rattle.mps_reader.proofs.SectionTells.{section-opens, no-objective}
 
-pub header-more : (fields : List (Bor (List ℕ))) → bytes_of (take (length fields - 1) (drop 1 fields)) ≡ drop 1 (bytes_of fields)
+header-more : (fields : List (Bor (List ℕ))) → bytes_of (take (length fields - 1) (drop 1 fields)) ≡ drop 1 (bytes_of fields)
 header-more fields =
     let whole : take (length fields - 1) (drop 1 fields) ≡ drop 1 fields = ap (λ n. take n (drop 1 fields)) (sym (length-drop 1 fields)) ∙ take-length (drop 1 fields) in
-    ap bytes_of whole ∙ bytes-drop 1 fields
+    ap bytes_of whole ∙ sym (drop-map (λ f. f.now) 1 fields)
+
+-- a header's word and what follows it are its fields
+pub header-is : (before : Sections) (fs : List (Bor (List ℕ))) → 1 ≤ length fs → header_fault before (field 0 (bytes_of fs)) (drop 1 (bytes_of fs)) ≡ header_fault before (get_or fs 0 no_name).now (bytes_of (take (length fs - 1) (drop 1 fs)))
+header-is before fs some = ap (λ w. header_fault before w (drop 1 (bytes_of fs))) (field-at fs 0 (omega (arith, some))) ∙ ap (header_fault before (get_or fs 0 no_name).now) (sym (header-more fs))
 
 pub lacks-objective : (before : Sections) (r : Reading) → ReadingTells before r → is_none (first_free before.rows) ≡ not (is_some r.rows.objective)
 lacks-objective before r h = no-objective r.rows.objective (first_free before.rows) h.lines.of_rows.objective
@@ -56,8 +60,7 @@ at-or-len before [] [] h = refl
 at-or-len before (s ∷ ss) (n ∷ ns) h =
     let head : state_values s ≡ told_values before.columns before.bounds n = cc in
     let rest : map state_values ss ≡ map (told_values before.columns before.bounds) ns = cc in
-    let same : not (is_binary_state s) ≡ not (is_binary before n) = ap not (state-binary s ∙ ap binary-values head) in
-    by (not (is_binary before n)) same (at-or-len before ss ns rest)
+    by (not (is_binary before n)) (ap not (state-binary s ∙ ap binary-values head)) (at-or-len before ss ns rest)
   where
     by : (b : Bool) → not (is_binary_state s) ≡ b → position_or_len (λ x. not (is_binary_state x)) ss ≡ position_or_len (λ x. not (is_binary before x)) ns
         → (if not (not (is_binary_state s)) then 1 + position_or_len (λ x. not (is_binary_state x)) ss else 0) ≡ (if not b then 1 + position_or_len (λ x. not (is_binary before x)) ns else 0)
@@ -86,8 +89,9 @@ header-tells before word more r s columns up is names none closed fit h = record
 }
 
 -- what is left of a header's checks at the end
-pub end-fault : (before : Sections) (word : List ℕ) (more : LineFields) (last : Option FaultKind) → header_fault before word more ≡ (if bytes_eq word (codes "ENDATA") then option_map NotBinary (position (λ column. not (is_binary before column)) (columns_named before.columns)) else None) → bytes_eq word (codes "ENDATA") ≡ true → option_map NotBinary (position (λ column. not (is_binary before column)) (columns_named before.columns)) ≡ last → header_fault before word more ≡ last
-end-fault before word more last h is e = h ∙ ap (λ b. if b then option_map NotBinary (position (λ column. not (is_binary before column)) (columns_named before.columns)) else None) is ∙ e
+pub end-fault : (before : Sections) (word : List ℕ) (fault last : Option FaultKind) → fault ≡ (if bytes_eq word (codes "ENDATA") then option_map NotBinary (position (λ column. not (is_binary before column)) (columns_named before.columns)) else None)
+    → bytes_eq word (codes "ENDATA") ≡ true → option_map NotBinary (position (λ column. not (is_binary before column)) (columns_named before.columns)) ≡ last → fault ≡ last
+end-fault before word fault last h is e = h ∙ rw is e
 
-pub other-fault : (before : Sections) (word : List ℕ) (more : LineFields) → header_fault before word more ≡ (if bytes_eq word (codes "ENDATA") then option_map NotBinary (position (λ column. not (is_binary before column)) (columns_named before.columns)) else None) → bytes_eq word (codes "ENDATA") ≡ false → header_fault before word more ≡ None
-other-fault before word more h is = h ∙ ap (λ b. if b then option_map NotBinary (position (λ column. not (is_binary before column)) (columns_named before.columns)) else None) is
+pub other-fault : (word : List ℕ) (fault last : Option FaultKind) → fault ≡ (if bytes_eq word (codes "ENDATA") then last else None) → bytes_eq word (codes "ENDATA") ≡ false → fault ≡ None
+other-fault word fault last h is = h ∙ rw is refl

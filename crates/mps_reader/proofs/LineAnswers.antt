@@ -1,14 +1,13 @@
 -- A line, whatever it is.
 use Rattle.std.proofs.Common.{◌≡◌, ℕ, ◌+◌, List, [], ◌∷◌, length, map, drop, refl, sym, ap, subst, ◌∙◌, arith, Some, None, true, false}
-use Rattle.std.specs.Prelude.{Ok, Err}
+use Rattle.std.specs.Prelude.{Ok}
 use Rattle.line_words.specs.Lines.{LineFields, field}
 use Rattle.mps_meaning.specs.MpsLines.{Line, Skipped, Unprintable, Header, Data, line_of}
 use Rattle.mps_meaning.specs.Sections.{Sections, no_lines, with_line, is_end}
 use Rattle.mps_meaning.specs.Described.{program}
 use Rattle.mps_meaning.specs.Faults.{fault, header_fault}
 use Rattle.mps_meaning.specs.Meaning.{meaning, meaning_behind}
-use Rattle.mps_meaning.specs.declared.fault.FaultKind.{FaultKind}
-use Rattle.mps_meaning.specs.declared.fault.FaultKind.TheVariants.{NotText, NoEnd}
+use Rattle.mps_meaning.specs.declared.fault.FaultKind.TheVariants.{NotText}
 use Rattle.auction_terms.specs.Lines.{lines_of}
 use Rattle.mps_reader.specs.inside.Reading.{AreFirst}
 use Rattle.mps_reader.specs.inside.Tracking.{ReadingTells}
@@ -54,12 +53,6 @@ meaning-goes-on text place seen lines rest line h e none more = h ∙ rw (e, non
 
 pub meaning-ends : (text : List ℕ) (place : ℕ) (seen : Sections) (lines rest : List (List ℕ)) (line : List ℕ) → meaning text ≡ meaning_behind place seen (map line_of lines) → lines ≡ line ∷ rest → fault seen (line_of line) ≡ None → is_end (line_of line) ≡ true → meaning text ≡ Ok (program seen)
 meaning-ends text place seen lines rest line h e none end = h ∙ rw (e, none, end) refl
-
-pub meaning-refused : (text : List ℕ) (place : ℕ) (seen : Sections) (lines rest : List (List ℕ)) (line : List ℕ) (kind : FaultKind) (at : ℕ) → meaning text ≡ meaning_behind place seen (map line_of lines) → lines ≡ line ∷ rest → fault seen (line_of line) ≡ Some kind → place + 1 ≡ at → meaning text ≡ Err (at, kind)
-meaning-refused text place seen lines rest line kind at h e f is = h ∙ rw (e, f, is) refl
-
-pub meaning-stops : (text : List ℕ) (place : ℕ) (seen : Sections) (lines : List (List ℕ)) → meaning text ≡ meaning_behind place seen (map line_of lines) → lines ≡ [] → meaning text ≡ Err (place, NoEnd)
-meaning-stops text place seen lines h e = h ∙ rw e refl
 
 -- the line that ends a text says nothing of the program
 pub program-ended : (seen : Sections) (line : Line) → is_end line ≡ true → program (with_line seen line) ≡ program seen

@@ -1,5 +1,6 @@
 -- A line of COLUMNS more.
 use Rattle.std.proofs.Common.{◌≡◌, ℕ, suc, ◌+◌, ◌≤◌, Bool, true, false, not, ◌||◌, ◌&&◌, List, [], ◌∷◌, ◌++◌, length, map, drop, refl, sym, ap, subst, ◌∙◌, arith, Option, Some, None, ℤ, pos, length-append}
+use Rattle.mps_reader.proofs.PairFaults.{last-one}
 use Rattle.std.specs.Prelude.{◌==◌, slice_get, bytes_eq, codes, unwrap_or, is_some, filter, flat_map, IfSome, if◌then◌else◌}
 use Rattle.std.specs.List.{list_any, AllByRecursion, IsDistinct}
 use Rattle.std.specs.Option.{option_to_list, option_map_or}
@@ -14,25 +15,21 @@ use Rattle.program_rows.specs.Program.{TableColumn}
 use Rattle.line_words.specs.Lines.{LineFields, field}
 use Rattle.mps_meaning.specs.Sections.{Sections}
 use Rattle.mps_meaning.specs.Described.{pairs, is_marker, column_lines, columns_named, column_pairs, number_beside, is_column}
-use Rattle.mps_meaning.specs.Faults.{is_integer_open, stands_in_integers, is_split, marker_fault, column_fault, pairs_fault, earliest_fault}
+use Rattle.mps_meaning.specs.Faults.{is_integer_open, stands_in_integers, is_split, column_fault, pairs_fault}
 use Rattle.mps_meaning.specs.declared.fault.FaultKind.{FaultKind}
 use Rattle.mps_meaning.specs.declared.fault.FaultKind.TheVariants.{ColumnSplit}
 use Rattle.mps_reader.specs.inside.Columns.{ColumnsFit, entries_at, nearest_column}
-use Rattle.mps_reader.specs.inside.Rows.{names_of, option_now, declared_row_names, StampsAre}
+use Rattle.mps_reader.specs.inside.Rows.{names_of, option_now, declared_row_names, StampsAre, RowsFit}
 use Rattle.mps_reader.specs.inside.Tracking.{number_at_place, OpenTells, ColumnsTell, ColumnAdded, InColumns, AreStampsUpTo, told_column, told_values, state_values, is_current}
 use Rattle.mps_reader.specs.declared.column_table.ColumnTable.{ColumnTable}
 use Rattle.mps_reader.specs.declared.open_column.OpenColumn.{OpenColumn}
 use Rattle.mps_reader.specs.declared.row_table.Rows.{Rows}
-use Rattle.mps_reader.proofs.NameFacts.{same_name, own_name, or-false, any-last, differs}
+use Rattle.mps_reader.proofs.NameFacts.{length-bytes, same_name, own_name, or-false, or-last, any-last, differs}
 use Rattle.mps_reader.proofs.PairSteps.{length-names}
 use Rattle.mps_reader.proofs.ColumnSteps.{current-is}
 use Rattle.std.specs.Bool.{then_some as when}
 
 -- ---- names, each once
-
-or-last : (a b : Bool) → (a || (b || false)) ≡ (b || a)
-or-last true true = refl
-or-last _ _ = refl
 
 pub columns-any : (name : List ℕ) (lines : List LineFields) → list_any (bytes_eq name) (columns_named lines) ≡ is_column lines name
 columns-any name [] = refl
@@ -301,34 +298,28 @@ pub split-is : (before : Sections) (c : ColumnTable) (name : List ℕ) → optio
     → is_split before.columns name ≡ (not (is_current c.current name) && list_any (bytes_eq name) (names_of c.names))
 split-is before c name current all = split-lines before.columns c.current name current ∙ ap (λ ns. not (is_current c.current name) && list_any (bytes_eq name) ns) (sym all)
 
-pub marker-refused : (before : Sections) (f : LineFields) (fault : Option FaultKind) → ((length f == 3) || (length f == 5)) ≡ true → is_marker f ≡ true → marker_fault before.columns f ≡ fault → column_fault before f ≡ fault
-marker-refused before f fault count m h = rw (count, m) (last-of (marker_fault before.columns f) h)
-  where
-    last-of : (o : Option FaultKind) → o ≡ fault → earliest_fault (o ∷ []) ≡ fault
-    last-of None e = e
-    last-of (Some k) e = e
-
 pub pairs-fault : (before : Sections) (f : LineFields) → ((length f == 3) || (length f == 5)) ≡ true → is_marker f ≡ false → is_split before.columns (field 0 f) ≡ false → column_fault before f ≡ pairs_fault before.rows None (column_pairs before.columns (field 0 f)) (pairs (drop 1 f))
-pairs-fault before f count m split = rw (count, m, split) (twice (pairs_fault before.rows None (column_pairs before.columns (field 0 f)) (pairs (drop 1 f))))
-  where
-    twice : (o : Option FaultKind) → earliest_fault (o ∷ []) ≡ o
-    twice None = refl
-    twice (Some k) = refl
+pairs-fault before f count m split = rw (count, m, split) (last-one (pairs_fault before.rows None (column_pairs before.columns (field 0 f)) (pairs (drop 1 f))))
 
 pub split-fault : (before : Sections) (f : LineFields) → ((length f == 3) || (length f == 5)) ≡ true → is_marker f ≡ false → is_split before.columns (field 0 f) ≡ true → column_fault before f ≡ Some ColumnSplit
 split-fault before f count m split = rw (count, m, split) refl
 
 -- ---- the column of a line
 
-pub ready-of : (f : LineFields) (o : Option (List ℕ)) (lines : List LineFields) (r : Rows) (old mid : ColumnTable) (name : List ℕ) → is_marker f ≡ false → field 0 f ≡ name → length r.stamps.items ≡ length (names_of r.names)
-    → (is_current old.current name ≡ true → mid ≡ old) → (is_current old.current name ≡ false → ColumnAdded o (declared_row_names r.rows.items) lines name mid) → ColumnsFit (length r.rows.items) old
-    → ColumnsTell o (declared_row_names r.rows.items) lines [] old → InColumns lines [] [] r old → IsReady f o (declared_row_names r.rows.items) lines r mid
-ready-of f o lines r old mid name m named stamped same added fit h at = by (is_current old.current name) refl
+pub ready-of : (f : LineFields) (o : Option (List ℕ)) (lines : List LineFields) (r : Rows) (old mid : ColumnTable) (name : List ℕ) → is_marker f ≡ false → field 0 f ≡ name → RowsFit r
+    → (is_current old.current name ≡ true → mid ≡ old)
+    → (is_current old.current name ≡ false → (o : Option (List ℕ)) (rows : List (List ℕ)) (lines : List LineFields) → ColumnsFit (length rows) old → ColumnsTell o rows lines [] old → ColumnAdded o rows lines name mid)
+    → ColumnsFit (length r.rows.items) old → ColumnsTell o (declared_row_names r.rows.items) lines [] old → InColumns lines [] [] r old → IsReady f o (declared_row_names r.rows.items) lines r mid
+ready-of f o lines r old mid name m named rows_fit same added fit h at = by (is_current old.current name) refl
   where
+    fits : ColumnsFit (length (declared_row_names r.rows.items)) old
+    fits = subst (λ n. ColumnsFit n old) (sym (length-names r.rows.items)) fit
+
     by : (b : Bool) → is_current old.current name ≡ b → IsReady f o (declared_row_names r.rows.items) lines r mid
     by true e = subst (λ c. IsReady f o (declared_row_names r.rows.items) lines r c) (sym (same e))
-        (ready-same f o (declared_row_names r.rows.items) lines r old m (current-is old.current name e ∙ ap (λ n. Some n) (sym named)) (subst (λ n. ColumnsFit n old) (sym (length-names r.rows.items)) fit) h at)
-    by false e = ready-added f o (declared_row_names r.rows.items) lines r old mid m stamped h.names at.low (subst (λ n. ColumnAdded o (declared_row_names r.rows.items) lines n mid) (sym named) (added e))
+        (ready-same f o (declared_row_names r.rows.items) lines r old m (current-is old.current name e ∙ ap (λ n. Some n) (sym named)) fits h at)
+    by false e = ready-added f o (declared_row_names r.rows.items) lines r old mid m (rows_fit.stamps ∙ sym (length-bytes r.names.keys)) h.names at.low
+        (subst (λ n. ColumnAdded o (declared_row_names r.rows.items) lines n mid) (sym named) (added e o (declared_row_names r.rows.items) lines fits h))
 
 pub split-refused : (before : Sections) (f : LineFields) (c : ColumnTable) (name : List ℕ) (kind : FaultKind) → ((length f == 3) || (length f == 5)) ≡ true → is_marker f ≡ false → field 0 f ≡ name → option_now c.current ≡ nearest_column before.columns → names_of c.names ≡ columns_named before.columns
     → when (not (is_current c.current name) && list_any (bytes_eq name) (names_of c.names)) ColumnSplit ≡ Some kind → column_fault before f ≡ Some kind

@@ -1,5 +1,6 @@
 -- Names, and the places of rows among them.
 use Rattle.std.proofs.Common.{◌≡◌, ◌∙◌, ℕ, zero, suc, ◌+◌, ◌<◌, ◌≤◌, Bool, true, false, not, ◌||◌, List, [], ◌∷◌, ◌++◌, length, refl, sym, ap, subst, arith, Option, Some, None}
+use Rattle.std.proofs.lemmas.List.{length-map}
 use Rattle.std.specs.Prelude.{bytes_eq, slice_get, is_some, IfSome, if◌then◌else◌}
 use Rattle.std.specs.Option.{option_map_or}
 use Rattle.std.specs.List.{list_any, AllByRecursion, IsDistinct}
@@ -20,6 +21,10 @@ pub or-false : (a b : Bool) → (a || b) ≡ false → (a ≡ false) × (b ≡ f
 or-false true b h = absurd cc
 or-false false b h = (refl, h)
 
+pub or-last : (a b : Bool) → (a || (b || false)) ≡ (b || a)
+or-last true true = refl
+or-last _ _ = refl
+
 pub any-names : (name : List ℕ) (ks : List (Bor (List ℕ))) → list_any (λ k. bytes_eq name k.now) ks ≡ list_any (bytes_eq name) (bytes_of ks)
 any-names name [] = refl
 any-names name (k ∷ ks) = ap (λ b. bytes_eq name k.now || b) (any-names name ks)
@@ -29,8 +34,7 @@ bytes-push [] k = refl
 bytes-push (x ∷ ks) k = ap (λ ns. x.now ∷ ns) (bytes-push ks k)
 
 pub length-bytes : (ks : List (Bor (List ℕ))) → length (bytes_of ks) ≡ length ks
-length-bytes [] = refl
-length-bytes (k ∷ ks) = ap suc (length-bytes ks)
+length-bytes ks = length-map ks (λ k. k.now)
 
 all-bytes : (name : List ℕ) (ks : List (Bor (List ℕ))) → AllByRecursion (λ k. bytes_eq name k.now ≡ false) ks → AllByRecursion (λ k. bytes_eq name k ≡ false) (bytes_of ks)
 all-bytes name [] h = tt

@@ -12,6 +12,11 @@ use Rattle.mps_meaning.specs.declared.fault.FaultKind.TheVariants.{UnknownRow, E
 use Rattle.line_words.specs.Numbers.{number as token_number}
 use Rattle.std.specs.Bool.{then_some as when}
 
+-- that of one check alone
+pub last-one : (o : Option FaultKind) → earliest_fault (o ∷ []) ≡ o
+last-one None = refl
+last-one (Some kind) = refl
+
 -- those of a pair, whose row is known or not, and repeated or not, and one more
 abbrev pub pair_checks : Bool → Bool → List ℕ → Option FaultKind → Option FaultKind
 pair_checks known repeated number own = earliest_fault (when (not known) UnknownRow ∷ when repeated EntryRepeated ∷ number_fault (token_number number) ∷ own ∷ [])

@@ -1,5 +1,7 @@
 -- A pair of row and number more.
 use Rattle.std.proofs.Common.{◌≡◌, ◌≢◌, ℕ, zero, suc, ◌<◌, Bool, true, false, List, [], ◌∷◌, ◌++◌, length, refl, sym, ap, subst, ◌∙◌, arith, Option, Some, None, ℤ, pos, get_or}
+use Rattle.std.proofs.lemmas.List.{length-map}
+use Rattle.std.proofs.lemmas.Option.{slice_get_within, slice_get-get_or}
 use Rattle.std.specs.Prelude.{◌==◌, slice_get, if◌then◌else◌}
 use Rattle.std.specs.Ordering.{int_eq}
 use Rattle.std.specs.List.{AllByRecursion, slice_set}
@@ -60,40 +62,16 @@ entries-put count entries false (Some p) v f d = by (int_eq v (pos 0)) refl
     by false e = entries-push count entries p v (f p refl).0 (λ k. both_ways _ e ((Decides-int_eq v (pos 0)).1 k)) (f p refl).1 d
 entries-put count entries _ _ v f d = d
 
-pub get-below : {A : Type 0} (xs : List A) (i : ℕ) (x : A) → slice_get xs i ≡ Some x → i < length xs
-get-below [] i x h = absurd cc
-get-below (y ∷ xs) zero x h = omega arith
-get-below (y ∷ xs) (suc i) x h = let more = get-below xs i x h in omega arith
-
-pub get-from : {A : Type 0} (xs : List A) (i : ℕ) (x : A) → i < length xs → x ≡ get_or xs i x → slice_get xs i ≡ Some x
-get-from [] i x h e = absurd (omega arith)
-get-from (y ∷ xs) zero x h e = ap (λ z. Some z) (sym e)
-get-from (y ∷ xs) (suc i) x h e = get-from xs i x (omega arith) e
-
-pub get-some : (xs : List ℕ) (i : ℕ) → i < length xs → slice_get xs i ≡ Some (get_or xs i 0)
-get-some [] i h = absurd (omega arith)
-get-some (y ∷ xs) zero h = refl
-get-some (y ∷ xs) (suc i) h = get-some xs i (omega arith)
-
 pub length-names : (rs : List Row) → length (declared_row_names rs) ≡ length rs
-length-names [] = refl
-length-names (r ∷ rs) = ap suc (length-names rs)
-
-pub stamped-fit : (r new : Rows) → RowsFit r → new ≡ record r { stamps = new.stamps } → length new.stamps.items ≡ length r.stamps.items → RowsFit new
-stamped-fit r new fit same size =
-    let names : new.names ≡ r.names = ap (λ q. q.names) same in
-    let places : new.places ≡ r.places = ap (λ q. q.places) same in
-    let rows : new.rows ≡ r.rows = ap (λ q. q.rows) same in
-    let objective : new.objective ≡ r.objective = ap (λ q. q.objective) same in
-    rw (names, places, rows, objective) (record { distinct = fit.distinct; plain = fit.plain; stamps = size ∙ fit.stamps; places = fit.places; objective = fit.objective })
+length-names rs = length-map rs (λ r. r.name.items)
 
 pub pair-fits : (r new : Rows) (column after : OpenColumn) (stamp i : ℕ) (row : List ℕ) (cost : Bool) (place : Option ℕ) (v : ℤ) → RowsFit r → slice_get (names_of r.names) i ≡ Some row → slice_get r.places.items i ≡ Some place
     → ((d : ℕ) → slice_get r.stamps.items i ≡ Some d → (d == stamp) ≡ false) → new.places ≡ r.places → new.rows ≡ r.rows → new.stamps.items ≡ slice_set r.stamps.items i stamp → after.entries.items ≡ put_entries cost place v column.entries.items
     → PairsFit stamp r column → PairsFit stamp new after
 pair-fits r new column after stamp i row cost place v fit at here fresh places rows stamps entries h =
-    let low = get-below (names_of r.names) i row at in
+    let low = slice_get_within (names_of r.names) i row at in
     let size = length-bytes r.names.keys in
-    let stamped = get-some r.stamps.items i (omega (arith, fit.stamps)) in
+    let stamped = slice_get-get_or r.stamps.items i 0 (omega (arith, fit.stamps)) in
     record {
       entries = subst (λ q. AreDistinctEntries (length q.items) after.entries.items) (sym rows) (subst (λ es. AreDistinctEntries (length r.rows.items) es) (sym entries) (entries-put (length r.rows.items) column.entries.items cost place v
           (λ p e. let there = placed 0 (names_of r.names) r.places.items (declared_row_names r.rows.items) i p fit.places (here ∙ ap (λ o. Some o) e) in
@@ -102,6 +80,3 @@ pair-fits r new column after stamp i row cost place v fit at here fresh places r
           (apart-put (names_of r.names) r.places.items (declared_row_names r.rows.items) r.stamps.items column.entries.items i stamp cost place v fit.places here h.apart)));
     }
 
-pub length-stamped : (xs : List ℕ) (i v : ℕ) → length (slice_set xs i v) ≡ length xs
-length-stamped (x ∷ xs) (suc i) v = ap suc (length-stamped xs i v)
-length-stamped _ _ v = refl

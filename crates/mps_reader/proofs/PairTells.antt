@@ -1,10 +1,11 @@
 -- What a pair of row and number leaves of stamps and of the current column.
-use Rattle.std.proofs.Common.{◌≡◌, ◌≢◌, ℕ, zero, suc, ◌+◌, ◌≤◌, Bool, true, false, ◌||◌, List, [], ◌∷◌, ◌++◌, map, refl, sym, ap, subst, ◌∙◌, arith, Option, Some, None, ℤ, pos}
+use Rattle.std.proofs.Common.{◌≡◌, ◌≢◌, ℕ, zero, suc, ◌+◌, Bool, true, false, ◌||◌, List, [], ◌∷◌, ◌++◌, map, refl, sym, ap, subst, ◌∙◌, arith, Option, Some, None, ℤ, pos}
+use Rattle.program_rows.proofs.NamedItems.{bytes_flip}
 use Rattle.std.specs.Prelude.{◌==◌, slice_get, bytes_eq, unwrap_or, IfSome, if◌then◌else◌}
 use Rattle.std.specs.List.{AllByRecursion, IsDistinct, slice_set}
 use Rattle.std.specs.Option.{option_map_or}
 use Rattle.std.specs.Ordering.{int_eq}
-use Rattle.std.proofs.lemmas.Bool.{ne_eqb, eq-eqb, false_from_ne_true, both_ways, cases_eq}
+use Rattle.std.proofs.lemmas.Bool.{ne_eqb, eq-eqb, cases_eq}
 use Rattle.std.proofs.lemmas.Bool.Decides.{Decides-int_eq}
 use mathlib.Core.Logic.{◌⊎◌, inl, inr}
 use denote.Ref.{Bor}
@@ -18,9 +19,6 @@ use Rattle.mps_reader.proofs.NameFacts.{same_name, own_name, all-rows, distinct-
 pub self-eq : (n : ℕ) → (n == n) ≡ true
 self-eq n = eq-eqb n n refl
 
-pub flip-name : (a b : List ℕ) → bytes_eq a b ≡ false → bytes_eq b a ≡ false
-flip-name a b h = false_from_ne_true _ (λ e. both_ways _ h (subst (λ x. bytes_eq x b ≡ true) (same_name b a e) (own_name b)))
-
 pub all-at : {A : Type 0} (P : A → Type 0) (xs : List A) (i : ℕ) (x : A) → slice_get xs i ≡ Some x → AllByRecursion P xs → P x
 all-at P [] i x e h = absurd cc
 all-at P (y ∷ xs) zero x e h = let same : y ≡ x = cc in subst P same h.0
@@ -32,14 +30,14 @@ unfolding IsDistinct
 distinct-at [] i j a b d e f ne = absurd cc
 distinct-at (n ∷ ns) zero zero a b d e f ne = absurd (ne refl)
 distinct-at (n ∷ ns) zero (suc j) a b d e f ne = let same : n ≡ a = cc in subst (λ x. bytes_eq x b ≡ false) same (all-at (λ y. bytes_eq n y ≡ false) ns j b f d.0)
-distinct-at (n ∷ ns) (suc i) zero a b d e f ne = let same : n ≡ b = cc in flip-name b a (subst (λ x. bytes_eq x a ≡ false) same (all-at (λ y. bytes_eq n y ≡ false) ns i a e d.0))
+distinct-at (n ∷ ns) (suc i) zero a b d e f ne = let same : n ≡ b = cc in bytes_flip b a (subst (λ x. bytes_eq x a ≡ false) same (all-at (λ y. bytes_eq n y ≡ false) ns i a e d.0))
 distinct-at (n ∷ ns) (suc i) (suc j) a b d e f ne = distinct-at ns i j a b d.1 e f (λ q. ne (ap suc q))
 
 -- ---- stamps
 
 without : (row : List ℕ) (has : List ℕ → Bool) (ns : List (List ℕ)) → AllByRecursion (λ y. bytes_eq row y ≡ false) ns → map has ns ≡ map (λ n. bytes_eq n row || has n) ns
 without row has [] h = refl
-without row has (n ∷ ns) h = rw (flip-name row n h.0) (ap (λ bs. has n ∷ bs) (without row has ns h.1))
+without row has (n ∷ ns) h = rw (bytes_flip row n h.0) (ap (λ bs. has n ∷ bs) (without row has ns h.1))
 
 pub stamped-are : (stamp : ℕ) (has : List ℕ → Bool) (stamps : List ℕ) (ns : List (List ℕ)) (i : ℕ) (row : List ℕ) → IsDistinct bytes_eq ns → slice_get ns i ≡ Some row → StampsAre stamps stamp ns has
     → StampsAre (slice_set stamps i stamp) stamp ns (λ n. bytes_eq n row || has n)
@@ -55,11 +53,6 @@ stamped-are stamp has (s ∷ stamps) (n ∷ ns) (suc i) row d e h =
     let rest : StampsAre stamps stamp ns has = cc in
     rw (all-at (λ y. bytes_eq n y ≡ false) ns i row e d.0, head) (ap (λ bs. has n ∷ bs) (stamped-are stamp has stamps ns i row d.1 e rest))
 
-pub low-stamped : (stamps : List ℕ) (i stamp : ℕ) → AllByRecursion (λ s. s ≤ stamp) stamps → AllByRecursion (λ s. s ≤ stamp) (slice_set stamps i stamp)
-low-stamped [] i stamp h = tt
-low-stamped (s ∷ stamps) zero stamp h = (omega arith, h.1)
-low-stamped (s ∷ stamps) (suc i) stamp h = (h.0, low-stamped stamps i stamp h.1)
-
 -- ---- the row that a pair names
 
 -- a free row is none of the others
@@ -70,7 +63,7 @@ free-apart p (m ∷ ns) (None ∷ ps) rows zero row h d e f = let same : m ≡ r
 free-apart p (m ∷ ns) (None ∷ ps) rows (suc i) row h d e f = free-apart p ns ps rows i row h d.1 e f
 free-apart p (m ∷ ns) (Some k ∷ ps) (r ∷ rows) zero row h d e f = absurd cc
 free-apart p (m ∷ ns) (Some k ∷ ps) (r ∷ rows) (suc i) row h d e f =
-    (subst (λ x. bytes_eq row x ≡ false) (sym h.1) (flip-name m row (all-at (λ y. bytes_eq m y ≡ false) ns i row e d.0)), free-apart (suc p) ns ps rows i row h.2 d.1 e f)
+    (subst (λ x. bytes_eq row x ≡ false) (sym h.1) (bytes_flip m row (all-at (λ y. bytes_eq m y ≡ false) ns i row e d.0)), free-apart (suc p) ns ps rows i row h.2 d.1 e f)
 free-apart p _ _ _ i row h d e f = absurd h
 
 -- a row with a place stands there
@@ -124,14 +117,14 @@ open-put objective ns ps rows number column after i row cost place v distinct na
       where
         by : (b : Bool) → bytes_eq row o.now ≡ b → (if cost then v else column.cost) ≡ (if bytes_eq o.now row then v else number o.now)
         by true e = rw (is, e, subst (λ x. bytes_eq x row ≡ true) (same_name row o.now e) (own_name row)) refl
-        by false e = rw (is, e, flip-name row o.now e) before
+        by false e = rw (is, e, bytes_flip row o.now e) before
 
     apart-cost : (o : Option (Bor (List ℕ))) → IfSome o (λ x. IsObjective ns rows x.now) → option_map_or (λ name. bytes_eq row name.now) o false ≡ true → AllByRecursion (λ r. bytes_eq row r ≡ false) rows
     apart-cost None a e = absurd cc
     apart-cost (Some o) a e = subst (λ x. AllByRecursion (λ r. bytes_eq x r ≡ false) rows) (sym (same_name row o.now e)) a.apart
 
     other : (p : ℕ) (n : List ℕ) → slice_get rows p ≡ Some n → bytes_eq row n ≡ false → number_at_place p column.entries.items ≡ (if bytes_eq n row then v else number n)
-    other p n e ne = rw (flip-name row n ne) (h.entries p n e)
+    other p n e ne = rw (bytes_flip row n ne) (h.entries p n e)
 
     at-place : (p : ℕ) (n : List ℕ) → slice_get rows p ≡ Some n → (c : Bool) (pl : Option ℕ) → c ≡ option_map_or (λ name. bytes_eq row name.now) objective false → slice_get ps i ≡ Some pl
         → ((q : ℕ) → pl ≡ Some q → AllByRecursion (λ e. (e.0 == q) ≡ false) column.entries.items)

@@ -2,7 +2,7 @@
 use Rattle.std.proofs.Common.{◌≡◌, ℕ, zero, suc, ◌+◌, ◌<◌, ◌≤◌, false, List, [], ◌∷◌, ◌++◌, length, map, refl, sym, ap, subst, ◌∙◌, arith, Option, Some, None, get_or, length-append}
 use Rattle.std.specs.Prelude.{bytes_eq, is_none, IfSome, if◌then◌else◌}
 use Rattle.std.specs.List.{list_any, AllByRecursion, IsDistinct}
-use Rattle.std.proofs.lemmas.List.{map_push}
+use Rattle.std.proofs.lemmas.List.{map_push, length-map}
 use denote.Ref.{Bor}
 use Rattle.program_rows.specs.declared.row.Row.{Row}
 use Rattle.program_rows.specs.Program.{TableRow}
@@ -71,7 +71,7 @@ added-bound old mid new letter name fit names fresh distinct plain places stamps
     let there : new.places.items ≡ old.places.items ++ Some (length old.rows.items) ∷ [] = adds.places ∙ ap (λ p. p.items ++ Some (length mid.rows.items) ∷ []) places ∙ ap (λ r. old.places.items ++ Some (length r.items) ∷ []) rows in
     let more-rows : declared_row_names new.rows.items ≡ declared_row_names old.rows.items ++ name ∷ [] =
     names-shown new.rows.items ∙ ap (map (λ (r : TableRow). r.name)) adds.rows ∙ map_push (λ (r : TableRow). r.name) (map shown_row mid.rows.items) _ ∙ ap (λ ns. ns ++ name ∷ []) (sym (names-shown mid.rows.items)) ∙ ap (λ r. declared_row_names r.items ++ name ∷ []) rows in
-    let count : length old.rows.items ≡ 0 + length (declared_row_names old.rows.items) = sym (omega (arith, length-names old.rows.items)) in
+    let count : length old.rows.items ≡ 0 + length (declared_row_names old.rows.items) = sym (omega (arith, length-map old.rows.items (λ r. r.name.items))) in
     record {
       distinct = rw (ap names_of adds.names) distinct;
       plain = rw all (all-push IsName (names_of old.names) name fit.plain plain);
@@ -81,18 +81,6 @@ added-bound old mid new letter name fit names fresh distinct plain places stamps
           (if-weaker (λ n. IsObjective (names_of old.names) (declared_row_names old.rows.items) n) (λ n. IsObjective (names_of new.names) (declared_row_names new.rows.items) n) old.objective
           (λ n h. record { known = rw all (any-push n (names_of old.names) name h.known); name = h.name; apart = rw more-rows (all-push (λ r. bytes_eq n r ≡ false) (declared_row_names old.rows.items) name h.apart (differs n name (names_of old.names) h.known fresh)) }) fit.objective);
     }
-  where
-    length-names : (rs : List Row) → length (declared_row_names rs) ≡ length rs
-    length-names [] = refl
-    length-names (r ∷ rs) = ap suc (length-names rs)
 
 pub grown : (new old : List Row) (r : TableRow) → map shown_row new ≡ map shown_row old ++ r ∷ [] → length old ≤ length new
-grown new old r h =
-    let size = ap length h ∙ length-append (map shown_row old) (r ∷ []) in
-    let news = length-shown new in
-    let olds = length-shown old in
-    omega arith
-  where
-    length-shown : (rs : List Row) → length (map shown_row rs) ≡ length rs
-    length-shown [] = refl
-    length-shown (r ∷ rs) = ap suc (length-shown rs)
+grown new old r h = omega (arith, ap length h ∙ length-append (map shown_row old) (r ∷ []), length-map new shown_row, length-map old shown_row)

@@ -1,7 +1,7 @@
 -- Rows are those of the lines so far.
-use Rattle.std.proofs.Common.{◌≡◌, ℕ, ◌≤◌, Bool, true, false, not, ◌||◌, List, [], ◌∷◌, ◌++◌, map, reverse, refl, sym, ap, subst, ◌∙◌, arith, Option, Some, None, pos}
+use Rattle.std.proofs.Common.{◌≡◌, ℕ, true, false, not, ◌||◌, List, [], ◌∷◌, ◌++◌, map, reverse, refl, sym, ap, ◌∙◌, Option, Some, None, pos}
 use Rattle.std.specs.Prelude.{bytes_eq, filter, find, is_none, option_map, if◌then◌else◌, flat_map}
-use Rattle.std.specs.List.{list_any, AllByRecursion}
+use Rattle.std.specs.List.{list_any}
 use Rattle.std.specs.Option.{option_or}
 use Rattle.std.proofs.lemmas.List.{reverse-append, map-append, append-nil}
 use Rattle.std.proofs.lemmas.List.Elements.{filter-append}
@@ -11,9 +11,9 @@ use Rattle.program_rows.specs.Parts.{shown_row}
 use Rattle.line_words.specs.Lines.{LineFields, field}
 use Rattle.mps_meaning.specs.Described.{is_free, row_kind_of, first_free, table_rows, number_beside, line_right_sides}
 use Rattle.mps_reader.specs.inside.Rows.{names_of, option_now, AddsFree, AddsBound, declared_names}
-use Rattle.mps_reader.specs.inside.Tracking.{RowsTell, AreStampsUpTo}
+use Rattle.mps_reader.specs.inside.Tracking.{RowsTell}
 use Rattle.mps_reader.specs.declared.row_table.Rows.{Rows}
-use Rattle.mps_reader.proofs.NameFacts.{all-push}
+use Rattle.mps_reader.proofs.NameFacts.{or-last}
 
 reverse-more : (f : LineFields) (rows : List LineFields) → reverse (f ∷ rows) ≡ reverse rows ++ f ∷ []
 reverse-more f rows = reverse-append (f ∷ []) rows
@@ -58,16 +58,9 @@ tells-bound f rows old mid new letter name bound first same names kept objective
     by None = refl
     by (Some x) = refl
 
-pub low-more : (most : ℕ) (old mid new : Rows) → mid.stamps ≡ old.stamps → new.stamps.items ≡ mid.stamps.items ++ 0 ∷ [] → AreStampsUpTo most old → AreStampsUpTo most new
-low-more most old mid new kept stamps h = subst (λ s. AllByRecursion (λ stamp. stamp ≤ most) s) (sym (stamps ∙ ap (λ s. s.items ++ 0 ∷ []) kept)) (all-push (λ stamp. stamp ≤ most) old.stamps.items 0 h (omega arith))
-
 -- a name among the rows is a name that a line declares
 pub declared-any : (name : List ℕ) (rows : List LineFields) → list_any (bytes_eq name) (declared_names rows) ≡ list_any (λ row. bytes_eq name (field 1 row)) rows
 declared-any name [] = refl
 declared-any name (f ∷ rows) =
     ap (list_any (bytes_eq name)) (names-more f rows) ∙ list_any-append (bytes_eq name) (declared_names rows) (field 1 f ∷ []) ∙ ap (λ b. b || (bytes_eq name (field 1 f) || false)) (declared-any name rows)
-    ∙ swap (list_any (λ row. bytes_eq name (field 1 row)) rows) (bytes_eq name (field 1 f))
-  where
-    swap : (a b : Bool) → (a || (b || false)) ≡ (b || a)
-    swap true true = refl
-    swap _ _ = refl
+    ∙ or-last (list_any (λ row. bytes_eq name (field 1 row)) rows) (bytes_eq name (field 1 f))

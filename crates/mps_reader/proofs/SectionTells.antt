@@ -1,5 +1,6 @@
 -- A section opens, and lines that say nothing.
 use Rattle.std.proofs.Common.{◌≡◌, ◌≢◌, ℕ, ◌≤◌, ◌<◌, Bool, true, false, not, List, [], ◌∷◌, length, take, refl, sym, ap, subst, ◌∙◌, arith, Option, Some, None, ◌&&◌, inl, inr}
+use Rattle.mps_reader.proofs.BoundTells.{and-false}
 use Rattle.std.specs.Prelude.{◌==◌, ◌⊎◌, nat_le, is_none, is_some, codes, bytes_eq, nat_lt, IfSome, if◌then◌else◌}
 use Rattle.std.proofs.lemmas.List.{take_all, length-take-le}
 use Rattle.std.proofs.lemmas.Bool.{ne_eqb, lt-ltb, ltb-true, ltb-false, le-leb, leb-true, false_from_ne_true}
@@ -163,10 +164,6 @@ bound-many before fields h =
     behind : List (Option FaultKind)
     behind = when (not (is_column before.columns (field 0 (bound_pair fields)))) kinds.UnknownColumn ∷ (if is_binary_bound fields then None else bit_fault (field 1 (bound_pair fields))) ∷ []
 
-    and-false : (a : Bool) → (a && false) ≡ false
-    and-false true = refl
-    and-false false = refl
-
     neither : (t a b : Bool) → (if t then a && false else b && false) ≡ false
     neither true a b = and-false a
     neither false a b = and-false b
@@ -233,14 +230,8 @@ data-whole before shown all a none = by (few-or-many (length all))
 pub tells-rows : (before : Sections) (f : LineFields) (r : Reading) → before.section ≡ codes "ROWS" → before.section ≡ word_of r.section → LinesTell (f ∷ before.rows) before.columns before.right_sides before.bounds r → ReadingTells (with_line before (Data f)) r
 tells-rows before f r s w h = record { section = w; lines = rw s h }
 
-pub tells-columns : (before : Sections) (f : LineFields) (r : Reading) → before.section ≡ codes "COLUMNS" → before.section ≡ word_of r.section → LinesTell before.rows (f ∷ before.columns) before.right_sides before.bounds r → ReadingTells (with_line before (Data f)) r
-tells-columns before f r s w h = record { section = w; lines = rw s h }
-
 pub tells-right-sides : (before : Sections) (f : LineFields) (r : Reading) → before.section ≡ codes "RHS" → before.section ≡ word_of r.section → LinesTell before.rows before.columns (f ∷ before.right_sides) before.bounds r → ReadingTells (with_line before (Data f)) r
 tells-right-sides before f r s w h = record { section = w; lines = rw s h }
 
 pub tells-bounds : (before : Sections) (f : LineFields) (r : Reading) → before.section ≡ codes "BOUNDS" → before.section ≡ word_of r.section → LinesTell before.rows before.columns before.right_sides (f ∷ before.bounds) r → ReadingTells (with_line before (Data f)) r
 tells-bounds before f r s w h = record { section = w; lines = rw s h }
-
-pub tells-sense : (before : Sections) (f : LineFields) (r : Reading) → before.section ≡ codes "OBJSENSE" → before.section ≡ word_of r.section → LinesTell before.rows before.columns before.right_sides before.bounds r → ReadingTells (with_line before (Data f)) r
-tells-sense before f r s w h = record { section = w; lines = rw s h }

@@ -1,9 +1,10 @@
 -- Right sides are those of the lines so far.
-use Rattle.std.proofs.Common.{◌≡◌, ℕ, zero, suc, Bool, true, false, not, ◌&&◌, List, [], ◌∷◌, length, map, take, drop, refl, sym, ap, subst, ◌∙◌, Option, Some, None, ℤ}
+use Rattle.std.proofs.Common.{◌≡◌, ℕ, zero, suc, Bool, true, false, not, ◌&&◌, List, [], ◌∷◌, length, map, take, drop, refl, sym, ap, subst, ◌∙◌, Option, Some, ℤ}
+use Rattle.program_rows.proofs.NamedItems.{bytes_flip}
 use Rattle.std.specs.Prelude.{◌-◌, ◌%◌, nat_le, slice_get, bytes_eq, if◌then◌else◌, flat_map}
 use Rattle.std.specs.List.{AllByRecursion, IsDistinct}
 use Rattle.std.specs.Option.{option_map_or}
-use Rattle.std.proofs.lemmas.List.{length-drop}
+use Rattle.std.proofs.lemmas.List.{length-drop, drop-map}
 use Rattle.std.proofs.Math.Seq.{take-length}
 use denote.Ref.{Bor}
 use Rattle.line_words.specs.Lines.{LineFields, field}
@@ -17,10 +18,10 @@ use Rattle.program_rows.specs.Program.{TableRow}
 use Rattle.program_rows.specs.Parts.{shown_row}
 use Rattle.auction_terms.specs.Borrowed.{bytes_of}
 use Rattle.mps_reader.specs.inside.Rows.{declared_row_names, with_side, rows_by, side_fault}
-use Rattle.mps_reader.proofs.PairFaults.{pair_checks, constant_check}
+use Rattle.mps_reader.proofs.PairFaults.{last-one, pair_checks, constant_check}
 use Rattle.mps_reader.proofs.NameFacts.{own_name, length-bytes}
 use Rattle.mps_reader.proofs.RowSteps.{names-shown}
-use Rattle.mps_reader.proofs.PairTells.{flip-name, all-at}
+use Rattle.mps_reader.proofs.PairTells.{all-at}
 use Rattle.std.specs.Bool.{then_some as when}
 
 -- ---- one right side
@@ -39,7 +40,7 @@ rows-same side other (f ∷ lines) e = rw (e (field 1 f)) (ap (λ rs. record { n
 -- a row that is none of these changes nothing
 pub none-by : (side : List ℕ → ℤ) (row : List ℕ) (v : ℤ) (lines : List LineFields) → AllByRecursion (λ n. bytes_eq row n ≡ false) (map (field 1) lines) → rows_by side lines ≡ rows_by (λ n. if bytes_eq n row then v else side n) lines
 none-by side row v [] h = refl
-none-by side row v (f ∷ lines) h = rw (flip-name row (field 1 f) h.0) (ap (λ rs. record { name = field 1 f; kind = row_kind_of (field 0 f); right_side = side (field 1 f) } ∷ rs) (none-by side row v lines h.1))
+none-by side row v (f ∷ lines) h = rw (bytes_flip row (field 1 f) h.0) (ap (λ rs. record { name = field 1 f; kind = row_kind_of (field 0 f); right_side = side (field 1 f) } ∷ rs) (none-by side row v lines h.1))
 
 pub side-by : (side : List ℕ → ℤ) (row : List ℕ) (v : ℤ) (place : ℕ) (lines : List LineFields) → IsDistinct bytes_eq (map (field 1) lines) → slice_get (map (field 1) lines) place ≡ Some row → with_side place v (rows_by side lines) ≡ rows_by (λ n. if bytes_eq n row then v else side n) lines
 unfolding IsDistinct
@@ -61,19 +62,11 @@ early-refused _ _ cost number kind h = h
 
 -- ---- a whole line
 
-pub bytes-drop : (k : ℕ) (fields : List (Bor (List ℕ))) → bytes_of (drop k fields) ≡ drop k (bytes_of fields)
-bytes-drop (suc k) (f ∷ fields) = bytes-drop k fields
-bytes-drop _ _ = refl
-
 pub line-pairs : (fields : List (Bor (List ℕ))) → line_right_sides (bytes_of fields) ≡ pairs (bytes_of (take (length fields - length fields % 2) (drop (length fields % 2) fields)))
 line-pairs fields =
     let whole : take (length fields - length fields % 2) (drop (length fields % 2) fields) ≡ drop (length fields % 2) fields = ap (λ n. take n (drop (length fields % 2) fields)) (sym (length-drop (length fields % 2) fields)) ∙ take-length (drop (length fields % 2) fields) in
-    ap (λ n. pairs (drop (n % 2) (bytes_of fields))) (length-bytes fields) ∙ ap pairs (sym (bytes-drop (length fields % 2) fields)) ∙ ap (λ fs. pairs (bytes_of fs)) (sym whole)
+    ap (λ n. pairs (drop (n % 2) (bytes_of fields))) (length-bytes fields) ∙ ap pairs (drop-map (λ f. f.now) (length fields % 2) fields) ∙ ap (λ fs. pairs (bytes_of fs)) (sym whole)
 
 pub line-fault : (before : Sections) (f : LineFields) (fault : Option FaultKind) → (nat_le 2 (length f) && nat_le (length f) 5) ≡ true
     → pairs_fault before.rows (first_free before.rows) (flat_map line_right_sides before.right_sides) (line_right_sides f) ≡ fault → right_side_fault before f ≡ fault
-line-fault before f fault count h = rw count (last-of (pairs_fault before.rows (first_free before.rows) (flat_map line_right_sides before.right_sides) (line_right_sides f)) h)
-  where
-    last-of : (o : Option FaultKind) → o ≡ fault → earliest_fault (o ∷ []) ≡ fault
-    last-of None e = e
-    last-of (Some k) e = e
+line-fault before f fault count h = rw count (last-one (pairs_fault before.rows (first_free before.rows) (flat_map line_right_sides before.right_sides) (line_right_sides f)) ∙ h)

@@ -1,5 +1,6 @@
 -- Rows by name, and their stamps.
-use Rattle.std.proofs.Common.{◌≡◌, ℕ, zero, suc, ◌+◌, ◌<◌, Bool, true, false, cond, not, List, [], ◌∷◌, length, refl, sym, ap, subst, ◌∙◌, arith, Some, None, get_or}
+use Rattle.std.proofs.Common.{◌≡◌, ℕ, zero, suc, ◌+◌, ◌<◌, Bool, true, false, not, List, [], ◌∷◌, length, refl, sym, ap, subst, ◌∙◌, arith, Some, None, get_or}
+use Rattle.mps_reader.proofs.FieldFacts.{some-is}
 use Rattle.std.specs.Prelude.{◌==◌, slice_get, position, nat_lt, bytes_eq}
 use Rattle.std.specs.List.{list_any, position_or_len}
 use Rattle.std.proofs.lemmas.Bool.{ltb-true}
@@ -10,10 +11,6 @@ use Rattle.auction_terms.specs.Borrowed.{bytes_of}
 use Rattle.mps_reader.specs.inside.Rows.{StampsAre}
 use Rattle.mps_reader.proofs.NameFacts.{same_name}
 use Rattle.std.specs.Bool.{then_some as when}
-
-some-is : (b : Bool) (x i : ℕ) → Some i ≡ cond b (Some x) None → (b ≡ true) × (x ≡ i)
-some-is true x i h = (refl, cc)
-some-is false x i h = absurd cc
 
 at-position : (row : List ℕ) (ks : List (Bor (List ℕ))) → position_or_len (λ k. bytes_eq row k.now) ks < length ks → slice_get (bytes_of ks) (position_or_len (λ k. bytes_eq row k.now) ks) ≡ Some row
 at-position row [] h = absurd (omega arith)
@@ -31,11 +28,6 @@ pub found-row : (row : List ℕ) (ks : List (Bor (List ℕ))) (i : ℕ) → Some
 found-row row ks i h =
     let found = some-is (nat_lt (position_or_len (λ k. bytes_eq row k.now) ks) (length ks)) (position_or_len (λ k. bytes_eq row k.now) ks) i h in
     subst (λ n. slice_get (bytes_of ks) n ≡ Some row) found.1 (at-position row ks (ltb-true _ _ found.0))
-
-pub get-or-is : (xs : List ℕ) (i d e : ℕ) → slice_get xs i ≡ Some d → get_or xs i e ≡ d
-get-or-is [] i d e h = absurd cc
-get-or-is (x ∷ xs) zero d e h = cc
-get-or-is (x ∷ xs) (suc i) d e h = get-or-is xs i d e h
 
 stamp-at : (stamp : ℕ) (has : List ℕ → Bool) (stamps : List ℕ) (names : List (List ℕ)) (i d : ℕ) (n : List ℕ) → StampsAre stamps stamp names has → slice_get names i ≡ Some n → (get_or stamps i d == stamp) ≡ has n
 stamp-at stamp has stamps [] i d n h e = absurd cc

@@ -92,8 +92,7 @@ ended-text bs text rest i j h t k s r = front-text bs text i h t ∙ end-text te
 pub ended-field : (text : List ℕ) (j : ℕ) → Some j ≡ position is_behind text → is_space (get_or text j 0) ≡ true → Some j ≡ position is_space text
 ended-field text j k s =
     let found = is-at is_behind text j k in
-    let same = same-end text (rw (← found.1) at s) in
-    k ∙ ap (λ (n : ℕ). cond (nat_lt n (length text)) (Some n) None) (sym same)
+    k ∙ ap (λ (n : ℕ). cond (nat_lt n (length text)) (Some n) None) (sym (same-end text (rw (← found.1) at s)))
 
 pub last-text : (bs text rest : List ℕ) (i : ℕ) → Some i ≡ position is_other bs → text ≡ drop i bs → None ≡ position is_behind text → rest ≡ drop (length text) text → list_all is_text_byte bs ≡ list_all is_text_byte rest
 last-text bs text rest i h t k r =

@@ -1,4 +1,6 @@
 use Rattle.std.proofs.Common.{rules, ◌≡◌, ◌+◌, ◌∙◌, ap, sym, refl, arith, Bool, Some, None, true, false, map, get_or}
+use Rattle.mps_reader.proofs.PairFaults.{last-one}
+use Rattle.std.proofs.lemmas.Option.{slice_get_within, slice_get_read}
 use Rattle.std.specs.Prelude.{codes, slice_get}
 use Rattle.mps_meaning.specs.declared.fault.FaultKind.TheVariants.{UnknownColumn}
 use Rattle.line_words.specs.Lines.{field}
@@ -9,10 +11,9 @@ use Rattle.mps_reader.specs.inside.Tracking.{state_values, told_values, bounded_
 use Rattle.mps_reader.proofs.NameFacts.{length-bytes, own_name, same_name}
 use Rattle.mps_reader.proofs.RowSteps.{no_name, field-at}
 use Rattle.mps_reader.proofs.StampFacts.{found-row}
-use Rattle.mps_reader.proofs.PairSteps.{get-below, get-from}
 use Rattle.mps_reader.specs.declared.column_state.ColumnState.{ColumnState}
 use Rattle.mps_reader.proofs.AnswerFacts.{handed-on}
-use Rattle.mps_reader.proofs.BoundTells.{type-refused, type-taken, column-at, number-at, known-is, last-one, values-binary, values-of, told-at, bound-tells}
+use Rattle.mps_reader.proofs.BoundTells.{type-refused, type-taken, column-at, number-at, known-is, values-binary, values-of, told-at, bound-tells}
 use Rattle.mps_reader.specs.inside.Reading.{bit_fault}
 use Rattle.mps_reader.proofs.bounds.take_bound.Goals as goal
 
@@ -61,8 +62,8 @@ returns-clause-tells c = λ objective rows lines bounds distinct h.
     let at = found-row _ c.args.columns.now.names.keys c.in-Some.index c.in-Some.ensures.index ∙ ap (λ n. Some n) (sym column) in
     let states = c.requires.states in
     let size = length-bytes c.args.columns.now.names.keys in
-    let low = get-below (names_of c.args.columns.now.names) c.in-Some.index (field 0 (bound_pair fields)) at in
-    let here : slice_get c.args.columns.now.states.items c.in-Some.index ≡ Some c.index.result.now = get-from c.args.columns.now.states.items c.in-Some.index c.index.result.now (omega arith) c.index.ensures in
+    let low = slice_get_within (names_of c.args.columns.now.names) c.in-Some.index (field 0 (bound_pair fields)) at in
+    let here : slice_get c.args.columns.now.states.items c.in-Some.index ≡ Some c.index.result.now = slice_get_read c.args.columns.now.states.items _ c.in-Some.index c.index.result.now refl (omega arith) c.index.ensures in
     let before = told-at lines bounds c.args.columns.now.states.items (names_of c.args.columns.now.names) c.in-Some.index c.index.result.now (field 0 (bound_pair fields)) here at (h.states ∙ ap (map (told_values lines bounds)) (sym h.names)) in
     let word : (get_or c.args.fields.now 0 no_name).now ≡ field 0 fields = sym (field-at c.args.fields.now 0 (omega (arith, c.requires.some))) in
     let told = c.in_ok-state.ensures.values ∙ ap (λ w. bounded_values w (value (get_or c.args.fields.now (c.place_of_column-at.result + 1) no_name).now) (state_values c.index.result.now)) word

@@ -2,7 +2,7 @@ use Rattle.std.proofs.Common.{rules, ◌≡◌, ◌∙◌, sym, length}
 use Rattle.std.proofs.lemmas.Bool.{eqb-true}
 use Rattle.line_words.specs.Lines.{fields}
 use Rattle.auction_terms.specs.Borrowed.{bytes_of}
-use Rattle.mps_reader.proofs.FieldFacts.{take-front}
+use Rattle.std.proofs.lemmas.List.{take_at}
 use Rattle.mps_reader.proofs.NameFacts.{length-bytes}
 use Rattle.mps_reader.proofs.fields.first_fields.Goals as goal
 
@@ -12,6 +12,6 @@ loop-field-preserved c =
     let full : length (bytes_of c.loop-field.fields.items) ≡ 6 = length-bytes c.loop-field.fields.items ∙ eqb-true _ _ (sym c.is_full.ensures.value ∙ c.if-not-is_full.false) in
     record {
       few = c.loop-field.invariant.few;
-      front = c.loop-field.invariant.front ∙ sym (take-front 6 items (fields c.loop-field.rest.now) full) ∙ take-front 6 items (fields c.in-Some.behind.now) full;
+      front = c.loop-field.invariant.front ∙ take_at items (fields c.loop-field.rest.now) 6 full ∙ sym (take_at items (fields c.in-Some.behind.now) 6 full);
       text = search rules;
     }

@@ -1,5 +1,5 @@
-use Rattle.std.proofs.Common.{sym, ap, ◌∙◌, ◌≡◌, ◌&&◌, ◌∷◌, [], true, false}
-use Rattle.std.specs.Prelude.{nat_lt, codes}
+use Rattle.std.proofs.Common.{sym, ap, ◌∙◌, ◌≡◌, ◌&&◌, ◌∷◌, []}
+use Rattle.std.specs.Prelude.{codes}
 use Rattle.std.proofs.lemmas.Bool.{le-ltb, lt-ltb}
 use Rattle.mps_meaning.specs.Described.{is_one_of}
 use Rattle.mps_meaning.specs.Faults.{place_of}
@@ -13,15 +13,13 @@ pub returns-then-place-clause-fault : goal.returns-then-place-clause-fault
 returns-then-place-clause-fault c = λ before s o.
     let here : place_of before.section ≡ c.place.result = ap place_of s ∙ sym c.place.ensures in
     let there : place_of c.args.word.now ≡ c.place-2.result = sym (named c.args.word.now).place ∙ ap (λ x. place_of (word_of x)) (sym c.section_of-section.ensures) ∙ sym c.place-2.ensures in
-    let low : nat_lt (place_of before.section) (place_of c.args.word.now) ≡ false = ap (λ n. nat_lt n (place_of c.args.word.now)) here ∙ ap (nat_lt c.place.result) there ∙ le-ltb _ _ c.if-place.true in
-    header-place before c.args.word.now (bytes_of c.args.more.now) (sym c.is_left_out.ensures ∙ c.if-is_left_out.false) low
+    header-place before c.args.word.now (bytes_of c.args.more.now) (sym c.is_left_out.ensures ∙ c.if-is_left_out.false) (rw (here, there) (le-ltb _ _ c.if-place.true))
 
 pub returns-then-lacks_objective-clause-fault : goal.returns-then-lacks_objective-clause-fault
 returns-then-lacks_objective-clause-fault c = λ before s o.
     let here : place_of before.section ≡ c.place.result = ap place_of s ∙ sym c.place.ensures in
     let there : place_of c.args.word.now ≡ c.place-2.result = sym (named c.args.word.now).place ∙ ap (λ x. place_of (word_of x)) (sym c.section_of-section.ensures) ∙ sym c.place-2.ensures in
-    let high : nat_lt (place_of before.section) (place_of c.args.word.now) ≡ true = ap (λ n. nat_lt n (place_of c.args.word.now)) here ∙ ap (nat_lt c.place.result) there ∙ lt-ltb _ _ c.if-place.false in
-    header-lacks before c.args.word.now (bytes_of c.args.more.now) (sym c.is_left_out.ensures ∙ c.if-is_left_out.false) high
+    header-lacks before c.args.word.now (bytes_of c.args.more.now) (sym c.is_left_out.ensures ∙ c.if-is_left_out.false) (rw (here, there) (lt-ltb _ _ c.if-place.false))
     (sym c.has_more.ensures ∙ c.if-has_more.false) c.in_ok-take_header_sense.ensures
     (ap (λ b. is_one_of c.args.word.now (codes "COLUMNS" ∷ codes "RHS" ∷ codes "BOUNDS" ∷ codes "ENDATA" ∷ []) && b) o ∙ sym c.lacks_objective.ensures ∙ c.if-lacks_objective.true)
 
@@ -29,7 +27,6 @@ pub returns-clause-fault : goal.returns-clause-fault
 returns-clause-fault c = λ before s o.
     let here : place_of before.section ≡ c.place.result = ap place_of s ∙ sym c.place.ensures in
     let there : place_of c.args.word.now ≡ c.place-2.result = sym (named c.args.word.now).place ∙ ap (λ x. place_of (word_of x)) (sym c.section_of-section.ensures) ∙ sym c.place-2.ensures in
-    let high : nat_lt (place_of before.section) (place_of c.args.word.now) ≡ true = ap (λ n. nat_lt n (place_of c.args.word.now)) here ∙ ap (nat_lt c.place.result) there ∙ lt-ltb _ _ c.if-place.false in
-    header-rest before c.args.word.now (bytes_of c.args.more.now) (sym c.is_left_out.ensures ∙ c.if-is_left_out.false) high
+    header-rest before c.args.word.now (bytes_of c.args.more.now) (sym c.is_left_out.ensures ∙ c.if-is_left_out.false) (rw (here, there) (lt-ltb _ _ c.if-place.false))
     (sym c.has_more.ensures ∙ c.if-has_more.false) c.in_ok-take_header_sense.ensures
     (ap (λ b. is_one_of c.args.word.now (codes "COLUMNS" ∷ codes "RHS" ∷ codes "BOUNDS" ∷ codes "ENDATA" ∷ []) && b) o ∙ sym c.lacks_objective.ensures ∙ c.if-lacks_objective.false)

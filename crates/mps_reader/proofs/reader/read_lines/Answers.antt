@@ -12,10 +12,7 @@ use Rattle.mps_reader.proofs.reader.read_lines.Goals as goal
 pub overflow_add-place : goal.overflow_add-place
 overflow_add-place c =
     let h = c.loop-line.invariant.1 in
-    let within = lines-within c.args.text.now in
-    let size = ap length h.1 ∙ length-append h.0 c.loop-line.lines in
-    let count = h.2 in
-    omega (arith, c.requires)
+    omega (arith, c.requires, lines-within c.args.text.now, ap length h.1 ∙ length-append h.0 c.loop-line.lines, h.2)
 
 pub loop-line-preserved : goal.loop-line-preserved
 loop-line-preserved c =

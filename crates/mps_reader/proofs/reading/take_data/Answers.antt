@@ -1,5 +1,5 @@
 use Rattle.std.proofs.Common.{rules, ◌≡◌, ◌∙◌, ap, sym, subst, length, ◌+◌, ℕ}
-use Rattle.std.specs.Prelude.{Err, bytes_eq, ◌∷◌, flat_map}
+use Rattle.std.specs.Prelude.{bytes_eq, ◌∷◌, flat_map}
 use Rattle.std.specs.List.{list_any}
 use Rattle.mps_meaning.specs.Described.{line_right_sides}
 use Rattle.auction_terms.specs.Borrowed.{bytes_of}
@@ -28,14 +28,12 @@ returns-in_ok-take_bound-in-Bounds c = record {
 
 pub returns-in_err-take_row-in-Rows-clause-fault : goal.returns-in_err-take_row-in-Rows-clause-fault
 returns-in_err-take_row-in-Rows-clause-fault c = λ before h.
-    let r : c.from_residual.result ≡ Err c.in_err-take_row-in-Rows.field-0.0 = search rules in
-    handed-on (Unit {0}) c.from_residual.result c.in_err-take_row-in-Rows.field-0.0 _ _ r (λ kind k. rows-fault before (bytes_of c.args.fields.now) c.args.reading.now c.in-Rows.is h ∙ k) c.in_err-take_row-in-Rows.ensures.fault
+    handed-on (Unit {0}) c.from_residual.result c.in_err-take_row-in-Rows.field-0.0 _ _ (search rules) (λ kind k. rows-fault before (bytes_of c.args.fields.now) c.args.reading.now c.in-Rows.is h ∙ k) c.in_err-take_row-in-Rows.ensures.fault
 
 pub returns-in_err-take_column_line-in-Columns-clause-fault : goal.returns-in_err-take_column_line-in-Columns-clause-fault
 returns-in_err-take_column_line-in-Columns-clause-fault c = λ before h.
     let at = at-columns before c.args.reading.now c.in-Columns.is h in
-    let r : c.from_residual-in_err-take_column_line-in-Columns.result ≡ Err c.in_err-take_column_line-in-Columns.field-0.0 = search rules in
-    handed-on (Unit {0}) c.from_residual-in_err-take_column_line-in-Columns.result c.in_err-take_column_line-in-Columns.field-0.0 _ _ r (λ kind k. in-columns before (bytes_of c.args.fields.now) (h.section ∙ ap word_of c.in-Columns.is) ∙ k)
+    handed-on (Unit {0}) c.from_residual-in_err-take_column_line-in-Columns.result c.in_err-take_column_line-in-Columns.field-0.0 _ _ (search rules) (λ kind k. in-columns before (bytes_of c.args.fields.now) (h.section ∙ ap word_of c.in-Columns.is) ∙ k)
     (c.in_err-take_column_line-in-Columns.ensures.fault before (declared-is before before.right_sides c.args.reading.now.rows h.lines.of_rows) c.requires.fit.both at.1 at.0)
 
 pub returns-in_ok-take_column_line-in-Columns-clause-fault : goal.returns-in_ok-take_column_line-in-Columns-clause-fault
@@ -46,8 +44,7 @@ returns-in_ok-take_column_line-in-Columns-clause-fault c = λ before h.
 
 pub returns-in_err-take_right_side_line-in-RightSides-clause-fault : goal.returns-in_err-take_right_side_line-in-RightSides-clause-fault
 returns-in_err-take_right_side_line-in-RightSides-clause-fault c = λ before h.
-    let r : c.from_residual-in_err-take_right_side_line-in-RightSides.result ≡ Err c.in_err-take_right_side_line-in-RightSides.field-0.0 = search rules in
-    handed-on (Unit {0}) c.from_residual-in_err-take_right_side_line-in-RightSides.result c.in_err-take_right_side_line-in-RightSides.field-0.0 _ _ r (λ kind k. in-right-sides before (bytes_of c.args.fields.now) (h.section ∙ ap word_of c.in-RightSides.is) ∙ k)
+    handed-on (Unit {0}) c.from_residual-in_err-take_right_side_line-in-RightSides.result c.in_err-take_right_side_line-in-RightSides.field-0.0 _ _ (search rules) (λ kind k. in-right-sides before (bytes_of c.args.fields.now) (h.section ∙ ap word_of c.in-RightSides.is) ∙ k)
     (c.in_err-take_right_side_line-in-RightSides.ensures.fault before (declared-is before before.right_sides c.args.reading.now.rows h.lines.of_rows) (objective-is before before.right_sides c.args.reading.now.rows h.lines.of_rows) (right-stamps before c.args.reading.now _ c.in-RightSides.is (ap (λ (n : ℕ). n + 1) c.len.ensures.len) h))
 
 pub returns-in_ok-take_right_side_line-in-RightSides-clause-fault : goal.returns-in_ok-take_right_side_line-in-RightSides-clause-fault

@@ -1,13 +1,12 @@
-use Rattle.std.proofs.Common.{rules, ◌≡◌, ◌∙◌, ap, sym, refl, arith, drop, get_or, Some, None}
-use Rattle.std.specs.Prelude.{Err, option_map, position, not}
+use Rattle.std.proofs.Common.{rules, ◌≡◌, ◌∙◌, ap, sym, refl, arith, get_or, Some, None}
+use Rattle.std.specs.Prelude.{option_map, position, not}
 use Rattle.mps_meaning.specs.declared.fault.FaultKind.TheVariants.{NotBinary}
 use Rattle.line_words.specs.Lines.{field}
-use Rattle.mps_meaning.specs.Faults.{header_fault}
 use Rattle.auction_terms.specs.Borrowed.{bytes_of}
 use Rattle.mps_reader.specs.inside.States.{is_binary_state}
 use Rattle.mps_reader.proofs.RowSteps.{no_name, field-at}
 use Rattle.mps_reader.proofs.AnswerFacts.{handed-on, handed-up}
-use Rattle.mps_reader.proofs.HeaderTells.{header-more, lacks-objective, first-open, header-tells, end-fault, other-fault}
+use Rattle.mps_reader.proofs.HeaderTells.{header-is, lacks-objective, first-open, header-tells, end-fault, other-fault}
 use Rattle.mps_reader.specs.declared.sections.Section.{Section}
 use Rattle.mps_reader.proofs.FitFacts.{header-fits}
 use Rattle.mps_reader.proofs.reading.take_header_line.Goals as goal
@@ -20,43 +19,27 @@ returns-clause-fit c = header-fits c.args.reading.now _ c.requires.fit c.in_ok-c
 
 pub returns-in_err-reading-clause-fault : goal.returns-in_err-reading-clause-fault
 returns-in_err-reading-clause-fault c = λ before h.
-    let word : field 0 (bytes_of c.args.fields.now) ≡ (get_or c.args.fields.now 0 no_name).now = field-at c.args.fields.now 0 (omega (arith, c.requires.some)) in
-    let more = header-more c.args.fields.now in
-    let lacks = lacks-objective before c.args.reading.now h ∙ ap not (sym c.is_some-has_objective.ensures) in
-    let r : c.from_residual-in_err-reading.result ≡ Err c.in_err-reading.field-0.0 = search rules in
-    handed-up Section c.from_residual-in_err-reading.result c.in_err-reading.field-0.0 _ _ _ r
-    (λ kind k. ap (λ w. header_fault before w (drop 1 (bytes_of c.args.fields.now))) word ∙ ap (header_fault before (get_or c.args.fields.now 0 no_name).now) (sym more) ∙ k) (c.in_err-reading.ensures.fault before h.section lacks)
+    handed-up Section c.from_residual-in_err-reading.result c.in_err-reading.field-0.0 _ _ _ (search rules) (λ kind k. header-is before c.args.fields.now c.requires.some ∙ k)
+    (c.in_err-reading.ensures.fault before h.section (lacks-objective before c.args.reading.now h ∙ ap not (sym c.is_some-has_objective.ensures)))
 
 pub returns-in_err-refuse_open-clause-fault : goal.returns-in_err-refuse_open-clause-fault
 returns-in_err-refuse_open-clause-fault c = λ before h.
-    let word : field 0 (bytes_of c.args.fields.now) ≡ (get_or c.args.fields.now 0 no_name).now = field-at c.args.fields.now 0 (omega (arith, c.requires.some)) in
-    let more = header-more c.args.fields.now in
     let lacks = lacks-objective before c.args.reading.now h ∙ ap not (sym c.is_some-has_objective.ensures) in
-    let left = ap (λ w. header_fault before w (drop 1 (bytes_of c.args.fields.now))) word ∙ ap (header_fault before (get_or c.args.fields.now 0 no_name).now) (sym more) ∙ c.in_ok-reading.ensures.fault before h.section lacks in
     let states = ap (λ ss. option_map NotBinary (position (λ s. not (is_binary_state s)) ss)) (c.as_slice.ensures.value ∙ ap (λ s. s.items) c.in_ok-close_column.ensures.states) ∙ first-open before c.args.reading.now.columns.states.items h.lines.of_columns.states in
-    let r : c.from_residual-in_err-refuse_open.result ≡ Err c.in_err-refuse_open.field-0.0 = search rules in
-    handed-on (Unit {0}) c.from_residual-in_err-refuse_open.result c.in_err-refuse_open.field-0.0 _ _ r
-    (λ kind k. ap (λ w. header_fault before w (drop 1 (bytes_of c.args.fields.now))) word ∙ end-fault before (get_or c.args.fields.now 0 no_name).now (drop 1 (bytes_of c.args.fields.now)) (Some kind) (sym (ap (λ w. header_fault before w (drop 1 (bytes_of c.args.fields.now))) word) ∙ left) (sym c.is_word.ensures ∙ c.if-is_word.true) (sym states ∙ k))
+    handed-on (Unit {0}) c.from_residual-in_err-refuse_open.result c.in_err-refuse_open.field-0.0 _ _ (search rules)
+    (λ kind k. end-fault before (get_or c.args.fields.now 0 no_name).now _ (Some kind) (header-is before c.args.fields.now c.requires.some ∙ c.in_ok-reading.ensures.fault before h.section lacks) (sym c.is_word.ensures ∙ c.if-is_word.true) (sym states ∙ k))
     c.in_err-refuse_open.ensures
 
 pub returns-then-is_word-clause-fault : goal.returns-then-is_word-clause-fault
 returns-then-is_word-clause-fault c = λ before h.
-    let word : field 0 (bytes_of c.args.fields.now) ≡ (get_or c.args.fields.now 0 no_name).now = field-at c.args.fields.now 0 (omega (arith, c.requires.some)) in
-    let more = header-more c.args.fields.now in
     let lacks = lacks-objective before c.args.reading.now h ∙ ap not (sym c.is_some-has_objective.ensures) in
-    let left = ap (λ w. header_fault before w (drop 1 (bytes_of c.args.fields.now))) word ∙ ap (header_fault before (get_or c.args.fields.now 0 no_name).now) (sym more) ∙ c.in_ok-reading.ensures.fault before h.section lacks in
     let states = ap (λ ss. option_map NotBinary (position (λ s. not (is_binary_state s)) ss)) (c.as_slice.ensures.value ∙ ap (λ s. s.items) c.in_ok-close_column.ensures.states) ∙ first-open before c.args.reading.now.columns.states.items h.lines.of_columns.states in
-    ap (λ w. header_fault before w (drop 1 (bytes_of c.args.fields.now))) word
-    ∙ end-fault before (get_or c.args.fields.now 0 no_name).now (drop 1 (bytes_of c.args.fields.now)) None (sym (ap (λ w. header_fault before w (drop 1 (bytes_of c.args.fields.now))) word) ∙ left) (sym c.is_word.ensures ∙ c.if-is_word.true) (sym states ∙ c.in_ok-refuse_open.ensures)
+    end-fault before (get_or c.args.fields.now 0 no_name).now _ None (header-is before c.args.fields.now c.requires.some ∙ c.in_ok-reading.ensures.fault before h.section lacks) (sym c.is_word.ensures ∙ c.if-is_word.true) (sym states ∙ c.in_ok-refuse_open.ensures)
 
 pub returns-clause-fault : goal.returns-clause-fault
 returns-clause-fault c = λ before h.
-    let word : field 0 (bytes_of c.args.fields.now) ≡ (get_or c.args.fields.now 0 no_name).now = field-at c.args.fields.now 0 (omega (arith, c.requires.some)) in
-    let more = header-more c.args.fields.now in
     let lacks = lacks-objective before c.args.reading.now h ∙ ap not (sym c.is_some-has_objective.ensures) in
-    let left = ap (λ w. header_fault before w (drop 1 (bytes_of c.args.fields.now))) word ∙ ap (header_fault before (get_or c.args.fields.now 0 no_name).now) (sym more) ∙ c.in_ok-reading.ensures.fault before h.section lacks in
-    ap (λ w. header_fault before w (drop 1 (bytes_of c.args.fields.now))) word
-    ∙ other-fault before (get_or c.args.fields.now 0 no_name).now (drop 1 (bytes_of c.args.fields.now)) (sym (ap (λ w. header_fault before w (drop 1 (bytes_of c.args.fields.now))) word) ∙ left) (sym c.is_word.ensures ∙ c.if-is_word.false)
+    other-fault (get_or c.args.fields.now 0 no_name).now _ _ (header-is before c.args.fields.now c.requires.some ∙ c.in_ok-reading.ensures.fault before h.section lacks) (sym c.is_word.ensures ∙ c.if-is_word.false)
 
 pub returns-then-is_word-clause-tells : goal.returns-then-is_word-clause-tells
 returns-then-is_word-clause-tells c = λ before more h.

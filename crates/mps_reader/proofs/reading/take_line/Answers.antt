@@ -1,8 +1,6 @@
-use Rattle.std.proofs.Common.{rules, ◌≡◌, ◌∙◌, ap, sym, subst, Bool}
-use Rattle.std.specs.Prelude.{Err}
+use Rattle.std.proofs.Common.{rules, ◌∙◌, Bool}
 use Rattle.line_words.specs.Lines.{fields}
 use Rattle.auction_terms.specs.Borrowed.{bytes_of}
-use Rattle.mps_reader.specs.inside.Reading.{AreFirst}
 use Rattle.mps_reader.proofs.AnswerFacts.{handed-on}
 use Rattle.mps_reader.proofs.LineAnswers.{skipped-fault, skipped-next, unprintable-fault, header-answer, header-next, data-answer, data-next}
 use Rattle.mps_reader.proofs.reading.take_line.Goals as goal
@@ -18,38 +16,24 @@ returns-in-Unprintable-clause-fault c = λ before h. unprintable-fault before c.
 
 pub returns-in_err-take_data-in-Data-clause-fault : goal.returns-in_err-take_data-in-Data-clause-fault
 returns-in_err-take_data-in-Data-clause-fault c = λ before h.
-    let shown = ap bytes_of c.as_slice-in-Data.ensures.value in
-    let first = subst (λ fs. AreFirst fs (fields c.args.line.now)) (sym shown) c.in-Data.ensures.1 in
-    let r : c.from_residual-in_err-take_data-in-Data.result ≡ Err c.in_err-take_data-in-Data.field-0.0 = search rules in
-    handed-on (Unit {0}) c.from_residual-in_err-take_data-in-Data.result c.in_err-take_data-in-Data.field-0.0 _ _ r (λ kind k. data-answer before c.args.line.now (bytes_of c.as_slice-in-Data.result.now) (fields c.args.line.now) c.in-Data.ensures.0 first ∙ k) (c.in_err-take_data-in-Data.ensures.fault before h)
+    handed-on (Unit {0}) c.from_residual-in_err-take_data-in-Data.result c.in_err-take_data-in-Data.field-0.0 _ _ (search rules) (λ kind k. data-answer before c.args.line.now (bytes_of c.as_slice-in-Data.result.now) (fields c.args.line.now) c.in-Data.ensures.0 (rw c.as_slice-in-Data.ensures.value c.in-Data.ensures.1) ∙ k) (c.in_err-take_data-in-Data.ensures.fault before h)
 
 pub returns-in_ok-take_data-in-Data-clause-fault : goal.returns-in_ok-take_data-in-Data-clause-fault
 returns-in_ok-take_data-in-Data-clause-fault c = λ before h.
-    let shown = ap bytes_of c.as_slice-in-Data.ensures.value in
-    let first = subst (λ fs. AreFirst fs (fields c.args.line.now)) (sym shown) c.in-Data.ensures.1 in
-    data-answer before c.args.line.now (bytes_of c.as_slice-in-Data.result.now) (fields c.args.line.now) c.in-Data.ensures.0 first ∙ c.in_ok-take_data-in-Data.ensures.fault before h
+    data-answer before c.args.line.now (bytes_of c.as_slice-in-Data.result.now) (fields c.args.line.now) c.in-Data.ensures.0 (rw c.as_slice-in-Data.ensures.value c.in-Data.ensures.1) ∙ c.in_ok-take_data-in-Data.ensures.fault before h
 
 pub returns-in_ok-take_data-in-Data-clause-tells : goal.returns-in_ok-take_data-in-Data-clause-tells
 returns-in_ok-take_data-in-Data-clause-tells c = λ before h.
-    let shown = ap bytes_of c.as_slice-in-Data.ensures.value in
-    let first = subst (λ fs. AreFirst fs (fields c.args.line.now)) (sym shown) c.in-Data.ensures.1 in
-    data-next before c.args.line.now (bytes_of c.as_slice-in-Data.result.now) (fields c.args.line.now) c.take_data.new.reading c.in-Data.ensures.0 first (c.in_ok-take_data-in-Data.ensures.fault before h) (c.in_ok-take_data-in-Data.ensures.tells before h)
+    data-next before c.args.line.now (bytes_of c.as_slice-in-Data.result.now) (fields c.args.line.now) c.take_data.new.reading c.in-Data.ensures.0 (rw c.as_slice-in-Data.ensures.value c.in-Data.ensures.1) (c.in_ok-take_data-in-Data.ensures.fault before h) (c.in_ok-take_data-in-Data.ensures.tells before h)
 
 pub returns-in_err-is_end-in-Header-clause-fault : goal.returns-in_err-is_end-in-Header-clause-fault
 returns-in_err-is_end-in-Header-clause-fault c = λ before h.
-    let shown = ap bytes_of c.as_slice.ensures.value in
-    let first = subst (λ fs. AreFirst fs (fields c.args.line.now)) (sym shown) c.in-Header.ensures.1 in
-    let r : c.from_residual.result ≡ Err c.in_err-is_end-in-Header.field-0.0 = search rules in
-    handed-on Bool c.from_residual.result c.in_err-is_end-in-Header.field-0.0 _ _ r (λ kind k. header-answer before c.args.line.now (bytes_of c.as_slice.result.now) (fields c.args.line.now) c.in-Header.ensures.0 first ∙ k) (c.in_err-is_end-in-Header.ensures.fault before h)
+    handed-on Bool c.from_residual.result c.in_err-is_end-in-Header.field-0.0 _ _ (search rules) (λ kind k. header-answer before c.args.line.now (bytes_of c.as_slice.result.now) (fields c.args.line.now) c.in-Header.ensures.0 (rw c.as_slice.ensures.value c.in-Header.ensures.1) ∙ k) (c.in_err-is_end-in-Header.ensures.fault before h)
 
 pub returns-in_ok-is_end-in-Header-clause-fault : goal.returns-in_ok-is_end-in-Header-clause-fault
 returns-in_ok-is_end-in-Header-clause-fault c = λ before h.
-    let shown = ap bytes_of c.as_slice.ensures.value in
-    let first = subst (λ fs. AreFirst fs (fields c.args.line.now)) (sym shown) c.in-Header.ensures.1 in
-    header-answer before c.args.line.now (bytes_of c.as_slice.result.now) (fields c.args.line.now) c.in-Header.ensures.0 first ∙ c.in_ok-is_end-in-Header.ensures.fault before h
+    header-answer before c.args.line.now (bytes_of c.as_slice.result.now) (fields c.args.line.now) c.in-Header.ensures.0 (rw c.as_slice.ensures.value c.in-Header.ensures.1) ∙ c.in_ok-is_end-in-Header.ensures.fault before h
 
 pub returns-in_ok-is_end-in-Header-clause-tells : goal.returns-in_ok-is_end-in-Header-clause-tells
 returns-in_ok-is_end-in-Header-clause-tells c = λ before h.
-    let shown = ap bytes_of c.as_slice.ensures.value in
-    let first = subst (λ fs. AreFirst fs (fields c.args.line.now)) (sym shown) c.in-Header.ensures.1 in
-    header-next before c.args.line.now (bytes_of c.as_slice.result.now) (fields c.args.line.now) c.take_header_line.new.reading c.in-Header.ensures.0 first (λ more. c.in_ok-is_end-in-Header.ensures.tells before more h)
+    header-next before c.args.line.now (bytes_of c.as_slice.result.now) (fields c.args.line.now) c.take_header_line.new.reading c.in-Header.ensures.0 (rw c.as_slice.ensures.value c.in-Header.ensures.1) (λ more. c.in_ok-is_end-in-Header.ensures.tells before more h)

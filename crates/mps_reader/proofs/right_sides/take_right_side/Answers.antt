@@ -1,9 +1,11 @@
 use Rattle.std.proofs.Common.{refl, ap, ◌∙◌, length, arith, Some, rules, ◌≡◌, sym, subst, ℕ, false, map, w64}
+use Rattle.std.proofs.lemmas.List.{length-set}
+use Rattle.std.proofs.lemmas.Option.{slice_get_within, slice_get_read}
 use Rattle.mps_reader.specs.inside.Rows.{names_of, declared_row_names, rows_by, StampsAre, with_side}
 use Rattle.mps_reader.proofs.NameFacts.{length-places, placed, distinct-rows}
-use Rattle.mps_reader.proofs.PairSteps.{get-below, get-from, length-names, length-stamped}
+use Rattle.mps_reader.proofs.PairSteps.{length-names}
 use Rattle.mps_reader.proofs.FitFacts.{sided-fit, same-names, side-count}
-use Rattle.std.specs.Prelude.{Err, bytes_eq, slice_get, ◌||◌, if◌then◌else◌}
+use Rattle.std.specs.Prelude.{bytes_eq, slice_get, ◌||◌, if◌then◌else◌}
 use Rattle.std.specs.List.{list_any, IsDistinct, AllByRecursion}
 use Rattle.std.specs.Option.{option_map_or}
 use Rattle.std.proofs.lemmas.Int.{to_z-of_z}
@@ -17,23 +19,20 @@ use Rattle.mps_reader.proofs.right_sides.take_right_side.Goals as goal
 
 pub index-requires : goal.index-requires
 index-requires c =
-    let low = get-below (names_of c.args.rows.now.names) c.in_ok-index.index c.args.row.now c.in_ok-index.ensures.index in
     let size = length-places 0 (names_of c.args.rows.now.names) c.args.rows.now.places.items (declared_row_names c.args.rows.now.rows.items) c.requires.fit.places in
-    let ok = c.args.rows.now.places.ok in
-    omega arith
+    omega (arith, slice_get_within (names_of c.args.rows.now.names) c.in_ok-index.index c.args.row.now c.in_ok-index.ensures.index, c.args.rows.now.places.ok)
 
 pub set_right_side-requires : goal.set_right_side-requires
 set_right_side-requires c =
-    let low = get-below (names_of c.args.rows.now.names) c.in_ok-index.index c.args.row.now c.in_ok-index.ensures.index in
+    let low = slice_get_within (names_of c.args.rows.now.names) c.in_ok-index.index c.args.row.now c.in_ok-index.ensures.index in
     let size = length-places 0 (names_of c.args.rows.now.names) c.args.rows.now.places.items (declared_row_names c.args.rows.now.rows.items) c.requires.fit.places in
-    let here = get-from c.args.rows.now.places.items c.in_ok-index.index c.index.result.now (omega arith) c.index.ensures ∙ ap (λ o. Some o) c.in-Some.is in
+    let here = slice_get_read c.args.rows.now.places.items _ c.in_ok-index.index c.index.result.now refl (omega arith) c.index.ensures ∙ ap (λ o. Some o) c.in-Some.is in
     let there = placed 0 (names_of c.args.rows.now.names) c.args.rows.now.places.items (declared_row_names c.args.rows.now.rows.items) c.in_ok-index.index c.in-Some.place c.requires.fit.places here in
-    let rows = length-names c.args.rows.now.rows.items in
-    omega arith
+    omega (arith, length-names c.args.rows.now.rows.items)
 
 pub returns-clause-fit : goal.returns-clause-fit
 returns-clause-fit c =
-    sided-fit c.args.rows.now _ c.requires.fit refl refl refl (ap length c.in_ok-index.ensures.stamped ∙ length-stamped c.args.rows.now.stamps.items c.in_ok-index.index c.args.stamp)
+    sided-fit c.args.rows.now _ c.requires.fit refl refl refl (ap length c.in_ok-index.ensures.stamped ∙ length-set c.args.rows.now.stamps.items c.in_ok-index.index c.args.stamp)
     (same-names c.in-Some.place _ c.set_right_side.new.rows.items c.args.rows.now.rows.items c.set_right_side.ensures)
 
 pub returns-clause-count : goal.returns-clause-count
@@ -41,8 +40,7 @@ returns-clause-count c = side-count c.in-Some.place _ c.set_right_side.new.rows.
 
 pub returns-in_err-index-clause-fault : goal.returns-in_err-index-clause-fault
 returns-in_err-index-clause-fault c = λ has s.
-    let r : c.from_residual.result ≡ Err c.in_err-index.field-0.0 = search rules in
-    handed-on ℕ c.from_residual.result c.in_err-index.field-0.0 _ _ r
+    handed-on ℕ c.from_residual.result c.in_err-index.field-0.0 _ _ (search rules)
     (λ kind. early-refused (list_any (bytes_eq c.args.row.now) (names_of c.args.rows.now.names)) (has c.args.row.now) (option_map_or (λ name. bytes_eq c.args.row.now name.now) c.args.rows.now.objective false) c.args.token.now kind)
     (c.in_err-index.ensures.fault has s)
 
@@ -58,18 +56,18 @@ returns-clause-stamps c = λ has h.
 
 pub returns-in_default-clause-rows : goal.returns-in_default-clause-rows
 returns-in_default-clause-rows c = λ side lines h.
-    let low = get-below (names_of c.args.rows.now.names) c.in_ok-index.index c.args.row.now c.in_ok-index.ensures.index in
+    let low = slice_get_within (names_of c.args.rows.now.names) c.in_ok-index.index c.args.row.now c.in_ok-index.ensures.index in
     let size = length-places 0 (names_of c.args.rows.now.names) c.args.rows.now.places.items (declared_row_names c.args.rows.now.rows.items) c.requires.fit.places in
-    let found : slice_get c.args.rows.now.places.items c.in_ok-index.index ≡ Some c.index.result.now = get-from c.args.rows.now.places.items c.in_ok-index.index c.index.result.now (omega arith) c.index.ensures in
+    let found : slice_get c.args.rows.now.places.items c.in_ok-index.index ≡ Some c.index.result.now = slice_get_read c.args.rows.now.places.items _ c.in_ok-index.index c.index.result.now refl (omega arith) c.index.ensures in
     let names : declared_row_names c.args.rows.now.rows.items ≡ map (field 1) lines = row-names-by c.args.rows.now.rows.items side lines h in
     let free = free-apart 0 (names_of c.args.rows.now.names) c.args.rows.now.places.items (declared_row_names c.args.rows.now.rows.items) c.in_ok-index.index c.args.row.now c.requires.fit.places c.requires.fit.distinct c.in_ok-index.ensures.index (found ∙ ap (λ o. Some o) c.in_default.is) in
     h ∙ none-by side c.args.row.now (value c.args.token.now) lines (subst (λ ns. AllByRecursion (λ n. bytes_eq c.args.row.now n ≡ false) ns) names free)
 
 pub returns-clause-rows : goal.returns-clause-rows
 returns-clause-rows c = λ side lines h.
-    let low = get-below (names_of c.args.rows.now.names) c.in_ok-index.index c.args.row.now c.in_ok-index.ensures.index in
+    let low = slice_get_within (names_of c.args.rows.now.names) c.in_ok-index.index c.args.row.now c.in_ok-index.ensures.index in
     let size = length-places 0 (names_of c.args.rows.now.names) c.args.rows.now.places.items (declared_row_names c.args.rows.now.rows.items) c.requires.fit.places in
-    let found : slice_get c.args.rows.now.places.items c.in_ok-index.index ≡ Some c.index.result.now = get-from c.args.rows.now.places.items c.in_ok-index.index c.index.result.now (omega arith) c.index.ensures in
+    let found : slice_get c.args.rows.now.places.items c.in_ok-index.index ≡ Some c.index.result.now = slice_get_read c.args.rows.now.places.items _ c.in_ok-index.index c.index.result.now refl (omega arith) c.index.ensures in
     let names : declared_row_names c.args.rows.now.rows.items ≡ map (field 1) lines = row-names-by c.args.rows.now.rows.items side lines h in
     let fits : SFits w64 c.in_ok-value.value = search rules in
     let same : to_z w64 (of_z w64 c.in_ok-value.value) ≡ c.in_ok-value.value = to_z-of_z w64 c.in_ok-value.value fits in

@@ -1,5 +1,5 @@
-use Rattle.std.proofs.Common.{rules, ◌≡◌, ◌&&◌, ◌++◌, ◌∙◌, ap, sym, subst, ℕ, Some, None}
-use Rattle.std.specs.Prelude.{Err, nat_le, flat_map}
+use Rattle.std.proofs.Common.{rules, ◌&&◌, ◌++◌, ◌∙◌, ap, sym, subst, ℕ, Some, None}
+use Rattle.std.specs.Prelude.{nat_le, flat_map}
 use Rattle.mps_meaning.specs.Described.{number_beside, line_right_sides, first_free}
 use Rattle.mps_meaning.specs.Faults.{pairs_fault}
 use Rattle.auction_terms.specs.Borrowed.{bytes_of}
@@ -15,8 +15,7 @@ returns-in_err-take_right_sides-clause-fault c = λ before d o s.
     let fields = bytes_of c.args.fields.now in
     let shown = line-pairs c.args.fields.now in
     let count = ap (λ (n : ℕ). nat_le 2 n && nat_le n 5) (length-bytes c.args.fields.now) ∙ sym c.is_two_to_five.ensures.value ∙ c.if-not-is_two_to_five.false in
-    let r : c.from_residual.result ≡ Err c.in_err-take_right_sides.field-0.0 = search rules in
-    handed-on (Unit {0}) c.from_residual.result c.in_err-take_right_sides.field-0.0 _ _ r
+    handed-on (Unit {0}) c.from_residual.result c.in_err-take_right_sides.field-0.0 _ _ (search rules)
     (λ kind h. line-fault before fields (Some kind) count (ap (pairs_fault before.rows (first_free before.rows) (flat_map line_right_sides before.right_sides)) shown ∙ h))
     (c.in_err-take_right_sides.ensures.fault before.rows (flat_map line_right_sides before.right_sides) d o s)
 

@@ -1,9 +1,10 @@
 use Rattle.std.proofs.Common.{ℕ, sym, ap, ◌∙◌}
+use Rattle.std.proofs.lemmas.Option.{get_or_from_slice_get}
 use Rattle.std.specs.Prelude.{◌==◌}
 use Rattle.std.proofs.lemmas.Bool.{eq-eqb, ne_eqb}
 use Rattle.mps_reader.specs.inside.Rows.{names_of}
 use Rattle.mps_reader.proofs.NameFacts.{any-names}
-use Rattle.mps_reader.proofs.StampFacts.{found-row, get-or-is, unknown-fault, repeated-fault, no-fault}
+use Rattle.mps_reader.proofs.StampFacts.{found-row, unknown-fault, repeated-fault, no-fault}
 use Rattle.mps_reader.proofs.rows.stamp_row.Goals as goal
 
 pub returns-in_default-clause-fault : goal.returns-in_default-clause-fault
@@ -25,4 +26,4 @@ pub returns-clause-index : goal.returns-clause-index
 returns-clause-index c = found-row c.args.row.now c.args.names.now.keys c.in-Some.index c.in-Some.ensures.index
 
 pub returns-clause-fresh : goal.returns-clause-fresh
-returns-clause-fresh c = λ d e. ap (λ (n : ℕ). n == c.args.stamp) (sym (get-or-is c.args.stamps.now.items c.in-Some.index d c.index.result.now e) ∙ sym c.index.ensures) ∙ ne_eqb _ _ c.if-index-stamp.false
+returns-clause-fresh c = λ d e. ap (λ (n : ℕ). n == c.args.stamp) (sym (get_or_from_slice_get c.args.stamps.now.items c.in-Some.index d c.index.result.now e) ∙ sym c.index.ensures) ∙ ne_eqb _ _ c.if-index-stamp.false
