@@ -1,7 +1,7 @@
 -- A pair of row and number more.
 use Rattle.std.proofs.Common.{◌≡◌, ◌≢◌, ℕ, zero, suc, ◌<◌, Bool, true, false, List, [], ◌∷◌, ◌++◌, length, refl, sym, ap, subst, ◌∙◌, arith, Option, Some, None, ℤ, pos, get_or}
 use Rattle.std.proofs.lemmas.List.{length-map}
-use Rattle.std.proofs.lemmas.Option.{slice_get_within, slice_get-get_or}
+use Rattle.std.proofs.lemmas.Option.{slice_get_within, slice_get-get_or, slice_get_read}
 use Rattle.std.specs.Prelude.{◌==◌, slice_get, if◌then◌else◌}
 use Rattle.std.specs.Ordering.{int_eq}
 use Rattle.std.specs.List.{AllByRecursion, slice_set}
@@ -13,7 +13,7 @@ use Rattle.mps_reader.specs.inside.Rows.{AreAt, RowsFit, names_of, declared_row_
 use Rattle.mps_reader.specs.declared.row_table.Rows.{Rows}
 use Rattle.mps_reader.specs.declared.open_column.OpenColumn.{OpenColumn}
 use Rattle.mps_reader.specs.inside.Columns.{AreDistinctEntries, IsApart, PairsFit, put_entries}
-use Rattle.mps_reader.proofs.NameFacts.{length-bytes, placed, apart}
+use Rattle.mps_reader.proofs.NameFacts.{length-bytes, length-places, placed, apart}
 use Rattle.mps_reader.proofs.EntryFacts.{entries-push, none-at-push}
 
 pub get-set : (xs : List ℕ) (i j v : ℕ) → i ≢ j → slice_get (slice_set xs i v) j ≡ slice_get xs j
@@ -65,13 +65,21 @@ entries-put count entries _ _ v f d = d
 pub length-names : (rs : List Row) → length (declared_row_names rs) ≡ length rs
 length-names rs = length-map rs (λ r. r.name.items)
 
+-- the row that a name found has its place
+pub place-within : (r : Rows) (i : ℕ) (row : List ℕ) → RowsFit r → slice_get (names_of r.names) i ≡ Some row → i < length r.places.items
+place-within r i row fit at = omega (arith, slice_get_within (names_of r.names) i row at, length-places 0 (names_of r.names) r.places.items (declared_row_names r.rows.items) fit.places)
+
+pub stamp-within : (r : Rows) (i : ℕ) (row : List ℕ) → RowsFit r → slice_get (names_of r.names) i ≡ Some row → i < length r.stamps.items
+stamp-within r i row fit at = omega (arith, slice_get_within (names_of r.names) i row at, fit.stamps, length-bytes r.names.keys)
+
+pub place-here : (r : Rows) (i : ℕ) (row : List ℕ) (place : Option ℕ) → RowsFit r → slice_get (names_of r.names) i ≡ Some row → place ≡ get_or r.places.items i place → slice_get r.places.items i ≡ Some place
+place-here r i row place fit at e = slice_get_read r.places.items _ i place refl (place-within r i row fit at) e
+
 pub pair-fits : (r new : Rows) (column after : OpenColumn) (stamp i : ℕ) (row : List ℕ) (cost : Bool) (place : Option ℕ) (v : ℤ) → RowsFit r → slice_get (names_of r.names) i ≡ Some row → slice_get r.places.items i ≡ Some place
     → ((d : ℕ) → slice_get r.stamps.items i ≡ Some d → (d == stamp) ≡ false) → new.places ≡ r.places → new.rows ≡ r.rows → new.stamps.items ≡ slice_set r.stamps.items i stamp → after.entries.items ≡ put_entries cost place v column.entries.items
     → PairsFit stamp r column → PairsFit stamp new after
 pair-fits r new column after stamp i row cost place v fit at here fresh places rows stamps entries h =
-    let low = slice_get_within (names_of r.names) i row at in
-    let size = length-bytes r.names.keys in
-    let stamped = slice_get-get_or r.stamps.items i 0 (omega (arith, fit.stamps)) in
+    let stamped = slice_get-get_or r.stamps.items i 0 (stamp-within r i row fit at) in
     record {
       entries = subst (λ q. AreDistinctEntries (length q.items) after.entries.items) (sym rows) (subst (λ es. AreDistinctEntries (length r.rows.items) es) (sym entries) (entries-put (length r.rows.items) column.entries.items cost place v
           (λ p e. let there = placed 0 (names_of r.names) r.places.items (declared_row_names r.rows.items) i p fit.places (here ∙ ap (λ o. Some o) e) in

@@ -1,9 +1,9 @@
 use Rattle.std.proofs.Common.{refl, arith, ◌≡◌, ◌∙◌, ap, sym, subst, Some, rules, w64}
-use Rattle.std.proofs.lemmas.Option.{slice_get_within, slice_get_read, slice_get-get_or}
-use Rattle.mps_reader.specs.inside.Rows.{names_of, declared_row_names, option_now, StampsAre}
-use Rattle.mps_reader.proofs.NameFacts.{length-places, length-bytes, no-cost}
-use Rattle.mps_reader.proofs.PairSteps.{pair-fits}
-use Rattle.std.specs.Prelude.{bytes_eq, slice_get, ◌||◌, if◌then◌else◌}
+use Rattle.std.proofs.lemmas.Option.{slice_get-get_or}
+use Rattle.mps_reader.specs.inside.Rows.{names_of, declared_row_names, option_now}
+use Rattle.mps_reader.proofs.NameFacts.{no-cost}
+use Rattle.mps_reader.proofs.PairSteps.{place-within, stamp-within, place-here, pair-fits}
+use Rattle.std.specs.Prelude.{bytes_eq, slice_get, if◌then◌else◌}
 use Rattle.program_rows.specs.Parts.{IsName}
 use Rattle.std.proofs.lemmas.Int.{to_z-of_z}
 use mir.Val.{SFits, to_z, of_z}
@@ -13,32 +13,23 @@ use Rattle.mps_reader.proofs.PairTells.{stamped-are, open-put, all-at}
 use Rattle.mps_reader.proofs.entries.take_entry.Goals as goal
 
 pub index-place-requires : goal.index-place-requires
-index-place-requires c =
-    let size = length-places 0 (names_of c.args.rows.now.names) c.args.rows.now.places.items (declared_row_names c.args.rows.now.rows.items) c.requires.fit.places in
-    omega (arith, slice_get_within (names_of c.args.rows.now.names) c.in_ok-index.index c.args.row.now c.in_ok-index.ensures.index, c.args.rows.now.places.ok)
+index-place-requires c = omega (arith, place-within c.args.rows.now c.in_ok-index.index c.args.row.now c.requires.fit c.in_ok-index.ensures.index, c.args.rows.now.places.ok)
 
 pub returns-clause-entries : goal.returns-clause-entries
 returns-clause-entries c = λ fits.
-    let low = slice_get_within (names_of c.args.rows.now.names) c.in_ok-index.index c.args.row.now c.in_ok-index.ensures.index in
-    let size = length-places 0 (names_of c.args.rows.now.names) c.args.rows.now.places.items (declared_row_names c.args.rows.now.rows.items) c.requires.fit.places in
     pair-fits c.args.rows.now _ c.args.column.now c.put.new.column c.args.stamp c.in_ok-index.index c.args.row.now c.is_cost.result c.index-place.result.now _ c.requires.fit c.in_ok-index.ensures.index
-    (slice_get_read c.args.rows.now.places.items _ c.in_ok-index.index c.index-place.result.now refl (omega arith) c.index-place.ensures) c.in_ok-index.ensures.fresh refl refl c.in_ok-index.ensures.stamped c.in_ok-put.ensures.entries fits
+    (place-here c.args.rows.now c.in_ok-index.index c.args.row.now c.index-place.result.now c.requires.fit c.in_ok-index.ensures.index c.index-place.ensures) c.in_ok-index.ensures.fresh refl refl c.in_ok-index.ensures.stamped c.in_ok-put.ensures.entries fits
 
 pub returns-clause-stamps : goal.returns-clause-stamps
 returns-clause-stamps c = λ has h.
-    subst (λ s. StampsAre s c.args.stamp (names_of c.args.rows.now.names) (λ name. bytes_eq name c.args.row.now || has name)) (sym c.in_ok-index.ensures.stamped)
-    (stamped-are c.args.stamp has c.args.rows.now.stamps.items (names_of c.args.rows.now.names) c.in_ok-index.index c.args.row.now c.requires.fit.distinct c.in_ok-index.ensures.index h)
+    rw c.in_ok-index.ensures.stamped (stamped-are c.args.stamp has c.args.rows.now.stamps.items (names_of c.args.rows.now.names) c.in_ok-index.index c.args.row.now c.requires.fit.distinct c.in_ok-index.ensures.index h)
 
 pub returns-clause-tells : goal.returns-clause-tells
 returns-clause-tells c = λ fits number h.
-    let low = slice_get_within (names_of c.args.rows.now.names) c.in_ok-index.index c.args.row.now c.in_ok-index.ensures.index in
-    let size = length-places 0 (names_of c.args.rows.now.names) c.args.rows.now.places.items (declared_row_names c.args.rows.now.rows.items) c.requires.fit.places in
-    let here : slice_get c.args.rows.now.places.items c.in_ok-index.index ≡ Some c.index-place.result.now = slice_get_read c.args.rows.now.places.items _ c.in_ok-index.index c.index-place.result.now refl (omega arith) c.index-place.ensures in
-    let stamps = c.requires.fit.stamps in
+    let here : slice_get c.args.rows.now.places.items c.in_ok-index.index ≡ Some c.index-place.result.now = place-here c.args.rows.now c.in_ok-index.index c.args.row.now c.index-place.result.now c.requires.fit c.in_ok-index.ensures.index c.index-place.ensures in
     let fits_number : SFits w64 c.in_ok-value.value = search rules in
     let same : to_z w64 (of_z w64 c.in_ok-value.value) ≡ c.in_ok-value.value = to_z-of_z w64 c.in_ok-value.value fits_number in
-    let names = length-bytes c.args.rows.now.names.keys in
-    let stamped = slice_get-get_or c.args.rows.now.stamps.items c.in_ok-index.index 0 (omega arith) in
+    let stamped = slice_get-get_or c.args.rows.now.stamps.items c.in_ok-index.index 0 (stamp-within c.args.rows.now _ c.args.row.now c.requires.fit c.in_ok-index.ensures.index) in
     subst (λ v. OpenTells (option_now c.args.rows.now.objective) (declared_row_names c.args.rows.now.rows.items) (λ name. if bytes_eq name c.args.row.now then v else number name) c.put.new.column) (sym c.in_ok-value.ensures.value)
     (open-put c.args.rows.now.objective (names_of c.args.rows.now.names) c.args.rows.now.places.items (declared_row_names c.args.rows.now.rows.items) number c.args.column.now c.put.new.column c.in_ok-index.index c.args.row.now c.is_cost.result c.index-place.result.now c.in_ok-value.value
     c.requires.fit.distinct (all-at IsName (names_of c.args.rows.now.names) c.in_ok-index.index c.args.row.now c.in_ok-index.ensures.index c.requires.fit.plain) c.requires.fit.places c.requires.fit.objective c.in_ok-index.ensures.index here
@@ -48,7 +39,5 @@ returns-clause-tells c = λ fits number h.
 
 pub is_cost-requires : goal.is_cost-requires
 is_cost-requires c = λ some.
-    let low = slice_get_within (names_of c.args.rows.now.names) c.in_ok-index.index c.args.row.now c.in_ok-index.ensures.index in
-    let size = length-places 0 (names_of c.args.rows.now.names) c.args.rows.now.places.items (declared_row_names c.args.rows.now.rows.items) c.requires.fit.places in
     no-cost c.args.rows.now.objective (names_of c.args.rows.now.names) c.args.rows.now.places.items (declared_row_names c.args.rows.now.rows.items) c.in_ok-index.index c.args.row.now c.index-place.result.now c.requires.fit.places c.requires.fit.objective
-    c.in_ok-index.ensures.index (slice_get_read c.args.rows.now.places.items _ c.in_ok-index.index c.index-place.result.now refl (omega arith) c.index-place.ensures) some
+    c.in_ok-index.ensures.index (place-here c.args.rows.now c.in_ok-index.index c.args.row.now c.index-place.result.now c.requires.fit c.in_ok-index.ensures.index c.index-place.ensures) some

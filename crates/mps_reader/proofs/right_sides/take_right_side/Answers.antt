@@ -1,11 +1,10 @@
 use Rattle.std.proofs.Common.{refl, ap, ◌∙◌, length, arith, Some, rules, ◌≡◌, sym, subst, ℕ, false, map, w64}
 use Rattle.std.proofs.lemmas.List.{length-set}
-use Rattle.std.proofs.lemmas.Option.{slice_get_within, slice_get_read}
-use Rattle.mps_reader.specs.inside.Rows.{names_of, declared_row_names, rows_by, StampsAre, with_side}
-use Rattle.mps_reader.proofs.NameFacts.{length-places, placed, distinct-rows}
-use Rattle.mps_reader.proofs.PairSteps.{length-names}
+use Rattle.mps_reader.specs.inside.Rows.{names_of, declared_row_names, rows_by, with_side}
+use Rattle.mps_reader.proofs.NameFacts.{placed, distinct-rows}
+use Rattle.mps_reader.proofs.PairSteps.{place-within, place-here, length-names}
 use Rattle.mps_reader.proofs.FitFacts.{sided-fit, same-names, side-count}
-use Rattle.std.specs.Prelude.{bytes_eq, slice_get, ◌||◌, if◌then◌else◌}
+use Rattle.std.specs.Prelude.{bytes_eq, slice_get, if◌then◌else◌}
 use Rattle.std.specs.List.{list_any, IsDistinct, AllByRecursion}
 use Rattle.std.specs.Option.{option_map_or}
 use Rattle.std.proofs.lemmas.Int.{to_z-of_z}
@@ -18,15 +17,11 @@ use Rattle.mps_reader.proofs.SideTells.{row-names-by, none-by, side-by, early-re
 use Rattle.mps_reader.proofs.right_sides.take_right_side.Goals as goal
 
 pub index-requires : goal.index-requires
-index-requires c =
-    let size = length-places 0 (names_of c.args.rows.now.names) c.args.rows.now.places.items (declared_row_names c.args.rows.now.rows.items) c.requires.fit.places in
-    omega (arith, slice_get_within (names_of c.args.rows.now.names) c.in_ok-index.index c.args.row.now c.in_ok-index.ensures.index, c.args.rows.now.places.ok)
+index-requires c = omega (arith, place-within c.args.rows.now c.in_ok-index.index c.args.row.now c.requires.fit c.in_ok-index.ensures.index, c.args.rows.now.places.ok)
 
 pub set_right_side-requires : goal.set_right_side-requires
 set_right_side-requires c =
-    let low = slice_get_within (names_of c.args.rows.now.names) c.in_ok-index.index c.args.row.now c.in_ok-index.ensures.index in
-    let size = length-places 0 (names_of c.args.rows.now.names) c.args.rows.now.places.items (declared_row_names c.args.rows.now.rows.items) c.requires.fit.places in
-    let here = slice_get_read c.args.rows.now.places.items _ c.in_ok-index.index c.index.result.now refl (omega arith) c.index.ensures ∙ ap (λ o. Some o) c.in-Some.is in
+    let here = place-here c.args.rows.now c.in_ok-index.index c.args.row.now c.index.result.now c.requires.fit c.in_ok-index.ensures.index c.index.ensures ∙ ap (λ o. Some o) c.in-Some.is in
     let there = placed 0 (names_of c.args.rows.now.names) c.args.rows.now.places.items (declared_row_names c.args.rows.now.rows.items) c.in_ok-index.index c.in-Some.place c.requires.fit.places here in
     omega (arith, length-names c.args.rows.now.rows.items)
 
@@ -46,28 +41,22 @@ returns-in_err-index-clause-fault c = λ has s.
 
 pub returns-in_default-clause-stamps : goal.returns-in_default-clause-stamps
 returns-in_default-clause-stamps c = λ has h.
-    subst (λ s. StampsAre s c.args.stamp (names_of c.args.rows.now.names) (λ name. bytes_eq name c.args.row.now || has name)) (sym c.in_ok-index.ensures.stamped)
-    (stamped-are c.args.stamp has c.args.rows.now.stamps.items (names_of c.args.rows.now.names) c.in_ok-index.index c.args.row.now c.requires.fit.distinct c.in_ok-index.ensures.index h)
+    rw c.in_ok-index.ensures.stamped (stamped-are c.args.stamp has c.args.rows.now.stamps.items (names_of c.args.rows.now.names) c.in_ok-index.index c.args.row.now c.requires.fit.distinct c.in_ok-index.ensures.index h)
 
 pub returns-clause-stamps : goal.returns-clause-stamps
 returns-clause-stamps c = λ has h.
-    subst (λ s. StampsAre s c.args.stamp (names_of c.args.rows.now.names) (λ name. bytes_eq name c.args.row.now || has name)) (sym c.in_ok-index.ensures.stamped)
-    (stamped-are c.args.stamp has c.args.rows.now.stamps.items (names_of c.args.rows.now.names) c.in_ok-index.index c.args.row.now c.requires.fit.distinct c.in_ok-index.ensures.index h)
+    rw c.in_ok-index.ensures.stamped (stamped-are c.args.stamp has c.args.rows.now.stamps.items (names_of c.args.rows.now.names) c.in_ok-index.index c.args.row.now c.requires.fit.distinct c.in_ok-index.ensures.index h)
 
 pub returns-in_default-clause-rows : goal.returns-in_default-clause-rows
 returns-in_default-clause-rows c = λ side lines h.
-    let low = slice_get_within (names_of c.args.rows.now.names) c.in_ok-index.index c.args.row.now c.in_ok-index.ensures.index in
-    let size = length-places 0 (names_of c.args.rows.now.names) c.args.rows.now.places.items (declared_row_names c.args.rows.now.rows.items) c.requires.fit.places in
-    let found : slice_get c.args.rows.now.places.items c.in_ok-index.index ≡ Some c.index.result.now = slice_get_read c.args.rows.now.places.items _ c.in_ok-index.index c.index.result.now refl (omega arith) c.index.ensures in
+    let found : slice_get c.args.rows.now.places.items c.in_ok-index.index ≡ Some c.index.result.now = place-here c.args.rows.now c.in_ok-index.index c.args.row.now c.index.result.now c.requires.fit c.in_ok-index.ensures.index c.index.ensures in
     let names : declared_row_names c.args.rows.now.rows.items ≡ map (field 1) lines = row-names-by c.args.rows.now.rows.items side lines h in
     let free = free-apart 0 (names_of c.args.rows.now.names) c.args.rows.now.places.items (declared_row_names c.args.rows.now.rows.items) c.in_ok-index.index c.args.row.now c.requires.fit.places c.requires.fit.distinct c.in_ok-index.ensures.index (found ∙ ap (λ o. Some o) c.in_default.is) in
     h ∙ none-by side c.args.row.now (value c.args.token.now) lines (subst (λ ns. AllByRecursion (λ n. bytes_eq c.args.row.now n ≡ false) ns) names free)
 
 pub returns-clause-rows : goal.returns-clause-rows
 returns-clause-rows c = λ side lines h.
-    let low = slice_get_within (names_of c.args.rows.now.names) c.in_ok-index.index c.args.row.now c.in_ok-index.ensures.index in
-    let size = length-places 0 (names_of c.args.rows.now.names) c.args.rows.now.places.items (declared_row_names c.args.rows.now.rows.items) c.requires.fit.places in
-    let found : slice_get c.args.rows.now.places.items c.in_ok-index.index ≡ Some c.index.result.now = slice_get_read c.args.rows.now.places.items _ c.in_ok-index.index c.index.result.now refl (omega arith) c.index.ensures in
+    let found : slice_get c.args.rows.now.places.items c.in_ok-index.index ≡ Some c.index.result.now = place-here c.args.rows.now c.in_ok-index.index c.args.row.now c.index.result.now c.requires.fit c.in_ok-index.ensures.index c.index.ensures in
     let names : declared_row_names c.args.rows.now.rows.items ≡ map (field 1) lines = row-names-by c.args.rows.now.rows.items side lines h in
     let fits : SFits w64 c.in_ok-value.value = search rules in
     let same : to_z w64 (of_z w64 c.in_ok-value.value) ≡ c.in_ok-value.value = to_z-of_z w64 c.in_ok-value.value fits in
