@@ -1,5 +1,6 @@
 -- What a certificate shows holds at each point.
 use Rattle.std.proofs.Common.{◌≡◌, ℕ, zero, suc, ◌+◌, Bool, true, false, cond, List, [], ◌∷◌, ◌++◌, Option, Some, None, length, slice_get, slice_index_or, refl, subst, ap, ◌∙◌, arith, ℤ, pos, neg_ℤ, ◌+ℤ◌, ◌-ℤ◌, ◌≤ℤ◌, ◌<ℤ◌}
+use Rattle.optimality.proofs.PlaceLaws.{negated}
 use Rattle.std.specs.Prelude.{◌*ℤ◌, int_lt, if◌then◌else◌}
 use Rattle.std.specs.Option.{option_map_or}
 use Rattle.std.specs.List.{AllByRecursion, enumerate_from}
@@ -113,13 +114,9 @@ within-more : (cuts : List Cut) (cut : Cut) (vs : List Bool) → IsWithin cuts v
 within-more [] cut vs h k = (k, tt)
 within-more (c ∷ cuts) cut vs h k = (h.0, within-more cuts cut vs h.1 k)
 
-opposite : (v : Bool) (n : ℤ) → cond v (neg_ℤ n) (pos 0) ≡ neg_ℤ (cond v n (pos 0))
-opposite true n = refl
-opposite false n = refl
-
 pub negated-sum : (form : Form) (vs : List Bool) → form_sum (side true form (pos 0)).form vs ≡ neg_ℤ (form_sum form vs)
 negated-sum [] vs = refl
-negated-sum (t ∷ form) vs = rw (opposite (slice_index_or vs t.0 false) t.1, negated-sum form vs) (omega (arith, ints))
+negated-sum (t ∷ form) vs = rw (negated (slice_index_or vs t.0 false) t.1, negated-sum form vs) (omega (arith, ints))
 
 pub shown-within : (p : Table) (least : ℤ) (cuts : List Cut) (certificate : Certificate) (vs : List Bool) → ShowsWithin p least cuts certificate → IsPoint p vs → IsWithin cuts vs → least ≤ℤ objective p vs
 shown-within p least cuts (Bound scale ys rows) vs shows h w = leaf-bounds p least cuts scale ys rows vs shows h w

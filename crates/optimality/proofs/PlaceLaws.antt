@@ -110,7 +110,7 @@ listed-taken places numbers place listed q none = zero-at numbers place q ∙ by
 pub rest : {A : Type 0} → (xs : List A) (i : ℕ) (d : A) → i < length xs → drop i xs ≡ get_or xs i d ∷ drop (i + 1) xs
 rest xs i d h = let next : i + 1 ≡ suc i = omega arith in rw (next, drop-cons xs i d) refl
 
-times-at : (k n : ℤ) (b : Bool) → cond b (k *ℤ n) (pos 0) ≡ k *ℤ cond b n (pos 0)
+pub times-at : (k n : ℤ) (b : Bool) → cond b (k *ℤ n) (pos 0) ≡ k *ℤ cond b n (pos 0)
 times-at k n true = refl
 times-at k n false = sym (*ℤ-zero k)
 
@@ -148,7 +148,7 @@ terms-step form i d start before after l more h =
 
 -- ---------- the second side of a split ----------
 
-negated : (b : Bool) (n : ℤ) → cond b (neg_ℤ n) (pos 0) ≡ neg_ℤ (cond b n (pos 0))
+pub negated : (b : Bool) (n : ℤ) → cond b (neg_ℤ n) (pos 0) ≡ neg_ℤ (cond b n (pos 0))
 negated true n = refl
 negated false n = refl
 
@@ -158,7 +158,7 @@ negated-in (t ∷ form) most q = omega (arith, ints, negated (t.0 == q) t.1, neg
 
 -- ---------- taking all ----------
 
-number-last : (form : Form) (t : ℕ × ℤ) (q : ℕ) → number_in (form ++ t ∷ []) q ≡ number_in form q +ℤ at_place t.0 t.1 q
+pub number-last : (form : Form) (t : ℕ × ℤ) (q : ℕ) → number_in (form ++ t ∷ []) q ≡ number_in form q +ℤ at_place t.0 t.1 q
 number-last [] t q = omega (arith, ints)
 number-last (s ∷ form) t q = let later = number-last form t q in omega (arith, ints)
 

@@ -3,13 +3,13 @@ use Rattle.std.proofs.Common.{◌≡◌, ℕ, zero, suc, ◌+◌, ◌*◌, ◌<�
 use Rattle.std.specs.Prelude.{◌*ℤ◌, ◌==◌, Some, unsigned_abs}
 use Rattle.std.specs.List.{zip}
 use native.Mathlib.Nat.{mul-le-mul_left}
-use Rattle.std.proofs.lemmas.Int.{ints, unsigned_abs-mul}
+use Rattle.std.proofs.lemmas.Int.{ints}
 use Rattle.std.proofs.lemmas.Bool.Decides.{nat_tests}
 use Rattle.optimality.specs.Certificates.{Form, Cut, number_in}
 use Rattle.optimality.specs.Sizes.{size_of}
 use Rattle.optimality.specs.inside.Sizes.{form_size}
 use Rattle.optimality.specs.inside.Adding.{number_at, AreNoLarger, AreGivenMore, IsTaken, at_place, size_in, sizes_below, cuts_given, form_at, rows_given}
-use Rattle.optimality.proofs.SizeLaws.{abs-sum, sum-within}
+use Rattle.optimality.proofs.SizeLaws.{abs-sum, sum-within, at-within, times-within}
 
 -- ---------- sums over places ----------
 
@@ -159,16 +159,6 @@ sizes-over m k s b within (x ∷ xs) =
     let first : k x * over m (s x) ≤ k x * b x = mul-le-mul_left (k x) (within x) in
     omega (arith, over-times m (k x) (s x))
 
-cut-term : (q : ℕ) (e : ℕ × Cut) → unsigned_abs (pos e.0 *ℤ number_in e.1.form q) ≤ e.0 * size_in e.1.form q
-cut-term q e =
-    let more : e.0 * unsigned_abs (number_in e.1.form q) ≤ e.0 * size_in e.1.form q = mul-le-mul_left e.0 (number-size e.1.form q) in
-    omega (arith, unsigned_abs-mul (pos e.0) (number_in e.1.form q))
-
-row-term : (forms : List Form) (q : ℕ) (t : ℕ × ℤ) → unsigned_abs (t.1 *ℤ number_in (form_at forms t.0) q) ≤ unsigned_abs t.1 * size_in (form_at forms t.0) q
-row-term forms q t =
-    let more : unsigned_abs t.1 * unsigned_abs (number_in (form_at forms t.0) q) ≤ unsigned_abs t.1 * size_in (form_at forms t.0) q = mul-le-mul_left (unsigned_abs t.1) (number-size (form_at forms t.0) q) in
-    omega (arith, unsigned_abs-mul t.1 (number_in (form_at forms t.0) q))
-
 sizes-are : (m : ℕ) (numbers : List ℤ) → sizes_below m numbers ≡ over m (λ q. unsigned_abs (number_at numbers q))
 sizes-are zero numbers = refl
 sizes-are (suc m) numbers = ap (λ (n : ℕ). n + unsigned_abs (number_at numbers m)) (sizes-are m numbers)
@@ -189,9 +179,9 @@ given-within m ys cuts rows forms numbers given =
   where
     one : (q : ℕ) → unsigned_abs (number_at numbers q) ≤ size_of (λ (e : ℕ × Cut). e.0 * size_in e.1.form q) (zip ys cuts) + size_of (λ (t : ℕ × ℤ). unsigned_abs t.1 * size_in (form_at forms t.0) q) rows
     one q =
-        let left : unsigned_abs (cuts_given ys cuts q) ≤ size_of (λ (e : ℕ × Cut). e.0 * size_in e.1.form q) (zip ys cuts) = sum-within (λ (e : ℕ × Cut). pos e.0 *ℤ number_in e.1.form q) (λ (e : ℕ × Cut). e.0 * size_in e.1.form q) (cut-term q) (zip ys cuts) in
+        let left : unsigned_abs (cuts_given ys cuts q) ≤ size_of (λ (e : ℕ × Cut). e.0 * size_in e.1.form q) (zip ys cuts) = sum-within (λ (e : ℕ × Cut). pos e.0 *ℤ number_in e.1.form q) (λ (e : ℕ × Cut). e.0 * size_in e.1.form q) (λ e. times-within (pos e.0) (number_in e.1.form q) (size_in e.1.form q) (number-size e.1.form q)) (zip ys cuts) in
         let right : unsigned_abs (rows_given rows forms q) ≤ size_of (λ (t : ℕ × ℤ). unsigned_abs t.1 * size_in (form_at forms t.0) q) rows =
-        sum-within (λ (t : ℕ × ℤ). t.1 *ℤ number_in (form_at forms t.0) q) (λ (t : ℕ × ℤ). unsigned_abs t.1 * size_in (form_at forms t.0) q) (row-term forms q) rows in
+        sum-within (λ (t : ℕ × ℤ). t.1 *ℤ number_in (form_at forms t.0) q) (λ (t : ℕ × ℤ). unsigned_abs t.1 * size_in (form_at forms t.0) q) (λ t. times-within t.1 (number_in (form_at forms t.0) q) (size_in (form_at forms t.0) q) (number-size (form_at forms t.0) q)) rows in
         let is : unsigned_abs (number_at numbers q) ≡ unsigned_abs (cuts_given ys cuts q +ℤ rows_given rows forms q) = ap unsigned_abs (given q) in
         omega (arith, abs-sum (cuts_given ys cuts q) (rows_given rows forms q))
 
@@ -242,8 +232,4 @@ below-taken-from (suc m) before after t taken l = by (below-taken-from m before 
 pub more-within : (before after : List ℤ) (t : ℕ × ℤ) → AreGivenMore (at_place t.0 t.1) before after → (q : ℕ) → unsigned_abs (number_at after q) ≤ unsigned_abs (number_at before q) + unsigned_abs t.1
 more-within before after t more q =
     let is : unsigned_abs (number_at after q) ≡ unsigned_abs (number_at before q +ℤ at_place t.0 t.1 q) = ap unsigned_abs (more q) in
-    omega (arith, abs-sum (number_at before q) (at_place t.0 t.1 q), one-number (t.0 == q) t.1)
-  where
-    one-number : (b : Bool) (n : ℤ) → unsigned_abs (cond b n (pos 0)) ≤ unsigned_abs n
-    one-number true n = omega arith
-    one-number false n = omega arith
+    omega (arith, abs-sum (number_at before q) (at_place t.0 t.1 q), at-within (t.0 == q) t.1)

@@ -1,5 +1,6 @@
 -- The rows of a program as forms: what each gives a column is its coefficient there.
 use Rattle.std.proofs.Common.{◌≡◌, ℕ, zero, suc, ◌+◌, ◌<◌, ◌≤◌, Bool, true, false, cond, drop, List, [], ◌∷◌, ◌++◌, Some, length, slice_get, refl, subst, sym, ap, ◌∙◌, arith, get_or, get_or-set_other, length-set, ℤ, pos, ◌+ℤ◌, ◌≢◌}
+use Rattle.optimality.proofs.PlaceLaws.{number-last}
 use Rattle.std.specs.Prelude.{◌==◌, find, replicate, slice_set}
 use Rattle.std.specs.Option.{option_map, option_map_or}
 use Rattle.std.specs.List.{AllByRecursion}
@@ -42,10 +43,6 @@ columns-step i cs es forms next all e s h =
 abbrev given : List Form → ℕ → ℕ → ℤ
 given forms row i = number_in (form_at forms row) i
 
-number-more : (form : Form) (t : ℕ × ℤ) (i : ℕ) → number_in (form ++ t ∷ []) i ≡ number_in form i +ℤ cond (t.0 == i) t.1 (pos 0)
-number-more [] t i = omega (arith, ints)
-number-more (s ∷ form) t i = let later = number-more form t i in omega (arith, ints)
-
 pub length-term : (row : ℕ) (t : ℕ × ℤ) (forms : List Form) → length (with_term row t forms) ≡ length forms
 length-term row t forms = length-set forms row (form_at forms row ++ t ∷ [])
 
@@ -65,7 +62,7 @@ term-at place t forms row i h = by (place == row) refl
         let same : row ≡ place = grind (arith, nat_tests) in
         let within : place < length forms = omega arith in
         ap (λ (form : Form). number_in form i) (get_or-set_at forms place row (form_at forms place ++ t ∷ []) [] same within)
-        ∙ number-more (form_at forms place) t i ∙ ap (λ (k : ℕ). given forms k i +ℤ cond (t.0 == i) t.1 (pos 0)) (sym same)
+        ∙ number-last (form_at forms place) t i ∙ ap (λ (k : ℕ). given forms k i +ℤ cond (t.0 == i) t.1 (pos 0)) (sym same)
     by false e =
         let other : row ≢ place = grind (arith, nat_tests) in
         ap (λ (form : Form). number_in form i) (get_or-set_other forms place row (form_at forms place ++ t ∷ []) [] other) ∙ omega (arith, ints)
@@ -93,10 +90,9 @@ passed place [] forms row i h l = refl
 passed place (c ∷ cs) forms row i h l =
     let longer : row < length (with_entries place c.entries forms) = omega (arith, length-entries place c.entries forms) in
     let later = passed (suc place) cs (with_entries place c.entries forms) row i longer (omega arith) in
-    let first = entries-at place c.entries forms row i h in
     let other : (place == i) ≡ false = grind (arith, nat_tests) in
     let none = ap (λ (b : Bool). cond b (number_in c.entries row) (pos 0)) other in
-    omega (arith, ints)
+    omega (arith, ints, entries-at place c.entries forms row i h)
 
 columns-at : (place j : ℕ) (cs : List TableColumn) (forms : List Form) (row i : ℕ) (c : TableColumn) → row < length forms → i ≡ place + j → slice_get cs j ≡ Some c → given (with_columns place cs forms) row i ≡ given forms row i +ℤ number_in c.entries row
 columns-at place j [] forms row i c h e at = absurd cc
@@ -112,10 +108,9 @@ columns-at place zero (d ∷ cs) forms row i c h e at =
 columns-at place (suc j) (d ∷ cs) forms row i c h e at =
     let longer : row < length (with_entries place d.entries forms) = omega (arith, length-entries place d.entries forms) in
     let later = columns-at (suc place) j cs (with_entries place d.entries forms) row i c longer (omega arith) at in
-    let first = entries-at place d.entries forms row i h in
     let other : (place == i) ≡ false = grind (arith, nat_tests) in
     let none = ap (λ (b : Bool). cond b (number_in d.entries row) (pos 0)) other in
-    omega (arith, ints)
+    omega (arith, ints, entries-at place d.entries forms row i h)
 
 -- ---------- entries ----------
 

@@ -1,5 +1,7 @@
 -- Numbers without their signs: of sums, of forms, and of what a leaf adds up.
-use Rattle.std.proofs.Common.{◌≡◌, ℕ, zero, suc, ◌+◌, ◌*◌, ◌^◌, ◌<◌, ◌≤◌, Bool, true, false, cond, List, [], ◌∷◌, length, drop, get_or, refl, sym, ap, ap₂, ◌∙◌, arith, ℤ, pos, neg_ℤ, ◌+ℤ◌, ◌-ℤ◌}
+use Rattle.std.proofs.Common.{◌≡◌, ℕ, zero, suc, ◌+◌, ◌*◌, ◌^◌, ◌<◌, ◌≤◌, Bool, true, false, cond, List, [], ◌∷◌, length, drop, get_or, refl, subst, sym, ap, ap₂, ◌∙◌, arith, ℤ, pos, neg_ℤ, ◌+ℤ◌, ◌-ℤ◌}
+use Rattle.std.proofs.lemmas.List.{length-map, get_or-map}
+use Rattle.std.proofs.lemmas.Slice.Zip.{get_or-zip, length-zip}
 use Rattle.std.specs.Prelude.{◌*ℤ◌, ◌==◌, if◌then◌else◌, unsigned_abs}
 use native.Mathlib.Nat.{mul-le-mul_left}
 use Rattle.std.proofs.lemmas.Int.{ints, unsigned_abs-mul}
@@ -64,7 +66,7 @@ step-within f g within xs i d now start l h =
 
 -- ---------- forms ----------
 
-at-within : (b : Bool) (n : ℤ) → unsigned_abs (cond b n (pos 0)) ≤ unsigned_abs n
+pub at-within : (b : Bool) (n : ℤ) → unsigned_abs (cond b n (pos 0)) ≤ unsigned_abs n
 at-within true n = omega arith
 at-within false n = omega arith
 
@@ -104,42 +106,26 @@ pub signed-size : (negative : Bool) (n : ℕ) → unsigned_abs (if negative then
 signed-size true n = abs-negated (pos n)
 signed-size false n = refl
 
--- what was taken of the sum over cuts, and the sizes of those that are left
-cuts-part : (f : ℕ × Cut → ℤ) (g : ℕ × Cut → ℕ) → ((e : ℕ × Cut) → unsigned_abs (f e) ≤ g e) → (ys : List ℕ) (splits : List OpenSplit) (i : ℕ) → i < length ys → i < length splits
-    → unsigned_abs (sum_of f (zip ys (cuts_of splits)) -ℤ sum_of f (zip (drop i ys) (cuts_of (drop i splits)))) + size_of g (zip (drop i ys) (cuts_of (drop i splits))) ≤ size_of g (zip ys (cuts_of splits))
-cuts-part f g within (y ∷ ys) (s ∷ splits) zero l m =
-    let all = sum_of f (zip (y ∷ ys) (cuts_of (s ∷ splits))) in
-    let none : unsigned_abs (all -ℤ all) ≡ 0 = omega (arith, ints) in
-    omega arith
-cuts-part f g within (y ∷ ys) (s ∷ splits) (suc i) l m =
-    let first = within (y, cut_of s) in
-    let later = cuts-part f g within ys splits i (omega arith) (omega arith) in
-    let whole = sum_of f (zip ys (cuts_of splits)) in
-    let left = sum_of f (zip (drop i ys) (cuts_of (drop i splits))) in
-    let split : (f (y, cut_of s) +ℤ whole) -ℤ left ≡ f (y, cut_of s) +ℤ (whole -ℤ left) = omega (arith, ints) in
-    let moved : unsigned_abs ((f (y, cut_of s) +ℤ whole) -ℤ left) ≡ unsigned_abs (f (y, cut_of s) +ℤ (whole -ℤ left)) = ap unsigned_abs split in
-    omega (arith, abs-sum (f (y, cut_of s)) (whole -ℤ left))
-cuts-part f g within _ _ i l m = absurd (omega arith)
-
-cuts-item : (g : ℕ × Cut → ℕ) (ys : List ℕ) (splits : List OpenSplit) (i : ℕ) (e : ℕ) (d : OpenSplit) → i < length ys → i < length splits → g (get_or ys i e, cut_of (get_or splits i d)) ≤ size_of g (zip (drop i ys) (cuts_of (drop i splits)))
-cuts-item g (y ∷ ys) (s ∷ splits) zero e d l m = omega arith
-cuts-item g (y ∷ ys) (s ∷ splits) (suc i) e d l m = cuts-item g ys splits i e d (omega arith) (omega arith)
-cuts-item g _ _ i e d l m = absurd (omega arith)
+-- what is left of the sum over cuts
+drop-zip : (i : ℕ) (ys : List ℕ) (splits : List OpenSplit) → i < length splits → drop i (zip ys (cuts_of splits)) ≡ zip (drop i ys) (cuts_of (drop i splits))
+drop-zip zero ys splits m = refl
+drop-zip (suc i) [] splits m = refl
+drop-zip (suc i) (y ∷ ys) [] m = absurd (omega arith)
+drop-zip (suc i) (y ∷ ys) (s ∷ splits) m = drop-zip i ys splits (omega arith)
 
 -- a sum over cuts so far, and the next cut
 pub cuts-step-within : (f : ℕ × Cut → ℤ) (g : ℕ × Cut → ℕ) → ((e : ℕ × Cut) → unsigned_abs (f e) ≤ g e) → (ys : List ℕ) (splits : List OpenSplit) (i : ℕ) (e : ℕ) (d : OpenSplit) (now start : ℤ) → i < length ys → i < length splits
     → now +ℤ sum_of f (zip (drop i ys) (cuts_of (drop i splits))) ≡ start +ℤ sum_of f (zip ys (cuts_of splits)) → unsigned_abs now + g (get_or ys i e, cut_of (get_or splits i d)) ≤ unsigned_abs start + size_of g (zip ys (cuts_of splits))
 cuts-step-within f g within ys splits i e d now start l m h =
-    let part = cuts-part f g within ys splits i l m in
-    let item = cuts-item g ys splits i e d l m in
-    let apart = sum_of f (zip ys (cuts_of splits)) -ℤ sum_of f (zip (drop i ys) (cuts_of (drop i splits))) in
-    let is : now ≡ start +ℤ apart = omega (arith, ints) in
-    let moved : unsigned_abs now ≡ unsigned_abs (start +ℤ apart) = ap unsigned_abs is in
-    omega (arith, abs-sum start apart)
+    let all = zip ys (cuts_of splits) in
+    let short : i < length (cuts_of splits) = omega (arith, length-map splits cut_of) in
+    let long : i < length all = omega (arith, length-zip ys (cuts_of splits)) in
+    let here = get_or-zip ys (cuts_of splits) i (e, cut_of d) l short ∙ ap (λ (c : Cut). (get_or ys i e, c)) (get_or-map cut_of splits i d (cut_of d) m) in
+    subst (λ (x : ℕ × Cut). unsigned_abs now + g x ≤ unsigned_abs start + size_of g all) here (step-within f g within all i (e, cut_of d) now start long (rw (drop-zip i ys splits m) h))
 
 -- ---------- terms of a leaf ----------
 
-times-within : (a b : ℤ) (m : ℕ) → unsigned_abs b ≤ m → unsigned_abs (a *ℤ b) ≤ unsigned_abs a * m
+pub times-within : (a b : ℤ) (m : ℕ) → unsigned_abs b ≤ m → unsigned_abs (a *ℤ b) ≤ unsigned_abs a * m
 times-within a b m h =
     let more : unsigned_abs a * unsigned_abs b ≤ unsigned_abs a * m = mul-le-mul_left (unsigned_abs a) h in
     omega (arith, unsigned_abs-mul a b)
