@@ -1,6 +1,6 @@
 -- A column begins, and ends.
 use Rattle.std.proofs.Common.{◌≡◌, ℕ, ◌+◌, true, false, List, [], ◌∷◌, ◌++◌, length, map, refl, sym, ap, subst, ◌∙◌, Option, Some, None, ℤ, length-append}
-use Rattle.std.specs.Prelude.{is_some, ◌==◌, bytes_eq}
+use Rattle.std.specs.Prelude.{IfSome, is_some, ◌==◌, bytes_eq}
 use Rattle.std.specs.Option.{option_to_list, option_map_or}
 use Rattle.std.proofs.lemmas.Bool.{both_ways}
 use Rattle.std.specs.List.{AllByRecursion, IsDistinct}
@@ -21,6 +21,10 @@ use Rattle.mps_reader.proofs.EntryFacts.{sorted-entries}
 pub none-from : {A : Type 0} (o : Option A) → is_some o ≡ false → o ≡ None
 none-from None h = refl
 none-from (Some x) h = absurd cc
+
+pub no-column : (P : List ℕ → Type 0) (o : Option (Bor (List ℕ))) → is_some o ≡ false → IfSome o (λ n. P n.now)
+no-column P None h = tt
+no-column P (Some x) h = absurd cc
 
 pub no-entries : (count : ℕ) → AreDistinctEntries count []
 unfolding IsDistinct
@@ -73,7 +77,7 @@ pub current-is : (o : Option (Bor (List ℕ))) (name : List ℕ) → option_map_
 current-is None name h = absurd cc
 current-is (Some x) name h = ap (λ n. Some n) (sym (same_name name x.now h))
 
-some-current : (o : Option (Bor (List ℕ))) (name : List ℕ) → option_now o ≡ Some name → is_some o ≡ true
+pub some-current : (o : Option (Bor (List ℕ))) (name : List ℕ) → option_now o ≡ Some name → is_some o ≡ true
 some-current None name h = absurd cc
 some-current (Some x) name h = refl
 

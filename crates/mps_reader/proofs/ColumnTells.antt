@@ -43,20 +43,13 @@ any-none p (x ∷ xs) h = by (x.0 == p) refl (any-none p xs)
     by true e more = let first : list_any (λ q. q.0 == p) (x ∷ xs) ≡ true = rw e refl in absurd (let clash : true ≡ false = sym first ∙ h in cc)
     by false e more = (e, more (let rest : list_any (λ q. q.0 == p) xs ≡ list_any (λ q. q.0 == p) (x ∷ xs) = rw e refl in rest ∙ h))
 
-any-pick : (p : ℕ) (v : ℤ) (f : ℕ → ℤ) (xs : List (ℕ × ℤ)) → list_any (λ e. e.0 == p) xs ≡ true → AllByRecursion (λ e. f e.0 ≡ e.1) xs → AllByRecursion (λ e. number_at_place e.0 xs ≡ e.1) xs → (g : ℕ → ℤ) → AllByRecursion (λ e. g e.0 ≡ e.1) xs → f p ≡ g p
-any-pick p v f [] h a w g b = absurd cc
-any-pick p v f (x ∷ xs) h a w g b = by (x.0 == p) refl
+any-pick : (p : ℕ) (f g : ℕ → ℤ) (xs : List (ℕ × ℤ)) → list_any (λ e. e.0 == p) xs ≡ true → AllByRecursion (λ e. f e.0 ≡ e.1) xs → AllByRecursion (λ e. g e.0 ≡ e.1) xs → f p ≡ g p
+any-pick p f g [] h a b = absurd cc
+any-pick p f g (x ∷ xs) h a b = by (x.0 == p) refl (any-pick p f g xs)
   where
-    go : (ys : List (ℕ × ℤ)) → list_any (λ e. e.0 == p) ys ≡ true → AllByRecursion (λ e. f e.0 ≡ e.1) ys → AllByRecursion (λ e. g e.0 ≡ e.1) ys → f p ≡ g p
-    go [] h a b = absurd cc
-    go (y ∷ ys) h a b = at (y.0 == p) refl (go ys)
-      where
-        at : (t : Bool) → (y.0 == p) ≡ t → (list_any (λ e. e.0 == p) ys ≡ true → AllByRecursion (λ e. f e.0 ≡ e.1) ys → AllByRecursion (λ e. g e.0 ≡ e.1) ys → f p ≡ g p) → f p ≡ g p
-        at true e more = subst (λ q. f q ≡ g q) (eqb-true _ _ e) (a.0 ∙ sym b.0)
-        at false e more = more (let rest : list_any (λ q. q.0 == p) ys ≡ list_any (λ q. q.0 == p) (y ∷ ys) = rw e refl in rest ∙ h) a.1 b.1
-
-    by : (t : Bool) → (x.0 == p) ≡ t → f p ≡ g p
-    by t e = go (x ∷ xs) h a b
+    by : (t : Bool) → (x.0 == p) ≡ t → (list_any (λ e. e.0 == p) xs ≡ true → AllByRecursion (λ e. f e.0 ≡ e.1) xs → AllByRecursion (λ e. g e.0 ≡ e.1) xs → f p ≡ g p) → f p ≡ g p
+    by true e more = subst (λ q. f q ≡ g q) (eqb-true _ _ e) (a.0 ∙ sym b.0)
+    by false e more = more (let rest : list_any (λ q. q.0 == p) xs ≡ list_any (λ q. q.0 == p) (x ∷ xs) = rw e refl in rest ∙ h) a.1 b.1
 
 -- a permutation of entries, each place once, has the same number at each place
 pub worth-moved : (xs ys : List (ℕ × ℤ)) (p : ℕ) → IsPermutation xs ys → IsDistinct same_place xs → IsDistinct same_place ys → number_at_place p ys ≡ number_at_place p xs
@@ -69,7 +62,7 @@ worth-moved xs ys p moved dx dy = by (list_any (λ e. e.0 == p) ys) refl
     other = recursion_from_All (λ e. number_at_place e.0 xs ≡ e.1) ys (All-permutation (λ e. number_at_place e.0 xs ≡ e.1) xs ys moved (All-from_recursion (λ e. number_at_place e.0 xs ≡ e.1) xs (worth-own xs dx)))
 
     by : (b : Bool) → list_any (λ e. e.0 == p) ys ≡ b → number_at_place p ys ≡ number_at_place p xs
-    by true h = any-pick p (pos 0) (λ q. number_at_place q ys) ys h own own (λ q. number_at_place q xs) other
+    by true h = any-pick p (λ q. number_at_place q ys) (λ q. number_at_place q xs) ys h own other
     by false h = worth-none p ys (any-none p ys h) ∙ sym (worth-none p xs (any-none p xs (list_any-IsPermutation (λ e. e.0 == p) xs ys moved ∙ h)))
 
 -- ---- entries in row order are those of the numbers

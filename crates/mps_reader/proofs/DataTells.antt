@@ -1,6 +1,6 @@
 -- A data line more.
 use Rattle.std.proofs.Common.{◌≡◌, ℕ, ◌+◌, false, List, [], ◌∷◌, ◌++◌, length, map, refl, sym, ap, subst, ◌∙◌, Option, Some, None}
-use Rattle.std.specs.Prelude.{◌==◌, not, is_some, codes, bytes_eq, IfSome, flat_map}
+use Rattle.std.specs.Prelude.{◌==◌, not, is_some, codes, bytes_eq, flat_map}
 use Rattle.mps_meaning.specs.declared.fault.FaultKind.TheVariants.{Fields, RowType, RowRepeated}
 use Rattle.std.specs.List.{list_any, AllByRecursion}
 use Rattle.std.specs.Option.{option_map_or, option_to_list}
@@ -8,14 +8,14 @@ use denote.Ref.{Bor}
 use Rattle.line_words.specs.Lines.{LineFields, field}
 use Rattle.mps_meaning.specs.MpsLines.{Data}
 use Rattle.mps_meaning.specs.Sections.{Sections, with_line}
-use Rattle.mps_meaning.specs.Described.{is_one_of, first_free, column_pairs, number_beside, line_right_sides}
+use Rattle.mps_meaning.specs.Described.{is_one_of, first_free, number_beside, line_right_sides}
 use Rattle.mps_meaning.specs.Faults.{earliest_fault, is_declared, row_fault, column_fault, right_side_fault, bound_fault, fault}
 use Rattle.program_rows.specs.Program.{TableColumn}
 use Rattle.mps_reader.specs.inside.Rows.{names_of, option_now, declared_row_names, StampsAre, bound_lines_of}
 use Rattle.mps_reader.specs.inside.Columns.{ColumnsFit}
 use Rattle.mps_reader.specs.inside.Agreeing.{ReadingFits, IsClosed}
 use Rattle.mps_reader.specs.inside.Sections.{word_of}
-use Rattle.mps_reader.specs.inside.Tracking.{SectionTells, InRows, InColumns, InRightSides, AreStampsUpTo, ReadingTells, RowsTell, ColumnsTell, OpenTells, told_column}
+use Rattle.mps_reader.specs.inside.Tracking.{SectionTells, InRows, InColumns, InRightSides, AreStampsUpTo, ReadingTells, RowsTell, ColumnsTell, told_column}
 use Rattle.mps_reader.specs.declared.sections.Section.TheVariants as sections
 use Rattle.mps_reader.specs.declared.row_table.Rows.{Rows}
 use Rattle.mps_reader.specs.declared.column_table.ColumnTable.{ColumnTable}
@@ -25,6 +25,7 @@ use Rattle.mps_reader.proofs.RowTells.{declared-any}
 use Rattle.mps_reader.proofs.SideTells.{row-names-by}
 use Rattle.mps_reader.proofs.SectionTells.{tells-rows, tells-right-sides, tells-bounds}
 use Rattle.std.specs.Bool.{then_some as when}
+use Rattle.mps_reader.proofs.ColumnSteps.{no-column}
 
 -- ---- what the checks of a line ask
 
@@ -69,13 +70,9 @@ columns-unnamed o other rows more count lines bounds c none fit closed h =
       begun = h.begun;
       states = h.states;
       done = subst (λ ks. AllByRecursion (λ (k : TableColumn). k ≡ told_column other more lines k.name) ks) (sym done) tt;
-      opened = by c.current closed;
+      opened = no-column _ c.current closed;
       closed = h.closed;
     }
-  where
-    by : (x : Option (Bor (List ℕ))) → is_some x ≡ false → IfSome x (λ n. OpenTells other more (number_beside (column_pairs lines n.now)) c.current_column)
-    by None e = tt
-    by (Some x) e = absurd cc
 
 pub row-step : (before : Sections) (f : LineFields) (r : Reading) (new : Rows) → r.section ≡ sections.Rows → ReadingFits r → ((lines : List LineFields) → RowsTell lines [] r.rows → RowsTell (f ∷ lines) [] new)
     → ((most : ℕ) → AreStampsUpTo most r.rows → AreStampsUpTo most new) → ReadingTells before r → ReadingTells (with_line before (Data f)) (record r { rows = new })

@@ -7,7 +7,7 @@ use Rattle.std.specs.Option.{option_to_list, option_map_or}
 use Rattle.std.specs.Ordering.{int_eq}
 use Rattle.std.proofs.lemmas.List.{map-append}
 use Rattle.std.proofs.lemmas.List.Folds.{list_any-append}
-use Rattle.std.proofs.lemmas.Bool.{ne_eqb}
+use Rattle.std.proofs.lemmas.Bool.{ne_eqb, both_ways}
 use Rattle.std.proofs.Math.Bool.{and_comm}
 use denote.Ref.{Bor}
 use Rattle.program_rows.specs.declared.bounds.Bounds.TheVariants.{ZeroOrOne}
@@ -26,8 +26,9 @@ use Rattle.mps_reader.specs.declared.open_column.OpenColumn.{OpenColumn}
 use Rattle.mps_reader.specs.declared.row_table.Rows.{Rows}
 use Rattle.mps_reader.proofs.NameFacts.{length-bytes, same_name, own_name, or-false, or-last, any-last, differs}
 use Rattle.mps_reader.proofs.PairSteps.{length-names}
-use Rattle.mps_reader.proofs.ColumnSteps.{current-is}
+use Rattle.mps_reader.proofs.ColumnSteps.{current-is, no-column, some-current}
 use Rattle.std.specs.Bool.{then_some as when}
+use Rattle.mps_reader.proofs.RowSteps.{now-from}
 
 -- ---- names, each once
 
@@ -88,9 +89,6 @@ values-same f lines ns h = go ns (λ n k. k)
         let first : told_values (f ∷ lines) [] m ≡ told_values lines [] m = ap (λ b. (b || false, pos 0, None)) (h m (k m own)) in
         ap (λ v. v ∷ map (told_values (f ∷ lines) []) ms) first ∙ ap (λ vs. told_values lines [] m ∷ vs) (go ms (λ n e. k n (later (bytes_eq n m) (list_any (bytes_eq n) ms) e)))
 
-marker-stands : (f : LineFields) (lines : List LineFields) (n : List ℕ) → is_marker f ≡ true → stands_in_integers n (f ∷ lines) ≡ stands_in_integers n lines
-marker-stands f lines n m = rw m refl
-
 other-stands : (f : LineFields) (lines : List LineFields) (n : List ℕ) → is_marker f ≡ false → bytes_eq n (field 0 f) ≡ false → stands_in_integers n (f ∷ lines) ≡ stands_in_integers n lines
 other-stands f lines n m h = rw (m, h) refl
 
@@ -127,19 +125,15 @@ pub marker-tells : (f : LineFields) (o : Option (List ℕ)) (rows : List (List �
 marker-tells f o rows lines old new m names_both states done none nothing begun h =
     let same : column_lines (f ∷ lines) ≡ column_lines lines = rw m refl in
     let named : columns_named (f ∷ lines) ≡ columns_named lines = rw m refl in
-    let values : map (told_values (f ∷ lines) []) (columns_named lines) ≡ map (told_values lines []) (columns_named lines) = values-same f lines (columns_named lines) (λ n k. marker-stands f lines n m) in
+    let values : map (told_values (f ∷ lines) []) (columns_named lines) ≡ map (told_values lines []) (columns_named lines) = values-same f lines (columns_named lines) (λ n k. rw m refl) in
     record {
       names = ap names_of names_both ∙ h.names ∙ sym named;
       begun = begun ∙ rw m refl;
       states = ap (λ s. map state_values s.items) states ∙ h.states ∙ sym values ∙ ap (map (told_values (f ∷ lines) [])) (sym named);
       done = subst (λ ls. AllByRecursion (λ (k : TableColumn). k ≡ told-by o rows ls k.name) new.done) (sym same) (subst (λ ks. AllByRecursion (λ (k : TableColumn). k ≡ told-by o rows (column_lines lines) k.name) ks) (sym done) h.done);
-      opened = by new.current none;
+      opened = no-column _ new.current none;
       closed = λ e. nothing;
     }
-  where
-    by : (c : Option (Bor (List ℕ))) → is_some c ≡ false → IfSome c (λ n. OpenTells o rows (number_beside (column_pairs (f ∷ lines) n.now)) new.current_column)
-    by None e = tt
-    by (Some x) e = absurd cc
 
 -- ---- a line of pairs
 
@@ -245,17 +239,9 @@ line-tells f o rows lines r c column m fit current h tells =
       begun = h.begun ∙ rw m refl;
       states = h.states;
       done = done-more f o rows lines c.done m (all-last c.done (field 0 f) (subst (λ ns. IsDistinct bytes_eq ns) split fit.distinct)) h.done;
-      opened = from-now c.current current (subst (λ ps. OpenTells o rows (number_beside ps) column) (sym (pairs-own f lines m)) tells);
-      closed = λ e. absurd (none-some c.current e current);
+      opened = now-from (λ n. OpenTells o rows (number_beside (column_pairs (f ∷ lines) n)) column) c.current (Some (field 0 f)) current (subst (λ ps. OpenTells o rows (number_beside ps) column) (sym (pairs-own f lines m)) tells);
+      closed = λ e. absurd (both_ways (is_some c.current) e (some-current c.current (field 0 f) current));
     }
-  where
-    from-now : (x : Option (Bor (List ℕ))) → option_now x ≡ Some (field 0 f) → OpenTells o rows (number_beside (column_pairs (f ∷ lines) (field 0 f))) column → IfSome x (λ n. OpenTells o rows (number_beside (column_pairs (f ∷ lines) n.now)) column)
-    from-now None e t = absurd cc
-    from-now (Some x) e t = let same : x.now ≡ field 0 f = cc in subst (λ n. OpenTells o rows (number_beside (column_pairs (f ∷ lines) n)) column) (sym same) t
-
-    none-some : (x : Option (Bor (List ℕ))) → is_some x ≡ false → option_now x ≡ Some (field 0 f) → ⊥
-    none-some None e t = absurd cc
-    none-some (Some x) e t = absurd cc
 
 pub line-stays : (f : LineFields) (lines : List LineFields) (r new : Rows) (c : ColumnTable) (column : OpenColumn) → is_marker f ≡ false → option_now c.current ≡ Some (field 0 f) → new.names ≡ r.names
     → AreStampsUpTo (length (names_of c.names)) new → StampsAre new.stamps.items (length (names_of c.names)) (names_of r.names) (λ row. list_any (λ other. bytes_eq row other.0) (pairs (drop 1 f) ++ column_pairs lines (field 0 f)))
@@ -266,14 +252,9 @@ line-stays f lines r new c column m current kept low stamps =
       no_bounds = refl;
       low = low;
       current = current ∙ rw m refl;
-      stamps = by c.current current (subst (λ ps. StampsAre new.stamps.items (length (names_of c.names)) (names_of new.names) (λ row. list_any (λ other. bytes_eq row other.0) ps)) (sym (pairs-own f lines m))
+      stamps = now-from (λ n. StampsAre new.stamps.items (length (names_of c.names)) (names_of new.names) (λ row. list_any (λ other. bytes_eq row other.0) (column_pairs (f ∷ lines) n))) c.current (Some (field 0 f)) current (subst (λ ps. StampsAre new.stamps.items (length (names_of c.names)) (names_of new.names) (λ row. list_any (λ other. bytes_eq row other.0) ps)) (sym (pairs-own f lines m))
           (subst (λ ns. StampsAre new.stamps.items (length (names_of c.names)) (names_of ns) (λ row. list_any (λ other. bytes_eq row other.0) (pairs (drop 1 f) ++ column_pairs lines (field 0 f)))) (sym kept) stamps));
     }
-  where
-    by : (x : Option (Bor (List ℕ))) → option_now x ≡ Some (field 0 f) → StampsAre new.stamps.items (length (names_of c.names)) (names_of new.names) (λ row. list_any (λ other. bytes_eq row other.0) (column_pairs (f ∷ lines) (field 0 f)))
-        → IfSome x (λ n. StampsAre new.stamps.items (length (names_of c.names)) (names_of new.names) (λ row. list_any (λ other. bytes_eq row other.0) (column_pairs (f ∷ lines) n.now)))
-    by None e t = absurd cc
-    by (Some x) e t = let same : x.now ≡ field 0 f = cc in subst (λ n. StampsAre new.stamps.items (length (names_of c.names)) (names_of new.names) (λ row. list_any (λ other. bytes_eq row other.0) (column_pairs (f ∷ lines) n))) (sym same) t
 
 -- ---- faults
 

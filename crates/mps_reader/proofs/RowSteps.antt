@@ -26,7 +26,7 @@ name-at [] n h a = absurd (omega arith)
 name-at (f ∷ fields) zero h a = a.0
 name-at (f ∷ fields) (suc n) h a = name-at fields n (omega arith) a.1
 
-now-from : (P : List ℕ → Type 0) (o : Option (Bor (List ℕ))) (t : Option (List ℕ)) → option_now o ≡ t → IfSome t P → IfSome o (λ x. P x.now)
+pub now-from : (P : List ℕ → Type 0) (o : Option (Bor (List ℕ))) (t : Option (List ℕ)) → option_now o ≡ t → IfSome t P → IfSome o (λ x. P x.now)
 now-from P None t e h = tt
 now-from P (Some x) None e h = absurd cc
 now-from P (Some x) (Some n) e h = let same : n ≡ x.now = cc in subst P same h

@@ -1,7 +1,7 @@
 -- A section opens, and lines that say nothing.
 use Rattle.std.proofs.Common.{◌≡◌, ◌≢◌, ℕ, ◌≤◌, ◌<◌, Bool, true, false, not, List, [], ◌∷◌, length, take, refl, sym, ap, subst, ◌∙◌, arith, Option, Some, None, ◌&&◌, inl, inr}
 use Rattle.mps_reader.proofs.BoundTells.{and-false}
-use Rattle.std.specs.Prelude.{◌==◌, ◌⊎◌, nat_le, is_none, is_some, codes, bytes_eq, nat_lt, IfSome, if◌then◌else◌}
+use Rattle.std.specs.Prelude.{◌==◌, ◌⊎◌, nat_le, is_none, is_some, codes, bytes_eq, nat_lt, if◌then◌else◌}
 use Rattle.std.proofs.lemmas.List.{take_all, length-take-le}
 use Rattle.std.proofs.lemmas.Bool.{ne_eqb, lt-ltb, ltb-true, ltb-false, le-leb, leb-true, false_from_ne_true}
 use denote.Ref.{Bor}
@@ -23,75 +23,47 @@ use Rattle.mps_reader.specs.declared.column_table.ColumnTable.{ColumnTable}
 use Rattle.mps_reader.specs.declared.reading_state.Reading.{Reading}
 use Rattle.mps_reader.proofs.LineTells.{none-stamped}
 use Rattle.std.specs.Bool.{then_some as when}
+use Rattle.mps_reader.proofs.ColumnSteps.{none-from, no-column}
 
 -- ---- sections open in order
-
-no-name : (o : Option (Bor (List ℕ))) → is_some o ≡ false → option_now o ≡ None
-no-name None h = refl
-no-name (Some x) h = absurd cc
-
-no-column : (P : List ℕ → Type 0) (o : Option (Bor (List ℕ))) → is_some o ≡ false → IfSome o (λ n. P n.now)
-no-column P None h = tt
-no-column P (Some x) h = absurd cc
-
-from-rows : (new : Section) (lines rights bounds : List LineFields) (r : Rows) (c : ColumnTable) → 3 < place_of (word_of new) → is_some c.current ≡ false → length r.stamps.items ≡ length (names_of r.names) → InRows lines rights bounds r c → SectionTells new [] lines rights bounds r c
-from-rows sections.Columns lines rights bounds r c up none size h = record {
-  no_rights = h.no_rights;
-  no_bounds = h.no_bounds;
-  low = h.low;
-  current = no-name c.current none ∙ rw (h.no_lines) refl;
-  stamps = no-column _ c.current none;
-}
-from-rows sections.RightSides lines rights bounds r c up none size h = record {
-  no_bounds = h.no_bounds;
-  stamps = rw (h.no_rights) (none-stamped r.stamps.items (names_of r.names) (length (names_of c.names)) (λ n. false) size h.low (λ n. refl));
-}
-from-rows sections.Bounds lines rights bounds r c up none size h = tt
-from-rows sections.End lines rights bounds r c up none size h = tt
-from-rows _ lines rights bounds r c up none size h = absurd (omega arith)
-
--- the rows of the lines play no part behind ROWS
-behind-rows : (new : Section) (rows lines rights bounds : List LineFields) (r : Rows) (c : ColumnTable) → 3 < place_of (word_of new) → SectionTells new [] lines rights bounds r c → SectionTells new rows lines rights bounds r c
-behind-rows sections.Columns rows lines rights bounds r c up h = h
-behind-rows sections.RightSides rows lines rights bounds r c up h = h
-behind-rows sections.Bounds rows lines rights bounds r c up h = h
-behind-rows sections.End rows lines rights bounds r c up h = h
-behind-rows _ rows lines rights bounds r c up h = absurd (omega arith)
-
-from-before : (new : Section) (rows lines rights bounds : List LineFields) (r : Rows) (c : ColumnTable) → 0 < place_of (word_of new) → is_some c.current ≡ false → length r.stamps.items ≡ length (names_of r.names) → BeforeRows rows lines rights bounds r c → SectionTells new rows lines rights bounds r c
-from-before sections.Start rows lines rights bounds r c up none size h = absurd (omega arith)
-from-before sections.Rows rows lines rights bounds r c up none size h = h.after
-from-before sections.Columns rows lines rights bounds r c up none size h = from-rows sections.Columns lines rights bounds r c (omega arith) none size h.after
-from-before sections.RightSides rows lines rights bounds r c up none size h = from-rows sections.RightSides lines rights bounds r c (omega arith) none size h.after
-from-before sections.Bounds rows lines rights bounds r c up none size h = tt
-from-before sections.End rows lines rights bounds r c up none size h = tt
-from-before _ rows lines rights bounds r c up none size h = h
-
-from-columns : (new : Section) (rows lines rights bounds : List LineFields) (r : Rows) (c : ColumnTable) → 4 < place_of (word_of new) → length r.stamps.items ≡ length (names_of r.names) → rights ≡ [] → bounds ≡ [] → AreStampsUpTo (length (names_of c.names)) r → SectionTells new rows lines rights bounds r c
-from-columns sections.RightSides rows lines rights bounds r c up size h b low = record {
-  no_bounds = b;
-  stamps = rw h (none-stamped r.stamps.items (names_of r.names) (length (names_of c.names)) (λ n. false) size low (λ n. refl));
-}
-from-columns sections.Bounds rows lines rights bounds r c up size h b low = tt
-from-columns sections.End rows lines rights bounds r c up size h b low = tt
-from-columns _ rows lines rights bounds r c up size h b low = absurd (omega arith)
 
 from-last : (new : Section) (rows lines rights bounds : List LineFields) (r : Rows) (c : ColumnTable) → 5 < place_of (word_of new) → SectionTells new rows lines rights bounds r c
 from-last sections.Bounds rows lines rights bounds r c up = tt
 from-last sections.End rows lines rights bounds r c up = tt
 from-last _ rows lines rights bounds r c up = absurd (omega arith)
 
+from-columns : (new : Section) (rows lines rights bounds : List LineFields) (r : Rows) (c : ColumnTable) → 4 < place_of (word_of new) → length r.stamps.items ≡ length (names_of r.names) → rights ≡ [] → bounds ≡ [] → AreStampsUpTo (length (names_of c.names)) r → SectionTells new rows lines rights bounds r c
+from-columns sections.RightSides rows lines rights bounds r c up size h b low = record {
+  no_bounds = b;
+  stamps = rw h (none-stamped r.stamps.items (names_of r.names) (length (names_of c.names)) (λ n. false) size low (λ n. refl));
+}
+from-columns new rows lines rights bounds r c up size h b low = from-last new rows lines rights bounds r c (omega arith)
+
+from-rows : (new : Section) (rows lines rights bounds : List LineFields) (r : Rows) (c : ColumnTable) → 3 < place_of (word_of new) → is_some c.current ≡ false → length r.stamps.items ≡ length (names_of r.names) → InRows lines rights bounds r c → SectionTells new rows lines rights bounds r c
+from-rows sections.Columns rows lines rights bounds r c up none size h = record {
+  no_rights = h.no_rights;
+  no_bounds = h.no_bounds;
+  low = h.low;
+  current = ap option_now (none-from c.current none) ∙ rw (h.no_lines) refl;
+  stamps = no-column _ c.current none;
+}
+from-rows new rows lines rights bounds r c up none size h = from-columns new rows lines rights bounds r c (omega arith) size h.no_rights h.no_bounds h.low
+
+from-before : (new : Section) (rows lines rights bounds : List LineFields) (r : Rows) (c : ColumnTable) → 0 < place_of (word_of new) → is_some c.current ≡ false → length r.stamps.items ≡ length (names_of r.names) → BeforeRows rows lines rights bounds r c → SectionTells new rows lines rights bounds r c
+from-before sections.Name rows lines rights bounds r c up none size h = h
+from-before sections.Sense rows lines rights bounds r c up none size h = h
+from-before sections.Rows rows lines rights bounds r c up none size h = h.after
+from-before new rows lines rights bounds r c up none size h = from-rows new rows lines rights bounds r c (omega arith) none size h.after
+
 pub section-opens : (old new : Section) (rows lines rights bounds : List LineFields) (r : Rows) (before c : ColumnTable) → place_of (word_of old) < place_of (word_of new) → c.names ≡ before.names → is_some c.current ≡ false → length r.stamps.items ≡ length (names_of r.names)
     → SectionTells old rows lines rights bounds r before → SectionTells new rows lines rights bounds r c
-section-opens sections.Start new rows lines rights bounds r b c up same none size h = from-before new rows lines rights bounds r c up none size (record { no_rows = h.no_rows; after = record { no_lines = h.after.no_lines; no_rights = h.after.no_rights; no_bounds = h.after.no_bounds; low = subst (λ ns. AreStampsUpTo (length (names_of ns)) r) (sym same) h.after.low } })
-section-opens sections.Name new rows lines rights bounds r b c up same none size h = from-before new rows lines rights bounds r c (omega arith) none size (record { no_rows = h.no_rows; after = record { no_lines = h.after.no_lines; no_rights = h.after.no_rights; no_bounds = h.after.no_bounds; low = subst (λ ns. AreStampsUpTo (length (names_of ns)) r) (sym same) h.after.low } })
-section-opens sections.Sense new rows lines rights bounds r b c up same none size h = from-before new rows lines rights bounds r c (omega arith) none size (record { no_rows = h.no_rows; after = record { no_lines = h.after.no_lines; no_rights = h.after.no_rights; no_bounds = h.after.no_bounds; low = subst (λ ns. AreStampsUpTo (length (names_of ns)) r) (sym same) h.after.low } })
 section-opens sections.Rows new rows lines rights bounds r b c up same none size h =
-    behind-rows new rows lines rights bounds r c up (from-rows new lines rights bounds r c up none size (record { no_lines = h.no_lines; no_rights = h.no_rights; no_bounds = h.no_bounds; low = subst (λ ns. AreStampsUpTo (length (names_of ns)) r) (sym same) h.low }))
+    from-rows new rows lines rights bounds r c up none size (record { no_lines = h.no_lines; no_rights = h.no_rights; no_bounds = h.no_bounds; low = subst (λ ns. AreStampsUpTo (length (names_of ns)) r) (sym same) h.low })
 section-opens sections.Columns new rows lines rights bounds r b c up same none size h = from-columns new rows lines rights bounds r c up size h.no_rights h.no_bounds (subst (λ ns. AreStampsUpTo (length (names_of ns)) r) (sym same) h.low)
 section-opens sections.RightSides new rows lines rights bounds r b c up same none size h = from-last new rows lines rights bounds r c up
 section-opens sections.Bounds new rows lines rights bounds r b c up same none size h = from-last new rows lines rights bounds r c (omega arith)
 section-opens sections.End new rows lines rights bounds r b c up same none size h = from-last new rows lines rights bounds r c (omega arith)
+section-opens _ new rows lines rights bounds r b c up same none size h = from-before new rows lines rights bounds r c (omega arith) none size (record { no_rows = h.no_rows; after = record { no_lines = h.after.no_lines; no_rights = h.after.no_rights; no_bounds = h.after.no_bounds; low = subst (λ ns. AreStampsUpTo (length (names_of ns)) r) (sym same) h.after.low } })
 
 -- ---- lines without data
 
