@@ -73,9 +73,6 @@ weighed-more (suc m) place n s h l = by (weighed-more m place n s h) (place == m
     arrange : (a b w : ℤ) → w +ℤ (a +ℤ b) ≡ a +ℤ (w +ℤ b)
     arrange a b w = omega (arith, ints)
 
-    join : (a b w : ℤ) → (a +ℤ w) +ℤ b ≡ a +ℤ (w +ℤ b)
-    join a b w = omega (arith, ints)
-
     by : (place < m → weighed m (more_at place n s) h ≡ n *ℤ h place +ℤ weighed m s h) → (b : Bool) → (place == m) ≡ b → weighed m (more_at place n s) h +ℤ more_at place n s m *ℤ h m ≡ n *ℤ h place +ℤ (weighed m s h +ℤ s m *ℤ h m)
     by later true e =
         let same : place ≡ m = grind (arith, nat_tests) in
@@ -86,7 +83,7 @@ weighed-more (suc m) place n s h l = by (weighed-more m place n s h) (place == m
     by later false e =
         let below : place < m = grind (arith, nat_tests) in
         ap₂ (λ (a b : ℤ). a +ℤ b *ℤ h m) (later below) (elsewhere place m n s e)
-        ∙ join (n *ℤ h place) (s m *ℤ h m) (weighed m s h)
+        ∙ omega (arith, ints)
 
 weighed-form : (m : ℕ) (form : Form) (h : ℕ → ℤ) → top form ≤ m → sum_of (λ t. t.1 *ℤ h t.0) form ≡ weighed m (number_in form) h
 weighed-form m [] h l = sym (weighed-none m h)

@@ -42,6 +42,10 @@ of-option : {X : Type 0} (o : Option X) (kind : FaultKind) → kind ≢ TooLarge
 of-option (Some x) kind h = tt
 of-option None kind h = h
 
+either : {X : Type 0} (b : Bool) (r other : Result X FaultKind) → NotLarge r → NotLarge other → NotLarge (if b then r else other)
+either true r other h k = h
+either false r other h k = k
+
 integer-not : (r : Result ℤ NumberFault) → NotLarge (integer_told r)
 integer-not (Ok n) = tt
 integer-not (Err numbers.NumberText) = λ e. absurd cc
@@ -49,11 +53,7 @@ integer-not (Err numbers.NumberRange) = λ e. absurd cc
 integer-not (Err numbers.NotWhole) = λ e. absurd cc
 
 natural-not : (token : List ℕ) → NotLarge (natural_told token)
-natural-not token = in-turn (integer_told (number token)) (λ n. if int_lt n (pos 0) then Err Sign else Ok (nat_abs n)) (integer-not (number token)) (λ n. by (int_lt n (pos 0)) (nat_abs n))
-  where
-    by : (b : Bool) (n : ℕ) → NotLarge (if b then Err Sign else Ok n)
-    by true n = λ e. absurd cc
-    by false n = tt
+natural-not token = in-turn (integer_told (number token)) (λ n. if int_lt n (pos 0) then Err Sign else Ok (nat_abs n)) (integer-not (number token)) (λ n. either (int_lt n (pos 0)) (Err Sign) (Ok (nat_abs n)) (λ e. absurd cc) tt)
 
 naturals-not : (count : ℕ) (fs : List (List ℕ)) → NotLarge (naturals_told count fs)
 naturals-not zero fs = tt
@@ -77,11 +77,7 @@ bound-not p depth (token ∷ fs) =
     in-turn (natural_told token) _ (natural-not token)
     (λ scale. in-turn (naturals_told depth fs) _ (naturals-not depth fs)
     (λ ys. in-turn (named_numbers (row_names p) UnknownRow ys.1) _ (named-not (row_names p) UnknownRow (λ e. absurd cc) ys.1)
-    (λ rows. by (list_all (may_have p.rows) rows) (BoundLine scale ys.0 rows))))
-  where
-    by : (b : Bool) (told : Told) → NotLarge (if b then Ok told else Err Sign)
-    by true told = tt
-    by false told = λ e. absurd cc
+    (λ rows. either (list_all (may_have p.rows) rows) (Ok (BoundLine scale ys.0 rows)) (Err Sign) tt (λ e. absurd cc))))
 
 split-not : (p : Table) (fs : List (List ℕ)) → NotLarge (split_behind p fs)
 split-not p [] = λ e. absurd cc
@@ -91,20 +87,14 @@ split-not p (token ∷ fs) =
 
 line-not : (p : Table) (depth : ℕ) (fs : List (List ℕ)) → NotLarge (line_told p depth fs)
 line-not p depth [] = λ e. absurd cc
-line-not p depth (word ∷ fs) = subst NotLarge (sym (line_by_word p depth word fs)) (by (bytes_eq word (codes "split")) (bytes_eq word (codes "bound")))
-  where
-    by : (a b : Bool) → NotLarge (if a then split_behind p fs else (if b then bound_behind p depth fs else Err Fields))
-    by true b = split-not p fs
-    by false true = bound-not p depth fs
-    by false false = λ e. absurd cc
+line-not p depth (word ∷ fs) =
+    subst NotLarge (sym (line_by_word p depth word fs)) (either (bytes_eq word (codes "split")) (split_behind p fs) (if bytes_eq word (codes "bound") then bound_behind p depth fs else Err Fields) (split-not p fs)
+    (either (bytes_eq word (codes "bound")) (bound_behind p depth fs) (Err Fields) (bound-not p depth fs) (λ e. absurd cc)))
 
 taken-not : (p : Table) (least : ℤ) (branches : List Branch) (told : Told) → NotLarge (taken p least branches told)
 taken-not p least branches (SplitLine form most) = tt
-taken-not p least branches (BoundLine scale ys rows) = by (int_lt (pos scale *ℤ (least -ℤ pos 1)) (leaf_value p (cuts_above branches) scale ys rows))
-  where
-    by : (b : Bool) → NotLarge (if b then Ok (closed branches) else Err NotShown)
-    by true = tt
-    by false = λ e. absurd cc
+taken-not p least branches (BoundLine scale ys rows) =
+    either (int_lt (pos scale *ℤ (least -ℤ pos 1)) (leaf_value p (cuts_above branches) scale ys rows)) (Ok (closed branches)) (Err NotShown) tt (λ e. absurd cc)
 
 behind-not : (p : Table) (least : ℤ) (branches : Option (List Branch)) (line : List ℕ) → NotLarge (behind p least branches line)
 behind-not p least branches line = by (is_skipped line)

@@ -47,10 +47,7 @@ one-changed f g place p zero (c ∷ cs) e same =
 one-changed f g place p (suc j) (c ∷ cs) e same =
     let first : f p c ≡ g p c = same p c (omega arith) in
     let tail = one-changed f g place (p + 1) j cs (omega arith) same in
-    ap₂ (λ (a b : ℤ). least_part c.bounds a +ℤ b) first tail ∙ swap (least_part c.bounds (g p c)) (changed f g place j cs) (least_sum g (p + 1) cs)
-  where
-    swap : (a b r : ℤ) → a +ℤ (b +ℤ r) ≡ b +ℤ (a +ℤ r)
-    swap a b r = omega (arith, ints)
+    ap₂ (λ (a b : ℤ). least_part c.bounds a +ℤ b) first tail ∙ omega (arith, ints)
 
 -- ---------- taking one ----------
 
@@ -65,11 +62,7 @@ unchanged-elsewhere before after place n q other e = e ∙ by (place == q) refl
     by false t = omega (arith, ints)
 
 at-itself : (place : ℕ) (n : ℤ) → at_place place n place ≡ n
-at-itself place n = by (place == place) (grind (arith, nat_tests))
-  where
-    by : (b : Bool) → b ≡ true → cond b n (pos 0) ≡ n
-    by true e = refl
-    by false e = absurd cc
+at-itself place n = let same : (place == place) ≡ true = grind (arith, nat_tests) in rw same refl
 
 -- what the column of a taken place contributes now, and by how much that is less
 pub least-taken : (factor : ℤ) (cs : List TableColumn) (place : ℕ) (n : ℤ) (before after : List ℤ) → IsTaken (Some (place, n)) before after → least_with factor (number_at before) cs ≡ change_at cs factor place n +ℤ least_with factor (number_at after) cs

@@ -47,11 +47,7 @@ not-pushed (p ∷ places) place q h = by (not-pushed places place q) (p == q) h
     by later false h = later h
 
 not-listed-last : (places : List ℕ) (place q : ℕ) → has_place places q ≡ false → (place == q) ≡ false → has_place (places ++ place ∷ []) q ≡ false
-not-listed-last [] place q h e = by (place == q) e
-  where
-    by : (b : Bool) → b ≡ false → (b || false) ≡ false
-    by true e = e
-    by false e = refl
+not-listed-last [] place q h e = rw e refl
 not-listed-last (p ∷ places) place q h e = by (λ none. not-listed-last places place q none e) (p == q) h
   where
     by : (has_place places q ≡ false → has_place (places ++ place ∷ []) q ≡ false) → (b : Bool) → (b || has_place places q) ≡ false → (b || has_place (places ++ place ∷ []) q) ≡ false
@@ -81,11 +77,7 @@ listed-too places more before grown place n kept new listed same h q none = set-
     by false e = same q ∙ listed q (kept q none)
 
 pub place-pushed : (places : List ℕ) (place : ℕ) → has_place (places ++ place ∷ []) place ≡ true
-place-pushed [] place = by (place == place) (grind (arith, nat_tests))
-  where
-    by : (b : Bool) → b ≡ true → (b || false) ≡ true
-    by true e = refl
-    by false e = absurd cc
+place-pushed [] place = let same : (place == place) ≡ true = grind (arith, nat_tests) in rw same refl
 place-pushed (p ∷ places) place = by (p == place) (place-pushed places place)
   where
     by : (b : Bool) → has_place (places ++ place ∷ []) place ≡ true → (b || has_place (places ++ place ∷ []) place) ≡ true
