@@ -50,14 +50,6 @@ second lines objective earlier ps row number row2 number2 known known2 e d d2 h 
     begins lines objective earlier ps row number ((row2, number2) ∷ []) known None e d h
     ∙ begins lines objective ((row, number) ∷ earlier) ((row2, number2) ∷ []) row2 number2 [] known2 (pair_checks known2 (bytes_eq row2 row || has_row earlier row2) number2 (constant_check objective row2 number2)) refl d2 refl ∙ if-none _
 
--- a pair without a check of its section's own
-pub without-own : (known repeated : Bool) (number : List ℕ) (fault : Option FaultKind) → earliest_fault (when (not known) UnknownRow ∷ when repeated EntryRepeated ∷ number_fault (token_number number) ∷ []) ≡ fault → pair_checks known repeated number None ≡ fault
-without-own known repeated number fault h = by known repeated (number_fault (token_number number)) h
-  where
-    by : (k r : Bool) (n : Option FaultKind) → earliest_fault (when (not k) UnknownRow ∷ when r EntryRepeated ∷ n ∷ []) ≡ fault → earliest_fault (when (not k) UnknownRow ∷ when r EntryRepeated ∷ n ∷ None ∷ []) ≡ fault
-    by false r n h = h
-    by _ _ _ h = h
-
 -- a pair that is taken repeats none
 pub not-repeated : (known r : Bool) (more : Option FaultKind) → option_or (when (not known) UnknownRow) (option_or (when r EntryRepeated) more) ≡ None → r ≡ false
 not-repeated true false checks h = refl

@@ -8,18 +8,18 @@ use Rattle.mps_reader.specs.declared.row_table.Rows.{Rows}
 use Rattle.mps_reader.proofs.NameFacts.{or-false}
 use Rattle.mps_reader.proofs.AnswerFacts.{handed-on}
 use Rattle.mps_reader.proofs.LinePairs.{at, one-behind, two-behind, first-behind, the-other, two-stamps, one-number, two-numbers, open-same}
-use Rattle.mps_reader.proofs.PairFaults.{begins, second, without-own, not-repeated, has_row}
+use Rattle.mps_reader.proofs.PairFaults.{begins, second, not-repeated, has_row}
 use Rattle.mps_reader.proofs.entries.take_entries.Goals as goal
 
 pub returns-in_err-take_entry-clause-fault : goal.returns-in_err-take_entry-clause-fault
 returns-in_err-take_entry-clause-fault c = λ lines earlier d s.
     handed-on (Unit {0}) c.from_residual.result c.in_err-take_entry.field-0.0 _ _ (search rules)
-    (λ kind h. begins lines None earlier _ _ _ _ _ (Some kind) (first-behind c.args.fields.now c.requires.count).1 (d _) (without-own _ _ _ _ h))
+    (λ kind h. begins lines None earlier _ _ _ _ _ (Some kind) (first-behind c.args.fields.now c.requires.count).1 (d _) h)
     (c.in_err-take_entry.ensures.fault (has_row earlier) s)
 
 pub returns-clause-fault : goal.returns-clause-fault
 returns-clause-fault c = λ lines earlier d s.
-    begins lines None earlier _ _ _ _ _ None (one-behind c.args.fields.now (the-other 3 5 _ c.requires.count c.if-fields-eq5.false)) (d _) (without-own _ _ _ _ (c.in_ok-take_entry.ensures.fault (has_row earlier) s))
+    begins lines None earlier _ _ _ _ _ None (one-behind c.args.fields.now (the-other 3 5 _ c.requires.count c.if-fields-eq5.false)) (d _) (c.in_ok-take_entry.ensures.fault (has_row earlier) s)
 
 pub returns-clause-stamps : goal.returns-clause-stamps
 returns-clause-stamps c = λ earlier h.
@@ -34,14 +34,14 @@ pub returns-in_err-take_entry-2-clause-fault : goal.returns-in_err-take_entry-2-
 returns-in_err-take_entry-2-clause-fault c = λ lines earlier d s.
     let kept : names_of c.take_entry.new.rows.names ≡ names_of c.args.rows.now.names = ap (λ q. names_of q.names) c.in_ok-take_entry.ensures.frame in
     handed-on (Unit {0}) c.from_residual-in_err-take_entry-2.result c.in_err-take_entry-2.field-0.0 _ _ (search rules)
-    (λ kind h. second lines None earlier _ _ _ _ _ _ _ (two-behind c.args.fields.now c.if-fields-eq5.true) (d _) (d _ ∙ ap (list_any (bytes_eq _)) (sym kept)) (without-own _ _ _ _ (c.in_ok-take_entry.ensures.fault (has_row earlier) s)) ∙ without-own _ _ _ _ h)
+    (λ kind h. second lines None earlier _ _ _ _ _ _ _ (two-behind c.args.fields.now c.if-fields-eq5.true) (d _) (d _ ∙ ap (list_any (bytes_eq _)) (sym kept)) (c.in_ok-take_entry.ensures.fault (has_row earlier) s) ∙ h)
     (c.in_err-take_entry-2.ensures.fault (has_row ((at c.args.fields.now 1, at c.args.fields.now 2) ∷ earlier)) (rw kept (c.in_ok-take_entry.ensures.stamps (has_row earlier) s)))
 
 pub returns-then-fields-eq5-clause-fault : goal.returns-then-fields-eq5-clause-fault
 returns-then-fields-eq5-clause-fault c = λ lines earlier d s.
     let kept : names_of c.take_entry.new.rows.names ≡ names_of c.args.rows.now.names = ap (λ q. names_of q.names) c.in_ok-take_entry.ensures.frame in
-    second lines None earlier _ _ _ _ _ _ _ (two-behind c.args.fields.now c.if-fields-eq5.true) (d _) (d _ ∙ ap (list_any (bytes_eq _)) (sym kept)) (without-own _ _ _ _ (c.in_ok-take_entry.ensures.fault (has_row earlier) s))
-    ∙ without-own _ _ _ _ (c.in_ok-take_entry-2.ensures.fault (has_row ((at c.args.fields.now 1, at c.args.fields.now 2) ∷ earlier)) (rw kept (c.in_ok-take_entry.ensures.stamps (has_row earlier) s)))
+    second lines None earlier _ _ _ _ _ _ _ (two-behind c.args.fields.now c.if-fields-eq5.true) (d _) (d _ ∙ ap (list_any (bytes_eq _)) (sym kept)) (c.in_ok-take_entry.ensures.fault (has_row earlier) s)
+    ∙ (c.in_ok-take_entry-2.ensures.fault (has_row ((at c.args.fields.now 1, at c.args.fields.now 2) ∷ earlier)) (rw kept (c.in_ok-take_entry.ensures.stamps (has_row earlier) s)))
 
 pub returns-then-fields-eq5-clause-stamps : goal.returns-then-fields-eq5-clause-stamps
 returns-then-fields-eq5-clause-stamps c = λ earlier s.
