@@ -102,66 +102,19 @@ values-other f lines bounds n h =
 
 pub values-binary : (f : LineFields) (lines bounds : List LineFields) (n : List ℕ) → bytes_eq n (field 0 (bound_pair f)) ≡ true → field 0 f ≡ codes "BV" → told_values lines (f ∷ bounds) n ≡ (true, pos 0, Some (pos 1))
 values-binary f lines bounds n h e =
-    let low : (is_one_of (field 0 f) (codes "LO" ∷ codes "FX" ∷ codes "BV" ∷ []) && bytes_eq n (field 0 (bound_pair f))) ≡ true = rw (h, e) refl in
-    let high : (is_one_of (field 0 f) (codes "UP" ∷ codes "FX" ∷ codes "BV" ∷ []) && bytes_eq n (field 0 (bound_pair f))) ≡ true = rw (h, e) refl in
-    let binary : (is_binary_bound f && bytes_eq n (field 0 (bound_pair f))) ≡ true = rw (h, e) refl in
     let is : is_binary_bound f ≡ true = rw e refl in
-    rw (low, high, binary, is) (ap (λ b. (b, pos 0, Some (pos 1))) (or-true (stands_in_integers n lines) (list_any (λ x. is_binary_bound x && bytes_eq n (field 0 (bound_pair x))) bounds)))
+    rw (h, e, is) (ap (λ b. (b, pos 0, Some (pos 1))) (or-true (stands_in_integers n lines) (list_any (λ x. is_binary_bound x && bytes_eq n (field 0 (bound_pair x))) bounds)))
 
 pub values-of : (f : LineFields) (lines bounds : List LineFields) (n : List ℕ) → bytes_eq n (field 0 (bound_pair f)) ≡ true → is_one_of (field 0 f) (codes "UP" ∷ codes "LO" ∷ codes "FX" ∷ []) ≡ true
     → told_values lines (f ∷ bounds) n ≡ bounded_values (field 0 f) (value (field 1 (bound_pair f))) (told_values lines bounds n)
-values-of f lines bounds n h one = by (bytes_eq (field 0 f) (codes "UP")) refl
+values-of f lines bounds n h one = by (bytes_eq (field 0 f) (codes "UP")) (bytes_eq (field 0 f) (codes "LO")) (bytes_eq (field 0 f) (codes "FX")) refl refl refl one
   where
-    low-is : (b : Bool) → is_one_of (field 0 f) (codes "LO" ∷ codes "FX" ∷ codes "BV" ∷ []) ≡ b → (is_one_of (field 0 f) (codes "LO" ∷ codes "FX" ∷ codes "BV" ∷ []) && bytes_eq n (field 0 (bound_pair f))) ≡ b
-    low-is true e = rw (e, h) refl
-    low-is false e = rw e refl
-
-    high-is : (b : Bool) → is_one_of (field 0 f) (codes "UP" ∷ codes "FX" ∷ codes "BV" ∷ []) ≡ b → (is_one_of (field 0 f) (codes "UP" ∷ codes "FX" ∷ codes "BV" ∷ []) && bytes_eq n (field 0 (bound_pair f))) ≡ b
-    high-is true e = rw (e, h) refl
-    high-is false e = rw e refl
-
-    binary-is : is_binary_bound f ≡ false → (is_binary_bound f && bytes_eq n (field 0 (bound_pair f))) ≡ false
-    binary-is e = rw e refl
-
-    fixed : bytes_eq (field 0 f) (codes "UP") ≡ false → bytes_eq (field 0 f) (codes "LO") ≡ false → bytes_eq (field 0 f) (codes "FX") ≡ true → told_values lines (f ∷ bounds) n ≡ bounded_values (field 0 f) (value (field 1 (bound_pair f))) (told_values lines bounds n)
-    fixed up lo fx =
-        let word : field 0 f ≡ codes "FX" = same_name (field 0 f) (codes "FX") fx in
-        let low = low-is true (rw word refl) in
-        let high = high-is true (rw word refl) in
-        let no : is_binary_bound f ≡ false = rw word refl in
-        let binary = binary-is no in
-        rw (low, high, binary, no, up, lo) refl
-
-    lower-one : bytes_eq (field 0 f) (codes "UP") ≡ false → bytes_eq (field 0 f) (codes "LO") ≡ true → told_values lines (f ∷ bounds) n ≡ bounded_values (field 0 f) (value (field 1 (bound_pair f))) (told_values lines bounds n)
-    lower-one up lo =
-        let word : field 0 f ≡ codes "LO" = same_name (field 0 f) (codes "LO") lo in
-        let low = low-is true (rw word refl) in
-        let high = high-is false (rw word refl) in
-        let no : is_binary_bound f ≡ false = rw word refl in
-        let binary = binary-is no in
-        rw (low, high, binary, no, up, lo) refl
-
-    upper-one : bytes_eq (field 0 f) (codes "UP") ≡ true → told_values lines (f ∷ bounds) n ≡ bounded_values (field 0 f) (value (field 1 (bound_pair f))) (told_values lines bounds n)
-    upper-one up =
-        let word : field 0 f ≡ codes "UP" = same_name (field 0 f) (codes "UP") up in
-        let low = low-is false (rw word refl) in
-        let high = high-is true (rw word refl) in
-        let no : is_binary_bound f ≡ false = rw word refl in
-        let lo : bytes_eq (field 0 f) (codes "LO") ≡ false = rw word refl in
-        let binary = binary-is no in
-        rw (low, high, binary, no, up, lo) refl
-
-    by2 : (b : Bool) → bytes_eq (field 0 f) (codes "LO") ≡ b → bytes_eq (field 0 f) (codes "UP") ≡ false → told_values lines (f ∷ bounds) n ≡ bounded_values (field 0 f) (value (field 1 (bound_pair f))) (told_values lines bounds n)
-    by2 true lo up = lower-one up lo
-    by2 false lo up = fixed up lo (last-of (bytes_eq (field 0 f) (codes "FX")) (let whole : is_one_of (field 0 f) (codes "UP" ∷ codes "LO" ∷ codes "FX" ∷ []) ≡ (bytes_eq (field 0 f) (codes "FX") || false) = rw (up, lo) refl in sym whole ∙ one))
-      where
-        last-of : (b : Bool) → (b || false) ≡ true → b ≡ true
-        last-of true e = refl
-        last-of false e = absurd cc
-
-    by : (b : Bool) → bytes_eq (field 0 f) (codes "UP") ≡ b → told_values lines (f ∷ bounds) n ≡ bounded_values (field 0 f) (value (field 1 (bound_pair f))) (told_values lines bounds n)
-    by true up = upper-one up
-    by false up = by2 (bytes_eq (field 0 f) (codes "LO")) refl up
+    by : (u l x : Bool) → bytes_eq (field 0 f) (codes "UP") ≡ u → bytes_eq (field 0 f) (codes "LO") ≡ l → bytes_eq (field 0 f) (codes "FX") ≡ x → (u || (l || (x || false))) ≡ true
+        → told_values lines (f ∷ bounds) n ≡ bounded_values (field 0 f) (value (field 1 (bound_pair f))) (told_values lines bounds n)
+    by true l x up lo fx one = let word = same_name (field 0 f) (codes "UP") up in let no : is_binary_bound f ≡ false = rw word refl in rw (h, word, no) refl
+    by false true x up lo fx one = let word = same_name (field 0 f) (codes "LO") lo in let no : is_binary_bound f ≡ false = rw word refl in rw (h, word, no) refl
+    by false false true up lo fx one = let word = same_name (field 0 f) (codes "FX") fx in let no : is_binary_bound f ≡ false = rw word refl in rw (h, word, no) refl
+    by false false false up lo fx one = absurd cc
 
 others-told : (f : LineFields) (lines bounds : List LineFields) (ns : List (List ℕ)) → AllByRecursion (λ n. bytes_eq (field 0 (bound_pair f)) n ≡ false) ns → map (told_values lines bounds) ns ≡ map (told_values lines (f ∷ bounds)) ns
 others-told f lines bounds [] h = refl
