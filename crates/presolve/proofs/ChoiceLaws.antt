@@ -1,14 +1,16 @@
 -- The kept bids that are among choices, choice by choice.
-use Rattle.std.proofs.Common.{◌≡◌, ℕ, zero, suc, ◌+◌, ◌-◌, ◌<◌, ◌≤◌, ◌⊎◌, inl, inr, ⊎_elim, Bool, true, false, not, ◌&&◌, ◌||◌, ◌==◌, cond, List, [], ◌∷◌, ◌++◌, Option, Some, None, length, take, get_or, slice_get, map, slice_index_or, sym, refl, ap, ap₂, ◌∙◌, subst, arith, eqb-true, eq-eqb, take_all}
+use Rattle.std.proofs.Common.{◌≡◌, ℕ, zero, suc, ◌+◌, ◌-◌, ◌<◌, ◌≤◌, ◌⊎◌, inl, inr, ⊎_elim, Bool, true, false, not, ◌&&◌, ◌||◌, ◌==◌, cond, List, [], ◌∷◌, ◌++◌, Option, Some, None, length, take, get_or, slice_get, map, sym, refl, ap, ap₂, ◌∙◌, subst, arith, eqb-true, eq-eqb, take_all}
 use Rattle.std.specs.Prelude.{◌↔◌, AllPairs, IsPermutation, IsTrue, filter, sum_by}
 use Rattle.std.specs.List.{AllByRecursion, list_any}
 use Rattle.std.specs.Option.{option_map_or}
-use Rattle.std.proofs.lemmas.Bool.{and_parts, and_from, both_ways, cases_lt, false_from_ne_true, or_cases}
-use Rattle.std.proofs.lemmas.List.{append-nil, get_or-map}
+use Rattle.std.proofs.Math.Bool.{and-false, or-false, or-true}
+use Rattle.std.proofs.lemmas.Bool.{and_parts, and_from, both_ways, cases_lt, cond_both, false_from_ne_true, or_cases}
+use Rattle.std.proofs.lemmas.List.{append-nil, get_or-map, get_or_past}
+use Rattle.std.proofs.lemmas.List.Elements.{filter_agree}
 use Rattle.std.proofs.lemmas.List.Folds.{list_any_more}
 use Rattle.std.proofs.lemmas.List.Sorted.{list_any-IsPermutation}
 use Rattle.std.proofs.lemmas.List.Sums.{sum_by-cons}
-use Rattle.std.proofs.lemmas.Option.{slice_get-get_or, get_or_from_slice_get}
+use Rattle.std.proofs.lemmas.Option.{slice_get-get_or, slice_get_past, get_or_from_slice_get}
 use Rattle.auction_terms.specs.declared.bids.Bid.{Bid}
 use Rattle.auction_terms.specs.declared.choices.Choice.{Choice}
 use Rattle.auction_terms.specs.Allocations.{Book, bid_at, bid_of, form_of}
@@ -32,10 +34,6 @@ IsEarlier d c = (d.bidder < c.bidder) ⊎ ((d.bidder ≡ c.bidder) × (d.bid < c
 none_left : (q : Offer → Bool) (xs : List Offer) → AllByRecursion (λ o. q o ≡ false) xs → filter q xs ≡ []
 none_left q [] h = refl
 none_left q (o ∷ xs) h = rw h.0 (none_left q xs h.1)
-
-filter_agree : (q r : Offer → Bool) → ((o : Offer) → q o ≡ r o) → (xs : List Offer) → filter q xs ≡ filter r xs
-filter_agree q r h [] = refl
-filter_agree q r h (o ∷ xs) = ap₂ (λ (b : Bool) (rest : List Offer). cond b (o ∷ rest) rest) (h o) (filter_agree q r h xs)
 
 is_of : (c : Choice) (o : Offer) → is_offer_of c o ≡ true → (c.bidder ≡ o.bidder) × (c.bid ≡ o.number)
 is_of c o h = let e = and_parts (c.bidder == o.bidder) (c.bid == o.number) h in (eqb-true c.bidder o.bidder e.0, eqb-true c.bid o.number e.1)
@@ -113,11 +111,7 @@ module _ (lots : Lots) (book : Book) (group : ℕ → Bool) (c : Choice) where
     not_counted : (o : Offer) → (o.bidder ≡ c.bidder → (o.number ≡ c.bid → ⊥)) → counted o ≡ 0
     not_counted o differ =
         let no : is_offer_of c o ≡ false = false_from_ne_true (is_offer_of c o) (λ t. let same = is_of c o t in differ (sym same.0) (sym same.1)) in
-        rw no (zero_either (is_kept_offer lots book group o))
-      where
-        zero_either : (b : Bool) → ◌≡◌ {A = ℕ} (cond b 0 0) 0
-        zero_either true = refl
-        zero_either false = refl
+        rw no (cond_both (is_kept_offer lots book group o) 0 0 (λ (n : ℕ). n ≡ 0) (λ e. refl) (λ e. refl))
 
     kept_here : is_kept_offer lots book group here ≡ true
     kept_here = sym (ap (λ (y : Option Bid). not (group c.bidder) && option_map_or (λ (z : Bid). is_kept lots (form_of book c.bidder) z) y false) at) ∙ is
@@ -144,12 +138,12 @@ module _ (lots : Lots) (book : Book) (group : ℕ → Bool) (within : IsBook lot
   abbrev among_first : ℕ → List Offer
   among_first place = kept_among lots book group (take place sorted)
 
-  none_chosen : (xs : List Offer) → filter (λ o. false) xs ≡ []
-  none_chosen [] = refl
-  none_chosen (o ∷ xs) = none_chosen xs
-
   pub at_start : among_first 0 ≡ []
-  at_start = none_chosen (kept_of lots book group)
+  at_start = none_kept (kept_of lots book group)
+    where
+      none_kept : (xs : List Offer) → filter (λ o. false) xs ≡ []
+      none_kept [] = refl
+      none_kept (o ∷ xs) = none_kept xs
 
   pub at_end : (place : ℕ) (choices : List Choice) → length sorted ≤ place → IsPermutation choices sorted → among_first place ≡ kept_among lots book group choices
   at_end place choices past same =
@@ -160,12 +154,7 @@ module _ (lots : Lots) (book : Book) (group : ℕ → Bool) (within : IsBook lot
   module _ (c : Choice) where
     -- one choice more
     has_more : (place : ℕ) → place < length sorted → slice_get sorted place ≡ Some c → (o : Offer) → has_choice (take (place + 1) sorted) o.bidder o.number ≡ (has_choice (take place sorted) o.bidder o.number || is_offer_of c o)
-    has_more place less at o = list_any_more (λ d. is_offer_of d o) sorted place c less ∙ ap (λ (d : Choice). has_choice (take place sorted) o.bidder o.number || is_offer_of d o) (got sorted place at)
-      where
-        got : (xs : List Choice) (k : ℕ) → slice_get xs k ≡ Some c → get_or xs k c ≡ c
-        got [] k e = refl
-        got (d ∷ xs) zero e = cc
-        got (d ∷ xs) (suc k) e = got xs k e
+    has_more place less at o = list_any_more (λ d. is_offer_of d o) sorted place c less ∙ ap (λ (d : Choice). has_choice (take place sorted) o.bidder o.number || is_offer_of d o) (get_or_from_slice_get sorted place c c at)
 
     found : (o : Offer) (place : ℕ) → place ≤ length sorted → has_choice (take place sorted) o.bidder o.number ≡ true → (k : ℕ) × (k < place) × (is_offer_of (get_or sorted k c) o ≡ true)
     found o zero less h = absurd (both_ways false refl h)
@@ -189,9 +178,8 @@ module _ (lots : Lots) (book : Book) (group : ℕ → Bool) (within : IsBook lot
         grind arith) (kept_of lots book group) (kept_are_offers lots book group within)
 
     again : (a b : Bool) → ((a || b) || b) ≡ (a || b)
-    again true b = refl
-    again false true = refl
-    again false false = refl
+    again a true = or-true (a || true) ∙ sym (or-true a)
+    again a false = or-false (a || false)
 
     -- a choice that stands before it too
     pub one_again : (place : ℕ) → 1 ≤ place → place < length sorted → slice_get sorted place ≡ Some c → slice_get sorted (place - 1) ≡ Some c → among_first (place + 1) ≡ among_first place
@@ -208,14 +196,9 @@ module _ (lots : Lots) (book : Book) (group : ℕ → Bool) (within : IsBook lot
 
 -- ---------- what a choice finds ----------
 
-past : {X : Type 0} (xs : List X) (k : ℕ) → length xs ≤ k → slice_get xs k ≡ None
-past [] k h = refl
-past (x ∷ xs) zero h = absurd (omega arith)
-past (x ∷ xs) (suc k) h = past xs k (omega arith)
-
 pub no_bid : (form : List Bid) (j : ℕ) → (j ≡ 0) ⊎ (length form < j) → bid_at form j ≡ None
 no_bid form zero h = refl
-no_bid form (suc j) h = past form j (⊎_elim (λ z. absurd (omega arith)) (λ l. omega arith) h)
+no_bid form (suc j) h = slice_get_past form j (⊎_elim (λ z. absurd (omega arith)) (λ l. omega arith) h)
 
 pub no_bid_of_none : (form : List Bid) (j : ℕ) → [] ≡ form → bid_at form j ≡ None
 no_bid_of_none form zero h = refl
@@ -227,47 +210,46 @@ its_bid_at form (suc j) x some within at =
     let back : suc j - 1 ≡ j = omega arith in
     slice_get-get_or form j x (omega arith) ∙ ap (λ (y : Bid). Some y) (ap (λ (n : ℕ). get_or form n x) (sym back) ∙ sym at)
 
-in_book : (book : Book) (b : ℕ) → 0 < length (slice_index_or book b []) → b < length book
-in_book [] b h = absurd (omega arith)
-in_book (form ∷ book) zero h = omega arith
-in_book (form ∷ book) (suc b) h = let rest = in_book book b h in omega arith
-
 -- a bidder with a bid is one of the book's
 pub bidder_within : (book : Book) (b : ℕ) → 0 < length (form_of book b) → (1 ≤ b) × (b ≤ length book)
 bidder_within book zero h = absurd (omega arith)
-bidder_within book (suc b) h = let within = in_book book b h in (omega arith, omega arith)
+bidder_within book (suc b) h = ⊎_elim (λ inside. (omega arith, omega arith)) (λ past. absurd (let none = ap length (get_or_past book b [] past) in omega arith)) (cases_lt b (length book))
 
 pub flag_is : (lots : Lots) (form : List Bid) (flags : List Bool) (place : ℕ) (x : Bid) (flag : Bool) → flags ≡ map (is_kept lots form) form → place < length form → x ≡ get_or form place x → flag ≡ get_or flags place flag → is_kept lots form x ≡ flag
 flag_is lots form flags place x flag are less at is =
     ap (is_kept lots form) at ∙ sym (get_or-map (is_kept lots form) form place x flag less) ∙ ap (λ (fs : List Bool). get_or fs place flag) (sym are) ∙ sym is
 
 module _ (lots : Lots) (book : Book) (group : ℕ → Bool) (c : Choice) where
-  either_way : (b : Bool) → (b && false) ≡ false
-  either_way true = refl
-  either_way false = refl
-
-  pub left_out : group c.bidder ≡ true → is_kept_choice lots book group c ≡ false
-  left_out h = rw h refl
-
-  pub not_there : bid_of book c ≡ None → is_kept_choice lots book group c ≡ false
-  not_there h = rw h (either_way (not (group c.bidder)))
-
-  pub dropped : (x : Bid) → bid_of book c ≡ Some x → is_kept lots (form_of book c.bidder) x ≡ false → is_kept_choice lots book group c ≡ false
-  dropped x at h = ap (λ (y : Option Bid). not (group c.bidder) && option_map_or (λ (z : Bid). is_kept lots (form_of book c.bidder) z) y false) at ∙ ap (λ (b : Bool). not (group c.bidder) && b) h ∙ either_way (not (group c.bidder))
+  stands_with : (x : Bid) → bid_of book c ≡ Some x → is_kept_choice lots book group c ≡ (not (group c.bidder) && is_kept lots (form_of book c.bidder) x)
+  stands_with x at = ap (λ (y : Option Bid). not (group c.bidder) && option_map_or (λ (z : Bid). is_kept lots (form_of book c.bidder) z) y false) at
 
   pub stays : (x : Bid) → group c.bidder ≡ false → bid_of book c ≡ Some x → is_kept lots (form_of book c.bidder) x ≡ true → is_kept_choice lots book group c ≡ true
-  stays x outside at h = ap (λ (y : Option Bid). not (group c.bidder) && option_map_or (λ (z : Bid). is_kept lots (form_of book c.bidder) z) y false) at ∙ ap₂ (λ (a b : Bool). not a && b) outside h
+  stays x outside at h = stands_with x at ∙ rw (outside, h) refl
 
-  pub none_added : (before : List Offer) → is_kept_choice lots book group c ≡ false → before ≡ before ++ filter (is_offer_of c) (kept_of lots book group)
-  none_added before h = sym (ap (λ (more : List Offer). before ++ more) (none_of lots book group c h) ∙ append-nil before)
+  -- a choice that isn't kept adds none
+  module _ (before : List Offer) where
+    abbrev AddsNone : Type 0
+    AddsNone = before ≡ before ++ filter (is_offer_of c) (kept_of lots book group)
+
+    none_added : is_kept_choice lots book group c ≡ false → AddsNone
+    none_added h = sym (ap (λ (more : List Offer). before ++ more) (none_of lots book group c h) ∙ append-nil before)
+
+    pub left_out : group c.bidder ≡ true → AddsNone
+    left_out h = none_added (rw h refl)
+
+    pub not_there : bid_of book c ≡ None → AddsNone
+    not_there h = none_added (rw h (and-false (not (group c.bidder))))
+
+    pub dropped : (x : Bid) → bid_of book c ≡ Some x → is_kept lots (form_of book c.bidder) x ≡ false → AddsNone
+    dropped x at h = none_added (stands_with x at ∙ rw h (and-false (not (group c.bidder))))
 
 -- ---------- neighbours ----------
 
+cases_le : (x y : ℕ) → x ≤ y → (x < y) ⊎ (x ≡ y)
+cases_le x y l = ⊎_elim (λ less. inl less) (λ least. inr (omega arith)) (cases_lt x y)
+
 strictly : (a m b n : ℕ) → IsUpTo a m b n → (a ≡ b → m ≡ n → ⊥) → (a < b) ⊎ ((a ≡ b) × (m < n))
 strictly a m b n up differ = ⊎_elim (λ l. inl l) (λ e. ⊎_elim (λ l. inr (e.0, l)) (λ same. absurd (differ e.0 same)) (cases_le m n e.1)) up
-  where
-    cases_le : (x y : ℕ) → x ≤ y → (x < y) ⊎ (x ≡ y)
-    cases_le x y l = ⊎_elim (λ less. inl less) (λ least. inr (omega arith)) (cases_lt x y)
 
 strictly_behind : (a m b n c o : ℕ) → IsUpTo a m b n → (b < c) ⊎ ((b ≡ c) × (n < o)) → (a < c) ⊎ ((a ≡ c) × (m < o))
 strictly_behind a m b n c o up later = grind arith
@@ -284,10 +266,7 @@ behind_all sorted place c rising less at new k before =
     ⊎_elim
     (λ l. strictly_behind _ _ last.bidder last.bid c.bidder c.bid (rising k (place - 1) c l (omega arith)) ends)
     (λ same. subst (λ (n : ℕ). IsEarlier (get_or sorted n c) c) (sym same) ends)
-    (by k (place - 1) (omega arith))
-  where
-    by : (x y : ℕ) → x ≤ y → (x < y) ⊎ (x ≡ y)
-    by x y l = ⊎_elim (λ less. inl less) (λ least. inr (omega arith)) (cases_lt x y)
+    (cases_le k (place - 1) (omega arith))
 
 -- ---------- what the test of a repeated choice tells ----------
 

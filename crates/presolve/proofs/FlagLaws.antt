@@ -1,10 +1,11 @@
 -- Laws of the flags: comparing a bid with the fitting bids of smaller size is comparing it with all.
-use Rattle.std.proofs.Common.{◌≡◌, ◌+◌, ◌≤◌, ◌&&◌, ◌||◌, ⊎_elim, ℕ, Bool, true, false, not, nat_lt, List, [], ◌∷◌, length, map, arith, refl, sym, ap, ap₂, ◌∙◌, subst, lt-ltb, le-ltb, ℤ}
+use Rattle.std.proofs.Common.{◌≡◌, ◌+◌, ◌≤◌, ◌&&◌, ◌||◌, ⊎_elim, ℕ, Bool, true, false, not, nat_lt, List, [], ◌∷◌, length, map, arith, refl, sym, ap, ap₂, ◌∙◌, lt-ltb, le-ltb, ℤ}
 use Rattle.std.specs.Prelude.{All, int_le, pos}
 use Rattle.std.specs.List.{AllByRecursion, list_any}
-use Rattle.std.proofs.lemmas.Bool.{and_parts, cases_Bool, both_ways, cond-true, cond-false, cond_both}
-use Rattle.std.proofs.lemmas.List.Elements.{recursion_from_All, All-from_recursion}
-use Rattle.std.proofs.lemmas.List.Sorted.{All-permutation, list_any-IsPermutation}
+use Rattle.std.proofs.Math.Bool.{and-false, and-true, and_assoc}
+use Rattle.std.proofs.lemmas.Bool.{and_parts, cases_Bool, both_ways, cond_both}
+use Rattle.std.proofs.lemmas.List.Elements.{recursion_from_All}
+use Rattle.std.proofs.lemmas.List.Sorted.{list_any-IsPermutation}
 use Rattle.auction_terms.specs.declared.bids.Bid.{Bid}
 use Rattle.auction_terms.specs.Packages.{Lots, is_within, fits, size}
 use Rattle.auction_terms.specs.Domination.{net, dominates, is_kept}
@@ -12,6 +13,7 @@ use Rattle.auction_terms.proofs.PackageLaws.{fits_smaller, size_le, size_lt}
 use Rattle.presolve.specs.declared.order.SizedBid.{SizedBid}
 use Rattle.presolve.specs.Sizes.{IsUpTo}
 use Rattle.presolve.specs.inside.Sizes.{Sized, sized_of, fitting_from, IsOrdered, AreRivals, TellsItsSize, TellsItsNet, beats}
+use Rattle.presolve.proofs.SizeLaws.{all_ordered, sized}
 
 abbrev beats_sized : Lots → Bid → Sized → Bool
 beats_sized lots x s = nat_lt s.size (size x.package) && (int_le (net lots x) (net lots s.bid) && is_within s.bid.package x.package)
@@ -27,27 +29,15 @@ beats_each : (lots : Lots) (x : SizedBid) (rivals : List SizedBid) → TellsItsS
 beats_each lots x [] told mine nets = refl
 beats_each lots x (s ∷ rivals) told mine nets = ap₂ (λ (here rest : Bool). here || rest) (beats_told lots x s told mine nets.0) (beats_each lots x rivals told mine nets.1)
 
-any_of_map : (test : Sized → Bool) (rivals : List SizedBid) → list_any (λ (s : SizedBid). test (sized_of s)) rivals ≡ list_any test (map sized_of rivals)
+pub any_of_map : (test : Sized → Bool) (rivals : List SizedBid) → list_any (λ (s : SizedBid). test (sized_of s)) rivals ≡ list_any test (map sized_of rivals)
 any_of_map test [] = refl
 any_of_map test (s ∷ rivals) = ap (λ (rest : Bool). test (sized_of s) || rest) (any_of_map test rivals)
 
-abbrev sized : ℕ → Bid → Sized
-sized j y = record { size = size y.package; number = j; bid = y }
-
 -- of two packages, one within the other and not the other way round is the smaller one
 tests : (smaller cheap within around : Bool) → (around ≡ true → smaller ≡ false) → (within ≡ true → around ≡ false → smaller ≡ true) → (smaller && (cheap && within)) ≡ ((within && not around) && cheap)
-tests true true true true h k = absurd (both_ways true (h refl) refl)
-tests true true true false h k = refl
-tests true true false around h k = refl
-tests true false true true h k = refl
-tests true false true false h k = refl
-tests true false false around h k = refl
-tests false true true true h k = refl
-tests false true true false h k = k refl refl
-tests false true false around h k = refl
-tests false false true true h k = refl
-tests false false true false h k = refl
-tests false false false around h k = refl
+tests smaller cheap true true h k = rw (h refl) refl
+tests smaller cheap true false h k = rw (k refl refl) (and-true cheap)
+tests smaller cheap false around h k = rw (and-false cheap) (and-false smaller)
 
 same_test : (lots : Lots) (x y : Bid) (j : ℕ) → beats_sized lots x (sized j y) ≡ dominates lots y x
 same_test lots x y j =
@@ -63,19 +53,14 @@ dominates_none lots x y fit unfit = ⊎_elim
     (λ d. d)
     (cases_Bool (dominates lots y x))
 
-fitting_more : (lots : Lots) (x y : Bid) (j : ℕ) (form : List Bid) (b : Bool) → fits lots y.package ≡ b → fits lots x.package ≡ true → list_any (beats_sized lots x) (fitting_from lots (j + 1) form) ≡ list_any (λ (z : Bid). dominates lots z x) form
-    → list_any (beats_sized lots x) (fitting_from lots j (y ∷ form)) ≡ list_any (λ (z : Bid). dominates lots z x) (y ∷ form)
-fitting_more lots x y j form true e fit h =
-    ap (λ (rs : List Sized). list_any (beats_sized lots x) rs) (cond-true (fits lots y.package) (sized j y ∷ fitting_from lots (j + 1) form) (fitting_from lots (j + 1) form) e)
-    ∙ ap₂ (λ (a b : Bool). a || b) (same_test lots x y j) h
-fitting_more lots x y j form false e fit h =
-    ap (λ (rs : List Sized). list_any (beats_sized lots x) rs) (cond-false (fits lots y.package) (sized j y ∷ fitting_from lots (j + 1) form) (fitting_from lots (j + 1) form) e)
-    ∙ h ∙ sym (ap (λ (b : Bool). b || list_any (λ (z : Bid). dominates lots z x) form) (dominates_none lots x y fit e))
-
 -- among the bids that fit there is one that dominates wherever there is one at all
 fitting_suffice : (lots : Lots) (x : Bid) (j : ℕ) (form : List Bid) → fits lots x.package ≡ true → list_any (beats_sized lots x) (fitting_from lots j form) ≡ list_any (λ (z : Bid). dominates lots z x) form
 fitting_suffice lots x j [] fit = refl
-fitting_suffice lots x j (y ∷ form) fit = fitting_more lots x y j form (fits lots y.package) refl fit (fitting_suffice lots x (j + 1) form fit)
+fitting_suffice lots x j (y ∷ form) fit =
+    let rest = fitting_suffice lots x (j + 1) form fit in
+    cond_both (fits lots y.package) (sized j y ∷ fitting_from lots (j + 1) form) (fitting_from lots (j + 1) form) (λ (rs : List Sized). list_any (beats_sized lots x) rs ≡ list_any (λ (z : Bid). dominates lots z x) (y ∷ form))
+    (λ e. ap₂ (λ (a b : Bool). a || b) (same_test lots x y j) rest)
+    (λ e. rest ∙ sym (ap (λ (b : Bool). b || list_any (λ (z : Bid). dominates lots z x) form) (dominates_none lots x y fit e)))
 
 -- a bid of a form is beaten where one of the form dominates it
 pub rivals_suffice : (lots : Lots) (form : List Bid) (rivals : List SizedBid) (x : SizedBid) → IsOrdered lots form rivals → TellsItsSize x → TellsItsNet lots x → fits lots x.bid.now.package ≡ true → list_any (beats x) rivals ≡ list_any (λ (z : Bid). dominates lots z x.bid.now) form
@@ -89,44 +74,18 @@ rivals_suffice lots form rivals x o told mine fit =
 abbrev pub stands : Lots → List Bid → Bid → Bool
 stands lots form x = int_le (pos 0) (net lots x) && not (list_any (λ (z : Bid). dominates lots z x) form)
 
-grouped : (a b c : Bool) → (a && (b && c)) ≡ ((a && b) && c)
-grouped true b c = refl
-grouped false b c = refl
-
 pub all_kept : (lots : Lots) (form xs : List Bid) → map (λ (x : Bid). fits lots x.package && stands lots form x) xs ≡ map (is_kept lots form) xs
 all_kept lots form [] = refl
-all_kept lots form (x ∷ xs) = ap₂ (λ (b : Bool) (bs : List Bool). b ∷ bs) (grouped (fits lots x.package) (int_le (pos 0) (net lots x)) (not (list_any (λ (z : Bid). dominates lots z x) form))) (all_kept lots form xs)
-
--- the bids that fit are as long as the form's
-fitting_sized : (lots : Lots) (n j : ℕ) (form : List Bid) → AllByRecursion (λ (x : Bid). length x.package ≡ n) form → AllByRecursion (λ (s : Sized). length s.bid.package ≡ n) (fitting_from lots j form)
-fitting_sized lots n j [] a = tt
-fitting_sized lots n j (x ∷ form) a = cond_both (fits lots x.package) (sized j x ∷ fitting_from lots (j + 1) form) (fitting_from lots (j + 1) form) (λ (rs : List Sized). AllByRecursion (λ (s : Sized). length s.bid.package ≡ n) rs)
-    (λ fit. (a.0, fitting_sized lots n (j + 1) form a.1))
-    (λ unfit. fitting_sized lots n (j + 1) form a.1)
-
-of_map : (P : Sized → Type 0) (rivals : List SizedBid) → AllByRecursion P (map sized_of rivals) → AllByRecursion (λ (s : SizedBid). P (sized_of s)) rivals
-of_map P [] a = tt
-of_map P (s ∷ rivals) a = (a.0, of_map P rivals a.1)
+all_kept lots form (x ∷ xs) = ap₂ (λ (b : Bool) (bs : List Bool). b ∷ bs) (sym (and_assoc (fits lots x.package) (int_le (pos 0) (net lots x)) (not (list_any (λ (z : Bid). dominates lots z x) form)))) (all_kept lots form xs)
 
 pub are_rivals : (lots : Lots) (n : ℕ) (form : List Bid) (rivals : List SizedBid) → All (λ (x : Bid). length x.package ≡ n) form → IsOrdered lots form rivals → AreRivals n rivals
 are_rivals lots n form rivals a o = record {
-  sized = All-permutation (λ (s : SizedBid). length s.bid.now.package ≡ n) o.fitting rivals o.moved
-      (All-from_recursion (λ (s : SizedBid). length s.bid.now.package ≡ n) o.fitting (of_map (λ (s : Sized). length s.bid.package ≡ n) o.fitting
-      (subst (λ (rs : List Sized). AllByRecursion (λ (s : Sized). length s.bid.package ≡ n) rs) (sym o.same) (fitting_sized lots n 1 form (recursion_from_All (λ (x : Bid). length x.package ≡ n) form a)))));
+  sized = all_ordered (λ (s : Sized). length s.bid.package ≡ n) lots form rivals o (λ i d small fit. a i d small);
   rising = λ i j d before within. no_larger (o.rising i j d before within);
 }
   where
     no_larger : {a m b n : ℕ} → IsUpTo a m b n → a ≤ b
     no_larger h = ⊎_elim (λ l. omega arith) (λ e. let s = e.0 in omega arith) h
 
-fitting_fit : (lots : Lots) (j : ℕ) (form : List Bid) → AllByRecursion (λ (s : Sized). fits lots s.bid.package ≡ true) (fitting_from lots j form)
-fitting_fit lots j [] = tt
-fitting_fit lots j (x ∷ form) = cond_both (fits lots x.package) (sized j x ∷ fitting_from lots (j + 1) form) (fitting_from lots (j + 1) form) (λ (rs : List Sized). AllByRecursion (λ (s : Sized). fits lots s.bid.package ≡ true) rs)
-    (λ fit. (fit, fitting_fit lots (j + 1) form))
-    (λ unfit. fitting_fit lots (j + 1) form)
-
 pub all_fit : (lots : Lots) (form : List Bid) (rivals : List SizedBid) → IsOrdered lots form rivals → All (λ (s : SizedBid). fits lots s.bid.now.package ≡ true) rivals
-all_fit lots form rivals o =
-    All-permutation (λ (s : SizedBid). fits lots s.bid.now.package ≡ true) o.fitting rivals o.moved
-    (All-from_recursion (λ (s : SizedBid). fits lots s.bid.now.package ≡ true) o.fitting (of_map (λ (s : Sized). fits lots s.bid.package ≡ true) o.fitting
-    (subst (λ (rs : List Sized). AllByRecursion (λ (s : Sized). fits lots s.bid.package ≡ true) rs) (sym o.same) (fitting_fit lots 1 form))))
+all_fit lots form rivals o = all_ordered (λ (s : Sized). fits lots s.bid.package ≡ true) lots form rivals o (λ i d small fit. fit)

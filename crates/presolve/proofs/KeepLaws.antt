@@ -1,6 +1,6 @@
 -- Laws of the kept bids of a book, bidder by bidder.
 use Rattle.std.proofs.Common.{◌≡◌, ℕ, suc, ◌+◌, ◌-◌, ◌<◌, ◌≤◌, Bool, true, false, not, ◌&&◌, cond, List, [], ◌∷◌, ◌++◌, length, drop, map, slice_index_or, get_or, sym, refl, ap, ap₂, ◌∙◌, subst, arith, append_assoc, append-nil}
-use Rattle.std.specs.Prelude.{All, AllPairs, Contains, filter, IfOk, MatchResult, Result, Ok, Err, zero}
+use Rattle.std.specs.Prelude.{All, AllPairs, Contains, filter, IfOk, MatchResult, Result, Ok, Err, Some, zero}
 use Rattle.std.specs.List.{AllByRecursion, AllZip, range_with_len}
 use Rattle.std.specs.declared.alloc.AllocError.{AllocError}
 use Rattle.std.specs.declared.vec.Vec.{Vec}
@@ -9,6 +9,7 @@ use Rattle.std.proofs.lemmas.List.{length-map, map-append, drop_all, get_or-map}
 use Rattle.std.proofs.lemmas.List.Elements.{filter-append, All-from_recursion}
 use Rattle.std.proofs.lemmas.List.FromFn.{length-map-range_with_len}
 use Rattle.std.proofs.lemmas.List.Kept.{AllPairs-cons}
+use Rattle.std.proofs.lemmas.Simd.{map-map}
 use Rattle.std.proofs.Math.Seq.{drop-cons}
 use Rattle.auction_terms.specs.declared.bids.Bid.{Bid}
 use Rattle.auction_terms.specs.declared.bids.KeptBid.{KeptBid}
@@ -17,17 +18,17 @@ use Rattle.auction_terms.specs.declared.rules.Bidder.{Bidder}
 use Rattle.auction_terms.specs.Packages.{Lots}
 use Rattle.auction_terms.specs.Terms.{Terms}
 use Rattle.auction_terms.specs.Domination.{is_kept}
-use Rattle.auction_terms.specs.Allocations.{Book, form_of}
+use Rattle.auction_terms.specs.Allocations.{Book, bid_at, bid_of, form_of}
 use Rattle.auction_terms.specs.Bids.{IsKeptBid, AreKept, Precedes}
 use Rattle.auction_terms.specs.Keeping.{Offer, offers_of_form, offers_from, kept_of}
 use Rattle.auction_terms.specs.inside.Keeping.{is_kept_offer}
 use Rattle.auction_terms.specs.Limits.{AreOffers, IsBefore, IsBook}
 use Rattle.auction_terms.specs.Offers.{offers, offer_of}
-use Rattle.auction_terms.proofs.LimitLaws.{kept_are_offers, offers_left}
+use Rattle.auction_terms.proofs.LimitLaws.{kept_are_offers}
 use Rattle.bid_desk.specs.Closing.{Closing, book_of, bids_in, form_standing}
-use Rattle.presolve.specs.Flags.{flags_of, flags_of_form, has_choice, kept_among, kept_in_form}
+use Rattle.presolve.specs.Flags.{flags_of, flags_of_form, kept_in_form}
 use Rattle.presolve.specs.inside.Flags.{flagged_from, flags_of_bidders}
-use Rattle.presolve.proofs.ChoiceLaws.{bidder_within}
+use Rattle.presolve.proofs.ChoiceLaws.{bidder_within, flag_is, its_bid_at}
 
 -- a book has a form for each bidder of its rules
 pub length_book : (c : Closing) (t : Terms) (bidders : List Bidder) → bidders ≡ t.bidders → t ≡ c.rules → length bidders ≡ length (book_of c)
@@ -148,17 +149,22 @@ module _ (lots : Lots) (book : Book) where
             ∙ flag_of_form book i within ∙ ap (λ (n : ℕ). map (is_kept lots (form_of book n)) (form_of book n)) (let s : suc i ≡ i + 1 = omega arith in s),
       )
 
--- the flags of the form of a choice's bidder, where the form has a bid
-pub its_flags : (lots : Lots) (book : Book) (forms : List (Vec Bool Global)) (c : Choice) (form : Vec Bool Global) (place : ℕ) → map (λ (f : Vec Bool Global). f.items) forms ≡ flags_of lots book → 0 < length (form_of book c.bidder)
-    → place ≡ c.bidder - 1 → form ≡ get_or forms place form → form.items ≡ map (is_kept lots (form_of book c.bidder)) (form_of book c.bidder)
-its_flags lots book forms c form place all some place_is at =
-    let long = length_flags lots book forms all in
-    let within = bidder_within book c.bidder some in
-    let low = within.0 in
-    let high = within.1 in
-    let there : place < length forms = omega arith in
-    let back : place + 1 ≡ c.bidder = omega arith in
-    (flags_at lots book forms place form all there at).1 ∙ ap (λ (n : ℕ). map (is_kept lots (form_of book n)) (form_of book n)) back
+-- the bid of a choice and its flag, which are looked up by numbers less one
+module _ (lots : Lots) (book : Book) (forms : List (Vec Bool Global)) (c : Choice) (flags : Vec Bool Global) (bids : List Bid) (bidder number : ℕ) (all : map (λ (f : Vec Bool Global). f.items) forms ≡ flags_of lots book)
+    (bids_are : bids ≡ form_of book c.bidder) (some : 1 ≤ c.bid) (most : c.bid ≤ length bids) (bidder_is : bidder ≡ c.bidder) (number_is : number ≡ c.bid) (at : flags ≡ get_or forms (bidder - 1) flags) where
+  pub its_flags : flags.items ≡ map (is_kept lots bids) bids
+  its_flags =
+      let long = length_flags lots book forms all in
+      let (low, high) = bidder_within book c.bidder (let n = ap length bids_are in omega arith) in
+      let there : bidder - 1 < length forms = omega arith in
+      let back : bidder - 1 + 1 ≡ c.bidder = omega arith in
+      (flags_at lots book forms (bidder - 1) flags all there at).1 ∙ ap (λ (n : ℕ). map (is_kept lots (form_of book n)) (form_of book n)) back ∙ ap (λ (form : List Bid). map (is_kept lots form) form) (sym bids_are)
+
+  pub its_flag : (x : Bid) (flag : Bool) → x ≡ get_or bids (number - 1) x → flag ≡ get_or flags.items (number - 1) flag → (bid_of book c ≡ Some x) × (is_kept lots (form_of book c.bidder) x ≡ flag)
+  its_flag x flag here is = (
+    ap (λ (form : List Bid). bid_at form c.bid) (sym bids_are) ∙ its_bid_at bids c.bid x some most (here ∙ ap (λ (n : ℕ). get_or bids (n - 1) x) number_is),
+    ap (λ (form : List Bid). is_kept lots form x) (sym bids_are) ∙ flag_is lots bids flags.items (number - 1) x flag its_flags (omega arith) here is,
+  )
 
 precedes_all : (k : KeptBid) (ks : List KeptBid) → AllByRecursion (IsBefore (offer_of k)) (offers ks) → AllByRecursion (Precedes k) ks
 precedes_all k [] a = tt
@@ -168,17 +174,8 @@ rising : (lots : Lots) (ks : List KeptBid) → AreOffers lots (offers ks) → Al
 rising lots [] a = λ i j d before within. absurd (omega arith)
 rising lots (k ∷ ks) a = AllPairs-cons Precedes k ks (All-from_recursion (Precedes k) ks (precedes_all k ks a.1)) (rising lots ks a.2)
 
-pub are_kept : (lots : Lots) (book : Book) (group : ℕ → Bool) (ks : List KeptBid) → IsBook lots book → All IsKeptBid ks → offers ks ≡ kept_of lots book group → AreKept ks
-are_kept lots book group ks limits each e = record {
-  each = each;
-  rising = rising lots ks (subst (λ (os : List Offer). AreOffers lots os) (sym e) (kept_are_offers lots book group limits));
-}
-
-pub among_are_kept : (lots : Lots) (book : Book) (group : ℕ → Bool) (choices : List Choice) (ks : List KeptBid) → IsBook lots book → All IsKeptBid ks → offers ks ≡ kept_among lots book group choices → AreKept ks
-among_are_kept lots book group choices ks limits each e = record {
-  each = each;
-  rising = rising lots ks (subst (AreOffers lots) (sym e) (offers_left lots (λ o. has_choice choices o.bidder o.number) (kept_of lots book group) (kept_are_offers lots book group limits)));
-}
+pub are_kept : (lots : Lots) (os : List Offer) (ks : List KeptBid) → AreOffers lots os → All IsKeptBid ks → offers ks ≡ os → AreKept ks
+are_kept lots os ks are each e = record { each = each; rising = rising lots ks (subst (AreOffers lots) (sym e) are) }
 
 -- the kept bids of a form, by the flags of that form
 pub form_offers : (lots : Lots) (book : Book) (b : ℕ) → 1 ≤ b → b ≤ length book → IsBook lots book → AreOffers lots (kept_in_form lots b (form_of book b))
@@ -189,22 +186,12 @@ form_offers lots book (suc i) some within limits =
     let own = subst (λ (n : ℕ). AreOffers lots (filter (is_kept_offer lots book nobody) (offers_of_form n 1 (form_of book n)))) next (form_are lots book nobody i (omega arith) limits) in
     subst (AreOffers lots) (sym (kept_outside lots book nobody (suc i) 1 (form_of book (suc i)) (form_of book (suc i)) refl refl)) own
 
-pub form_are_kept : (lots : Lots) (book : Book) (b : ℕ) (ks : List KeptBid) → 1 ≤ b → b ≤ length book → IsBook lots book → All IsKeptBid ks → offers ks ≡ kept_in_form lots b (form_of book b) → AreKept ks
-form_are_kept lots book b ks some within limits each e = record {
-  each = each;
-  rising = rising lots ks (subst (AreOffers lots) (sym e) (form_offers lots book b some within limits));
-}
-
 -- the forms of the bidders from one on are those of the book from there on
 forms_from : (book : Book) (i n : ℕ) → i + n ≡ length book → map (form_of book) (range_with_len (i + 1) n) ≡ drop i book
 forms_from book i zero e = sym (drop_all i book (omega arith))
 forms_from book i (suc n) e =
     let next : (i + 1) + n ≡ length book = omega arith in
     ap (λ (rest : Book). form_of book (i + 1) ∷ rest) (forms_from book (i + 1) n next) ∙ sym (next_form book i (omega arith))
-
-flags_each : (lots : Lots) (book : Book) (bidders : List ℕ) → map (λ bidder. flags_of_form lots (form_of book bidder)) bidders ≡ map (flags_of_form lots) (map (form_of book) bidders)
-flags_each lots book [] = refl
-flags_each lots book (bidder ∷ bidders) = ap (λ (rest : List (List Bool)). flags_of_form lots (form_of book bidder) ∷ rest) (flags_each lots book bidders)
 
 module _ (lots : Lots) (book : Book) where
   -- the flags of a bidder's form, where they were made
@@ -234,10 +221,10 @@ module _ (lots : Lots) (book : Book) where
       ∙ ap (λ (ns : List ℕ). first ∷ ns) (ranges_joined (first + 1) front back ∙ ap (λ (n : ℕ). range_with_len (first + 1) front ++ range_with_len n back) (let e : first + 1 + front ≡ first + suc front = omega arith in e))
 
   -- the flags of all bidders are those of the book
-  pub flags_whole : (count : ℕ) (forms : List (Vec Bool Global)) → count ≡ length book → map (λ (form : Vec Bool Global). form.items) forms ≡ flags_of_bidders lots book (range_with_len 1 count) → map (λ (form : Vec Bool Global). form.items) forms ≡ flags_of lots book
-  flags_whole count forms all are =
+  pub flags_whole : (count : ℕ) (flags : List (List Bool)) → count ≡ length book → flags ≡ flags_of_bidders lots book (range_with_len 1 count) → flags ≡ flags_of lots book
+  flags_whole count flags all are =
       are ∙ ap (λ (n : ℕ). flags_of_bidders lots book (range_with_len 1 n)) all
-      ∙ flags_each lots book (range_with_len 1 (length book))
+      ∙ sym (map-map (flags_of_form lots) (form_of book) (range_with_len 1 (length book)))
       ∙ ap (map (flags_of_form lots)) (forms_from book 0 (length book) (omega arith))
 
   -- the flags of two ranges of bidders, one behind the other, are those of the book
@@ -246,9 +233,8 @@ module _ (lots : Lots) (book : Book) where
       → map (λ (form : Vec Bool Global). form.items) others ≡ flags_of_bidders lots book (range_with_len (1 + front) back)
       → map (λ (form : Vec Bool Global). form.items) (forms ++ others) ≡ flags_of lots book
   flags_joined front back forms others count are_front are_back =
-      map-append (λ (form : Vec Bool Global). form.items) forms others
+      flags_whole (front + back) (map (λ (form : Vec Bool Global). form.items) (forms ++ others)) count
+      (map-append (λ (form : Vec Bool Global). form.items) forms others
       ∙ ap₂ (λ (xs ys : List (List Bool)). xs ++ ys) are_front are_back
       ∙ sym (map-append (λ bidder. flags_of_form lots (form_of book bidder)) (range_with_len 1 front) (range_with_len (1 + front) back))
-      ∙ ap (flags_of_bidders lots book) (sym (ranges_joined 1 front back) ∙ ap (range_with_len 1) count)
-      ∙ flags_each lots book (range_with_len 1 (length book))
-      ∙ ap (map (flags_of_form lots)) (forms_from book 0 (length book) (omega arith))
+      ∙ ap (flags_of_bidders lots book) (sym (ranges_joined 1 front back)))

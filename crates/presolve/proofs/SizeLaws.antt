@@ -1,14 +1,16 @@
 -- Laws of the order by size.
-use Rattle.std.proofs.Common.{◌≡◌, ◌+◌, ◌<◌, ◌≤◌, ◌==◌, ⊎_elim, ℕ, zero, suc, Bool, true, false, cond, List, [], ◌∷◌, ◌++◌, Option, get_or, drop, length, map, take, slice_get, slice_index_or, nat_cmp, is_lt, arith, refl, sym, ap, ◌∙◌, subst, eq-eqb, ne_eqb, take_all}
-use Rattle.std.specs.Prelude.{All, AllPairs, count_by}
+use Rattle.std.proofs.Common.{◌≡◌, ◌+◌, ◌<◌, ◌≤◌, ◌==◌, ⊎_elim, ℕ, zero, suc, Bool, true, false, cond, List, [], ◌∷◌, ◌++◌, Option, Some, None, get_or, drop, length, map, take, slice_get, slice_index_or, nat_cmp, is_lt, arith, refl, sym, ap, ◌∙◌, subst, eq-eqb, ne_eqb, take_all}
+use Rattle.std.specs.Prelude.{All, AllPairs, count_by, filter}
 use Rattle.std.specs.List.{AllByRecursion}
 use Rattle.std.specs.Option.{option_map_or}
 use Rattle.std.specs.Ordering.{ordering_then}
-use Rattle.std.proofs.lemmas.Bool.{cases_lt, cond_both, cond-true, cond-false}
+use Rattle.std.proofs.lemmas.Bool.{cases_lt, cond_both}
 use Rattle.std.proofs.lemmas.List.{append_assoc, at_drop_more, get_or-map, length-map, map-append}
 use Rattle.std.proofs.lemmas.List.Elements.{All-from_recursion}
 use Rattle.std.proofs.lemmas.List.Sorted.{All-permutation, length_permutation, sum_by-IsPermutation}
-use Rattle.std.proofs.lemmas.List.Sums.{sum_by-cons}
+use Rattle.std.proofs.lemmas.List.Sums.{length-filter, sum_by-cons}
+use Rattle.std.proofs.lemmas.Option.{slice_get-get_or}
+use Rattle.std.proofs.lemmas.Simd.{map-map}
 use Rattle.std.proofs.lemmas.Bool.Decides.{nat_tests}
 use Rattle.auction_terms.specs.declared.bids.Bid.{Bid}
 use Rattle.auction_terms.specs.Packages.{Lots, fits, size}
@@ -16,12 +18,15 @@ use Rattle.presolve.specs.declared.order.SizedBid.{SizedBid}
 use Rattle.presolve.specs.Sizes.{IsUpTo, IsBySize, is_fitting, size_at}
 use Rattle.presolve.specs.inside.Sizes.{Sized, sized_of, fitting_from, IsOrdered}
 
+abbrev pub sized : ℕ → Bid → Sized
+sized j y = record { size = size y.package; number = j; bid = y }
+
 -- no more bids fit than there are
 few_fit : (lots : Lots) (j : ℕ) (form : List Bid) → length (fitting_from lots j form) ≤ length form
 few_fit lots j [] = omega arith
 few_fit lots j (x ∷ form) =
     let rest = few_fit lots (j + 1) form in
-    cond_both (fits lots x.package) (record { size = size x.package; number = j; bid = x } ∷ fitting_from lots (j + 1) form) (fitting_from lots (j + 1) form) (λ (rs : List Sized). length rs ≤ suc (length form)) (omega arith) (omega arith)
+    cond_both (fits lots x.package) (sized j x ∷ fitting_from lots (j + 1) form) (fitting_from lots (j + 1) form) (λ (rs : List Sized). length rs ≤ suc (length form)) (omega arith) (omega arith)
 
 pub no_more_fit : (lots : Lots) (form : List Bid) (bids : List SizedBid) → IsOrdered lots form bids → length bids ≤ length form
 no_more_fit lots form bids o =
@@ -48,87 +53,68 @@ all_pairs {X} R trans xs next i (suc j) d before within =
     (λ same. subst (λ (k : ℕ). R (slice_index_or xs k d) (slice_index_or xs (suc j) d)) (let e : j ≡ i = omega arith in e) last)
     (cases_lt i j)
 
-module _ (k : ℕ) where
-  abbrev here : Sized → ℕ
-  here s = cond (s.number == k) 1 0
-
-  counted_numbers : (bids : List SizedBid) → count_by (λ n. n == k) (map (λ (s : SizedBid). s.number) bids) ≡ count_by (λ (s : SizedBid). s.number == k) bids
-  counted_numbers [] = refl
-  counted_numbers (s ∷ bids) = sum_by-cons (λ (n : ℕ). cond (n == k) 1 0) s.number (map (λ (s : SizedBid). s.number) bids) ∙ ap (λ n. cond (s.number == k) 1 0 + n) (counted_numbers bids) ∙ sym (sum_by-cons (λ (s : SizedBid). cond (s.number == k) 1 0) s bids)
-
-  counted_sized : (bids : List SizedBid) → count_by (λ (s : SizedBid). s.number == k) bids ≡ count_by (λ (s : Sized). s.number == k) (map sized_of bids)
-  counted_sized [] = refl
-  counted_sized (s ∷ bids) = sum_by-cons (λ (s : SizedBid). cond (s.number == k) 1 0) s bids ∙ ap (λ n. cond (s.number == k) 1 0 + n) (counted_sized bids) ∙ sym (sum_by-cons here (sized_of s) (map sized_of bids))
-
-  -- numbers from j on are not below j
-  none_before : (lots : Lots) (j : ℕ) (form : List Bid) → k < j → count_by (λ (s : Sized). s.number == k) (fitting_from lots j form) ≡ 0
-  none_before lots j [] below = refl
-  none_before lots j (x ∷ form) below =
-      let rest = none_before lots (j + 1) form (omega arith) in
-      let first : Sized = record { size = size x.package; number = j; bid = x } in
-      cond_both (fits lots x.package) (first ∷ fitting_from lots (j + 1) form) (fitting_from lots (j + 1) form) (λ (rs : List Sized). count_by (λ (s : Sized). s.number == k) rs ≡ 0)
-      (λ fit.
-      let s = sum_by-cons here first (fitting_from lots (j + 1) form) in
-      let n : ℕ = here first in
-      let z : n ≡ 0 = cond-false (j == k) 1 0 (ne_eqb j k (λ same. omega arith)) in
-      omega arith)
-      (λ unfit. rest)
-
-  here_alone : (lots : Lots) (j : ℕ) (x : Bid) (form : List Bid) (b : Bool) → fits lots x.package ≡ b → k ≡ j → count_by (λ (s : Sized). s.number == k) (fitting_from lots j (x ∷ form)) ≡ cond (fits lots x.package) 1 0
-  here_alone lots j x form true fit e =
-      let first : Sized = record { size = size x.package; number = j; bid = x } in
-      let c = ap (λ (rs : List Sized). count_by (λ (s : Sized). s.number == k) rs) (cond-true (fits lots x.package) (first ∷ fitting_from lots (j + 1) form) (fitting_from lots (j + 1) form) fit) in
-      let s = sum_by-cons here first (fitting_from lots (j + 1) form) in
-      let rest = none_before lots (j + 1) form (omega arith) in
-      let n : ℕ = here first in
-      let z : n ≡ 1 = cond-true (j == k) 1 0 (eq-eqb j k (sym e)) in
-      let m : ℕ = cond (fits lots x.package) 1 0 in
-      let one : m ≡ 1 = cond-true (fits lots x.package) 1 0 fit in
-      let r : count_by (λ (s : Sized). s.number == k) (fitting_from lots j (x ∷ form)) ≡ m = omega arith in
-      r
-  here_alone lots j x form false fit e =
-      let first : Sized = record { size = size x.package; number = j; bid = x } in
-      ap (λ (rs : List Sized). count_by (λ (s : Sized). s.number == k) rs) (cond-false (fits lots x.package) (first ∷ fitting_from lots (j + 1) form) (fitting_from lots (j + 1) form) fit)
-      ∙ none_before lots (j + 1) form (omega arith) ∙ sym (cond-false (fits lots x.package) 1 0 fit)
-
-  pub counted_at : (lots : Lots) (j i : ℕ) (form : List Bid) → k ≡ j + i → count_by (λ (s : Sized). s.number == k) (fitting_from lots j form) ≡ cond (option_map_or (λ (x : Bid). fits lots x.package) (slice_get form i) false) 1 0
-  counted_at lots j i [] e = refl
-  counted_at lots j zero (x ∷ form) e = here_alone lots j x form (fits lots x.package) refl (omega arith)
-  counted_at lots j (suc i) (x ∷ form) e =
-      let rest = counted_at lots (j + 1) i form (omega arith) in
-      let first : Sized = record { size = size x.package; number = j; bid = x } in
-      cond_both (fits lots x.package) (first ∷ fitting_from lots (j + 1) form) (fitting_from lots (j + 1) form) (λ (rs : List Sized). count_by (λ (s : Sized). s.number == k) rs ≡ cond (option_map_or (λ (x : Bid). fits lots x.package) (slice_get form i) false) 1 0)
-      (λ fit.
-      let s = sum_by-cons here first (fitting_from lots (j + 1) form) in
-      let n : ℕ = here first in
-      let z : n ≡ 0 = cond-false (j == k) 1 0 (ne_eqb j k (λ same. omega arith)) in
-      let m : ℕ = cond (option_map_or (λ (x : Bid). fits lots x.package) (slice_get form i) false) 1 0 in
-      let rest' : count_by (λ (s : Sized). s.number == k) (fitting_from lots (j + 1) form) ≡ m = rest in
-      let r : count_by (λ (s : Sized). s.number == k) (first ∷ fitting_from lots (j + 1) form) ≡ m = omega arith in
-      r)
-      (λ unfit. rest)
-
-  pub counted : (lots : Lots) (form : List Bid) → count_by (λ (s : Sized). s.number == k) (fitting_from lots 1 form) ≡ cond (is_fitting lots form k) 1 0
-  counted lots form = number_of k refl
-    where
-      number_of : (n : ℕ) → k ≡ n → count_by (λ (s : Sized). s.number == k) (fitting_from lots 1 form) ≡ cond (is_fitting lots form n) 1 0
-      number_of zero e = none_before lots 1 form (omega arith)
-      number_of (suc n) e = counted_at lots 1 n form (omega arith)
-
--- each is told with its own size
-sizes_are : (whole form : List Bid) (lots : Lots) (j : ℕ) → ((i n : ℕ) → n ≡ j + i → slice_get form i ≡ slice_get whole n) → AllByRecursion (λ (s : Sized). s.size ≡ size_at whole s.number) (fitting_from lots (suc j) form)
-sizes_are whole [] lots j h = tt
-sizes_are whole (x ∷ form) lots j h =
-    let rest = subst (λ (m : ℕ). AllByRecursion (λ (s : Sized). s.size ≡ size_at whole s.number) (fitting_from lots m form)) (let e : suc (suc j) ≡ suc j + 1 = omega arith in e)
-    (sizes_are whole form lots (suc j) (λ i n e. h (suc i) n (omega arith))) in
-    let first : Sized = record { size = size x.package; number = suc j; bid = x } in
-    cond_both (fits lots x.package) (first ∷ fitting_from lots (suc j + 1) form) (fitting_from lots (suc j + 1) form) (λ (rs : List Sized). AllByRecursion (λ (s : Sized). s.size ≡ size_at whole s.number) rs)
-    (λ fit. (ap (λ (o : Option Bid). option_map_or (λ (x : Bid). size x.package) o 0) (h 0 j (omega arith)), rest))
+-- what holds of each bid of a form that fits, with its number
+fitting_each : (P : Sized → Type 0) (lots : Lots) (j : ℕ) (form : List Bid)
+    → ((i : ℕ) (d : Bid) → i < length form → fits lots (slice_index_or form i d).package ≡ true → P (sized (j + i) (slice_index_or form i d))) → AllByRecursion P (fitting_from lots j form)
+fitting_each P lots j [] each = tt
+fitting_each P lots j (x ∷ form) each =
+    let rest = fitting_each P lots (j + 1) form (λ i d small fit. subst (λ (n : ℕ). P (sized n (slice_index_or form i d))) (let e : j + suc i ≡ j + 1 + i = omega arith in e) (each (suc i) d (omega arith) fit)) in
+    cond_both (fits lots x.package) (sized j x ∷ fitting_from lots (j + 1) form) (fitting_from lots (j + 1) form) (AllByRecursion P)
+    (λ fit. (subst (λ (n : ℕ). P (sized n x)) (let e : j + 0 ≡ j = omega arith in e) (each 0 x (omega arith) fit), rest))
     (λ unfit. rest)
 
-sizes_of_map : (form : List Bid) (bids : List SizedBid) → AllByRecursion (λ (s : Sized). s.size ≡ size_at form s.number) (map sized_of bids) → AllByRecursion (λ (s : SizedBid). s.size ≡ size_at form s.number) bids
-sizes_of_map form [] a = tt
-sizes_of_map form (s ∷ bids) a = (a.0, sizes_of_map form bids a.1)
+-- holds of each that is in order
+pub all_ordered : (P : Sized → Type 0) (lots : Lots) (form : List Bid) (bids : List SizedBid) → IsOrdered lots form bids
+    → ((i : ℕ) (d : Bid) → i < length form → fits lots (slice_index_or form i d).package ≡ true → P (sized (1 + i) (slice_index_or form i d))) → All (λ (s : SizedBid). P (sized_of s)) bids
+all_ordered P lots form bids o each =
+    All-permutation (λ (s : SizedBid). P (sized_of s)) o.fitting bids o.moved
+    (All-from_recursion (λ (s : SizedBid). P (sized_of s)) o.fitting (of_map o.fitting (subst (AllByRecursion P) (sym o.same) (fitting_each P lots 1 form each))))
+  where
+    of_map : (rivals : List SizedBid) → AllByRecursion P (map sized_of rivals) → AllByRecursion (λ (s : SizedBid). P (sized_of s)) rivals
+    of_map [] a = tt
+    of_map (s ∷ rivals) a = (a.0, of_map rivals a.1)
+
+module _ (lots : Lots) (k : ℕ) where
+  -- numbers from j on are not below j
+  none_before : (j : ℕ) (form : List Bid) → k < j → filter (λ (s : Sized). s.number == k) (fitting_from lots j form) ≡ []
+  none_before j [] below = refl
+  none_before j (x ∷ form) below =
+      let rest = none_before (j + 1) form (omega arith) in
+      cond_both (fits lots x.package) (sized j x ∷ fitting_from lots (j + 1) form) (fitting_from lots (j + 1) form) (λ (rs : List Sized). filter (λ s. s.number == k) rs ≡ [])
+      (λ fit. rw (ne_eqb j k (λ same. omega arith)) rest)
+      (λ unfit. rest)
+
+  -- the bid with a number is there where it fits
+  pub at_number : (j i : ℕ) (form : List Bid) → k ≡ j + i → filter (λ (s : Sized). s.number == k) (fitting_from lots j form) ≡ option_map_or (λ (x : Bid). cond (fits lots x.package) (sized k x ∷ []) []) (slice_get form i) []
+  at_number j i [] e = refl
+  at_number j zero (x ∷ form) e =
+      let none = none_before (j + 1) form (omega arith) in
+      let same : j ≡ k = omega arith in
+      cond_both (fits lots x.package) (sized j x ∷ fitting_from lots (j + 1) form) (fitting_from lots (j + 1) form) (λ (rs : List Sized). filter (λ s. s.number == k) rs ≡ cond (fits lots x.package) (sized k x ∷ []) [])
+      (λ fit. rw (fit, eq-eqb j k same, none) (ap (λ (n : ℕ). sized n x ∷ []) same))
+      (λ unfit. rw (unfit, none) refl)
+  at_number j (suc i) (x ∷ form) e =
+      let rest = at_number (j + 1) i form (omega arith) in
+      cond_both (fits lots x.package) (sized j x ∷ fitting_from lots (j + 1) form) (fitting_from lots (j + 1) form)
+      (λ (rs : List Sized). filter (λ s. s.number == k) rs ≡ option_map_or (λ (x : Bid). cond (fits lots x.package) (sized k x ∷ []) []) (slice_get form i) [])
+      (λ fit. rw (ne_eqb j k (λ same. omega arith)) rest)
+      (λ unfit. rest)
+
+  counted : (form : List Bid) → count_by (λ (s : Sized). s.number == k) (fitting_from lots 1 form) ≡ cond (is_fitting lots form k) 1 0
+  counted form = sym (length-filter (λ (s : Sized). s.number == k) (fitting_from lots 1 form)) ∙ by k refl
+    where
+      by : (n : ℕ) → k ≡ n → length (filter (λ (s : Sized). s.number == k) (fitting_from lots 1 form)) ≡ cond (is_fitting lots form n) 1 0
+      by zero e = ap length (none_before 1 form (omega arith))
+      by (suc n) e = ap length (at_number 1 n form (omega arith)) ∙ alone (slice_get form n)
+        where
+          alone : (o : Option Bid) → length (option_map_or (λ (x : Bid). cond (fits lots x.package) (sized k x ∷ []) []) o []) ≡ cond (option_map_or (λ (x : Bid). fits lots x.package) o false) 1 0
+          alone None = refl
+          alone (Some x) = cond_both (fits lots x.package) (sized k x ∷ []) [] (λ (rs : List Sized). length rs ≡ cond (fits lots x.package) 1 0) (λ fit. rw fit refl) (λ unfit. rw unfit refl)
+
+counted_map : {X : Type 0} (number : X → ℕ) (k : ℕ) (xs : List X) → count_by (λ n. n == k) (map number xs) ≡ count_by (λ x. number x == k) xs
+counted_map number k [] = refl
+counted_map {X} number k (x ∷ xs) =
+    sum_by-cons (λ (n : ℕ). cond (n == k) 1 0) (number x) (map number xs) ∙ ap (λ n. cond (number x == k) 1 0 + n) (counted_map number k xs) ∙ sym (sum_by-cons (λ (y : X). cond (number y == k) 1 0) x xs)
 
 -- of numbers in the order of their bids
 rising_with : (form : List Bid) (bids : List SizedBid) (s : SizedBid) (i j d : ℕ) → All (λ (s : SizedBid). s.size ≡ size_at form s.number) bids → AllPairs (λ (s t : SizedBid). IsUpTo s.size s.number t.size t.number) bids → i < j → j < length bids
@@ -154,20 +140,19 @@ rising_numbers form (s ∷ bids) sizes rising i j d before within =
 
 pub is_by_size : (lots : Lots) (form : List Bid) (bids : List SizedBid) → IsOrdered lots form bids → IsBySize lots form (map (λ (s : SizedBid). s.number) bids)
 is_by_size lots form bids o =
-    let sizes = All-permutation (λ (s : SizedBid). s.size ≡ size_at form s.number) o.fitting bids o.moved
-    (All-from_recursion (λ (s : SizedBid). s.size ≡ size_at form s.number) o.fitting (sizes_of_map form o.fitting
-    (subst (λ (rs : List Sized). AllByRecursion (λ (s : Sized). s.size ≡ size_at form s.number) rs) (sym o.same) (sizes_are form form lots 0 (λ i n e. ap (λ (m : ℕ). slice_get form m) (let t : i ≡ n = omega arith in t)))))) in
+    let sizes = all_ordered (λ (s : Sized). s.size ≡ size_at form s.number) lots form bids o (λ i d small fit. subst (λ (n : ℕ). size (slice_index_or form i d).package ≡ size_at form n) (let e : suc i ≡ 1 + i = omega arith in e)
+    (sym (ap (λ (o : Option Bid). option_map_or (λ (x : Bid). size x.package) o 0) (slice_get-get_or form i d small)))) in
     record {
-      fitting = λ j. counted_numbers j bids ∙ sum_by-IsPermutation (λ (s : SizedBid). cond (s.number == j) 1 0) o.fitting bids o.moved ∙ counted_sized j o.fitting
-          ∙ ap (λ (rs : List Sized). count_by (λ (s : Sized). s.number == j) rs) o.same ∙ counted j lots form;
+      fitting = λ j. counted_map (λ (s : SizedBid). s.number) j bids ∙ sum_by-IsPermutation (λ (s : SizedBid). cond (s.number == j) 1 0) o.fitting bids o.moved ∙ sym (counted_map (λ (s : SizedBid). s.number) j o.fitting)
+          ∙ ap (count_by (λ n. n == j)) (numbers_of o.fitting ∙ ap (map (λ (s : Sized). s.number)) o.same) ∙ counted_map (λ (s : Sized). s.number) j (fitting_from lots 1 form) ∙ counted lots j form;
       rising = rising_numbers form bids sizes o.rising;
     }
+  where
+    numbers_of : (xs : List SizedBid) → map (λ (s : SizedBid). s.number) xs ≡ map (λ (s : Sized). s.number) (map sized_of xs)
+    numbers_of xs = sym (map-map (λ (s : Sized). s.number) sized_of xs)
 
 pub whole : (items taken : List SizedBid) (i : ℕ) (numbers : List ℕ) → taken ≡ items → length taken ≤ i → numbers ≡ map (λ (s : SizedBid). s.number) (take i taken) → numbers ≡ map (λ (s : SizedBid). s.number) items
 whole items taken i numbers e l h = h ∙ ap (map (λ (s : SizedBid). s.number)) (take_all i taken l ∙ e)
-
-abbrev sized : ℕ → Bid → Sized
-sized j y = record { size = size y.package; number = j; bid = y }
 
 fitting_at : (lots : Lots) (bids : List Bid) (i : ℕ) (x : Bid) → i < length bids → x ≡ get_or bids i x
     → fitting_from lots (1 + i) (drop i bids) ≡ cond (fits lots x.package) (sized (1 + i) x ∷ fitting_from lots (1 + (i + 1)) (drop (i + 1) bids)) (fitting_from lots (1 + (i + 1)) (drop (i + 1) bids))

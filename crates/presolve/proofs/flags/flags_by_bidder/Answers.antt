@@ -32,4 +32,4 @@ returns-then-has_few_bids g c =
     let count = length c.bidders.result.now in
     let bidders : count ≡ length (book_of book) = length_book book c.rules.result.now c.bidders.result.now c.bidders.ensures.value c.rules.ensures.rules in
     let whole : count + 1 - 1 ≡ length (book_of book) = (let e : count + 1 - 1 ≡ count = omega arith in e ∙ bidders) in
-    IfOk-weaker c.flags_between.result _ _ (λ forms are. flags_whole lots (book_of book) (count + 1 - 1) forms.items whole are) c.flags_between.ensures
+    IfOk-weaker c.flags_between.result _ _ (λ forms are. flags_whole lots (book_of book) (count + 1 - 1) _ whole are) c.flags_between.ensures

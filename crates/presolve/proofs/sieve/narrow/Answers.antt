@@ -1,16 +1,12 @@
-use Rattle.std.proofs.Common.{◌≡◌, ◌<◌, ℕ, Bool, true, false, not, length, length-set, refl, slice_index, arith, sym, ap, ◌∙◌}
+use Rattle.std.proofs.Common.{◌≡◌, ◌<◌, ℕ, length, length-set, slice_index, arith, ap, ◌∙◌}
 use Rattle.std.specs.Int.{bit_at}
 use Rattle.std.specs.Int.Bits.{bit_and}
 use Rattle.std.proofs.lemmas.List.{get_or-set_other, get_or_default}
-use Rattle.std.proofs.lemmas.Bool.{eqb-true}
+use Rattle.std.proofs.lemmas.Bool.{eqb-true, not-false}
 use Rattle.std.proofs.lemmas.Nat.{le_or_l, le_or_r}
 use Rattle.presolve.proofs.BitLaws.{both_set}
 use Rattle.presolve.proofs.SieveLaws.{set_word}
 use Rattle.presolve.proofs.sieve.narrow.Goals as goal
-
-not_false : (b : Bool) → not b ≡ false → b ≡ true
-not_false true e = refl
-not_false false e = sym e
 
 pub loop-place-preserved : goal.loop-place-preserved
 loop-place-preserved c =
@@ -40,7 +36,7 @@ loop-place-preserved c =
 pub returns-clause-none : goal.returns-clause-none
 returns-clause-none c = λ nothing k d inside.
     let left = c.loop-place.left in
-    let zero : c.loop-place.any ≡ 0 = eqb-true c.loop-place.any 0 (not_false _ nothing) in
+    let zero : c.loop-place.any ≡ 0 = eqb-true c.loop-place.any 0 (not-false _ nothing) in
     let end = c.loop-place-test.false in
     let count = c.loop-place.invariant.count in
     get_or_default left k d 0 inside ∙ c.loop-place.invariant.none k (omega arith) zero

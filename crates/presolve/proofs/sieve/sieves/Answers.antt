@@ -1,5 +1,5 @@
-use Rattle.std.proofs.Common.{◌≡◌, ◌∷◌, [], arith}
-use Rattle.std.proofs.lemmas.List.Elements.{All-append, All-push}
+use Rattle.std.proofs.Common.{arith}
+use Rattle.std.proofs.lemmas.List.Elements.{All-push}
 use Rattle.presolve.specs.inside.Sieves.{IsSieve}
 use Rattle.presolve.proofs.sieve.sieves.Goals as goal
 

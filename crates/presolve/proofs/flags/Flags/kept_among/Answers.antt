@@ -7,10 +7,12 @@ use Rattle.auction_terms.specs.Offers.{offers}
 use Rattle.auction_terms.specs.Terms.{lots_in}
 use Rattle.auction_terms.specs.declared.bids.KeptBid.{KeptBid}
 use Rattle.auction_terms.specs.declared.choices.Choice.{Choice}
+use Rattle.auction_terms.proofs.LimitLaws.{kept_are_offers, offers_left}
 use Rattle.bid_desk.specs.Closing.{book_of}
+use Rattle.presolve.specs.Flags.{has_choice}
 use Rattle.presolve.specs.inside.Flags.{is_offer_of}
 use Rattle.presolve.proofs.ChoiceLaws.{at_end, at_start, behind_all, not_repeated, one_again_at, one_more, repeated}
-use Rattle.presolve.proofs.KeepLaws.{among_are_kept}
+use Rattle.presolve.proofs.KeepLaws.{are_kept}
 use Rattle.presolve.proofs.flags.Flags.kept_among.Goals.{then-not-is_repeated+in_ok-keep_choice, else-not-is_repeated}
 use Rattle.presolve.proofs.flags.Flags.kept_among.Goals as goal
 
@@ -59,7 +61,7 @@ new-requires c =
     let group = has c.args.group.now in
     let sorted = c.by_rising_bid-sorted.result.items in
     let over : length sorted ≤ c.loop-place.place = (let l = c.loop-place-test.false in omega (arith, c.by_rising_bid-sorted.result.ok.0)) in
-    among_are_kept lots book group c.args.choices.items c.loop-place.kept.items c.rules-rules.ensures.book c.loop-place.invariant.each
+    are_kept lots _ c.loop-place.kept.items (offers_left lots (λ o. has_choice c.args.choices.items o.bidder o.number) (kept_of lots book group) (kept_are_offers lots book group c.rules-rules.ensures.book)) c.loop-place.invariant.each
     (c.loop-place.invariant.so_far ∙ at_end lots book group c.rules-rules.ensures.book sorted c.loop-place.place c.args.choices.items over c.by_rising_bid-sorted.ensures.same)
 
 pub returns : goal.returns
