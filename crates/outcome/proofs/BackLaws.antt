@@ -15,9 +15,7 @@ use Rattle.auction_terms.proofs.OfferLaws.{sum_zero, sum_agree, sum_plus, sum_fi
 use Rattle.program_rows.specs.Program.{Table, TableColumn}
 use Rattle.program_rows.specs.Spelling.{column_bid, is_bid}
 use Rattle.auction_terms.specs.Packages.{Lots, fits, left, worth}
-use Rattle.auction_terms.specs.Limits.{IsBook}
 use Rattle.auction_terms.specs.Keeping.{kept_of}
-use Rattle.program_rows.specs.Points.{IsPoint}
 use Rattle.program_rows.specs.Rows.{program_of}
 use Rattle.mps_meaning.specs.Meaning.{meaning}
 use Rattle.program_rows.specs.Faithful.{back, IsFaithful}
@@ -27,7 +25,7 @@ use Rattle.mps_text.proofs.FaithfulTexts.{presolved_text_is_faithful}
 use Rattle.program_rows.proofs.SpellingLaws.{reads_names_alone}
 use Rattle.outcome.specs.PointAllocation.{allocation_of, IsMap, HasRisingBidders}
 use Rattle.outcome.specs.inside.Winning.{by_bidder}
-use Rattle.outcome.specs.Coming.{ComesBack, PointsComeBack, SolutionsComeBack, AnswersOfSolversComeBack}
+use Rattle.outcome.specs.Coming.{PointsComeBack, SolutionsComeBack, AnswersOfSolversComeBack}
 use Rattle.outcome.proofs.PointLaws.{solutions_are_points}
 
 -- a bidder that a name can spell
@@ -143,10 +141,6 @@ points_come_back lots book group p values faithful point =
       same_total = ap pos (ap₂ (λ (amounts : ℕ) (q : List ℕ). amounts + worth lots (left lots.supply q)) (same_sum (amount_of book) taken inside) loaded) ∙ told.same_total;
       rising = rises taken f.one_bid_each 1 MOST_BIDDERS;
     }
-
--- the points of the program of the kept bids come back
-pub points_of_kept_come_back : (lots : Lots) (book : Book) (group : ℕ → Bool) (values : List Bool) → IsBook lots book → IsPoint (program_of lots (kept_of lots book group)) values → ComesBack lots book group (program_of lots (kept_of lots book group)) values
-points_of_kept_come_back lots book group values within point = points_come_back lots book group (program_of lots (kept_of lots book group)) values (presolved_is_faithful lots book group within) point
 
 pub solutions_come_back : SolutionsComeBack
 solutions_come_back lots book group solved values within told =

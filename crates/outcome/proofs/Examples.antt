@@ -1,4 +1,5 @@
 -- Worked solutions, which the definitions compute.
+use Rattle.std.proofs.Common.{arith}
 use Rattle.std.specs.Fmt.{digits}
 use Rattle.std.specs.Prelude.{◌≡◌, refl, ℕ, List, [], ◌∷◌, map, true, false, negsuc, Ok, Err, codes}
 use Rattle.program_rows.specs.Points.{objective}
@@ -24,53 +25,23 @@ use Rattle.outcome.proofs.Worked.{fixed, three, winners}
 
 -- ---- values
 
-near_zero : token_value (codes "1e-5") ≡ Ok false
-unfolding token_value
-near_zero = refl
+record ValuesOfTokens : Type 0 where
+  near_zero : token_value (codes "1e-5") ≡ Ok false
+  below_zero : token_value (codes "-0.00001") ≡ Ok false
+  above_one : token_value (codes "1.00001") ≡ Ok true
+  below_one : token_value (codes "0.99999") ≡ Ok true
+  below_one_long : token_value (codes "0.99999000000000000000000000000") ≡ Ok true
+  above_tolerance : token_value (codes "0.00001001") ≡ Err value.NotZeroOne
+  great : token_value (codes "1e60") ≡ Err value.NotZeroOne
+  too_great : token_value (codes "1e61") ≡ Err value.ValueText
+  below_tolerance : token_value (codes "0.99998999999999999999999999999") ≡ Err value.NotZeroOne
+  minus_one : token_value (codes "-1") ≡ Err value.NotZeroOne
+  minus_zero : token_value (codes "-0e-60") ≡ Ok false
+  word : token_value (codes "one") ≡ Err value.ValueText
 
-below_zero : token_value (codes "-0.00001") ≡ Ok false
+values_of_tokens : ValuesOfTokens
 unfolding token_value
-below_zero = refl
-
-above_one : token_value (codes "1.00001") ≡ Ok true
-unfolding token_value
-above_one = refl
-
-below_one : token_value (codes "0.99999") ≡ Ok true
-unfolding token_value
-below_one = refl
-
-below_one_long : token_value (codes "0.99999000000000000000000000000") ≡ Ok true
-unfolding token_value
-below_one_long = refl
-
-above_tolerance : token_value (codes "0.00001001") ≡ Err value.NotZeroOne
-unfolding token_value
-above_tolerance = refl
-
-great : token_value (codes "1e60") ≡ Err value.NotZeroOne
-unfolding token_value
-great = refl
-
-too_great : token_value (codes "1e61") ≡ Err value.ValueText
-unfolding token_value
-too_great = refl
-
-below_tolerance : token_value (codes "0.99998999999999999999999999999") ≡ Err value.NotZeroOne
-unfolding token_value
-below_tolerance = refl
-
-minus_one : token_value (codes "-1") ≡ Err value.NotZeroOne
-unfolding token_value
-minus_one = refl
-
-minus_zero : token_value (codes "-0e-60") ≡ Ok false
-unfolding token_value
-minus_zero = refl
-
-word : token_value (codes "one") ≡ Err value.ValueText
-unfolding token_value
-word = refl
+values_of_tokens = grind arith
 
 -- ---- solutions against the program of three bidders
 
@@ -85,53 +56,23 @@ comes_back : allocation_of three winners ≡ record { bidder = 1; bid = 1 } ∷ 
 unfolding column_bid digits
 comes_back = refl
 
-two_bids : solution three (codes "X1_1 1\nX1_2 1\n") ≡ Err (fault.RowBroken 0)
-unfolding solution fields first_fault is_near
-two_bids = refl
+record SolutionsOfThree : Type 0 where
+  two_bids : solution three (codes "X1_1 1\nX1_2 1\n") ≡ Err (fault.RowBroken 0)
+  not_zero_one : solution three (codes "X1_1 0.9\n") ≡ Err (fault.NotZeroOne 1)
+  end_of_tolerance : solution three (codes "X1_1 0.99999\n") ≡ Ok (true ∷ false ∷ false ∷ false ∷ [])
+  unknown : solution three (codes "X1_3 1\n") ≡ Err (fault.UnknownColumn 1)
+  no_bytes : solution three [] ≡ Ok (false ∷ false ∷ false ∷ false ∷ [])
+  repeated : solution three (codes "X1_1 1\nX1_1 1") ≡ Err (fault.RepeatedColumn 2)
+  three_fields : solution three (codes "X1_1 1 2") ≡ Err (fault.Fields 1)
+  no_number : solution three (codes "X1_1 one") ≡ Err (fault.ValueText 1)
+  first_line : solution three (codes "X1_1 0.9\nQ 1\n") ≡ Err (fault.NotZeroOne 1)
+  two_returns : solution three (codes "X1_1 1\r\r\n") ≡ Err (fault.ValueText 1)
+  skipped_lines : solution three (codes "# status optimal\n\n \t\r\nX1_1\t1\r\n") ≡ Ok (true ∷ false ∷ false ∷ false ∷ [])
+  bound_broken : solution fixed [] ≡ Err (fault.BoundBroken 0)
 
-not_zero_one : solution three (codes "X1_1 0.9\n") ≡ Err (fault.NotZeroOne 1)
+solutions_of_three : SolutionsOfThree
 unfolding solution fields first_fault is_near
-not_zero_one = refl
-
-end_of_tolerance : solution three (codes "X1_1 0.99999\n") ≡ Ok (true ∷ false ∷ false ∷ false ∷ [])
-unfolding solution fields first_fault is_near
-end_of_tolerance = refl
-
-unknown : solution three (codes "X1_3 1\n") ≡ Err (fault.UnknownColumn 1)
-unfolding solution fields first_fault is_near
-unknown = refl
-
-no_bytes : solution three [] ≡ Ok (false ∷ false ∷ false ∷ false ∷ [])
-unfolding solution fields first_fault is_near
-no_bytes = refl
-
-repeated : solution three (codes "X1_1 1\nX1_1 1") ≡ Err (fault.RepeatedColumn 2)
-unfolding solution fields first_fault is_near
-repeated = refl
-
-three_fields : solution three (codes "X1_1 1 2") ≡ Err (fault.Fields 1)
-unfolding solution fields first_fault is_near
-three_fields = refl
-
-no_number : solution three (codes "X1_1 one") ≡ Err (fault.ValueText 1)
-unfolding solution fields first_fault is_near
-no_number = refl
-
-first_line : solution three (codes "X1_1 0.9\nQ 1\n") ≡ Err (fault.NotZeroOne 1)
-unfolding solution fields first_fault is_near
-first_line = refl
-
-two_returns : solution three (codes "X1_1 1\r\r\n") ≡ Err (fault.ValueText 1)
-unfolding solution fields first_fault is_near
-two_returns = refl
-
-skipped_lines : solution three (codes "# status optimal\n\n \t\r\nX1_1\t1\r\n") ≡ Ok (true ∷ false ∷ false ∷ false ∷ [])
-unfolding solution fields first_fault is_near
-skipped_lines = refl
-
-bound_broken : solution fixed [] ≡ Err (fault.BoundBroken 0)
-unfolding solution fields first_fault is_near
-bound_broken = refl
+solutions_of_three = grind arith
 
 -- ---- reports
 
@@ -164,24 +105,18 @@ alpha_wins = record { bidder = 1; bid = 2 } ∷ []
 abbrev gamma_wins : List Choice
 gamma_wins = record { bidder = 3; bid = 1 } ∷ []
 
-allocation : allocation_text sale all_win ≡ codes "Alpha 1 30\nBeta 1 20\nGamma 1 12\ntotal 62\n"
-unfolding digits
-allocation = refl
+record ReportsOfThree : Type 0 where
+  allocation : allocation_text sale all_win ≡ codes "Alpha 1 30\nBeta 1 20\nGamma 1 12\ntotal 62\n"
+  report : report_text sale ([] ∷ (2 ∷ []) ∷ []) (all_win ∷ alpha_wins ∷ [])
+      ≡ codes "group 1 -\nAlpha 1 30\nBeta 1 20\nGamma 1 12\ntotal 62\ncost 0\ngroup 2 Beta\nAlpha 2 50\ntotal 50\ncost 8\n"
+  negative_cost : report_text sale ([] ∷ (2 ∷ []) ∷ []) (alpha_wins ∷ gamma_wins ∷ [])
+      ≡ codes "group 1 -\nAlpha 2 50\ntotal 50\ncost 0\ngroup 2 Beta\nGamma 1 12\ntotal 12\ncost -38\n"
+  two_names : report_text sale ([] ∷ (1 ∷ 3 ∷ []) ∷ []) (alpha_wins ∷ [] ∷ [])
+      ≡ codes "group 1 -\nAlpha 2 50\ntotal 50\ncost 0\ngroup 2 Alpha+Gamma\ntotal 0\ncost 0\n"
 
-report : report_text sale ([] ∷ (2 ∷ []) ∷ []) (all_win ∷ alpha_wins ∷ [])
-    ≡ codes "group 1 -\nAlpha 1 30\nBeta 1 20\nGamma 1 12\ntotal 62\ncost 0\ngroup 2 Beta\nAlpha 2 50\ntotal 50\ncost 8\n"
+reports_of_three : ReportsOfThree
 unfolding digits
-report = refl
-
-negative_cost : report_text sale ([] ∷ (2 ∷ []) ∷ []) (alpha_wins ∷ gamma_wins ∷ [])
-    ≡ codes "group 1 -\nAlpha 2 50\ntotal 50\ncost 0\ngroup 2 Beta\nGamma 1 12\ntotal 12\ncost -38\n"
-unfolding digits
-negative_cost = refl
-
-two_names : report_text sale ([] ∷ (1 ∷ 3 ∷ []) ∷ []) (alpha_wins ∷ [] ∷ [])
-    ≡ codes "group 1 -\nAlpha 2 50\ntotal 50\ncost 0\ngroup 2 Alpha+Gamma\ntotal 0\ncost 0\n"
-unfolding digits
-two_names = refl
+reports_of_three = grind arith
 
 -- ---- lots that are left have a value
 
@@ -212,19 +147,16 @@ nothing_won : allocation_of (program (valued 40)) (false ∷ true ∷ []) ≡ []
 unfolding column_bid digits
 nothing_won = refl
 
-valued_report : report_text (sale_of_lots (valued 40)) ([] ∷ (3 ∷ []) ∷ []) (gamma_wins ∷ [] ∷ [])
-    ≡ codes "group 1 -\nGamma 1 12\ntotal 92\ncost 0\ngroup 2 Gamma\ntotal 80\ncost 0\n"
-unfolding digits
-valued_report = refl
+record ReportsOfValuedLots : Type 0 where
+  valued_report : report_text (sale_of_lots (valued 40)) ([] ∷ (3 ∷ []) ∷ []) (gamma_wins ∷ [] ∷ [])
+      ≡ codes "group 1 -\nGamma 1 12\ntotal 92\ncost 0\ngroup 2 Gamma\ntotal 80\ncost 0\n"
+  one_is_left : allocation_text (sale_of_lots (valued 20)) alpha_and_gamma ≡ codes "Alpha 1 30\nGamma 1 12\ntotal 62\n"
+  -- lots sold twice leave none, and no fewer
+  too_many_sold : allocation_text (sale_of_lots (valued 20)) (record { bidder = 2; bid = 2 } ∷ []) ≡ codes "Beta 2 45\ntotal 45\n"
 
-one_is_left : allocation_text (sale_of_lots (valued 20)) alpha_and_gamma ≡ codes "Alpha 1 30\nGamma 1 12\ntotal 62\n"
+reports_of_valued_lots : ReportsOfValuedLots
 unfolding digits
-one_is_left = refl
-
--- lots sold twice leave none, and no fewer
-too_many_sold : allocation_text (sale_of_lots (valued 20)) (record { bidder = 2; bid = 2 } ∷ []) ≡ codes "Beta 2 45\ntotal 45\n"
-unfolding digits
-too_many_sold = refl
+reports_of_valued_lots = grind arith
 
 -- ---- pools
 

@@ -49,17 +49,13 @@ plus_cond : (s : Bool) (m n : ℕ) → cond s m 0 + cond s n 0 ≡ cond s (m + n
 plus_cond true m n = refl
 plus_cond false m n = refl
 
+nothing : (s : Bool) → ◌≡◌ {A = ℕ} 0 (cond s 0 0)
+nothing true = refl
+nothing false = refl
+
 back_counts : (b j : ℕ) (columns : List TableColumn) (values : List Bool) → count_by (is_choice b j) (back columns values) ≡ cond (is_bid b j) (ones_named columns values (bid_name b j)) 0
 back_counts b j [] values = nothing (is_bid b j)
-  where
-    nothing : (s : Bool) → ◌≡◌ {A = ℕ} 0 (cond s 0 0)
-    nothing true = refl
-    nothing false = refl
 back_counts b j (c ∷ columns) [] = nothing (is_bid b j)
-  where
-    nothing : (s : Bool) → ◌≡◌ {A = ℕ} 0 (cond s 0 0)
-    nothing true = refl
-    nothing false = refl
 back_counts b j (c ∷ columns) (true ∷ values) =
     sum_by-append (λ (d : Choice). cond (is_choice b j d) 1 0) (option_to_list (column_bid c.name)) (back columns values)
     ∙ ap₂ (λ (m n : ℕ). m + n) (name_counts b j c.name) (back_counts b j columns values)

@@ -1,5 +1,5 @@
 -- The report so far, and what is left of it.
-use Rattle.std.proofs.Common.{◌≡◌, ℕ, zero, suc, ◌+◌, ◌<◌, List, [], ◌∷◌, ◌++◌, take, length, refl, sym, ap, ◌∙◌, arith, append_assoc}
+use Rattle.std.proofs.Common.{◌≡◌, ℕ, zero, suc, ◌+◌, ◌<◌, List, [], ◌∷◌, ◌++◌, take, length, sym, ap, ◌∙◌, arith, append_assoc}
 use Rattle.std.specs.Prelude.{get_or}
 use Rattle.std.specs.List.{zip}
 use Rattle.std.proofs.lemmas.List.{append-nil}
@@ -23,9 +23,3 @@ module _ (sale : Sale) (first : List Choice) where
   pub more_at : (k i n : ℕ) (groups : List (List ℕ)) (allocations : List (List Choice)) (group : List ℕ) (a : List Choice) → length groups ≡ length allocations → i < length groups → n ≡ k + i → group ≡ get_or groups i [] → a ≡ get_or allocations i []
       → in_turn (group_report sale first) k (zip (take i groups) (take i allocations)) ++ group_report sale first n (group, a) ≡ in_turn (group_report sale first) k (zip (take (i + 1) groups) (take (i + 1) allocations))
   more_at k i n groups allocations group a e l f p q = rw (p, q) (report-more k i n groups allocations e l f)
-
--- within a list the default doesn't matter
-pub same_at : {X : Type 0} (xs : List X) (i : ℕ) (d e : X) → i < length xs → get_or xs i d ≡ get_or xs i e
-same_at [] i d e l = absurd (omega arith)
-same_at (x ∷ xs) zero d e l = refl
-same_at (x ∷ xs) (suc i) d e l = same_at xs i d e (omega arith)

@@ -1,13 +1,15 @@
 -- A bid in a winner's place: what its total is, and which of the winner's other bids is the first that does as well.
-use Rattle.std.proofs.Common.{◌≡◌, ℕ, zero, suc, ◌+◌, ◌-◌, ◌<◌, ◌≤◌, Bool, true, false, not, ◌&&◌, ◌==◌, cond, List, [], ◌∷◌, Option, Some, None, is_some, slice_get, get_or, drop, length, map, refl, sym, ap, ap₂, ◌∙◌, arith, eqb-true, eq-eqb, add-one, pos, ℤ, ◌-ℤ◌, drop-cons}
+use Rattle.std.proofs.Common.{◌≡◌, ℕ, zero, suc, ◌+◌, ◌-◌, ◌<◌, ◌≤◌, Bool, true, false, not, ◌&&◌, ◌==◌, cond, List, [], ◌∷◌, Option, Some, None, is_some, slice_get, get_or, drop, length, map, refl, sym, ap, ap₂, ◌∙◌, arith, eqb-true, eq-eqb, add-one, pos, ℤ, ◌-ℤ◌, drop-cons, ⊎_elim}
 use Rattle.std.specs.Prelude.{count_by, sum_by, filter, find, flat_map}
 use Rattle.std.specs.Cmp.{both_ways as same_answer}
 use Rattle.std.specs.List.{AllByRecursion, range_with_len}
 use Rattle.std.specs.Option.{option_map, option_map_or, option_or}
 use Rattle.std.specs.Ordering.{int_eq}
-use Rattle.std.proofs.lemmas.Bool.{and_right, cond-true, cond-false, ne_eqb, not_from_false}
+use Rattle.std.proofs.Math.Bool.{and-false, and-true}
+use Rattle.std.proofs.lemmas.Bool.{cases_Bool, cond_both, cond-true, cond-false, ne_eqb, not_from_false}
 use Rattle.std.proofs.lemmas.Bool.Decides.{Decides-int_eq}
 use Rattle.std.proofs.lemmas.Int.{ints}
+use Rattle.std.proofs.lemmas.List.{get_or_default}
 use Rattle.std.proofs.lemmas.List.Folds.{find-append}
 use Rattle.std.proofs.lemmas.List.FromFn.{fill_by_all}
 use Rattle.std.proofs.lemmas.List.Sums.{sum_by-cons, get_or-le-sum_by}
@@ -22,7 +24,6 @@ use Rattle.auction_terms.proofs.AllocationLaws.{good, loads_at, loads_length, to
 use Rattle.auction_terms.proofs.OfferLaws.{all_agree, all_filter}
 use Rattle.outcome.specs.inside.Rivals.{both_packages, first_suiting, other_numbers, rival_of, suits}
 use Rattle.outcome.specs.PointAllocation.{HasRisingBidders}
-use Rattle.outcome.proofs.ReportLaws.{same_at}
 use Rattle.outcome.proofs.QuantityLaws.{both-at, both-length, left-at, left-length}
 
 -- ---- sums with a bid in the place of its bidder's
@@ -35,41 +36,20 @@ module _ (c : Choice) where
     sum_head : (d : Choice) (a : List Choice) → sum_by f (with_bid c (d ∷ a)) ≡ f (cond (is_its d) c d) + sum_by f (with_bid c a)
     sum_head d a = sum_by-cons f (cond (is_its d) c d) (with_bid c a)
 
-    others_head : (d : Choice) (a : List Choice) (b : Bool) → is_its d ≡ b → (count_by is_its a ≡ 0 → sum_by f (with_bid c a) ≡ sum_by f a) → count_by is_its (d ∷ a) ≡ 0 → sum_by f (with_bid c (d ∷ a)) ≡ sum_by f (d ∷ a)
-    others_head d a true e r h =
+    others_sum : (a : List Choice) → count_by is_its a ≡ 0 → sum_by f (with_bid c a) ≡ sum_by f a
+    others_sum [] h = refl
+    others_sum (d ∷ a) h =
         let n = sum_by-cons (λ (x : Choice). cond (is_its x) 1 0) d a in
-        let one : cond {A = ℕ} (is_its d) 1 0 ≡ 1 = cond-true (is_its d) 1 0 e in
-        absurd (omega arith)
-    others_head d a false e r h =
-        let n = sum_by-cons (λ (x : Choice). cond (is_its x) 1 0) d a in
+        ⊎_elim
+        (λ (e : is_its d ≡ true). let one : cond {A = ℕ} (is_its d) 1 0 ≡ 1 = cond-true (is_its d) 1 0 e in absurd (omega arith))
+        (λ (e : is_its d ≡ false).
         let none : cond {A = ℕ} (is_its d) 1 0 ≡ 0 = cond-false (is_its d) 1 0 e in
         let same : f (cond (is_its d) c d) ≡ f d = ap f (cond-false (is_its d) c d e) in
         let s = sum_head d a in
         let t = sum_by-cons f d a in
-        let u = r (omega arith) in
-        omega arith
-
-    others_sum : (a : List Choice) → count_by is_its a ≡ 0 → sum_by f (with_bid c a) ≡ sum_by f a
-    others_sum [] h = refl
-    others_sum (d ∷ a) h = others_head d a (is_its d) refl (others_sum a) h
-
-    later_head : (d w : Choice) (a : List Choice) (k : ℕ) (b : Bool) → is_its d ≡ b → count_by is_its (d ∷ a) ≤ 1 → k < length a → get_or a k w ≡ w → w.bidder ≡ c.bidder
-        → (count_by is_its a ≤ 1 → sum_by f (with_bid c a) + f w ≡ sum_by f a + f c) → sum_by f (with_bid c (d ∷ a)) + f w ≡ sum_by f (d ∷ a) + f c
-    later_head d w a k true e h l at same r =
-        let n = sum_by-cons (λ (x : Choice). cond (is_its x) 1 0) d a in
-        let one : cond {A = ℕ} (is_its d) 1 0 ≡ 1 = cond-true (is_its d) 1 0 e in
-        let later = get_or-le-sum_by (λ (x : Choice). cond (is_its x) 1 0) a k w l in
-        let bidder : (get_or a k w).bidder ≡ c.bidder = ap (λ (x : Choice). x.bidder) at ∙ same in
-        let found : cond {A = ℕ} (is_its (get_or a k w)) 1 0 ≡ 1 = cond-true (is_its (get_or a k w)) 1 0 (eq-eqb (get_or a k w).bidder c.bidder bidder) in
-        absurd (omega arith)
-    later_head d w a k false e h l at same r =
-        let n = sum_by-cons (λ (x : Choice). cond (is_its x) 1 0) d a in
-        let none : cond {A = ℕ} (is_its d) 1 0 ≡ 0 = cond-false (is_its d) 1 0 e in
-        let stays : f (cond (is_its d) c d) ≡ f d = ap f (cond-false (is_its d) c d e) in
-        let s = sum_head d a in
-        let t = sum_by-cons f d a in
-        let u = r (omega arith) in
-        omega arith
+        let u = others_sum a (omega arith) in
+        omega arith)
+        (cases_Bool (is_its d))
 
     -- in the place of the choice w
     pub replaced_sum : (a : List Choice) (w : Choice) (k : ℕ) → count_by is_its a ≤ 1 → k < length a → get_or a k w ≡ w → w.bidder ≡ c.bidder → sum_by f (with_bid c a) + f w ≡ sum_by f a + f c
@@ -84,7 +64,23 @@ module _ (c : Choice) where
         let t = sum_by-cons f d a in
         let r = others_sum a (omega arith) in
         omega arith
-    replaced_sum (d ∷ a) w (suc k) h l at same = later_head d w a k (is_its d) refl h (omega arith) at same (λ m. replaced_sum a w k m (omega arith) at same)
+    replaced_sum (d ∷ a) w (suc k) h l at same =
+        let n = sum_by-cons (λ (x : Choice). cond (is_its x) 1 0) d a in
+        ⊎_elim
+        (λ (e : is_its d ≡ true).
+        let one : cond {A = ℕ} (is_its d) 1 0 ≡ 1 = cond-true (is_its d) 1 0 e in
+        let later = get_or-le-sum_by (λ (x : Choice). cond (is_its x) 1 0) a k w (omega arith) in
+        let bidder : (get_or a k w).bidder ≡ c.bidder = ap (λ (x : Choice). x.bidder) at ∙ same in
+        let found : cond {A = ℕ} (is_its (get_or a k w)) 1 0 ≡ 1 = cond-true (is_its (get_or a k w)) 1 0 (eq-eqb (get_or a k w).bidder c.bidder bidder) in
+        absurd (omega arith))
+        (λ (e : is_its d ≡ false).
+        let none : cond {A = ℕ} (is_its d) 1 0 ≡ 0 = cond-false (is_its d) 1 0 e in
+        let stays : f (cond (is_its d) c d) ≡ f d = ap f (cond-false (is_its d) c d e) in
+        let s = sum_head d a in
+        let t = sum_by-cons f d a in
+        let u = replaced_sum a w k (omega arith) (omega arith) at same in
+        omega arith)
+        (cases_Bool (is_its d))
 
 -- ---- a bid in the place of a winner's
 
@@ -166,23 +162,15 @@ module _ (lots : Lots) (book : Book) (sized : IsSized lots book) (a : List Choic
   suits_is = ap (λ (q : List ℕ). int_eq (net lots x) (net lots won) && fits lots q) loads_with ∙ by (fits lots (loads lots book (with_bid c a))) refl
     where
       by : (b : Bool) → fits lots (loads lots book (with_bid c a)) ≡ b → (int_eq (net lots x) (net lots won) && fits lots (loads lots book (with_bid c a))) ≡ (fits lots (loads lots book (with_bid c a)) && (total lots book (with_bid c a) == total lots book a))
-      by true e = both (int_eq (net lots x) (net lots won)) (fits lots (loads lots book (with_bid c a))) (total lots book (with_bid c a) == total lots book a) e (totals_are_nets e)
-        where
-          both : (s t u : Bool) → t ≡ true → s ≡ u → (s && t) ≡ (t && u)
-          both true t u e h = rw (e, sym h) refl
-          both false t u e h = rw (e, sym h) refl
-      by false e = rw e (and_right (int_eq (net lots x) (net lots won)) false refl)
+      by true e = rw e (and-true (int_eq (net lots x) (net lots won)) ∙ totals_are_nets e)
+      by false e = rw e (and-false (int_eq (net lots x) (net lots won)))
 
 -- ---- the first of a list
 
 module _ {X Y : Type 0} (p : Y → Bool) (g : X → Y) where
-  mapped_head : (x : X) (xs : List X) (b : Bool) → p (g x) ≡ b → find p (map g xs) ≡ option_map g (find (λ x. p (g x)) xs) → find p (map g (x ∷ xs)) ≡ option_map g (find (λ x. p (g x)) (x ∷ xs))
-  mapped_head x xs true e r = rw e refl
-  mapped_head x xs false e r = rw e r
-
   find_mapped : (xs : List X) → find p (map g xs) ≡ option_map g (find (λ x. p (g x)) xs)
   find_mapped [] = refl
-  find_mapped (x ∷ xs) = mapped_head x xs (p (g x)) refl (find_mapped xs)
+  find_mapped (x ∷ xs) = cond_both (p (g x)) (Some x) (find (λ y. p (g y)) xs) (λ (o : Option X). cond (p (g x)) (Some (g x)) (find p (map g xs)) ≡ option_map g o) (λ e. rw e refl) (λ e. rw e (find_mapped xs))
 
 find_agree : {X : Type 0} (p q : X → Bool) (xs : List X) → AllByRecursion (λ x. p x ≡ q x) xs → find p xs ≡ find q xs
 find_agree p q [] h = refl
@@ -235,7 +223,7 @@ module _ (lots : Lots) (book : Book) (sized : IsSized lots book) (a : List Choic
   pub rivals_at : (k : ℕ) (d : Choice) (taken : List ℕ) (o : Option Choice) → k < length a → taken ≡ loads lots book a → o ≡ rival_of lots book taken (get_or a k d) → rivals_from k ≡ option_or o (rivals_from (k + 1))
   rivals_at k d taken o l all e =
       let w = get_or a k d in
-      rivals_next w k l (same_at a k w d l)
+      rivals_next w k l (get_or_default a k w d l)
       ∙ ap (λ (r : Option Choice). option_or r (rivals_from (k + 1))) (ap (λ (q : List ℕ). rival_of lots book q w) (sym all) ∙ sym e)
 
 -- ---- the other bids of a form, one after the other
@@ -282,20 +270,18 @@ module _ (lots : Lots) (form : List Bid) (own : ℕ) (least : ℤ) (others : Lis
 
 -- ---- rising bidders
 
-bidder_with : (c d : Choice) (b : ℕ) (t : Bool) → (d.bidder == c.bidder) ≡ t → b < d.bidder → (let e : Choice = cond t c d in b < e.bidder)
-bidder_with c d b true e l = let same = eqb-true d.bidder c.bidder e in omega arith
-bidder_with c d b false e l = l
-
 above_with : (c : Choice) (b : ℕ) (a : List Choice) → AllByRecursion (λ later. b < later.bidder) a → AllByRecursion (λ later. b < later.bidder) (with_bid c a)
 above_with c b [] h = tt
-above_with c b (d ∷ a) h = (bidder_with c d b (d.bidder == c.bidder) refl h.0, above_with c b a h.1)
-
-head_with : (c d : Choice) (a : List Choice) (t : Bool) → (d.bidder == c.bidder) ≡ t → AllByRecursion (λ later. d.bidder < later.bidder) a → (let e : Choice = cond t c d in AllByRecursion (λ later. e.bidder < later.bidder) (with_bid c a))
-head_with c d a true e h =
-    let same = eqb-true d.bidder c.bidder e in
-    all_agree (λ later. d.bidder < later.bidder) (λ later. c.bidder < later.bidder) (with_bid c a) (λ x m. omega arith) (above_with c d.bidder a h)
-head_with c d a false e h = above_with c d.bidder a h
+above_with c b (d ∷ a) h = (
+  cond_both (d.bidder == c.bidder) c d (λ (e : Choice). b < e.bidder) (λ t. let same = eqb-true d.bidder c.bidder t in let l = h.0 in omega arith) (λ t. h.0),
+  above_with c b a h.1,
+)
 
 pub rising_with : (c : Choice) (a : List Choice) → HasRisingBidders a → HasRisingBidders (with_bid c a)
 rising_with c [] h = tt
-rising_with c (d ∷ a) h = (head_with c d a (d.bidder == c.bidder) refl h.0, rising_with c a h.1)
+rising_with c (d ∷ a) h = (
+  cond_both (d.bidder == c.bidder) c d (λ (e : Choice). AllByRecursion (λ later. e.bidder < later.bidder) (with_bid c a))
+      (λ t. let same = eqb-true d.bidder c.bidder t in all_agree (λ later. d.bidder < later.bidder) (λ later. c.bidder < later.bidder) (with_bid c a) (λ x m. omega arith) (above_with c d.bidder a h.0))
+      (λ t. above_with c d.bidder a h.0),
+  rising_with c a h.1,
+)

@@ -1,13 +1,14 @@
 -- What the lines say of each column, line by line.
-use Rattle.std.proofs.Common.{◌≡◌, ℕ, zero, suc, ◌+◌, ◌≤◌, Bool, true, false, not, cond, ◌&&◌, ◌||◌, List, [], ◌∷◌, ◌++◌, Option, Some, None, Ok, Err, Result, length, map, slice_get, is_some, get_or, refl, sym, ap, ap₂, ◌∙◌, arith}
-use Rattle.std.specs.Prelude.{bytes_eq, position, nat_lt, unwrap_or, replicate}
-use Rattle.std.specs.List.{AllByRecursion, IsDistinct, list_any, position_or_len}
+use Rattle.std.proofs.Common.{◌≡◌, ℕ, zero, suc, Bool, true, false, not, cond, ◌&&◌, ◌||◌, List, [], ◌∷◌, ◌++◌, Option, Some, None, Ok, Err, Result, length, map, slice_get, is_some, get_or, refl, sym, ap, ap₂, ◌∙◌}
+use Rattle.std.specs.Prelude.{bytes_eq, position, unwrap_or, replicate}
+use Rattle.std.specs.List.{AllByRecursion, IsDistinct, list_any}
 use Rattle.std.proofs.Math.ListN.{set}
-use Rattle.std.proofs.lemmas.Bool.{both_ways, false_from_ne_true, ltb-true, ltb-false}
-use Rattle.std.proofs.lemmas.List.Folds.{list_any-append}
-use Rattle.std.proofs.lemmas.List.Sums.{passes_at_first}
+use Rattle.std.proofs.Math.Bool.{or-false}
+use Rattle.std.proofs.lemmas.Bool.{both_ways, cond_both, false_from_ne_true, or_parts}
+use Rattle.std.proofs.lemmas.List.Folds.{list_any-append, list_any_at}
+use Rattle.std.proofs.lemmas.List.Quantifiers.{position-Some}
 use Rattle.std.proofs.lemmas.Map.Keys.{IsDistinct-head, IsDistinct-tail}
-use Rattle.std.proofs.lemmas.Option.{slice_get-get_or, slice_get-map, get_or_from_slice_get}
+use Rattle.std.proofs.lemmas.Option.{slice_get-get_or, slice_get-map, slice_get_within, get_or_from_slice_get}
 use Rattle.std.proofs.lemmas.Slice.Eq.{bytes_eq-Decides}
 use denote.Ref.{Bor}
 use Rattle.auction_terms.specs.FirstFault.{first_failed}
@@ -22,20 +23,15 @@ use Rattle.outcome.specs.Solution.{names_column, is_one}
 use Rattle.auction_terms.specs.Borrowed.{bytes_of}
 use Rattle.outcome.specs.inside.Reading.{pair_checks, said_of, said_by}
 use Rattle.outcome.proofs.NearLaws.{value_checks, value_is}
+use Rattle.outcome.proofs.PointLaws.{none_passes}
 
 -- ---- one more line
 
 or_left : (a b : Bool) → b ≡ false → (a || (b || false)) ≡ a
-or_left true b h = refl
-or_left false b h = rw h refl
+or_left a b h = rw h (or-false a)
 
 or_right : (a b : Bool) → a ≡ false → (a || (b || false)) ≡ b
-or_right a true h = rw h refl
-or_right a false h = rw h refl
-
-either_false : (a b : Bool) → (a || b) ≡ false → (a ≡ false) × (b ≡ false)
-either_false true b h = cc h
-either_false false b h = (refl, h)
+or_right a b h = rw h (or-false b)
 
 abbrev sets : List ℕ → List ℕ → Bool
 sets column line = names_column column line && is_near 1 (field 1 (fields line))
@@ -43,7 +39,7 @@ sets column line = names_column column line && is_near 1 (field 1 (fields line))
 pub none_one : (text : List (List ℕ)) (column : List ℕ) → list_any (names_column column) text ≡ false → is_one text column ≡ false
 none_one [] column h = refl
 none_one (line ∷ text) column h =
-    let parts = either_false (names_column column line) (list_any (names_column column) text) h in
+    let parts = or_parts (names_column column line) (list_any (names_column column) text) h in
     let first : sets column line ≡ false = ap (λ b. b && is_near 1 (field 1 (fields line))) parts.0 in
     ap₂ (λ a b. a || b) first (none_one text column parts.1)
 
@@ -97,63 +93,28 @@ value_of_pair line name token two = ap (λ (fs : List (List ℕ)). unwrap_or (sl
 
 -- ---- the place of a name
 
-any_at : (p : List ℕ → Bool) (xs : List (List ℕ)) (i : ℕ) (x : List ℕ) → slice_get xs i ≡ Some x → p x ≡ true → list_any p xs ≡ true
-any_at p [] i x e h = cc e
-any_at p (y ∷ xs) zero x e h = let same : y ≡ x = cc in rw (same, h) refl
-any_at p (y ∷ xs) (suc i) x e h = by (p y) (any_at p xs i x e h)
-  where
-    by : (b : Bool) → list_any p xs ≡ true → (b || list_any p xs) ≡ true
-    by true r = refl
-    by false r = r
-
-some_place : (b : Bool) (x i : ℕ) → cond b (Some x) None ≡ Some i → (b ≡ true) × (x ≡ i)
-some_place true x i h = (refl, cc)
-some_place false x i h = absurd cc
-
 pub found : (keys : List (Bor (List ℕ))) (name : List ℕ) (i : ℕ) → position (λ k. bytes_eq name k.now) keys ≡ Some i → slice_get (bytes_of keys) i ≡ Some name
 found keys name i h =
-    let is : Bor (List ℕ) → Bool = λ k. bytes_eq name k.now in
-    let at = some_place (nat_lt (position_or_len is keys) (length keys)) (position_or_len is keys) i h in
-    let less = ltb-true _ _ at.0 in
     let none : Bor (List ℕ) = record { ref_ptr = (0, 0); now = [] } in
-    let passes = passes_at_first is keys none less in
-    let same : name ≡ (get_or keys (position_or_len is keys) none).now = (bytes_eq-Decides name _).0 passes in
-    let place : i ≡ position_or_len is keys = sym at.1 in
-    rw place (slice_get-map (λ (k : Bor (List ℕ)). k.now) keys (position_or_len is keys) ∙ rw (slice_get-get_or keys (position_or_len is keys) none less) (ap Some (sym same)))
+    let at = position-Some (λ (k : Bor (List ℕ)). bytes_eq name k.now) keys i none h in
+    slice_get-map (λ (k : Bor (List ℕ)). k.now) keys i ∙ rw (slice_get-get_or keys i none at.0) (ap Some (sym ((bytes_eq-Decides name (get_or keys i none).now).0 at.1)))
 
 pub is_known : (keys : List (Bor (List ℕ))) (name : List ℕ) (i : ℕ) → position (λ k. bytes_eq name k.now) keys ≡ Some i → list_any (bytes_eq name) (bytes_of keys) ≡ true
-is_known keys name i h = any_at (bytes_eq name) (bytes_of keys) i name (found keys name i h) ((bytes_eq-Decides name name).1 refl)
-
-no_place : (b : Bool) (x : ℕ) → cond b (Some x) None ≡ None → b ≡ false
-no_place true x h = absurd cc
-no_place false x h = refl
-
-all_fail : (is : Bor (List ℕ) → Bool) (keys : List (Bor (List ℕ))) → length keys ≤ position_or_len is keys → AllByRecursion (λ k. is k ≡ false) keys
-all_fail is [] h = tt
-all_fail is (k ∷ keys) h = by (is k) refl h (all_fail is keys)
-  where
-    by : (b : Bool) → is k ≡ b → suc (length keys) ≤ cond (not (is k)) (1 + position_or_len is keys) 0 → (length keys ≤ position_or_len is keys → AllByRecursion (λ k. is k ≡ false) keys) → AllByRecursion (λ k. is k ≡ false) (k ∷ keys)
-    by true e h more = let bad = rw e at h in absurd (omega arith)
-    by false e h more = let less = rw e at h in (e, more (omega arith))
+is_known keys name i h =
+    let at = found keys name i h in
+    list_any_at (bytes_eq name) (bytes_of keys) i name (slice_get_within (bytes_of keys) i name at) (rw (get_or_from_slice_get (bytes_of keys) i name name at) ((bytes_eq-Decides name name).1 refl))
 
 none_among : (name : List ℕ) (keys : List (Bor (List ℕ))) → AllByRecursion (λ k. bytes_eq name k.now ≡ false) keys → list_any (bytes_eq name) (bytes_of keys) ≡ false
 none_among name [] h = refl
 none_among name (k ∷ keys) h = ap₂ (λ a b. a || b) h.0 (none_among name keys h.1)
 
 is_unknown : (keys : List (Bor (List ℕ))) (name : List ℕ) → position (λ k. bytes_eq name k.now) keys ≡ None → list_any (bytes_eq name) (bytes_of keys) ≡ false
-is_unknown keys name h =
-    let is : Bor (List ℕ) → Bool = λ k. bytes_eq name k.now in
-    let past = ltb-false _ _ (no_place (nat_lt (position_or_len is keys) (length keys)) (position_or_len is keys) h) in
-    none_among name keys (all_fail is keys past)
+is_unknown keys name h = none_among name keys (none_passes (λ k. bytes_eq name k.now) keys h)
 
 -- ---- what a name and a value tell
 
 is_said : (text : List (List ℕ)) (name : List ℕ) → is_some (said_of text name) ≡ list_any (names_column name) text
-is_said text name = by (list_any (names_column name) text)
-  where
-    by : (b : Bool) → is_some (cond b (Some (is_one text name)) None) ≡ b
-    by true = refl
-    by false = refl
+is_said text name = cond_both (list_any (names_column name) text) (Some (is_one text name)) None (λ (o : Option Bool). is_some o ≡ list_any (names_column name) text) sym sym
 
 module _ (keys : List (Bor (List ℕ))) (before : List (List ℕ)) (place : ℕ) (name token : List ℕ) where
   abbrev fault_is : Option SolutionFault
@@ -201,11 +162,8 @@ nothing_said [] n e = rw e refl
 nothing_said (c ∷ columns) n e = rw e (ap (λ (xs : List (Option Bool)). None ∷ xs) (nothing_said columns (length columns) refl))
 
 said_value : (text : List (List ℕ)) (column : List ℕ) → unwrap_or (said_of text column) false ≡ is_one text column
-said_value text column = by (list_any (names_column column) text) refl
-  where
-    by : (b : Bool) → list_any (names_column column) text ≡ b → unwrap_or (cond (list_any (names_column column) text) (Some (is_one text column)) None) false ≡ is_one text column
-    by true h = rw h refl
-    by false h = rw h (sym (none_one text column h))
+said_value text column =
+    cond_both (list_any (names_column column) text) (Some (is_one text column)) None (λ (o : Option Bool). unwrap_or o false ≡ is_one text column) (λ h. refl) (λ h. sym (none_one text column h))
 
 pub read_off : (columns text : List (List ℕ)) → map (λ s. unwrap_or s false) (said_by columns text) ≡ map (is_one text) columns
 read_off [] text = refl

@@ -3,8 +3,9 @@ use Rattle.std.proofs.Common.{◌≡◌, ℕ, ◌+◌, Bool, true, false, not, �
 use Rattle.std.specs.Prelude.{bytes_eq, nat_lt, position}
 use Rattle.std.specs.List.{AllByRecursion, enumerate_from, list_any, position_or_len, range_with_len, zip}
 use Rattle.std.specs.Option.{option_map, option_or}
-use Rattle.std.proofs.lemmas.Bool.{and_parts, both_ways, false_from_ne_true}
+use Rattle.std.proofs.lemmas.Bool.{and_parts, both_ways, false_from_ne_true, true_from_ne_false}
 use Rattle.std.proofs.lemmas.Bool.Decides.{nat_tests}
+use Rattle.std.proofs.lemmas.Simd.{map-map}
 use Rattle.std.proofs.lemmas.Slice.Eq.{bytes_eq-Decides}
 use Rattle.auction_terms.specs.Allocations.{Book}
 use Rattle.auction_terms.specs.FirstFault.{first_fault, first_failed}
@@ -31,18 +32,14 @@ use Rattle.outcome.specs.inside.Winning.{by_bidder}
 use Rattle.outcome.specs.Solution.{is_one, names_column, point_fault, solution, solution_line_fault}
 use Rattle.program_faults.specs.declared.solution_fault.SolutionFault.TheVariants as fault
 use Rattle.outcome.specs.declared.limits.TheConstants.{SOLUTION_LIMIT}
-use Rattle.outcome.proofs.PointLaws.{both_none, map_map, solutions_are_points, told_parts}
+use Rattle.outcome.proofs.PointLaws.{both_none, solutions_are_points, told_parts}
 use Rattle.outcome.proofs.SaidLaws.{none_one}
 
 -- ---- lines without a fault, by the names of columns
 
 module _ (few all : List (List ℕ)) (among : (name : List ℕ) → list_any (bytes_eq name) few ≡ true → list_any (bytes_eq name) all ≡ true) where
   pair_known : (before : List (List ℕ)) (place : ℕ) (name token : List ℕ) → first_failed (pair_checks few before place name token) ≡ None → list_any (bytes_eq name) few ≡ true
-  pair_known before place name token h = by (list_any (bytes_eq name) few) refl
-    where
-      by : (b : Bool) → list_any (bytes_eq name) few ≡ b → list_any (bytes_eq name) few ≡ true
-      by true e = e
-      by false e = let f = rw e at h in cc f
+  pair_known before place name token h = true_from_ne_false (list_any (bytes_eq name) few) (λ e. let f = rw e at h in cc f)
 
   pair_fine : (before : List (List ℕ)) (place : ℕ) (name token : List ℕ) → first_failed (pair_checks few before place name token) ≡ None → first_failed (pair_checks all before place name token) ≡ None
   pair_fine before place name token h =
@@ -50,11 +47,9 @@ module _ (few all : List (List ℕ)) (among : (name : List ℕ) → list_any (by
       rw (among name known) (rw known at h)
 
   two_fields : (before : List (List ℕ)) (line : List ℕ) → first_failed ((length (fields line) == 2, fault.Fields (length before + 1)) ∷ pair_checks few before (length before + 1) (field 0 (fields line)) (field 1 (fields line))) ≡ None → ((length (fields line) == 2) ≡ true) × (first_failed (pair_checks few before (length before + 1) (field 0 (fields line)) (field 1 (fields line))) ≡ None)
-  two_fields before line h = by (length (fields line) == 2) refl
-    where
-      by : (b : Bool) → (length (fields line) == 2) ≡ b → ((length (fields line) == 2) ≡ true) × (first_failed (pair_checks few before (length before + 1) (field 0 (fields line)) (field 1 (fields line))) ≡ None)
-      by true e = (e, rw e at h)
-      by false e = let f = rw e at h in cc f
+  two_fields before line h =
+      let two = true_from_ne_false (length (fields line) == 2) (λ e. let f = rw e at h in cc f) in
+      (two, rw two at h)
 
   line_fine : (before : List (List ℕ)) (line : List ℕ) → solution_line_fault few before line ≡ None → solution_line_fault all before line ≡ None
   line_fine before line h = by (is_skipped line) refl
@@ -117,20 +112,16 @@ fine_point p values point =
 -- ---- what is told
 
 values_by_name : (p : Table) (lines : List (List ℕ)) → map (is_one lines) (column_names p) ≡ map (λ c. is_one lines c.name) p.columns
-values_by_name p lines = map_map (λ (c : TableColumn). c.name) (is_one lines) p.columns
+values_by_name p lines = map-map (is_one lines) (λ (c : TableColumn). c.name) p.columns
 
 -- what a text tells that is taken
 taken : (p : Table) (text : List ℕ) (values : List Bool) → solution p text ≡ Ok values
     → (nat_lt SOLUTION_LIMIT (length text) ≡ false) × (first_fault (solution_line_fault (column_names p)) [] (lines_of text) ≡ None) × (map (is_one (lines_of text)) (column_names p) ≡ values)
 unfolding solution
-taken p text values e = by (nat_lt SOLUTION_LIMIT (length text)) refl
-  where
-    by : (b : Bool) → nat_lt SOLUTION_LIMIT (length text) ≡ b
-        → (nat_lt SOLUTION_LIMIT (length text) ≡ false) × (first_fault (solution_line_fault (column_names p)) [] (lines_of text) ≡ None) × (map (is_one (lines_of text)) (column_names p) ≡ values)
-    by true t = let f = rw t at e in cc f
-    by false t =
-        let told = told_parts p (first_fault (solution_line_fault (column_names p)) [] (lines_of text)) (map (is_one (lines_of text)) (column_names p)) values (rw t at e) in
-        (t, told.0, told.2)
+taken p text values e =
+    let short = false_from_ne_true (nat_lt SOLUTION_LIMIT (length text)) (λ t. let f = rw t at e in cc f) in
+    let told = told_parts p (first_fault (solution_line_fault (column_names p)) [] (lines_of text)) (map (is_one (lines_of text)) (column_names p)) values (rw short at e) in
+    (short, told.0, told.2)
 
 tells : (p : Table) (text : List ℕ) → nat_lt SOLUTION_LIMIT (length text) ≡ false → first_fault (solution_line_fault (column_names p)) [] (lines_of text) ≡ None → point_fault p (map (is_one (lines_of text)) (column_names p)) ≡ None
     → solution p text ≡ Ok (map (is_one (lines_of text)) (column_names p))

@@ -1,30 +1,25 @@
 -- What ties, and what an only allocation settles.
-use Rattle.std.proofs.Common.{◌≡◌, ℕ, ◌+◌, ◌<◌, ◌≤◌, Bool, true, false, ◌&&◌, ◌==◌, cond, List, [], ◌∷◌, length, refl, sym, ap, ap₂, ◌∙◌, arith, ⊎_elim, eqb-true, eq-eqb, pos, ◌-ℤ◌}
-use Rattle.std.specs.Prelude.{IsPermutation, sum_by, count_by}
-use Rattle.std.specs.List.{AllByRecursion, range_with_len}
+use Rattle.std.proofs.Common.{◌≡◌, ℕ, ◌+◌, ◌<◌, ◌≤◌, Bool, true, false, ◌&&◌, ◌==◌, cond, List, [], ◌∷◌, refl, sym, ap, ap₂, ◌∙◌, arith, ⊎_elim, eqb-true, eq-eqb, pos, ◌-ℤ◌}
+use Rattle.std.specs.Prelude.{IsPermutation, count_by}
+use Rattle.std.specs.List.{AllByRecursion}
 use Rattle.std.proofs.lemmas.Bool.{and_from, and_parts, both_ways, cases_Bool, cases_lt, cases_order}
 use Rattle.std.proofs.lemmas.Bool.Decides.{nat_tests}
 use Rattle.std.proofs.lemmas.List.Sorted.{sum_by-IsPermutation}
 use Rattle.std.proofs.lemmas.List.Sums.{sum_by-cons}
 use Rattle.auction_terms.specs.declared.choices.Choice.{Choice}
 use Rattle.auction_terms.specs.Groups.{has}
-use Rattle.auction_terms.specs.Packages.{Lots, left, worth}
-use Rattle.auction_terms.specs.Allocations.{Book, amount_of, quantity_of, loads, total, IsFeasible}
+use Rattle.auction_terms.specs.Packages.{Lots}
+use Rattle.auction_terms.specs.Allocations.{Book, amount_of, total, IsFeasible}
 use Rattle.auction_terms.specs.Only.{IsOnly, RivalsDoAsWell, with_bid}
 use Rattle.auction_terms.proofs.OfferLaws.{sum_filter, all_agree}
+use Rattle.auction_terms.proofs.OnlyLaws.{total_permuted}
 use Rattle.program_rows.specs.Faithful.{IsGreatest}
 use Rattle.outcome.specs.PointAllocation.{HasRisingBidders, is_choice}
 use Rattle.outcome.specs.Report.{amounts_of_group, cost}
 use Rattle.outcome.specs.Ties.{IsTie, TheOnlyIsGreatest, OnlyFirstSettlesCosts, OnlyFirstTellsCosts, RivalsTie, OthersDiffer, OthersTie, same_choices}
-use Rattle.outcome.proofs.BackLaws.{same_each}
 use Rattle.outcome.proofs.CostLaws.{costs_are_own}
 
 -- ---- the order of choices doesn't matter
-
-same_total : (lots : Lots) (book : Book) (a b : List Choice) → IsPermutation a b → total lots book b ≡ total lots book a
-same_total lots book a b p =
-    let loaded : loads lots book b ≡ loads lots book a = same_each (λ category. sum_by (quantity_of book category) b) (λ category. sum_by (quantity_of book category) a) (λ category. sum_by-IsPermutation (quantity_of book category) a b p) (range_with_len 0 (length lots.supply)) in
-    ap₂ (λ (amounts : ℕ) (q : List ℕ). amounts + worth lots (left lots.supply q)) (sum_by-IsPermutation (amount_of book) a b p) loaded
 
 same_amounts : (book : Book) (group : List ℕ) (a b : List Choice) → IsPermutation a b → amounts_of_group book group b ≡ amounts_of_group book group a
 same_amounts book group a b p =
@@ -39,7 +34,7 @@ pub the_only_is_greatest : TheOnlyIsGreatest
 the_only_is_greatest lots book group a only = record {
   feasible = only.feasible;
   greatest = λ other f. ⊎_elim
-      (λ high. let e = same_total lots book a other (only.only other f (omega arith)) in omega arith)
+      (λ high. let e = total_permuted lots book a other (only.only other f (omega arith)) in omega arith)
       (λ low. low)
       (cases_lt (total lots book a) (total lots book other));
 }
@@ -53,7 +48,7 @@ module _ (lots : Lots) (book : Book) (group : List ℕ) (first : List Choice) (o
       → cost lots book first group a ≡ cost lots book first' group a'
   same_cost first' a a' best without without' =
       let same = same_first first' best in
-      let whole = sym (same_total lots book first first' same) in
+      let whole = sym (total_permuted lots book first first' same) in
       let own = sym (same_amounts book group first first' same) in
       let low = without.greatest a' without'.feasible in
       let high = without'.greatest a without.feasible in

@@ -1,17 +1,12 @@
 -- Refusals of a solution, and the answer that they make.
-use Rattle.std.proofs.Common.{◌≡◌, ℕ, ◌+◌, ◌<◌, ◌≤◌, Bool, true, false, List, [], ◌∷◌, Option, Some, None, Result, Ok, Err, length, map, refl, sym, ap, ◌∙◌, arith}
+use Rattle.std.proofs.Common.{◌≡◌, ℕ, ◌<◌, ◌≤◌, Bool, true, false, List, [], Option, Some, None, Result, Ok, Err, length, map, refl, sym, ap, ◌∙◌, arith}
 use Rattle.std.specs.Prelude.{nat_lt}
-use Rattle.std.specs.List.{slice_split}
 use Rattle.std.proofs.lemmas.Bool.{lt-ltb}
 use Rattle.std.proofs.lemmas.Bool.Decides.{nat_tests}
-use Rattle.std.specs.Str.Lines.{strip_carriage_return}
-use Rattle.std.proofs.lemmas.List.{length-map}
-use Rattle.std.proofs.lemmas.List.Sums.{count_by-le-length}
-use Rattle.std.proofs.lemmas.List.Splits.{length-slice_split}
 use Rattle.auction_terms.specs.FirstFault.{first_fault}
 use Rattle.auction_terms.specs.Stages.{Answers, unless, and_then}
 use Rattle.auction_terms.proofs.FirstFaultFacts.{answers-more, answers-told}
-use Rattle.auction_terms.specs.Lines.{is_line_feed, lines_of, without_empty_last}
+use Rattle.auction_terms.specs.Lines.{lines_of}
 use Rattle.outcome.specs.declared.limits.TheConstants.{SOLUTION_LIMIT}
 use Rattle.program_faults.specs.declared.solution_fault.SolutionFault.{SolutionFault}
 use Rattle.program_faults.specs.declared.solution_fault.SolutionFault.TheVariants as fault
@@ -28,10 +23,6 @@ module _ {T : Type 0} where
   told_some None g y h = cc h
   told_some (Some k) g y h = let same : g ≡ k = cc in rw same refl
 
-  pub told_same : (f : Option SolutionFault) (x y : T) → Ok x ≡ unless f (Ok y) → x ≡ y
-  told_same None x y h = cc h
-  told_same (Some g) x y h = cc h
-
   pub told_fine : (f : Option SolutionFault) (y : T) → f ≡ None → Ok y ≡ unless f (Ok y)
   told_fine None y h = refl
   told_fine (Some g) y h = cc h
@@ -39,17 +30,6 @@ module _ {T : Type 0} where
   pub told_of : (f : Option SolutionFault) (g : SolutionFault) (y : T) → f ≡ Some g → Err g ≡ unless f (Ok y)
   told_of None g y h = cc h
   told_of (Some k) g y h = let same : k ≡ g = cc in rw same refl
-
-fewer : (parts : List (List ℕ)) → length (without_empty_last parts) ≤ length parts
-fewer [] = omega arith
-fewer ([] ∷ []) = omega arith
-fewer ((b ∷ part) ∷ []) = omega arith
-fewer ([] ∷ next ∷ more) = omega (arith, fewer (next ∷ more))
-fewer ((b ∷ part) ∷ next ∷ more) = omega (arith, fewer (next ∷ more))
-
--- a text has at most one line more than bytes
-pub line_count : (text : List ℕ) → length (lines_of text) ≤ length text + 1
-line_count text = omega (arith, length-map (without_empty_last (slice_split is_line_feed text)) strip_carriage_return, fewer (slice_split is_line_feed text), length-slice_split is_line_feed text, count_by-le-length is_line_feed text)
 
 -- ---- the answer to a text
 

@@ -1,16 +1,16 @@
 use Rattle.std.proofs.Common.{◌≡◌, ◌∷◌, ◌++◌, ◌∙◌, [], Err, length, ap, rules, arith, length-append}
 use Rattle.auction_terms.proofs.FirstFaultFacts.{checked-all, checked-fault, checked-more}
+use Rattle.auction_terms.proofs.LineCount.{lines-within}
 use Rattle.auction_terms.specs.Lines.{lines_of}
 use Rattle.outcome.specs.Solution.{solution_line_fault}
 use Rattle.auction_terms.specs.Borrowed.{bytes_of}
-use Rattle.outcome.proofs.ToldLaws.{line_count, told_none, told_some, told_of, told_fine}
+use Rattle.outcome.proofs.ToldLaws.{told_fine, told_none, told_of, told_some}
 use Rattle.outcome.proofs.lines.take_lines.Goals as goal
 
 pub overflow_add-place : goal.overflow_add-place
 overflow_add-place c =
     let (before, so_far, place, count, said) = c.loop-line.invariant in
-    let most = line_count c.args.text.now in
-    omega (arith, most, count, c.requires.small)
+    omega (arith, lines-within c.args.text.now, count, c.requires.small)
 
 pub loop-line-preserved : goal.loop-line-preserved
 loop-line-preserved c =
