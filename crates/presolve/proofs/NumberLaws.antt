@@ -1,6 +1,6 @@
 -- Laws of flags that are set by the numbers of the bids that fit.
-use Rattle.std.proofs.Common.{◌≡◌, ◌≢◌, ◌+◌, ◌-◌, ◌<◌, ◌≤◌, ◌==◌, ◌&&◌, ◌||◌, ℕ, zero, suc, Bool, true, false, List, [], ◌∷◌, drop, get_or, length, map, slice_get, slice_index_or, slice_set, arith, refl, sym, ap, ◌∙◌}
-use Rattle.std.specs.Prelude.{All, Option, Some, None, cond, filter}
+use Rattle.std.proofs.Common.{◌≡◌, ◌≢◌, ◌+◌, ◌-◌, ◌<◌, ◌≤◌, ◌==◌, ◌&&◌, ◌||◌, ℕ, zero, suc, Bool, true, false, List, [], ◌∷◌, drop, get_or, length, map, slice_get, slice_index_or, slice_set, arith, refl, sym, ap, subst, ◌∙◌}
+use Rattle.std.specs.Prelude.{Option, Some, None, cond, filter}
 use Rattle.std.specs.List.{list_any}
 use Rattle.std.specs.Option.{option_map_or}
 use Rattle.std.proofs.Math.Bool.{and-false, or-false, or-true}
@@ -39,8 +39,11 @@ any_at lots test i form =
     by None = refl
     by (Some x) = cond_both (fits lots x.package) (sized (1 + i) x ∷ []) [] (λ (rs : List Sized). list_any (λ (s : Sized). test s.bid) rs ≡ (fits lots x.package && test x)) (λ fit. rw fit (or-false (test x))) (λ unfit. rw unfit refl)
 
-pub are_numbered : (lots : Lots) (form : List Bid) (bids : List SizedBid) → IsOrdered lots form bids → All (λ (s : SizedBid). (1 ≤ s.number) × (s.number < 1 + length form)) bids
-are_numbered lots form bids o = all_ordered (λ (s : Sized). (1 ≤ s.number) × (s.number < 1 + length form)) lots form bids o (λ i d small fit. (omega arith, omega arith))
+-- the number of an ordered bid is that of a bid of the form
+pub is_numbered : (lots : Lots) (form : List Bid) (bids : List SizedBid) → IsOrdered lots form bids → (k : ℕ) (x : SizedBid) → k < length bids → x ≡ slice_index_or bids k x → (1 ≤ x.number) × (x.number < 1 + length form)
+is_numbered lots form bids o k x within is =
+    subst (λ (s : SizedBid). (1 ≤ s.number) × (s.number < 1 + length form)) (sym is)
+    (all_ordered (λ (s : Sized). (1 ≤ s.number) × (s.number < 1 + length form)) lots form bids o (λ i d small fit. (omega arith, omega arith)) k x within)
 
 -- a flag that is set for each bid that passes, by its number, says of each bid of the form whether it fits and passes
 pub flags_by_number : (lots : Lots) (test : Bid → Bool) (form : List Bid) (bids : List SizedBid) (flags : List Bool) → IsOrdered lots form bids → length flags ≡ length form

@@ -13,7 +13,7 @@ use Rattle.auction_terms.proofs.PackageLaws.{within_at}
 use Rattle.presolve.specs.declared.order.SizedBid.{SizedBid}
 use Rattle.presolve.specs.declared.sieve.Level.{Level}
 use Rattle.presolve.specs.declared.sieve.Sieve.{Sieve}
-use Rattle.presolve.specs.inside.Sieves.{AreLower, AreRanked, AreSieved, IsMarked, IsSieve, shortfall}
+use Rattle.presolve.specs.inside.Sieves.{AreRanked, AreSieved, IsMarked, IsSieve, shortfall}
 use Rattle.presolve.specs.inside.Sizes.{beats}
 
 -- what holds of each word before a place, and of the one that is set there
@@ -46,15 +46,6 @@ still_on levels r d new within more s i marked =
     (λ (apart : s ≢ r). subst (λ (l : Level). IsMarked l.words.items i) (sym (get_or-set_other levels r s new d apart)) marked)
     (cases_eq s r)
 
--- a rank of a rank is one of the number
-pub ranked_again : (numbers places ranks : List ℕ) → AreRanked numbers places → AreRanked places ranks → AreRanked numbers ranks
-ranked_again numbers places ranks first second = record {
-  count = second.count ∙ first.count;
-  rising = λ i k within inside less.
-      let count = first.count in
-      second.rising i k (omega arith) (omega arith) (first.rising i k within inside less);
-}
-
 -- ranks that rise from number to number
 pub ranked_by : (numbers ranks by : List ℕ) → length ranks ≡ length numbers → ((k : ℕ) → k < length numbers → slice_index ranks k ≡ slice_index by (slice_index numbers k)) → All (λ n. n < length by) numbers → IsNonDecreasing by → AreRanked numbers ranks
 ranked_by numbers ranks by count own within rising = record {
@@ -64,25 +55,6 @@ ranked_by numbers ranks by count own within rising = record {
       let second = own k more in
       let up = rising (slice_index numbers i) (slice_index numbers k) 0 less (within k 0 more) in
       rw (first, second) up;
-}
-
--- no fewer are lower than a greater number
-pub lower_rises : (sorted : List ℕ) (a b m n : ℕ) → a ≤ b → AreLower sorted a m → AreLower sorted b n → m ≤ n
-lower_rises sorted a b m n less first second =
-    ⊎_elim
-    (λ (fewer : n < m).
-    let low = first.lower n fewer in
-    let within = first.within in
-    let high = second.others n (omega arith) (omega arith) in
-    absurd (omega arith))
-    (λ (up : m ≤ n). up)
-    (cases_lt n m)
-
--- places that tell how many are lower
-pub places_ranked : (sorted numbers places : List ℕ) → length places ≡ length numbers → ((k : ℕ) → k < length numbers → AreLower sorted (slice_index numbers k) (slice_index places k)) → AreRanked numbers places
-places_ranked sorted numbers places count lower = record {
-  count = count;
-  rising = λ i k within inside less. lower_rises sorted (slice_index numbers i) (slice_index numbers k) (slice_index places i) (slice_index places k) less (lower i within) (lower k inside);
 }
 
 -- the next rank of a list that rises, none above the one before

@@ -1,4 +1,4 @@
-use Rattle.std.proofs.Common.{◌≡◌, ◌∙◌, ◌<◌, ◌≤◌, ◌+◌, ◌&&◌, ℕ, ℤ, pos, int_le, Bool, sym, ap, ap₂, subst, length, List, not, true, false, slice_index_or, arith}
+use Rattle.std.proofs.Common.{◌≡◌, ◌∙◌, ◌<◌, ◌+◌, ◌&&◌, ℕ, ℤ, pos, int_le, Bool, sym, ap, ap₂, subst, length, List, not, true, false, slice_index_or, arith}
 use Rattle.auction_terms.specs.declared.bids.Bid.{Bid}
 use Rattle.auction_terms.specs.Packages.{Lots, fits}
 use Rattle.auction_terms.specs.Terms.{lots_in}
@@ -7,7 +7,7 @@ use Rattle.std.specs.List.{list_any}
 use Rattle.presolve.specs.declared.order.SizedBid.{SizedBid}
 use Rattle.presolve.specs.inside.Sizes.{IsOrdered, TellsItsNet, TellsItsSize, beats}
 use Rattle.presolve.proofs.FlagLaws.{all_fit, all_kept, are_rivals, rivals_suffice, stands}
-use Rattle.presolve.proofs.NumberLaws.{after_failing, after_passing, are_numbered, flags_by_number, none_left_over}
+use Rattle.presolve.proofs.NumberLaws.{after_failing, after_passing, flags_by_number, is_numbered, none_left_over}
 use Rattle.presolve.proofs.SizeLaws.{no_more_fit}
 use Rattle.presolve.proofs.form_flags.flags_of_form.Goals as goal
 use Rattle.presolve.proofs.form_flags.flags_of_form.Goals.{then-is_kept_beside, else-is_kept_beside}
@@ -41,24 +41,15 @@ is_kept_beside-requires-clause-many c =
 
 pub overflow_sub-from : goal.overflow_sub-from
 overflow_sub-from c =
-    let lots = lots_in c.args.rules.now in
-    let items = c.in_ok-rivals.rivals.items in
-    let at : c.rival-item.result ≡ slice_index_or items c.loop-place.place c.rival-item.result = rw c.deref-rival-items.ensures.value at c.rival-item.is in
-    let small : c.loop-place.place < length items = rw c.deref-rival-items.ensures.value at c.loop-place-test.true in
-    let number : 1 ≤ c.rival-item.result.number = subst (λ (s : SizedBid). 1 ≤ s.number) (sym at) (are_numbered lots c.args.bids.now items c.in_ok-rivals.ensures c.loop-place.place c.rival-item.result small).0 in
-    rw c.from.ensures number
+    let numbers = is_numbered (lots_in c.args.rules.now) c.args.bids.now c.in_ok-rivals.rivals.items c.in_ok-rivals.ensures c.loop-place.place c.rival-item.result
+    (rw c.deref-rival-items.ensures.value at c.loop-place-test.true) (rw c.deref-rival-items.ensures.value at c.rival-item.is) in
+    rw c.from.ensures numbers.0
 
 pub index_mut-requires : goal.index_mut-requires
 index_mut-requires c =
-    let lots = lots_in c.args.rules.now in
-    let items = c.in_ok-rivals.rivals.items in
-    let at : c.rival-item.result ≡ slice_index_or items c.loop-place.place c.rival-item.result = rw c.deref-rival-items.ensures.value at c.rival-item.is in
-    let small : c.loop-place.place < length items = rw c.deref-rival-items.ensures.value at c.loop-place-test.true in
-    let number : c.rival-item.result.number < 1 + length c.args.bids.now = subst (λ (s : SizedBid). s.number < 1 + length c.args.bids.now) (sym at) (are_numbered lots c.args.bids.now items c.in_ok-rivals.ensures c.loop-place.place c.rival-item.result small).1 in
-    let low : 1 ≤ c.rival-item.result.number = subst (λ (s : SizedBid). 1 ≤ s.number) (sym at) (are_numbered lots c.args.bids.now items c.in_ok-rivals.ensures c.loop-place.place c.rival-item.result small).0 in
-    let from = c.from.ensures in
-    let count = c.loop-place.invariant.count in
-    omega arith
+    let numbers = is_numbered (lots_in c.args.rules.now) c.args.bids.now c.in_ok-rivals.rivals.items c.in_ok-rivals.ensures c.loop-place.place c.rival-item.result
+    (rw c.deref-rival-items.ensures.value at c.loop-place-test.true) (rw c.deref-rival-items.ensures.value at c.rival-item.is) in
+    omega (arith, numbers.0, numbers.1, c.from.ensures, c.loop-place.invariant.count)
 
 -- a bid that fits is beside the others as it is in the form
 stands_beside : (lots : Lots) (form : List Bid) (items : List SizedBid) (k : ℕ) (x : SizedBid) → IsOrdered lots form items → k < length items → x ≡ slice_index_or items k x
@@ -79,9 +70,7 @@ loop-place-preserved c =
     let test : Bid → Bool = stands lots bids in
     let at : rival ≡ slice_index_or items idx rival = rw c.deref-rival-items.ensures.value at c.rival-item.is in
     let small : idx < length items = rw c.deref-rival-items.ensures.value at c.loop-place-test.true in
-    let numbers = are_numbered lots bids items c.in_ok-rivals.ensures idx rival small in
-    let some : 1 ≤ rival.number = subst (λ (s : SizedBid). 1 ≤ s.number) (sym at) numbers.0 in
-    let within : rival.number < 1 + length bids = subst (λ (s : SizedBid). s.number < 1 + length bids) (sym at) numbers.1 in
+    let numbers = is_numbered lots bids items c.in_ok-rivals.ensures idx rival small at in
     let answer : c.is_kept_beside.result ≡ test rival.bid.now =
     c.is_kept_beside.ensures ∙ ap (λ (beside : List SizedBid). int_le (pos 0) rival.net && not (list_any (beats rival) beside)) c.deref-in-loop-place.ensures.value
     ∙ stands_beside lots bids items idx rival c.in_ok-rivals.ensures small at in
@@ -93,8 +82,8 @@ loop-place-preserved c =
       each = λ i in_form. (let h = c.loop-place.invariant.each i in_form in
           elim c.if-is_kept_beside.branch [
             | then-is_kept_beside w ↦ (let passed : test rival.bid.now ≡ true = sym answer ∙ w.if-is_kept_beside.true in
-                let within' : rival.number < 1 + length c.loop-place.flags.items = subst (λ (n : ℕ). rival.number < 1 + n) (sym c.loop-place.invariant.count) within in
-                rw (w.flags-is, w.from.ensures) (after_passing test i c.deref-rival-items.result.now idx rival c.loop-place.flags.items _ c.loop-place-test.true c.rival-item.is passed some within' h))
+                let within' : rival.number < 1 + length c.loop-place.flags.items = subst (λ (n : ℕ). rival.number < 1 + n) (sym c.loop-place.invariant.count) numbers.1 in
+                rw (w.flags-is, w.from.ensures) (after_passing test i c.deref-rival-items.result.now idx rival c.loop-place.flags.items _ c.loop-place-test.true c.rival-item.is passed numbers.0 within' h))
             | else-is_kept_beside w ↦ (let failed : test rival.bid.now ≡ false = sym answer ∙ w.if-is_kept_beside.false in
                 rw w.flags-is (after_failing test (1 + i) c.deref-rival-items.result.now idx rival _ _ c.loop-place-test.true c.rival-item.is failed h))
           ]);
