@@ -58,12 +58,12 @@ taken-more v all ahead rest count old new so_far r so next took =
     }
 
 -- no record is left
-pub taken-all : (v : Version) (all : List Record) (count : ℕ) (draft : Entries) (so_far : List (Found RulesFault)) → TakenSoFar v all [] count draft so_far
+pub taken-all : (v : Version) (all ahead : List Record) (count : ℕ) (draft : Entries) (so_far : List (Found RulesFault)) → TakenSoFar v all ahead count draft so_far → ahead ≡ []
     → (count ≡ length all) × (all_faults (fault_of_entry v) 2 [] all ≡ so_far) × (all_faults (fault_of_entry v) 2 [] all ≡ [] → draft ≡ entries_of v all)
-taken-all v all count draft so_far so =
-    let whole : all ≡ so.before = so.all_is ∙ append-nil so.before in
-    let found = found-all (fault_of_entry v) _ so_far (count + 2) so.accepted [] so.found_are refl in
-    (so.count_is ∙ ap length (sym whole), found, λ none. so.draft_is ∙ ap (entries_of v) (so.accepted_are (sym found ∙ none) ∙ sym whole))
+taken-all v all ahead count draft so_far so none =
+    let whole : all ≡ so.before = so.all_is ∙ rw none (append-nil so.before) in
+    let found = found-all (fault_of_entry v) _ so_far (count + 2) so.accepted ahead so.found_are none in
+    (so.count_is ∙ ap length (sym whole), found, λ empty. so.draft_is ∙ ap (entries_of v) (so.accepted_are (sym found ∙ empty) ∙ sym whole))
 
 -- a fault at its field
 begin-at_field : {F : Type 0} (field_of : F → ℕ) (fault : Option F) → BeginAs (at_field field_of fault) fault

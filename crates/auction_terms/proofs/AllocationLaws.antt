@@ -1,10 +1,11 @@
 -- Laws of allocations: what a total is, and how each bid is replaced by a kept one or left out.
-use Rattle.std.proofs.Common.{◌≡◌, ℕ, suc, ◌+◌, ◌<◌, ◌≤◌, Bool, true, false, not, ◌==◌, cond, List, [], ◌∷◌, Option, Some, None, is_some, slice_index, slice_index_or, length, sym, refl, ap, ◌∙◌, arith, le-leb, leb-true, le_refl, map, zero, zero-add, ⊎_elim, pos, ◌<ℤ◌, ◌≤ℤ◌}
+use Rattle.std.proofs.Common.{◌≡◌, ℕ, suc, ◌+◌, ◌<◌, ◌≤◌, Bool, true, false, not, ◌==◌, cond, List, [], ◌∷◌, Option, Some, None, is_some, slice_index, slice_index_or, length, sym, refl, ap, ◌∙◌, arith, le-leb, leb-true, le_refl, ⊎_elim, pos, ◌<ℤ◌, ◌≤ℤ◌}
 use Rattle.std.specs.Prelude.{count_by, sum_by, All}
-use Rattle.std.specs.List.{AllByRecursion, range_with_len, list_all}
+use Rattle.std.specs.List.{AllByRecursion, list_all}
 use Rattle.std.specs.Option.{option_map_or}
 use Rattle.std.proofs.lemmas.Bool.{and_parts, and_from, both_ways}
-use Rattle.std.proofs.lemmas.List.Sums.{sum_by-cons, get_or-le-sum_by}
+use Rattle.std.proofs.lemmas.List.FromFn.{get_or-map-range_with_len, length-map-range_with_len}
+use Rattle.std.proofs.lemmas.List.Sums.{AllPass-from_list_all, sum_by-cons, get_or-le-sum_by}
 use Rattle.std.proofs.lemmas.List.Elements.{recursion_from_All, All-from_recursion}
 use Rattle.auction_terms.specs.declared.bids.Bid.{Bid}
 use Rattle.auction_terms.specs.declared.choices.Choice.{Choice}
@@ -23,27 +24,11 @@ within_from [] s e h = refl
 within_from (x ∷ p) [] e h = absurd (omega arith)
 within_from (x ∷ p) (y ∷ s) e h = and_from _ _ (le-leb x y (h 0 (omega arith))) (within_from p s (omega arith) (λ c l. h (suc c) (omega arith)))
 
--- the sums of the packages, one by one
-module _ (f : ℕ → ℕ) where
-  mapped_at : (a n k : ℕ) → k < n → slice_index (map f (range_with_len a n)) k ≡ f (a + k)
-  mapped_at a zero k l = absurd (omega arith)
-  mapped_at a (suc n) zero l = ap f (omega arith)
-  mapped_at a (suc n) (suc k) l = mapped_at (a + 1) n k (omega arith) ∙ ap f (omega arith)
-
-  mapped_length : (a n : ℕ) → length (map f (range_with_len a n)) ≡ n
-  mapped_length a zero = refl
-  mapped_length a (suc n) = ap suc (mapped_length (a + 1) n)
-
 pub loads_length : (lots : Lots) (book : Book) (a : List Choice) → length (loads lots book a) ≡ length lots.supply
-loads_length lots book a = mapped_length (λ c. sum_by (quantity_of book c) a) 0 (length lots.supply)
+loads_length lots book a = length-map-range_with_len (λ c. sum_by (quantity_of book c) a) 0 (length lots.supply)
 
 pub loads_at : (lots : Lots) (book : Book) (a : List Choice) (category : ℕ) → category < length lots.supply → slice_index (loads lots book a) category ≡ sum_by (quantity_of book category) a
-loads_at lots book a category below = mapped_at (λ c. sum_by (quantity_of book c) a) 0 (length lots.supply) category below ∙ ap (λ (c : ℕ). sum_by (quantity_of book c) a) (zero-add category)
-
-cap_at : (q : List ℕ) (pools : List WeightedCap) (p : ℕ) → list_all (is_within_cap q) pools ≡ true → p < length pools → is_within_cap q (slice_index_or pools p (record { cap = 0; weights = [] })) ≡ true
-cap_at q [] p h l = absurd (omega arith)
-cap_at q (pool ∷ pools) zero h l = (and_parts (is_within_cap q pool) (list_all (is_within_cap q) pools) h).0
-cap_at q (pool ∷ pools) (suc p) h l = cap_at q pools p (and_parts (is_within_cap q pool) (list_all (is_within_cap q) pools) h).1 (omega arith)
+loads_at lots book a category below = get_or-map-range_with_len (λ c. sum_by (quantity_of book c) a) 0 (length lots.supply) category category 0 below (omega arith)
 
 caps_from : (q : List ℕ) (pools : List WeightedCap) → ((p : ℕ) → p < length pools → is_within_cap q (slice_index_or pools p (record { cap = 0; weights = [] })) ≡ true) → list_all (is_within_cap q) pools ≡ true
 caps_from q [] h = refl
@@ -58,7 +43,7 @@ feasible_at lots book group a f category below =
 -- the sum of the weighed packages is at most the cap of the pool
 pub feasible_pool : (lots : Lots) (book : Book) (group : ℕ → Bool) (a : List Choice) → IsSized lots book → IsFeasible lots book group a → (p : ℕ) → p < length lots.pools → sum_by (weighed_choice (pool_at lots p).weights book) a ≤ (pool_at lots p).cap
 feasible_pool lots book group a sized f p below =
-    let w = leb-true (weighed (pool_at lots p).weights (loads lots book a)) (pool_at lots p).cap (cap_at (loads lots book a) lots.pools p (and_parts (is_within (loads lots book a) lots.supply) (list_all (is_within_cap (loads lots book a)) lots.pools) f.fit).1 below) in
+    let w = leb-true (weighed (pool_at lots p).weights (loads lots book a)) (pool_at lots p).cap (AllPass-from_list_all (is_within_cap (loads lots book a)) lots.pools (and_parts (is_within (loads lots book a) lots.supply) (list_all (is_within_cap (loads lots book a)) lots.pools) f.fit).1 p _ below) in
     let e = weighed_loads lots book sized (pool_at lots p).weights a in
     omega arith
 

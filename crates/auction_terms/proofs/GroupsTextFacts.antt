@@ -1,17 +1,16 @@
 -- What the loop over the names of a line keeps.
 use Rattle.std.proofs.Common.{Bor, Bool, true, false, suc, drop, length, slice_index_or, arith, ◌+◌, ◌++◌, ◌∙◌, ◌<◌, ◌≤◌, append_assoc, add-one, ◌≡◌, ◌∷◌, ◌||◌, ℕ, List, [], Option, Some, Ok, Err, map, sym, refl, ap}
-use Rattle.std.specs.Prelude.{filter, not, if◌then◌else◌, All, AllPairs}
+use Rattle.std.specs.Prelude.{filter, if◌then◌else◌, All, AllPairs}
 use Rattle.std.proofs.lemmas.List.Elements.{All-cons}
 use Rattle.std.proofs.lemmas.List.Kept.{AllPairs-cons}
 use Rattle.auction_terms.specs.Groups.{IsGroup}
 use Rattle.std.proofs.Math.Seq.{drop-cons}
 use Rattle.std.specs.List.{enumerate_from, list_any}
 use Rattle.std.specs.Str.{bytes_eq}
-use Rattle.auction_terms.specs.FirstFault.{first_failed}
-use Rattle.auction_terms.specs.GroupsText.{is_groups_memory, name_fault}
+use Rattle.auction_terms.specs.GroupsText.{is_groups_memory}
 use Rattle.auction_terms.specs.inside.GroupsText.{numbers_from}
 use Rattle.auction_terms.specs.Stages.{Answers, unless}
-use Rattle.auction_terms.specs.inside.FirstFault.{Tells, TellsFault}
+use Rattle.auction_terms.specs.inside.FirstFault.{Tells}
 use Rattle.auction_terms.specs.declared.rules.Bidder.{Bidder}
 use Rattle.auction_terms.specs.declared.groups_text.GroupFault.{GroupFault}
 use Rattle.auction_terms.specs.declared.groups_text.GroupFault.TheVariants as fault
@@ -21,22 +20,10 @@ list_any-map : {X Y : Type 0} (f : X → Y) (p : Y → Bool) (xs : List X) → l
 list_any-map f p [] = refl
 list_any-map f p (x ∷ xs) = ap (λ b. p (f x) || b) (list_any-map f p xs)
 
--- the fault of a name, by references to the names before it
-pub name_fault-is : (bidders : List Bidder) (place : ℕ) (names : List (Bor (List ℕ))) (name : List ℕ)
-    → name_fault bidders place (map (λ other. other.now) names) name
-    ≡ first_failed ((list_any (λ bidder. bytes_eq bidder.name name) bidders, fault.UnknownBidder place)
-    ∷ (not (list_any (λ other. bytes_eq other.now name) names), fault.RepeatedBidder place) ∷ [])
-name_fault-is bidders place names name = rw (list_any-map (λ (other : Bor (List ℕ)). other.now) (λ other. bytes_eq other name) names) refl
-
 pub answers-fault : {T : Type 0} (U : Type 0) (f : GroupFault) (found outer : Option GroupFault) (x : T) (value : U) → ((g : GroupFault) → found ≡ Some g → outer ≡ Some g)
     → Tells {T = T} is_groups_memory (Err f) found x → Answers {A = U} is_groups_memory (Err f) (unless outer (Ok value))
 answers-fault U fault.OutOfMemory found outer x value same h = tt
 answers-fault U f found outer x value same h = rw (same f h) refl
-
-pub tells-fault : {T : Type 0} (U : Type 0) (f : GroupFault) (found outer : Option GroupFault) (x : T) → ((g : GroupFault) → found ≡ Some g → outer ≡ Some g)
-    → Tells {T = T} is_groups_memory (Err f) found x → TellsFault {T = U} is_groups_memory (Err f) outer
-tells-fault U fault.OutOfMemory found outer x same h = tt
-tells-fault U f found outer x same h = same f h
 
 -- references to names, and the names
 pub any_name-is : (name : List ℕ) (names : List (Bor (List ℕ))) → list_any (λ other. bytes_eq other name) (map (λ other. other.now) names) ≡ list_any (λ other. bytes_eq other.now name) names

@@ -18,5 +18,4 @@ pub mod OfferLaws
 pub mod LimitLaws
 pub mod LotsLaws
 pub mod Examples
-pub mod VersionExamples
 pub mod OnlyExamples

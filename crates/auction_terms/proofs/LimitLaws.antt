@@ -1,25 +1,21 @@
 -- The kept bids of a book within the limits stand within the limits, in order.
-use Rattle.std.proofs.Common.{◌≡◌, ℕ, zero, suc, ◌+◌, ◌<◌, ◌≤◌, inl, inr, Bool, true, false, cond, List, [], ◌∷◌, ◌++◌, Some, slice_get, slice_index_or, length, sym, refl, subst, arith}
+use Rattle.std.proofs.Common.{◌≡◌, ℕ, zero, suc, ◌+◌, ◌<◌, ◌≤◌, inl, inr, Bool, List, [], ◌∷◌, ◌++◌, Some, slice_get, slice_index_or, length, sym, refl, subst, arith}
 use Rattle.std.specs.Prelude.{filter}
 use Rattle.std.specs.List.{AllByRecursion}
-use Rattle.std.proofs.lemmas.Bool.{cond-true, cond-false}
+use Rattle.std.proofs.lemmas.Bool.{cond_both}
+use Rattle.std.proofs.lemmas.List.Elements.{All-filter, All-from_recursion, recursion_from_All}
 use Rattle.auction_terms.specs.declared.bids.Bid.{Bid}
 use Rattle.auction_terms.specs.Packages.{Lots}
 use Rattle.auction_terms.specs.Allocations.{Book, form_of, bid_at, IsSized}
 use Rattle.auction_terms.specs.Keeping.{Offer, offers_of_form, offers_from}
 use Rattle.auction_terms.specs.inside.Keeping.{is_kept_offer}
-use Rattle.auction_terms.specs.Limits.{IsBid, IsBook, IsOffer, IsBefore, AreOffers, KeptAreOffers}
+use Rattle.auction_terms.specs.Limits.{IsBid, IsBook, IsBefore, AreOffers, KeptAreOffers}
 use Rattle.auction_terms.proofs.OfferLaws.{all_agree, all_append}
 use Rattle.auction_limits.specs.declared.limits.TheConstants.{MOST_BIDDERS, MOST_BIDS}
 
 module _ {X : Type 0} (P : X → Type 0) where
-  kept_in : (q : X → Bool) (x : X) (xs : List X) (b : Bool) → q x ≡ b → P x → AllByRecursion P (filter q xs) → AllByRecursion P (cond (q x) (x ∷ filter q xs) (filter q xs))
-  kept_in q x xs true e h r = subst (λ (ys : List X). AllByRecursion P ys) (sym (cond-true (q x) (x ∷ filter q xs) (filter q xs) e)) (h, r)
-  kept_in q x xs false e h r = subst (λ (ys : List X). AllByRecursion P ys) (sym (cond-false (q x) (x ∷ filter q xs) (filter q xs) e)) r
-
   pub all_left : (q : X → Bool) (xs : List X) → AllByRecursion P xs → AllByRecursion P (filter q xs)
-  all_left q [] h = tt
-  all_left q (x ∷ xs) h = kept_in q x xs (q x) refl h.0 (all_left q xs h.1)
+  all_left q xs h = recursion_from_All P (filter q xs) (All-filter q P xs (All-from_recursion P xs h))
 
   all_at : (xs : List X) (k : ℕ) (x : X) → AllByRecursion P xs → slice_get xs k ≡ Some x → P x
   all_at [] k x a e = cc
@@ -32,13 +28,11 @@ module _ {X : Type 0} (P : X → Type 0) where
   all_default d h (x ∷ xs) (suc k) a = all_default d h xs k a.1
 
 module _ (lots : Lots) where
-  one_left : (q : Offer → Bool) (o : Offer) (xs : List Offer) (b : Bool) → q o ≡ b → IsOffer lots o → AllByRecursion (IsBefore o) xs → AreOffers lots (filter q xs) → AreOffers lots (cond (q o) (o ∷ filter q xs) (filter q xs))
-  one_left q o xs true e h before r = subst (λ (ys : List Offer). AreOffers lots ys) (sym (cond-true (q o) (o ∷ filter q xs) (filter q xs) e)) (h, all_left (IsBefore o) q xs before, r)
-  one_left q o xs false e h before r = subst (λ (ys : List Offer). AreOffers lots ys) (sym (cond-false (q o) (o ∷ filter q xs) (filter q xs) e)) r
-
   pub offers_left : (q : Offer → Bool) (xs : List Offer) → AreOffers lots xs → AreOffers lots (filter q xs)
   offers_left q [] h = tt
-  offers_left q (o ∷ xs) h = one_left q o xs (q o) refl h.0 h.1 (offers_left q xs h.2)
+  offers_left q (o ∷ xs) h =
+      let rest = offers_left q xs h.2 in
+      cond_both (q o) (o ∷ filter q xs) (filter q xs) (AreOffers lots) (λ e. (h.0, all_left (IsBefore o) q xs h.1, rest)) (λ e. rest)
 
   -- of one form
   from_number : (b j : ℕ) (form : List Bid) → AllByRecursion (λ (o : Offer). (o.bidder ≡ b) × (j ≤ o.number)) (offers_of_form b j form)

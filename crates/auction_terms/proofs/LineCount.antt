@@ -1,7 +1,8 @@
 -- A text has no more lines than bytes.
-use Rattle.std.proofs.Common.{◌≡◌, ℕ, suc, ◌≤◌, true, false, cond, List, [], ◌∷◌, length, map, refl, ap, subst, arith}
+use Rattle.std.proofs.Common.{◌≡◌, ℕ, suc, ◌≤◌, true, false, cond, List, [], ◌∷◌, length, refl, ap, subst, arith}
 use Rattle.std.specs.List.{slice_split, onto_first}
 use Rattle.std.specs.Str.Lines.{strip_carriage_return}
+use Rattle.std.proofs.lemmas.List.{length-map}
 use Rattle.auction_terms.specs.Lines.{is_line_feed, lines_of, without_empty_last}
 
 pub split-some : (xs : List ℕ) → (part : List ℕ) × (parts : List (List ℕ)) × (slice_split is_line_feed xs ≡ part ∷ parts)
@@ -30,12 +31,8 @@ parts-within (x ∷ xs) =
       | false ↦ rw (more.2) (omega arith)
     ]
 
-length-stripped : (ls : List (List ℕ)) → length (map strip_carriage_return ls) ≡ length ls
-length-stripped [] = refl
-length-stripped (l ∷ ls) = ap suc (length-stripped ls)
-
 pub lines-within : (text : List ℕ) → length (lines_of text) ≤ length text
 lines-within text =
-    let same = length-stripped (without_empty_last (slice_split is_line_feed text)) in
+    let same = length-map (without_empty_last (slice_split is_line_feed text)) strip_carriage_return in
     let within = parts-within text in
     omega arith

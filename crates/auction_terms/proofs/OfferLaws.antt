@@ -1,8 +1,8 @@
 -- Sums over the offers of a book: each of its bids stands there once.
-use Rattle.std.proofs.Common.{◌≡◌, ◌≢◌, ℕ, zero, suc, ◌+◌, ◌≤◌, Bool, true, false, cond, List, [], ◌∷◌, ◌++◌, Some, slice_get, slice_index_or, sym, refl, ap, ◌∙◌, subst, arith, le_refl, zero-add}
+use Rattle.std.proofs.Common.{◌≡◌, ◌≢◌, ℕ, zero, suc, ◌+◌, ◌≤◌, Bool, true, cond, List, [], ◌∷◌, ◌++◌, Some, slice_get, slice_index_or, sym, refl, ap, ◌∙◌, subst, arith, le_refl}
 use Rattle.std.specs.Prelude.{sum_by, filter}
 use Rattle.std.specs.List.{AllByRecursion}
-use Rattle.std.proofs.lemmas.Bool.{cond-true, cond-false}
+use Rattle.std.proofs.lemmas.Bool.{cond-true, cond-false, cond_both}
 use Rattle.std.proofs.lemmas.List.Sums.{sum_by-cons, sum_by-append}
 use Rattle.auction_terms.specs.declared.bids.Bid.{Bid}
 use Rattle.auction_terms.specs.Allocations.{form_of, bid_at, bid_of}
@@ -22,16 +22,15 @@ module _ {X : Type 0} where
   sum_plus f g h [] e = refl
   sum_plus f g h (x ∷ xs) e = let s = sum_by-cons f x xs in let t = sum_by-cons g x xs in let u = sum_by-cons h x xs in let a = e x in let b = sum_plus f g h xs e in omega arith
 
-  filtered : (g : X → ℕ) (q : X → Bool) (x : X) (xs : List X) (b : Bool) → q x ≡ b → sum_by g (filter q xs) ≡ sum_by (λ x. cond (q x) (g x) 0) xs
-      → sum_by g (cond (q x) (x ∷ filter q xs) (filter q xs)) ≡ sum_by (λ x. cond (q x) (g x) 0) (x ∷ xs)
-  filtered g q x xs true e r = ap (λ (ys : List X). sum_by g ys) (cond-true (q x) (x ∷ filter q xs) (filter q xs) e) ∙ sum_by-cons g x (filter q xs)
-      ∙ ap (λ n. g x + n) r ∙ ap (λ n. n + sum_by (λ x. cond (q x) (g x) 0) xs) (sym (cond-true (q x) (g x) 0 e)) ∙ sym (sum_by-cons (λ x. cond (q x) (g x) 0) x xs)
-  filtered g q x xs false e r = ap (λ (ys : List X). sum_by g ys) (cond-false (q x) (x ∷ filter q xs) (filter q xs) e)
-      ∙ r ∙ sym (zero-add _) ∙ ap (λ n. n + sum_by (λ x. cond (q x) (g x) 0) xs) (sym (cond-false (q x) (g x) 0 e)) ∙ sym (sum_by-cons (λ x. cond (q x) (g x) 0) x xs)
-
   pub sum_filter : (g : X → ℕ) (q : X → Bool) (xs : List X) → sum_by g (filter q xs) ≡ sum_by (λ x. cond (q x) (g x) 0) xs
   sum_filter g q [] = refl
-  sum_filter g q (x ∷ xs) = filtered g q x xs (q x) refl (sum_filter g q xs)
+  sum_filter g q (x ∷ xs) =
+      let s = sum_by-cons g x (filter q xs) in
+      let t = sum_by-cons (λ y. cond (q y) (g y) 0) x xs in
+      let r = sum_filter g q xs in
+      cond_both (q x) (x ∷ filter q xs) (filter q xs) (λ (ys : List X). sum_by g ys ≡ sum_by (λ y. cond (q y) (g y) 0) (x ∷ xs))
+      (λ e. let n = cond-true (q x) (g x) 0 e in omega arith)
+      (λ e. let n = cond-false (q x) (g x) 0 e in omega arith)
 
   pub all_agree : (P : X → Type 0) (Q : X → Type 0) (xs : List X) → ((x : X) → P x → Q x) → AllByRecursion P xs → AllByRecursion Q xs
   all_agree P Q [] h a = tt
@@ -41,13 +40,11 @@ module _ {X : Type 0} where
   all_append P [] ys a b = b
   all_append P (x ∷ xs) ys a b = (a.0, all_append P xs ys a.1 b)
 
-  all_filtered : (P : X → Type 0) (q : X → Bool) (x : X) (xs : List X) (b : Bool) → q x ≡ b → P x → AllByRecursion (λ x. P x × (q x ≡ true)) (filter q xs) → AllByRecursion (λ x. P x × (q x ≡ true)) (cond (q x) (x ∷ filter q xs) (filter q xs))
-  all_filtered P q x xs true e h r = subst (λ (ys : List X). AllByRecursion (λ x. P x × (q x ≡ true)) ys) (sym (cond-true (q x) (x ∷ filter q xs) (filter q xs) e)) ((h, e), r)
-  all_filtered P q x xs false e h r = subst (λ (ys : List X). AllByRecursion (λ x. P x × (q x ≡ true)) ys) (sym (cond-false (q x) (x ∷ filter q xs) (filter q xs) e)) r
-
   pub all_filter : (P : X → Type 0) (q : X → Bool) (xs : List X) → AllByRecursion P xs → AllByRecursion (λ x. P x × (q x ≡ true)) (filter q xs)
   all_filter P q [] a = tt
-  all_filter P q (x ∷ xs) a = all_filtered P q x xs (q x) refl a.0 (all_filter P q xs a.1)
+  all_filter P q (x ∷ xs) a =
+      let rest = all_filter P q xs a.1 in
+      cond_both (q x) (x ∷ filter q xs) (filter q xs) (AllByRecursion (λ y. P y × (q y ≡ true))) (λ e. ((a.0, e), rest)) (λ e. rest)
 
 module _ (G : Offer → ℕ) where
   zero_form : (b j : ℕ) (form : List Bid) → ((o : Offer) → o.bidder ≡ b → j ≤ o.number → G o ≡ 0) → sum_by G (offers_of_form b j form) ≡ 0

@@ -4,12 +4,12 @@ use Rattle.std.specs.Prelude.{count_by, sum_by, All, Contains, IsPermutation, fi
 use Rattle.std.specs.List.{AllByRecursion, range_with_len}
 use Rattle.std.specs.Option.{option_map_or}
 use Rattle.std.proofs.lemmas.Int.{ints}
-use Rattle.std.proofs.lemmas.Bool.{and_parts, and_from, both_ways, cases_Bool, cond-true, cond_both, eq-eqb, eqb-true, eqb-false, ne_eqb, not-true, not_from_false}
+use Rattle.std.proofs.lemmas.Bool.{and_parts, and_from, both_ways, cases_Bool, cond-true, cond_both, eq-eqb, eqb-true, eqb-false, false_from_ne_true, ne_eqb, not-true, not_from_false}
 use Rattle.std.proofs.lemmas.List.Sums.{sum_by-cons}
 use Rattle.std.proofs.lemmas.List.Elements.{All-append, All-contains, All-contains_itself, All-cons, All-filter, All-from_recursion, All-head, All-map, Contains-append_left, Contains-append_right, filter_passes, recursion_from_All}
 use Rattle.std.proofs.lemmas.List.FromFn.{get_or-range_with_len, length-range_with_len}
 use Rattle.std.proofs.lemmas.List.Sorted.{All-permutation, Contains-permutation, IsPermutation-cons, IsPermutation-map, IsPermutation-middle, IsPermutation-refl, IsPermutation-sym, IsPermutation-trans, sum_by-IsPermutation}
-use Rattle.std.proofs.lemmas.Option.{slice_get_within, none-some}
+use Rattle.std.proofs.lemmas.Option.{slice_get_within, none-some, same_Some}
 use Rattle.auction_terms.specs.declared.bids.Bid.{Bid}
 use Rattle.auction_terms.specs.declared.choices.Choice.{Choice}
 use Rattle.auction_terms.specs.Packages.{Lots, fits, left, worth, weighed}
@@ -43,40 +43,27 @@ module _ {X Y : Type 0} where
   Contains-map f (z ∷ xs) x (suc k, l, e) = let r = Contains-map f xs x (k, omega arith, e) in (suc r.0, omega (arith, r.1), r.2)
 
 module _ {X : Type 0} (p : X → Bool) where
-  found_none : (x : X) (xs : List X) (b : Bool) → p x ≡ b → cond b (Some x) (find p xs) ≡ None → (p x ≡ false) × (find p xs ≡ None)
-  found_none x xs true e h = absurd (none-some x (sym h))
-  found_none x xs false e h = (e, h)
-
   -- where none is found, each fails the test
   all_fail : (xs : List X) → find p xs ≡ None → All (λ x. p x ≡ false) xs
   all_fail [] h = λ k d l. absurd (omega arith)
   all_fail (x ∷ xs) h =
-      let e = found_none x xs (p x) refl h in
-      All-cons (λ x. p x ≡ false) x xs e.0 (all_fail xs e.1)
-
-  found_some : (P : X → Type 0) (x y : X) (xs : List X) (b : Bool) → p x ≡ b → P x → (find p xs ≡ Some y → P y × (p y ≡ true)) → cond b (Some x) (find p xs) ≡ Some y → P y × (p y ≡ true)
-  found_some P x y xs true e h r g =
-      let same : x ≡ y = cc in
-      subst (λ (w : X). P w × (p w ≡ true)) same (h, e)
-  found_some P x y xs false e h r g = r g
+      let fails = false_from_ne_true (p x) (λ e. none-some x (let f = rw e at h in sym f)) in
+      All-cons (λ x. p x ≡ false) x xs fails (all_fail xs (rw fails at h))
 
   -- what is found passes the test, and has what each has
   found_has : (P : X → Type 0) (xs : List X) (y : X) → AllByRecursion P xs → find p xs ≡ Some y → P y × (p y ≡ true)
   found_has P [] y a h = absurd (none-some y h)
-  found_has P (x ∷ xs) y a h = found_some P x y xs (p x) refl a.0 (λ g. found_has P xs y a.1 g) h
-
-  kept_head : (x : X) (xs : List X) (y : X) (b : Bool) → p x ≡ b → x ≡ y → p y ≡ true → Contains (cond b (x ∷ filter p xs) (filter p xs)) y
-  kept_head x xs y true e s h = (0, omega arith, s)
-  kept_head x xs y false e s h = absurd (both_ways (p x) e (ap p s ∙ h))
-
-  kept_tail : (x : X) (xs : List X) (y : X) (b : Bool) → Contains (filter p xs) y → Contains (cond b (x ∷ filter p xs) (filter p xs)) y
-  kept_tail x xs y true c = let l = c.1 in (suc c.0, omega arith, c.2)
-  kept_tail x xs y false c = c
+  found_has P (x ∷ xs) y a h = ⊎_elim
+      (λ e. let same : x ≡ y = (let f = rw e at h in same_Some x y f) in subst (λ (w : X). P w × (p w ≡ true)) same (a.0, e))
+      (λ e. found_has P xs y a.1 (rw e at h))
+      (cases_Bool (p x))
 
   Contains-filter : (xs : List X) (y : X) → Contains xs y → p y ≡ true → Contains (filter p xs) y
   Contains-filter [] y c h = absurd (let l = c.1 in omega arith)
-  Contains-filter (x ∷ xs) y (zero, l, e) h = kept_head x xs y (p x) refl e h
-  Contains-filter (x ∷ xs) y (suc k, l, e) h = kept_tail x xs y (p x) (Contains-filter xs y (k, omega arith, e) h)
+  Contains-filter (x ∷ xs) y (zero, l, e) h = cond_both (p x) (x ∷ filter p xs) (filter p xs) (λ (ys : List X). Contains ys y) (λ t. (0, omega arith, e)) (λ t. absurd (both_ways (p x) t (ap p e ∙ h)))
+  Contains-filter (x ∷ xs) y (suc k, l, e) h =
+      let c = Contains-filter xs y (k, omega arith, e) h in
+      cond_both (p x) (x ∷ filter p xs) (filter p xs) (λ (ys : List X). Contains ys y) (λ t. (suc c.0, omega (arith, c.1), c.2)) (λ t. c)
 
   -- the first that fails the test, and the others
   record Failing (xs : List X) : Type 0 where

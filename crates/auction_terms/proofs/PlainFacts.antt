@@ -2,7 +2,8 @@
 use Rattle.std.proofs.Common.{◌≡◌, ◌≢◌, ◌≤◌, ◌<◌, ◌+◌, ◌∷◌, ◌++◌, ◌⊎◌, inl, inr, ⊎_elim, true, ℕ, zero, suc, List, [], length, Option, Some, None, refl, sym, ap, ◌∙◌, arith, add-one, take, drop, subst, ne_eqb, slice_index}
 use Rattle.std.specs.List.{AllByRecursion}
 use Rattle.std.proofs.lemmas.Bool.{both_ways, cases_eq}
-use Rattle.std.proofs.lemmas.List.{append_assoc, append-nil}
+use Rattle.std.proofs.lemmas.List.{append_assoc, append-nil, take-append-drop, take_all}
+use Rattle.std.proofs.Math.Seq.{drop-cons}
 use Rattle.csv.specs.Machine.{Read, next_record, step}
 use Rattle.csv.specs.Reading.{default_config, records, records_from, strip_bom}
 use Rattle.csv.specs.declared.parser.State.{State}
@@ -77,19 +78,13 @@ insides_before (b ∷ bytes) (suc n) within plain none = (
 )
 
 split_at : (bytes : List ℕ) (n : ℕ) → n < length bytes → bytes ≡ take n bytes ++ slice_index bytes n ∷ drop (suc n) bytes
-split_at [] n within = absurd (omega arith)
-split_at (b ∷ bytes) zero within = refl
-split_at (b ∷ bytes) (suc n) within = ap (λ (more : List ℕ). b ∷ more) (split_at bytes n (omega arith))
+split_at bytes n within = sym (take-append-drop n bytes) ∙ ap (λ (more : List ℕ). take n bytes ++ more) (drop-cons bytes n 0 within)
 
 -- with no comma and no line end, all is the last field
 pub last_field : (fields : List (List ℕ)) (bytes : List ℕ) → HasNoQuote bytes → ((k : ℕ) → k < length bytes → is_byte3 44 10 13 (slice_index bytes k) ≢ true) → next_record default_config st.StartField fields [] bytes ≡ Some (fields ++ bytes ∷ [], st.StartRecord, [])
 last_field fields bytes plain none =
-    let inside : AllByRecursion IsInside bytes = subst (λ (run : List ℕ). AllByRecursion IsInside run) (take_whole bytes) (insides_before bytes (length bytes) (omega arith) plain none) in
+    let inside : AllByRecursion IsInside bytes = subst (λ (run : List ℕ). AllByRecursion IsInside run) (take_all (length bytes) bytes (omega arith)) (insides_before bytes (length bytes) (omega arith) plain none) in
     ap (λ (all : List ℕ). next_record default_config st.StartField fields [] all) (sym (append-nil bytes)) ∙ run_begins fields bytes [] inside ∙ at_end fields bytes bytes
-  where
-    take_whole : (xs : List ℕ) → take (length xs) xs ≡ xs
-    take_whole [] = refl
-    take_whole (x ∷ xs) = ap (λ (more : List ℕ). x ∷ more) (take_whole xs)
 
 module _ (fields : List (List ℕ)) (bytes : List ℕ) (n : ℕ) (within : n < length bytes) (plain : HasNoQuote bytes) (none : (k : ℕ) → k < n → is_byte3 44 10 13 (slice_index bytes k) ≢ true) where
   up_to_end : next_record default_config st.StartField fields [] bytes ≡ next_record default_config (behind_run (take n bytes)) fields (take n bytes) (slice_index bytes n ∷ drop (n + 1) bytes)
@@ -125,20 +120,13 @@ same_records s t xs ys same = by (next_record default_config t [] [] ys) refl
     by None e = records_from-none default_config (length xs) s xs (same ∙ e) ∙ sym (records_from-none default_config (length ys) t ys e)
     by (Some r) e = records_from-next default_config s xs r (same ∙ e) ∙ sym (records_from-next default_config t ys r e)
 
-feed_skipped : (rest : List ℕ) → next_record default_config st.StartRecord [] [] (10 ∷ rest) ≡ next_record default_config st.StartRecord [] [] rest
-unfolding next_record
-feed_skipped rest = refl
-
-return_skipped : (rest : List ℕ) → next_record default_config st.StartRecord [] [] (13 ∷ rest) ≡ next_record default_config st.StartRecord [] [] rest
-unfolding next_record
-return_skipped rest = refl
-
 -- a line end before a record counts for nothing
+skipped : (b : ℕ) (rest : List ℕ) → (b ≡ 10) ⊎ (b ≡ 13) → next_record default_config st.StartRecord [] [] (b ∷ rest) ≡ next_record default_config st.StartRecord [] [] rest
+unfolding next_record
+skipped b rest is = ⊎_elim (λ (feed : b ≡ 10). rw feed refl) (λ (return : b ≡ 13). rw return refl) is
+
 pub line_end_skipped : (b : ℕ) (rest : List ℕ) → (b ≡ 10) ⊎ (b ≡ 13) → records default_config rest ≡ records default_config (b ∷ rest)
-line_end_skipped b rest is = rw (add-one (length rest), add-one (length (b ∷ rest))) (sym (same_records st.StartRecord st.StartRecord (b ∷ rest) rest (⊎_elim
-    (λ (feed : b ≡ 10). ap (λ (c : ℕ). next_record default_config st.StartRecord [] [] (c ∷ rest)) feed ∙ feed_skipped rest)
-    (λ (return : b ≡ 13). ap (λ (c : ℕ). next_record default_config st.StartRecord [] [] (c ∷ rest)) return ∙ return_skipped rest)
-    is)))
+line_end_skipped b rest is = rw (add-one (length rest), add-one (length (b ∷ rest))) (sym (same_records st.StartRecord st.StartRecord (b ∷ rest) rest (skipped b rest is)))
 
 after_return : (rest : List ℕ) → next_record default_config st.AfterCr [] [] rest ≡ next_record default_config st.StartRecord [] [] rest
 unfolding next_record
@@ -193,9 +181,4 @@ no_line_end (b ∷ bytes) (suc n) other = no_line_end bytes n (λ less. other (o
 
 -- one line end more is skipped
 pub one_more : (bytes : List ℕ) (n : ℕ) → n < length bytes → (slice_index bytes n ≡ 10) ⊎ (slice_index bytes n ≡ 13) → records default_config (drop n bytes) ≡ records default_config bytes → records default_config (drop (n + 1) bytes) ≡ records default_config bytes
-one_more bytes n within ends so_far = line_end_skipped (slice_index bytes n) (drop (n + 1) bytes) ends ∙ ap (λ (all : List ℕ). records default_config all) (sym (drop_at bytes n within ∙ ap (λ (k : ℕ). slice_index bytes n ∷ drop k bytes) (sym (add-one n)))) ∙ so_far
-  where
-    drop_at : (xs : List ℕ) (k : ℕ) → k < length xs → drop k xs ≡ slice_index xs k ∷ drop (suc k) xs
-    drop_at [] k within = absurd (omega arith)
-    drop_at (x ∷ xs) zero within = refl
-    drop_at (x ∷ xs) (suc k) within = drop_at xs k (omega arith)
+one_more bytes n within ends so_far = line_end_skipped (slice_index bytes n) (drop (n + 1) bytes) ends ∙ ap (λ (all : List ℕ). records default_config all) (sym (drop-cons bytes n 0 within ∙ ap (λ (k : ℕ). slice_index bytes n ∷ drop k bytes) (sym (add-one n)))) ∙ so_far

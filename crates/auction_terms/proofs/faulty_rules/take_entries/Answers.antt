@@ -21,20 +21,14 @@ loop-row-preserved c =
 pub returns-clause-count : goal.returns-clause-count
 returns-clause-count c =
     let (so_far, so, keeps) = c.loop-row.invariant in
-    let none : c.loop-row.reader ≡ [] = rw c.if-branch.false at c.in_ok-next.ensures.next in
-    let (count, found, read) = taken-all c.args.version c.args.reader.now c.loop-row.count c.loop-row.draft so_far (rw none at so) in
-    count
+    (taken-all _ _ _ _ _ so_far so (rw c.if-branch.false at c.in_ok-next.ensures.next)).0
 
 pub returns-clause-faults : goal.returns-clause-faults
 returns-clause-faults c =
     let (so_far, so, keeps) = c.loop-row.invariant in
-    let none : c.loop-row.reader ≡ [] = rw c.if-branch.false at c.in_ok-next.ensures.next in
-    let (count, found, read) = taken-all c.args.version c.args.reader.now c.loop-row.count c.loop-row.draft so_far (rw none at so) in
-    rw found keeps
+    rw (taken-all _ _ _ _ _ so_far so (rw c.if-branch.false at c.in_ok-next.ensures.next)).1 keeps
 
 pub returns-clause-read : goal.returns-clause-read
 returns-clause-read c =
     let (so_far, so, keeps) = c.loop-row.invariant in
-    let none : c.loop-row.reader ≡ [] = rw c.if-branch.false at c.in_ok-next.ensures.next in
-    let (count, found, read) = taken-all c.args.version c.args.reader.now c.loop-row.count c.loop-row.draft so_far (rw none at so) in
-    read
+    (taken-all _ _ _ _ _ so_far so (rw c.if-branch.false at c.in_ok-next.ensures.next)).2

@@ -1,7 +1,6 @@
 use Rattle.std.proofs.Common.{◌≡◌, ◌+◌, ◌∷◌, ◌++◌, ◌∙◌, [], ℕ, List, Err, refl, sym, rules, arith, length-append}
 use Rattle.std.proofs.lemmas.List.{map-append}
-use Rattle.std.proofs.lemmas.List.Elements.{All-append}
-use Rattle.auction_terms.proofs.TermsFacts.{all-one}
+use Rattle.std.proofs.lemmas.List.Elements.{All-push}
 use Rattle.auction_terms.specs.Groups.{IsGroup}
 use Rattle.auction_terms.proofs.FirstFaultFacts.{checked-all, checked-fault, checked-more}
 use Rattle.auction_terms.proofs.GroupsTextFacts.{answers-fault}
@@ -36,7 +35,7 @@ loop-line-preserved c =
       rw (items, groups, group) (sym (map-append (group_of c.args.rules.now.bidders) before (line ∷ []))),
       bidders,
       room,
-      rw items (All-append IsGroup c.loop-line.groups.items (c.in_ok-group.group ∷ []) each (all-one IsGroup c.in_ok-group.group c.in_ok-group.ensures.group)),
+      rw items (All-push IsGroup c.loop-line.groups.items c.in_ok-group.group each c.in_ok-group.ensures.group),
     )
 
 pub returns-clause-answer : goal.returns-clause-answer

@@ -1,4 +1,4 @@
-use Rattle.std.proofs.Common.{◌≡◌, ◌∙◌, Ok, Err, ap, drop, refl, rules, sym}
+use Rattle.std.proofs.Common.{◌≡◌, Err, rules}
 use Rattle.auction_terms.proofs.FirstFaultFacts.{answers-more}
 use Rattle.auction_terms.proofs.RulesTextFacts.{header-refused, header-taken}
 use Rattle.auction_terms.specs.Records.{records_of}
