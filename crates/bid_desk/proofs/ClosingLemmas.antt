@@ -1,8 +1,8 @@
 -- What a settled history leaves standing.
-use Rattle.std.proofs.Common.{◌≡◌, ◌≢◌, ℕ, zero, suc, ◌+◌, ◌<◌, ◌≤◌, List, [], ◌∷◌, Bool, true, false, cond, map, length, refl, sym, ap, ◌∙◌, subst, arith, IsTrue, not, ◌==◌, ◌&&◌, ◌%◌, nat_le, ◌⊎◌, inl, inr}
-use Rattle.std.specs.Prelude.{filter, All, slice_index_or, Option, Some, None, IfSome}
+use Rattle.std.proofs.Common.{◌≡◌, ℕ, zero, suc, ◌≤◌, List, [], ◌∷◌, Bool, true, false, length, refl, sym, ap, ◌∙◌, subst, arith, IsTrue, not, ◌==◌, ◌&&◌, ◌%◌, nat_le, inl, inr}
+use Rattle.std.specs.Prelude.{All, slice_index_or, Option, Some, None, IfSome}
 use Rattle.std.specs.List.{last_or, list_all, range_with_len, AllByRecursion}
-use Rattle.std.specs.Option.{option_map, option_map_or, option_and_then}
+use Rattle.std.specs.Option.{option_map, option_and_then}
 use Rattle.std.proofs.lemmas.Bool.{and_parts, cases_lt, eqb-true, leb-true}
 use Rattle.std.proofs.lemmas.List.{get_or_past, length-map}
 use Rattle.std.proofs.lemmas.List.Elements.{All-filter, All-map, All-weaker, recursion_from_All}
@@ -19,13 +19,12 @@ use Rattle.bid_forms.specs.Offers.{Offers, Meets, eligibility_of, is_bid_under, 
 use Rattle.bid_book.specs.declared.caller.Caller.{Caller}
 use Rattle.bid_book.specs.declared.caller.Caller.TheVariants.{Session, Chair}
 use Rattle.bid_book.specs.declared.call.Call.{Call}
-use Rattle.bid_book.specs.declared.call.Call.TheVariants.{Submit, Withdraw, Show, Close}
+use Rattle.bid_book.specs.declared.call.Call.TheVariants.{Submit}
 use Rattle.bid_book.specs.declared.reply.Reply.{Reply}
-use Rattle.bid_book.specs.declared.reply.Reply.TheVariants.{Accepted, Withdrawn, Shown, Stale, Closed, RoundOver, CallLimit}
+use Rattle.bid_book.specs.declared.reply.Reply.TheVariants.{Accepted}
 use Rattle.bid_book.specs.declared.entry.Entry.{Entry}
 use Rattle.bid_book.specs.declared.standing.Standing.{Standing}
 use Rattle.bid_book.specs.History.{entries_beside, changes, is_change_reply, is_beside, left_standing, standing_after, standing_of}
-use Rattle.bid_desk.specs.Sessions.{IsSessionOf}
 use Rattle.bid_desk.specs.Holding.{CallMeets, IsCallerOf, IsEntryOf}
 use Rattle.bid_desk.specs.Closing.{Closing, bids_in, book_of, form_standing}
 
@@ -37,15 +36,7 @@ last_or-All P o (x ∷ xs) one all = last_or-All P (Some x) xs (all 0 x (omega a
 -- a form that a change leaves standing is one that was submitted
 left_standing-meets : (t : Terms) (call : Call Offers) (reply : Reply Offers) → CallMeets t call → IfSome (left_standing call reply) (λ s. Meets t s.form)
 left_standing-meets t (Submit form over) (Accepted n) meets = meets
-left_standing-meets t (Submit form over) (Withdrawn n) meets = tt
-left_standing-meets t (Submit form over) (Shown s) meets = tt
-left_standing-meets t (Submit form over) (Stale s) meets = tt
-left_standing-meets t (Submit form over) (Closed w) meets = tt
-left_standing-meets t (Submit form over) RoundOver meets = tt
-left_standing-meets t (Submit form over) CallLimit meets = tt
-left_standing-meets t (Withdraw over) reply meets = tt
-left_standing-meets t Show reply meets = tt
-left_standing-meets t Close reply meets = tt
+left_standing-meets t call reply meets = tt
 
 last_left : (t : Terms) (o : Option (Entry Offers)) → IfSome o (IsEntryOf t) → IfSome (option_and_then (λ (e : Entry Offers). left_standing e.call e.reply) o) (λ s. Meets t s.form)
 last_left t None entry = tt

@@ -1,8 +1,8 @@
 -- Comparing the callers' own lists with a history, entry by entry.
-use Rattle.std.proofs.Common.{◌≡◌, ◌≢◌, ℕ, ◌+◌, ◌-◌, ◌<◌, ◌≤◌, List, [], ◌∷◌, ◌++◌, Bool, true, false, ◌==◌, length, take, refl, sym, ap, ◌∙◌, subst, arith, length-append, IsTrue, ◌⊎◌, inl, inr, replicate}
-use Rattle.std.specs.Prelude.{All, Option, Some, None, slice_get, slice_index_or}
+use Rattle.std.proofs.Common.{◌≡◌, ◌≢◌, ℕ, ◌+◌, ◌-◌, ◌<◌, List, [], ◌∷◌, ◌++◌, true, length, take, refl, sym, ap, ◌∙◌, subst, arith, length-append, IsTrue, inl, inr, replicate}
+use Rattle.std.specs.Prelude.{All, Some, slice_get, slice_index_or}
 use Rattle.std.proofs.Math.ListN.{set}
-use Rattle.std.proofs.lemmas.Bool.{and_parts, cases_Bool, cases_eq, eqb-true, and_from, eq-eqb}
+use Rattle.std.proofs.lemmas.Bool.{cases_eq, false_from_ne_true}
 use Rattle.std.proofs.lemmas.List.{get_or-set_other, get_or-set_same, get_or_append_left, get_or_default, get_or-replicate, length-replicate, take_all, length-set, length-take-le, take-append-le}
 use Rattle.std.proofs.lemmas.Option.{get_or_from_slice_get, slice_get-get_or, slice_get_within}
 use Rattle.auction_terms.specs.Terms.{Terms}
@@ -20,7 +20,7 @@ use Rattle.bid_desk.specs.declared.slots.Slot.{Slot}
 use Rattle.bid_desk.specs.Holding.{ChairOwn, IsCallerOf, IsEntryOf, SessionOwn, caller_of}
 use Rattle.bid_desk.specs.Sessions.{IsSessionOf}
 use Rattle.bid_desk.specs.Settlement.{AgreesAt, DiffersAt, IsFirstDifference, OwnIs, StandOnce, is_named, times_session}
-use Rattle.bid_desk.specs.inside.Slots.{AreSlots, slot_at, slot_of}
+use Rattle.bid_desk.specs.inside.Slots.{AreSlots, empty_slot, slot_at, slot_of}
 use Rattle.bid_desk.specs.inside.Comparing.{AreCompared, IsCompared, IsWithin}
 use Rattle.bid_desk.proofs.SettleLemmas.{first_here, own_pairs_more, own_pairs_other, take_next}
 use Rattle.bid_desk.proofs.SlotLemmas.{named-is, slot-within}
@@ -55,6 +55,47 @@ module _ {X : Type 0} (theirs own : List X) (x : X) where
       let long : length theirs ≡ pairs = ap length are ∙ length-take-le pairs own few in
       (first_here (theirs ++ x ∷ []) own pairs x [] (ap (λ w. w ++ x ∷ []) are) few other, omega (arith, length-append theirs (x ∷ [])))
 
+-- where each session stands once, its slot leads to it
+module _ (t : Terms) (sessions : List SessionOwn) (slots : List Slot) (are : AreSlots t sessions (length sessions) slots) (once : StandOnce t sessions) (b s : ℕ) (known : IsSessionOf t b s) where
+  slot-once : (slot_at slots b s).times ≡ 1
+  slot-once = are.times_are b s known ∙ ap (times_session b s) (take_all (length sessions) sessions (omega arith)) ∙ once.each b s known
+
+  pub slot-small : slot_of b s < length slots
+  slot-small = omega (arith, slot-within b s (length t.bidders) known.bidder_least known.bidder_most known.session_least (are.most b s known), are.size)
+
+  pub slot-leads : (slot : ℕ) → slot ≡ slot_of b s → (slice_index_or slots slot empty_slot).place < length sessions
+  slot-leads slot is = subst (λ m. (slice_index_or slots m empty_slot).place < length sessions) (sym is) (are.within b s known (let one = slot-once in omega arith))
+
+  -- the session to which it leads
+  module _ (place : ℕ) (x : SessionOwn) (place_is : place ≡ (slot_at slots b s).place) (here : slice_index_or sessions place x ≡ x) where
+    session-named : is_named b s x ≡ true
+    session-named =
+        let one = slot-once in
+        subst (λ (y : SessionOwn). IsTrue (is_named b s y)) here (subst (λ m. IsTrue (is_named b s (slice_index_or sessions m x))) (sym place_is) (are.named b s x known (omega arith)))
+
+    session-inside : place < length sessions
+    session-inside = (let leads = slot-leads (slot_of b s) refl in omega arith)
+
+    -- it is the only one of its name
+    session-place : (k : ℕ) (d : SessionOwn) → k < length sessions → is_named b s (slice_index_or sessions k d) ≡ true → k ≡ place
+    session-place k d small named =
+        let is = named-is b s (slice_index_or sessions k d) named in
+        let slot_is : slot_at slots (slice_index_or sessions k d).bidder (slice_index_or sessions k d).session ≡ slot_at slots b s = λ i. slot_at slots (is.0 i) (is.1 i) in
+        sym (are.found k d small (ap (λ (z : Slot). z.times) slot_is ∙ slot-once)) ∙ ap (λ (z : Slot). z.place) slot_is ∙ sym place_is
+
+    module _ (h : List (Entry Offers)) where
+      -- it differs from the history
+      pub session-differs : (n : ℕ) → IsFirstDifference (own_pairs h (caller_of x)) x.pairs n → DiffersAt h sessions b s n
+      session-differs n differs =
+          let is = named-is b s x session-named in
+          (place, x, session-inside, here, (session-named, subst (λ (c : Caller). IsFirstDifference (own_pairs h c) x.pairs n) (λ i. Session (is.0 i) (is.1 i)) differs))
+
+      -- it agrees with the history
+      pub session-agrees : own_pairs h (caller_of x) ≡ x.pairs → AgreesAt h sessions b s
+      session-agrees own k d small named =
+          let only = get_or_default sessions k d x small ∙ ap (λ m. slice_index_or sessions m x) (session-place k d small named) ∙ here in
+          subst (OwnIs h) (sym only) own
+
 -- an entry of a session is compared with the list of that session
 module _ (t : Terms) (sessions : List SessionOwn) (chair : ChairOwn) (slots : List Slot) (h : List (Entry Offers)) (i : ℕ) (e : Entry Offers) (old new : Comparisons)
     (at : slice_get h i ≡ Some e) (was : AreCompared (take i h) sessions chair old) where
@@ -64,11 +105,9 @@ module _ (t : Terms) (sessions : List SessionOwn) (chair : ChairOwn) (slots : Li
       → new.sessions.items ≡ set old.sessions.items place o → new.chair ≡ old.chair
       → AreCompared (take (i + 1) h) sessions chair new
   compared-session b s place x o are once caller known place_is here compared written kept =
-      let one : (slot_at slots b s).times ≡ 1 = are.times_are b s known ∙ ap (times_session b s) (take_all (length sessions) sessions (omega arith)) ∙ once.each b s known in
-      let some : 1 ≤ (slot_at slots b s).times = omega arith in
-      let inside : place < length sessions = (let within = are.within b s known some in omega arith) in
-      let written_inside : place < length old.sessions.items = (let size = was.size in omega arith) in
-      let named : is_named b s x ≡ true = subst (λ (y : SessionOwn). IsTrue (is_named b s y)) here (subst (λ m. IsTrue (is_named b s (slice_index_or sessions m x))) (sym place_is) (are.named b s x known some)) in
+      let inside = session-inside t sessions slots are once b s known place x place_is here in
+      let written_inside : place < length old.sessions.items = omega (arith, was.size) in
+      let named = session-named t sessions slots are once b s known place x place_is here in
       let own : own_pairs (take (i + 1) h) (caller_of x) ≡ own_pairs (take i h) (caller_of x) ++ (e.call, e.reply) ∷ [] =
       own_pairs_more (caller_of x) h i e at (ap (is_same_caller (caller_of x)) caller ∙ named) in
       record {
@@ -82,16 +121,7 @@ module _ (t : Terms) (sessions : List SessionOwn) (chair : ChairOwn) (slots : Li
                   (subst (λ (p : Comparison). IsCompared (own_pairs (take (i + 1) h) (caller_of x)) x.pairs p) (sym q_is) (subst (λ w. IsCompared w x.pairs o) (sym own) compared))
               | inr other ↦
                   let q_is : slice_index_or old.sessions.items k q ≡ q = sym (get_or-set_other old.sessions.items place k o q other) ∙ sym (ap (λ w. slice_index_or w k q) written) ∙ is_q in
-                  let unnamed : is_named b s y ≡ false =
-                  elim (cases_Bool (is_named b s y)) [
-                    | inl y_named ↦
-                        let y_is = named-is b s y y_named in
-                        let slot_is : slot_at slots (slice_index_or sessions k y).bidder (slice_index_or sessions k y).session ≡ slot_at slots b s =
-                        ap (λ (z : SessionOwn). slot_at slots z.bidder z.session) is_y ∙ (λ j. slot_at slots (y_is.0 j) (y_is.1 j)) in
-                        let found = are.found k y small (ap (λ (z : Slot). z.times) slot_is ∙ one) in
-                        absurd (other (sym found ∙ ap (λ (z : Slot). z.place) slot_is ∙ sym place_is))
-                    | inr y_unnamed ↦ y_unnamed
-                  ] in
+                  let unnamed = false_from_ne_true (is_named b s y) (λ named. other (session-place t sessions slots are once b s known place x place_is here k y small (ap (is_named b s) is_y ∙ named))) in
                   subst (λ w. IsCompared w y.pairs q) (sym (own_pairs_other (caller_of y) h i e at (ap (is_same_caller (caller_of y)) caller ∙ unnamed))) (was.each k y q small is_y q_is)
             ];
         chair_is = subst (λ (p : Comparison). IsCompared (own_pairs (take (i + 1) h) Chair) chair.pairs p) (sym kept)
@@ -115,17 +145,6 @@ entry-known t h entries i e at b s caller =
     let entry : IsEntryOf t e = subst (IsEntryOf t) (get_or_from_slice_get h i e e at) (entries i e (slice_get_within h i e at)) in
     subst (λ (c : Caller). IsCallerOf t c) caller entry.caller
 
--- where each session stands once, its slot leads to it
-module _ (t : Terms) (sessions : List SessionOwn) (slots : List Slot) (are : AreSlots t sessions (length sessions) slots) (once : StandOnce t sessions) (b s : ℕ) (known : IsSessionOf t b s) where
-  pub slot-once : (slot_at slots b s).times ≡ 1
-  slot-once = are.times_are b s known ∙ ap (times_session b s) (take_all (length sessions) sessions (omega arith)) ∙ once.each b s known
-
-  pub slot-small : slot_of b s < length slots
-  slot-small = (let small = slot-within b s (length t.bidders) known.bidder_least known.bidder_most known.session_least (are.most b s known) in let size = are.size in omega arith)
-
-  pub slot-leads : (slot_at slots b s).place < length sessions
-  slot-leads = are.within b s known (let one = slot-once in omega arith)
-
 -- a comparison that is kept stays within the caller's own list
 pub compared-within : {X : Type 0} (theirs own : List X) (c : Comparison) → IsCompared theirs own c → IsWithin (length own) c
 compared-within theirs own (Agrees pairs) (few, are) = few
@@ -145,33 +164,3 @@ compared-start sessions chair c items start = record {
       (compared-nothing (caller_of x) x.pairs);
   chair_is = subst (λ (p : Comparison). IsCompared (own_pairs [] Chair) chair.pairs p) (sym start) (compared-nothing Chair chair.pairs);
 }
-
--- the session to which a slot leads, where each stands once
-module _ (t : Terms) (sessions : List SessionOwn) (slots : List Slot) (are : AreSlots t sessions (length sessions) slots) (once : StandOnce t sessions) (b s : ℕ) (known : IsSessionOf t b s)
-    (place : ℕ) (x : SessionOwn) (place_is : place ≡ (slot_at slots b s).place) (here : slice_index_or sessions place x ≡ x) (h : List (Entry Offers)) where
-  session-named : is_named b s x ≡ true
-  session-named =
-      let one = slot-once t sessions slots are once b s known in
-      subst (λ (y : SessionOwn). IsTrue (is_named b s y)) here (subst (λ m. IsTrue (is_named b s (slice_index_or sessions m x))) (sym place_is) (are.named b s x known (omega arith)))
-
-  session-caller : caller_of x ≡ Session b s
-  session-caller = (let is = named-is b s x session-named in λ i. Session (is.0 i) (is.1 i))
-
-  -- it differs from the history
-  pub session-differs : (n : ℕ) → IsFirstDifference (own_pairs h (caller_of x)) x.pairs n → DiffersAt h sessions b s n
-  session-differs n differs =
-      let leads = slot-leads t sessions slots are once b s known in
-      (place, x, omega arith, here, (session-named, subst (λ (c : Caller). IsFirstDifference (own_pairs h c) x.pairs n) session-caller differs))
-
-  -- it is the only one of its name
-  session-only : (k : ℕ) (d : SessionOwn) → k < length sessions → is_named b s (slice_index_or sessions k d) ≡ true → slice_index_or sessions k d ≡ x
-  session-only k d small named =
-      let is = named-is b s (slice_index_or sessions k d) named in
-      let slot_is : slot_at slots (slice_index_or sessions k d).bidder (slice_index_or sessions k d).session ≡ slot_at slots b s = λ i. slot_at slots (is.0 i) (is.1 i) in
-      let found = are.found k d small (ap (λ (z : Slot). z.times) slot_is ∙ slot-once t sessions slots are once b s known) in
-      let at : k ≡ place = sym found ∙ ap (λ (z : Slot). z.place) slot_is ∙ sym place_is in
-      get_or_default sessions k d x small ∙ ap (λ m. slice_index_or sessions m x) at ∙ here
-
-  -- it agrees with the history
-  pub session-agrees : own_pairs h (caller_of x) ≡ x.pairs → AgreesAt h sessions b s
-  session-agrees own k d small named = subst (OwnIs h) (sym (session-only k d small named)) own

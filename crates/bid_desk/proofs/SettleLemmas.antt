@@ -1,12 +1,10 @@
 -- A caller's own list against the history.
-use Rattle.std.proofs.Common.{◌≡◌, ◌≢◌, ℕ, ◌+◌, ◌-◌, ◌<◌, ◌≤◌, List, [], ◌∷◌, ◌++◌, Bool, true, false, cond, map, length, take, drop, get_or, refl, sym, ap, ◌∙◌, subst, arith, append-nil, length-append}
-use Rattle.std.specs.Prelude.{filter, slice_get, slice_index_or, All, ◌==◌, Some, None, Option}
-use Rattle.std.proofs.lemmas.List.{map-append, take_more, drop_more, take-append-drop, take_at, take_all, length-take-le, get_or_at}
-use Rattle.std.proofs.lemmas.Option.{slice_get_past, slice_get_within, get_or_from_slice_get, slice_get-get_or}
+use Rattle.std.proofs.Common.{◌≡◌, ◌≢◌, ℕ, ◌+◌, ◌-◌, ◌≤◌, List, [], ◌∷◌, ◌++◌, true, false, cond, map, length, take, refl, sym, ap, ◌∙◌, subst, arith, append-nil, length-append}
+use Rattle.std.specs.Prelude.{filter, slice_get, slice_index_or, All, ◌==◌, Some}
+use Rattle.std.proofs.lemmas.List.{map-append, take_more, take_at, length-take-le, get_or_at}
+use Rattle.std.proofs.lemmas.Option.{slice_get_within, get_or_from_slice_get, slice_get-get_or}
 use Rattle.std.proofs.lemmas.List.Elements.{filter-append}
 use Rattle.bid_book.specs.declared.caller.Caller.{Caller}
-use Rattle.bid_book.specs.declared.call.Call.{Call}
-use Rattle.bid_book.specs.declared.reply.Reply.{Reply}
 use Rattle.bid_book.specs.declared.entry.Entry.{Entry}
 use Rattle.bid_book.specs.History.{is_same_caller, own_pairs}
 use Rattle.bid_desk.specs.Holding.{SessionOwn, IsEntryOf, IsCallerOf}
@@ -16,9 +14,6 @@ use Rattle.auction_terms.specs.Terms.{Terms}
 use Rattle.bid_desk.specs.Sessions.{IsSessionOf}
 use Rattle.std.proofs.lemmas.Bool.{and_from, eq-eqb}
 
-back : (n : ℕ) → n + 1 - 1 ≡ n
-back n = omega arith
-
 module _ {X : Type 0} where
   slice_get_at : (p : List X) (x : X) (q : List X) (n : ℕ) → length p ≡ n → slice_get (p ++ x ∷ q) n ≡ Some x
   slice_get_at p x q n l = slice_get-get_or (p ++ x ∷ q) n x (omega (arith, length-append p (x ∷ q))) ∙ ap Some (get_or_at p x q x n l)
@@ -26,38 +21,16 @@ module _ {X : Type 0} where
   pub take_next : (ys : List X) (n : ℕ) (x : X) → slice_get ys n ≡ Some x → take (n + 1) ys ≡ take n ys ++ x ∷ []
   take_next ys n x at = take_more ys n x (slice_get_within ys n x at) ∙ ap (λ y. take n ys ++ y ∷ []) (get_or_from_slice_get ys n x x at)
 
-  drop_next : (ys : List X) (n : ℕ) (x : X) → slice_get ys n ≡ Some x → drop n ys ≡ x ∷ drop (n + 1) ys
-  drop_next ys n x at = drop_more ys n x (slice_get_within ys n x at) ∙ ap (λ y. y ∷ drop (n + 1) ys) (get_or_from_slice_get ys n x x at)
-
   -- the lists agree up to a place, and one has another item there
   pub first_here : (xs ys : List X) (n : ℕ) (x : X) (rest : List X) → xs ≡ take n ys ++ x ∷ rest → n ≤ length ys → slice_get ys n ≢ Some x → IsFirstDifference xs ys (n + 1)
   first_here xs ys n x rest is l other =
+      let back : n + 1 - 1 ≡ n = omega arith in
       let long : length (take n ys) ≡ n = length-take-le n ys l in
-      let here : slice_get xs n ≡ Some x = ap (λ w. slice_get w n) is ∙ slice_get_at (take n ys) x rest n long in
-      let same : take n xs ≡ take n ys = ap (take n) is ∙ take_at (take n ys) (x ∷ rest) n long in
+      let here = ap (λ w. slice_get w n) is ∙ slice_get_at (take n ys) x rest n long in
       record {
         least = omega arith;
-        same = subst (λ m. take m xs ≡ take m ys) (sym (back n)) same;
-        differs = subst (λ m. slice_get xs m ≢ slice_get ys m) (sym (back n)) (λ e. other (sym e ∙ here));
-      }
-
-  none_some : (ys : List X) (n : ℕ) → n < length ys → None ≢ slice_get ys n
-  none_some [] n l e = absurd (omega arith)
-  none_some (y ∷ ys) n l e = go (get_or (y ∷ ys) n y) (e ∙ slice_get-get_or (y ∷ ys) n y l)
-    where
-      go : (x : X) → None ≢ Some x
-      go x f = cc
-
-  -- the first list has ended
-  pub first_end : (xs ys : List X) (n : ℕ) → xs ≡ take n ys → n < length ys → IsFirstDifference xs ys (n + 1)
-  first_end xs ys n is l =
-      let long : length (take n ys) ≡ n = length-take-le n ys (omega arith) in
-      let none : slice_get xs n ≡ None = ap (λ w. slice_get w n) is ∙ slice_get_past (take n ys) n (omega arith) in
-      let same : take n xs ≡ take n ys = ap (take n) is ∙ take_all n (take n ys) (omega arith) in
-      record {
-        least = omega arith;
-        same = subst (λ m. take m xs ≡ take m ys) (sym (back n)) same;
-        differs = subst (λ m. slice_get xs m ≢ slice_get ys m) (sym (back n)) (λ e. none_some ys n l (sym none ∙ e));
+        same = subst (λ m. take m xs ≡ take m ys) (sym back) (ap (take n) is ∙ take_at (take n ys) (x ∷ rest) n long);
+        differs = subst (λ m. slice_get xs m ≢ slice_get ys m) (sym back) (λ e. other (sym e ∙ here));
       }
 
 module _ {F : Type 0} (c : Caller) where
@@ -78,11 +51,6 @@ module _ {F : Type 0} (c : Caller) where
   pub own_pairs_other : (h : List (Entry F)) (i : ℕ) (e : Entry F) → slice_get h i ≡ Some e → is_same_caller c e.caller ≡ false → own_pairs (take (i + 1) h) c ≡ own_pairs (take i h) c
   unfolding own_pairs
   own_pairs_other h i e at is = ap (λ w. own_pairs w c) (take_next h i e at) ∙ own_pairs-append (take i h) (e ∷ []) ∙ ap (λ t. own_pairs (take i h) c ++ map (λ (x : Entry F). (x.call, x.reply)) (cond t (e ∷ []) [])) is ∙ append-nil (own_pairs (take i h) c)
-
-  pub own_pairs_at : (h : List (Entry F)) (i : ℕ) (e : Entry F) → slice_get h i ≡ Some e → is_same_caller c e.caller ≡ true → own_pairs h c ≡ own_pairs (take i h) c ++ (e.call, e.reply) ∷ own_pairs (drop (i + 1) h) c
-  own_pairs_at h i e at is =
-      ap (λ w. own_pairs w c) (sym (take-append-drop i h)) ∙ own_pairs-append (take i h) (drop i h)
-      ∙ ap (λ w. own_pairs (take i h) c ++ w) (ap (λ w. own_pairs w c) (drop_next h i e at) ∙ own_pairs-cons e (drop (i + 1) h) is)
 
 -- a list agrees with the history where it agrees under the name of each of its sessions
 pub own_from_agrees : (t : Terms) (history : List (Entry Offers)) (sessions : List SessionOwn) → All (λ (x : SessionOwn). IsSessionOf t x.bidder x.session) sessions

@@ -1,5 +1,4 @@
-use Rattle.std.proofs.Common.{ap, refl, ◌∙◌, replicate}
-use Rattle.bid_desk.specs.declared.comparing.Comparison.TheVariants.{Agrees}
+use Rattle.std.proofs.Common.{refl}
 use Rattle.bid_desk.proofs.CompareLemmas.{compared-start}
 use Rattle.bid_desk.proofs.comparing.compare.Goals as goal
 

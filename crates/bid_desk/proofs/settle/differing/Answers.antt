@@ -1,20 +1,19 @@
-use Rattle.std.proofs.Common.{rules, ℕ, ◌≡◌, ◌+◌, ◌*◌, ◌<◌, ◌≤◌, List, length, map, ap, sym, ◌∙◌, subst, arith, ◌⊎◌, inl, inr}
+use Rattle.std.proofs.Common.{rules, ◌≡◌, ◌<◌, List, map, ap, sym, ◌∙◌, subst, arith, inl, inr}
 use Rattle.std.specs.Prelude.{slice_index_or}
 use Rattle.std.proofs.lemmas.Bool.{cases_lt}
 use Rattle.auction_terms.specs.Terms.{Terms}
 use Rattle.bid_forms.specs.Offers.{Offers}
 use Rattle.bid_book.specs.declared.call.Call.{Call}
-use Rattle.bid_book.specs.declared.caller.Caller.TheVariants.{Session, Chair}
+use Rattle.bid_book.specs.declared.caller.Caller.TheVariants.{Chair}
 use Rattle.bid_book.specs.declared.reply.Reply.{Reply}
 use Rattle.bid_book.specs.History.{entry_value, own_pairs}
-use Rattle.bid_desk.specs.declared.comparing.Comparison.{Comparison}
 use Rattle.bid_desk.specs.inside.Comparing.{IsCompared}
 use Rattle.bid_desk.specs.Holding.{caller_of}
 use Rattle.bid_desk.specs.Sessions.{IsSessionOf}
 use Rattle.bid_desk.specs.Settlement.{AgreesAt, IsFirstDifference}
-use Rattle.bid_desk.specs.inside.Slots.{empty_slot, slot_at, slot_of}
-use Rattle.bid_desk.proofs.CompareLemmas.{session-agrees, session-differs, slot-leads}
-use Rattle.bid_desk.proofs.SlotLemmas.{slot-before, slot-same, slot-within}
+use Rattle.bid_desk.specs.inside.Slots.{empty_slot, slot_of}
+use Rattle.bid_desk.proofs.CompareLemmas.{session-agrees, session-differs, slot-leads, slot-small}
+use Rattle.bid_desk.proofs.SlotLemmas.{slot-before, slot-same}
 use Rattle.bid_desk.proofs.settle.differing.Goals.{in-Some+in_default-difference, in_default}
 use Rattle.bid_desk.proofs.settle.differing.Goals as goal
 
@@ -22,25 +21,17 @@ pub index-comparison-requires : goal.index-comparison-requires
 index-comparison-requires g c =
     let (of_rules, is) = c.in-Some.ensures.some in
     let known = subst (λ (t : Terms). IsSessionOf t c.in-Some.bidder c.in-Some.session) c.requires.rules of_rules in
-    let leads = slot-leads g.L.Round.rules c.args.sessions.now c.args.slots.now c.requires.slots c.requires.once c.in-Some.bidder c.in-Some.session known in
-    let place = ap (λ m. (slice_index_or c.args.slots.now m empty_slot).place) is in
-    omega (arith, leads, place, c.in_ok-comparisons.ensures.size)
+    omega (arith, slot-leads _ _ _ c.requires.slots c.requires.once _ _ known _ (sym is), c.in_ok-comparisons.ensures.size)
 
 pub bounds-sessions-at : goal.bounds-sessions-at
 bounds-sessions-at g c =
     let (of_rules, is) = c.in-Some.ensures.some in
-    let known = subst (λ (t : Terms). IsSessionOf t c.in-Some.bidder c.in-Some.session) c.requires.rules of_rules in
-    let leads = slot-leads g.L.Round.rules c.args.sessions.now c.args.slots.now c.requires.slots c.requires.once c.in-Some.bidder c.in-Some.session known in
-    let place = ap (λ m. (slice_index_or c.args.slots.now m empty_slot).place) is in
-    omega (arith, leads, place)
+    slot-leads _ _ _ c.requires.slots c.requires.once _ _ (subst (λ (t : Terms). IsSessionOf t c.in-Some.bidder c.in-Some.session) c.requires.rules of_rules) _ (sym is)
 
 pub offset_bounds-sessions-at : goal.offset_bounds-sessions-at
 offset_bounds-sessions-at g c =
     let (of_rules, is) = c.in-Some.ensures.some in
-    let known = subst (λ (t : Terms). IsSessionOf t c.in-Some.bidder c.in-Some.session) c.requires.rules of_rules in
-    let leads = slot-leads g.L.Round.rules c.args.sessions.now c.args.slots.now c.requires.slots c.requires.once c.in-Some.bidder c.in-Some.session known in
-    let place = ap (λ m. (slice_index_or c.args.slots.now m empty_slot).place) is in
-    let small : (slice_index_or c.args.slots.now c.loop-slot.slot empty_slot).place < length c.args.sessions.now = omega (arith, leads, place) in
+    let small = slot-leads _ _ _ c.requires.slots c.requires.once _ _ (subst (λ (t : Terms). IsSessionOf t c.in-Some.bidder c.in-Some.session) c.requires.rules of_rules) _ (sym is) in
     search rules
 
 pub returns-in-Some-difference-clause-differs : goal.returns-in-Some-difference-clause-differs
@@ -53,17 +44,15 @@ returns-in-Some-difference-clause-differs g c =
     let h = map entry_value c.args.history.now in
     let x = c.index-sessions-at.result in
     let o = c.index-comparison.result.now in
-    let at = (slice_index_or slots c.loop-slot.slot empty_slot).place in
+    let theirs = own_pairs h (caller_of x) in
     let (of_rules, is) = c.in-Some.ensures.some in
     let known = subst (λ (t : Terms). IsSessionOf t b s) c.requires.rules of_rules in
-    let place : at ≡ (slot_at slots b s).place = ap (λ m. (slice_index_or slots m empty_slot).place) (sym is) in
-    let leads = slot-leads t sessions slots c.requires.slots c.requires.once b s known in
-    let compared = c.in_ok-comparisons.ensures.each at x o (omega (arith, leads, place)) (sym c.index-sessions-at.is) (sym c.index-comparison.ensures) in
-    let differs = c.in-Some-difference.ensures.differs (own_pairs h (caller_of x)) (subst (λ (w : List (Call Offers × Reply Offers)). IsCompared (own_pairs h (caller_of x)) w o) (sym c.own.ensures.pairs) compared) in
+    let compared = c.in_ok-comparisons.ensures.each _ x o (slot-leads t sessions slots c.requires.slots c.requires.once b s known _ (sym is)) (sym c.index-sessions-at.is) (sym c.index-comparison.ensures) in
+    let differs = c.in-Some-difference.ensures.differs theirs (subst (λ (w : List (Call Offers × Reply Offers)). IsCompared theirs w o) (sym c.own.ensures.pairs) compared) in
     record {
       known = known;
-      differs = session-differs t sessions slots c.requires.slots c.requires.once b s known at x place (sym c.index-sessions-at.is) h c.in-Some-difference.place
-          (subst (λ (w : List (Call Offers × Reply Offers)). IsFirstDifference (own_pairs h (caller_of x)) w c.in-Some-difference.place) c.own.ensures.pairs differs);
+      differs = session-differs t sessions slots c.requires.slots c.requires.once b s known _ x (ap (λ m. (slice_index_or slots m empty_slot).place) (sym is)) (sym c.index-sessions-at.is) h c.in-Some-difference.place
+          (subst (λ (w : List (Call Offers × Reply Offers)). IsFirstDifference theirs w c.in-Some-difference.place) c.own.ensures.pairs differs);
       first = λ d u earlier before. c.loop-slot.invariant d u earlier (subst (λ m. slot_of d u < m) is (slot-before d u b s earlier.bidder_least earlier.session_least (c.requires.slots.most d u earlier) known.session_least before));
     }
 
@@ -83,14 +72,12 @@ loop-slot-preserved g c d u of_rules less =
                 let s = w.in-Some.session in
                 let x = w.index-sessions-at.result in
                 let o = w.index-comparison.result.now in
-                let at = (slice_index_or slots c.loop-slot.slot empty_slot).place in
+                let theirs = own_pairs h (caller_of x) in
                 let (named, is) = w.in-Some.ensures.some in
                 let known = subst (λ (t : Terms). IsSessionOf t b s) c.requires.rules named in
-                let place : at ≡ (slot_at slots b s).place = ap (λ m. (slice_index_or slots m empty_slot).place) (sym is) in
-                let leads = slot-leads t sessions slots c.requires.slots c.requires.once b s known in
-                let compared = c.in_ok-comparisons.ensures.each at x o (omega (arith, leads, place)) (sym w.index-sessions-at.is) (sym w.index-comparison.ensures) in
-                let own = w.in_default-difference.ensures.same (own_pairs h (caller_of x)) (subst (λ (v : List (Call Offers × Reply Offers)). IsCompared (own_pairs h (caller_of x)) v o) (sym w.own.ensures.pairs) compared) in
-                let agrees = session-agrees t sessions slots c.requires.slots c.requires.once b s known at x place (sym w.index-sessions-at.is) h (own ∙ w.own.ensures.pairs) in
+                let compared = c.in_ok-comparisons.ensures.each _ x o (slot-leads t sessions slots c.requires.slots c.requires.once b s known _ (sym is)) (sym w.index-sessions-at.is) (sym w.index-comparison.ensures) in
+                let own = w.in_default-difference.ensures.same theirs (subst (λ (v : List (Call Offers × Reply Offers)). IsCompared theirs v o) (sym w.own.ensures.pairs) compared) in
+                let agrees = session-agrees t sessions slots c.requires.slots c.requires.once b s known _ x (ap (λ m. (slice_index_or slots m empty_slot).place) (sym is)) (sym w.index-sessions-at.is) h (own ∙ w.own.ensures.pairs) in
                 let one = slot-same b s d u known.bidder_least known.session_least (c.requires.slots.most b s known) of_rules.bidder_least of_rules.session_least (c.requires.slots.most d u of_rules) (is ∙ sym same) in
                 subst (λ m. AgreesAt h sessions m u) one.0 (subst (λ m. AgreesAt h sessions b m) one.1 agrees)
             | in_default w ↦ absurd (w.in_default.ensures.none d u (subst (λ (t : Terms). IsSessionOf t d u) (sym c.requires.rules) of_rules) same)
@@ -99,26 +86,18 @@ loop-slot-preserved g c d u of_rules less =
 
 pub returns-in-Some-difference-2-clause-differs : goal.returns-in-Some-difference-2-clause-differs
 returns-in-Some-difference-2-clause-differs g c =
-    let h = map entry_value c.args.history.now in
-    let t = g.L.Round.rules in
-    let compared = subst (λ (w : List (Call Offers × Reply Offers)). IsCompared (own_pairs h Chair) w c.in_ok-comparisons.comparisons.chair) (sym c.own-2.ensures.pairs) c.in_ok-comparisons.ensures.chair_is in (
-      record {
-        each = λ b s known. c.loop-slot.invariant b s known
-            (let within = slot-within b s (length t.bidders) known.bidder_least known.bidder_most known.session_least (c.requires.slots.most b s known) in omega (arith, within, c.requires.slots.size, c.loop-slot-test.false));
-      },
-      subst (λ (w : List (Call Offers × Reply Offers)). IsFirstDifference (own_pairs h Chair) w c.in-Some-difference-2.place) c.own-2.ensures.pairs (c.in-Some-difference-2.ensures.differs (own_pairs h Chair) compared),
+    let theirs = own_pairs (map entry_value c.args.history.now) Chair in
+    let compared = subst (λ (w : List (Call Offers × Reply Offers)). IsCompared theirs w c.in_ok-comparisons.comparisons.chair) (sym c.own-2.ensures.pairs) c.in_ok-comparisons.ensures.chair_is in (
+      record { each = λ b s known. c.loop-slot.invariant b s known (omega (arith, slot-small _ _ _ c.requires.slots c.requires.once b s known, c.loop-slot-test.false)) },
+      subst (λ (w : List (Call Offers × Reply Offers)). IsFirstDifference theirs w c.in-Some-difference-2.place) c.own-2.ensures.pairs (c.in-Some-difference-2.ensures.differs theirs compared),
     )
 
 pub returns-clause-sessions : goal.returns-clause-sessions
 returns-clause-sessions g c =
-    let t = g.L.Round.rules in
-    record {
-      each = λ b s known. c.loop-slot.invariant b s known
-          (let within = slot-within b s (length t.bidders) known.bidder_least known.bidder_most known.session_least (c.requires.slots.most b s known) in omega (arith, within, c.requires.slots.size, c.loop-slot-test.false));
-    }
+    record { each = λ b s known. c.loop-slot.invariant b s known (omega (arith, slot-small _ _ _ c.requires.slots c.requires.once b s known, c.loop-slot-test.false)) }
 
 pub returns-clause-chair : goal.returns-clause-chair
 returns-clause-chair g c =
-    let h = map entry_value c.args.history.now in
-    let compared = subst (λ (w : List (Call Offers × Reply Offers)). IsCompared (own_pairs h Chair) w c.in_ok-comparisons.comparisons.chair) (sym c.own-2.ensures.pairs) c.in_ok-comparisons.ensures.chair_is in
-    c.in-None.ensures.same (own_pairs h Chair) compared ∙ c.own-2.ensures.pairs
+    let theirs = own_pairs (map entry_value c.args.history.now) Chair in
+    let compared = subst (λ (w : List (Call Offers × Reply Offers)). IsCompared theirs w c.in_ok-comparisons.comparisons.chair) (sym c.own-2.ensures.pairs) c.in_ok-comparisons.ensures.chair_is in
+    c.in-None.ensures.same theirs compared ∙ c.own-2.ensures.pairs

@@ -1,7 +1,7 @@
-use Rattle.std.proofs.Common.{ℕ, ◌≡◌, ◌*◌, ◌<◌, ◌≤◌, length, ap, sym, ◌∙◌, subst, arith}
+use Rattle.std.proofs.Common.{◌<◌, length, ap, sym, ◌∙◌, subst, arith}
 use Rattle.std.specs.Prelude.{slice_index_or}
 use Rattle.bid_desk.proofs.SlotLemmas.{slot-before, slot-within}
-use Rattle.bid_desk.specs.inside.Slots.{empty_slot, slot_at, slot_of}
+use Rattle.bid_desk.specs.inside.Slots.{empty_slot, slot_of}
 use Rattle.bid_desk.proofs.slots.missing.Goals as goal
 
 pub returns-then-slots-place-ne1-clause-some : goal.returns-then-slots-place-ne1-clause-some

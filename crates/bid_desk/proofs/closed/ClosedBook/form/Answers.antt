@@ -1,11 +1,9 @@
-use Rattle.std.proofs.Common.{◌≡◌, [], List, ap, sym, ◌∙◌, subst}
-use Rattle.std.specs.Prelude.{IfSome, Option, Some, None}
+use Rattle.std.proofs.Common.{ap, sym, ◌∙◌, subst}
+use Rattle.std.specs.Prelude.{IfSome, Option}
 use Rattle.std.specs.Option.{option_map}
-use Rattle.auction_terms.specs.Allocations.{form_of}
 use Rattle.bid_forms.specs.Offers.{Offers, Meets}
 use Rattle.bid_book.specs.declared.standing.Standing.{Standing}
-use Rattle.bid_book.specs.History.{standing_of}
-use Rattle.bid_desk.specs.Closing.{bids_in, book_of, closing}
+use Rattle.bid_desk.specs.Closing.{bids_in, closing}
 use Rattle.bid_desk.proofs.ClosingLemmas.{form_of-book_of, standing_of-meets}
 use Rattle.bid_desk.proofs.closed.ClosedBook.form.Goals as goal
 

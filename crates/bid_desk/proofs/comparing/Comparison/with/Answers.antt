@@ -1,4 +1,4 @@
-use Rattle.std.proofs.Common.{◌≡◌, sym, ◌∙◌, map}
+use Rattle.std.proofs.Common.{map}
 use Rattle.std.proofs.lemmas.Bool.{both_ways}
 use Rattle.bid_book.specs.History.{call_value, reply_value}
 use Rattle.bid_desk.specs.Holding.{pair_value}
