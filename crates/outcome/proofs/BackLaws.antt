@@ -7,7 +7,7 @@ use Rattle.std.proofs.lemmas.Bool.{and_parts}
 use Rattle.std.proofs.lemmas.Bool.Decides.{nat_tests}
 use Rattle.std.proofs.lemmas.List.{append-nil}
 use Rattle.std.proofs.lemmas.List.Sums.{sum_by-append, length-filter}
-use Rattle.std.proofs.lemmas.List.Elements.{recursion_from_All, All-from_recursion}
+use Rattle.std.proofs.lemmas.List.Elements.{recursion_from_All, All-from_recursion, filter_passes}
 use Rattle.auction_terms.specs.declared.choices.Choice.{Choice}
 use Rattle.auction_limits.specs.declared.limits.TheConstants.{MOST_BIDDERS, MOST_BIDS}
 use Rattle.auction_terms.specs.Allocations.{Book, amount_of, quantity_of, loads, is_eligible}
@@ -95,13 +95,9 @@ all_by_bidder P (b ∷ bidders) choices h =
 
 -- ---- rising bidders
 
-always : (choices : List Choice) → AllByRecursion (λ c. Unit {0}) choices
-always [] = tt
-always (c ∷ choices) = (tt, always choices)
-
 of_one : (s : ℕ) (choices : List Choice) → AllByRecursion (λ c. c.bidder ≡ s) (filter (λ c. c.bidder == s) choices)
-of_one s choices = all_agree (λ c. Unit {0} × ((c.bidder == s) ≡ true)) (λ c. c.bidder ≡ s) (filter (λ c. c.bidder == s) choices) (λ c e. eqb-true c.bidder s e.1)
-    (all_filter (λ c. Unit {0}) (λ c. c.bidder == s) choices (always choices))
+of_one s choices = all_agree (λ c. (c.bidder == s) ≡ true) (λ c. c.bidder ≡ s) (filter (λ c. c.bidder == s) choices) (λ c e. eqb-true c.bidder s e)
+    (recursion_from_All (λ c. (c.bidder == s) ≡ true) (filter (λ c. c.bidder == s) choices) (filter_passes (λ c. c.bidder == s) choices))
 
 from_on : (choices : List Choice) (s n : ℕ) → AllByRecursion (λ c. s ≤ c.bidder) (by_bidder (range_with_len s n) choices)
 from_on choices s zero = tt

@@ -1,7 +1,7 @@
 -- Worked solutions, which the definitions compute.
 use Rattle.std.proofs.Common.{arith}
 use Rattle.std.specs.Fmt.{digits}
-use Rattle.std.specs.Prelude.{◌≡◌, refl, ℕ, List, [], ◌∷◌, map, true, false, negsuc, Ok, Err, codes}
+use Rattle.std.specs.Prelude.{◌≡◌, ℕ, List, [], ◌∷◌, map, true, false, negsuc, Ok, Err, codes}
 use Rattle.program_rows.specs.Points.{objective}
 use Rattle.line_words.specs.Lines.{fields}
 use Rattle.program_rows.specs.Spelling.{column_bid}
@@ -45,18 +45,10 @@ values_of_tokens = grind arith
 
 -- ---- solutions against the program of three bidders
 
-won : solution three (codes "X1_1 0.999999\nX2_1 1\nX3_1 1\n") ≡ Ok winners
-unfolding solution fields first_fault is_near
-won = refl
-
-objective_won : objective three winners ≡ negsuc 61
-objective_won = refl
-
-comes_back : allocation_of three winners ≡ record { bidder = 1; bid = 1 } ∷ record { bidder = 2; bid = 1 } ∷ record { bidder = 3; bid = 1 } ∷ []
-unfolding column_bid digits
-comes_back = refl
-
 record SolutionsOfThree : Type 0 where
+  won : solution three (codes "X1_1 0.999999\nX2_1 1\nX3_1 1\n") ≡ Ok winners
+  objective_won : objective three winners ≡ negsuc 61
+  comes_back : allocation_of three winners ≡ record { bidder = 1; bid = 1 } ∷ record { bidder = 2; bid = 1 } ∷ record { bidder = 3; bid = 1 } ∷ []
   two_bids : solution three (codes "X1_1 1\nX1_2 1\n") ≡ Err (fault.RowBroken 0)
   not_zero_one : solution three (codes "X1_1 0.9\n") ≡ Err (fault.NotZeroOne 1)
   end_of_tolerance : solution three (codes "X1_1 0.99999\n") ≡ Ok (true ∷ false ∷ false ∷ false ∷ [])
@@ -71,7 +63,7 @@ record SolutionsOfThree : Type 0 where
   bound_broken : solution fixed [] ≡ Err (fault.BoundBroken 0)
 
 solutions_of_three : SolutionsOfThree
-unfolding solution fields first_fault is_near
+unfolding solution fields first_fault is_near column_bid digits
 solutions_of_three = grind arith
 
 -- ---- reports
@@ -129,57 +121,33 @@ alpha_and_gamma = record { bidder = 1; bid = 1 } ∷ record { bidder = 3; bid = 
 abbrev alpha_and_beta : List Choice
 alpha_and_beta = record { bidder = 1; bid = 1 } ∷ record { bidder = 2; bid = 1 } ∷ []
 
--- the fixed column has to be named
-constant_missing : solution (program (valued 40)) (codes "X3_1 1\n") ≡ Err (fault.BoundBroken 1)
-unfolding solution fields first_fault is_near digits
-constant_missing = refl
-
-constant_named : solution (program (valued 40)) (codes "X3_1 1\nK 1\n") ≡ Ok (true ∷ true ∷ [])
-unfolding solution fields first_fault is_near digits
-constant_named = refl
-
--- and wins nothing
-constant_wins_nothing : allocation_of (program (valued 40)) (true ∷ true ∷ []) ≡ gamma_wins
-unfolding column_bid digits
-constant_wins_nothing = refl
-
-nothing_won : allocation_of (program (valued 40)) (false ∷ true ∷ []) ≡ []
-unfolding column_bid digits
-nothing_won = refl
-
-record ReportsOfValuedLots : Type 0 where
+record ValuedLots : Type 0 where
+  -- the fixed column has to be named
+  constant_missing : solution (program (valued 40)) (codes "X3_1 1\n") ≡ Err (fault.BoundBroken 1)
+  constant_named : solution (program (valued 40)) (codes "X3_1 1\nK 1\n") ≡ Ok (true ∷ true ∷ [])
+  -- and wins nothing
+  constant_wins_nothing : allocation_of (program (valued 40)) (true ∷ true ∷ []) ≡ gamma_wins
+  nothing_won : allocation_of (program (valued 40)) (false ∷ true ∷ []) ≡ []
   valued_report : report_text (sale_of_lots (valued 40)) ([] ∷ (3 ∷ []) ∷ []) (gamma_wins ∷ [] ∷ [])
       ≡ codes "group 1 -\nGamma 1 12\ntotal 92\ncost 0\ngroup 2 Gamma\ntotal 80\ncost 0\n"
   one_is_left : allocation_text (sale_of_lots (valued 20)) alpha_and_gamma ≡ codes "Alpha 1 30\nGamma 1 12\ntotal 62\n"
   -- lots sold twice leave none, and no fewer
   too_many_sold : allocation_text (sale_of_lots (valued 20)) (record { bidder = 2; bid = 2 } ∷ []) ≡ codes "Beta 2 45\ntotal 45\n"
 
-reports_of_valued_lots : ReportsOfValuedLots
-unfolding digits
-reports_of_valued_lots = grind arith
+valued_lots : ValuedLots
+unfolding solution fields first_fault is_near column_bid digits
+valued_lots = grind arith
 
 -- ---- pools
 
-pool_broken : solution (program (pooled 2 1)) (codes "X1_1 0.999999\nX2_1 1\nX3_1 1\n") ≡ Err (fault.RowBroken 5)
+record Pools : Type 0 where
+  pool_broken : solution (program (pooled 2 1)) (codes "X1_1 0.999999\nX2_1 1\nX3_1 1\n") ≡ Err (fault.RowBroken 5)
+  row_of_the_pool : map (λ r. r.name) (program (pooled 2 1)).rows ≡ codes "B1" ∷ codes "B2" ∷ codes "B3" ∷ codes "C1" ∷ codes "C2" ∷ codes "P1" ∷ []
+  pool_met : solution (program (pooled 2 1)) (codes "X1_1 1\nX2_1 1\n") ≡ Ok (true ∷ true ∷ false ∷ [])
+  pooled_allocation : allocation_text (sale_of_lots (pooled 2 1)) alpha_and_beta ≡ codes "Alpha 1 30\nBeta 1 20\ntotal 50\n"
+  heavy_pool_broken : solution (program (pooled 3 2)) (codes "X1_1 1\nX2_1 1\n") ≡ Err (fault.RowBroken 5)
+  heavy_allocation : allocation_text (sale_of_lots (pooled 3 2)) alpha_and_gamma ≡ codes "Alpha 1 30\nGamma 1 12\ntotal 42\n"
+
+pools : Pools
 unfolding solution fields first_fault is_near digits
-pool_broken = refl
-
-row_of_the_pool : map (λ r. r.name) (program (pooled 2 1)).rows ≡ codes "B1" ∷ codes "B2" ∷ codes "B3" ∷ codes "C1" ∷ codes "C2" ∷ codes "P1" ∷ []
-unfolding digits
-row_of_the_pool = refl
-
-pool_met : solution (program (pooled 2 1)) (codes "X1_1 1\nX2_1 1\n") ≡ Ok (true ∷ true ∷ false ∷ [])
-unfolding solution fields first_fault is_near digits
-pool_met = refl
-
-pooled_allocation : allocation_text (sale_of_lots (pooled 2 1)) alpha_and_beta ≡ codes "Alpha 1 30\nBeta 1 20\ntotal 50\n"
-unfolding digits
-pooled_allocation = refl
-
-heavy_pool_broken : solution (program (pooled 3 2)) (codes "X1_1 1\nX2_1 1\n") ≡ Err (fault.RowBroken 5)
-unfolding solution fields first_fault is_near digits
-heavy_pool_broken = refl
-
-heavy_allocation : allocation_text (sale_of_lots (pooled 3 2)) alpha_and_gamma ≡ codes "Alpha 1 30\nGamma 1 12\ntotal 42\n"
-unfolding digits
-heavy_allocation = refl
+pools = grind arith

@@ -27,16 +27,12 @@ small-left [] q h = tt
 small-left (x ∷ p) [] h = (h.0, small-left p [] h.1)
 small-left (x ∷ p) (y ∷ q) h = ((let l = h.0 in omega arith), small-left p q h.1)
 
+-- as many small quantities as a package has
+package-of : (p r : List ℕ) → IsPackage p → length r ≡ length p → AllByRecursion (λ n. n ≤ GREATEST_QUANTITY) r → IsPackage r
+package-of p r h e small = record { some = rw e h.some; few = rw e h.few; each = All-from_recursion (λ n. n ≤ GREATEST_QUANTITY) r small }
+
 pub package-left : (p q : List ℕ) → IsPackage p → IsPackage (left p q)
-package-left p q h =
-    let e = left-length p q in
-    let some = h.some in
-    let few = h.few in
-    record {
-      some = omega arith;
-      few = omega arith;
-      each = All-from_recursion (λ n. n ≤ GREATEST_QUANTITY) (left p q) (small-left p q (recursion_from_All (λ n. n ≤ GREATEST_QUANTITY) p h.each));
-    }
+package-left p q h = package-of p (left p q) h (left-length p q) (small-left p q (recursion_from_All (λ n. n ≤ GREATEST_QUANTITY) p h.each))
 
 -- ---- two together
 
@@ -61,15 +57,7 @@ small-each (x ∷ q) h =
     (leb-true x GREATEST_QUANTITY e.0, small-each q e.1)
 
 pub package-both : (p q : List ℕ) → length p ≡ length q → IsPackage p → are_small (both_packages p q) ≡ true → IsPackage (both_packages p q)
-package-both p q same h small =
-    let e = both-length p q same in
-    let some = h.some in
-    let few = h.few in
-    record {
-      some = omega arith;
-      few = omega arith;
-      each = All-from_recursion (λ n. n ≤ GREATEST_QUANTITY) (both_packages p q) (small-each (both_packages p q) small);
-    }
+package-both p q same h small = package-of p (both_packages p q) h (both-length p q same) (small-each (both_packages p q) small)
 
 -- ---- what fits is small
 
