@@ -1,7 +1,7 @@
 -- A set of names that gets one name after the other.
 use Rattle.std.proofs.Common.{◌≡◌, ℕ, zero, suc, ◌+◌, Bool, false, ◌||◌, List, [], ◌∷◌, ◌++◌, Some, slice_get, take, refl, sym, ap, ap₂, ◌∙◌, add-one}
 use Rattle.std.specs.Prelude.{bytes_eq}
-use Rattle.std.specs.List.{AllByRecursion, IsDistinct, list_any}
+use Rattle.std.specs.List.{IsDistinct, list_any}
 use Rattle.std.proofs.lemmas.Bool.{both_ways, false_from_ne_true}
 use Rattle.std.proofs.lemmas.List.{map-append}
 use Rattle.std.proofs.lemmas.Map.Keys.{IsDistinct-head, IsDistinct-tail}
@@ -9,21 +9,17 @@ use Rattle.std.proofs.lemmas.Slice.Eq.{bytes_eq-Decides}
 use denote.Ref.{Bor}
 use Rattle.indexmap.specs.IndexSet.{insert_key}
 use Rattle.auction_terms.specs.Borrowed.{bytes_of}
+use Rattle.program_rows.proofs.EachLaws.{at_place}
 
 flipped : (x y : List ℕ) → bytes_eq x y ≡ false → bytes_eq y x ≡ false
 flipped x y h = false_from_ne_true _ (λ e. both_ways _ h ((bytes_eq-Decides x y).1 (sym ((bytes_eq-Decides y x).0 e))))
-
-differs_at : (c name : List ℕ) (names : List (List ℕ)) (i : ℕ) → AllByRecursion (λ y. bytes_eq c y ≡ false) names → slice_get names i ≡ Some name → bytes_eq c name ≡ false
-differs_at c name [] i h e = cc e
-differs_at c name (d ∷ names) zero h e = let same : d ≡ name = cc in rw (← same) h.0
-differs_at c name (d ∷ names) (suc i) h e = differs_at c name names i h.1 e
 
 -- a name isn't among those before it
 fresh : (names : List (List ℕ)) (i : ℕ) (name : List ℕ) → IsDistinct bytes_eq names → slice_get names i ≡ Some name → list_any (bytes_eq name) (take i names) ≡ false
 fresh [] i name d e = cc e
 fresh (c ∷ names) zero name d e = refl
 fresh (c ∷ names) (suc i) name d e =
-    ap₂ (λ a b. a || b) (flipped c name (differs_at c name names i (IsDistinct-head bytes_eq c names d) e)) (fresh names i name (IsDistinct-tail bytes_eq c names d) e)
+    ap₂ (λ a b. a || b) (flipped c name (at_place (λ y. bytes_eq c y ≡ false) names i name (IsDistinct-head bytes_eq c names d) e)) (fresh names i name (IsDistinct-tail bytes_eq c names d) e)
 
 take_more : (names : List (List ℕ)) (i : ℕ) (name : List ℕ) → slice_get names i ≡ Some name → take (suc i) names ≡ take i names ++ name ∷ []
 take_more [] i name e = cc e

@@ -22,7 +22,8 @@ use Rattle.program_rows.specs.Legal.{IsLegalProgram}
 use Rattle.program_rows.specs.Program.{Table, TableRow, TableColumn}
 use Rattle.program_rows.specs.Rows.{bidder_subjects, subjects, weight, row_of, entries_from, column_of, worth_column, program_of}
 use Rattle.program_rows.specs.inside.Building.{IsThere, built_column}
-use Rattle.program_rows.proofs.LegalLaws.{Rises, all_dedup, bidders_few, bidders_never_fall, dedup_rises}
+use Rattle.program_rows.proofs.EachLaws.{at_place}
+use Rattle.program_rows.proofs.LegalLaws.{Rises, all_dedup, all_there, bidders_few, bidders_never_fall, dedup_rises}
 
 abbrev bidders : List Offer → List ℕ
 bidders offers = map (λ (o : Offer). o.bidder) offers
@@ -54,26 +55,6 @@ bidders_are (k ∷ ks) h =
 pub bidders_end : (ss whole : List Subject) (last i : ℕ) (kept : List KeptBid) → length kept ≤ i → ss ++ map Bidder (next_bidders last (offers (drop i kept))) ≡ whole → ss ≡ whole
 bidders_end ss whole last i kept l h = sym (append-nil ss) ∙ sym (ap (λ (ks : List KeptBid). ss ++ map Bidder (next_bidders last (offers ks))) (drop_all i kept l)) ∙ h
 
--- ---------- what there are rows for ----------
-
-bidders_there : (lots : Lots) (bs : List ℕ) (rest : List Subject) → AllByRecursion (IsThere lots) rest → AllByRecursion (IsThere lots) (map Bidder bs ++ rest)
-bidders_there lots [] rest h = h
-bidders_there lots (b ∷ bs) rest h = (tt, bidders_there lots bs rest h)
-
-pools_there : (lots : Lots) (p n : ℕ) → p + n ≤ length lots.pools → AllByRecursion (IsThere lots) (map Pool (range_with_len p n))
-pools_there lots p zero l = tt
-pools_there lots p (suc n) l = (omega arith, pools_there lots (p + 1) n (omega arith))
-
-lots_there : (lots : Lots) (c n : ℕ) (rest : List Subject) → c + n ≤ length lots.supply → AllByRecursion (IsThere lots) rest → AllByRecursion (IsThere lots) (map Category (range_with_len c n) ++ rest)
-lots_there lots c zero rest l h = h
-lots_there lots c (suc n) rest l h = (omega arith, lots_there lots (c + 1) n rest (omega arith) h)
-
-all_there : (lots : Lots) (offers : List Offer) → All (IsThere lots) (subjects lots offers)
-all_there lots offers =
-    All-from_recursion (IsThere lots) (subjects lots offers)
-    (bidders_there lots (dedup nat_eq (bidders offers)) (subjects lots [])
-    (lots_there lots 0 (length lots.supply) (map Pool (range_with_len 0 (length lots.pools))) (omega arith) (pools_there lots 0 (length lots.pools) (omega arith))))
-
 -- ---------- the entries ----------
 
 weightless : (lots : Lots) (b : ℕ) (o : Offer) → (o.bidder == b) ≡ false → (weight lots (Bidder b) o == 0) ≡ true
@@ -86,11 +67,6 @@ none_there lots r n (b ∷ bs) rest o e h =
     cond-true (weight lots (Bidder b) o == 0) (entries_from lots (r + 1) (map Bidder bs ++ rest) o) ((r, pos (weight lots (Bidder b) o)) ∷ entries_from lots (r + 1) (map Bidder bs ++ rest) o) (weightless lots b o (ne_eqb o.bidder b (λ t. omega arith)))
     ∙ none_there lots (r + 1) n bs rest o (omega arith) h.1
 
-later_at : (P : ℕ → Type 0) (bs : List ℕ) (k b : ℕ) → AllByRecursion P bs → slice_get bs k ≡ Some b → P b
-later_at P [] k b h at = cc
-later_at P (c ∷ bs) zero b h at = let same : c ≡ b = cc in subst P same h.0
-later_at P (c ∷ bs) (suc k) b h at = later_at P bs k b h.1 at
-
 one_there : (lots : Lots) (r p n k : ℕ) (bs : List ℕ) (rest : List Subject) (o : Offer) → p ≡ r + k → n ≡ r + length bs → Rises bs → slice_get bs k ≡ Some o.bidder → entries_from lots r (map Bidder bs ++ rest) o ≡ (p, pos 1) ∷ entries_from lots n rest o
 one_there lots r p n k [] rest o place e h at = cc
 one_there lots r p n zero (b ∷ bs) rest o place e h at =
@@ -102,7 +78,7 @@ one_there lots r p n zero (b ∷ bs) rest o place e h at =
     ∙ ap (λ (m : ℕ). (m, pos 1) ∷ entries_from lots (r + 1) (map Bidder bs ++ rest) o) here
     ∙ ap (λ (es : List (ℕ × ℤ)). (p, pos 1) ∷ es) (none_there lots (r + 1) n bs rest o (omega arith) (subst (λ (m : ℕ). AllByRecursion (λ c. m < c) bs) same h.0))
 one_there lots r p n (suc k) (b ∷ bs) rest o place e h at =
-    let less : b < o.bidder = later_at (λ c. b < c) bs k o.bidder h.0 at in
+    let less : b < o.bidder = at_place (λ c. b < c) bs k o.bidder h.0 at in
     cond-true (weight lots (Bidder b) o == 0) (entries_from lots (r + 1) (map Bidder bs ++ rest) o) ((r, pos (weight lots (Bidder b) o)) ∷ entries_from lots (r + 1) (map Bidder bs ++ rest) o) (weightless lots b o (ne_eqb o.bidder b (λ t. omega arith)))
     ∙ one_there lots (r + 1) p n k bs rest o (omega arith) (omega arith) h.1 at
 
@@ -240,7 +216,7 @@ few_bidders lots offers h =
     omega arith
 
 pub each_there : (lots : Lots) (offers : List Offer) (all : List Subject) → all ≡ subjects lots offers → All (IsThere lots) all
-each_there lots offers all e = subst (λ (ss : List Subject). All (IsThere lots) ss) (sym e) (all_there lots offers)
+each_there lots offers all e = subst (λ (ss : List Subject). All (IsThere lots) ss) (sym e) (All-from_recursion (IsThere lots) (subjects lots offers) (all_there lots offers))
 
 pub is_built : (lots : Lots) (offers : List Offer) (objective : List ℕ) (ss : List Subject) (rows : List TableRow) (columns : List TableColumn) → objective ≡ codes "OBJ" → ss ≡ subjects lots offers
     → rows ≡ map (row_of lots) ss → columns ≡ map (column_of lots ss) offers ++ worth_column lots → record { objective = objective; rows = rows; columns = columns } ≡ program_of lots offers

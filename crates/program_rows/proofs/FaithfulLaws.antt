@@ -1,18 +1,21 @@
 -- The program of the kept bids is faithful to the book.
-use Rattle.std.proofs.Common.{◌≡◌, ℕ, zero, suc, ◌+◌, ◌<◌, ◌≤◌, Bool, true, false, not, ◌&&◌, ◌||◌, ◌==◌, nat_eq, cond, List, [], ◌∷◌, ◌++◌, Option, Some, None, is_some, slice_get, slice_index, slice_index_or, length, map, sym, refl, ap, ap₂, ◌∙◌, subst, arith, ⊎_elim, eqb-true, eq-eqb, ne_eqb, leb-true, le-leb, zero-add, add-zero, ℤ, pos, neg_ℤ, ◌+ℤ◌, ◌-ℤ◌, ◌≤ℤ◌}
+use Rattle.std.proofs.Common.{◌≡◌, ℕ, zero, suc, ◌+◌, ◌<◌, ◌≤◌, Bool, true, false, not, ◌&&◌, ◌||◌, ◌==◌, nat_eq, cond, List, [], ◌∷◌, ◌++◌, Option, Some, None, is_some, slice_get, slice_index, length, map, sym, refl, ap, ap₂, ◌∙◌, subst, arith, ⊎_elim, eqb-true, eq-eqb, ne_eqb, leb-true, le-leb, zero-add, add-zero, ℤ, pos, neg_ℤ, ◌+ℤ◌, ◌-ℤ◌, ◌≤ℤ◌}
 use Rattle.std.specs.Prelude.{codes, sum_by, count_by, Contains, find, int_le, nat_le}
 use Rattle.std.specs.List.{AllByRecursion, list_any, range_with_len, dedup, enumerate_from}
-use Rattle.std.specs.Option.{option_map_or, option_to_list}
+use Rattle.std.specs.Option.{option_map, option_map_or, option_to_list}
 use Rattle.std.proofs.lemmas.Int.{ints}
 use Rattle.std.proofs.lemmas.Bool.{and_parts, and_from, both_ways, cases_Bool, or_parts, cond-true, cond-false, and_left, false_from_ne_true, or_cases}
 use Rattle.std.proofs.lemmas.List.Sums.{sum_by-cons}
-use Rattle.std.proofs.lemmas.List.Elements.{recursion_from_All, All-from_recursion}
+use Rattle.std.proofs.lemmas.List.{get_or-map, length-map}
+use Rattle.std.proofs.lemmas.List.Elements.{recursion_from_All, All-from_recursion, Contains-append_left, Contains-append_right}
+use Rattle.std.proofs.lemmas.List.FromFn.{get_or-map-range_with_len, length-map-range_with_len}
+use Rattle.std.proofs.lemmas.Option.{slice_get-get_or, slice_get-map}
 use Rattle.std.proofs.lemmas.List.Kept.{Contains-dedup_nat}
 use Rattle.auction_terms.specs.declared.bids.Bid.{Bid}
 use Rattle.auction_terms.specs.declared.choices.Choice.{Choice}
 use Rattle.auction_terms.specs.Packages.{Lots, pool_at, fits, weighed, worth, worth_of_all}
 use Rattle.auction_terms.specs.Domination.{net, is_kept}
-use Rattle.auction_terms.specs.Allocations.{Book, form_of, bid_of, amount_of, quantity_of, weighed_choice, loads, total, is_eligible, IsFeasible, IsSized}
+use Rattle.auction_terms.specs.Allocations.{Book, form_of, bid_of, amount_of, loads, total, is_eligible, IsFeasible, IsSized}
 use Rattle.auction_terms.specs.Keeping.{Offer, offers_from, kept_of, is_kept_choice}
 use Rattle.auction_terms.specs.inside.Keeping.{is_kept_offer, choice_of}
 use Rattle.auction_terms.specs.Limits.{AreOffers}
@@ -28,6 +31,9 @@ use Rattle.program_rows.specs.declared.subject.Subject.{Subject}
 use Rattle.program_rows.specs.declared.subject.Subject.TheVariants.{Bidder, Category, Pool}
 use Rattle.program_rows.specs.Rows.{weight, subjects, row_of, entries_from, column_of, worth_column, program_of}
 use Rattle.program_rows.specs.Faithful.{back, Matched, PresolvedIsFaithful, LeastIsGreatest}
+use Rattle.program_rows.specs.inside.Building.{IsThere}
+use Rattle.program_rows.proofs.EachLaws.{at_place, each_map}
+use Rattle.program_rows.proofs.LegalLaws.{all_there}
 use Rattle.program_rows.proofs.SpellingLaws.{reads_back}
 use Rattle.program_rows.specs.declared.bounds.Bounds.TheVariants.{One}
 
@@ -46,39 +52,14 @@ row_meets lots (Pool p) sum = refl
 
 -- ---------- lists ----------
 
-get_map : {X Y : Type 0} (f : X → Y) (xs : List X) (k : ℕ) (x : X) → slice_get xs k ≡ Some x → slice_get (map f xs) k ≡ Some (f x)
-get_map f [] k x e = cc
-get_map f (y ∷ xs) zero x e = let same : y ≡ x = cc in ap (λ z. Some (f z)) same
-get_map f (y ∷ xs) (suc k) x e = get_map f xs k x e
-
 from_map : {X Y : Type 0} (f : X → Y) (xs : List X) (k : ℕ) (y : Y) → slice_get (map f xs) k ≡ Some y → (x : X) × (slice_get xs k ≡ Some x) × (y ≡ f x)
 from_map f [] k y e = cc
 from_map f (x ∷ xs) zero y e = let same : f x ≡ y = cc in (x, refl, sym same)
 from_map f (x ∷ xs) (suc k) y e = from_map f xs k y e
 
-get_left : {X : Type 0} (xs ys : List X) (k : ℕ) (x : X) → slice_get xs k ≡ Some x → slice_get (xs ++ ys) k ≡ Some x
-get_left [] ys k x e = cc
-get_left (y ∷ xs) ys zero x e = e
-get_left (y ∷ xs) ys (suc k) x e = get_left xs ys k x e
-
-get_right : {X : Type 0} (xs ys : List X) (k : ℕ) (x : X) → slice_get ys k ≡ Some x → (n : ℕ) × (slice_get (xs ++ ys) n ≡ Some x)
-get_right [] ys k x e = (k, e)
-get_right (y ∷ xs) ys k x e = let r = get_right xs ys k x e in (suc r.0, r.1)
-
-get_range : (a n k m : ℕ) → k < n → m ≡ a + k → slice_get (range_with_len a n) k ≡ Some m
-get_range a zero k m l e = absurd (omega arith)
-get_range a (suc n) zero m l e = ap (λ (x : ℕ). Some x) (let t : a ≡ m = omega arith in t)
-get_range a (suc n) (suc k) m l e = get_range (a + 1) n k m (omega arith) (omega arith)
-
-get_contained : (xs : List ℕ) (k x : ℕ) → k < length xs → slice_index_or xs k x ≡ x → slice_get xs k ≡ Some x
-get_contained [] k x l e = absurd (omega arith)
-get_contained (y ∷ xs) zero x l e = ap (λ (z : ℕ). Some z) e
-get_contained (y ∷ xs) (suc k) x l e = get_contained xs k x (omega arith) e
-
-at_place : {X : Type 0} (P : X → Type 0) (xs : List X) (k : ℕ) (x : X) → AllByRecursion P xs → slice_get xs k ≡ Some x → P x
-at_place P [] k x a e = cc
-at_place P (y ∷ xs) zero x a e = let same : y ≡ x = cc in subst P same a.0
-at_place P (y ∷ xs) (suc k) x a e = at_place P xs k x a.1 e
+-- the subject of a place
+in_kind : (kind : ℕ → Subject) (n k : ℕ) → k < n → Contains (map kind (range_with_len 0 n)) (kind k)
+in_kind kind n k l = let many = length-map-range_with_len kind 0 n in (k, omega arith, get_or-map-range_with_len kind 0 n k k (kind k) l (omega arith))
 
 -- a row with its place
 row_at : (P : ℕ × TableRow → Type 0) (n m k : ℕ) (rows : List TableRow) (r : TableRow) → AllByRecursion P (enumerate_from n rows) → slice_get rows k ≡ Some r → m ≡ n + k → P (m, r)
@@ -223,12 +204,6 @@ coefficient_is lots r n (suc k) (t ∷ rows) o s at e =
 
 -- ---------- what counts in a row ----------
 
--- what a row can be about
-abbrev in_rows : Lots → Subject → Type 0
-in_rows lots (Bidder b) = Unit {0}
-in_rows lots (Category c) = c < length lots.supply
-in_rows lots (Pool p) = p < length lots.pools
-
 module _ (lots : Lots) (offers : List Offer) where
   abbrev built : Table
   built = program_of lots offers
@@ -248,18 +223,22 @@ module _ (lots : Lots) (offers : List Offer) where
   no_weight b [] h = tt
   no_weight b (o ∷ xs) h = let e = or_parts _ _ h in (cond-false (o.bidder == b) 1 0 e.0, no_weight b xs e.1)
 
-  met : (p : List Bool) → IsPoint built p → (r : ℕ) (s : Subject) → slice_get (subjects lots offers) r ≡ Some s → sum_by (weight lots s) (chosen offers p) ≤ most lots s
-  met p is_point r s at =
-      let m = row_at (λ q. meets q.1.kind (row_sum built p q.0) q.1.right_side ≡ true) 0 r r built.rows (row_of lots s) is_point.met (get_map (row_of lots) (subjects lots offers) r s at) (sym (zero-add r)) in
+  abbrev bs : List ℕ
+  bs = dedup nat_eq (map (λ o. o.bidder) offers)
+
+  met : (p : List Bool) → IsPoint built p → (s : Subject) → Contains (subjects lots offers) s → sum_by (weight lots s) (chosen offers p) ≤ most lots s
+  met p is_point s there =
+      let r = there.0 in
+      let at : slice_get (subjects lots offers) r ≡ Some s = slice_get-get_or (subjects lots offers) r s there.1 ∙ ap (λ (x : Subject). Some x) there.2 in
+      let m = row_at (λ q. meets q.1.kind (row_sum built p q.0) q.1.right_side ≡ true) 0 r r built.rows (row_of lots s) is_point.met (slice_get-map (row_of lots) (subjects lots offers) r ∙ ap (option_map (row_of lots)) at) (sym (zero-add r)) in
       leb-true (sum_by (weight lots s) (chosen offers p)) (most lots s) (ap (λ (z : ℤ). int_le z (pos (most lots s))) (sym (row_is r s p at)) ∙ sym (row_meets lots s (row_sum built p r)) ∙ m)
 
   one_each : (p : List Bool) → IsPoint built p → (b : ℕ) → sum_by (weight lots (Bidder b)) (chosen offers p) ≤ 1
   one_each p is_point b = ⊎_elim
       (λ some.
       let w = Contains-dedup_nat (map (λ o. o.bidder) offers) b (bidder_row b offers some) in
-      let at = get_left (map Bidder (dedup nat_eq (map (λ o. o.bidder) offers))) (map Category (range_with_len 0 (length lots.supply)) ++ map Pool (range_with_len 0 (length lots.pools))) w.0 (Bidder b)
-      (get_map Bidder (dedup nat_eq (map (λ o. o.bidder) offers)) w.0 b (get_contained (dedup nat_eq (map (λ o. o.bidder) offers)) w.0 b w.1 w.2)) in
-      met p is_point w.0 (Bidder b) at)
+      let many = length-map bs Bidder in
+      met p is_point (Bidder b) (Contains-append_left (map Bidder bs) (subjects lots []) (Bidder b) (w.0, omega arith, get_or-map Bidder bs w.0 b (Bidder b) w.1 ∙ ap Bidder w.2)))
       (λ none.
       let z = sum_agree (weight lots (Bidder b)) (λ o. 0) (chosen offers p) (chosen_all (λ o. weight lots (Bidder b) o ≡ 0) offers p (no_weight b offers none)) in
       let y = sum_zero (λ (o : Offer). 0) (chosen offers p) (λ o. refl) in
@@ -268,46 +247,25 @@ module _ (lots : Lots) (offers : List Offer) where
 
   within : (p : List Bool) → IsPoint built p → (category : ℕ) → category < length lots.supply → sum_by (weight lots (Category category)) (chosen offers p) ≤ slice_index lots.supply category
   within p is_point category below =
-      let rest : List Subject = map Pool (range_with_len 0 (length lots.pools)) in
-      let at = get_right (map Bidder (dedup nat_eq (map (λ o. o.bidder) offers))) (map Category (range_with_len 0 (length lots.supply)) ++ rest) category (Category category)
-      (get_left (map Category (range_with_len 0 (length lots.supply))) rest category (Category category)
-      (get_map Category (range_with_len 0 (length lots.supply)) category category (get_range 0 (length lots.supply) category category below (omega arith)))) in
-      met p is_point at.0 (Category category) at.1
+      met p is_point (Category category) (Contains-append_right (map Bidder bs) (subjects lots []) (Category category)
+      (Contains-append_left (map Category (range_with_len 0 (length lots.supply))) (map Pool (range_with_len 0 (length lots.pools))) (Category category) (in_kind Category (length lots.supply) category below)))
 
   within_pool : (p : List Bool) → IsPoint built p → (pool : ℕ) → pool < length lots.pools → sum_by (weight lots (Pool pool)) (chosen offers p) ≤ (pool_at lots pool).cap
   within_pool p is_point pool below =
-      let there = get_right (map Category (range_with_len 0 (length lots.supply))) (map Pool (range_with_len 0 (length lots.pools))) pool (Pool pool)
-      (get_map Pool (range_with_len 0 (length lots.pools)) pool pool (get_range 0 (length lots.pools) pool pool below (omega arith))) in
-      let at = get_right (map Bidder (dedup nat_eq (map (λ o. o.bidder) offers))) (map Category (range_with_len 0 (length lots.supply)) ++ map Pool (range_with_len 0 (length lots.pools))) there.0 (Pool pool) there.1 in
-      met p is_point at.0 (Pool pool) at.1
+      met p is_point (Pool pool) (Contains-append_right (map Bidder bs) (subjects lots []) (Pool pool)
+      (Contains-append_right (map Category (range_with_len 0 (length lots.supply))) (map Pool (range_with_len 0 (length lots.pools))) (Pool pool) (in_kind Pool (length lots.pools) pool below)))
 
-  all_bidders : (bs : List ℕ) (rest : List Subject) → AllByRecursion (in_rows lots) rest → AllByRecursion (in_rows lots) (map Bidder bs ++ rest)
-  all_bidders [] rest h = h
-  all_bidders (b ∷ bs) rest h = (tt, all_bidders bs rest h)
-
-  all_categories : (a n : ℕ) (rest : List Subject) → a + n ≡ length lots.supply → AllByRecursion (in_rows lots) rest → AllByRecursion (in_rows lots) (map Category (range_with_len a n) ++ rest)
-  all_categories a zero rest e h = h
-  all_categories a (suc n) rest e h = (omega arith, all_categories (a + 1) n rest (omega arith) h)
-
-  all_pools : (a n : ℕ) → a + n ≡ length lots.pools → AllByRecursion (in_rows lots) (map Pool (range_with_len a n))
-  all_pools a zero e = tt
-  all_pools a (suc n) e = (omega arith, all_pools (a + 1) n (omega arith))
-
-  all_rows : AllByRecursion (in_rows lots) (subjects lots offers)
-  all_rows = all_bidders (dedup nat_eq (map (λ o. o.bidder) offers)) (map Category (range_with_len 0 (length lots.supply)) ++ map Pool (range_with_len 0 (length lots.pools)))
-      (all_categories 0 (length lots.supply) (map Pool (range_with_len 0 (length lots.pools))) (zero-add (length lots.supply)) (all_pools 0 (length lots.pools) (zero-add (length lots.pools))))
-
-  weighs_few : (p : List Bool) → IsPoint built p → (s : Subject) → in_rows lots s → sum_by (weight lots s) (chosen offers p) ≤ most lots s
+  weighs_few : (p : List Bool) → IsPoint built p → (s : Subject) → IsThere lots s → sum_by (weight lots s) (chosen offers p) ≤ most lots s
   weighs_few p is_point (Bidder b) there = one_each p is_point b
   weighs_few p is_point (Category category) there = within p is_point category there
   weighs_few p is_point (Pool pool) there = within_pool p is_point pool there
 
-  point_where : (p : List Bool) → AreAllowed built.columns p → ((s : Subject) → in_rows lots s → sum_by (weight lots s) (chosen offers p) ≤ most lots s) → IsPoint built p
+  point_where : (p : List Bool) → AreAllowed built.columns p → ((s : Subject) → IsThere lots s → sum_by (weight lots s) (chosen offers p) ≤ most lots s) → IsPoint built p
   point_where p allowed few = record {
     allowed = allowed;
     met = each_row (λ q. meets q.1.kind (row_sum built p q.0) q.1.right_side ≡ true) 0 built.rows (λ m r row at place.
         let w = from_map (row_of lots) (subjects lots offers) r row at in
-        let fit = few w.0 (at_place (in_rows lots) (subjects lots offers) r w.0 all_rows w.1) in
+        let fit = few w.0 (at_place (IsThere lots) (subjects lots offers) r w.0 (all_there lots offers) w.1) in
         let here : m ≡ r = omega arith in
         let n : meets AtMost (row_sum built p m) (pos (most lots w.0)) ≡ true =
         ap (λ (i : ℕ). int_le (row_sum built p i) (pos (most lots w.0))) here ∙ ap (λ (z : ℤ). int_le z (pos (most lots w.0))) (row_is r w.0 p w.1) ∙ le-leb (sum_by (weight lots w.0) (chosen offers p)) (most lots w.0) fit in
@@ -345,39 +303,19 @@ module _ (lots : Lots) (book : Book) (group : ℕ → Bool) where
   offered : AllByRecursion IsOffered kept
   offered = all_filter (λ o. bid_of book (choice_of o) ≡ Some o.bid) (is_kept_offer lots book group) (offers_from 1 book) (stands book)
 
-  amount_is : (o : Offer) → IsOffered o → amount_of book (choice_of o) ≡ o.bid.amount
-  amount_is o h = ap (λ c. option_map_or (λ (x : Bid). x.amount) c 0) h.0
-
-  quantity_is : (category : ℕ) (o : Offer) → IsOffered o → quantity_of book category (choice_of o) ≡ slice_index o.bid.package category
-  quantity_is category o h = ap (λ c. option_map_or (λ (x : Bid). slice_index x.package category) c 0) h.0
-
-  worth_is : (o : Offer) → IsOffered o → weighed_choice lots.values book (choice_of o) ≡ worth_offered lots o
-  worth_is o h = ap (λ c. option_map_or (λ (x : Bid). weighed lots.values x.package) c 0) h.0
-
-  load_is : (pool : ℕ) (o : Offer) → IsOffered o → weighed_choice (pool_at lots pool).weights book (choice_of o) ≡ weight lots (Pool pool) o
-  load_is pool o h = ap (λ c. option_map_or (λ (x : Bid). weighed (pool_at lots pool).weights x.package) c 0) h.0
-
-  eligible_each : (xs : List Offer) → AllByRecursion IsOffered xs → AllByRecursion (λ c. is_eligible book group c ≡ true) (map choice_of xs)
-  eligible_each [] a = tt
-  eligible_each (o ∷ xs) a = (and_from (not (group o.bidder)) (is_some (bid_of book (choice_of o))) (and_parts (not (group o.bidder)) (is_kept lots (form_of book o.bidder) o.bid) a.0.1).0 (ap (λ c. is_some c) a.0.0), eligible_each xs a.1)
-
   -- what the chosen offers, and their choices, add up to
-  amounts_are : (p : List Bool) → sum_by (amount_of book) (map choice_of (chosen kept p)) ≡ sum_by (λ o. o.bid.amount) (chosen kept p)
-  amounts_are p = measured (amount_of book) (λ o. o.bid.amount) (chosen kept p) (all_agree IsOffered (λ o. amount_of book (choice_of o) ≡ o.bid.amount) (chosen kept p) amount_is (chosen_all IsOffered kept p offered))
-
-  worths_are : (p : List Bool) → worths lots book (map choice_of (chosen kept p)) ≡ sum_by (worth_offered lots) (chosen kept p)
-  worths_are p = measured (weighed_choice lots.values book) (worth_offered lots) (chosen kept p) (all_agree IsOffered (λ o. weighed_choice lots.values book (choice_of o) ≡ worth_offered lots o) (chosen kept p) worth_is (chosen_all IsOffered kept p offered))
+  sums_are : (f : Bid → ℕ) (p : List Bool) → sum_by (λ c. option_map_or f (bid_of book c) 0) (map choice_of (chosen kept p)) ≡ sum_by (λ o. f o.bid) (chosen kept p)
+  sums_are f p = measured (λ c. option_map_or f (bid_of book c) 0) (λ o. f o.bid) (chosen kept p)
+      (all_agree IsOffered (λ o. option_map_or f (bid_of book (choice_of o)) 0 ≡ f o.bid) (chosen kept p) (λ o h. ap (λ x. option_map_or f x 0) h.0) (chosen_all IsOffered kept p offered))
 
   fit_back : IsSized lots book → (p : List Bool) → IsPoint program p → fits lots (loads lots book (map choice_of (chosen kept p))) ≡ true
-  fit_back sized p is_point =
-      let here : AllByRecursion IsOffered (chosen kept p) = chosen_all IsOffered kept p offered in
-      feasible_from lots book (map choice_of (chosen kept p)) sized
+  fit_back sized p is_point = feasible_from lots book (map choice_of (chosen kept p)) sized
       (λ category below.
-      let e = measured (quantity_of book category) (weight lots (Category category)) (chosen kept p) (all_agree IsOffered (λ o. quantity_of book category (choice_of o) ≡ slice_index o.bid.package category) (chosen kept p) (quantity_is category) here) in
+      let e = sums_are (λ x. slice_index x.package category) p in
       let l = within lots kept p is_point category below in
       omega arith)
       (λ pool below.
-      let e = measured (weighed_choice (pool_at lots pool).weights book) (weight lots (Pool pool)) (chosen kept p) (all_agree IsOffered (λ o. weighed_choice (pool_at lots pool).weights book (choice_of o) ≡ weight lots (Pool pool) o) (chosen kept p) (load_is pool) here) in
+      let e = sums_are (λ x. weighed (pool_at lots pool).weights x.package) p in
       let l = within_pool lots kept p is_point pool below in
       omega arith)
 
@@ -390,12 +328,13 @@ module _ (lots : Lots) (book : Book) (group : ℕ → Bool) where
               let e = measured (λ (c : Choice). cond (c.bidder == b) 1 0) (weight lots (Bidder b)) (chosen kept p) (all_agree IsOffered (λ o. cond (o.bidder == b) 1 0 ≡ cond (o.bidder == b) 1 0) (chosen kept p) (λ o h. refl) here) in
               let l = one_each lots kept p is_point b in
               omega arith;
-          eligible = All-from_recursion (λ c. is_eligible book group c ≡ true) (map choice_of (chosen kept p)) (eligible_each (chosen kept p) here);
+          eligible = All-from_recursion (λ c. is_eligible book group c ≡ true) (map choice_of (chosen kept p)) (each_map (λ c. is_eligible book group c ≡ true) choice_of (chosen kept p) (all_agree IsOffered (λ o. is_eligible book group (choice_of o) ≡ true) (chosen kept p)
+              (λ o a. and_from (not (group o.bidder)) (is_some (bid_of book (choice_of o))) (and_parts (not (group o.bidder)) (is_kept lots (form_of book o.bidder) o.bid) a.1).0 (ap (λ c. is_some c) a.0)) here));
           fit = fit;
         },
         same_total (total lots book (map choice_of (chosen kept p))) (worths lots book (map choice_of (chosen kept p))) (sum_by (amount_of book) (map choice_of (chosen kept p))) (worth_of_all lots)
             (sum_by (λ o. o.bid.amount) (chosen kept p)) (sum_by (worth_offered lots) (chosen kept p)) (objective program p)
-            (total_is lots book (map choice_of (chosen kept p)) sized fit) (amounts_are p) (worths_are p) (cost_is lots (subjects lots kept) kept p is_point.allowed),
+            (total_is lots book (map choice_of (chosen kept p)) sized fit) (sums_are (λ x. x.amount) p) (sums_are (λ x. weighed lots.values x.package) p) (cost_is lots (subjects lots kept) kept p is_point.allowed),
       )
 
 -- ---------- from an allocation to a point ----------
@@ -507,6 +446,10 @@ module _ (lots : Lots) (book : Book) (group : ℕ → Bool) (sized : IsSized lot
   abbrev pub values_of : List Choice → List Bool
   values_of a = map (is_member a) (kept_of lots book group) ++ last_values lots
 
+  taken : (f : Choice → Bid → ℕ) (a : List Choice) → AllByRecursion (λ c. is_kept_choice lots book group c ≡ true) a → ((b : ℕ) → count_by (λ c. c.bidder == b) a ≤ 1)
+      → sum_by (of_offer lots book group f) (chosen (kept_of lots book group) (values_of a)) ≡ sum_by (of_choice lots book group f) a
+  taken f a k one = chosen_marks (is_member a) (of_offer lots book group f) (kept_of lots book group) (last_values lots) ∙ members lots book group f a k one
+
   -- a measure that only looks at the choice
   counted : (g : Choice → ℕ) (c : Choice) → is_kept_choice lots book group c ≡ true → of_choice lots book group (λ d x. g d) c ≡ g c
   counted g c k =
@@ -518,27 +461,24 @@ module _ (lots : Lots) (book : Book) (group : ℕ → Bool) (sized : IsSized lot
   pub counted_members : (g : Choice → ℕ) (a : List Choice) → AllByRecursion (λ c. is_kept_choice lots book group c ≡ true) a → ((b : ℕ) → count_by (λ c. c.bidder == b) a ≤ 1)
       → sum_by (λ o. g (choice_of o)) (chosen (kept_of lots book group) (values_of a)) ≡ sum_by g a
   counted_members g a k one =
-      chosen_marks (is_member a) (λ o. g (choice_of o)) (kept_of lots book group) (last_values lots) ∙ members lots book group (λ d x. g d) a k one
-      ∙ sum_agree (of_choice lots book group (λ d x. g d)) g a (all_agree (λ c. is_kept_choice lots book group c ≡ true) (λ c. of_choice lots book group (λ d x. g d) c ≡ g c) a (counted g) k)
+      taken (λ d x. g d) a k one ∙ sum_agree (of_choice lots book group (λ d x. g d)) g a (all_agree (λ c. is_kept_choice lots book group c ≡ true) (λ c. of_choice lots book group (λ d x. g d) c ≡ g c) a (counted g) k)
 
   values_fit : (rows : List Subject) (xs : List Offer) (p : Offer → Bool) → AreAllowed (map (column_of lots rows) xs ++ worth_column lots) (map p xs ++ last_values lots)
   values_fit rows [] p = last_allowed lots (worth_of_all lots == 0)
   values_fit rows (o ∷ xs) p = (refl, values_fit rows xs p)
 
-  weighs : (s : Subject) (a : List Choice) → AllByRecursion (λ c. is_kept_choice lots book group c ≡ true) a → IsFeasible lots book group a → in_rows lots s
+  weighs : (s : Subject) (a : List Choice) → AllByRecursion (λ c. is_kept_choice lots book group c ≡ true) a → IsFeasible lots book group a → IsThere lots s
       → sum_by (weight lots s) (chosen (kept_of lots book group) (values_of a)) ≤ most lots s
   weighs (Bidder b) a k f tt =
       let e = counted_members (λ c. cond (c.bidder == b) 1 0) a k f.one_bid_each in
       let l = f.one_bid_each b in
       omega arith
   weighs (Category n) a k f below =
-      let e = chosen_marks (is_member a) (weight lots (Category n)) (kept_of lots book group) (last_values lots) in
-      let m = members lots book group (λ d x. slice_index x.package n) a k f.one_bid_each in
+      let e = taken (λ d x. slice_index x.package n) a k f.one_bid_each in
       let l = feasible_at lots book group a f n below in
       omega arith
   weighs (Pool n) a k f below =
-      let e = chosen_marks (is_member a) (weight lots (Pool n)) (kept_of lots book group) (last_values lots) in
-      let m = members lots book group (λ d x. weighed (pool_at lots n).weights x.package) a k f.one_bid_each in
+      let e = taken (λ d x. weighed (pool_at lots n).weights x.package) a k f.one_bid_each in
       let l = feasible_pool lots book group a sized f n below in
       omega arith
 
@@ -549,10 +489,8 @@ module _ (lots : Lots) (book : Book) (group : ℕ → Bool) (sized : IsSized lot
       let all = kept_of lots book group in
       let p : List Bool = values_of a in
       let allowed : AreAllowed (program_of lots all).columns p = values_fit (subjects lots all) all (is_member a) in
-      let amounts : sum_by (amount_of book) a ≡ sum_by (λ o. o.bid.amount) (chosen all p) =
-      sym (chosen_marks (is_member a) (λ o. o.bid.amount) all (last_values lots) ∙ members lots book group (λ d x. x.amount) a k f.one_bid_each) in
-      let worth_is : worths lots book a ≡ sum_by (worth_offered lots) (chosen all p) =
-      sym (chosen_marks (is_member a) (worth_offered lots) all (last_values lots) ∙ members lots book group (λ d x. weighed lots.values x.package) a k f.one_bid_each) in (
+      let amounts = sym (taken (λ d x. x.amount) a k f.one_bid_each) in
+      let worth_is = sym (taken (λ d x. weighed lots.values x.package) a k f.one_bid_each) in (
         point_where lots all p allowed (λ s there. weighs s a k f there),
         same_total (total lots book a) (worths lots book a) (sum_by (amount_of book) a) (worth_of_all lots)
             (sum_by (λ o. o.bid.amount) (chosen all p)) (sum_by (worth_offered lots) (chosen all p)) (objective (program_of lots all) p)

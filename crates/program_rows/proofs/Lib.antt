@@ -1,3 +1,4 @@
+pub mod EachLaws
 pub mod SpellingLaws
 mod ValueExamples
 pub mod FaithfulLaws

@@ -1,7 +1,6 @@
 -- An only least point of the program of the kept bids wins the only allocation.
 use Rattle.std.proofs.Common.{◌≡◌, ℕ, ◌+◌, ◌≤◌, Bool, true, false, ◌==◌, cond, List, [], ◌∷◌, ◌++◌, map, refl, sym, ap, ap₂, ◌∙◌, subst, arith, eqb-true, eq-eqb, pos, neg_ℤ, ◌≤ℤ◌}
 use Rattle.std.specs.Prelude.{IsPermutation, sum_by}
-use Rattle.std.specs.List.{AllByRecursion}
 use Rattle.std.proofs.lemmas.Int.{ints}
 use Rattle.std.proofs.lemmas.Bool.{and_parts, and_from}
 use Rattle.std.proofs.lemmas.List.Sums.{sum_by-append, sum_by-cons}
@@ -9,7 +8,7 @@ use Rattle.std.proofs.lemmas.List.Elements.{recursion_from_All}
 use Rattle.std.proofs.lemmas.List.Sorted.{IsPermutation-cons, IsPermutation-middle, IsPermutation-refl, IsPermutation-sym, IsPermutation-trans}
 use Rattle.auction_terms.specs.declared.choices.Choice.{Choice}
 use Rattle.auction_terms.specs.Allocations.{total}
-use Rattle.auction_terms.specs.Keeping.{Offer, kept_of, is_kept_choice}
+use Rattle.auction_terms.specs.Keeping.{kept_of, is_kept_choice}
 use Rattle.auction_terms.specs.inside.Keeping.{choice_of}
 use Rattle.auction_terms.proofs.LimitLaws.{kept_are_offers, sized}
 use Rattle.auction_terms.proofs.OnlyLaws.{feasible_permuted, only_among_all, total_permuted}
@@ -17,6 +16,7 @@ use Rattle.program_rows.specs.Points.{objective}
 use Rattle.program_rows.specs.Rows.{program_of, subjects}
 use Rattle.program_rows.specs.Faithful.{back}
 use Rattle.program_rows.specs.Only.{OnlyLeastIsOnly}
+use Rattle.program_rows.proofs.EachLaws.{each}
 use Rattle.program_rows.proofs.FaithfulLaws.{back_is, chosen, counted_members, exact_point, measured, numbered, presolved_is_faithful, same_choice, values_of}
 
 -- ---------- lists that have each choice as often ----------
@@ -82,10 +82,6 @@ as-often (x ∷ xs) ys h =
 
 -- ---------- the law ----------
 
-all_refl : (f : Offer → ℕ) (xs : List Offer) → AllByRecursion (λ o. f o ≡ f o) xs
-all_refl f [] = tt
-all_refl f (o ∷ xs) = (refl, all_refl f xs)
-
 pub only_least_is_only : OnlyLeastIsOnly
 only_least_is_only lots book group values a within is_point only moved none =
     let all = kept_of lots book group in
@@ -106,7 +102,7 @@ only_least_is_only lots book group values a within is_point only moved none =
     let chosen_is : won ≡ map choice_of (chosen all values) = back_is lots (subjects lots all) all values (numbered lots all (kept_are_offers lots book group within)) in
     let often : (c : Choice) → times c won ≡ times c other = λ c.
     ap (times c) chosen_is
-    ∙ measured (λ d. cond (same_choice c d) 1 0) (λ o. cond (same_choice c (choice_of o)) 1 0) (chosen all values) (all_refl (λ o. cond (same_choice c (choice_of o)) 1 0) (chosen all values))
+    ∙ measured (λ d. cond (same_choice c d) 1 0) (λ o. cond (same_choice c (choice_of o)) 1 0) (chosen all values) (each _ (chosen all values) (λ o. refl))
     ∙ ap (λ (vs : List Bool). sum_by (λ o. cond (same_choice c (choice_of o)) 1 0) (chosen all vs)) (sym same)
     ∙ counted_members lots book group fits (λ d. cond (same_choice c d) 1 0) other k feasible.one_bid_each in
     IsPermutation-trans a won other (IsPermutation-sym won a moved) (as-often won other often))
