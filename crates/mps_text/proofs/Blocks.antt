@@ -1,12 +1,12 @@
 -- Reading line after line, and what the lines of a block leave.
 use Rattle.std.proofs.Common.{◌≡◌, ℕ, ◌+◌, false, List, [], ◌∷◌, ◌++◌, map, refl, None, Ok}
-use Rattle.std.specs.Prelude.{codes}
 use Rattle.line_words.specs.Lines.{LineFields}
-use Rattle.mps_meaning.specs.MpsLines.{Line, Header, Data}
+use Rattle.mps_meaning.specs.MpsLines.{Line, Data}
 use Rattle.mps_meaning.specs.Sections.{Sections, with_line, is_end}
 use Rattle.mps_meaning.specs.Faults.{fault}
 use Rattle.mps_meaning.specs.Described.{program}
 use Rattle.mps_meaning.specs.Meaning.{meaning_behind}
+use Rattle.mps_text.proofs.Fields.{end_line}
 
 -- the lines ls, read behind others
 abbrev pub onto : List Line → Sections → Sections
@@ -17,9 +17,6 @@ onto (line ∷ ls) before = onto ls (with_line before line)
 abbrev pub AreRead : Sections → List Line → Type 0
 AreRead before [] = Unit {0}
 AreRead before (line ∷ ls) = (fault before line ≡ None) × (is_end line ≡ false) × AreRead (with_line before line) ls
-
-abbrev pub end_line : Line
-end_line = Header (codes "ENDATA") []
 
 -- lines that are read, and then the end
 pub read-through : (n : ℕ) (before : Sections) (ls : List Line) → AreRead before ls → fault (onto ls before) end_line ≡ None → meaning_behind n before (ls ++ end_line ∷ []) ≡ Ok (program (onto ls before))

@@ -11,7 +11,8 @@ use Rattle.mps_meaning.specs.Described.{is_one_of, lower, upper, bound_pair}
 use Rattle.mps_meaning.specs.Faults.{is_binary, stands_in_integers}
 use Rattle.line_words.specs.Numbers.{number}
 use Rattle.mps_text.specs.Text.{bound_words}
-use Rattle.mps_text.proofs.RowPhase.{flip}
+use Rattle.program_rows.proofs.NamedItems.{bytes_flip}
+use Rattle.program_rows.proofs.EachLaws.{each}
 use Rattle.mps_text.proofs.ColumnPhase.{same-name}
 use Rattle.mps_text.proofs.Pushed.{push}
 use Rattle.std.specs.Ordering.{int_eq}
@@ -38,7 +39,7 @@ AreUnset types before cs = AllByRecursion (λ c. find (sets types c.name) before
 
 still_unset : (types : List (List ℕ)) (c : TableColumn) (before : List LineFields) (cs : List TableColumn) → AllByRecursion (λ other. bytes_eq c.name other ≡ false) (map (λ q. q.name) cs) → AreUnset types before cs → AreUnset types (bound_fields c ∷ before) cs
 still_unset types c before [] d h = tt
-still_unset types c before (q ∷ cs) d h = (other-bound types q.name c before (flip c.name q.name d.0) ∙ h.0, still_unset types c before cs d.1 h.1)
+still_unset types c before (q ∷ cs) d h = (other-bound types q.name c before (bytes_flip c.name q.name d.0) ∙ h.0, still_unset types c before cs d.1 h.1)
 
 own-bound : (types : List (List ℕ)) (c : TableColumn) (before : List LineFields) → find (sets types c.name) before ≡ None → find (sets types c.name) (bound_fields c ∷ before) ≡ find (sets types c.name) (bound_fields c ∷ [])
 own-bound types c before h = rw h refl
@@ -54,8 +55,7 @@ bounds-found types (c ∷ cs) before d h = (
 )
 
 pub none-set : (types : List (List ℕ)) (cs : List TableColumn) → AreUnset types [] cs
-none-set types [] = tt
-none-set types (c ∷ cs) = (refl, none-set types cs)
+none-set types cs = each _ cs (λ c. refl)
 
 abbrev pub lower_types : List (List ℕ)
 lower_types = codes "LO" ∷ codes "FX" ∷ codes "BV" ∷ []

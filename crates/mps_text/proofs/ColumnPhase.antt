@@ -3,12 +3,13 @@ use Rattle.std.proofs.Common.{◌≡◌, ℕ, true, false, List, [], ◌∷◌, 
 use Rattle.std.specs.Prelude.{bytes_eq, codes, flat_map}
 use Rattle.std.specs.List.{list_any, AllByRecursion, IsDistinct}
 use Rattle.std.proofs.lemmas.Slice.Eq.{bytes_eq-Decides}
+use Rattle.auction_terms.proofs.OfferLaws.{all_agree}
 use Rattle.line_words.specs.Lines.{LineFields}
 use Rattle.mps_meaning.specs.MpsLines.{Line, Data}
 use Rattle.mps_meaning.specs.Sections.{Sections, with_line}
 use Rattle.mps_meaning.specs.Faults.{fault, is_declared, is_split, number_fault}
 use Rattle.mps_text.proofs.Blocks.{onto, AreRead, AreRead-append, section-onto}
-use Rattle.mps_text.proofs.RowPhase.{flip}
+use Rattle.program_rows.proofs.NamedItems.{bytes_flip}
 use Rattle.line_words.specs.Numbers.{number}
 use Rattle.mps_meaning.specs.Described.{column_pairs, is_column}
 
@@ -52,7 +53,7 @@ all_ready : (before : Sections) (column : List ℕ) (pair : Pair) (pairs : List 
     → AreReady before column pairs → AreReady (with_line before (Data (pair_fields column pair))) column pairs
 all_ready before column pair [] s plain differ h = tt
 all_ready before column pair (other ∷ pairs) s plain differ h =
-    (still_ready before column pair other s plain (flip pair.0 other.0 differ.0) h.0, all_ready before column pair pairs s plain differ.1 h.1)
+    (still_ready before column pair other s plain (bytes_flip pair.0 other.0 differ.0) h.0, all_ready before column pair pairs s plain differ.1 h.1)
 
 -- the lines of one column
 pub pairs-read : (before : Sections) (column : List ℕ) (pairs : List Pair) → before.section ≡ codes "COLUMNS" → is_split before.columns column ≡ false → IsDistinct bytes_eq (map (λ pair. pair.0) pairs) → AreReady before column pairs → AreRead before (map Data (map (pair_fields column) pairs))
@@ -93,12 +94,8 @@ still_new before name pair column s plain differ h = record {
   differ = h.differ;
 }
 
-abbrev ArePlain : List Pair → Type 0
+abbrev pub ArePlain : List Pair → Type 0
 ArePlain pairs = AllByRecursion (λ pair. bytes_eq pair.0 (codes "'MARKER'") ≡ false) pairs
-
-plain_from : (before : Sections) (name : List ℕ) (pairs : List Pair) → AreReady before name pairs → ArePlain pairs
-plain_from before name [] h = tt
-plain_from before name (pair ∷ pairs) h = (h.0.plain, plain_from before name pairs h.1)
 
 -- the lines of a column leave another column new
 new_behind : (before : Sections) (name : List ℕ) (pairs : List Pair) (column : List ℕ × List Pair) → before.section ≡ codes "COLUMNS" → ArePlain pairs → bytes_eq column.0 name ≡ false → IsNew before column → IsNew (onto (map Data (map (pair_fields name) pairs)) before) column
@@ -109,7 +106,7 @@ all_new : (before : Sections) (name : List ℕ) (pairs : List Pair) (columns : L
     → AllByRecursion (IsNew before) columns → AllByRecursion (IsNew (onto (map Data (map (pair_fields name) pairs)) before)) columns
 all_new before name pairs [] s h differ n = tt
 all_new before name pairs (column ∷ columns) s h differ n =
-    (new_behind before name pairs column s h (flip name column.0 differ.0) n.0, all_new before name pairs columns s h differ.1 n.1)
+    (new_behind before name pairs column s h (bytes_flip name column.0 differ.0) n.0, all_new before name pairs columns s h differ.1 n.1)
 
 abbrev pub columns_lines : List (List ℕ × List Pair) → List Line
 columns_lines columns = flat_map (λ c. map Data (map (pair_fields c.0) c.1)) columns
@@ -122,4 +119,4 @@ columns-read before (c ∷ columns) s differ n =
     let lines = map Data (map (pair_fields c.0) c.1) in
     AreRead-append before lines (columns_lines columns)
     (pairs-read before c.0 c.1 s (not-split before c.0 n.0.name) n.0.differ n.0.ready)
-    (columns-read (onto lines before) columns (section-onto (map (pair_fields c.0) c.1) before ∙ s) differ.1 (all_new before c.0 c.1 columns s (plain_from before c.0 c.1 n.0.ready) differ.0 n.1))
+    (columns-read (onto lines before) columns (section-onto (map (pair_fields c.0) c.1) before ∙ s) differ.1 (all_new before c.0 c.1 columns s (all_agree (IsReady before c.0) (λ pair. bytes_eq pair.0 (codes "'MARKER'") ≡ false) c.1 (λ pair h. h.plain) n.0.ready) differ.0 n.1))

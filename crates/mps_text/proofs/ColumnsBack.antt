@@ -1,14 +1,14 @@
 -- What the lines of COLUMNS say of the columns.
 use Rattle.std.proofs.Common.{◌≡◌, ℕ, Bool, true, false, cond, not, ◌&&◌, List, [], ◌∷◌, ◌++◌, map, refl, sym, ap, subst, ◌∙◌, append_assoc, Option, Some, None}
-use Rattle.std.specs.Prelude.{⊤, bytes_eq, codes, filter, find, flat_map, drop, if◌then◌else◌}
+use Rattle.std.specs.Prelude.{⊤, bytes_eq, filter, find, flat_map, drop, if◌then◌else◌}
 use Rattle.std.proofs.lemmas.List.{append-nil}
 use Rattle.std.specs.List.{list_any, AllByRecursion, IsDistinct}
 use Rattle.std.proofs.lemmas.Slice.Eq.{bytes_eq-Decides}
 use Rattle.line_words.specs.Lines.{LineFields, field}
 use Rattle.mps_meaning.specs.Described.{is_marker, is_column, columns_named, column_lines, pairs}
 use Rattle.mps_meaning.specs.Faults.{is_integer_open, stands_in_integers}
-use Rattle.mps_text.proofs.RowPhase.{flip}
-use Rattle.mps_text.proofs.ColumnPhase.{Pair, pair_fields, same-name}
+use Rattle.program_rows.proofs.NamedItems.{bytes_flip}
+use Rattle.mps_text.proofs.ColumnPhase.{ArePlain, Pair, pair_fields, same-name}
 use Rattle.mps_text.proofs.Pushed.{push, push-append}
 
 -- a column by its name and its pairs
@@ -20,9 +20,6 @@ plain_lines cs = flat_map (λ c. map (pair_fields c.0) c.1) cs
 
 abbrev plain_line : LineFields → Bool
 plain_line fields = not (is_marker fields)
-
-abbrev pub ArePlain : List Pair → Type 0
-ArePlain pairs = AllByRecursion (λ pair. bytes_eq pair.0 (codes "'MARKER'") ≡ false) pairs
 
 -- ---- the lines that are no markers
 
@@ -72,7 +69,7 @@ AreUnnamed before cs = AllByRecursion (λ c. list_any (λ f. bytes_eq c.0 (field
 
 still_unnamed : (name : List ℕ) (pairs : List Pair) (before : List LineFields) (cs : List Listed) → AllByRecursion (λ other. bytes_eq name other ≡ false) (map (λ c. c.0) cs) → AreUnnamed before cs → AreUnnamed (push (map (pair_fields name) pairs) before) cs
 still_unnamed name pairs before [] d h = tt
-still_unnamed name pairs before (c ∷ cs) d h = (not-named c.0 name pairs before (flip name c.0 d.0) h.0, still_unnamed name pairs before cs d.1 h.1)
+still_unnamed name pairs before (c ∷ cs) d h = (not-named c.0 name pairs before (bytes_flip name c.0 d.0) h.0, still_unnamed name pairs before cs d.1 h.1)
 
 -- a column has at least the pair of its cost
 abbrev pub IsFilled : List Pair → Type 0
@@ -114,7 +111,7 @@ AreUnlisted before cs = AllByRecursion (λ c. pairs_in before c.0 ≡ []) cs
 
 still_unlisted : (name : List ℕ) (ps : List Pair) (before : List LineFields) (cs : List Listed) → AllByRecursion (λ other. bytes_eq name other ≡ false) (map (λ c. c.0) cs) → AreUnlisted before cs → AreUnlisted (push (map (pair_fields name) ps) before) cs
 still_unlisted name ps before [] d h = tt
-still_unlisted name ps before (c ∷ cs) d h = (other-column c.0 name ps before (flip name c.0 d.0) ∙ h.0, still_unlisted name ps before cs d.1 h.1)
+still_unlisted name ps before (c ∷ cs) d h = (other-column c.0 name ps before (bytes_flip name c.0 d.0) ∙ h.0, still_unlisted name ps before cs d.1 h.1)
 
 other-columns : (name : List ℕ) (cs : List Listed) (before : List LineFields) → AllByRecursion (λ other. bytes_eq name other ≡ false) (map (λ c. c.0) cs) → pairs_in (push (plain_lines cs) before) name ≡ pairs_in before name
 other-columns name [] before d = refl

@@ -2,13 +2,18 @@
 use Rattle.std.proofs.Common.{◌≡◌, ℕ, zero, suc, ◌-◌, ◌<◌, ◌≤◌, Bool, true, false, not, cond, List, [], ◌∷◌, ◌++◌, length, map, refl, sym, ap, ◌∙◌, append_assoc, arith}
 use Rattle.std.specs.Prelude.{◌==◌, filter, flat_map, slice_index, ◌≢◌, ◌||◌, ◌&&◌, nat_le}
 use Rattle.std.specs.Str.Lines.{strip_carriage_return}
-use Rattle.std.specs.List.{slice_split, onto_first, join_with_byte, list_all, AllByRecursion}
-use Rattle.std.proofs.lemmas.Bool.{and_parts, ne_eqb}
+use Rattle.std.specs.List.{slice_split, onto_first, join_with_byte, list_all, All, AllByRecursion}
+use Rattle.std.proofs.lemmas.Bool.{ne_eqb}
 use Rattle.std.proofs.lemmas.Grind.{common_steps}
 use Rattle.std.proofs.lemmas.Bool.Decides.{nat_tests}
+use Rattle.std.proofs.lemmas.List.Elements.{All-from_recursion}
+use Rattle.std.proofs.lemmas.List.Folds.{list_all-append}
+use Rattle.std.proofs.lemmas.List.Splits.{slice_split_at, slice_split_none}
 use Rattle.auction_terms.specs.Lines.{is_line_feed, lines_of}
+use Rattle.auction_terms.proofs.OfferLaws.{all_agree, all_append}
 use Rattle.line_words.specs.Lines.{fields, is_space}
 use Rattle.mps_meaning.specs.MpsLines.{Line, Skipped, Unprintable, Header, Data, line_of}
+use Rattle.program_rows.proofs.NamedItems.{all_pass}
 use Rattle.mps_text.proofs.LineParts.{lines_of_parts, lines_are}
 use Rattle.mps_text.specs.Text.{written}
 
@@ -20,18 +25,8 @@ abbrev pub IsField : List ℕ → Type 0
 IsField field = (0 < length field) × AllByRecursion Printable field
 
 -- no element of these passes the test
-abbrev None_pass : (ℕ → Bool) → List ℕ → Type 0
-None_pass p bytes = AllByRecursion (λ b. p b ≡ false) bytes
-
--- ---- splitting, by recursion
-
-split_none : (p : ℕ → Bool) (xs : List ℕ) → None_pass p xs → slice_split p xs ≡ xs ∷ []
-split_none p [] h = refl
-split_none p (x ∷ xs) h = rw (h.0, split_none p xs h.1) refl
-
-split_at : (p : ℕ → Bool) (xs : List ℕ) (y : ℕ) (ys : List ℕ) → None_pass p xs → p y ≡ true → slice_split p (xs ++ y ∷ ys) ≡ xs ∷ slice_split p ys
-split_at p [] y ys h e = rw e refl
-split_at p (x ∷ xs) y ys h e = rw (h.0, split_at p xs y ys h.1 e) refl
+none-passes : (p : ℕ → Bool) (bytes : List ℕ) → AllByRecursion (λ b. p b ≡ false) bytes → All (λ b. p b ≡ false) bytes
+none-passes p bytes h = All-from_recursion (λ b. p b ≡ false) bytes h
 
 -- a split has a first part
 split_some : (p : ℕ → Bool) (xs : List ℕ) → (part : List ℕ) × (parts : List (List ℕ)) × (slice_split p xs ≡ part ∷ parts)
@@ -57,15 +52,11 @@ no_return (b ∷ bytes) (suc i) h = no_return bytes i h.1
 keeps : (bytes : List ℕ) → AllByRecursion Plain bytes → strip_carriage_return bytes ≡ bytes
 keeps bytes h = rw (no_return bytes (length bytes - 1) h) refl
 
-no_feed : (bytes : List ℕ) → AllByRecursion Plain bytes → None_pass (λ b. b == 10) bytes
-no_feed [] h = tt
-no_feed (b ∷ bytes) h = (h.0.0, no_feed bytes h.1)
-
 -- the first line of a text that goes on behind it
 pub lines-line : (bytes rest : List ℕ) → AllByRecursion Plain bytes → lines_of (bytes ++ 10 ∷ rest) ≡ bytes ∷ lines_of rest
 lines-line bytes rest h =
     let more = split_some is_line_feed rest in
-    let parts : slice_split is_line_feed (bytes ++ 10 ∷ rest) ≡ bytes ∷ more.0 ∷ more.1 = split_at is_line_feed bytes 10 rest (no_feed bytes h) refl ∙ ap (λ (w : List (List ℕ)). bytes ∷ w) more.2 in
+    let parts : slice_split is_line_feed (bytes ++ 10 ∷ rest) ≡ bytes ∷ more.0 ∷ more.1 = slice_split_at is_line_feed bytes 10 rest (none-passes is_line_feed bytes (all_agree Plain (λ b. (b == 10) ≡ false) bytes (λ b p. p.0) h)) refl ∙ ap (λ (w : List (List ℕ)). bytes ∷ w) more.2 in
     let first : lines_of_parts (slice_split is_line_feed (bytes ++ 10 ∷ rest)) ≡ bytes ∷ lines_of_parts (slice_split is_line_feed rest) = rw (parts, more.2, keeps bytes h) refl in
     lines_are (bytes ++ 10 ∷ rest) ∙ first ∙ ap (λ (w : List (List ℕ)). bytes ∷ w) (sym (lines_are rest))
 
@@ -77,15 +68,14 @@ lines-none = refl
 printable-space : (b : ℕ) → Printable b → is_space b ≡ false
 printable-space b h = grind (arith, common_steps, nat_tests)
 
-no_space : (bytes : List ℕ) → AllByRecursion Printable bytes → None_pass is_space bytes
-no_space [] h = tt
-no_space (b ∷ bytes) h = (printable-space b h.0, no_space bytes h.1)
+no_space : (bytes : List ℕ) → AllByRecursion Printable bytes → All (λ b. is_space b ≡ false) bytes
+no_space bytes h = none-passes is_space bytes (all_agree Printable (λ b. is_space b ≡ false) bytes printable-space h)
 
 -- joined fields are split again
 split_joined : (a : List ℕ) (more : List (List ℕ)) → AllByRecursion IsField (a ∷ more) → slice_split is_space (join_with_byte 32 (a ∷ more)) ≡ a ∷ more
-split_joined a [] h = split_none is_space a (no_space a h.0.1)
+split_joined a [] h = slice_split_none is_space a (no_space a h.0.1)
 split_joined a (b ∷ more) h =
-    split_at is_space a 32 (join_with_byte 32 (b ∷ more)) (no_space a h.0.1) refl ∙ ap (λ (w : List (List ℕ)). a ∷ w) (split_joined b more h.1)
+    slice_split_at is_space a 32 (join_with_byte 32 (b ∷ more)) (no_space a h.0.1) refl ∙ ap (λ (w : List (List ℕ)). a ∷ w) (split_joined b more h.1)
 
 abbrev is_filled : List ℕ → Bool
 is_filled part = not (length part == 0)
@@ -120,28 +110,15 @@ printable-plain : (b : ℕ) → Printable b → ((b == 10) ≡ false) × ((b == 
 printable-plain b h = (grind (arith, nat_tests), grind (arith, nat_tests))
 
 all_text : (bytes : List ℕ) → AllByRecursion Printable bytes → list_all is_text_byte bytes ≡ true
-all_text [] h = refl
-all_text (b ∷ bytes) h = rw (printable-text b h.0, all_text bytes h.1) refl
-
-list_all-append : (p : ℕ → Bool) (xs ys : List ℕ) → list_all p xs ≡ true → list_all p ys ≡ true → list_all p (xs ++ ys) ≡ true
-list_all-append p [] ys h k = k
-list_all-append p (x ∷ xs) ys h k = let parts = and_parts (p x) (list_all p xs) h in rw (parts.0, list_all-append p xs ys parts.1 k) refl
-
-all_plain : (bytes : List ℕ) → AllByRecursion Printable bytes → AllByRecursion Plain bytes
-all_plain [] h = tt
-all_plain (b ∷ bytes) h = (printable-plain b h.0, all_plain bytes h.1)
-
-plain-append : (xs ys : List ℕ) → AllByRecursion Plain xs → AllByRecursion Plain ys → AllByRecursion Plain (xs ++ ys)
-plain-append [] ys h k = k
-plain-append (x ∷ xs) ys h k = (h.0, plain-append xs ys h.1 k)
+all_text bytes h = all_pass is_text_byte bytes (all_agree Printable (λ b. is_text_byte b ≡ true) bytes printable-text h)
 
 joined_text : (a : List ℕ) (more : List (List ℕ)) → AllByRecursion IsField (a ∷ more) → list_all is_text_byte (join_with_byte 32 (a ∷ more)) ≡ true
 joined_text a [] h = all_text a h.0.1
-joined_text a (b ∷ more) h = list_all-append is_text_byte a (32 ∷ join_with_byte 32 (b ∷ more)) (all_text a h.0.1) (joined_text b more h.1)
+joined_text a (b ∷ more) h = list_all-append is_text_byte a (32 ∷ join_with_byte 32 (b ∷ more)) ∙ rw (all_text a h.0.1, joined_text b more h.1) refl
 
 joined_plain : (a : List ℕ) (more : List (List ℕ)) → AllByRecursion IsField (a ∷ more) → AllByRecursion Plain (join_with_byte 32 (a ∷ more))
-joined_plain a [] h = all_plain a h.0.1
-joined_plain a (b ∷ more) h = plain-append a (32 ∷ join_with_byte 32 (b ∷ more)) (all_plain a h.0.1) ((refl, refl), joined_plain b more h.1)
+joined_plain a [] h = all_agree Printable Plain a printable-plain h.0.1
+joined_plain a (b ∷ more) h = all_append Plain a (32 ∷ join_with_byte 32 (b ∷ more)) (all_agree Printable Plain a printable-plain h.0.1) ((refl, refl), joined_plain b more h.1)
 
 not_none : (n : ℕ) → (suc n == 0) ≡ false
 not_none n = grind (arith, nat_tests)
@@ -175,10 +152,8 @@ line_of-header word more h =
 
 abbrev pub IsWritten : Line → Type 0
 IsWritten (Header word more) = IsHeader word more
-IsWritten (Data []) = ⊥
 IsWritten (Data (a ∷ more)) = AllByRecursion IsField (a ∷ more)
-IsWritten Skipped = ⊥
-IsWritten Unprintable = ⊥
+IsWritten line = ⊥
 
 pub read_again : (written_lines : List Line) → AllByRecursion IsWritten written_lines → map line_of (lines_of (flat_map written written_lines)) ≡ written_lines
 read_again [] h = refl

@@ -9,9 +9,10 @@ use Rattle.program_rows.specs.Program.{Table, TableRow, TableColumn}
 use Rattle.program_rows.specs.Parts.{AreEntries}
 use Rattle.line_words.specs.Lines.{LineFields, field}
 use Rattle.mps_meaning.specs.MpsLines.{Data}
-use Rattle.mps_text.proofs.ColumnPhase.{Pair, pair_fields, same-name, columns_lines}
+use Rattle.program_rows.proofs.EachLaws.{each, each_map}
+use Rattle.mps_text.proofs.ColumnPhase.{ArePlain, Pair, pair_fields, same-name, columns_lines}
 use Rattle.mps_text.proofs.Pushed.{push, push-append}
-use Rattle.mps_text.proofs.ColumnsBack.{Listed, plain_lines, ArePlain, IsFilled}
+use Rattle.mps_text.proofs.ColumnsBack.{Listed, plain_lines, IsFilled}
 use Rattle.mps_text.proofs.EntriesBack.{PlacesDiffer, pair_of}
 use Rattle.program_rows.specs.ProgramNames.{row_name}
 use Rattle.mps_text.proofs.Fields.{row_fields, column_fields}
@@ -69,21 +70,21 @@ names-listed p [] = refl
 names-listed p (c ∷ cs) = ap (λ (w : List (List ℕ)). c.name ∷ w) (names-listed p cs)
 
 pub all-filled : (p : Table) (cs : List TableColumn) → AllByRecursion (λ c. IsFilled c.1) (all_listed p cs)
-all-filled p [] = tt
-all-filled p (c ∷ cs) = (tt, all-filled p cs)
+all-filled p cs = each_map (λ (c : Listed). IsFilled c.1) (listed p) cs (each (λ c. IsFilled (pairs_of p c)) cs (λ c. tt))
 
 -- ---- no row is named as a marker
 
 abbrev pub IsPlainName : List ℕ → Type 0
 IsPlainName name = bytes_eq name (codes "'MARKER'") ≡ false
 
-plain-entries : (rows : List TableRow) (es : List (ℕ × ℤ)) → AllByRecursion IsPlainName (row_names rows) → AreEntries (length rows) es → ArePlain (map (pair_of (row_name rows)) es)
-plain-entries rows [] plain legal = tt
-plain-entries rows (e ∷ es) plain legal = (at-name IsPlainName rows e.0 plain legal.0, plain-entries rows es plain legal.3)
+-- what holds of the names of rows holds of those of entries
+entries-named : (P : List ℕ → Type 0) (rows : List TableRow) (es : List (ℕ × ℤ)) → AllByRecursion P (row_names rows) → AreEntries (length rows) es → AllByRecursion (λ pair. P pair.0) (map (pair_of (row_name rows)) es)
+entries-named P rows [] h legal = tt
+entries-named P rows (e ∷ es) h legal = (at-name P rows e.0 h legal.0, entries-named P rows es h legal.3)
 
 pub all-plain : (p : Table) (cs : List TableColumn) → AllByRecursion IsPlainName (p.objective ∷ row_names p.rows) → AllByRecursion (λ c. AreEntries (length p.rows) c.entries) cs → AllByRecursion (λ c. ArePlain c.1) (all_listed p cs)
 all-plain p [] plain legal = tt
-all-plain p (c ∷ cs) plain legal = ((plain.0, plain-entries p.rows c.entries plain.1 legal.0), all-plain p cs plain legal.1)
+all-plain p (c ∷ cs) plain legal = ((plain.0, entries-named IsPlainName p.rows c.entries plain.1 legal.0), all-plain p cs plain legal.1)
 
 -- ---- the rows of a column differ
 
@@ -97,14 +98,9 @@ unfolding IsDistinct
 entries-differ rows [] differ legal = tt
 entries-differ rows (e ∷ es) differ legal = (after-entry rows e.0 es differ legal.2 legal.3, entries-differ rows es differ legal.3)
 
-beside-objective : (rows : List TableRow) (name : List ℕ) (es : List (ℕ × ℤ)) → AllByRecursion (λ other. bytes_eq name other ≡ false) (row_names rows) → AreEntries (length rows) es
-    → AllByRecursion (λ other. bytes_eq name other ≡ false) (map (λ pair. pair.0) (map (pair_of (row_name rows)) es))
-beside-objective rows name [] h legal = tt
-beside-objective rows name (e ∷ es) h legal = (at-name (λ other. bytes_eq name other ≡ false) rows e.0 h legal.0, beside-objective rows name es h legal.3)
-
 pub pairs-differ : (p : Table) (c : TableColumn) → IsDistinct bytes_eq (p.objective ∷ row_names p.rows) → AreEntries (length p.rows) c.entries → IsDistinct bytes_eq (map (λ pair. pair.0) (pairs_of p c))
 unfolding IsDistinct
-pairs-differ p c d legal = (beside-objective p.rows p.objective c.entries d.0 legal, entries-differ p.rows c.entries (places-differ p.rows d.1) legal)
+pairs-differ p c d legal = (each_map (λ other. bytes_eq p.objective other ≡ false) (λ pair. pair.0) (map (pair_of (row_name p.rows)) c.entries) (entries-named (λ other. bytes_eq p.objective other ≡ false) p.rows c.entries d.0 legal), entries-differ p.rows c.entries (places-differ p.rows d.1) legal)
 
 pub all-pairs-differ : (p : Table) (cs : List TableColumn) → IsDistinct bytes_eq (p.objective ∷ row_names p.rows) → AllByRecursion (λ c. AreEntries (length p.rows) c.entries) cs → AllByRecursion (λ c. IsDistinct bytes_eq (map (λ pair. pair.0) c.1)) (all_listed p cs)
 all-pairs-differ p [] d legal = tt

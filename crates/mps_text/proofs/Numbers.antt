@@ -1,7 +1,7 @@
 -- A printed number is read again by the definition of number tokens.
 use Rattle.std.proofs.Common.{◌≡◌, ℕ, suc, ◌+◌, ◌*◌, ◌/◌, ◌%◌, ◌^◌, ◌<◌, ◌≤◌, Bool, true, false, List, [], ◌∷◌, length, refl, ◌∙◌, arith, Ok}
 use Rattle.std.specs.Prelude.{◌==◌, slice_index, ℤ, pos, negsuc, nat_lt, decimal}
-use Rattle.std.specs.List.{list_all, list_any, AllByRecursion, before_first, after_first, position_or_len}
+use Rattle.std.specs.List.{list_any, AllByRecursion, before_first, after_first, position_or_len}
 use Rattle.std.specs.Char.{is_ascii_digit}
 use Rattle.std.specs.Fmt.{signed_decimal}
 use Rattle.std.specs.Str.Parse.{digits_value, AllDigits}
@@ -12,7 +12,9 @@ use Rattle.std.proofs.lemmas.Grind.{common_steps}
 use Rattle.std.proofs.lemmas.Str.Parse.{digit_from_value}
 use Rattle.std.proofs.lemmas.Fmt.{decimal_is_IsNumeral, length-decimal-le}
 use Rattle.line_words.specs.Numbers.{number, is_exponent_mark, is_minus, without_sign, signed}
+use Rattle.auction_terms.proofs.OfferLaws.{all_agree}
 pub use Rattle.program_rows.specs.Legal.{IsSmall}
+use Rattle.program_rows.proofs.NamedItems.{all_pass}
 use Rattle.mps_text.proofs.Lines.{Printable, IsField}
 
 abbrev pub Digit : ℕ → Type 0
@@ -44,10 +46,6 @@ none-before p all ds h = rw (none-position p all ds h) (take_all (length ds) ds 
 none-after : (p : ℕ → Bool) (all : (b : ℕ) → Digit b → p b ≡ false) (ds : List ℕ) → Digits ds → after_first p ds ≡ []
 none-after p all ds h = rw (none-position p all ds h) (drop_all (length ds + 1) ds (omega arith))
 
-all_digits : (ds : List ℕ) → Digits ds → list_all is_ascii_digit ds ≡ true
-all_digits [] h = refl
-all_digits (d ∷ ds) h = rw (is_digit d h.0, all_digits ds h.1) refl
-
 no_marks : (ds : List ℕ) → Digits ds → list_any is_exponent_mark ds ≡ false
 no_marks [] h = refl
 no_marks (d ∷ ds) h = rw (no_mark d h.0, no_marks ds h.1) refl
@@ -63,7 +61,7 @@ number-digits token ds e marks h some short small =
     let n = digits_value 10 ds in
     let one : n * 1 / 1 ≡ n = omega arith in
     let at_most : nat_lt (10 ^ 18) n ≡ false = le-ltb _ _ small in
-    rw (e, marks) (rw (none-before is_exponent_mark no_mark ds h, none-after is_exponent_mark no_mark ds h) (rw (none-before (λ (c : ℕ). c == 46) no_point ds h, none-after (λ (c : ℕ). c == 46) no_point ds h) (rw (append-nil ds) (rw (lt-ltb 0 (length ds) some, all_digits ds h, le-ltb 30 (length ds) short) (rw (whole_scale n, one, at_most) refl)))))
+    rw (e, marks) (rw (none-before is_exponent_mark no_mark ds h, none-after is_exponent_mark no_mark ds h) (rw (none-before (λ (c : ℕ). c == 46) no_point ds h, none-after (λ (c : ℕ). c == 46) no_point ds h) (rw (append-nil ds) (rw (lt-ltb 0 (length ds) some, all_pass is_ascii_digit ds (all_agree Digit (λ b. is_ascii_digit b ≡ true) ds is_digit h), le-ltb 30 (length ds) short) (rw (whole_scale n, one, at_most) refl)))))
 
 first_digit : (ds : List ℕ) → Digits ds → 0 < length ds → Digit (slice_index ds 0)
 first_digit [] h some = absurd (omega arith)
@@ -89,12 +87,8 @@ number-signed_decimal (negsuc n) small =
     let read = number-digits (45 ∷ decimal (suc n)) (decimal (suc n)) refl (no_marks (decimal (suc n)) ds) ds d.0.0 (length-decimal-le 30 (suc n) (omega arith) (omega arith) (omega arith)) (rw d.1 (omega arith)) in
     read ∙ rw d.1 refl
 
-printable_digits : (ds : List ℕ) → Digits ds → AllByRecursion Printable ds
-printable_digits [] h = tt
-printable_digits (d ∷ ds) h = ((omega (arith, h.0), omega (arith, h.0)), printable_digits ds h.1)
-
 pub IsField-decimal : (n : ℕ) → n < 2 ^ 64 → IsField (decimal n)
-IsField-decimal n small = let d = decimal_is_IsNumeral n small in (d.0.0, printable_digits (decimal n) (digits_from (decimal n) d.0.1))
+IsField-decimal n small = let d = decimal_is_IsNumeral n small in (d.0.0, all_agree Digit Printable (decimal n) (λ b h. (omega arith, omega arith)) (digits_from (decimal n) d.0.1))
 
 pub IsField-signed_decimal : (z : ℤ) → IsSmall z → IsField (signed_decimal z)
 IsField-signed_decimal (pos n) small = IsField-decimal n (omega arith)

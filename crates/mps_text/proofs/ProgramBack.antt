@@ -1,5 +1,5 @@
 -- The lines of a whole text give the program back.
-use Rattle.std.proofs.Common.{◌≡◌, ℕ, ◌+◌, ◌≤◌, Bool, true, false, not, List, [], ◌∷◌, length, map, refl, sym, ap, subst, ◌∙◌, arith, Option, Some, None}
+use Rattle.std.proofs.Common.{◌≡◌, ℕ, ◌+◌, Bool, true, false, not, List, [], ◌∷◌, length, map, refl, sym, ap, subst, ◌∙◌, arith, Option, Some, None}
 use Rattle.std.specs.Prelude.{bytes_eq, codes, find, flat_map, position, ℤ, pos, option_map, unwrap_or, slice_get, if◌then◌else◌, filter, nat_lt}
 use Rattle.std.specs.List.{AllByRecursion, IsDistinct, enumerate_from, position_or_len}
 use Rattle.std.proofs.lemmas.List.{reverse-reverse}
@@ -12,9 +12,10 @@ use Rattle.mps_meaning.specs.Sections.{Sections}
 use Rattle.mps_meaning.specs.Described.{column_lines, first_free, columns_named, table_column, table_rows, program, lower, upper, column_pairs, number_beside, line_right_sides}
 use Rattle.mps_meaning.specs.Faults.{is_binary, stands_in_integers}
 use Rattle.program_rows.specs.Legal.{IsWritable, IsSmall}
+use Rattle.program_rows.proofs.EachLaws.{each}
 use Rattle.mps_text.proofs.Small.{small_costs, small_entries}
 use Rattle.mps_text.proofs.Numbers.{number-signed_decimal}
-use Rattle.mps_text.proofs.RowPhase.{flip}
+use Rattle.program_rows.proofs.NamedItems.{bytes_flip}
 use Rattle.mps_text.proofs.ColumnPhase.{same-name}
 use Rattle.mps_text.proofs.RowsBack.{rows_back}
 use Rattle.mps_text.proofs.Pushed.{push, push-onto_none}
@@ -55,12 +56,10 @@ rows-listed before p legal told h =
 -- ---- columns
 
 unnamed : (p : Table) (cs : List TableColumn) → AreUnnamed [] (all_listed p cs)
-unnamed p [] = tt
-unnamed p (c ∷ cs) = (refl, unnamed p cs)
+unnamed p cs = each _ (all_listed p cs) (λ c. refl)
 
 unlisted : (p : Table) (cs : List TableColumn) → AreUnlisted [] (all_listed p cs)
-unlisted p [] = tt
-unlisted p (c ∷ cs) = (refl, unlisted p cs)
+unlisted p cs = each _ (all_listed p cs) (λ c. refl)
 
 pub names-back : (before : Sections) (p : Table) → IsProgram p → Lists before p → columns_named before.columns ≡ map (λ c. c.name) p.columns
 names-back before p legal h =
@@ -94,17 +93,13 @@ row-by-row : (before : Sections) (p : Table) (c : TableColumn) (k : ℕ) (rows :
     → AllByRecursion (λ r. number_beside (column_pairs before.columns c.name) r.1.name ≡ worth (look (row_name p.rows r.0) (map (pair_of (row_name p.rows)) c.entries))) (enumerate_from k rows)
 row-by-row before p c k [] h at differ = tt
 row-by-row before p c k (r ∷ rows) h at differ =
-    (coefficient-found before p c r.name h ∙ rw (flip p.objective r.name differ.0, at.0) refl, row-by-row before p c (k + 1) rows h at.1 differ.1)
-
-from-nought : (es : List (ℕ × ℤ)) → AllByRecursion (λ e. 0 ≤ e.0) es
-from-nought [] = tt
-from-nought (e ∷ es) = (omega arith, from-nought es)
+    (coefficient-found before p c r.name h ∙ rw (bytes_flip p.objective r.name differ.0, at.0) refl, row-by-row before p c (k + 1) rows h at.1 differ.1)
 
 pub entries-listed : (before : Sections) (p : Table) (c : TableColumn) → IsFound before p c → rows_in before ≡ p.rows → IsDistinct bytes_eq (p.objective ∷ row_names p.rows) → AreEntries (length p.rows) c.entries → AllByRecursion (λ e. IsSmall e.1) c.entries
     → filter (λ e. not (int_eq e.1 (pos 0))) (map (λ r. (r.0, number_beside (column_pairs before.columns c.name) r.1.name)) (enumerate_from 0 (rows_in before))) ≡ c.entries
 unfolding IsDistinct
 entries-listed before p c h same differ legal small =
-    rw same (entries-back (row_name p.rows) (length p.rows) (λ r. number_beside (column_pairs before.columns c.name) r.1.name) 0 p.rows c.entries (places-differ p.rows differ.1) (omega arith) legal (from-nought c.entries) small
+    rw same (entries-back (row_name p.rows) (length p.rows) (λ r. number_beside (column_pairs before.columns c.name) r.1.name) 0 p.rows c.entries (places-differ p.rows differ.1) (omega arith) legal (each _ c.entries (λ e. omega arith)) small
     (row-by-row before p c 0 p.rows h (names-at p.rows 0 p.rows (λ i. ap (λ (n : ℕ). slice_get p.rows n) (omega arith))) differ.0))
 
 column-from : (before : Sections) (c : TableColumn) → (if int_eq (lower before.bounds c.name) (pos 1) then One else (if int_eq (unwrap_or (upper before.bounds c.name) (pos 1)) (pos 0) then Zero else ZeroOrOne)) ≡ c.bounds → number_beside (column_pairs before.columns c.name) (objective_in before) ≡ c.cost → filter (λ e. not (int_eq e.1 (pos 0))) (map (λ r. (r.0, number_beside (column_pairs before.columns c.name) r.1.name)) (enumerate_from 0 (rows_in before))) ≡ c.entries → table_column before c.name ≡ c

@@ -11,28 +11,29 @@ use Rattle.mps_meaning.specs.Described.{program, column_lines, first_free, colum
 use Rattle.mps_meaning.specs.Faults.{fault, is_declared, is_integer_open, stands_in_integers, is_binary}
 use Rattle.mps_meaning.specs.Meaning.{meaning, meaning_behind}
 use Rattle.mps_meaning.specs.declared.fault.FaultKind.{FaultKind}
-use Rattle.mps_text.specs.Text.{text, block, if_any}
+use Rattle.mps_text.specs.Text.{text, if_any}
 use Rattle.program_rows.specs.Legal.{IsWritable, IsSmall}
 use Rattle.mps_text.specs.RoundTrip.{TextIsRead}
 use Rattle.mps_text.proofs.Small.{small_costs, small_entries}
 use Rattle.mps_text.proofs.Lines.{read_again}
 use Rattle.mps_text.proofs.Numbers.{number-signed_decimal}
-use Rattle.mps_text.proofs.Blocks.{onto, AreRead, end_line, read-through, AreRead-append, onto-append}
-use Rattle.mps_text.proofs.RowPhase.{rows-read, flip}
+use Rattle.mps_text.proofs.Blocks.{onto, AreRead, read-through, AreRead-append, onto-append}
+use Rattle.mps_text.proofs.RowPhase.{rows-read}
+use Rattle.program_rows.proofs.NamedItems.{bytes_flip}
 use Rattle.mps_text.proofs.RightSidePhase.{right_sides-read, Ready}
 use Rattle.mps_text.proofs.BoundPhase.{bounds-read}
 use Rattle.std.specs.Option.{option_map_or}
 use Rattle.std.proofs.lemmas.List.{map-append, append-nil}
-use Rattle.mps_text.proofs.ColumnPhase.{same-name, IsNew, IsReady, columns-read}
+use Rattle.mps_text.proofs.ColumnPhase.{ArePlain, same-name, IsNew, IsReady, columns-read}
 use Rattle.mps_text.proofs.Pushed.{push, push-append, held, holds-rows, holds-columns, holds-sides, holds-bounds}
-use Rattle.mps_text.proofs.ColumnsBack.{plain_lines, keeps-lines, open-lines, all-stand, ArePlain}
+use Rattle.mps_text.proofs.ColumnsBack.{plain_lines, keeps-lines, open-lines, all-stand}
 use Rattle.mps_text.proofs.EntriesBack.{pair_of}
 use Rattle.mps_text.proofs.Listing.{row_names, all_listed, at-name, column-lines, data-lines, names-listed, all-filled, all-plain, IsPlainName, pairs-differ, any-keeps, rows-declared, columns-named}
 use Rattle.mps_text.proofs.WrittenLines.{all-written, text_lines}
 use Rattle.mps_text.proofs.ProgramBack.{Lists, objective-back, program-back, all-binary}
 use Rattle.program_rows.specs.ProgramNames.{row_name}
 use Rattle.mps_meaning.specs.declared.fault.FaultKind.TheVariants.{NotBinary}
-use Rattle.mps_text.proofs.Fields.{row_fields, right_side_fields, bound_fields, column_fields}
+use Rattle.mps_text.proofs.Fields.{bound_fields, bounds_part, column_fields, columns_part, end_line, first_marker, last_marker, name_line, right_side_fields, row_fields, rows_part, sides_part}
 
 -- ---- names of rows
 
@@ -53,7 +54,7 @@ all-known p = rows-declared p.rows ((codes "N" ∷ p.objective ∷ []) ∷ [])
 
 new-rows : (p : Table) (before : Sections) (names : List (List ℕ)) → before.rows ≡ (codes "N" ∷ p.objective ∷ []) ∷ [] → AllByRecursion (λ other. bytes_eq p.objective other ≡ false) names → AllByRecursion (λ name. is_declared before.rows name ≡ false) names
 new-rows p before [] e d = tt
-new-rows p before (name ∷ names) e d = (rw (e, flip p.objective name d.0) refl, new-rows p before names e d.1)
+new-rows p before (name ∷ names) e d = (rw (e, bytes_flip p.objective name d.0) refl, new-rows p before names e d.1)
 
 -- ---- the lines of COLUMNS
 
@@ -99,7 +100,7 @@ ready-sides p before (r ∷ rows) rs none known differ small = (
   record {
     declared = rw rs known.0;
     new = rw none refl;
-    bound = ap (λ (w : Option (List ℕ)). option_map_or (bytes_eq r.name) w false) (objective-back before p rs) ∙ flip p.objective r.name differ.0;
+    bound = ap (λ (w : Option (List ℕ)). option_map_or (bytes_eq r.name) w false) (objective-back before p rs) ∙ bytes_flip p.objective r.name differ.0;
     small = small.0;
   },
   ready-sides p before rows rs none known.1 differ.1 small.1,
@@ -135,21 +136,6 @@ end-behind_bounds before name s o b = rw (s, o, b) refl
 
 -- ---- the whole text
 
-abbrev name_line : Line
-name_line = Header (codes "NAME") (codes "wdp" ∷ [])
-
-abbrev rows_part : Table → List Line
-rows_part p = block (codes "ROWS") ((codes "N" ∷ p.objective ∷ []) ∷ map row_fields p.rows)
-
-abbrev columns_part : Table → List Line
-columns_part p = block (codes "COLUMNS") (if_any p.columns ((codes "M1" ∷ codes "'MARKER'" ∷ codes "'INTORG'" ∷ []) ∷ flat_map (column_fields p) p.columns ++ (codes "M2" ∷ codes "'MARKER'" ∷ codes "'INTEND'" ∷ []) ∷ []))
-
-abbrev sides_part : Table → List Line
-sides_part p = block (codes "RHS") (map right_side_fields p.rows)
-
-abbrev bounds_part : Table → List Line
-bounds_part p = block (codes "BOUNDS") (map bound_fields p.columns)
-
 -- what stands before a line, and that all of it was read
 pub record IsBehind (ls : List Line) (word : List ℕ) (rs cs ss bs : List LineFields) : Type 0 where
   pub read : AreRead no_lines ls
@@ -178,12 +164,6 @@ behind-no_columns p ls h =
     let start = held (codes "ROWS") (rows_of p) [] [] [] in
     behind-then ls (Header (codes "COLUMNS") [] ∷ []) (codes "ROWS") (codes "COLUMNS") (rows_of p) [] [] [] (rows_of p) [] [] [] h
     (columns-header start p.objective refl (objective-back start p refl), refl, tt) refl
-
-abbrev first_marker : LineFields
-first_marker = codes "M1" ∷ codes "'MARKER'" ∷ codes "'INTORG'" ∷ []
-
-abbrev last_marker : LineFields
-last_marker = codes "M2" ∷ codes "'MARKER'" ∷ codes "'INTEND'" ∷ []
 
 abbrev marked : Table → List LineFields
 marked p = first_marker ∷ plain_lines (all_listed p p.columns) ++ last_marker ∷ []
@@ -300,7 +280,7 @@ behind-columns_part : (p : Table) (c : TableColumn) (cs : List TableColumn) (ls 
 behind-columns_part p c cs ls legal told e h =
     subst (λ (w : List LineFields). IsBehind (ls ++ Header (codes "COLUMNS") [] ∷ map Data w) (codes "COLUMNS") (rows_of p) (all_columns p) [] []) same (behind-columns p ls legal told h)
   where
-    same : marked p ≡ if_any p.columns ((codes "M1" ∷ codes "'MARKER'" ∷ codes "'INTORG'" ∷ []) ∷ flat_map (column_fields p) p.columns ++ (codes "M2" ∷ codes "'MARKER'" ∷ codes "'INTEND'" ∷ []) ∷ [])
+    same : marked p ≡ if_any p.columns (first_marker ∷ flat_map (column_fields p) p.columns ++ last_marker ∷ [])
     same = ap (λ (w : List LineFields). first_marker ∷ w ++ last_marker ∷ []) (sym (column-lines p p.columns)) ∙ if-some p.columns e
       where
         if-some : (ds : List TableColumn) → ds ≡ c ∷ cs → first_marker ∷ flat_map (column_fields p) p.columns ++ last_marker ∷ [] ≡ if_any ds (first_marker ∷ flat_map (column_fields p) p.columns ++ last_marker ∷ [])

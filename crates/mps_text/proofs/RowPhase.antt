@@ -1,9 +1,7 @@
 -- The lines of ROWS are read without a fault.
-use Rattle.std.proofs.Common.{◌≡◌, ℕ, true, false, not, List, [], ◌∷◌, map, refl, sym, None}
+use Rattle.std.proofs.Common.{◌≡◌, ℕ, true, false, not, List, [], ◌∷◌, map, refl, None}
 use Rattle.std.specs.Prelude.{bytes_eq, codes, filter}
 use Rattle.std.specs.List.{AllByRecursion, IsDistinct}
-use Rattle.std.proofs.lemmas.Bool.{both_ways, false_from_ne_true}
-use Rattle.std.proofs.lemmas.Slice.Eq.{bytes_eq-Decides}
 use Rattle.program_rows.specs.declared.row.RowKind.{RowKind}
 use Rattle.program_rows.specs.declared.row.RowKind.TheVariants.{AtMost, AtLeast, Equal}
 use Rattle.program_rows.specs.Program.{TableRow}
@@ -12,6 +10,7 @@ use Rattle.mps_meaning.specs.Sections.{Sections, with_line}
 use Rattle.mps_meaning.specs.Described.{is_one_of, is_free, row_kind_of}
 use Rattle.mps_meaning.specs.Faults.{fault, is_declared}
 use Rattle.mps_text.specs.Text.{kind_letter}
+use Rattle.program_rows.proofs.NamedItems.{bytes_flip}
 use Rattle.mps_text.proofs.Blocks.{AreRead}
 use Rattle.mps_text.proofs.Fields.{row_fields}
 
@@ -28,13 +27,10 @@ row-read before r s new = rw (s, is_type r.kind, new) refl
 abbrev pub AreNew : Sections → List (List ℕ) → Type 0
 AreNew before names = AllByRecursion (λ name. is_declared before.rows name ≡ false) names
 
-pub flip : (x y : List ℕ) → bytes_eq x y ≡ false → bytes_eq y x ≡ false
-flip x y h = false_from_ne_true _ (λ e. both_ways _ h ((bytes_eq-Decides x y).1 (sym ((bytes_eq-Decides y x).0 e))))
-
 -- names that are new, and differ from the one that is declared now, stay new
 still_new : (before : Sections) (r : TableRow) (names : List (List ℕ)) → before.section ≡ codes "ROWS" → AreNew before names → AllByRecursion (λ name. bytes_eq r.name name ≡ false) names → AreNew (with_line before (Data (row_fields r))) names
 still_new before r [] s new differ = tt
-still_new before r (name ∷ names) s new differ = (rw (s, flip r.name name differ.0, new.0) refl, still_new before r names s new.1 differ.1)
+still_new before r (name ∷ names) s new differ = (rw (s, bytes_flip r.name name differ.0, new.0) refl, still_new before r names s new.1 differ.1)
 
 pub rows-read : (before : Sections) (rows : List TableRow) → before.section ≡ codes "ROWS" → AreNew before (map (λ r. r.name) rows) → IsDistinct bytes_eq (map (λ r. r.name) rows) → AreRead before (map Data (map row_fields rows))
 unfolding IsDistinct
@@ -44,7 +40,7 @@ rows-read before (r ∷ rows) s new differ =
 
 -- ---- what the lines of ROWS and RHS say of the program
 
-type_is : (k : RowKind) → (bytes_eq (kind_letter k) (codes "N") ≡ false) × (row_kind_of (kind_letter k) ≡ k)
+pub type_is : (k : RowKind) → (bytes_eq (kind_letter k) (codes "N") ≡ false) × (row_kind_of (kind_letter k) ≡ k)
 type_is AtMost = (refl, refl)
 type_is AtLeast = (refl, refl)
 type_is Equal = (refl, refl)

@@ -1,20 +1,19 @@
 -- The rows of the meaning are the rows of the program.
-use Rattle.std.proofs.Common.{◌≡◌, ℕ, Bool, true, false, List, [], ◌∷◌, ◌++◌, map, reverse, refl, sym, subst, append_assoc, Some}
+use Rattle.std.proofs.Common.{◌≡◌, ℕ, Bool, true, false, List, [], ◌∷◌, ◌++◌, map, reverse, refl, sym, subst, Some}
 use Rattle.std.specs.Prelude.{bytes_eq, find, flat_map, ℤ}
 use Rattle.std.specs.List.{list_any, AllByRecursion, IsDistinct}
 use Rattle.std.specs.Fmt.{signed_decimal}
 use Rattle.std.proofs.lemmas.List.{reverse-append, reverse-reverse}
+use Rattle.std.proofs.lemmas.Grind.{flat_map-append}
 use Rattle.std.proofs.lemmas.List.Folds.{list_any-append}
 use Rattle.std.proofs.lemmas.Slice.Eq.{bytes_eq-Decides}
-use Rattle.program_rows.specs.declared.row.RowKind.{RowKind}
-use Rattle.program_rows.specs.declared.row.RowKind.TheVariants.{AtMost, AtLeast, Equal}
+use Rattle.auction_terms.proofs.OfferLaws.{all_agree}
 use Rattle.program_rows.specs.Program.{TableRow}
 use Rattle.line_words.specs.Lines.{LineFields, field}
 use Rattle.mps_meaning.specs.Sections.{Sections}
 use Rattle.mps_meaning.specs.Described.{row_kind_of, is_free, table_rows, line_right_sides, number_beside}
-use Rattle.mps_text.specs.Text.{kind_letter}
 use Rattle.mps_text.proofs.Numbers.{IsSmall, number-signed_decimal}
-use Rattle.mps_text.proofs.RowPhase.{bound_rows}
+use Rattle.mps_text.proofs.RowPhase.{bound_rows, type_is}
 use Rattle.mps_text.proofs.RightSidePhase.{find-last, find-first}
 use Rattle.mps_text.proofs.Fields.{row_fields, right_side_fields}
 
@@ -24,25 +23,14 @@ shown r = (r.name, signed_decimal r.right_side)
 abbrev named : List ℕ → List ℕ × List ℕ → Bool
 named name pair = bytes_eq name pair.0
 
-flat-append : (xs ys : List LineFields) → flat_map line_right_sides (xs ++ ys) ≡ flat_map line_right_sides xs ++ flat_map line_right_sides ys
-flat-append [] ys = refl
-flat-append (x ∷ xs) ys = rw (flat-append xs ys) (sym (append_assoc (line_right_sides x) (flat_map line_right_sides xs) (flat_map line_right_sides ys)))
-
 pairs-reverse : (rows : List TableRow) → flat_map line_right_sides (reverse (map right_side_fields rows)) ≡ reverse (map shown rows)
 pairs-reverse [] = refl
 pairs-reverse (r ∷ rows) =
-    rw (reverse-append (right_side_fields r ∷ []) (map right_side_fields rows), flat-append (reverse (map right_side_fields rows)) (right_side_fields r ∷ []), pairs-reverse rows) (sym (reverse-append (shown r ∷ []) (map shown rows)))
+    rw (reverse-append (right_side_fields r ∷ []) (map right_side_fields rows), flat_map-append line_right_sides (reverse (map right_side_fields rows)) (right_side_fields r ∷ []), pairs-reverse rows) (sym (reverse-append (shown r ∷ []) (map shown rows)))
 
 none_named : (name : List ℕ) (rows : List TableRow) → AllByRecursion (λ other. bytes_eq name other ≡ false) (map (λ r. r.name) rows) → list_any (named name) (reverse (map shown rows)) ≡ false
 none_named name [] h = refl
 none_named name (r ∷ rows) h = rw (reverse-append (shown r ∷ []) (map shown rows), list_any-append (named name) (reverse (map shown rows)) (shown r ∷ []), none_named name rows h.1, h.0) refl
-
-IsFound : List (List ℕ × List ℕ) → TableRow → Type 0
-IsFound pairs r = find (named r.name) pairs ≡ Some (shown r)
-
-all_found : (front : List (List ℕ × List ℕ)) (last : List ℕ × List ℕ) (rows : List TableRow) → AllByRecursion (λ r. find (named r.name) front ≡ Some (shown r)) rows → AllByRecursion (λ r. find (named r.name) (front ++ last ∷ []) ≡ Some (shown r)) rows
-all_found front last [] h = tt
-all_found front last (r ∷ rows) h = (find-first (named r.name) front (last ∷ []) (shown r) h.0, all_found front last rows h.1)
 
 found : (ps : List TableRow) → IsDistinct bytes_eq (map (λ r. r.name) ps) → AllByRecursion (λ r. find (named r.name) (reverse (map shown ps)) ≡ Some (shown r)) ps
 unfolding IsDistinct
@@ -50,19 +38,15 @@ found [] h = tt
 found (r ∷ ps) h =
     let turned : reverse (shown r ∷ map shown ps) ≡ reverse (map shown ps) ++ shown r ∷ [] = reverse-append (shown r ∷ []) (map shown ps) in
     let back = sym turned in
-    let others = all_found (reverse (map shown ps)) (shown r) ps (found ps h.1) in (
+    let others = all_agree (λ q. find (named q.name) (reverse (map shown ps)) ≡ Some (shown q)) (λ q. find (named q.name) (reverse (map shown ps) ++ shown r ∷ []) ≡ Some (shown q)) ps
+    (λ q. find-first (named q.name) (reverse (map shown ps)) (shown r ∷ []) (shown q)) (found ps h.1) in (
       rw turned (find-last (named r.name) (reverse (map shown ps)) (shown r) (none_named r.name ps h.0) ((bytes_eq-Decides r.name r.name).1 refl)),
       subst (λ (w : List (List ℕ × List ℕ)). AllByRecursion (λ q. find (named q.name) w ≡ Some (shown q)) ps) back others,
     )
 
-kind-back : (k : RowKind) → row_kind_of (kind_letter k) ≡ k
-kind-back AtMost = refl
-kind-back AtLeast = refl
-kind-back Equal = refl
-
 rows_by : (number : List ℕ → ℤ) (ps : List TableRow) → AllByRecursion (λ r. number r.name ≡ r.right_side) ps → map (λ fields. record { name = field 1 fields; kind = row_kind_of (field 0 fields); right_side = number (field 1 fields) }) (map row_fields ps) ≡ ps
 rows_by number [] h = refl
-rows_by number (r ∷ ps) h = rw (kind-back r.kind, h.0, rows_by number ps h.1) refl
+rows_by number (r ∷ ps) h = rw ((type_is r.kind).1, h.0, rows_by number ps h.1) refl
 
 -- the right sides, once the lines of RHS are read
 right_sides_back : (before : Sections) (ps qs : List TableRow) → before.right_sides ≡ reverse (map right_side_fields qs) → AllByRecursion (λ r. find (named r.name) (reverse (map shown qs)) ≡ Some (shown r)) ps

@@ -1,81 +1,46 @@
 -- Bytes written one after the other.
-use Rattle.std.proofs.Common.{◌≡◌, ℕ, zero, suc, ◌+◌, ◌-◌, ◌<◌, ◌≤◌, ◌∙◌, List, [], ◌∷◌, ◌++◌, length, take, slice_index, slice_set, refl, sym, ap, arith}
+use Rattle.std.proofs.Common.{◌≡◌, ℕ, ◌+◌, ◌-◌, ◌<◌, ◌≤◌, ◌∙◌, List, [], ◌∷◌, ◌++◌, length, take, slice_index, slice_set, refl, sym, ap, arith, append_assoc}
 use borrow.Rule.Slice.PartMut.{mid_len, mid_of, put_mid, same_len_mid}
 use Rattle.std.proofs.lemmas.Slice.{take-put_mid}
-use Rattle.std.proofs.lemmas.List.{length-set, length-take-le, take-take}
+use Rattle.std.proofs.lemmas.List.{length-set, length-take-le, take-set-le, take-take}
 use Rattle.std.proofs.Math.Seq.{take-append-add}
 use Rattle.std.proofs.lemmas.Grind.{take-set_at}
-use native.Mathlib.Numerals.{unary_clauses}
 use Rattle.std.specs.Prelude.{◌/◌, ◌%◌, decimal}
 use Rattle.std.proofs.lemmas.Fmt.{decimal_digit, decimal_step}
 
--- names of two, three and four bytes, each by its first two and its last two
-two_named : (at : ℕ) (xs : List ℕ) (a b : ℕ) → at + 4 ≤ length xs → take (at + 2) (slice_set (slice_set (slice_set (slice_set xs at a) (at + 1) b) (at + 0) a) (at + 0 + 1) b) ≡ take at xs ++ a ∷ b ∷ []
-two_named zero [] a b room = absurd (omega arith)
-two_named zero (w ∷ []) a b room = absurd (omega arith)
-two_named zero (w ∷ x ∷ []) a b room = absurd (omega arith)
-two_named zero (w ∷ x ∷ y ∷ []) a b room = absurd (omega arith)
-two_named zero (w ∷ x ∷ y ∷ z ∷ xs) a b room = refl
-two_named (suc at) [] a b room = absurd (omega arith)
-two_named (suc at) (w ∷ xs) a b room =
-    let rest = two_named at xs a b (omega arith) in
-    simp unary_clauses (ap (λ (ys : List ℕ). w ∷ ys) (simp unary_clauses at rest))
+-- two bytes, one behind the other
+two_written : (at next end : ℕ) (xs front : List ℕ) (a b : ℕ) → next ≡ at + 1 → end ≡ at + 2 → end ≤ length xs → take at xs ≡ front → take end (slice_set (slice_set xs at a) next b) ≡ front ++ a ∷ b ∷ []
+two_written at next end xs front a b e f room h =
+    take-set_at (slice_set xs at a) next end b (omega arith) (omega (arith, length-set {A = ℕ}))
+    ∙ ap (λ (ys : List ℕ). ys ++ b ∷ []) (take-set_at xs at next a e (omega arith) ∙ ap (λ (ys : List ℕ). ys ++ a ∷ []) h)
+    ∙ append_assoc front (a ∷ []) (b ∷ [])
 
-three_named : (at : ℕ) (xs : List ℕ) (a b c : ℕ) → at + 4 ≤ length xs → take (at + 3) (slice_set (slice_set (slice_set (slice_set xs at a) (at + 1) b) (at + 1) b) (at + 1 + 1) c) ≡ take at xs ++ a ∷ b ∷ c ∷ []
-three_named zero [] a b c room = absurd (omega arith)
-three_named zero (w ∷ []) a b c room = absurd (omega arith)
-three_named zero (w ∷ x ∷ []) a b c room = absurd (omega arith)
-three_named zero (w ∷ x ∷ y ∷ []) a b c room = absurd (omega arith)
-three_named zero (w ∷ x ∷ y ∷ z ∷ xs) a b c room = refl
-three_named (suc at) [] a b c room = absurd (omega arith)
-three_named (suc at) (w ∷ xs) a b c room =
-    let rest = three_named at xs a b c (omega arith) in
-    simp unary_clauses (ap (λ (ys : List ℕ). w ∷ ys) (simp unary_clauses at rest))
+four_written : (last at : ℕ) (xs : List ℕ) (a b c d : ℕ) → last ≡ at + 3 → at + 4 ≤ length xs → take (at + 4) (slice_set (slice_set (slice_set (slice_set xs at a) (at + 1) b) (at + 2) c) last d) ≡ take at xs ++ a ∷ b ∷ c ∷ d ∷ []
+four_written last at xs a b c d e room =
+    two_written (at + 2) last (at + 4) (slice_set (slice_set xs at a) (at + 1) b) (take at xs ++ a ∷ b ∷ []) c d (omega arith) (omega arith) (omega (arith, length-set {A = ℕ}))
+    (two_written at (at + 1) (at + 2) xs (take at xs) a b refl refl (omega arith) refl)
+    ∙ append_assoc (take at xs) (a ∷ b ∷ []) (c ∷ d ∷ [])
 
-four_named : (at : ℕ) (xs : List ℕ) (a b c d : ℕ) → at + 4 ≤ length xs → take (at + 4) (slice_set (slice_set (slice_set (slice_set xs at a) (at + 1) b) (at + 2) c) (at + 2 + 1) d) ≡ take at xs ++ a ∷ b ∷ c ∷ d ∷ []
-four_named zero [] a b c d room = absurd (omega arith)
-four_named zero (w ∷ []) a b c d room = absurd (omega arith)
-four_named zero (w ∷ x ∷ []) a b c d room = absurd (omega arith)
-four_named zero (w ∷ x ∷ y ∷ []) a b c d room = absurd (omega arith)
-four_named zero (w ∷ x ∷ y ∷ z ∷ xs) a b c d room = refl
-four_named (suc at) [] a b c d room = absurd (omega arith)
-four_named (suc at) (w ∷ xs) a b c d room =
-    let rest = four_named at xs a b c d (omega arith) in
-    simp unary_clauses (ap (λ (ys : List ℕ). w ∷ ys) (simp unary_clauses at rest))
-
+-- a name of two, three or four bytes, by its first two and its last two
 pub name_written : (at : ℕ) (xs name : List ℕ) → 2 ≤ length name → length name ≤ 4 → at + 4 ≤ length xs
     → take (at + length name) (slice_set (slice_set (slice_set (slice_set xs at (slice_index name 0)) (at + 1) (slice_index name 1)) (at + (length name - 2)) (slice_index name (length name - 2))) (at + (length name - 2) + 1) (slice_index name (length name - 2 + 1))) ≡ take at xs ++ name
 name_written at xs [] some few room = absurd (omega arith)
 name_written at xs (a ∷ []) some few room = absurd (omega arith)
-name_written at xs (a ∷ b ∷ []) some few room = two_named at xs a b room
-name_written at xs (a ∷ b ∷ c ∷ []) some few room = three_named at xs a b c room
-name_written at xs (a ∷ b ∷ c ∷ d ∷ []) some few room = four_named at xs a b c d room
+name_written at xs (a ∷ b ∷ []) some few room =
+    two_written (at + 0) (at + 0 + 1) (at + 2) (slice_set (slice_set xs at a) (at + 1) b) (take at xs) a b refl (omega arith) (omega (arith, length-set {A = ℕ}))
+    (take-set-le (at + 0) (slice_set xs at a) (at + 1) b (omega arith) ∙ take-set-le (at + 0) xs at a (omega arith) ∙ ap (λ (n : ℕ). take n xs) (omega arith))
+name_written at xs (a ∷ b ∷ c ∷ []) some few room =
+    two_written (at + 1) (at + 1 + 1) (at + 3) (slice_set (slice_set xs at a) (at + 1) b) (take at xs ++ a ∷ []) b c refl (omega arith) (omega (arith, length-set {A = ℕ}))
+    (take-set-le (at + 1) (slice_set xs at a) (at + 1) b (omega arith) ∙ take-set_at xs at (at + 1) a refl (omega arith))
+    ∙ append_assoc (take at xs) (a ∷ []) (b ∷ c ∷ [])
+name_written at xs (a ∷ b ∷ c ∷ d ∷ []) some few room = four_written (at + 2 + 1) at xs a b c d (omega arith) room
 name_written at xs (a ∷ b ∷ c ∷ d ∷ e ∷ name) some few room = absurd (omega arith)
-
-pub three_written : (at : ℕ) (xs : List ℕ) (a b c : ℕ) → at + 3 ≤ length xs → take (at + 3) (slice_set (slice_set (slice_set xs at a) (at + 1) b) (at + 2) c) ≡ take at xs ++ a ∷ b ∷ c ∷ []
-three_written zero [] a b c room = absurd (omega arith)
-three_written zero (w ∷ []) a b c room = absurd (omega arith)
-three_written zero (w ∷ x ∷ []) a b c room = absurd (omega arith)
-three_written zero (w ∷ x ∷ y ∷ xs) a b c room = refl
-three_written (suc at) [] a b c room = absurd (omega arith)
-three_written (suc at) (w ∷ xs) a b c room =
-    let rest = three_written at xs a b c (omega arith) in
-    simp unary_clauses (ap (λ (ys : List ℕ). w ∷ ys) (simp unary_clauses at rest))
-
-pub four_written : (at : ℕ) (xs : List ℕ) (a b c d : ℕ) → at + 4 ≤ length xs → take (at + 4) (slice_set (slice_set (slice_set (slice_set xs at a) (at + 1) b) (at + 2) c) (at + 3) d) ≡ take at xs ++ a ∷ b ∷ c ∷ d ∷ []
-four_written zero [] a b c d room = absurd (omega arith)
-four_written zero (w ∷ []) a b c d room = absurd (omega arith)
-four_written zero (w ∷ x ∷ []) a b c d room = absurd (omega arith)
-four_written zero (w ∷ x ∷ y ∷ []) a b c d room = absurd (omega arith)
-four_written zero (w ∷ x ∷ y ∷ z ∷ xs) a b c d room = refl
-four_written (suc at) [] a b c d room = absurd (omega arith)
-four_written (suc at) (w ∷ xs) a b c d room =
-    let rest = four_written at xs a b c d (omega arith) in
-    simp unary_clauses (ap (λ (ys : List ℕ). w ∷ ys) (simp unary_clauses at rest))
 
 pub one_digit : (at : ℕ) (xs : List ℕ) (n : ℕ) → n < 10 → at + 3 ≤ length xs → take (at + 3) (slice_set (slice_set (slice_set xs at 32) (at + 1) (48 + n)) (at + 2) 10) ≡ take at xs ++ (32 ∷ (decimal n ++ 10 ∷ []))
 one_digit at xs n small room =
-    three_written at xs 32 (48 + n) 10 room
+    take-set_at (slice_set (slice_set xs at 32) (at + 1) (48 + n)) (at + 2) (at + 3) 10 (omega arith) (omega (arith, length-set {A = ℕ}))
+    ∙ ap (λ (ys : List ℕ). ys ++ 10 ∷ []) (two_written at (at + 1) (at + 2) xs (take at xs) 32 (48 + n) refl refl (omega arith) refl)
+    ∙ append_assoc (take at xs) (32 ∷ (48 + n) ∷ []) (10 ∷ [])
     ∙ ap (λ (digits : List ℕ). take at xs ++ (32 ∷ (digits ++ 10 ∷ []))) (sym (decimal_digit n small))
 
 -- the digits of a number of two
@@ -85,7 +50,7 @@ digits_of_two n large small = decimal_step n large (omega arith) ∙ ap (λ (dig
 pub two_digits : (at : ℕ) (xs : List ℕ) (n : ℕ) → 10 ≤ n → n < 100 → at + 4 ≤ length xs
     → take (at + 4) (slice_set (slice_set (slice_set (slice_set xs at 32) (at + 1) (48 + n / 10)) (at + 2) (48 + n % 10)) (at + 3) 10) ≡ take at xs ++ (32 ∷ (decimal n ++ 10 ∷ []))
 two_digits at xs n large small room =
-    four_written at xs 32 (48 + n / 10) (48 + n % 10) 10 room
+    four_written (at + 3) at xs 32 (48 + n / 10) (48 + n % 10) 10 refl room
     ∙ ap (λ (digits : List ℕ). take at xs ++ (32 ∷ (digits ++ 10 ∷ []))) (sym (digits_of_two n large small))
 
 -- the blank behind the name has room

@@ -13,20 +13,20 @@ use Rattle.line_words.specs.Lines.{LineFields}
 use Rattle.mps_meaning.specs.MpsLines.{Line, Header, Data}
 use Rattle.mps_text.specs.Text.{block, if_any, kind_letter, bound_words}
 use Rattle.program_rows.specs.Legal.{IsWritable, IsSmall}
+use Rattle.auction_terms.proofs.OfferLaws.{all_agree, all_append}
+use Rattle.program_rows.proofs.EachLaws.{each_map}
+use Rattle.program_rows.proofs.NamedItems.{all_true}
 use Rattle.mps_text.proofs.Small.{small_costs, small_entries}
 use Rattle.mps_text.proofs.Lines.{IsField, Printable, IsWritten}
 use Rattle.mps_text.proofs.Numbers.{IsField-signed_decimal}
 use Rattle.mps_text.proofs.Listing.{row_names, at-name}
 use Rattle.std.specs.Fmt.{signed_decimal}
 use Rattle.program_rows.specs.ProgramNames.{row_name}
-use Rattle.mps_text.proofs.Fields.{row_fields, right_side_fields, bound_fields, column_fields}
+use Rattle.mps_text.proofs.Fields.{bound_fields, bounds_part, column_fields, columns_part, end_line, first_marker, last_marker, name_line, right_side_fields, row_fields, rows_part, sides_part}
 
 printables : (bytes : List ℕ) → list_all (λ b. nat_le 33 b && nat_le b 126) bytes ≡ true → AllByRecursion Printable bytes
-printables [] h = tt
-printables (b ∷ bytes) h =
-    let parts = and_parts (nat_le 33 b && nat_le b 126) (list_all (λ q. nat_le 33 q && nat_le q 126) bytes) h in
-    let sides = and_parts (nat_le 33 b) (nat_le b 126) parts.0 in
-    ((leb-true 33 b sides.0, leb-true b 126 sides.1), printables bytes parts.1)
+printables bytes h = all_agree (λ b. (nat_le 33 b && nat_le b 126) ≡ true) Printable bytes (λ b e. let sides = and_parts (nat_le 33 b) (nat_le b 126) e in (leb-true 33 b sides.0, leb-true b 126 sides.1))
+    (all_true (λ b. nat_le 33 b && nat_le b 126) bytes h)
 
 -- known bytes are a field where they compute to be
 known : (bytes : List ℕ) → nat_lt 0 (length bytes) ≡ true → list_all (λ b. nat_le 33 b && nat_le b 126) bytes ≡ true → IsField bytes
@@ -34,18 +34,6 @@ known bytes some all = (ltb-true 0 (length bytes) some, printables bytes all)
 
 abbrev IsDataLine : LineFields → Type 0
 IsDataLine fields = IsWritten (Data fields)
-
-all-data : (ls : List LineFields) → AllByRecursion IsDataLine ls → AllByRecursion IsWritten (map Data ls)
-all-data [] h = tt
-all-data (l ∷ ls) h = (h.0, all-data ls h.1)
-
-then : (xs ys : List Line) → AllByRecursion IsWritten xs → AllByRecursion IsWritten ys → AllByRecursion IsWritten (xs ++ ys)
-then [] ys h k = k
-then (x ∷ xs) ys h k = (h.0, then xs ys h.1 k)
-
-then-data : (xs ys : List LineFields) → AllByRecursion IsDataLine xs → AllByRecursion IsDataLine ys → AllByRecursion IsDataLine (xs ++ ys)
-then-data [] ys h k = k
-then-data (x ∷ xs) ys h k = (h.0, then-data xs ys h.1 k)
 
 letter : (k : RowKind) → IsField (kind_letter k)
 letter AtMost = known (codes "L") refl refl
@@ -82,7 +70,7 @@ column-lines : (p : Table) (cs : List TableColumn) → AllByRecursion IsName (p.
     → AllByRecursion (λ c. IsSmall c.cost) cs → AllByRecursion (λ c. AllByRecursion (λ e. IsSmall e.1) c.entries) cs → AllByRecursion IsDataLine (flat_map (column_fields p) cs)
 column-lines p [] rows names legal cost small = tt
 column-lines p (c ∷ cs) rows names legal cost small =
-    then-data (column_fields p c) (flat_map (column_fields p) cs)
+    all_append IsDataLine (column_fields p c) (flat_map (column_fields p) cs)
     ((names.0, (rows.0, (IsField-signed_decimal c.cost cost.0, tt))), entry-lines p.rows c.name c.entries names.0 rows.1 legal.0 small.0)
     (column-lines p cs rows names.1 legal.1 cost.1 small.1)
 
@@ -90,16 +78,16 @@ header : (word : List ℕ) → slice_index word 0 ≢ 42 → IsField word → Is
 header word star f = (star, (f, tt))
 
 headed : (word : List ℕ) (ls : List LineFields) → slice_index word 0 ≢ 42 → IsField word → AllByRecursion IsDataLine ls → AllByRecursion IsWritten (block word ls)
-headed word ls star f h = (header word star f, all-data ls h)
+headed word ls star f h = (header word star f, each_map IsWritten Data ls h)
 
 marker-line : (name word : List ℕ) → IsField name → IsField word → IsDataLine (name ∷ codes "'MARKER'" ∷ word ∷ [])
 marker-line name word n w = (n, (known (codes "'MARKER'") refl refl, (w, tt)))
 
-column-part : (p : Table) (cs : List TableColumn) → AllByRecursion IsDataLine (flat_map (column_fields p) cs) → AllByRecursion IsDataLine (if_any cs ((codes "M1" ∷ codes "'MARKER'" ∷ codes "'INTORG'" ∷ []) ∷ flat_map (column_fields p) cs ++ (codes "M2" ∷ codes "'MARKER'" ∷ codes "'INTEND'" ∷ []) ∷ []))
+column-part : (p : Table) (cs : List TableColumn) → AllByRecursion IsDataLine (flat_map (column_fields p) cs) → AllByRecursion IsDataLine (if_any cs (first_marker ∷ flat_map (column_fields p) cs ++ last_marker ∷ []))
 column-part p [] h = tt
 column-part p (c ∷ cs) h = (
   marker-line (codes "M1") (codes "'INTORG'") (known (codes "M1") refl refl) (known (codes "'INTORG'") refl refl),
-  then-data (flat_map (column_fields p) (c ∷ cs)) ((codes "M2" ∷ codes "'MARKER'" ∷ codes "'INTEND'" ∷ []) ∷ []) h
+  all_append IsDataLine (flat_map (column_fields p) (c ∷ cs)) (last_marker ∷ []) h
       (marker-line (codes "M2") (codes "'INTEND'") (known (codes "M2") refl refl) (known (codes "'INTEND'") refl refl), tt),
 )
 
@@ -109,36 +97,16 @@ bound-part (c ∷ cs) h = headed (codes "BOUNDS") (map bound_fields (c ∷ cs)) 
 
 -- the lines of a text
 abbrev pub text_lines : Table → List Line
-text_lines p =
-    Header (codes "NAME") (codes "wdp" ∷ []) ∷ block (codes "ROWS") ((codes "N" ∷ p.objective ∷ []) ∷ map row_fields p.rows)
-    ++ block (codes "COLUMNS") (if_any p.columns (
-    (codes "M1" ∷ codes "'MARKER'" ∷ codes "'INTORG'" ∷ []) ∷ flat_map (column_fields p) p.columns ++ (codes "M2" ∷ codes "'MARKER'" ∷ codes "'INTEND'" ∷ []) ∷ []))
-    ++ block (codes "RHS") (map right_side_fields p.rows)
-    ++ if_any p.columns (block (codes "BOUNDS") (map bound_fields p.columns))
-    ++ Header (codes "ENDATA") [] ∷ []
+text_lines p = name_line ∷ rows_part p ++ columns_part p ++ sides_part p ++ if_any p.columns (bounds_part p) ++ end_line ∷ []
 
 pub all-written : (p : Table) → IsProgram p → IsWritable p → AllByRecursion IsWritten (text_lines p)
 all-written p legal told =
-    let rest4 : AllByRecursion IsWritten (Header (codes "ENDATA") [] ∷ []) = (header (codes "ENDATA") (λ e. absurd (omega (arith, e))) (known (codes "ENDATA") refl refl), tt) in
+    let rest4 : AllByRecursion IsWritten (end_line ∷ []) = (header (codes "ENDATA") (λ e. absurd (omega (arith, e))) (known (codes "ENDATA") refl refl), tt) in
     let bounds = bound-part p.columns (bound-lines p.columns legal.column_names) in
     let sides = headed (codes "RHS") (map right_side_fields p.rows) (λ e. absurd (omega (arith, e))) (known (codes "RHS") refl refl) (side-lines p.rows legal.row_names.1 told.right_sides) in
-    let columns = headed (codes "COLUMNS") (if_any p.columns ((codes "M1" ∷ codes "'MARKER'" ∷ codes "'INTORG'" ∷ []) ∷ flat_map (column_fields p) p.columns ++ (codes "M2" ∷ codes "'MARKER'" ∷ codes "'INTEND'" ∷ []) ∷ [])) (λ e. absurd (omega (arith, e))) (known (codes "COLUMNS") refl refl) (column-part p p.columns (column-lines p p.columns legal.row_names legal.column_names legal.entries (small_costs p.columns told.numbers) (small_entries p.columns told.numbers))) in
+    let columns = headed (codes "COLUMNS") (if_any p.columns (first_marker ∷ flat_map (column_fields p) p.columns ++ last_marker ∷ [])) (λ e. absurd (omega (arith, e))) (known (codes "COLUMNS") refl refl) (column-part p p.columns (column-lines p p.columns legal.row_names legal.column_names legal.entries (small_costs p.columns told.numbers) (small_entries p.columns told.numbers))) in
     let rows = headed (codes "ROWS") ((codes "N" ∷ p.objective ∷ []) ∷ map row_fields p.rows) (λ e. absurd (omega (arith, e))) (known (codes "ROWS") refl refl) ((known (codes "N") refl refl, (legal.row_names.0, tt)), row-lines p.rows legal.row_names.1) in (
       ((λ e. absurd (omega (arith, e))), (known (codes "NAME") refl refl, (known (codes "wdp") refl refl, tt))),
-      then (first ++ second ++ third ++ fourth) last (then (first ++ second ++ third) fourth (then (first ++ second) third (then first second rows columns) sides) bounds) rest4,
+      all_append IsWritten (rows_part p ++ columns_part p ++ sides_part p ++ if_any p.columns (bounds_part p)) (end_line ∷ []) (all_append IsWritten (rows_part p ++ columns_part p ++ sides_part p) (if_any p.columns (bounds_part p))
+          (all_append IsWritten (rows_part p ++ columns_part p) (sides_part p) (all_append IsWritten (rows_part p) (columns_part p) rows columns) sides) bounds) rest4,
     )
-  where
-    first : List Line
-    first = block (codes "ROWS") ((codes "N" ∷ p.objective ∷ []) ∷ map row_fields p.rows)
-
-    second : List Line
-    second = block (codes "COLUMNS") (if_any p.columns ((codes "M1" ∷ codes "'MARKER'" ∷ codes "'INTORG'" ∷ []) ∷ flat_map (column_fields p) p.columns ++ (codes "M2" ∷ codes "'MARKER'" ∷ codes "'INTEND'" ∷ []) ∷ []))
-
-    third : List Line
-    third = block (codes "RHS") (map right_side_fields p.rows)
-
-    fourth : List Line
-    fourth = if_any p.columns (block (codes "BOUNDS") (map bound_fields p.columns))
-
-    last : List Line
-    last = Header (codes "ENDATA") [] ∷ []
