@@ -1,9 +1,14 @@
 -- The lines of a bid's column depend on the bid, its bidder and its number alone.
-use Rattle.std.proofs.Common.{◌≡◌, ℕ, zero, suc, ◌+◌, ◌<◌, ◌⊎◌, inl, inr, Bool, true, false, ◌==◌, nat_eq, cond, List, [], ◌∷◌, ◌++◌, map, length, sym, refl, ap, ap₂, ◌∙◌, subst, arith, ⊎_elim, eqb-true, eq-eqb, ne_eqb, ℤ, pos, append_assoc, append-nil}
-use Rattle.std.specs.Prelude.{codes, flat_map, decimal, neg_ℤ}
+use Rattle.std.proofs.Common.{◌≡◌, ℕ, zero, suc, ◌+◌, ◌<◌, ◌⊎◌, inl, inr, Bool, true, false, ◌==◌, nat_eq, cond, List, [], ◌∷◌, ◌++◌, map, length, sym, refl, ap, ap₂, ◌∙◌, subst, arith, ⊎_elim, eq-eqb, ne_eqb, ℤ, pos, append_assoc, append-nil}
+use Rattle.std.specs.Prelude.{codes, flat_map, decimal, neg_ℤ, Contains, slice_index_or}
 use Rattle.std.specs.Fmt.{signed_decimal}
-use Rattle.std.specs.List.{AllByRecursion, dedup, dedup_from}
+use Rattle.std.specs.List.{AllByRecursion, dedup}
 use Rattle.std.proofs.lemmas.Grind.{flat_map-append}
+use Rattle.std.proofs.lemmas.Bool.{cond_both}
+use Rattle.std.proofs.lemmas.List.{length_push}
+use Rattle.std.proofs.lemmas.List.Elements.{All-contains_itself, All-weaker, recursion_from_All}
+use Rattle.std.proofs.lemmas.List.Folds.{flat_map-map}
+use Rattle.std.proofs.lemmas.List.Kept.{Contains-dedup_nat}
 use Rattle.auction_terms.specs.Packages.{Lots, worth_of_all}
 use Rattle.auction_terms.specs.Keeping.{Offer}
 use Rattle.auction_terms.specs.Limits.{AreOffers}
@@ -47,17 +52,12 @@ module _ (lots : Lots) where
     one_entry r n row es lines true e h = h
     one_entry r n row es lines false e h = ap₂ (λ (name rest : List ℕ). entry_line (name_of o) name n ++ rest) e h
 
-    longer : (front : List Subject) (s : Subject) (r : ℕ) → r ≡ length front → r + 1 ≡ length (front ++ s ∷ [])
-    longer [] s r l = omega arith
-    longer (f ∷ front) s zero l = absurd (omega arith)
-    longer (f ∷ front) s (suc r) l = let rest = longer front s r (omega arith) in omega arith
-
     entries_are : (front : List Subject) (ss : List Subject) (r : ℕ) → all ≡ front ++ ss → r ≡ length front → entry_lines (entries_from lots r ss o) ≡ flat_map (weight_line o) ss
     entries_are front [] r e l = refl
     entries_are front (s ∷ ss) r e l =
         let named : row_name (map (row_of lots) all) r ≡ (row_of lots s).name = ap (λ (xs : List Subject). row_name (map (row_of lots) xs) r) e ∙ name_there front s ss r l in
         one_entry r (weight lots s o) (row_of lots s).name (entries_from lots (r + 1) ss o) (flat_map (weight_line o) ss) (weight lots s o == 0) named
-        (entries_are (front ++ s ∷ []) ss (r + 1) (e ∙ sym (append_assoc front (s ∷ []) ss)) (longer front s r l))
+        (entries_are (front ++ s ∷ []) ss (r + 1) (e ∙ sym (append_assoc front (s ∷ []) ss)) (let more = length_push front s in omega arith))
 
 -- ---------- one line in the rows of bidders ----------
 
@@ -94,30 +94,11 @@ module _ (lots : Lots) where
       ap₂ (λ (line lines : List ℕ). line ++ lines) (bidder_line o b false (ne_eqb o.bidder b (λ t. omega arith))) (one_line o bs h.1 more))
       at
 
--- each bidder of an offer has a row
-first_pick : (k x : ℕ) (xs ys : List ℕ) (b : Bool) → Has k xs → Has k (cond b xs (k ∷ ys))
-first_pick k x xs ys true h = h
-first_pick k x xs ys false h = inl refl
-
-has_first : (k : ℕ) (xs : List ℕ) → Has k (dedup_from nat_eq k xs)
-has_first k [] = inl refl
-has_first k (x ∷ xs) = first_pick k x (dedup_from nat_eq k xs) (dedup_from nat_eq x xs) (x == k) (has_first k xs)
-
-later_pick : (k x y : ℕ) (xs ys : List ℕ) (b : Bool) → (x == k) ≡ b → ((y ≡ k) → Has y xs) → ((y ≡ x) → Has y ys) → (Has y xs × Has y ys) ⊎ (y ≡ x) → Has y (cond b xs (k ∷ ys))
-later_pick k x y xs ys true e f g h = ⊎_elim (λ both. both.0) (λ same. f (same ∙ eqb-true x k e)) h
-later_pick k x y xs ys false e f g h = inr (⊎_elim (λ both. both.1) (λ same. g same) h)
-
-has_later : (k y : ℕ) (xs : List ℕ) → Has y xs → Has y (dedup_from nat_eq k xs)
-has_later k y [] h = absurd h
-has_later k y (x ∷ xs) h =
-    later_pick k x y (dedup_from nat_eq k xs) (dedup_from nat_eq x xs) (x == k) refl
-    (λ same. subst (λ (m : ℕ). Has m (dedup_from nat_eq k xs)) (sym same) (has_first k xs))
-    (λ same. subst (λ (m : ℕ). Has m (dedup_from nat_eq x xs)) (sym same) (has_first x xs))
-    (⊎_elim (λ same. inr same) (λ more. inl (has_later k y xs more, has_later x y xs more)) h)
-
-has_row : (y : ℕ) (xs : List ℕ) → Has y xs → Has y (dedup nat_eq xs)
-has_row y [] h = absurd h
-has_row y (x ∷ xs) h = ⊎_elim (λ same. subst (λ (m : ℕ). Has m (dedup_from nat_eq x xs)) (sym same) (has_first x xs)) (λ more. has_later x y xs more) h
+-- a list that contains a number has it
+has : (xs : List ℕ) (i b : ℕ) → i < length xs → slice_index_or xs i b ≡ b → Has b xs
+has [] i b l e = absurd (omega arith)
+has (x ∷ xs) zero b l e = inl (sym e)
+has (x ∷ xs) (suc i) b l e = inr (has xs i b (omega arith) e)
 
 -- ---------- columns ----------
 
@@ -144,28 +125,21 @@ module _ (lots : Lots) (bs : List ℕ) (rises : Rises bs) where
   each_column [] at = refl
   each_column (o ∷ offers) at = ap₂ (λ (xs ys : List ℕ). xs ++ ys) (one_column o at.0) (each_column offers at.1)
 
-each_has : (P : ℕ → Type 0) (xs : List ℕ) → ((y : ℕ) → Has y xs → P y) → AllByRecursion P xs
-each_has P [] f = tt
-each_has P (x ∷ xs) f = (f x (inl refl), each_has P xs (λ y h. f y (inr h)))
-
 pub columns_are : (lots : Lots) (offers : List Offer) → AreOffers lots offers
     → flat_map (column_bytes (codes "OBJ") (map (row_of lots) (subjects lots offers))) (map (column_of lots (subjects lots offers)) offers) ≡ flat_map (own_lines lots) offers
 columns_are lots offers h =
     let bs = dedup nat_eq (bidders offers) in
-    each_column lots bs (dedup_rises (bidders offers) (bidders_never_fall lots offers h)) offers (each_has (λ b. Has b bs) (bidders offers) (λ y at. has_row y (bidders offers) at))
+    each_column lots bs (dedup_rises (bidders offers) (bidders_never_fall lots offers h)) offers (recursion_from_All (λ b. Has b bs) (bidders offers)
+    (All-weaker (Contains (bidders offers)) (λ b. Has b bs) (λ b at. let there = Contains-dedup_nat (bidders offers) b at in has bs there.0 b there.1 there.2) (bidders offers) (All-contains_itself (bidders offers))))
 
 -- the line of a bid's bound
 abbrev pub own_bound : Lots → Offer → List ℕ
 own_bound lots o = bound_bytes (column_of lots [] o)
 
 pub bounds_are : (lots : Lots) (rows : List Subject) (offers : List Offer) → flat_map bound_bytes (map (column_of lots rows) offers) ≡ flat_map (own_bound lots) offers
-bounds_are lots rows [] = refl
-bounds_are lots rows (o ∷ offers) = ap (λ (lines : List ℕ). own_bound lots o ++ lines) (bounds_are lots rows offers)
+bounds_are lots rows offers = flat_map-map bound_bytes (column_of lots rows) offers
 
 -- the lines of the column of all lots' worth, whatever rows there are
-worth_at : (lots : Lots) (rows others : List TableRow) (none : Bool) → flat_map (column_bytes (codes "OBJ") rows) (cond none [] (record { name = codes "K"; bounds = One; cost = neg_ℤ (pos (worth_of_all lots)); entries = [] } ∷ [])) ≡ flat_map (column_bytes (codes "OBJ") others) (cond none [] (record { name = codes "K"; bounds = One; cost = neg_ℤ (pos (worth_of_all lots)); entries = [] } ∷ []))
-worth_at lots rows others true = refl
-worth_at lots rows others false = refl
-
 pub worth_is : (lots : Lots) (rows others : List TableRow) → flat_map (column_bytes (codes "OBJ") rows) (worth_column lots) ≡ flat_map (column_bytes (codes "OBJ") others) (worth_column lots)
-worth_is lots rows others = worth_at lots rows others _
+worth_is lots rows others = cond_both (worth_of_all lots == 0) [] (record { name = codes "K"; bounds = One; cost = neg_ℤ (pos (worth_of_all lots)); entries = [] } ∷ [])
+    (λ cs. flat_map (column_bytes (codes "OBJ") rows) cs ≡ flat_map (column_bytes (codes "OBJ") others) cs) (λ e. refl) (λ e. refl)

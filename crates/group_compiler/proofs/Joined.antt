@@ -13,6 +13,7 @@ use Rattle.auction_terms.specs.Keeping.{Offer, offers_of_form, offers_from, kept
 use Rattle.auction_terms.specs.inside.Keeping.{is_kept_offer}
 use Rattle.auction_terms.specs.Limits.{AreOffers, IsBook}
 use Rattle.auction_terms.proofs.LimitLaws.{kept_are_offers}
+use Rattle.auction_terms.proofs.OfferLaws.{all_agree, all_append}
 use Rattle.auction_terms.specs.Domination.{is_kept}
 use Rattle.presolve.specs.Flags.{kept_in_form}
 use Rattle.presolve.proofs.KeepLaws.{kept_outside, none_inside, next_form, offers_parted}
@@ -91,20 +92,12 @@ of_bidder lots form b j (x ∷ rest) = by (is_kept lots form x) (filter (λ o. i
     by true more h = (refl, h)
     by false more h = h
 
-all_append : (P : ℕ → Type 0) (xs ys : List ℕ) → AllByRecursion P xs → AllByRecursion P ys → AllByRecursion P (xs ++ ys)
-all_append P [] ys h k = k
-all_append P (x ∷ xs) ys h k = (h.0, all_append P xs ys h.1 k)
-
-all_map : (P Q : ℕ → Type 0) (xs : List ℕ) → ((x : ℕ) → P x → Q x) → AllByRecursion P xs → AllByRecursion Q xs
-all_map P Q [] f h = tt
-all_map P Q (x ∷ xs) f h = (f x h.0, all_map P Q xs f h.1)
-
 module _ (lots : Lots) (book : Book) (group : ℕ → Bool) where
   above_pick : (c b : ℕ) (form : List Bid) (os : List Offer) (g : Bool) → c < b → AllByRecursion (λ y. c < y) (bidders os) → AllByRecursion (λ y. c < y) (bidders (cond g os (kept_in_form lots b form ++ os)))
   above_pick c b form os true l h = h
   above_pick c b form os false l h =
       subst (AllByRecursion (λ y. c < y)) (sym (map-append (λ (o : Offer). o.bidder) (kept_in_form lots b form) os))
-      (all_append (λ y. c < y) (bidders (kept_in_form lots b form)) (bidders os) (all_map (λ x. x ≡ b) (λ y. c < y) (bidders (kept_in_form lots b form)) (λ x e. omega arith) (of_bidder lots form b 1 form)) h)
+      (all_append (λ y. c < y) (bidders (kept_in_form lots b form)) (bidders os) (all_agree (λ x. x ≡ b) (λ y. c < y) (bidders (kept_in_form lots b form)) (λ x e. omega arith) (of_bidder lots form b 1 form)) h)
 
   above : (c b : ℕ) (rest : Book) → c < b → AllByRecursion (λ y. c < y) (bidders (kept_forms lots book group b rest))
   above c b [] l = tt
@@ -170,26 +163,19 @@ rows_are : (lots : Lots) (bytes : TableRow → List ℕ) (offers : List Offer)
 rows_are lots bytes offers =
     ap (flat_map bytes) (map-append (row_of lots) (bidder_subjects offers) (subjects lots [])) ∙ flat_map-append bytes (map (row_of lots) (bidder_subjects offers)) (map (row_of lots) (subjects lots []))
 
-same_sections : {rows rows' columns columns' right_sides right_sides' bounds bounds' : List ℕ} → rows ≡ rows' → columns ≡ columns' → right_sides ≡ right_sides' → bounds ≡ bounds'
-    → section_text Rows rows ++ (section_text Columns columns ++ (section_text RightSides right_sides ++ section_text Bounds bounds))
-    ≡ section_text Rows rows' ++ (section_text Columns columns' ++ (section_text RightSides right_sides' ++ section_text Bounds bounds'))
-same_sections {rows} {rows'} {columns} {columns'} {right_sides} {right_sides'} {bounds} {bounds'} r c s b =
-    ap₂ (λ (x y : List ℕ). section_text Rows x ++ (section_text Columns y ++ (section_text RightSides right_sides ++ section_text Bounds bounds))) r c
-    ∙ ap₂ (λ (x y : List ℕ). section_text Rows rows' ++ (section_text Columns columns' ++ (section_text RightSides x ++ section_text Bounds y))) s b
-
 pub text_is_joined : TextIsJoined
 text_is_joined lots book group limits =
     let kept = kept_of lots book group in
     let all = map (row_of lots) (subjects lots kept) in
     let own = map (column_of lots (subjects lots kept)) kept in
     let each = whole lots book group limits in
+    let rows = rows_are lots row_bytes kept ∙ each Rows in
+    let columns = flat_map-append (column_bytes (codes "OBJ") all) own (worth_column lots)
+    ∙ ap (λ (w : List ℕ). flat_map (column_bytes (codes "OBJ") all) own ++ w) (worth_is lots all (map (row_of lots) (subjects lots []))) ∙ each Columns in
+    let right_sides = rows_are lots right_side_bytes kept ∙ each RightSides in
+    let bounds = flat_map-append bound_bytes own (worth_column lots) ∙ each Bounds in
     text-sections (program_of lots kept) refl
-    ∙ same_sections
-    (rows_are lots row_bytes kept ∙ each Rows)
-    (flat_map-append (column_bytes (codes "OBJ") all) own (worth_column lots)
-    ∙ ap (λ (w : List ℕ). flat_map (column_bytes (codes "OBJ") all) own ++ w) (worth_is lots all (map (row_of lots) (subjects lots []))) ∙ each Columns)
-    (rows_are lots right_side_bytes kept ∙ each RightSides)
-    (flat_map-append bound_bytes own (worth_column lots) ∙ each Bounds)
+    ∙ (λ i. section_text Rows (rows i) ++ (section_text Columns (columns i) ++ (section_text RightSides (right_sides i) ++ section_text Bounds (bounds i))))
 
 pub length_pages : (lots : Lots) (b : ℕ) (book : Book) → length (pages_from lots b book) ≡ length book
 length_pages lots b [] = refl

@@ -1,9 +1,8 @@
 -- Lines of pages in memory.
-use Rattle.std.proofs.Common.{◌≡◌, ◌+◌, ◌-◌, arith, ℕ, zero, suc, Bool, length, length-append, take, List, [], ◌∷◌, ◌++◌, map, refl, sym, ap, ap₂, ◌∙◌, append-nil}
-use Rattle.std.specs.Prelude.{flat_map}
+use Rattle.std.proofs.Common.{◌≡◌, ◌+◌, ◌-◌, arith, ℕ, Bool, length, length-append, take, List, [], ◌∷◌, ◌++◌, map, refl, sym, ap, ap₂, ◌∙◌, append-nil}
 use Rattle.std.specs.List.{range_with_len}
 use Rattle.std.proofs.lemmas.Grind.{flat_map-append}
-use Rattle.std.proofs.lemmas.List.{length-map, map-append}
+use Rattle.std.proofs.lemmas.List.{length-map, map-append, take_at, take-map}
 use Rattle.std.proofs.lemmas.List.FromFn.{length-map-range_with_len}
 use Rattle.auction_terms.specs.Keeping.{Offer}
 use Rattle.auction_terms.specs.Packages.{Lots}
@@ -19,10 +18,6 @@ use Rattle.program_rows.specs.Rows.{bidder_subjects, subjects, row_of, column_of
 use Rattle.group_compiler.specs.declared.section.Section.{Section}
 use Rattle.group_compiler.specs.Pages.{PageText, AllPages, section_lines, outside, page_of_offers, page_with}
 use Rattle.group_compiler.specs.Joining.{joined, pages_for}
-
-pub each_line : {X Y : Type 0} (f : Y → List ℕ) (g : X → Y) (xs : List X) → flat_map (λ x. f (g x)) xs ≡ flat_map f (map g xs)
-each_line f g [] = refl
-each_line f g (x ∷ xs) = ap (λ w. f (g x) ++ w) (each_line f g xs)
 
 -- the lines of bidders, and those of lots
 pub lines_for : (section : Section) (group : ℕ → Bool) (pages : AllPages) (forms : List PageText) (lines : List ℕ) → forms ≡ pages.forms → lines ≡ section_lines section pages.lots
@@ -40,22 +35,13 @@ length_rows lots offers rows e =
     ∙ ap (λ (n : ℕ). length (bidder_subjects offers) + n)
     (length-append (map subject.Category (range_with_len 0 (length lots.supply))) (map subject.Pool (range_with_len 0 (length lots.pools))) ∙ ap₂ (λ (n m : ℕ). n + m) (length-map-range_with_len subject.Category 0 (length lots.supply)) (length-map-range_with_len subject.Pool 0 (length lots.pools)))
 
-take_front : {X : Type 0} (xs ys : List X) → take (length xs) (xs ++ ys) ≡ xs
-take_front [] ys = refl
-take_front (x ∷ xs) ys = ap (λ zs. x ∷ zs) (take_front xs ys)
-
-take_map : {X Y : Type 0} (f : X → Y) (n : ℕ) (xs : List X) → map f (take n xs) ≡ take n (map f xs)
-take_map f zero xs = refl
-take_map f (suc n) [] = refl
-take_map f (suc n) (x ∷ xs) = ap (λ ys. f x ∷ ys) (take_map f n xs)
-
 -- the rows of bidders are the first
 pub bidder_rows : (lots : Lots) (offers : List Offer) (rows : List Row) (n : ℕ) → map shown_row rows ≡ map (row_of lots) (subjects lots offers) → n ≡ length (bidder_subjects offers)
     → map shown_row (take n rows) ≡ map (row_of lots) (bidder_subjects offers)
 bidder_rows lots offers rows n e l =
-    take_map shown_row n rows ∙ ap (take n) (e ∙ map-append (row_of lots) (bidder_subjects offers) (subjects lots []))
+    sym (take-map shown_row n rows) ∙ ap (take n) (e ∙ map-append (row_of lots) (bidder_subjects offers) (subjects lots []))
     ∙ ap (λ (m : ℕ). take m (map (row_of lots) (bidder_subjects offers) ++ map (row_of lots) (subjects lots []))) (l ∙ sym (length-map (bidder_subjects offers) (row_of lots)))
-    ∙ take_front (map (row_of lots) (bidder_subjects offers)) (map (row_of lots) (subjects lots []))
+    ∙ take_at (map (row_of lots) (bidder_subjects offers)) (map (row_of lots) (subjects lots [])) (length (map (row_of lots) (bidder_subjects offers))) refl
 
 -- how many rows are about lots
 pub count_lots : (t : Terms) (categories : List Category) (pools : List Pool) → categories ≡ t.categories → pools ≡ t.pools → length categories + length pools ≡ length (lots_in t).supply + length (lots_in t).pools

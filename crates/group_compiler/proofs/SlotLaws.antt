@@ -3,7 +3,8 @@ use Rattle.std.proofs.Common.{◌≡◌, ◌≢◌, ◌⊎◌, inl, inr, ⊎_eli
 use Rattle.std.specs.Prelude.{All, Contains}
 use Rattle.std.specs.List.{AllZip, range_with_len}
 use Rattle.std.proofs.lemmas.Bool.{cases_eq}
-use Rattle.std.proofs.lemmas.List.{length-map, map-append}
+use Rattle.std.proofs.lemmas.List.{get_or-set_same, length-map, length-set, map-append}
+use Rattle.std.proofs.lemmas.Option.{get_or_from_slice_get, slice_get-get_or}
 use Rattle.std.proofs.lemmas.List.Elements.{All-pop, Contains-push_cases}
 use Rattle.std.proofs.lemmas.Slice.Zip.{AllZip-map}
 use Rattle.bid_desk.specs.Closing.{Closing}
@@ -13,9 +14,7 @@ use Rattle.group_compiler.specs.inside.Slots.{HasMade}
 
 module _ {X : Type 0} where
   pub get_here : (xs : List X) (i : ℕ) (v : X) → i < length xs → slice_get (slice_set xs i v) i ≡ Some v
-  get_here [] i v l = absurd (omega arith)
-  get_here (x ∷ xs) zero v l = refl
-  get_here (x ∷ xs) (suc i) v l = get_here xs i v (omega arith)
+  get_here xs i v l = slice_get-get_or (slice_set xs i v) i v (let same = length-set xs i v in omega arith) ∙ ap (λ x. Some x) (get_or-set_same xs i v v l)
 
   pub get_other : (xs : List X) (i k : ℕ) (v : X) → i ≢ k → slice_get (slice_set xs i v) k ≡ slice_get xs k
   get_other [] i k v ne = refl
@@ -24,31 +23,23 @@ module _ {X : Type 0} where
   get_other (x ∷ xs) (suc i) zero v ne = refl
   get_other (x ∷ xs) (suc i) (suc k) v ne = get_other xs i k v (λ e. ne (ap suc e))
 
-  at_get : (xs : List X) (i : ℕ) (v d : X) → slice_get xs i ≡ Some v → slice_index_or xs i d ≡ v
-  at_get [] i v d e = cc
-  at_get (x ∷ xs) zero v d e = cc
-  at_get (x ∷ xs) (suc i) v d e = at_get xs i v d e
-
 module _ {T : Type 0} where
   -- a full slot is not empty
   pub full_at : (slots : List (Option T)) (i : ℕ) (v : T) (o : Option T) → slice_get slots i ≡ Some (Some v) → o ≡ slice_index_or slots i o → o ≡ Some v
-  full_at slots i v o e h = h ∙ at_get slots i (Some v) o e
-
-  pub of_some : (a b : T) → Some a ≡ Some b → a ≡ b
-  of_some a b e = cc
+  full_at slots i v o e h = h ∙ get_or_from_slice_get slots i (Some v) o e
 
   pub popped : (P : Numbered T → Type 0) (all rs : List (Numbered T)) (r : Numbered T) → all ≡ rs ++ r ∷ [] → All P all → All P rs × P r
   popped P all rs r e h = All-pop P all rs (Some r) e h
 
   -- one result goes into its slot
-  pub fills : (makes : ℕ → T → Type 0) (slots new : List (Option T)) (all rs : List (Numbered T)) (r : Numbered T) (count : ℕ) → all ≡ rs ++ r ∷ [] → new ≡ slice_set slots r.number (Some r.made) → length slots ≡ count → r.number < count
+  fills : (makes : ℕ → T → Type 0) (slots : List (Option T)) (all rs : List (Numbered T)) (r : Numbered T) (count : ℕ) → all ≡ rs ++ r ∷ [] → length slots ≡ count → r.number < count
       → makes r.number r.made
       → ((k : ℕ) → k < count → Contains (map (λ (r : Numbered T). r.number) all) k ⊎ HasMade makes slots k)
-      → (k : ℕ) → k < count → Contains (map (λ (r : Numbered T). r.number) rs) k ⊎ HasMade makes new k
-  fills makes slots new all rs r count e n size below right each k l = ⊎_elim
+      → (k : ℕ) → k < count → Contains (map (λ (r : Numbered T). r.number) rs) k ⊎ HasMade makes (slice_set slots r.number (Some r.made)) k
+  fills makes slots all rs r count e size below right each k l = ⊎_elim
       (λ same. inr record {
         found = r.made;
-        slot = ap (λ (os : List (Option T)). slice_get os k) n ∙ ap (λ (m : ℕ). slice_get (slice_set slots r.number (Some r.made)) m) (sym same)
+        slot = ap (λ (m : ℕ). slice_get (slice_set slots r.number (Some r.made)) m) (sym same)
             ∙ get_here slots r.number (Some r.made) (let h : r.number < length slots = omega arith in h);
         right = subst (λ (m : ℕ). makes m r.made) same right;
       })
@@ -57,11 +48,21 @@ module _ {T : Type 0} where
       (Contains-push_cases (map (λ (r : Numbered T). r.number) rs) r.number k (subst (λ (ns : List ℕ). Contains ns k) (map-append (λ (r : Numbered T). r.number) rs (r ∷ [])) (subst (λ (xs : List (Numbered T)). Contains (map (λ (r : Numbered T). r.number) xs) k) e h))))
       (λ h. inr record {
         found = h.found;
-        slot = ap (λ (os : List (Option T)). slice_get os k) n ∙ get_other slots r.number k (Some r.made) other ∙ h.slot;
+        slot = get_other slots r.number k (Some r.made) other ∙ h.slot;
         right = h.right;
       })
       (each k l))
       (cases_eq r.number k)
+
+  -- and the others are left
+  pub filled : (makes : ℕ → T → Type 0) (slots : List (Option T)) (all rs : List (Numbered T)) (r : Numbered T) (count : ℕ) → all ≡ rs ++ r ∷ [] → length slots ≡ count → All (λ (r : Numbered T). r.number < count) all → All (λ (r : Numbered T). makes r.number r.made) all
+      → ((k : ℕ) → k < count → Contains (map (λ (r : Numbered T). r.number) all) k ⊎ HasMade makes slots k)
+      → (length (slice_set slots r.number (Some r.made)) ≡ count) × All (λ (r : Numbered T). r.number < count) rs × All (λ (r : Numbered T). makes r.number r.made) rs
+      × ((k : ℕ) → k < count → Contains (map (λ (r : Numbered T). r.number) rs) k ⊎ HasMade makes (slice_set slots r.number (Some r.made)) k)
+  filled makes slots all rs r count e size below made each =
+      let b = popped (λ r. r.number < count) all rs r e below in
+      let m = popped (λ r. makes r.number r.made) all rs r e made in
+      (length-set slots r.number (Some r.made) ∙ size, b.0, m.0, fills makes slots all rs r count e size b.1 m.1 each)
 
   -- another slot keeps what it has
   pub keeps_made : (makes : ℕ → T → Type 0) (slots : List (Option T)) (i k : ℕ) (o : Option T) → i ≢ k → HasMade makes slots k → HasMade makes (slice_set slots i o) k

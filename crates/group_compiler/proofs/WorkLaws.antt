@@ -4,6 +4,7 @@ use Rattle.std.specs.Prelude.{All, Any, Contains, filter, Result, Ok, Err, IfOk}
 use Rattle.std.specs.List.{AllByRecursion}
 use Rattle.std.proofs.lemmas.Bool.{cond-true, cond-false, cond_both, cases_eq, cases_lt}
 use Rattle.std.proofs.Math.Nat.{le-max_left, le-max_right}
+use Rattle.std.proofs.lemmas.List.{get_or_append_left, get_or_at, map-append}
 use Rattle.std.proofs.lemmas.List.Sums.{sum_by-cons}
 use Rattle.group_compiler.specs.Claims.{times_drawn, once_below, IsEachBelow}
 use Rattle.std.proofs.lemmas.List.Elements.{recursion_from_All, All-from_recursion, filter-append, filter_passes}
@@ -11,45 +12,27 @@ use Rattle.group_compiler.specs.Gates.{AreAllPast}
 use Rattle.group_compiler.specs.declared.work.Numbered.{Numbered}
 use Rattle.group_compiler.specs.inside.Works.{IsFinished}
 
--- a number below the count is kept
-pub kept_one_more : (count n : ℕ) (xs : List ℕ) → n < count → filter (λ n. nat_lt n count) (xs ++ n ∷ []) ≡ filter (λ n. nat_lt n count) xs ++ n ∷ []
-kept_one_more count n xs below =
-    filter-append (λ n. nat_lt n count) xs (n ∷ []) ∙ ap (λ (ys : List ℕ). filter (λ n. nat_lt n count) xs ++ ys) (cond-true (nat_lt n count) (n ∷ []) [] (lt-ltb n count below))
-
--- and no other
+-- a number that is not below the count is not kept
 pub kept_no_more : (count n : ℕ) (xs : List ℕ) → count ≤ n → filter (λ n. nat_lt n count) (xs ++ n ∷ []) ≡ filter (λ n. nat_lt n count) xs
 kept_no_more count n xs above =
     filter-append (λ n. nat_lt n count) xs (n ∷ []) ∙ ap (λ (ys : List ℕ). filter (λ n. nat_lt n count) xs ++ ys) (cond-false (nat_lt n count) (n ∷ []) [] (le-ltb n count above))
     ∙ append-nil (filter (λ n. nat_lt n count) xs)
 
-last_at : (xs : List ℕ) (n d : ℕ) → slice_index_or (xs ++ n ∷ []) (length xs) d ≡ n
-last_at [] n d = refl
-last_at (x ∷ xs) n d = last_at xs n d
-
 pub finished_by : (count n : ℕ) (xs : List ℕ) → count ≤ n → IsFinished count (xs ++ n ∷ [])
 finished_by count n xs above =
     let l = length-append xs (n ∷ []) in
-    inr (length xs, n, (let k : length xs < length (xs ++ n ∷ []) = omega arith in k), last_at xs n n, above)
-
-at_left : (xs ys : List ℕ) (k d : ℕ) → k < length xs → slice_index_or (xs ++ ys) k d ≡ slice_index_or xs k d
-at_left [] ys k d l = absurd (omega arith)
-at_left (x ∷ xs) ys zero d l = refl
-at_left (x ∷ xs) ys (suc k) d l = at_left xs ys k d (omega arith)
+    inr (length xs, n, (let k : length xs < length (xs ++ n ∷ []) = omega arith in k), get_or_at xs n [] n (length xs) refl, above)
 
 any_left : (P : ℕ → Type 0) (xs ys : List ℕ) → Any P xs → Any P (xs ++ ys)
-any_left P xs ys h = let l = length-append xs ys in (h.0, h.1, (let k : h.0 < length (xs ++ ys) = omega arith in k), at_left xs ys h.0 h.1 h.2 ∙ h.3, h.4)
+any_left P xs ys h = let l = length-append xs ys in (h.0, h.1, (let k : h.0 < length (xs ++ ys) = omega arith in k), get_or_append_left xs ys h.1 h.0 h.2 ∙ h.3, h.4)
 
 pub finished_left : (count : ℕ) (xs ys : List ℕ) → IsFinished count xs → IsFinished count (xs ++ ys)
 finished_left count xs ys h = let l = length-append xs ys in elim h [ inl more ↦ inl (let k : count < length (xs ++ ys) = omega arith in k) | inr one ↦ inr (any_left (λ n. count ≤ n) xs ys one) ]
 
-pub map_append : {X Y : Type 0} (f : X → Y) (xs ys : List X) → map f (xs ++ ys) ≡ map f xs ++ map f ys
-map_append f [] ys = refl
-map_append f (x ∷ xs) ys = ap (λ zs. f x ∷ zs) (map_append f xs ys)
-
 module _ {T : Type 0} where
   pub numbers_append : (count : ℕ) (rs ss : List (Numbered T)) (xs ys : List ℕ) → map (λ (r : Numbered T). r.number) rs ≡ filter (λ n. nat_lt n count) xs → map (λ (r : Numbered T). r.number) ss ≡ filter (λ n. nat_lt n count) ys
       → map (λ (r : Numbered T). r.number) (rs ++ ss) ≡ filter (λ n. nat_lt n count) (xs ++ ys)
-  numbers_append count rs ss xs ys a b = map_append (λ r. r.number) rs ss ∙ ap₂ (λ (us vs : List ℕ). us ++ vs) a b ∙ sym (filter-append (λ n. nat_lt n count) xs ys)
+  numbers_append count rs ss xs ys a b = map-append (λ (r : Numbered T). r.number) rs ss ∙ ap₂ (λ (us vs : List ℕ). us ++ vs) a b ∙ sym (filter-append (λ n. nat_lt n count) xs ys)
 
 -- how often a number stands in a list, and that it stands there
 stands_once : (k : ℕ) (xs : List ℕ) → 0 < times_drawn k xs → Contains xs k
@@ -75,31 +58,16 @@ counted n (x ∷ xs) (suc k) l e =
     let r = counted n xs k (omega arith) e in
     omega arith
 
-filter_times : (p : ℕ → Bool) (k : ℕ) (xs : List ℕ) → p k ≡ true → 0 < times_drawn k xs → 0 < times_drawn k (filter p xs)
-filter_times p k [] pass h = h
-filter_times p k (x ∷ xs) pass h =
-    let s : times_drawn k (x ∷ xs) ≡ cond (x == k) 1 0 + times_drawn k xs = sum_by-cons (λ (y : ℕ). cond (y == k) 1 0) x xs in
-    ⊎_elim
-    (λ same.
-    let kept : filter p (x ∷ xs) ≡ x ∷ filter p xs = cond-true (p x) (x ∷ filter p xs) (filter p xs) (ap p same ∙ pass) in
-    let t : times_drawn k (x ∷ filter p xs) ≡ cond (x == k) 1 0 + times_drawn k (filter p xs) = sum_by-cons (λ (y : ℕ). cond (y == k) 1 0) x (filter p xs) in
-    let o : ℕ = cond (x == k) 1 0 in let z : o ≡ 1 = cond-true (x == k) 1 0 (eq-eqb x k same) in
-    let e : times_drawn k (filter p (x ∷ xs)) ≡ times_drawn k (x ∷ filter p xs) = ap (times_drawn k) kept in
-    let r : 0 < times_drawn k (filter p (x ∷ xs)) = omega arith in
-    r)
-    (λ other.
-    let o : ℕ = cond (x == k) 1 0 in let z : o ≡ 0 = cond-false (x == k) 1 0 (ne_eqb x k other) in
-    let rest = filter_times p k xs pass (let m : 0 < times_drawn k xs = omega arith in m) in
-    cond_both (p x) (x ∷ filter p xs) (filter p xs) (λ ys. 0 < times_drawn k ys)
-    (λ yes. let t : times_drawn k (x ∷ filter p xs) ≡ cond (x == k) 1 0 + times_drawn k (filter p xs) = sum_by-cons (λ (y : ℕ). cond (y == k) 1 0) x (filter p xs) in let r : 0 < times_drawn k (x ∷ filter p xs) = omega arith in r)
-    (λ no. rest))
-    (cases_eq x k)
-
-contains_filter : (p : ℕ → Bool) (xs : List ℕ) (k : ℕ) → p k ≡ true → Contains xs k → Contains (filter p xs) k
-contains_filter p xs k pass h = stands_once k (filter p xs) (filter_times p k xs pass (counted k xs h.0 h.1 h.2))
+contains_filter : (p : ℕ → Bool) (xs : List ℕ) (i k : ℕ) → p k ≡ true → i < length xs → slice_index_or xs i k ≡ k → Contains (filter p xs) k
+contains_filter p [] i k pass l e = absurd (omega arith)
+contains_filter p (x ∷ xs) zero k pass l e = subst (λ (ys : List ℕ). Contains ys k) (sym (cond-true (p x) (x ∷ filter p xs) (filter p xs) (ap p e ∙ pass))) (zero, omega arith, e)
+contains_filter p (x ∷ xs) (suc i) k pass l e =
+    let rest = contains_filter p xs i k pass (omega arith) e in
+    let within = rest.1 in
+    cond_both (p x) (x ∷ filter p xs) (filter p xs) (λ ys. Contains ys k) (λ yes. (suc rest.0, omega arith, rest.2)) (λ no. rest)
 
 in_filter : (count k : ℕ) (xs : List ℕ) → k < count → Contains xs k → Contains (filter (λ n. nat_lt n count) xs) k
-in_filter count k xs below h = contains_filter (λ n. nat_lt n count) xs k (lt-ltb k count below) h
+in_filter count k xs below h = contains_filter (λ n. nat_lt n count) xs h.0 k (lt-ltb k count below) h.1 h.2
 
 below_some : (x n : ℕ) → 0 < once_below x n → x < n
 below_some x n h = ⊎_elim

@@ -1,6 +1,7 @@
 use Rattle.std.proofs.Common.{◌≡◌, ◌<◌, [], ◌∙◌, arith, length-set, sym, subst}
 use Rattle.std.specs.List.{AllZip}
-use Rattle.group_compiler.proofs.SlotLaws.{one_more, keeps_made, full_at, of_some}
+use Rattle.std.proofs.lemmas.Option.{same_Some}
+use Rattle.group_compiler.proofs.SlotLaws.{one_more, keeps_made, full_at}
 use Rattle.group_compiler.proofs.ordering.in_order.Goals as goal
 
 pub loop-place-init : goal.loop-place-init
@@ -27,7 +28,7 @@ loop-place-preserved g c =
     let below : place < g.M.Maker.count_of c.args.maker.now = (let l = c.loop-place-test.true in let e = c.count-count.ensures.count in omega arith) in
     let full = h.full place (omega arith) below in
     let e = full_at c.loop-place.slots.items place full.found c.index_mut.result.now full.slot c.index_mut.ensures.value in
-    let found : c.in-Some.made ≡ full.found = of_some c.in-Some.made full.found (sym c.in-Some.is ∙ c.take.ensures.value ∙ e) in
+    let found : c.in-Some.made ≡ full.found = same_Some c.in-Some.made full.found (sym c.in-Some.is ∙ c.take.ensures.value ∙ e) in
     let more = c.push_reserved.ensures.len in
     let same = c.push_reserved.ensures.capacity in
     let filled = h.filled in

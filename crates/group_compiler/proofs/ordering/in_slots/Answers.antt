@@ -1,5 +1,5 @@
-use Rattle.std.proofs.Common.{◌≡◌, ◌<◌, inl, ⊎_elim, Some, ◌∙◌, arith, length, length-set, slice_set, refl, rules}
-use Rattle.group_compiler.proofs.SlotLaws.{fills, popped, none_left}
+use Rattle.std.proofs.Common.{◌≡◌, ◌<◌, inl, ⊎_elim, ◌∙◌, arith, length, rules}
+use Rattle.group_compiler.proofs.SlotLaws.{filled, popped, none_left}
 use Rattle.group_compiler.proofs.ordering.in_slots.Goals as goal
 
 pub loop-numbered-init : goal.loop-numbered-init
@@ -21,33 +21,15 @@ index_mut-requires g c =
 
 pub loop-numbered-preserved-in-Some : goal.loop-numbered-preserved-in-Some
 loop-numbered-preserved-in-Some g c =
-    let count = g.M.Maker.count_of c.args.maker.now in
-    let makes = g.M.Maker.makes c.args.maker.now in
     let h = c.loop-numbered.invariant in
-    let r = c.in-Some.numbered in
-    let b = popped (λ r. r.number < count) c.loop-numbered.results.items c.pop.new.self.items r c.in-Some.ensures.items h.below in
-    let m = popped (λ r. makes r.number r.made) c.loop-numbered.results.items c.pop.new.self.items r c.in-Some.ensures.items h.made in
-    record {
-      size = length-set c.loop-numbered.slots.items r.number (Some r.made) ∙ h.size;
-      below = b.0;
-      made = m.0;
-      each = fills makes c.loop-numbered.slots.items (slice_set c.loop-numbered.slots.items r.number (Some r.made)) c.loop-numbered.results.items c.pop.new.self.items r count c.in-Some.ensures.items refl h.size b.1 m.1 h.each;
-    }
+    let s = filled (g.M.Maker.makes c.args.maker.now) c.loop-numbered.slots.items c.loop-numbered.results.items c.pop.new.self.items c.in-Some.numbered (g.M.Maker.count_of c.args.maker.now) c.in-Some.ensures.items h.size h.below h.made h.each in
+    record { size = s.0; below = s.1; made = s.2; each = s.3 }
 
 pub loop-numbered-preserved : goal.loop-numbered-preserved
 loop-numbered-preserved g c =
-    let count = g.M.Maker.count_of c.args.maker.now in
-    let makes = g.M.Maker.makes c.args.maker.now in
     let h = c.loop-numbered.invariant in
-    let r = c.in-Some.numbered in
-    let b = popped (λ r. r.number < count) c.loop-numbered.results.items c.pop.new.self.items r c.in-Some.ensures.items h.below in
-    let m = popped (λ r. makes r.number r.made) c.loop-numbered.results.items c.pop.new.self.items r c.in-Some.ensures.items h.made in
-    record {
-      size = length-set c.loop-numbered.slots.items r.number (Some r.made) ∙ h.size;
-      below = b.0;
-      made = m.0;
-      each = fills makes c.loop-numbered.slots.items (slice_set c.loop-numbered.slots.items r.number (Some r.made)) c.loop-numbered.results.items c.pop.new.self.items r count c.in-Some.ensures.items refl h.size b.1 m.1 h.each;
-    }
+    let s = filled (g.M.Maker.makes c.args.maker.now) c.loop-numbered.slots.items c.loop-numbered.results.items c.pop.new.self.items c.in-Some.numbered (g.M.Maker.count_of c.args.maker.now) c.in-Some.ensures.items h.size h.below h.made h.each in
+    record { size = s.0; below = s.1; made = s.2; each = s.3 }
 
 pub returns : goal.returns
 returns g c =

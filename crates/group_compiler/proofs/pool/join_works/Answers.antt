@@ -17,7 +17,6 @@ returns g c =
     let theirs = c.args.theirs.claim.drawn in
     let new : c.join.new.claim.drawn ≡ mine ++ theirs = c.join.ensures.drawn in
     let long : length c.join.new.claim.drawn ≡ length mine + length theirs = ap (λ (xs : List ℕ). length xs) new ∙ length-append mine theirs in
-    let left : c.join.new.claim.room ≡ c.args.mine.claim.room + c.args.theirs.claim.room = c.join.ensures.room in
     let items : c.append.new.self.items ≡ c.args.mine.results.items ++ c.args.theirs.results.items = c.in_ok-append.ensures.items in (
       record {
         same = c.join.ensures.same;

@@ -17,9 +17,6 @@ loop-turn-preserved g c =
     let old = c.loop-turn.work.claim.drawn in
     let new : c.draw-number.new.claim.drawn ≡ old ++ n ∷ [] = c.draw-number.ensures.drawn in
     let long : length c.draw-number.new.claim.drawn ≡ length old + 1 = ap (λ (xs : List ℕ). length xs) new ∙ length-append old (n ∷ []) in
-    let left : c.draw-number.new.claim.room + 1 ≡ c.loop-turn.work.claim.room = c.draw-number.ensures.room in
-    let whole : c.loop-turn.work.claim.room + length old ≡ c.args.work.now.claim.room = h.whole in
-    let turns : length old ≡ c.loop-turn._turn = h.turns in
     let past : n < groups → is_past (n + 1) = elim c.if-number-groups.branch [
       | then-number-groups w ↦ λ below. w.arrive.ensures
       | else-number-groups w ↦ λ below. absurd (let above = w.if-number-groups.false in let g = c.groups-groups.ensures.groups in omega arith)
@@ -45,8 +42,6 @@ returns-then-number-end g c =
     let old = c.loop-turn.work.claim.drawn in
     let new : c.draw-number.new.claim.drawn ≡ old ++ n ∷ [] = c.draw-number.ensures.drawn in
     let long : length c.draw-number.new.claim.drawn ≡ length old + 1 = ap (λ (xs : List ℕ). length xs) new ∙ length-append old (n ∷ []) in
-    let left : c.draw-number.new.claim.room + 1 ≡ c.loop-turn.work.claim.room = c.draw-number.ensures.room in
-    let whole : c.loop-turn.work.claim.room + length old ≡ c.args.work.now.claim.room = h.whole in
     let none : length c.args.work.now.claim.drawn ≡ 0 = ap (λ (xs : List ℕ). length xs) c.requires.fresh in
     let end : c.max-end.result ≡ max count groups = c.max-end.ensures ∙ ap₂ max c.count.ensures.count c.groups-groups.ensures.groups in
     let above : max count groups ≤ n = (let l = c.if-number-end.true in omega arith) in
@@ -67,11 +62,8 @@ returns-after-loop-turn g c =
     let h = c.loop-turn.invariant in
     let count = g.M.Maker.count_of c.args.maker.now in
     let groups = g.M.Maker.groups_of c.args.maker.now in
-    let turns : length c.loop-turn.work.claim.drawn ≡ c.loop-turn._turn = h.turns in
-    let whole : c.loop-turn.work.claim.room + length c.loop-turn.work.claim.drawn ≡ c.args.work.now.claim.room = h.whole in
     let none : length c.args.work.now.claim.drawn ≡ 0 = ap (λ (xs : List ℕ). length xs) c.requires.fresh in
     let end : c.max-end.result ≡ max count groups = c.max-end.ensures ∙ ap₂ max c.count.ensures.count c.groups-groups.ensures.groups in
-    let past = c.loop-turn-test.false in
     let more : max count groups < length c.loop-turn.work.claim.drawn = omega arith in (
       record { same = h.same; numbers = h.numbers; results = h.results; past = h.past; finished = inl more },
       omega arith,
