@@ -1,30 +1,22 @@
 -- A set of names that gets one name after the other.
-use Rattle.std.proofs.Common.{◌≡◌, ℕ, zero, suc, ◌+◌, Bool, false, ◌||◌, List, [], ◌∷◌, ◌++◌, Some, slice_get, take, refl, sym, ap, ap₂, ◌∙◌, add-one}
+use Rattle.std.proofs.Common.{◌≡◌, ℕ, zero, suc, ◌+◌, Bool, false, ◌||◌, List, [], ◌∷◌, ◌++◌, Some, slice_get, take, refl, ap, ap₂, ◌∙◌}
 use Rattle.std.specs.Prelude.{bytes_eq}
 use Rattle.std.specs.List.{IsDistinct, list_any}
-use Rattle.std.proofs.lemmas.Bool.{both_ways, false_from_ne_true}
-use Rattle.std.proofs.lemmas.List.{map-append}
+use Rattle.std.proofs.lemmas.List.{map-append, take_more}
 use Rattle.std.proofs.lemmas.Map.Keys.{IsDistinct-head, IsDistinct-tail}
-use Rattle.std.proofs.lemmas.Slice.Eq.{bytes_eq-Decides}
+use Rattle.std.proofs.lemmas.Option.{get_or_from_slice_get, slice_get_within}
 use denote.Ref.{Bor}
 use Rattle.indexmap.specs.IndexSet.{insert_key}
 use Rattle.auction_terms.specs.Borrowed.{bytes_of}
 use Rattle.program_rows.proofs.EachLaws.{at_place}
-
-flipped : (x y : List ℕ) → bytes_eq x y ≡ false → bytes_eq y x ≡ false
-flipped x y h = false_from_ne_true _ (λ e. both_ways _ h ((bytes_eq-Decides x y).1 (sym ((bytes_eq-Decides y x).0 e))))
+use Rattle.program_rows.proofs.NamedItems.{bytes_flip}
 
 -- a name isn't among those before it
 fresh : (names : List (List ℕ)) (i : ℕ) (name : List ℕ) → IsDistinct bytes_eq names → slice_get names i ≡ Some name → list_any (bytes_eq name) (take i names) ≡ false
 fresh [] i name d e = cc e
 fresh (c ∷ names) zero name d e = refl
 fresh (c ∷ names) (suc i) name d e =
-    ap₂ (λ a b. a || b) (flipped c name (at_place (λ y. bytes_eq c y ≡ false) names i name (IsDistinct-head bytes_eq c names d) e)) (fresh names i name (IsDistinct-tail bytes_eq c names d) e)
-
-take_more : (names : List (List ℕ)) (i : ℕ) (name : List ℕ) → slice_get names i ≡ Some name → take (suc i) names ≡ take i names ++ name ∷ []
-take_more [] i name e = cc e
-take_more (c ∷ names) zero name e = let same : c ≡ name = cc in ap (λ (n : List ℕ). n ∷ []) same
-take_more (c ∷ names) (suc i) name e = ap (λ (ns : List (List ℕ)). c ∷ ns) (take_more names i name e)
+    ap₂ (λ a b. a || b) (bytes_flip c name (at_place (λ y. bytes_eq c y ≡ false) names i name (IsDistinct-head bytes_eq c names d) e)) (fresh names i name (IsDistinct-tail bytes_eq c names d) e)
 
 among_bytes : (name : List ℕ) (keys : List (Bor (List ℕ))) → list_any (λ k. bytes_eq name k.now) keys ≡ list_any (bytes_eq name) (bytes_of keys)
 among_bytes name [] = refl
@@ -40,4 +32,4 @@ pub one_more : (names : List (List ℕ)) (keys new : List (Bor (List ℕ))) (nam
 one_more names keys new name i distinct so_far at is =
     let absent : list_any (same_bytes name) keys ≡ false = among_bytes name.now keys ∙ ap (list_any (bytes_eq name.now)) so_far ∙ fresh names i name.now distinct at in
     let pushed : new ≡ keys ++ name ∷ [] = is ∙ rw absent refl in
-    rw (add-one, pushed, map-append (λ (k : Bor (List ℕ)). k.now) keys (name ∷ []), so_far, take_more names i name.now at) refl
+    rw (pushed, map-append (λ (k : Bor (List ℕ)). k.now) keys (name ∷ []), so_far, take_more names i name.now (slice_get_within names i name.now at), get_or_from_slice_get names i name.now name.now at) refl

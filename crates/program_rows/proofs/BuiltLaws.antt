@@ -1,10 +1,11 @@
 -- What is built is the program of the offers.
-use Rattle.std.proofs.Common.{◌≡◌, ℕ, zero, suc, ◌+◌, ◌<◌, ◌≤◌, Bool, true, false, ◌==◌, nat_eq, cond, List, [], ◌∷◌, ◌++◌, Option, Some, map, drop, length, slice_get, sym, refl, ap, ap₂, ◌∙◌, subst, arith, append_assoc, eqb-true, eq-eqb, ne_eqb, ℤ, pos}
+use Rattle.std.proofs.Common.{◌≡◌, ℕ, zero, suc, ◌+◌, ◌<◌, ◌≤◌, Bool, true, false, ◌==◌, nat_eq, cond, List, [], ◌∷◌, ◌++◌, Some, map, drop, length, slice_get, sym, refl, ap, ap₂, ◌∙◌, subst, arith, append_assoc, eqb-true, eq-eqb, ne_eqb, ℤ, pos}
 use Rattle.std.specs.Prelude.{⊤, All, codes, slice_index_or}
 use Rattle.std.specs.List.{AllByRecursion, range_with_len, dedup, dedup_from}
 use Rattle.std.proofs.lemmas.Bool.{cond-true, cond-false}
 use Rattle.std.proofs.lemmas.List.{append-nil, drop_more, drop_all, length-map}
 use Rattle.std.proofs.lemmas.List.Elements.{All-from_recursion}
+use Rattle.std.proofs.lemmas.Option.{same_Some}
 use Rattle.auction_terms.specs.declared.bids.KeptBid.{KeptBid}
 use Rattle.auction_terms.specs.declared.rules.Category as declared
 use Rattle.auction_limits.specs.declared.limits.TheConstants.{MOST_BIDDERS}
@@ -22,7 +23,7 @@ use Rattle.program_rows.specs.Legal.{IsLegalProgram}
 use Rattle.program_rows.specs.Program.{Table, TableRow, TableColumn}
 use Rattle.program_rows.specs.Rows.{bidder_subjects, subjects, weight, row_of, entries_from, column_of, worth_column, program_of}
 use Rattle.program_rows.specs.inside.Building.{IsThere, built_column}
-use Rattle.program_rows.proofs.EachLaws.{at_place}
+use Rattle.program_rows.proofs.EachLaws.{at_place, item_at}
 use Rattle.program_rows.proofs.LegalLaws.{Rises, all_dedup, all_there, bidders_few, bidders_never_fall, dedup_rises}
 
 abbrev bidders : List Offer → List ℕ
@@ -122,17 +123,6 @@ last_there (b ∷ bs) rest (suc place) last others e =
     let t = last_there bs rest place last others e in
     let within = t.0 in (omega arith, t.1)
 
-one_subject : (o : Option Subject) (s t : Subject) → o ≡ Some s → o ≡ Some t → s ≡ t
-one_subject o s t e f = cc
-
-some_front : (ks : List KeptBid) (i : ℕ) → i < length ks → (k : KeptBid) × (drop i ks ≡ k ∷ drop (i + 1) ks)
-some_front [] i l = absurd (omega arith)
-some_front (k ∷ ks) zero l = (k, refl)
-some_front (k ∷ ks) (suc i) l =
-    let rest = some_front ks i (omega arith) in
-    let next : suc (i + 1) ≡ suc i + 1 = omega arith in
-    (rest.0, rest.1 ∙ ap (λ (n : ℕ). rest.0 ∷ drop n (k ∷ ks)) next)
-
 pub at_most_next : (b : Bool) (place next i : ℕ) → next ≡ cond b (place + 1) place → place ≤ i → next ≤ i + 1
 at_most_next true place next i e l = omega arith
 at_most_next false place next i e l = omega arith
@@ -144,8 +134,8 @@ module _ (lots : Lots) (kept : List KeptBid) (ss : List Subject) (all : ss ≡ s
   -- the bidder whose row is the last one before the next bid
   last_bidder : (place i : ℕ) → i < length kept → Stands bs place (offers (drop i kept)) → (last : ℕ) × (place < length ss) × (slice_get ss place ≡ Some (Bidder last))
   last_bidder place i l stands =
-      let front = some_front kept i l in
-      let s : Stands bs place (offer_of front.0 ∷ offers (drop (i + 1) kept)) = subst (λ (ks : List KeptBid). Stands bs place (offers ks)) front.1 stands in
+      let front = item_at kept i l in
+      let s : Stands bs place (offer_of front.0 ∷ offers (drop (i + 1) kept)) = subst (λ (ks : List KeptBid). Stands bs place (offers ks)) front.2 stands in
       let t = last_there bs (subjects lots []) place s.0 (next_bidders s.0 (offer_of front.0 ∷ offers (drop (i + 1) kept))) s.1 in
       (s.0, subst (λ (xs : List Subject). place < length xs) (sym all) t.0, subst (λ (xs : List Subject). slice_get xs place ≡ Some (Bidder s.0)) (sym all) t.1)
 
@@ -155,7 +145,7 @@ module _ (lots : Lots) (kept : List KeptBid) (ss : List Subject) (all : ss ≡ s
   pub last_is_there : (place i : ℕ) (last : Subject) → i < length kept → Stands bs place (offers (drop i kept)) → slice_get ss place ≡ Some last → IsThere lots last
   last_is_there place i last l stands at =
       let b = last_bidder place i l stands in
-      subst (λ (s : Subject). IsThere lots s) (one_subject (slice_get ss place) (Bidder b.0) last b.2 at) tt
+      subst (λ (s : Subject). IsThere lots s) (same_Some (Bidder b.0) last (sym b.2 ∙ at)) tt
 
   pub place_found : (place next i : ℕ) (k : KeptBid) (last : Subject) → i < length kept → k ≡ slice_index_or kept i k → Stands bs place (offers (drop i kept)) → slice_get ss place ≡ Some last
       → next ≡ cond (weight lots last (offer_of k) == 0) (place + 1) place → drop next bs ≡ k.bidder ∷ next_bidders k.bidder (offers (drop (i + 1) kept))
@@ -163,7 +153,7 @@ module _ (lots : Lots) (kept : List KeptBid) (ss : List Subject) (all : ss ≡ s
       let front : drop i kept ≡ k ∷ drop (i + 1) kept = drop_more kept i k l ∙ ap (λ (x : KeptBid). x ∷ drop (i + 1) kept) (sym is) in
       let s : Stands bs place (offer_of k ∷ offers (drop (i + 1) kept)) = subst (λ (ks : List KeptBid). Stands bs place (offers ks)) front stands in
       let t = last_there bs (subjects lots []) place s.0 (next_bidders s.0 (offer_of k ∷ offers (drop (i + 1) kept))) s.1 in
-      let same : last ≡ Bidder s.0 = one_subject (slice_get ss place) last (Bidder s.0) at (ap (λ (xs : List Subject). slice_get xs place) all ∙ t.1) in
+      let same : last ≡ Bidder s.0 = same_Some last (Bidder s.0) (sym at ∙ ap (λ (xs : List Subject). slice_get xs place) all ∙ t.1) in
       found bs place next s.0 (offer_of k) (offers (drop (i + 1) kept)) (k.bidder == s.0) refl s.1 (n ∙ ap (λ (t : Subject). cond (weight lots t (offer_of k) == 0) (place + 1) place) same)
 
   pub column_is : (next first : ℕ) (o : Offer) (others : List ℕ) → AreOffers lots (offers kept) → first ≡ length (bidder_subjects (offers kept)) → drop next bs ≡ o.bidder ∷ others → built_column lots first next o ≡ column_of lots ss o

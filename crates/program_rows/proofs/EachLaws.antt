@@ -1,5 +1,5 @@
--- What holds of each item of a list.
-use Rattle.std.proofs.Common.{◌≡◌, ℕ, zero, suc, ◌+◌, ◌<◌, ◌≤◌, List, [], ◌∷◌, Some, map, slice_get, subst, arith, le_refl}
+-- What holds of each item of a list, and the item at a place.
+use Rattle.std.proofs.Common.{◌≡◌, ℕ, zero, suc, ◌+◌, ◌<◌, ◌≤◌, List, [], ◌∷◌, Some, drop, length, map, slice_get, refl, ap, ◌∙◌, subst, arith, le_refl}
 use Rattle.std.specs.List.{AllByRecursion, range_with_len}
 
 pub each : {X : Type 0} (P : X → Type 0) (xs : List X) → ((x : X) → P x) → AllByRecursion P xs
@@ -18,3 +18,12 @@ pub at_place : {X : Type 0} (P : X → Type 0) (xs : List X) (k : ℕ) (x : X) �
 at_place P [] k x a e = cc
 at_place P (y ∷ xs) zero x a e = let same : y ≡ x = cc in subst P same a.0
 at_place P (y ∷ xs) (suc k) x a e = at_place P xs k x a.1 e
+
+-- the item at a place, before those behind it
+pub item_at : {X : Type 0} (xs : List X) (k : ℕ) → k < length xs → (x : X) × (slice_get xs k ≡ Some x) × (drop k xs ≡ x ∷ drop (k + 1) xs)
+item_at [] k l = absurd (omega arith)
+item_at (x ∷ xs) zero l = (x, refl, refl)
+item_at (x ∷ xs) (suc k) l =
+    let (y, at, next) = item_at xs k (omega arith) in
+    let after : suc (k + 1) ≡ suc k + 1 = omega arith in
+    (y, at, next ∙ ap (λ (n : ℕ). y ∷ drop n (x ∷ xs)) after)

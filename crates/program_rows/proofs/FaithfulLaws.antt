@@ -34,6 +34,7 @@ use Rattle.program_rows.specs.Faithful.{back, Matched, PresolvedIsFaithful, Leas
 use Rattle.program_rows.specs.inside.Building.{IsThere}
 use Rattle.program_rows.proofs.EachLaws.{at_place, each_map}
 use Rattle.program_rows.proofs.LegalLaws.{all_there}
+use Rattle.program_rows.proofs.NamedItems.{stands as is_there}
 use Rattle.program_rows.proofs.SpellingLaws.{reads_back}
 use Rattle.program_rows.specs.declared.bounds.Bounds.TheVariants.{One}
 
@@ -380,10 +381,6 @@ not_there (c ∷ a) b h o e =
     omega arith) in
     ap₂ (λ (x y : Bool). x || y) (and_left (c.bidder == o.bidder) (c.bid == o.number) differs) (not_there a b later o e)
 
-bid_there : (q : Bid → Bool) (o : Option Bid) → option_map_or q o false ≡ true → (x : Bid) × (o ≡ Some x) × (q x ≡ true)
-bid_there q None h = absurd (both_ways false refl h)
-bid_there q (Some x) h = (x, refl, h)
-
 inner_zero : (b : Bool) (n : ℕ) → n ≡ 0 → cond b n 0 ≡ 0
 inner_zero true n h = h
 inner_zero false n h = refl
@@ -404,7 +401,7 @@ module _ (lots : Lots) (book : Book) (group : ℕ → Bool) (f : Choice → Bid 
   once : (c : Choice) → is_kept_choice lots book group c ≡ true → sum_by (λ o. cond (same_choice c (choice_of o)) (of_offer o) 0) (kept_of lots book group) ≡ of_choice c
   once c k =
       let e = and_parts (not (group c.bidder)) (option_map_or (λ x. is_kept lots (form_of book c.bidder) x) (bid_of book c) false) k in
-      let v = bid_there (λ (x : Bid). is_kept lots (form_of book c.bidder) x) (bid_of book c) e.1 in
+      let v = is_there (λ (x : Bid). is_kept lots (form_of book c.bidder) x) (bid_of book c) e.1 in
       let here : Offer = record { bidder = c.bidder; number = c.bid; bid = v.0 } in
       let counted : Offer → ℕ = λ o. cond (is_kept_offer lots book group o) (cond (same_choice c (choice_of o)) (of_offer o) 0) 0 in
       let all = sum_filter (λ o. cond (same_choice c (choice_of o)) (of_offer o) 0) (is_kept_offer lots book group) (offers_from 1 book) in
@@ -454,7 +451,7 @@ module _ (lots : Lots) (book : Book) (group : ℕ → Bool) (sized : IsSized lot
   counted : (g : Choice → ℕ) (c : Choice) → is_kept_choice lots book group c ≡ true → of_choice lots book group (λ d x. g d) c ≡ g c
   counted g c k =
       let e = and_parts (not (group c.bidder)) (option_map_or (λ x. is_kept lots (form_of book c.bidder) x) (bid_of book c) false) k in
-      let v = bid_there (λ (x : Bid). is_kept lots (form_of book c.bidder) x) (bid_of book c) e.1 in
+      let v = is_there (λ (x : Bid). is_kept lots (form_of book c.bidder) x) (bid_of book c) e.1 in
       ap (λ o. option_map_or (λ (x : Bid). g c) o 0) v.1
 
   -- how often a kept allocation has it, from the offers

@@ -1,8 +1,8 @@
 -- The program of some of the offers, and that of all of them, where no other offer is at 1.
-use Rattle.std.proofs.Common.{◌≡◌, ℕ, Bool, true, false, ◌||◌, ◌==◌, cond, List, [], ◌∷◌, ◌++◌, map, sym, refl, ap, ap₂, ◌∙◌}
-use Rattle.std.specs.Prelude.{bytes_eq, filter, codes, neg_ℤ, pos}
+use Rattle.std.proofs.Common.{◌≡◌, ℕ, Bool, true, false, ◌||◌, ◌==◌, List, [], ◌∷◌, ◌++◌, map, sym, refl, ap, ap₂, ◌∙◌}
+use Rattle.std.specs.Prelude.{bytes_eq, filter}
 use Rattle.std.specs.List.{AllByRecursion, list_any}
-use Rattle.std.proofs.lemmas.Bool.{both_ways, false_from_ne_true}
+use Rattle.std.proofs.lemmas.Bool.{both_ways, cond_both, false_from_ne_true, or_right}
 use Rattle.std.proofs.lemmas.Slice.Eq.{bytes_eq-Decides}
 use Rattle.auction_terms.specs.Packages.{Lots, worth_of_all}
 use Rattle.auction_terms.specs.Keeping.{Offer}
@@ -15,12 +15,8 @@ use Rattle.program_rows.specs.Rows.{column_of, program_of, subjects, worth_colum
 use Rattle.program_rows.specs.Spelling.{bid_name, is_bid}
 use Rattle.program_rows.specs.declared.subject.Subject.{Subject}
 use Rattle.program_rows.proofs.FaithfulLaws.{IsNumbered, back_is, chosen, point_of_others}
+use Rattle.program_rows.proofs.LegalLaws.{last_column}
 use Rattle.program_rows.proofs.SpellingLaws.{names_differ}
-use Rattle.program_rows.specs.declared.bounds.Bounds.TheVariants.{One}
-
-true_right : (a b : Bool) → b ≡ true → (a || b) ≡ true
-true_right true b h = refl
-true_right false b h = h
 
 true_either : (a b c : Bool) → (b ≡ true → c ≡ true) → (a || b) ≡ true → (a || c) ≡ true
 true_either true b c more h = refl
@@ -45,15 +41,11 @@ module _ (lots : Lots) (is_named : ℕ → ℕ → Bool) where
       by : (b : Bool) → is_named o.bidder o.number ≡ b → (list_any (bytes_eq name) (names_of (columns_of few_rows (named_of offers))) ≡ true → list_any (bytes_eq name) (names_of (columns_of rows offers)) ≡ true)
           → list_any (bytes_eq name) (names_of (columns_of rows (o ∷ offers))) ≡ true
       by true e more = true_either (bytes_eq name (bid_name o.bidder o.number)) _ _ more (rw e at h)
-      by false e more = true_right (bytes_eq name (bid_name o.bidder o.number)) _ (more (rw e at h))
+      by false e more = or_right (bytes_eq name (bid_name o.bidder o.number)) _ (more (rw e at h))
 
   -- a name of the program of some offers is one of the program of all
   pub names_among : (offers : List Offer) (name : List ℕ) → list_any (bytes_eq name) (names_of (program_of lots (named_of offers)).columns) ≡ true → list_any (bytes_eq name) (names_of (program_of lots offers).columns) ≡ true
   names_among offers name = more_names name (subjects lots offers) (subjects lots (named_of offers)) offers
-
-  not_constant : (bidder bid : ℕ) (b : Bool) → list_any (bytes_eq (bid_name bidder bid)) (names_of (cond b [] (record { name = codes "K"; bounds = One; cost = neg_ℤ (pos (worth_of_all lots)); entries = [] } ∷ []))) ≡ false
-  not_constant bidder bid true = refl
-  not_constant bidder bid false = refl
 
   other_name : (bidder bid : ℕ) (o : Offer) → is_bid bidder bid ≡ true → is_named bidder bid ≡ false → IsNumbered o → is_named o.bidder o.number ≡ true → bytes_eq (bid_name bidder bid) (bid_name o.bidder o.number) ≡ false
   other_name bidder bid o mine unnamed its named = false_from_ne_true _ (λ t.
@@ -61,7 +53,7 @@ module _ (lots : Lots) (is_named : ℕ → ℕ → Bool) where
       both_ways (is_named bidder bid) unnamed (ap₂ is_named same.0 same.1 ∙ named))
 
   no_name : (bidder bid : ℕ) (rows : List Subject) (offers : List Offer) → is_bid bidder bid ≡ true → is_named bidder bid ≡ false → AllByRecursion IsNumbered offers → list_any (bytes_eq (bid_name bidder bid)) (names_of (columns_of rows (named_of offers))) ≡ false
-  no_name bidder bid rows [] mine unnamed h = not_constant bidder bid (worth_of_all lots == 0)
+  no_name bidder bid rows [] mine unnamed h = cond_both (worth_of_all lots == 0) [] (last_column lots ∷ []) (λ cs. list_any (bytes_eq (bid_name bidder bid)) (names_of cs) ≡ false) (λ e. refl) (λ e. refl)
   no_name bidder bid rows (o ∷ offers) mine unnamed h = by (is_named o.bidder o.number) refl (no_name bidder bid rows offers mine unnamed h.1)
     where
       by : (b : Bool) → is_named o.bidder o.number ≡ b → list_any (bytes_eq (bid_name bidder bid)) (names_of (columns_of rows (named_of offers))) ≡ false → list_any (bytes_eq (bid_name bidder bid)) (names_of (columns_of rows (named_of (o ∷ offers)))) ≡ false

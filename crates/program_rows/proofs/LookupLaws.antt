@@ -4,7 +4,9 @@ use Rattle.std.specs.Prelude.{bytes_eq, find, position}
 use Rattle.std.specs.Option.{option_map, option_map_or}
 use Rattle.std.specs.List.{list_all, position_or_len, IsDistinct}
 use Rattle.std.proofs.lemmas.Bool.{false_from_ne_true, cond-true, cond-false, le-ltb}
+use Rattle.std.proofs.lemmas.List.{at_drop_all, at_drop_more}
 use Rattle.std.proofs.lemmas.List.Folds.{find_at}
+use Rattle.std.proofs.lemmas.Option.{get_or_from_slice_get, slice_get_past, slice_get_within}
 use Rattle.std.proofs.lemmas.Slice.Eq.{bytes_eq-Decides}
 
 module _ {X : Type 0} (name_of : X → List ℕ) (name : List ℕ) where
@@ -25,12 +27,6 @@ module _ {X : Type 0} (name_of : X → List ℕ) (name : List ℕ) where
   hit (x ∷ xs) zero n e f = let same : name_of x ≡ n = cc in let yes_here : bytes_eq name (name_of x) ≡ true = ap (bytes_eq name) same ∙ f in rw yes_here refl
   hit (x ∷ xs) (suc i) n e f = hit xs i n e f
 
-  none_left : (xs : List X) (i : ℕ) → length xs ≤ i → left (drop i xs) ≡ 0
-  none_left [] zero l = refl
-  none_left [] (suc i) l = refl
-  none_left (x ∷ xs) zero l = absurd (omega arith)
-  none_left (x ∷ xs) (suc i) l = none_left xs i (omega arith)
-
   pub step : (xs : List X) (i : ℕ) (n : List ℕ) → option_map name_of (slice_get xs i) ≡ Some n → bytes_eq name n ≡ false → left xs ≡ i + left (drop i xs) → left xs ≡ i + 1 + left (drop (i + 1) xs)
   step xs i n e f h = let p = pass xs i n e f in let after : suc i ≡ i + 1 = omega arith in let same = ap (λ (k : ℕ). left (drop k xs)) after in omega arith
 
@@ -38,7 +34,7 @@ module _ {X : Type 0} (name_of : X → List ℕ) (name : List ℕ) where
   found_here xs i n e f h = let p = hit xs i n e f in omega arith
 
   pub found_none : (xs : List X) (i n : ℕ) → length xs ≤ i → i ≤ n → n ≡ length xs → left xs ≡ i + left (drop i xs) → n ≡ left xs
-  found_none xs i n l m e h = let p = none_left xs i l in omega arith
+  found_none xs i n l m e h = let p = at_drop_all left xs i l in omega arith
 
   -- where names differ, the one item of this name is the first
   earlier_differ : (y : X) (xs : List X) (i : ℕ) (n : List ℕ) → IsDistinct bytes_eq (map name_of (y ∷ xs)) → option_map name_of (slice_get xs i) ≡ Some n → bytes_eq name n ≡ true → bytes_eq name (name_of y) ≡ false
@@ -68,36 +64,21 @@ module _ {X : Type 0} (name_of : X → List ℕ) (name : List ℕ) where
 
 module _ {X : Type 0} (test : X → Bool) where
   pub all_step : (xs : List X) (i : ℕ) (x : X) → slice_get xs i ≡ Some x → test x ≡ true → list_all test (drop i xs) ≡ list_all test (drop (i + 1) xs)
-  all_step xs i x e t = let after : suc i ≡ i + 1 = omega arith in here xs i x e t ∙ ap (λ (k : ℕ). list_all test (drop k xs)) after
-    where
-      here : (xs : List X) (i : ℕ) (x : X) → slice_get xs i ≡ Some x → test x ≡ true → list_all test (drop i xs) ≡ list_all test (drop (suc i) xs)
-      here [] i x e t = cc
-      here (y ∷ xs) zero x e t = let same : y ≡ x = cc in let holds : test y ≡ true = ap test same ∙ t in rw holds refl
-      here (y ∷ xs) (suc i) x e t = here xs i x e t
+  all_step xs i x e t = at_drop_more (list_all test) xs i x (slice_get_within xs i x e) ∙ rw (get_or_from_slice_get xs i x x e, t) refl
 
   pub all_fails : (xs : List X) (i : ℕ) (x : X) → slice_get xs i ≡ Some x → test x ≡ false → list_all test (drop i xs) ≡ false
-  all_fails [] i x e t = cc
-  all_fails (y ∷ xs) zero x e t = let same : y ≡ x = cc in let fails : test y ≡ false = ap test same ∙ t in rw fails refl
-  all_fails (y ∷ xs) (suc i) x e t = all_fails xs i x e t
+  all_fails xs i x e t = at_drop_more (list_all test) xs i x (slice_get_within xs i x e) ∙ rw (get_or_from_slice_get xs i x x e, t) refl
 
   pub all_end : (xs : List X) (i : ℕ) → length xs ≤ i → list_all test (drop i xs) ≡ true
-  all_end [] zero l = refl
-  all_end [] (suc i) l = refl
-  all_end (x ∷ xs) zero l = absurd (omega arith)
-  all_end (x ∷ xs) (suc i) l = all_end xs i (omega arith)
+  all_end xs i l = at_drop_all (list_all test) xs i l
 
 -- ---------- what is found ----------
 
 pub stand_found : {X : Type 0} (p : X → Bool) (f : X → Bool) (xs : List X) (n : ℕ) (x : X) → n ≡ position_or_len p xs → slice_get xs n ≡ Some x → f x ≡ option_map_or f (find p xs) false
 stand_found p f xs n x e g = sym (ap (λ o. option_map_or f o false) (find_at p xs ∙ ap (slice_get xs) (sym e) ∙ g))
 
-get_none : {X : Type 0} (xs : List X) (n : ℕ) → length xs ≤ n → slice_get xs n ≡ None
-get_none [] n l = refl
-get_none (x ∷ xs) zero l = absurd (omega arith)
-get_none (x ∷ xs) (suc n) l = get_none xs n (omega arith)
-
 pub stand_none : {X : Type 0} (p : X → Bool) (f : X → Bool) (xs : List X) (n : ℕ) → n ≡ position_or_len p xs → length xs ≤ n → false ≡ option_map_or f (find p xs) false
-stand_none p f xs n e l = sym (ap (λ o. option_map_or f o false) (find_at p xs ∙ ap (slice_get xs) (sym e) ∙ get_none xs n l))
+stand_none p f xs n e l = sym (ap (λ o. option_map_or f o false) (find_at p xs ∙ ap (slice_get xs) (sym e) ∙ slice_get_past xs n l))
 
 pub place_found : {X : Type 0} (p : X → Bool) (f : ℕ → ℤ) (xs : List X) (n : ℕ) → n ≡ position_or_len p xs → n < length xs → f n ≡ option_map_or f (position p xs) (pos 0)
 place_found p f xs n e l =

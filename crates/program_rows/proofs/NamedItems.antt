@@ -1,10 +1,12 @@
 -- Items of a list that are found by their names, and tests of all items.
-use Rattle.std.proofs.Common.{◌≡◌, ℕ, zero, suc, ◌<◌, ◌≤◌, Bool, true, false, cond, nat_lt, lt-ltb, List, [], ◌∷◌, Option, Some, None, length, map, slice_get, refl, sym, ap, subst, ◌∙◌, arith, pos}
+use Rattle.std.proofs.Common.{◌≡◌, ℕ, zero, suc, ◌≤◌, Bool, true, false, nat_lt, lt-ltb, List, [], ◌∷◌, Option, Some, None, length, map, slice_get, refl, sym, ap, ◌∙◌, arith, pos}
 use Rattle.std.specs.Prelude.{bytes_eq, find, position}
 use Rattle.std.specs.Option.{option_map_or}
 use Rattle.std.specs.List.{AllByRecursion, IsDistinct, list_all, position_or_len}
 use Rattle.std.proofs.lemmas.Bool.{and_parts, false_from_ne_true, cond-true, cond-false, le-ltb}
 use Rattle.std.proofs.lemmas.List.Folds.{find_at}
+use Rattle.std.proofs.lemmas.List.Sums.{passes_at_first}
+use Rattle.std.proofs.lemmas.Option.{get_or_from_slice_get, slice_get_within}
 use Rattle.std.proofs.lemmas.Slice.Eq.{bytes_eq-Decides}
 use Rattle.program_rows.specs.declared.row.RowKind.{RowKind}
 use Rattle.program_rows.specs.declared.row.RowKind.TheVariants.{AtMost, AtLeast, Equal}
@@ -15,19 +17,15 @@ use Rattle.program_rows.specs.Points.{coefficient_at}
 use Rattle.program_rows.specs.Same.{row_named, coefficient_in}
 use Rattle.program_rows.specs.inside.Comparing.{same_kind, same_bounds}
 use Rattle.program_rows.specs.ProgramNames.{row_name}
+use Rattle.program_rows.proofs.EachLaws.{at_place}
 
 -- ---------- tests ----------
 
 pub kinds_equal : (a b : RowKind) → same_kind a b ≡ true → a ≡ b
 kinds_equal AtMost AtMost h = refl
-kinds_equal AtMost AtLeast h = cc
-kinds_equal AtMost Equal h = cc
-kinds_equal AtLeast AtMost h = cc
 kinds_equal AtLeast AtLeast h = refl
-kinds_equal AtLeast Equal h = cc
-kinds_equal Equal AtMost h = cc
-kinds_equal Equal AtLeast h = cc
 kinds_equal Equal Equal h = refl
+kinds_equal a b h = cc
 
 pub kind_itself : (a : RowKind) → same_kind a a ≡ true
 kind_itself AtMost = refl
@@ -36,14 +34,9 @@ kind_itself Equal = refl
 
 pub bounds_equal : (a b : Bounds) → same_bounds a b ≡ true → a ≡ b
 bounds_equal ZeroOrOne ZeroOrOne h = refl
-bounds_equal ZeroOrOne Zero h = cc
-bounds_equal ZeroOrOne One h = cc
-bounds_equal Zero ZeroOrOne h = cc
 bounds_equal Zero Zero h = refl
-bounds_equal Zero One h = cc
-bounds_equal One ZeroOrOne h = cc
-bounds_equal One Zero h = cc
 bounds_equal One One h = refl
+bounds_equal a b h = cc
 
 pub bounds_itself : (a : Bounds) → same_bounds a a ≡ true
 bounds_itself ZeroOrOne = refl
@@ -60,24 +53,14 @@ pub all_pass : {X : Type 0} (test : X → Bool) (xs : List X) → AllByRecursion
 all_pass test [] h = refl
 all_pass test (x ∷ xs) h = rw (h.0, all_pass test xs h.1) refl
 
-pub same_some : {X : Type 0} (x y : X) → Some x ≡ Some y → x ≡ y
-same_some x y e = cc
-
 pub found_passes : {X : Type 0} (test : X → Bool) (xs : List X) (x : X) → find test xs ≡ Some x → test x ≡ true
-found_passes test [] x e = cc
-found_passes test (y ∷ xs) x e = by (test y) refl e (λ g. found_passes test xs x g)
-  where
-    by : (b : Bool) → test y ≡ b → cond b (Some y) (find test xs) ≡ Some x → (find test xs ≡ Some x → test x ≡ true) → test x ≡ true
-    by true t g rest = let same : y ≡ x = same_some y x g in ap test (sym same) ∙ t
-    by false t g rest = rest g
+found_passes test xs x e =
+    let at = sym (find_at test xs) ∙ e in
+    let k = position_or_len test xs in
+    ap test (sym (get_or_from_slice_get xs k x x at)) ∙ passes_at_first test xs x (slice_get_within xs k x at)
 
 pub found_in : {X : Type 0} (P : X → Type 0) (test : X → Bool) (xs : List X) (x : X) → AllByRecursion P xs → find test xs ≡ Some x → P x
-found_in P test [] x h e = cc
-found_in P test (y ∷ xs) x h e = by (test y) e (λ g. found_in P test xs x h.1 g)
-  where
-    by : (b : Bool) → cond b (Some y) (find test xs) ≡ Some x → (find test xs ≡ Some x → P x) → P x
-    by true g rest = subst P (same_some y x g) h.0
-    by false g rest = rest g
+found_in P test xs x h e = at_place P xs (position_or_len test xs) x h (sym (find_at test xs) ∙ e)
 
 pub stands : {X : Type 0} (f : X → Bool) (o : Option X) → option_map_or f o false ≡ true → (x : X) × (o ≡ Some x) × (f x ≡ true)
 stands f None h = cc
@@ -116,11 +99,6 @@ pub record Place (rows : List TableRow) (name : List ℕ) (place : ℕ) (r : Tab
   pub there : slice_get rows place ≡ Some r
   pub found : row_named rows name ≡ Some r
 
-pub within : (rows : List TableRow) (n : ℕ) (r : TableRow) → slice_get rows n ≡ Some r → n < length rows
-within [] n r e = cc
-within (x ∷ rows) zero r e = omega arith
-within (x ∷ rows) (suc n) r e = let l = within rows n r e in omega arith
-
 pub beyond : (rows : List TableRow) (n : ℕ) → slice_get rows n ≡ None → length rows ≤ n
 beyond [] n e = omega arith
 beyond (x ∷ rows) zero e = cc
@@ -130,7 +108,7 @@ pub place_by : (rows : List TableRow) (name : List ℕ) (r : TableRow) → row_n
 place_by rows name r e =
     let n = position_or_len (is_row name) rows in
     let there : slice_get rows n ≡ Some r = sym (find_at (is_row name) rows) ∙ e in
-    let inside : nat_lt n (length rows) ≡ true = lt-ltb n (length rows) (within rows n r there) in
+    let inside : nat_lt n (length rows) ≡ true = lt-ltb n (length rows) (slice_get_within rows n r there) in
     record { at = cond-true (nat_lt n (length rows)) (Some n) None inside; there = there; found = e }
 
 pub no_place : (rows : List TableRow) (name : List ℕ) → row_named rows name ≡ None → position (is_row name) rows ≡ None

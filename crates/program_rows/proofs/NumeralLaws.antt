@@ -4,7 +4,7 @@ use Rattle.std.specs.Prelude.{◌==◌, decimal, bytes_eq}
 use Rattle.std.specs.List.{AllByRecursion, before_first, after_first, position_or_len, list_all}
 use Rattle.std.specs.Char.{is_ascii_digit, digit_value}
 use Rattle.std.specs.Str.Parse.{AllDigits, digits_value}
-use Rattle.std.proofs.lemmas.Bool.{and_parts}
+use Rattle.std.proofs.lemmas.Bool.{and_parts, eqb-true}
 use Rattle.std.proofs.lemmas.Bool.Decides.{nat_tests}
 use Rattle.std.proofs.lemmas.Grind.{common_steps}
 use Rattle.std.proofs.lemmas.List.Sums.{split_at_first, passes_at_first}
@@ -35,9 +35,6 @@ spelled text some few first digits low = decimal-digits_value own text (to_digit
 
 pub below_four : (v k : ℕ) → v < 10 ^ (0 + k) → k ≤ 4 → v < 10 ^ 4
 below_four v k h le = let most = pow_above k 4 le in let same : 0 + k ≡ k = omega arith in let low : v < 10 ^ k = subst (λ (n : ℕ). v < 10 ^ n) same h in omega (arith, most, low)
-
-pub is_zero : (n : ℕ) → (n == 0) ≡ true → n ≡ 0
-is_zero n h = grind (arith, nat_tests)
 
 pub is_some : (n : ℕ) → (n == 0) ≡ false → 0 < n
 is_some n h = grind (arith, nat_tests)
@@ -119,9 +116,6 @@ other_bid name back f never = sym (none_named name (λ b j i e.
     let same = f ∙ ap (λ (xs : List ℕ). after_first (λ (c : ℕ). c == 95) xs) (behind_letter name b j e) ∙ after_at (decimal b) (decimal j) (bidder_digits b j i) in
     never j some (omega arith) (sym same)))
 
-is_95 : (b : ℕ) → (b == 95) ≡ true → b ≡ 95
-is_95 b h = grind (arith, nat_tests)
-
 lettered : (name : List ℕ) → 0 < length name → get_or name 0 0 ≡ 88 → name ≡ 88 ∷ drop 1 name
 lettered [] some first = absurd (omega arith)
 lettered (x ∷ name) some first = ap (λ (b : ℕ). b ∷ name) first
@@ -131,7 +125,7 @@ pub is_named : (name : List ℕ) (b j : ℕ) → 0 < length name → get_or name
     → decimal b ≡ before_first (λ (c : ℕ). c == 95) (drop 1 name) → decimal j ≡ after_first (λ (c : ℕ). c == 95) (drop 1 name) → name ≡ bid_name b j
 is_named name b j some first place front back =
     let parts = split_at_first (λ (c : ℕ). c == 95) (drop 1 name) 0 place in
-    let bar = is_95 (get_or (drop 1 name) (position_or_len (λ (c : ℕ). c == 95) (drop 1 name)) 0) (passes_at_first (λ (c : ℕ). c == 95) (drop 1 name) 0 place) in
+    let bar = eqb-true (get_or (drop 1 name) (position_or_len (λ (c : ℕ). c == 95) (drop 1 name)) 0) 95 (passes_at_first (λ (c : ℕ). c == 95) (drop 1 name) 0 place) in
     lettered name some first
     ∙ ap (λ (xs : List ℕ). 88 ∷ xs) (parts
     ∙ ap (λ (x : ℕ). before_first (λ (c : ℕ). c == 95) (drop 1 name) ++ x ∷ after_first (λ (c : ℕ). c == 95) (drop 1 name)) bar

@@ -1,12 +1,14 @@
 -- The columns at 1, by their places.
-use Rattle.std.proofs.Common.{◌≡◌, ℕ, zero, suc, ◌+◌, ◌<◌, Bool, true, false, cond, List, [], ◌∷◌, ◌++◌, Option, Some, None, drop, length, slice_get, slice_index_or, sym, refl, ap, ◌∙◌, arith, append_assoc, ℤ, pos, ◌+ℤ◌}
+use Rattle.std.proofs.Common.{◌≡◌, ℕ, ◌+◌, ◌<◌, Bool, true, false, cond, List, [], ◌∷◌, ◌++◌, Option, Some, None, drop, length, slice_get, slice_index_or, sym, refl, ap, ◌∙◌, arith, append_assoc, ℤ, pos, ◌+ℤ◌}
 use Rattle.std.specs.List.{AllByRecursion}
 use Rattle.std.specs.Option.{option_map, option_map_or}
 use Rattle.std.proofs.lemmas.Int.{ints}
 use Rattle.std.proofs.lemmas.List.{drop_more}
+use Rattle.std.proofs.lemmas.List.Elements.{All-from_recursion, All-get_or}
 use Rattle.program_rows.specs.Program.{TableColumn}
 use Rattle.program_rows.specs.Points.{sum_at_one}
 use Rattle.program_rows.specs.inside.Ones.{ones_from, sum_at}
+use Rattle.program_rows.proofs.EachLaws.{item_at}
 
 -- the next value is listed or not
 pub ones-step : (items : List ℕ) (values : List Bool) (i : ℕ) (v : Bool) (all : List ℕ) → i < length values → slice_index_or values i false ≡ v
@@ -25,15 +27,6 @@ ones-within k n [] e = tt
 ones-within k n (true ∷ values) e = (omega arith, ones-within (k + 1) n values (omega arith))
 ones-within k n (false ∷ values) e = ones-within (k + 1) n values (omega arith)
 
--- the column at a place, before those behind it
-column-there : (columns : List TableColumn) (k : ℕ) → k < length columns → (c : TableColumn) × (slice_get columns k ≡ Some c) × (drop k columns ≡ c ∷ drop (k + 1) columns)
-column-there [] k within = absurd (omega arith)
-column-there (c ∷ columns) zero within = (c, refl, refl)
-column-there (c ∷ columns) (suc k) within =
-    let (d, at, next) = column-there columns k (omega arith) in
-    let after : suc (k + 1) ≡ suc k + 1 = omega arith in
-    (d, at, next ∙ ap (λ (n : ℕ). d ∷ drop n (c ∷ columns)) after)
-
 none-left : (f : TableColumn → ℤ) (columns : List TableColumn) → pos 0 ≡ sum_at_one f columns []
 none-left f [] = refl
 none-left f (c ∷ columns) = refl
@@ -43,12 +36,12 @@ pub sum-at-ones : (f : TableColumn → ℤ) (columns : List TableColumn) (k : �
     → sum_at f columns (ones_from k values) ≡ sum_at_one f (drop k columns) values
 sum-at-ones f columns k [] e = none-left f (drop k columns)
 sum-at-ones f columns k (true ∷ values) e =
-    let (c, at, next) = column-there columns k (omega arith) in
+    let (c, at, next) = item_at columns k (omega arith) in
     ap (λ (o : Option TableColumn). option_map_or f o (pos 0) +ℤ sum_at f columns (ones_from (k + 1) values)) at
     ∙ ap (λ (z : ℤ). f c +ℤ z) (sum-at-ones f columns (k + 1) values (omega arith))
     ∙ ap (λ (cs : List TableColumn). sum_at_one f cs (true ∷ values)) (sym next)
 sum-at-ones f columns k (false ∷ values) e =
-    let (c, at, next) = column-there columns k (omega arith) in
+    let (c, at, next) = item_at columns k (omega arith) in
     sum-at-ones f columns (k + 1) values (omega arith) ∙ ap (λ (cs : List TableColumn). sum_at_one f cs (false ∷ values)) (sym next)
 
 number-at : (f : TableColumn → ℤ) (o : Option TableColumn) (n : ℤ) → option_map f o ≡ Some n → option_map_or f o (pos 0) ≡ n
@@ -68,6 +61,4 @@ at-step f columns places k n sum next all within is s h =
 
 -- what holds of all places holds of one
 pub place-within : (P : ℕ → Type 0) (places : List ℕ) (k : ℕ) → k < length places → AllByRecursion P places → P (slice_index_or places k 0)
-place-within P [] k within all = absurd (omega arith)
-place-within P (i ∷ places) zero within all = all.0
-place-within P (i ∷ places) (suc k) within all = place-within P places k (omega arith) all.1
+place-within P places k within all = All-get_or P places k 0 within (All-from_recursion P places all)

@@ -1,5 +1,5 @@
 -- Two programs are equal as maps exactly if each row and column of one stands in the other.
-use Rattle.std.proofs.Common.{◌≡◌, ℕ, zero, suc, ◌<◌, Bool, true, false, ◌&&◌, nat_lt, lt-ltb, List, [], ◌∷◌, Option, Some, None, length, map, slice_get, refl, sym, ap, ap₂, ◌∙◌, arith, ℤ, pos, eq-eqb}
+use Rattle.std.proofs.Common.{◌≡◌, ℕ, ◌<◌, Bool, true, false, ◌&&◌, nat_lt, lt-ltb, List, [], ◌∷◌, Option, Some, None, length, map, slice_get, refl, sym, ap, ap₂, ◌∙◌, arith, ℤ, pos, eq-eqb}
 use Rattle.std.specs.Prelude.{◌==◌, bytes_eq, find}
 use Rattle.std.specs.Option.{option_map, option_map_or}
 use Rattle.std.specs.List.{AllByRecursion, IsDistinct, list_all, position_or_len}
@@ -8,6 +8,7 @@ use Rattle.std.proofs.lemmas.Bool.{and_parts, cond-true, ne_eqb}
 use Rattle.std.proofs.lemmas.Bool.Decides.{Decides-int_eq, nat_tests}
 use Rattle.std.proofs.lemmas.List.Folds.{find_at}
 use Rattle.std.proofs.lemmas.Map.Keys.{IsDistinct-tail}
+use Rattle.std.proofs.lemmas.Option.{same_Some}
 use Rattle.std.proofs.lemmas.Slice.Eq.{bytes_eq-Decides}
 use Rattle.program_rows.specs.declared.bounds.Bounds.{Bounds}
 use Rattle.program_rows.specs.Program.{Table, TableRow, TableColumn}
@@ -15,8 +16,9 @@ use Rattle.program_rows.specs.Parts.{IsProgram, AreEntries}
 use Rattle.program_rows.specs.Points.{coefficient_at}
 use Rattle.program_rows.specs.Same.{row_named, column_named, coefficient_in, coefficient_by_names, bounds_and_cost, IsSameProgram}
 use Rattle.program_rows.specs.inside.Comparing.{same_kind, same_bounds, row_agrees, row_stands, entry_stands, column_agrees, column_stands, stands_in, is_same_program}
+use Rattle.program_rows.proofs.EachLaws.{item_at}
 use Rattle.program_rows.proofs.LookupLaws.{guessed}
-use Rattle.program_rows.proofs.NamedItems.{Place, all_pass, all_true, bounds_equal, bounds_itself, found_in, found_passes, in_no_row, in_row, is_row, kind_itself, kinds_equal, name_there, own, place_by, rows_equal, same_some, stands}
+use Rattle.program_rows.proofs.NamedItems.{Place, all_pass, all_true, bounds_equal, bounds_itself, found_in, found_passes, in_no_row, in_row, is_row, kind_itself, kinds_equal, name_there, own, place_by, rows_equal, stands}
 use Rattle.program_rows.specs.ProgramNames.{row_name}
 
 -- ---------- what stands in another program ----------
@@ -149,7 +151,7 @@ module _ (p q : Table) (over_rows : list_all (row_stands q.rows) p.rows ≡ true
       by (Some c) e =
           let d = over column c e in
           let b = back column d.column d.found in
-          let same : b.column ≡ c = same_some b.column c (sym b.found ∙ e) in
+          let same : b.column ≡ c = same_Some b.column c (sym b.found ∙ e) in
           let entries : list_all (entry_stands q.rows p.rows c) d.column.entries ≡ true = ap (λ (x : TableColumn). list_all (entry_stands q.rows p.rows x) d.column.entries) (sym same) ∙ b.entries in
           ap (in_rows p.rows row) e ∙ same_coefficients p.rows q.rows c d.column row (rows_same row) d.entries entries ∙ sym (ap (in_rows q.rows row) d.found)
 
@@ -175,15 +177,10 @@ rows_stand rows others (r ∷ xs) same h =
     let itself : row_agrees r r ≡ true = rw (kind_itself r.kind, side) refl in
     (ap (λ (o : Option TableRow). option_map_or (row_agrees r) o false) (sym (same r.name) ∙ h.0) ∙ itself, rows_stand rows others xs same h.1)
 
-some_at : (rows : List TableRow) (k : ℕ) → k < length rows → (r : TableRow) × (slice_get rows k ≡ Some r)
-some_at [] k l = absurd (omega arith)
-some_at (r ∷ rows) zero l = (r, refl)
-some_at (r ∷ rows) (suc k) l = some_at rows k (omega arith)
-
 -- the row at a place is found by its name
 own_place : (rows : List TableRow) (k : ℕ) → IsDistinct bytes_eq (map (λ r. r.name) rows) → k < length rows → (r : TableRow) × Place rows (row_name rows k) k r
 own_place rows k d l =
-    let r = some_at rows k l in
+    let r = item_at rows k l in
     let n = row_name rows k in
     let named : n ≡ r.0.name = ap (λ (o : Option TableRow). option_map_or (λ r. r.name) o []) r.1 in
     let here : k ≡ position_or_len (is_row n) rows = guessed (λ (r : TableRow). r.name) n rows k r.0.name d (ap (option_map (λ (r : TableRow). r.name)) r.1) ((bytes_eq-Decides n r.0.name).1 named) in
@@ -228,7 +225,7 @@ column_stand p q c differ same h = by (column_named q.columns c.name) refl
         let terms = sym (ap (option_map bounds_and_cost) h.0) ∙ same.columns c.name ∙ ap (option_map bounds_and_cost) e in
         cc
     by (Some d) e =
-        let terms : bounds_and_cost c ≡ bounds_and_cost d = same_some (bounds_and_cost c) (bounds_and_cost d) (sym (ap (option_map bounds_and_cost) h.0) ∙ same.columns c.name ∙ ap (option_map bounds_and_cost) e) in
+        let terms : bounds_and_cost c ≡ bounds_and_cost d = same_Some (bounds_and_cost c) (bounds_and_cost d) (sym (ap (option_map bounds_and_cost) h.0) ∙ same.columns c.name ∙ ap (option_map bounds_and_cost) e) in
         let bounds : same_bounds c.bounds d.bounds ≡ true = ap (same_bounds c.bounds) (sym (ap (λ (t : Bounds × ℤ). t.0) terms)) ∙ bounds_itself c.bounds in
         let cost : int_eq c.cost d.cost ≡ true = (Decides-int_eq c.cost d.cost).1 (ap (λ (t : Bounds × ℤ). t.1) terms) in
         let coefficients : (name : List ℕ) → coefficient_in p.rows c name ≡ coefficient_in q.rows d name = λ name.

@@ -5,6 +5,10 @@ use Rattle.std.specs.List.{slice_split, AllByRecursion, before_first, after_firs
 use Rattle.std.specs.Str.Parse.{AllDigits, digits_value}
 use Rattle.std.proofs.lemmas.Bool.{and_parts}
 use Rattle.std.proofs.lemmas.Bool.Decides.{nat_tests}
+use Rattle.std.proofs.lemmas.List.{take_at}
+use Rattle.std.proofs.lemmas.List.Elements.{All-from_recursion}
+use Rattle.std.proofs.lemmas.List.Splits.{slice_split_at, slice_split_none}
+use Rattle.std.proofs.lemmas.Option.{same_Some}
 use Rattle.std.proofs.lemmas.Slice.Eq.{bytes_eq-Decides}
 use Rattle.auction_terms.specs.declared.choices.Choice.{Choice}
 use Rattle.auction_limits.specs.declared.limits.TheConstants.{MOST_BIDDERS, MOST_BIDS}
@@ -17,19 +21,12 @@ pub no_bar : (ds : List ℕ) → AllDigits 10 ds → AllByRecursion (λ b. (b ==
 no_bar [] h = tt
 no_bar (d ∷ ds) h = let in_range = digit_from_value d h.0 in (grind (arith, nat_tests), no_bar ds h.1)
 
-split_none : (xs : List ℕ) → AllByRecursion (λ b. (b == 95) ≡ false) xs → slice_split (λ (c : ℕ). c == 95) xs ≡ xs ∷ []
-split_none [] h = refl
-split_none (x ∷ xs) h = rw (h.0, split_none xs h.1) refl
-
-split_at : (xs ys : List ℕ) → AllByRecursion (λ b. (b == 95) ≡ false) xs → slice_split (λ (c : ℕ). c == 95) (xs ++ 95 ∷ ys) ≡ xs ∷ slice_split (λ (c : ℕ). c == 95) ys
-split_at [] ys h = refl
-split_at (x ∷ xs) ys h = rw (h.0, split_at xs ys h.1) refl
-
 parts : (b j : ℕ) → b < 2 ^ 64 → j < 2 ^ 64 → slice_split (λ (c : ℕ). c == 95) (decimal b ++ 95 ∷ decimal j) ≡ decimal b ∷ decimal j ∷ []
 parts b j hb hj =
     let db = no_bar (decimal b) (decimal_is_IsNumeral b hb).0.1 in
     let dj = no_bar (decimal j) (decimal_is_IsNumeral j hj).0.1 in
-    split_at (decimal b) (decimal j) db ∙ ap (λ (w : List (List ℕ)). decimal b ∷ w) (split_none (decimal j) dj)
+    slice_split_at (λ c. c == 95) (decimal b) 95 (decimal j) (All-from_recursion (λ c. (c == 95) ≡ false) (decimal b) db) refl
+    ∙ ap (λ (w : List (List ℕ)). decimal b ∷ w) (slice_split_none (λ c. c == 95) (decimal j) (All-from_recursion (λ c. (c == 95) ≡ false) (decimal j) dj))
 
 pub bid_name-injective : (b j c k : ℕ) → b < 2 ^ 64 → j < 2 ^ 64 → c < 2 ^ 64 → k < 2 ^ 64 → bid_name b j ≡ bid_name c k → (b ≡ c) × (j ≡ k)
 bid_name-injective b j c k hb hj hc hk e =
@@ -61,16 +58,12 @@ pub bar_at : (xs ys : List ℕ) → AllByRecursion (λ b. (b == 95) ≡ false) x
 bar_at [] ys h = refl
 bar_at (x ∷ xs) ys h = let r = bar_at xs ys h.1 in rw h.0 (omega arith)
 
-taken : (xs ys : List ℕ) → take (length xs) (xs ++ ys) ≡ xs
-taken [] ys = refl
-taken (x ∷ xs) ys = ap (λ (w : List ℕ). x ∷ w) (taken xs ys)
-
 left_behind : (xs ys : List ℕ) (y n : ℕ) → n ≡ suc (length xs) → drop n (xs ++ y ∷ ys) ≡ ys
 left_behind [] ys y n e = rw e refl
 left_behind (x ∷ xs) ys y n e = rw e (left_behind xs ys y (suc (length xs)) refl)
 
 pub before_at : (xs ys : List ℕ) → AllByRecursion (λ b. (b == 95) ≡ false) xs → before_first (λ (c : ℕ). c == 95) (xs ++ 95 ∷ ys) ≡ xs
-before_at xs ys h = ap (λ (n : ℕ). take n (xs ++ 95 ∷ ys)) (bar_at xs ys h) ∙ taken xs (95 ∷ ys)
+before_at xs ys h = ap (λ (n : ℕ). take n (xs ++ 95 ∷ ys)) (bar_at xs ys h) ∙ take_at xs (95 ∷ ys) (length xs) refl
 
 pub after_at : (xs ys : List ℕ) → AllByRecursion (λ b. (b == 95) ≡ false) xs → after_first (λ (c : ℕ). c == 95) (xs ++ 95 ∷ ys) ≡ ys
 after_at xs ys h = left_behind xs ys 95 (position_or_len (λ (c : ℕ). c == 95) (xs ++ 95 ∷ ys) + 1) (let p = bar_at xs ys h in omega arith)
@@ -88,13 +81,10 @@ reads_back b j h =
     let hj = bid_small b j h in
     rw (read_bidder b j hb, read_bid b j hb hj, h, (bytes_eq-Decides (bid_name b j) (bid_name b j)).1 refl) refl
 
-same_choice : (x : Choice) (c : Choice) → Some x ≡ Some c → x ≡ c
-same_choice x c e = cc
-
 read_only : (name : List ℕ) (b j : ℕ) (c : Choice) (t : Bool) → (is_bid b j && bytes_eq name (bid_name b j)) ≡ t → cond t (Some record { bidder = b; bid = j }) None ≡ Some c → (is_bid c.bidder c.bid ≡ true) × (name ≡ bid_name c.bidder c.bid)
 read_only name b j c true t e =
     let h = and_parts (is_bid b j) (bytes_eq name (bid_name b j)) t in
-    let s = same_choice record { bidder = b; bid = j } c e in
+    let s = same_Some record { bidder = b; bid = j } c e in
     let x : b ≡ c.bidder = ap (λ (x : Choice). x.bidder) s in
     let y : j ≡ c.bid = ap (λ (x : Choice). x.bid) s in
     (sym (ap₂ is_bid x y) ∙ h.0, (bytes_eq-Decides name (bid_name b j)).0 h.1 ∙ ap₂ bid_name x y)

@@ -5,46 +5,26 @@ use Rattle.program_rows.proofs.names.write_numbered.Goals as goal
 
 pub write_digits-at-requires : goal.write_digits-at-requires
 write_digits-at-requires c =
-    let fits = c.ranges.number.fits in
-    let same = c.from.ensures in
-    let room = c.requires.room in
     let short = length-decimal-le 5 c.from.result (omega arith) (omega arith) (omega arith) in
     (omega arith, c.requires.within)
 
 pub overflow_sub-name : goal.overflow_sub-name
 overflow_sub-name c =
-    let fits = c.ranges.number.fits in
-    let same = c.from.ensures in
-    let room = c.requires.room in
     let short = length-decimal-le 5 c.from.result (omega arith) (omega arith) (omega arith) in
-    let start = c.write_digits-at.ensures.start in
     omega arith
 
 pub overflow_sub-result : goal.overflow_sub-result
 overflow_sub-result c =
-    let fits = c.ranges.number.fits in
-    let same = c.from.ensures in
-    let room = c.requires.room in
     let short = length-decimal-le 5 c.from.result (omega arith) (omega arith) (omega arith) in
-    let start = c.write_digits-at.ensures.start in
     omega arith
 
 pub returns-clause-written : goal.returns-clause-written
 returns-clause-written c =
-    let fits = c.ranges.number.fits in
-    let same = c.from.ensures in
-    let room = c.requires.room in
-    let within = c.requires.within in
-    let kept = c.write_digits-at.auto.buf in
     let short = length-decimal-le 5 c.from.result (omega arith) (omega arith) (omega arith) in
     let some = decimal_nonempty c.from.result (omega arith) in
-    let start = c.write_digits-at.ensures.start in
-    numbered_written _ c.args.name.now c.args.letter c.write_digits-at.result c.from.result c.args.number c.args.end same (omega arith) (omega arith) c.write_digits-at.ensures.written
+    numbered_written _ c.args.name.now c.args.letter c.write_digits-at.result c.from.result c.args.number c.args.end c.from.ensures (omega arith) (omega arith) c.write_digits-at.ensures.written
 
 pub returns-clause-start : goal.returns-clause-start
 returns-clause-start c =
-    let fits = c.ranges.number.fits in
-    let same = c.from.ensures in
     let short = length-decimal-le 5 c.from.result (omega arith) (omega arith) (omega arith) in
-    let start = c.write_digits-at.ensures.start in
     omega arith

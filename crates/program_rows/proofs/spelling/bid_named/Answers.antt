@@ -1,9 +1,10 @@
 use Rattle.std.proofs.Common.{◌∙◌, ◌<◌, ◌^◌, sym, rules}
-use Rattle.program_rows.proofs.NumeralLaws.{is_zero, is_some, no_name, other_letter, without_bar, other_bidder, other_bid, is_named, read_as, out_of_range, front_is, back_is, bar_at_end, bar_within}
+use Rattle.std.proofs.lemmas.Bool.{eqb-true}
+use Rattle.program_rows.proofs.NumeralLaws.{is_some, no_name, other_letter, without_bar, other_bidder, other_bid, is_named, read_as, out_of_range, front_is, back_is, bar_at_end, bar_within}
 use Rattle.program_rows.proofs.spelling.bid_named.Goals as goal
 
 pub returns-then-is_empty : goal.returns-then-is_empty
-returns-then-is_empty c = no_name c.args.name.now (is_zero _ (sym c.is_empty.ensures ∙ c.if-is_empty.true))
+returns-then-is_empty c = no_name c.args.name.now (eqb-true _ 0 (sym c.is_empty.ensures ∙ c.if-is_empty.true))
 
 pub returns-then-name-ne88 : goal.returns-then-name-ne88
 returns-then-name-ne88 c = other_letter c.args.name.now c.if-name-ne88.true

@@ -1,10 +1,11 @@
 use Rattle.std.proofs.Common.{◌∙◌, sym, ap}
 use Rattle.std.specs.Prelude.{decimal}
-use Rattle.program_rows.proofs.NumeralLaws.{spelled, below_four, is_zero, is_some, not_empty, not_long, no_zero_first, only_digits}
+use Rattle.std.proofs.lemmas.Bool.{eqb-true}
+use Rattle.program_rows.proofs.NumeralLaws.{spelled, below_four, is_some, not_empty, not_long, no_zero_first, only_digits}
 use Rattle.program_rows.proofs.spelling.number_spelled.Goals as goal
 
 pub returns-then-is_empty : goal.returns-then-is_empty
-returns-then-is_empty c = λ n some low e. not_empty n c.args.text.now low (is_zero _ (sym c.is_empty.ensures ∙ c.if-is_empty.true)) e
+returns-then-is_empty c = λ n some low e. not_empty n c.args.text.now low (eqb-true _ 0 (sym c.is_empty.ensures ∙ c.if-is_empty.true)) e
 
 pub returns-then-text-gt4 : goal.returns-then-text-gt4
 returns-then-text-gt4 c = λ n some low e. not_long n c.args.text.now low c.if-text-gt4.true e
