@@ -370,9 +370,8 @@ last_allowed lots false = (refl, tt)
 not_there : (a : List Choice) (b : ℕ) → count_by (λ c. c.bidder == b) a ≡ 0 → (o : Offer) → o.bidder ≡ b → is_member a o ≡ false
 not_there [] b h o e = refl
 not_there (c ∷ a) b h o e =
-    let s = sum_by-cons (λ (c : Choice). cond (c.bidder == b) 1 0) c a in
     let n : ℕ = cond (c.bidder == b) 1 0 in
-    let s' : count_by (λ c. c.bidder == b) (c ∷ a) ≡ n + count_by (λ c. c.bidder == b) a = s in
+    let s : count_by (λ c. c.bidder == b) (c ∷ a) ≡ n + count_by (λ c. c.bidder == b) a = sum_by-cons (λ (c : Choice). cond (c.bidder == b) 1 0) c a in
     let here : n ≡ 0 = omega arith in
     let later : count_by (λ c. c.bidder == b) a ≡ 0 = omega arith in
     let differs : (c.bidder == o.bidder) ≡ false = false_from_ne_true (c.bidder == o.bidder) (λ t.
@@ -524,7 +523,5 @@ least_is_greatest lots book group program faithful values is_point least =
       greatest = λ other f.
           let m = faithful.is_matched other f in
           let l = least m.values m.is_point in
-          let g = m.no_less in
-          let e = h.same_total in
           omega (arith, ints);
     }

@@ -24,13 +24,10 @@ pub loop-place-preserved : goal.loop-place-preserved
 loop-place-preserved c =
     let many = length-map c.args.rules.now.categories (λ (category : declared.Category). category.supply) in
     let listed = ap (λ xs. length xs) c.categories.ensures.value in
-    let before = c.loop-place.invariant in
-    let put = c.put_weight-count.ensures in
-    let room = put.room in
-    let few = before.1 in (
-      entry_step (lots_in c.args.rules.now) (λ place. Category place) (length (lots_in c.args.rules.now).supply) (offer_of c.args.bid) (take c.loop-place.count c.loop-place.entries) (take c.put_weight-count.result c.put_weight-count.new.entries) _ c.args.first c.loop-place.place c.weight.result (omega arith) before.0 c.weight.ensures.weight (rw c.from.ensures at put.entries),
+    let put = c.put_weight-count.ensures in (
+      entry_step (lots_in c.args.rules.now) (λ place. Category place) (length (lots_in c.args.rules.now).supply) (offer_of c.args.bid) (take c.loop-place.count c.loop-place.entries) (take c.put_weight-count.result c.put_weight-count.new.entries) _ c.args.first c.loop-place.place c.weight.result (omega arith) c.loop-place.invariant.0 c.weight.ensures.weight (rw c.from.ensures at put.entries),
       omega arith,
-      put.length ∙ before.2,
+      put.length ∙ c.loop-place.invariant.2,
     )
 
 pub returns-clause-entries : goal.returns-clause-entries
