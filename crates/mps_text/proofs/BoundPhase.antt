@@ -2,6 +2,7 @@
 use Rattle.std.proofs.Common.{◌≡◌, ℕ, true, List, [], ◌∷◌, map, refl, None}
 use Rattle.std.specs.Prelude.{codes}
 use Rattle.std.specs.List.{AllByRecursion}
+use Rattle.auction_terms.proofs.OfferLaws.{all_agree}
 use Rattle.program_rows.specs.declared.bounds.Bounds.{Bounds}
 use Rattle.program_rows.specs.declared.bounds.Bounds.TheVariants.{ZeroOrOne, Zero, One}
 use Rattle.program_rows.specs.Program.{TableColumn}
@@ -21,8 +22,7 @@ bound-read before name Zero s known = rw (s, known) refl
 bound-read before name One s known = rw (s, known) refl
 
 still_known : (before : Sections) (c : TableColumn) (columns : List TableColumn) → before.section ≡ codes "BOUNDS" → AllByRecursion (λ q. is_column before.columns q.name ≡ true) columns → AllByRecursion (λ q. is_column (with_line before (Data (bound_fields c))).columns q.name ≡ true) columns
-still_known before c [] s h = tt
-still_known before c (q ∷ columns) s h = (rw s h.0, still_known before c columns s h.1)
+still_known before c columns s h = all_agree (λ q. is_column before.columns q.name ≡ true) (λ q. is_column (with_line before (Data (bound_fields c))).columns q.name ≡ true) columns (λ q k. rw s k) h
 
 pub bounds-read : (before : Sections) (columns : List TableColumn) → before.section ≡ codes "BOUNDS" → AllByRecursion (λ q. is_column before.columns q.name ≡ true) columns → AreRead before (map Data (map bound_fields columns))
 bounds-read before [] s h = tt

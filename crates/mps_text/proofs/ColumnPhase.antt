@@ -76,16 +76,12 @@ not-split before column h = rw h refl
 
 other_ready : (before : Sections) (name column : List ℕ) (pair : Pair) (pairs : List Pair) → before.section ≡ codes "COLUMNS" → bytes_eq pair.0 (codes "'MARKER'") ≡ false → bytes_eq column name ≡ false
     → AreReady before column pairs → AreReady (with_line before (Data (pair_fields name pair))) column pairs
-other_ready before name column pair [] s plain differ h = tt
-other_ready before name column pair (other ∷ pairs) s plain differ h = (
-  record {
-    declared = rw s h.0.declared;
-    plain = h.0.plain;
-    new = rw (s, plain, differ) h.0.new;
-    read = h.0.read;
-  },
-  other_ready before name column pair pairs s plain differ h.1,
-)
+other_ready before name column pair pairs s plain differ h = all_agree (IsReady before column) (IsReady (with_line before (Data (pair_fields name pair))) column) pairs (λ other r. record {
+  declared = rw s r.declared;
+  plain = r.plain;
+  new = rw (s, plain, differ) r.new;
+  read = r.read;
+}) h
 
 still_new : (before : Sections) (name : List ℕ) (pair : Pair) (column : List ℕ × List Pair) → before.section ≡ codes "COLUMNS" → bytes_eq pair.0 (codes "'MARKER'") ≡ false → bytes_eq column.0 name ≡ false → IsNew before column → IsNew (with_line before (Data (pair_fields name pair))) column
 still_new before name pair column s plain differ h = record {

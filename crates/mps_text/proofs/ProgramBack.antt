@@ -1,10 +1,9 @@
 -- The lines of a whole text give the program back.
 use Rattle.std.proofs.Common.{◌≡◌, ℕ, ◌+◌, Bool, true, false, not, List, [], ◌∷◌, length, map, refl, sym, ap, subst, ◌∙◌, arith, Option, Some, None}
-use Rattle.std.specs.Prelude.{bytes_eq, codes, find, flat_map, position, ℤ, pos, option_map, unwrap_or, slice_get, if◌then◌else◌, filter, nat_lt}
+use Rattle.std.specs.Prelude.{bytes_eq, codes, find, flat_map, position, pos, option_map, unwrap_or, slice_get, if◌then◌else◌, filter, nat_lt}
 use Rattle.std.specs.List.{AllByRecursion, IsDistinct, enumerate_from, position_or_len}
 use Rattle.std.proofs.lemmas.List.{reverse-reverse}
 use Rattle.std.proofs.lemmas.Bool.{false_from_ne_true, ltb-true}
-use Rattle.program_rows.specs.declared.bounds.Bounds.{Bounds}
 use Rattle.program_rows.specs.Program.{Table, TableRow, TableColumn}
 use Rattle.program_rows.specs.Parts.{IsProgram, AreEntries}
 use Rattle.line_words.specs.Lines.{LineFields}
@@ -103,10 +102,7 @@ entries-listed before p c h same differ legal small =
     (row-by-row before p c 0 p.rows h (names-at p.rows 0 p.rows (λ i. ap (λ (n : ℕ). slice_get p.rows n) (omega arith))) differ.0))
 
 column-from : (before : Sections) (c : TableColumn) → (if int_eq (lower before.bounds c.name) (pos 1) then One else (if int_eq (unwrap_or (upper before.bounds c.name) (pos 1)) (pos 0) then Zero else ZeroOrOne)) ≡ c.bounds → number_beside (column_pairs before.columns c.name) (objective_in before) ≡ c.cost → filter (λ e. not (int_eq e.1 (pos 0))) (map (λ r. (r.0, number_beside (column_pairs before.columns c.name) r.1.name)) (enumerate_from 0 (rows_in before))) ≡ c.entries → table_column before c.name ≡ c
-column-from before c b cost es =
-    ap (λ (w : Bounds). record { name = c.name; bounds = w; cost = number_beside (column_pairs before.columns c.name) (objective_in before); entries = filter (λ e. not (int_eq e.1 (pos 0))) (map (λ r. (r.0, number_beside (column_pairs before.columns c.name) r.1.name)) (enumerate_from 0 (rows_in before))) }) b
-    ∙ ap (λ (w : ℤ). record { name = c.name; bounds = c.bounds; cost = w; entries = filter (λ e. not (int_eq e.1 (pos 0))) (map (λ r. (r.0, number_beside (column_pairs before.columns c.name) r.1.name)) (enumerate_from 0 (rows_in before))) }) cost
-    ∙ ap (λ (w : List (ℕ × ℤ)). record { name = c.name; bounds = c.bounds; cost = c.cost; entries = w }) es
+column-from before c b cost es = λ i. record { name = c.name; bounds = b i; cost = cost i; entries = es i }
 
 -- the one line of BOUNDS of a column decides
 abbrev IsSet : Sections → List (List ℕ) → TableColumn → Type 0
@@ -130,9 +126,7 @@ program-back before p legal told h =
     let o : objective_in before ≡ p.objective = ap (λ (w : Option (List ℕ)). unwrap_or w []) (objective-back before p h.rows) in
     let rs = rows-listed before p legal told h in
     let cs = ap (map (table_column before)) (names-back before p legal h) ∙ columns-from before p p.columns o rs legal.rows_differ (all-found before p legal h) (all-set before p lower_types legal h) (all-set before p upper_types legal h) legal.entries (small_costs p.columns told.numbers) (small_entries p.columns told.numbers) in
-    ap (λ (w : List ℕ). record { objective = w; rows = rows_in before; columns = map (table_column before) (columns_named before.columns) }) o
-    ∙ ap (λ (w : List TableRow). record { objective = p.objective; rows = w; columns = map (table_column before) (columns_named before.columns) }) rs
-    ∙ ap (λ (w : List TableColumn). record { objective = p.objective; rows = p.rows; columns = w }) cs
+    (λ i. record { objective = o i; rows = rs i; columns = cs i })
 
 -- ---- all columns are binary
 

@@ -2,6 +2,7 @@
 use Rattle.std.proofs.Common.{◌≡◌, ℕ, true, false, List, [], ◌∷◌, ◌++◌, length, map, refl, sym, ap, subst, ◌∙◌, Option, Some, None, Ok, Result}
 use Rattle.std.specs.Prelude.{bytes_eq, codes, flat_map, ℤ, position, option_map, not}
 use Rattle.std.specs.List.{list_any, AllByRecursion, IsDistinct}
+use Rattle.auction_terms.proofs.OfferLaws.{all_agree}
 use Rattle.program_rows.specs.Program.{Table, TableRow, TableColumn}
 use Rattle.program_rows.specs.Parts.{IsProgram, AreEntries}
 use Rattle.line_words.specs.Lines.{LineFields, field}
@@ -109,8 +110,7 @@ ready-sides p before (r ∷ rows) rs none known differ small = (
 -- ---- the lines of BOUNDS
 
 known-columns : (p : Table) (before : Sections) (cs : List TableColumn) (ls : List LineFields) → column_lines before.columns ≡ ls → AllByRecursion (λ c. list_any (λ f. bytes_eq c.name (field 0 f)) ls ≡ true) cs → AllByRecursion (λ c. is_column before.columns c.name ≡ true) cs
-known-columns p before [] ls e h = tt
-known-columns p before (c ∷ cs) ls e h = (rw e h.0, known-columns p before cs ls e h.1)
+known-columns p before cs ls e h = all_agree (λ c. list_any (λ f. bytes_eq c.name (field 0 f)) ls ≡ true) (λ c. is_column before.columns c.name ≡ true) cs (λ c k. rw e k) h
 
 -- ---- headers
 

@@ -4,6 +4,4 @@ use Rattle.mps_text.proofs.line.write_front.Goals as goal
 
 pub returns-clause-written : goal.returns-clause-written
 returns-clause-written c =
-    let room = c.told-front in
-    let short = c.requires.short in
     front_written c.args.front.now c.copy_from_slice.new.self c.args.name.now (omega arith) c.copy_from_slice.ensures.after

@@ -6,7 +6,6 @@ use Rattle.mps_text.proofs.line.write_line.Goals as goal
 
 pub returns-clause-written : goal.returns-clause-written
 returns-clause-written c =
-    let room = c.requires.room in
     let before = take c.args.at c.args.lines.now in
     let front = take c.args.front_len c.args.front.now in
     let rest : List ℕ = 32 ∷ (decimal c.args.number ++ 10 ∷ []) in

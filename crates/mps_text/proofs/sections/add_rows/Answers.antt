@@ -1,4 +1,4 @@
-use Rattle.std.proofs.Common.{◌<◌, length, arith}
+use Rattle.std.proofs.Common.{arith}
 use Rattle.program_rows.specs.Parts.{shown_row}
 use Rattle.mps_text.specs.Bytes.{row_bytes}
 use Rattle.byte_sinks.proofs.Adding.{Adds-then, Adds-to}
@@ -7,7 +7,4 @@ use Rattle.mps_text.proofs.sections.add_rows.Goals as goal
 
 pub loop-row-preserved : goal.loop-row-preserved
 loop-row-preserved g c =
-    let at = c.loop-row.row-index in
-    let all = c.args.rows.now in
-    let lt : at < length all = omega arith in
-    Adds-to (Adds-then c.loop-row.invariant c.add_row.ensures) (flat_map-next_item (λ r. row_bytes (shown_row r)) all at c.row-item.result c.row-item.is lt)
+    Adds-to (Adds-then c.loop-row.invariant c.add_row.ensures) (flat_map-next_item (λ r. row_bytes (shown_row r)) c.args.rows.now c.loop-row.row-index c.row-item.result c.row-item.is (omega arith))
