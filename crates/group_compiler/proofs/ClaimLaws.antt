@@ -32,7 +32,6 @@ draws slots id me some_room s h size at fits =
     let v : View = me.0 in
     let w : View = view (v.drawn ++ n ∷ []) (v.room - 1) in
     let r = sum_set (λ (u : View). u.room) s.views id v w at in
-    let all = h.rooms in
     let low : n < ALL_DRAWS = omega arith in
     let next : (n + 1) % 2 ^ 64 ≡ n + 1 = mod-eq_of_lt (omega arith) in
     let word = one_set s.words ((n + 1) % 2 ^ 64) h.one_word in
@@ -52,7 +51,6 @@ draws slots id me some_room s h size at fits =
         lengths =
             let t = sum_set (λ (u : View). length u.drawn) s.views id v w at in
             let p = length-append v.drawn (n ∷ []) in
-            let o = h.lengths in
             omega arith;
         rooms = omega arith;
       },
@@ -71,12 +69,10 @@ splits id v room s h at = record {
   lengths =
       let t = sum_set (λ (u : View). length u.drawn) s.views id v (left_of v) at in
       let p = sum_by_push (λ (u : View). length u.drawn) (slice_set s.views id (left_of v)) (right_of v) in
-      let o = h.lengths in
       omega arith;
   rooms =
       let t = sum_set (λ (u : View). u.room) s.views id v (left_of v) at in
       let p = sum_by_push (λ (u : View). u.room) (slice_set s.views id (left_of v)) (right_of v) in
-      let o = h.rooms in
       omega arith;
 }
 
@@ -97,13 +93,11 @@ joins id v other w s h at differ there =
           let t = sum_set (λ (u : View). length u.drawn) s.views id v (views_joined v w) at in
           let p = sum_set (λ (u : View). length u.drawn) views other w spent there in
           let q = length-append v.drawn w.drawn in
-          let o = h.lengths in
-          omega arith;
+              omega arith;
       rooms =
           let t = sum_set (λ (u : View). u.room) s.views id v (views_joined v w) at in
           let p = sum_set (λ (u : View). u.room) views other w spent there in
-          let o = h.rooms in
-          omega arith;
+              omega arith;
     }
 
 sum_below : (f g : View → ℕ) (views : List View) → ((v : View) → f v ≤ g v) → sum_by f views ≤ sum_by g views
@@ -125,8 +119,6 @@ closes id v words xs word whole f at =
     let others = slice_set s.views id spent in
     let r = sum_set (λ (u : View). u.room) s.views id v spent here in
     let l = sum_set (λ (u : View). length u.drawn) s.views id v spent here in
-    let all = h.rooms in
-    let lengths = h.lengths in
     let found : slice_index s.words 0 ≡ word = first_is s.words word (ap (λ (ws : List ℕ). get_elem? ws 0) f.2 ∙ at) in (
       (λ x.
           let t = sum_set (λ (u : View). times_drawn x u.drawn) s.views id v spent here in

@@ -5,11 +5,11 @@ use Rattle.group_compiler.specs.Pages.{PageText, section_lines, outside}
 use Rattle.group_compiler.specs.Joining.{joined, has_any}
 
 -- what a list holds, in two parts
-pub has_none : (xs ys : List ℕ) → has_any xs ≡ false → has_any ys ≡ false → has_any (xs ++ ys) ≡ false
+has_none : (xs ys : List ℕ) → has_any xs ≡ false → has_any ys ≡ false → has_any (xs ++ ys) ≡ false
 has_none [] ys h k = k
 has_none (x ∷ xs) ys h k = cc
 
-pub has_middle : (xs ys zs : List ℕ) → has_any ys ≡ true → has_any (xs ++ (ys ++ zs)) ≡ true
+has_middle : (xs ys zs : List ℕ) → has_any ys ≡ true → has_any (xs ++ (ys ++ zs)) ≡ true
 has_middle [] [] zs h = cc
 has_middle [] (y ∷ ys) zs h = refl
 has_middle (x ∷ xs) ys zs h = refl
@@ -20,7 +20,7 @@ has_length (x ∷ xs) h = refl
 
 module _ (section : Section) (group : ℕ → Bool) where
   -- what a page gives
-  abbrev pub given : ℕ → PageText → List ℕ
+  abbrev given : ℕ → PageText → List ℕ
   given b page = cond (group b) [] (section_lines section page)
 
   one_page : (page : PageText) (rest : List PageText) (g : Bool) → joined section (cond g rest (page ∷ rest)) ≡ cond g [] (section_lines section page) ++ joined section rest
@@ -28,7 +28,7 @@ module _ (section : Section) (group : ℕ → Bool) where
   one_page page rest false = refl
 
   -- the first pages, and one more
-  pub front_more : (b i : ℕ) (pages : List PageText) (page : PageText) → i < length pages → page ≡ get_or pages i page
+  front_more : (b i : ℕ) (pages : List PageText) (page : PageText) → i < length pages → page ≡ get_or pages i page
       → joined section (outside group b (take i pages)) ++ given (b + i) page ≡ joined section (outside group b (take (suc i) pages))
   front_more b i [] page l e = absurd (omega arith)
   front_more b zero (p ∷ pages) page l e =
@@ -41,7 +41,7 @@ module _ (section : Section) (group : ℕ → Bool) where
       ∙ sym (one_page p (outside group (b + 1) (take (suc i) pages)) (group b))
 
   -- all, with one of them in the middle
-  pub with_page : (b i : ℕ) (pages : List PageText) (page : PageText) → i < length pages → page ≡ get_or pages i page
+  with_page : (b i : ℕ) (pages : List PageText) (page : PageText) → i < length pages → page ≡ get_or pages i page
       → (rest : List ℕ) × (joined section (outside group b pages) ≡ joined section (outside group b (take i pages)) ++ (given (b + i) page ++ rest))
   with_page b i [] page l e = absurd (omega arith)
   with_page b zero (p ∷ pages) page l e = (
@@ -57,3 +57,21 @@ module _ (section : Section) (group : ℕ → Bool) where
             ∙ sym (append_assoc (given b p) front (given (b + suc i) page ++ more.0))
             ∙ ap (λ (w : List ℕ). w ++ (given (b + suc i) page ++ more.0)) (sym (one_page p (outside group (b + 1) (take i pages)) (group b))),
       )
+
+-- a page among all, where this is whether its bidder is in the group
+module _ (section : Section) (group : ℕ → Bool) (at : ℕ) (pages : List PageText) (page : PageText) (is_out : Bool) (within : at < length pages) (is : page ≡ get_or pages at page) (member : is_out ≡ group (at + 1)) where
+  here_given : cond is_out [] (section_lines section page) ≡ given section group (1 + at) page
+  here_given = ap (λ t. cond t [] (section_lines section page)) (member ∙ ap group (let number : at + 1 ≡ 1 + at = omega arith in number))
+
+  pub next_page : joined section (outside group 1 (take at pages)) ++ cond is_out [] (section_lines section page) ≡ joined section (outside group 1 (take (at + 1) pages))
+  next_page =
+      ap (λ (w : List ℕ). joined section (outside group 1 (take at pages)) ++ w) here_given ∙ front_more section group 1 at pages page within is
+      ∙ ap (λ (n : ℕ). joined section (outside group 1 (take n pages))) (let after : suc at ≡ at + 1 = omega arith in after)
+
+  pub some_lines : has_any (cond is_out [] (section_lines section page)) ≡ true → true ≡ has_any (joined section (outside group 1 pages))
+  some_lines here =
+      let split = with_page section group 1 at pages page within is in
+      sym (ap has_any split.1 ∙ has_middle (joined section (outside group 1 (take at pages))) (given section group (1 + at) page) split.0 (ap has_any (sym here_given) ∙ here))
+
+  pub still_none : has_any (joined section (outside group 1 (take at pages))) ≡ false → has_any (cond is_out [] (section_lines section page)) ≡ false → has_any (joined section (outside group 1 (take (at + 1) pages))) ≡ false
+  still_none none here = sym (ap has_any next_page) ∙ has_none (joined section (outside group 1 (take at pages))) (cond is_out [] (section_lines section page)) none here
