@@ -177,21 +177,18 @@ coefficient es row = option_map_or (λ e. e.1) (find (λ e. e.0 == row) es) (pos
 abbrev second : Option (ℕ × ℤ) → ℤ
 second o = option_map_or (λ e. e.1) o (pos 0)
 
-skipped : (r n : ℕ) (w : ℕ) (es : List (ℕ × ℤ)) (b : Bool) → n < r → coefficient es n ≡ pos 0 → coefficient (cond b es ((r, pos w) ∷ es)) n ≡ pos 0
-skipped r n w es true l h = h
-skipped r n w es false l h = ap second (cond-false (r == n) (Some (r, pos w)) (find (λ e. e.0 == n) es) (ne_eqb r n (λ e. omega arith))) ∙ h
+-- an entry of another row
+other_is : (r n w v : ℕ) (es : List (ℕ × ℤ)) (b : Bool) → (r ≡ n → ⊥) → coefficient es n ≡ pos v → coefficient (cond b es ((r, pos w) ∷ es)) n ≡ pos v
+other_is r n w v es true differ h = h
+other_is r n w v es false differ h = ap second (cond-false (r == n) (Some (r, pos w)) (find (λ e. e.0 == n) es) (ne_eqb r n differ)) ∙ h
 
 absent : (lots : Lots) (r n : ℕ) (rows : List Subject) (o : Offer) → n < r → coefficient (entries_from lots r rows o) n ≡ pos 0
 absent lots r n [] o l = refl
-absent lots r n (s ∷ rows) o l = skipped r n (weight lots s o) (entries_from lots (r + 1) rows o) (weight lots s o == 0) l (absent lots (r + 1) n rows o (omega arith))
+absent lots r n (s ∷ rows) o l = other_is r n (weight lots s o) 0 (entries_from lots (r + 1) rows o) (weight lots s o == 0) (λ e. omega arith) (absent lots (r + 1) n rows o (omega arith))
 
 here_is : (r : ℕ) (w : ℕ) (es : List (ℕ × ℤ)) (b : Bool) → (w == 0) ≡ b → coefficient es r ≡ pos 0 → coefficient (cond b es ((r, pos w) ∷ es)) r ≡ pos w
 here_is r w es true e h = h ∙ ap (λ (n : ℕ). pos n) (sym (eqb-true w 0 e))
 here_is r w es false e h = ap second (cond-true (r == r) (Some (r, pos w)) (find (λ e. e.0 == r) es) (eq-eqb r r refl))
-
-later_is : (r n : ℕ) (w v : ℕ) (es : List (ℕ × ℤ)) (b : Bool) → r < n → coefficient es n ≡ pos v → coefficient (cond b es ((r, pos w) ∷ es)) n ≡ pos v
-later_is r n w v es true l h = h
-later_is r n w v es false l h = ap second (cond-false (r == n) (Some (r, pos w)) (find (λ e. e.0 == n) es) (ne_eqb r n (λ e. omega arith))) ∙ h
 
 coefficient_is : (lots : Lots) (r n k : ℕ) (rows : List Subject) (o : Offer) (s : Subject) → slice_get rows k ≡ Some s → n ≡ r + k → coefficient (entries_from lots r rows o) n ≡ pos (weight lots s o)
 coefficient_is lots r n k [] o s at e = cc
@@ -201,7 +198,7 @@ coefficient_is lots r n zero (t ∷ rows) o s at e =
     let h = here_is r (weight lots t o) (entries_from lots (r + 1) rows o) (weight lots t o == 0) refl (absent lots (r + 1) r rows o (omega arith)) in
     ap (λ (m : ℕ). coefficient (entries_from lots r (t ∷ rows) o) m) (sym place) ∙ h ∙ ap (λ (u : Subject). pos (weight lots u o)) same
 coefficient_is lots r n (suc k) (t ∷ rows) o s at e =
-    later_is r n (weight lots t o) (weight lots s o) (entries_from lots (r + 1) rows o) (weight lots t o == 0) (omega arith) (coefficient_is lots (r + 1) n k rows o s at (omega arith))
+    other_is r n (weight lots t o) (weight lots s o) (entries_from lots (r + 1) rows o) (weight lots t o == 0) (λ same. omega arith) (coefficient_is lots (r + 1) n k rows o s at (omega arith))
 
 -- ---------- what counts in a row ----------
 
@@ -345,9 +342,6 @@ same_choice c d = (c.bidder == d.bidder) && (c.bid == d.bid)
 
 abbrev is_member : List Choice → Offer → Bool
 is_member a o = list_any (λ c. same_choice c (choice_of o)) a
-
-abbrev marks : (Offer → Bool) → List Offer → List Bool
-marks q xs = map q xs
 
 marked : (q : Offer → Bool) (g : Offer → ℕ) (o : Offer) (xs : List Offer) (vs : List Bool) (b : Bool) → sum_by g (chosen xs (map q xs ++ vs)) ≡ sum_by (λ o. cond (q o) (g o) 0) xs
     → sum_by g (chosen (o ∷ xs) (b ∷ map q xs ++ vs)) ≡ cond b (g o) 0 + sum_by (λ o. cond (q o) (g o) 0) xs

@@ -14,13 +14,6 @@ use Rattle.auction_terms.specs.Offers.{offer_of, offers}
 use Rattle.auction_terms.proofs.OfferLaws.{all_agree}
 use Rattle.program_rows.proofs.EachLaws.{each_map}
 
--- each later bid comes behind the first
-all_behind : (k : KeptBid) (ks : List KeptBid) → AllPairs Precedes (k ∷ ks) → AllByRecursion (Precedes k) ks
-all_behind k ks h = recursion_from_All (Precedes k) ks (λ i d l. h zero (suc i) d (omega arith) (omega arith))
-
-rising_behind : (k : KeptBid) (ks : List KeptBid) → AllPairs Precedes (k ∷ ks) → AllPairs Precedes ks
-rising_behind k ks h = λ i j d l m. h (suc i) (suc j) d (omega arith) (omega arith)
-
 abbrev IsSized : Lots → KeptBid → Type 0
 IsSized lots k = length k.offer.now.package ≡ length lots.supply
 
@@ -36,7 +29,8 @@ is_offer lots k sized h = record {
 offers_from : (lots : Lots) (ks : List KeptBid) → AllByRecursion (IsSized lots) ks → AllByRecursion IsKeptBid ks → AllPairs Precedes ks → AreOffers lots (offers ks)
 offers_from lots [] sized each rising = tt
 offers_from lots (k ∷ ks) sized each rising =
-    (is_offer lots k sized.0 each.0, each_map (IsBefore (offer_of k)) offer_of ks (all_behind k ks rising), offers_from lots ks sized.1 each.1 (rising_behind k ks rising))
+    (is_offer lots k sized.0 each.0, each_map (IsBefore (offer_of k)) offer_of ks (recursion_from_All (Precedes k) ks (λ i d l. rising zero (suc i) d (omega arith) (omega arith))),
+      offers_from lots ks sized.1 each.1 (λ i j d l m. rising (suc i) (suc j) d (omega arith) (omega arith)))
 
 pub are_offers : (t : Terms) (ks : List KeptBid) → All (λ k. length k.offer.now.package ≡ length t.categories) ks → AreKept ks → AreOffers (lots_in t) (offers ks)
 are_offers t ks sized h =

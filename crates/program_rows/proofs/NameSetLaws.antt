@@ -24,24 +24,17 @@ module _ (name : List ℕ) where
   abbrev IsAt : List (Bor (List ℕ)) → ℕ → Type 0
   IsAt ks i = option_map_or is (slice_get ks i) false ≡ true
 
-  pub within : (ks : List (Bor (List ℕ))) (i : ℕ) → IsAt ks i → i < length ks
-  within ks i h = let s = stands is (slice_get ks i) h in slice_get_within ks i s.0 s.1
-
-  pub among : (ks : List (Bor (List ℕ))) (i : ℕ) → IsAt ks i → true ≡ list_any is ks
-  among ks i h = let s = stands is (slice_get ks i) h in sym (any_passes_from_place is ks i s.0 s.1 s.2)
-
-  first : (ks : List (Bor (List ℕ))) (i : ℕ) → IsDistinct (λ a b. bytes_eq a.now b.now) ks → IsAt ks i → i ≡ position_or_len is ks
-  first ks i d h =
-      let s = stands is (slice_get ks i) h in
-      guessed (λ (k : Bor (List ℕ)). k.now) name ks i s.0.now (distinct_bytes ks d) (ap (λ (o : Option (Bor (List ℕ))). option_map (λ k. k.now) o) s.1) s.2
-
   -- where names differ, a place that has the name is its place
-  pub is_place : (ks : List (Bor (List ℕ))) (i : ℕ) → IsDistinct (λ a b. bytes_eq a.now b.now) ks → IsAt ks i → Some i ≡ position is ks
+  pub is_place : (ks : List (Bor (List ℕ))) (i : ℕ) → IsDistinct (λ a b. bytes_eq a.now b.now) ks → IsAt ks i → (Some i ≡ position is ks) × (true ≡ list_any is ks) × (i < length ks)
   is_place ks i d h =
-      let here = first ks i d h in
-      let inside = within ks i h in
-      let less : nat_lt (position_or_len is ks) (length ks) ≡ true = lt-ltb (position_or_len is ks) (length ks) (omega arith) in
-      ap (λ (n : ℕ). Some n) here ∙ sym (cond-true (nat_lt (position_or_len is ks) (length ks)) (Some (position_or_len is ks)) None less)
+      let s = stands is (slice_get ks i) h in
+      let here = guessed (λ (k : Bor (List ℕ)). k.now) name ks i s.0.now (distinct_bytes ks d) (ap (λ (o : Option (Bor (List ℕ))). option_map (λ k. k.now) o) s.1) s.2 in
+      let inside = slice_get_within ks i s.0 s.1 in
+      let less : nat_lt (position_or_len is ks) (length ks) ≡ true = lt-ltb (position_or_len is ks) (length ks) (omega arith) in (
+        ap (λ (n : ℕ). Some n) here ∙ sym (cond-true (nat_lt (position_or_len is ks) (length ks)) (Some (position_or_len is ks)) None less),
+        sym (any_passes_from_place is ks i s.0 s.1 s.2),
+        inside,
+      )
 
 -- one item more is folded
 pub folds_on : {A : Type 0} (f : A → List ℕ → A) (a : A) (names : List (List ℕ)) (i : ℕ) (name : List ℕ) → slice_get names i ≡ Some name → fold f a (drop i names) ≡ fold f (f a name) (drop (i + 1) names)

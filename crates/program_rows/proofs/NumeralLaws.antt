@@ -77,11 +77,8 @@ none_named name never =
     no_choice (is_bid b j && bytes_eq name (bid_name b j)) b j name refl
     (λ c e. let r = reads_names_alone name c e in never c.bidder c.bid r.0 r.1)
 
-empty_name : (name : List ℕ) → length name ≡ 0 → column_bid name ≡ None
-empty_name name h = none_named name (λ b j i e. let l = ap (λ (xs : List ℕ). length xs) e in absurd (omega arith))
-
 pub no_name : (name : List ℕ) → length name ≡ 0 → None ≡ column_bid name
-no_name name h = sym (empty_name name h)
+no_name name h = sym (none_named name (λ b j i e. let l = ap (λ (xs : List ℕ). length xs) e in absurd (omega arith)))
 
 pub other_letter : (name : List ℕ) → get_or name 0 0 ≢ 88 → None ≡ column_bid name
 other_letter name h = sym (none_named name (λ b j i e. h (ap (λ (xs : List ℕ). get_or xs 0 0) e)))

@@ -4,8 +4,8 @@ use Rattle.std.specs.Prelude.{◌==◌, bytes_eq, find}
 use Rattle.std.specs.Option.{option_map, option_map_or}
 use Rattle.std.specs.List.{AllByRecursion, IsDistinct, list_all, position_or_len}
 use Rattle.std.specs.Ordering.{int_eq}
-use Rattle.std.proofs.lemmas.Bool.{and_parts, cond-true, ne_eqb}
-use Rattle.std.proofs.lemmas.Bool.Decides.{Decides-int_eq, nat_tests}
+use Rattle.std.proofs.lemmas.Bool.{and_parts, cond-true, eqb-true, ne_eqb}
+use Rattle.std.proofs.lemmas.Bool.Decides.{Decides-int_eq}
 use Rattle.std.proofs.lemmas.List.Folds.{find_at}
 use Rattle.std.proofs.lemmas.Map.Keys.{IsDistinct-tail}
 use Rattle.std.proofs.lemmas.Option.{same_Some}
@@ -67,14 +67,11 @@ column_over rows others columns more name c h e =
 abbrev in_row_at : ℕ → ℕ × ℤ → Bool
 in_row_at place e = e.0 == place
 
-same_place : (a b : ℕ) → (a == b) ≡ true → a ≡ b
-same_place a b h = grind (arith, nat_tests)
-
 -- an entry of one column tells the coefficient of the other
 entry_over : (rows others : List TableRow) (c d : TableColumn) (name : List ℕ) (i : ℕ) (r : TableRow) (e : ℕ × ℤ) → Place rows name i r → list_all (entry_stands rows others d) c.entries ≡ true → find (in_row_at i) c.entries ≡ Some e
     → coefficient_in others d name ≡ e.1
 entry_over rows others c d name i r e place h f =
-    let at : e.0 ≡ i = same_place e.0 i (found_passes (in_row_at i) c.entries e f) in
+    let at : e.0 ≡ i = eqb-true e.0 i (found_passes (in_row_at i) c.entries e f) in
     let s : entry_stands rows others d e ≡ true = found_in (λ x. entry_stands rows others d x ≡ true) (in_row_at i) c.entries e (all_true (entry_stands rows others d) c.entries h) f in
     let same = (Decides-int_eq (coefficient_in others d (row_name rows e.0)) e.1).0 s in
     let named : row_name rows e.0 ≡ name = ap (row_name rows) at ∙ name_there rows name i r place in
