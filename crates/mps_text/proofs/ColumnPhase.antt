@@ -9,6 +9,7 @@ use Rattle.mps_meaning.specs.MpsLines.{Line, Data}
 use Rattle.mps_meaning.specs.Sections.{Sections, with_line}
 use Rattle.mps_meaning.specs.Faults.{fault, is_declared, is_split, number_fault}
 use Rattle.mps_text.proofs.Blocks.{onto, AreRead, AreRead-append, section-onto}
+use Rattle.mps_text.proofs.RowPhase.{others_kept}
 use Rattle.program_rows.proofs.NamedItems.{bytes_flip}
 use Rattle.line_words.specs.Numbers.{number}
 use Rattle.mps_meaning.specs.Described.{column_pairs, is_column}
@@ -49,12 +50,6 @@ still_ready before column pair other s plain differ h = record {
 abbrev AreReady : Sections → List ℕ → List Pair → Type 0
 AreReady before column pairs = AllByRecursion (IsReady before column) pairs
 
-all_ready : (before : Sections) (column : List ℕ) (pair : Pair) (pairs : List Pair) → before.section ≡ codes "COLUMNS" → bytes_eq pair.0 (codes "'MARKER'") ≡ false → AllByRecursion (λ row. bytes_eq pair.0 row ≡ false) (map (λ other. other.0) pairs)
-    → AreReady before column pairs → AreReady (with_line before (Data (pair_fields column pair))) column pairs
-all_ready before column pair [] s plain differ h = tt
-all_ready before column pair (other ∷ pairs) s plain differ h =
-    (still_ready before column pair other s plain (bytes_flip pair.0 other.0 differ.0) h.0, all_ready before column pair pairs s plain differ.1 h.1)
-
 -- the lines of one column
 pub pairs-read : (before : Sections) (column : List ℕ) (pairs : List Pair) → before.section ≡ codes "COLUMNS" → is_split before.columns column ≡ false → IsDistinct bytes_eq (map (λ pair. pair.0) pairs) → AreReady before column pairs → AreRead before (map Data (map (pair_fields column) pairs))
 unfolding IsDistinct
@@ -62,7 +57,8 @@ pairs-read before column [] s whole differ h = tt
 pairs-read before column (pair ∷ pairs) s whole differ h = (
   pair-read before column pair s whole h.0,
   refl,
-  pairs-read (with_line before (Data (pair_fields column pair))) column pairs s (goes_on before column pair s h.0.plain) differ.1 (all_ready before column pair pairs s h.0.plain differ.0 h.1),
+  pairs-read (with_line before (Data (pair_fields column pair))) column pairs s (goes_on before column pair s h.0.plain) differ.1 
+      (others_kept (λ other. other.0) pair.0 (IsReady before column) (IsReady (with_line before (Data (pair_fields column pair))) column) pairs (λ other d k. still_ready before column pair other s h.0.plain (bytes_flip pair.0 other.0 d) k) differ.0 h.1),
 )
 
 -- a column with its pairs, the cost first
@@ -98,12 +94,6 @@ new_behind : (before : Sections) (name : List ℕ) (pairs : List Pair) (column :
 new_behind before name [] column s h differ n = n
 new_behind before name (pair ∷ pairs) column s h differ n = new_behind (with_line before (Data (pair_fields name pair))) name pairs column s h.1 differ (still_new before name pair column s h.0 differ n)
 
-all_new : (before : Sections) (name : List ℕ) (pairs : List Pair) (columns : List (List ℕ × List Pair)) → before.section ≡ codes "COLUMNS" → ArePlain pairs → AllByRecursion (λ other. bytes_eq name other ≡ false) (map (λ c. c.0) columns)
-    → AllByRecursion (IsNew before) columns → AllByRecursion (IsNew (onto (map Data (map (pair_fields name) pairs)) before)) columns
-all_new before name pairs [] s h differ n = tt
-all_new before name pairs (column ∷ columns) s h differ n =
-    (new_behind before name pairs column s h (bytes_flip name column.0 differ.0) n.0, all_new before name pairs columns s h differ.1 n.1)
-
 abbrev pub columns_lines : List (List ℕ × List Pair) → List Line
 columns_lines columns = flat_map (λ c. map Data (map (pair_fields c.0) c.1)) columns
 
@@ -115,4 +105,5 @@ columns-read before (c ∷ columns) s differ n =
     let lines = map Data (map (pair_fields c.0) c.1) in
     AreRead-append before lines (columns_lines columns)
     (pairs-read before c.0 c.1 s (not-split before c.0 n.0.name) n.0.differ n.0.ready)
-    (columns-read (onto lines before) columns (section-onto (map (pair_fields c.0) c.1) before ∙ s) differ.1 (all_new before c.0 c.1 columns s (all_agree (IsReady before c.0) (λ pair. bytes_eq pair.0 (codes "'MARKER'") ≡ false) c.1 (λ pair h. h.plain) n.0.ready) differ.0 n.1))
+    (columns-read (onto lines before) columns (section-onto (map (pair_fields c.0) c.1) before ∙ s) differ.1 
+    (others_kept (λ q. q.0) c.0 (IsNew before) (IsNew (onto lines before)) columns (λ q d k. new_behind before c.0 c.1 q s (all_agree (IsReady before c.0) (λ pair. bytes_eq pair.0 (codes "'MARKER'") ≡ false) c.1 (λ pair h. h.plain) n.0.ready) (bytes_flip c.0 q.0 d) k) differ.0 n.1))

@@ -60,9 +60,6 @@ lines-line bytes rest h =
     let first : lines_of_parts (slice_split is_line_feed (bytes ++ 10 ∷ rest)) ≡ bytes ∷ lines_of_parts (slice_split is_line_feed rest) = rw (parts, more.2, keeps bytes h) refl in
     lines_are (bytes ++ 10 ∷ rest) ∙ first ∙ ap (λ (w : List (List ℕ)). bytes ∷ w) (sym (lines_are rest))
 
-pub lines-none : lines_of [] ≡ []
-lines-none = refl
-
 -- ---- fields
 
 printable-space : (b : ℕ) → Printable b → is_space b ≡ false

@@ -27,6 +27,12 @@ row-read before r s new = rw (s, is_type r.kind, new) refl
 abbrev pub AreNew : Sections → List (List ℕ) → Type 0
 AreNew before names = AllByRecursion (λ name. is_declared before.rows name ≡ false) names
 
+-- what holds of the items with other names than this one
+pub others_kept : {X : Type 0} (name_of : X → List ℕ) (name : List ℕ) (P Q : X → Type 0) (xs : List X) → ((x : X) → bytes_eq name (name_of x) ≡ false → P x → Q x) → AllByRecursion (λ other. bytes_eq name other ≡ false) (map name_of xs)
+    → AllByRecursion P xs → AllByRecursion Q xs
+others_kept name_of name P Q [] keep d h = tt
+others_kept name_of name P Q (x ∷ xs) keep d h = (keep x d.0 h.0, others_kept name_of name P Q xs keep d.1 h.1)
+
 -- names that are new, and differ from the one that is declared now, stay new
 still_new : (before : Sections) (r : TableRow) (names : List (List ℕ)) → before.section ≡ codes "ROWS" → AreNew before names → AllByRecursion (λ name. bytes_eq r.name name ≡ false) names → AreNew (with_line before (Data (row_fields r))) names
 still_new before r [] s new differ = tt
