@@ -14,10 +14,6 @@ has_middle [] [] zs h = cc
 has_middle [] (y ∷ ys) zs h = refl
 has_middle (x ∷ xs) ys zs h = refl
 
-pub has_length : (xs : List ℕ) → 0 < length xs → has_any xs ≡ true
-has_length [] h = absurd (omega arith)
-has_length (x ∷ xs) h = refl
-
 module _ (section : Section) (group : ℕ → Bool) where
   -- what a page gives
   abbrev given : ℕ → PageText → List ℕ
