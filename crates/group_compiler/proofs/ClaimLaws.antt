@@ -93,11 +93,11 @@ joins id v other w s h at differ there =
           let t = sum_set (λ (u : View). length u.drawn) s.views id v (views_joined v w) at in
           let p = sum_set (λ (u : View). length u.drawn) views other w spent there in
           let q = length-append v.drawn w.drawn in
-              omega arith;
+          omega arith;
       rooms =
           let t = sum_set (λ (u : View). u.room) s.views id v (views_joined v w) at in
           let p = sum_set (λ (u : View). u.room) views other w spent there in
-              omega arith;
+          omega arith;
     }
 
 sum_below : (f g : View → ℕ) (views : List View) → ((v : View) → f v ≤ g v) → sum_by f views ≤ sum_by g views

@@ -57,7 +57,7 @@ pairs-read before column [] s whole differ h = tt
 pairs-read before column (pair ∷ pairs) s whole differ h = (
   pair-read before column pair s whole h.0,
   refl,
-  pairs-read (with_line before (Data (pair_fields column pair))) column pairs s (goes_on before column pair s h.0.plain) differ.1 
+  pairs-read (with_line before (Data (pair_fields column pair))) column pairs s (goes_on before column pair s h.0.plain) differ.1
       (others_kept (λ other. other.0) pair.0 (IsReady before column) (IsReady (with_line before (Data (pair_fields column pair))) column) pairs (λ other d k. still_ready before column pair other s h.0.plain (bytes_flip pair.0 other.0 d) k) differ.0 h.1),
 )
 
@@ -105,5 +105,5 @@ columns-read before (c ∷ columns) s differ n =
     let lines = map Data (map (pair_fields c.0) c.1) in
     AreRead-append before lines (columns_lines columns)
     (pairs-read before c.0 c.1 s (not-split before c.0 n.0.name) n.0.differ n.0.ready)
-    (columns-read (onto lines before) columns (section-onto (map (pair_fields c.0) c.1) before ∙ s) differ.1 
+    (columns-read (onto lines before) columns (section-onto (map (pair_fields c.0) c.1) before ∙ s) differ.1
     (others_kept (λ q. q.0) c.0 (IsNew before) (IsNew (onto lines before)) columns (λ q d k. new_behind before c.0 c.1 q s (all_agree (IsReady before c.0) (λ pair. bytes_eq pair.0 (codes "'MARKER'") ≡ false) c.1 (λ pair h. h.plain) n.0.ready) (bytes_flip c.0 q.0 d) k) differ.0 n.1))

@@ -28,9 +28,11 @@ is_offer lots k sized h = record {
 
 offers_from : (lots : Lots) (ks : List KeptBid) → AllByRecursion (IsSized lots) ks → AllByRecursion IsKeptBid ks → AllPairs Precedes ks → AreOffers lots (offers ks)
 offers_from lots [] sized each rising = tt
-offers_from lots (k ∷ ks) sized each rising =
-    (is_offer lots k sized.0 each.0, each_map (IsBefore (offer_of k)) offer_of ks (recursion_from_All (Precedes k) ks (λ i d l. rising zero (suc i) d (omega arith) (omega arith))),
-      offers_from lots ks sized.1 each.1 (λ i j d l m. rising (suc i) (suc j) d (omega arith) (omega arith)))
+offers_from lots (k ∷ ks) sized each rising = (
+  is_offer lots k sized.0 each.0,
+  each_map (IsBefore (offer_of k)) offer_of ks (recursion_from_All (Precedes k) ks (λ i d l. rising zero (suc i) d (omega arith) (omega arith))),
+  offers_from lots ks sized.1 each.1 (λ i j d l m. rising (suc i) (suc j) d (omega arith) (omega arith)),
+)
 
 pub are_offers : (t : Terms) (ks : List KeptBid) → All (λ k. length k.offer.now.package ≡ length t.categories) ks → AreKept ks → AreOffers (lots_in t) (offers ks)
 are_offers t ks sized h =
