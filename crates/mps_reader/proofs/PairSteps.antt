@@ -87,4 +87,3 @@ pair-fits r new column after stamp i row cost place v fit at here fresh places r
       apart = subst (λ q. IsApart new.stamps.items q.items stamp after.entries.items) (sym places) (subst (λ s. IsApart s r.places.items stamp after.entries.items) (sym stamps) (subst (λ es. IsApart (slice_set r.stamps.items i stamp) r.places.items stamp es) (sym entries)
           (apart-put (names_of r.names) r.places.items (declared_row_names r.rows.items) r.stamps.items column.entries.items i stamp cost place v fit.places here h.apart)));
     }
-
