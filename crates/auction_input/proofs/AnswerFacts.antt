@@ -14,6 +14,9 @@ pub ok-refused_as : {A F E : Type 0} (tell : F → E) (r : Result A F) (x : A) �
 ok-refused_as tell (Ok y) x told = (let same : y ≡ x = ok-is _ y x refl told in rw same refl)
 ok-refused_as tell (Err f) x told = cc
 
+pub unless-told : {A F : Type 0} (found : Option F) (next : Result A F) (y : A) → unless found next ≡ Ok y → (found ≡ None) × (next ≡ Ok y)
+unless-told None next y told = (refl, told)
+unless-told (Some f) next y told = cc
+
 pub unless-ok : {A F : Type 0} (found : Option F) (x y : A) → unless found (Ok x) ≡ Ok y → (found ≡ None) × (x ≡ y)
-unless-ok None x y told = (refl, ok-is _ x y refl told)
-unless-ok (Some f) x y told = cc
+unless-ok found x y told = (let (none, is) = unless-told found (Ok x) y told in (none, ok-is _ x y refl is))

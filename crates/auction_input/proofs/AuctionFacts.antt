@@ -1,7 +1,5 @@
 -- What the stages of an auction tell.
-use Rattle.std.proofs.Common.{◌≡◌, ◌≤◌, ◌<◌, ◌+◌, ◌∷◌, ◌∙◌, [], ℕ, zero, suc, List, Option, None, Some, Result, Ok, Err, ap, ap₂, arith, length, map, refl, sym, inl, inr}
-use Rattle.std.specs.Prelude.{◌≢◌, Vec, codes}
-use Rattle.std.specs.declared.alloc.Global.{Global}
+use Rattle.std.proofs.Common.{◌≡◌, ◌≤◌, ◌<◌, ◌+◌, ◌∷◌, ◌∙◌, [], ℕ, zero, suc, List, Option, None, Some, Result, Ok, Err, ap, ap₂, arith, length, map, refl, sym, inl, inr, ◌≢◌, Vec, codes, Global}
 use Rattle.std.specs.List.{last_or, range_with_len}
 use Rattle.auction_terms.specs.Allocations.{Book}
 use Rattle.auction_terms.specs.Terms.{Terms, lots_in}
@@ -16,7 +14,7 @@ use Rattle.auction_input.specs.Refused.{Refuses}
 use Rattle.auction_input.specs.declared.refusal.Refusal.{Refusal}
 use Rattle.auction_input.specs.Settled.{RefusesAuction}
 use Rattle.auction_terms.specs.Borrowed.{bytes_of}
-use Rattle.auction_input.specs.Parts.{Part, TellsParts, cut_lines, input_fault, parts_held, parts_in, parts_named}
+use Rattle.auction_input.specs.Parts.{Part, TellsParts, cut_lines, parts_held, parts_in, parts_named}
 use Rattle.auction_input.specs.PartsTold.{only_text, parts_told}
 use Rattle.auction_input.specs.Plan.{miscounted}
 use Rattle.auction_input.specs.inside.Auctions.{HoldTexts, RefusesRun, Tell}
@@ -41,28 +39,19 @@ abbrev count-stage : Request → List Part → Result (List Part) Refusal
 count-stage asked parts = refused_as refusal.PartCount (unless (miscounted asked parts) (Ok parts))
 
 module _ (asked : Request) (input : List ℕ) (held : Vec declared.Part Global) where
-  counted : (found : Option PartKind) → TellsParts asked (Ok held) input → miscounted asked (parts_held held.items) ≡ found
+  pub counted : (found : Option PartKind) → TellsParts asked (Ok held) input → miscounted asked (parts_held held.items) ≡ found
       → parts_told asked input ≡ refused_as refusal.PartCount (unless found (Ok (parts_held held.items)))
   counted found told is =
       ap (λ (f : Option PartFault). and_then (refused_as refusal.Parts (unless f (Ok (parts_in (cut_lines input))))) (count-stage asked)) told.0
       ∙ ap (count-stage asked) (sym told.1)
       ∙ ap (λ (f : Option PartKind). refused_as refusal.PartCount (unless f (Ok (parts_held held.items)))) is
 
-  pub parts-are : TellsParts asked (Ok held) input → miscounted asked (parts_held held.items) ≡ None → parts_told asked input ≡ Ok (parts_held held.items)
-  parts-are told is = counted None told is
-
-  pub parts-miscounted : (k : PartKind) → TellsParts asked (Ok held) input → miscounted asked (parts_held held.items) ≡ Some k → Refuses (parts_told asked input) (refusal.PartCount k)
-  parts-miscounted k told is = inl (counted (Some k) told is)
-
 abbrev no_parts : PartFault → Result (Vec declared.Part Global) PartFault
 no_parts f = Err f
 
-told-parts : (asked : Request) (input : List ℕ) (f : PartFault) → input_fault asked input ≡ Some f → Refuses (parts_told asked input) (refusal.Parts f)
-told-parts asked input f is = inl (ap (λ (found : Option PartFault). and_then (refused_as refusal.Parts (unless found (Ok (parts_in (cut_lines input))))) (count-stage asked)) is)
-
 pub parts-refused : (asked : Request) (input : List ℕ) (f : PartFault) → TellsParts asked (no_parts f) input → Refuses (parts_told asked input) (refusal.Parts f)
 parts-refused asked input fault.OutOfMemory told = inr refl
-parts-refused asked input f told = told-parts asked input f told
+parts-refused asked input f told = inl (ap (λ (found : Option PartFault). and_then (refused_as refusal.Parts (unless found (Ok (parts_in (cut_lines input))))) (count-stage asked)) told)
 
 -- ---- the stages behind the parts
 

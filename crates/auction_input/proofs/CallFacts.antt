@@ -1,9 +1,8 @@
 -- Counting the calls of each bidder, form by form.
-use Rattle.std.proofs.Common.{◌≡◌, ◌≤◌, ◌<◌, ◌+◌, ◌++◌, ◌==◌, ◌∷◌, ◌∙◌, [], ℕ, Bool, Option, true, false, List, None, Some, ap, append_assoc, append-nil, arith, cond, length, length-append, refl, sym, inl, inr, slice_index_or}
+use Rattle.std.proofs.Common.{◌≡◌, ◌≤◌, ◌<◌, ◌+◌, ◌++◌, ◌==◌, ◌∷◌, ◌∙◌, [], ℕ, Bool, Option, true, false, List, None, Some, ap, append_assoc, append-nil, arith, cond, length, length-append, refl, sym, inl, inr, slice_index_or, get_or-set_other, get_or-set_same, length-set, is_some, slice_set}
 use Rattle.std.proofs.lemmas.Bool.{cases_Bool, eqb-false, eqb-true}
 use Rattle.std.proofs.lemmas.Bool.Decides.{leb_tells}
-use Rattle.std.proofs.lemmas.List.{get_or-set_other, get_or-set_same, length-set}
-use Rattle.std.specs.Prelude.{is_some, slice_set}
+use Rattle.std.proofs.lemmas.List.Elements.{filter-append}
 use Rattle.std.specs.Option.{option_or}
 use Rattle.auction_input.specs.Calls.{CountsCalls, one_too_many}
 use Rattle.auction_input.specs.Submissions.{forms_of}
@@ -14,35 +13,24 @@ use Rattle.auction_terms.specs.FirstFault.{first_fault}
 use Rattle.bid_book.specs.declared.records.TheConstants.{CALL_LIMIT}
 use Rattle.bid_forms.specs.Offers.{Offers}
 
-pub forms-append : (b : ℕ) (xs ys : List Offers) → forms_of b (xs ++ ys) ≡ forms_of b xs ++ forms_of b ys
-forms-append b [] ys = refl
-forms-append b (x ∷ xs) ys = put (x.bidder == b) x (forms_of b (xs ++ ys)) (forms_of b xs) (forms_of b ys) (forms-append b xs ys)
-  where
-    put : (t : Bool) (x : Offers) (all front back : List Offers) → all ≡ front ++ back → cond t (x ∷ all) all ≡ cond t (x ∷ front) front ++ back
-    put true x all front back is = ap (λ (rest : List Offers). x ∷ rest) is
-    put false x all front back is = is
-
 -- there is a count for each number, of the forms of that bidder
 abbrev AreCounted : List ℕ → List Offers → Type 0
 AreCounted counts forms = (b : ℕ) → b < COUNTS_LEN → slice_index_or counts b 0 ≡ length (forms_of b forms)
 
 counted-more : (counts : List ℕ) (forms : List Offers) (form : Offers) (count : ℕ) → COUNTS_LEN ≤ length counts → form.bidder < COUNTS_LEN → AreCounted counts forms → count ≡ slice_index_or counts form.bidder 0 + 1
     → AreCounted (slice_set counts form.bidder count) (forms ++ form ∷ [])
-counted-more counts forms form count long small counted one b within = elim (cases_Bool (form.bidder == b)) [
-  | inl same ↦ (
-      let is : form.bidder ≡ b = eqb-true form.bidder b same in
-      let own : length (forms_of b (form ∷ [])) ≡ 1 = ap (λ (t : Bool). length (cond t (form ∷ []) [])) same in
-      let all : length (forms_of b (forms ++ form ∷ [])) ≡ length (forms_of b forms) + 1 =
-      ap length (forms-append b forms (form ∷ [])) ∙ length-append (forms_of b forms) (forms_of b (form ∷ [])) ∙ ap (λ n. length (forms_of b forms) + n) own in
-      let inside : form.bidder < length counts = omega arith in
-      ap (λ i. slice_index_or (slice_set counts form.bidder count) i 0) (sym is) ∙ get_or-set_same counts form.bidder count 0 inside ∙ one
-      ∙ ap (λ i. slice_index_or counts i 0 + 1) is ∙ ap (λ n. n + 1) (counted b within) ∙ sym all)
-  | inr other ↦ (
-      let none : length (forms_of b (form ∷ [])) ≡ 0 = ap (λ (t : Bool). length (cond t (form ∷ []) [])) other in
-      let all : length (forms_of b (forms ++ form ∷ [])) ≡ length (forms_of b forms) =
-      ap length (forms-append b forms (form ∷ [])) ∙ length-append (forms_of b forms) (forms_of b (form ∷ [])) ∙ ap (λ n. length (forms_of b forms) + n) none ∙ (omega arith) in
-      get_or-set_other counts form.bidder b count 0 (λ e. eqb-false form.bidder b other (sym e)) ∙ counted b within ∙ sym all)
-]
+counted-more counts forms form count long small counted one b within =
+    let all = ap length (filter-append (λ (f : Offers). f.bidder == b) forms (form ∷ [])) ∙ length-append (forms_of b forms) (forms_of b (form ∷ [])) in
+    elim (cases_Bool (form.bidder == b)) [
+      | inl same ↦ (
+          let is : form.bidder ≡ b = eqb-true form.bidder b same in
+          let own : length (forms_of b (form ∷ [])) ≡ 1 = ap (λ (t : Bool). length (cond t (form ∷ []) [])) same in
+          ap (λ i. slice_index_or (slice_set counts form.bidder count) i 0) (sym is) ∙ get_or-set_same counts form.bidder count 0 (omega arith) ∙ one
+          ∙ ap (λ i. slice_index_or counts i 0 + 1) is ∙ ap (λ n. n + 1) (counted b within) ∙ ap (λ n. length (forms_of b forms) + n) (sym own) ∙ sym all)
+      | inr other ↦ (
+          let none : length (forms_of b (form ∷ [])) ≡ 0 = ap (λ (t : Bool). length (cond t (form ∷ []) [])) other in
+          get_or-set_other counts form.bidder b count 0 (λ e. eqb-false form.bidder b other (sym e)) ∙ counted b within ∙ (omega arith))
+    ]
 
 -- a bidder that has a call left
 call-left : (before : List Offers) (form : Offers) → length (forms_of form.bidder before) < CALL_LIMIT → one_too_many before form ≡ None
@@ -85,10 +73,6 @@ known-first : (o found next : Option ℕ) → is_some o ≡ true → o ≡ found
 known-first None found next some is = cc
 known-first (Some n) found next some is = rw (← is) refl
 
-some-or-none : {P : Type 0} (o : Option ℕ) → is_some o ≡ true → o ≡ None → P
-some-or-none None some none = cc
-some-or-none (Some n) some none = cc
-
 pub none-refused : (o : Option ℕ) → is_some o ≡ false → o ≡ None
 none-refused None is = refl
 none-refused (Some n) is = cc
@@ -97,7 +81,7 @@ pub refused-before : (calls : Calls) (forms : List Offers) (form : Offers) → C
 refused-before calls forms form counts some = record {
   refused = known-first calls.refused _ (one_too_many forms form) some counts.refused ∙ sym (first-more one_too_many forms form);
   long = counts.long;
-  counts = λ none b within. some-or-none calls.refused some none;
+  counts = λ none b within. (let no : is_some {T = ℕ} None ≡ true = rw none at some in absurd (cc));
 }
 
 -- the first fault of one form more, where there was none

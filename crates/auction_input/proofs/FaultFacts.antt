@@ -3,6 +3,7 @@ use Rattle.std.proofs.Common.{◌≡◌, ℕ, List, Result, Err, ap, refl, sym, 
 use Rattle.auction_input.specs.Refused.{Refuses}
 use Rattle.auction_terms.specs.Stages.{Answers, refused_as}
 use Rattle.auction_input.specs.declared.refusal.Refusal.TheVariants as refusal
+use Rattle.auction_input.specs.declared.refusal.Refusal.{Refusal}
 use Rattle.auction_terms.specs.GroupsText as groups_text
 use Rattle.auction_terms.specs.RulesText as rules_text
 use Rattle.auction_terms.specs.Terms.{Terms}
@@ -21,26 +22,17 @@ no_rules f = Err f
 abbrev pub no_groups : GroupFault → Result (List (List ℕ)) GroupFault
 no_groups f = Err f
 
-told-rules : (f : RulesFault) (x : Result Terms RulesFault) → no_rules f ≡ x → Refuses (refused_as refusal.Rules x) (refusal.Rules f)
-told-rules f x is = inl (ap (λ r. refused_as refusal.Rules r) (sym is))
+told-as : {A F : Type 0} (tell : F → Refusal) (f : F) (x : Result A F) → Err f ≡ x → Refuses (refused_as tell x) (tell f)
+told-as tell f x is = inl (ap (λ r. refused_as tell r) (sym is))
 
 pub rules-refuse : (f : RulesFault) (x : Result Terms RulesFault) → Answers rules_text.is_rules_memory (no_rules f) x → Refuses (refused_as refusal.Rules x) (refusal.Rules f)
 rules-refuse rules.OutOfMemory x is = inr refl
-rules-refuse f x is = told-rules f x is
-
-told-groups : (f : GroupFault) (x : Result (List (List ℕ)) GroupFault) → no_groups f ≡ x → Refuses (refused_as refusal.Groups x) (refusal.Groups f)
-told-groups f x is = inl (ap (λ r. refused_as refusal.Groups r) (sym is))
+rules-refuse f x is = told-as refusal.Rules f x is
 
 pub groups-refuse : (f : GroupFault) (x : Result (List (List ℕ)) GroupFault) → Answers groups_text.is_groups_memory (no_groups f) x → Refuses (refused_as refusal.Groups x) (refusal.Groups f)
 groups-refuse groups.OutOfMemory x is = inr refl
-groups-refuse f x is = told-groups f x is
+groups-refuse f x is = told-as refusal.Groups f x is
 
-abbrev no_form : FormFault → Result Offers FormFault
-no_form f = Err f
-
-told-form : (n : ℕ) (f : FormFault) (x : Result Offers FormFault) → no_form f ≡ x → Refuses (refused_as (refusal.Form n) x) (refusal.Form n f)
-told-form n f x is = inl (ap (λ r. refused_as (refusal.Form n) r) (sym is))
-
-pub form-refuses : (n : ℕ) (f : FormFault) (x : Result Offers FormFault) → Answers form_text.is_form_memory (no_form f) x → Refuses (refused_as (refusal.Form n) x) (refusal.Form n f)
+pub form-refuses : (n : ℕ) (f : FormFault) (x : Result Offers FormFault) → Answers form_text.is_form_memory (Err f) x → Refuses (refused_as (refusal.Form n) x) (refusal.Form n f)
 form-refuses n form.OutOfMemory x is = inr refl
-form-refuses n f x is = told-form n f x is
+form-refuses n f x is = told-as (refusal.Form n) f x is

@@ -1,6 +1,5 @@
 -- Forms that are read stage by stage.
-use Rattle.std.proofs.Common.{◌≡◌, ◌≤◌, ◌+◌, ◌-◌, ◌++◌, ◌∙◌, [], ℕ, List, Ok, ap, arith, drop, drop_of_length-le, length, refl, subst, sym}
-use Rattle.std.specs.Prelude.{All}
+use Rattle.std.proofs.Common.{◌≡◌, ◌≤◌, ◌+◌, ◌-◌, ◌++◌, ◌∙◌, [], ℕ, List, Ok, ap, arith, drop, drop_of_length-le, length, refl, subst, sym, All}
 use Rattle.std.specs.List.{slice_range}
 use Rattle.std.proofs.lemmas.List.{length-append, length-drop, length-map, length-take, map-append}
 use Rattle.std.proofs.lemmas.List.Elements.{All-append, All-nil}
@@ -23,11 +22,6 @@ AreRead t texts count forms = (count ≤ length texts) × (length forms ≡ coun
 pub none-read : (t : Terms) (texts : List Text) (forms : List Offers) → forms ≡ [] → AreRead t texts 0 forms
 none-read t texts forms none = subst (AreRead t texts 0) (sym none) (omega arith, refl, left-first (form_told t) (bytes_of texts), All-nil (Meets t))
 
--- a stage of the texts, and those behind it
-cut-stage : (texts : List Text) (start end : ℕ) → start ≤ end → bytes_of (drop start texts) ≡ bytes_of (slice_range texts start end) ++ bytes_of (drop end texts)
-cut-stage texts start end order =
-    ap (λ (xs : List Text). bytes_of xs) (drop_split texts start end order) ∙ map-append (λ (text : Text). text.now) (slice_range texts start end) (drop end texts)
-
 stage-count : (texts : List Text) (start end : ℕ) → start ≤ end → end ≤ length texts → start + length (bytes_of (slice_range texts start end)) ≡ end
 stage-count texts start end order within =
     let values = length-map (slice_range texts start end) (λ (text : Text). text.now) in
@@ -35,9 +29,12 @@ stage-count texts start end order within =
     let left = length-drop start texts in
     omega arith
 
+-- a stage of the texts, and those behind it
 left-of : (t : Terms) (texts : List Text) (start end : ℕ) (forms : List Offers) → start ≤ end → IsLeft (form_told t) (start + 1) (bytes_of texts) forms (bytes_of (drop start texts))
     → IsLeft (form_told t) (start + 1) (bytes_of texts) forms (bytes_of (slice_range texts start end) ++ bytes_of (drop end texts))
-left-of t texts start end forms order left = subst (λ (rest : List (List ℕ)). IsLeft (form_told t) (start + 1) (bytes_of texts) forms rest) (cut-stage texts start end order) left
+left-of t texts start end forms order left =
+    let cut = ap (λ (xs : List Text). bytes_of xs) (drop_split texts start end order) ∙ map-append (λ (text : Text). text.now) (slice_range texts start end) (drop end texts) in
+    subst (λ (rest : List (List ℕ)). IsLeft (form_told t) (start + 1) (bytes_of texts) forms rest) cut left
 
 -- a stage more
 pub stage-read : (t : Terms) (texts : List Text) (start end : ℕ) (old new : List Offers) → start ≤ end → end ≤ length texts → AreRead t texts start old → HaveMore t (bytes_of (slice_range texts start end)) old new

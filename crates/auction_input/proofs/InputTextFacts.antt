@@ -1,18 +1,12 @@
 -- What is read of texts is what they tell, their sizes included.
-use Rattle.std.proofs.Common.{◌≡◌, ◌+◌, ◌++◌, ◌∷◌, ◌<◌, ◌≤◌, [], ℕ, List, Result, Ok, Err, ap, arith, length, map, refl, subst, sym, inl, inr}
-use Rattle.std.specs.Prelude.{All, IfErr, OnOk, if◌then◌else◌, nat_lt}
+use Rattle.std.proofs.Common.{◌≡◌, ◌+◌, ◌++◌, ◌∷◌, ◌<◌, ◌≤◌, [], ℕ, Bool, List, Result, Ok, Err, ap, arith, length, map, refl, subst, sym, inl, inr, All, IfErr, OnOk, if◌then◌else◌, nat_lt, Bor}
 use Rattle.std.specs.List.{AllZip}
 use Rattle.std.proofs.lemmas.List.Elements.{All-cons, All-nil}
 use Rattle.std.proofs.lemmas.Bool.Decides.{leb_tells}
-use denote.Ref.{Bor}
-use Rattle.auction_terms.specs.GroupsText as groups_text
 use Rattle.auction_terms.specs.Records.{records_of}
 use Rattle.auction_terms.specs.RulesText as rules_text
 use Rattle.auction_terms.specs.Terms.{Terms}
-use Rattle.auction_terms.specs.declared.groups_text.GroupFault.{GroupFault}
-use Rattle.auction_terms.specs.declared.groups_text.GroupFault.TheVariants as group_fault
 use Rattle.auction_limits.specs.declared.limits.TheConstants.{TEXT_LIMIT}
-use Rattle.auction_terms.specs.declared.rules.Bidder.{Bidder}
 use Rattle.auction_terms.specs.declared.rules_text.RulesFault.{RulesFault}
 use Rattle.auction_terms.specs.declared.rules_text.RulesFault.TheVariants as rules_fault
 use Rattle.bid_forms.specs.Offers.{Meets, Offers}
@@ -21,11 +15,12 @@ use Rattle.auction_input.specs.Refused.{Refuses}
 use Rattle.auction_input.specs.declared.refusal.Refusal.{Refusal}
 use Rattle.auction_input.specs.inside.InputTexts.{AreAdded, IsAnswer, IsFirstErr}
 use Rattle.auction_terms.specs.Borrowed.{bytes_of}
+use Rattle.auction_terms.proofs.FirstFaultFacts.{answers-told}
 use Rattle.auction_terms.specs.Stages.{Answers, each_in_turn, refused_as}
 use Rattle.auction_input.specs.inside.TextsTold.{HaveMore, more_told}
 use Rattle.auction_input.specs.TextsTold.{form_in, form_told}
 use Rattle.auction_input.specs.declared.refusal.Refusal.TheVariants as refusal
-use Rattle.auction_input.proofs.FaultFacts.{form-refuses, no_groups, no_rules}
+use Rattle.auction_input.proofs.FaultFacts.{form-refuses, no_rules}
 use Rattle.auction_input.proofs.StageFacts.{behind, next, stop}
 
 abbrev pub Text : Type 0
@@ -81,46 +76,23 @@ if-refused t count texts answers (Err e) each first = all-refused t count texts 
 
 -- ---- sizes
 
-ok-or-fault : {T E : Type 0} {P : Type 0} (x : T) (e : E) → Ok x ≡ Err e → P
-ok-or-fault x e is = cc
-
 -- what a text tells that is within a limit
 abbrev pub sized : {A F : Type 0} → ℕ → F → (List ℕ → Result A F) → List ℕ → Result A F
 sized limit too_large tell text = if nat_lt limit (length text) then Err too_large else tell text
 
+-- what is answered of a text within the limit, and of a greater one, is what the text tells
+pub sized-answers : {A F : Type 0} (is_memory : F → Bool) (too_large : F) (tell : List ℕ → Result A F) (text : List ℕ) (r : Result A F) → (TEXT_LIMIT < length text → r ≡ Err too_large)
+    → (length text ≤ TEXT_LIMIT → Answers is_memory r (tell text)) → Answers is_memory r (sized TEXT_LIMIT too_large tell text)
+sized-answers is_memory too_large tell text r large told = elim (leb_tells 4194305 (length text)) [
+  | inl (is, more) ↦ rw is (answers-told is_memory r (Err too_large) (large (omega arith)))
+  | inr (is, few) ↦ rw is (told (omega arith))
+]
+
 -- the fault of rules that are refused is what their text tells
 pub rules-faulted : (text : List ℕ) (f : RulesFault) → (TEXT_LIMIT < length text → no_rules f ≡ no_rules rules_fault.TooLarge)
     → (length text ≤ TEXT_LIMIT → Answers rules_text.is_rules_memory (no_rules f) (rules_text.rules_of_records (records_of text))) → Answers rules_text.is_rules_memory (no_rules f) (sized TEXT_LIMIT rules_fault.TooLarge (λ rules. rules_text.rules_of_records (records_of rules)) text)
-rules-faulted text f large told = elim (leb_tells 4194305 (length text)) [
-  | inl (is, more) ↦ (
-      let e = large (omega arith) in
-      let same : f ≡ rules_fault.TooLarge = cc in
-      subst (λ x. Answers rules_text.is_rules_memory (no_rules x) (sized TEXT_LIMIT rules_fault.TooLarge (λ rules. rules_text.rules_of_records (records_of rules)) text)) (sym same) (rw is refl))
-  | inr (is, few) ↦ rw is (told (omega arith))
-]
-
--- the same of groups
-pub groups-faulted : (bidders : List Bidder) (text : List ℕ) (f : GroupFault) → (TEXT_LIMIT < length text → no_groups f ≡ no_groups group_fault.TooLarge)
-    → (length text ≤ TEXT_LIMIT → Answers groups_text.is_groups_memory (no_groups f) (groups_text.groups_of bidders text)) → Answers groups_text.is_groups_memory (no_groups f) (sized TEXT_LIMIT group_fault.TooLarge (groups_text.groups_of bidders) text)
-groups-faulted bidders text f large told = elim (leb_tells 4194305 (length text)) [
-  | inl (is, more) ↦ (
-      let e = large (omega arith) in
-      let same : f ≡ group_fault.TooLarge = cc in
-      subst (λ x. Answers groups_text.is_groups_memory (no_groups x) (sized TEXT_LIMIT group_fault.TooLarge (groups_text.groups_of bidders) text)) (sym same) (rw is refl))
-  | inr (is, few) ↦ rw is (told (omega arith))
-]
+rules-faulted text f large told = sized-answers rules_text.is_rules_memory rules_fault.TooLarge (λ rules. rules_text.rules_of_records (records_of rules)) text (no_rules f) large told
 
 -- rules that are read are what their text tells
 pub rules-tell : (text : List ℕ) (t : Terms) → (TEXT_LIMIT < length text → Ok t ≡ no_rules rules_fault.TooLarge) → (length text ≤ TEXT_LIMIT → Ok t ≡ rules_text.rules_of_records (records_of text)) → sized TEXT_LIMIT rules_fault.TooLarge (λ rules. rules_text.rules_of_records (records_of rules)) text ≡ Ok t
-rules-tell text t large told = elim (leb_tells 4194305 (length text)) [
-  | inl (_, more) ↦ (let e = large (omega arith) in cc)
-  | inr (is, few) ↦ rw is (sym (told (omega arith)))
-]
-
--- the same of groups
-pub groups-tell : (bidders : List Bidder) (text : List ℕ) (groups : List (List ℕ)) → (TEXT_LIMIT < length text → Ok groups ≡ no_groups group_fault.TooLarge)
-    → (length text ≤ TEXT_LIMIT → Ok groups ≡ groups_text.groups_of bidders text) → sized TEXT_LIMIT group_fault.TooLarge (groups_text.groups_of bidders) text ≡ Ok groups
-groups-tell bidders text groups large told = elim (leb_tells 4194305 (length text)) [
-  | inl (_, more) ↦ ok-or-fault groups group_fault.TooLarge (large (omega arith))
-  | inr (is, few) ↦ rw is (sym (told (omega arith)))
-]
+rules-tell text t large told = sym (sized-answers rules_text.is_rules_memory rules_fault.TooLarge (λ rules. rules_text.rules_of_records (records_of rules)) text (Ok t) large told)

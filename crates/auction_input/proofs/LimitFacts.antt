@@ -1,8 +1,7 @@
 -- The book that an input leaves is within the limits.
-use Rattle.std.proofs.Common.{◌≡◌, ◌≤◌, ◌<◌, ◌+◌, ◌==◌, ◌++◌, ◌∷◌, ◌∙◌, [], ℕ, zero, suc, Bool, true, false, List, Option, None, Some, Result, Ok, Err, append_assoc, arith, drop, eqb-true, leb-true, length, length-append, map, refl, subst, sym}
-use Rattle.std.specs.Prelude.{cond, filter, nat_le, nat_lt}
+use Rattle.std.proofs.Common.{◌≡◌, ◌≤◌, ◌<◌, ◌+◌, ◌==◌, ◌++◌, ◌∷◌, ◌∙◌, [], ℕ, zero, suc, Bool, true, false, List, Option, None, Some, Result, Ok, Err, append_assoc, arith, drop, length-drop, eqb-true, leb-true, length, length-append, map, refl, subst, sym, cond, filter, nat_le, nat_lt, inl, inr}
 use Rattle.std.specs.List.{AllByRecursion, last_or, list_all, range_with_len}
-use Rattle.std.proofs.lemmas.Bool.{and_parts, ltb-true}
+use Rattle.std.proofs.lemmas.Bool.{and_parts, cases_Bool, ltb-true}
 use Rattle.std.proofs.lemmas.List.{append-nil, length-map}
 use Rattle.std.proofs.lemmas.List.FromFn.{length-map-range_with_len}
 use Rattle.auction_terms.specs.Entries.{terms_of}
@@ -10,37 +9,31 @@ use Rattle.auction_terms.specs.FirstFault.{first_failed, first_fault}
 use Rattle.auction_terms.specs.Limits.{IsBid, IsBook}
 use Rattle.auction_terms.specs.Packages.{Lots}
 use Rattle.auction_terms.specs.Records.{Record}
-use Rattle.auction_terms.specs.RulesText as rules_text
-use Rattle.auction_terms.specs.RulesText.{entries_of, entry_fault, record_field, is_kind, record_kind, field_number, of_kind, version_of}
+use Rattle.auction_terms.specs.RulesText.{entries_of, entry_fault, of_kind, record_kind}
 use Rattle.auction_terms.specs.inside.RulesText.{bidder_of}
 use Rattle.auction_terms.specs.Terms.{Terms, lots_in}
 use Rattle.auction_terms.specs.declared.bids.Bid.{Bid}
 use Rattle.auction_limits.specs.declared.limits.TheConstants.{GREATEST_QUANTITY, MOST_BIDDERS, MOST_BIDS}
 use Rattle.auction_terms.specs.declared.record_kinds.RecordKind.TheVariants as kind
 use Rattle.auction_terms.specs.declared.record_kinds.Version.{Version}
-use Rattle.auction_terms.specs.declared.rules_text.RulesFault.{RulesFault}
 use Rattle.auction_terms.specs.declared.rules_text.RulesFault.TheVariants as rules_fault
 use Rattle.bid_desk.specs.Closing.{bids_in}
 use Rattle.bid_forms.specs.FormText.{bid_checks, bid_fault, bid_told, bidder_told, form_of_records}
 use Rattle.bid_forms.specs.Offers.{Offers, eligibility_of}
-use Rattle.bid_forms.specs.declared.form_text.FormFault.{FormFault}
 use Rattle.bid_forms.specs.declared.form_text.FormFault.TheVariants as form_fault
 use Rattle.auction_input.specs.BookLeft.{sale_left}
-use Rattle.auction_terms.specs.Stages.{each_in_turn, unless}
+use Rattle.auction_terms.specs.Stages.{each_in_turn}
 use Rattle.auction_input.specs.Submissions.{forms_of}
 use Rattle.auction_input.specs.TextsTold.{form_told, terms_told}
-use Rattle.auction_input.proofs.AnswerFacts.{ok-behind, ok-is, ok-refused_as}
-use Rattle.auction_input.proofs.RecordFacts.{few-of-kind, neither, none-failed, rules-told}
+use Rattle.auction_input.proofs.AnswerFacts.{ok-behind, ok-is, ok-refused_as, unless-ok}
+use Rattle.auction_input.proofs.RecordFacts.{few-of-kind, kind-checks-hold, neither, none-failed, rules-told}
 
 -- ---- rules
 
 -- behind records of bidders there is room for the one that has no fault
 bidder-room : (v : Version) (before : List Record) (r : Record) → record_kind v r ≡ Some kind.Bidder → entry_fault v before r ≡ None → length (of_kind v kind.Bidder before) < MOST_BIDDERS
 bidder-room v before r is free =
-    let place = length before + 2 in
-    let here : List (Bool × RulesFault) = (length r == rules_text.field_count v, rules_fault.FieldCount place) ∷ rules_text.kind_checks v place (entries_of v before) r kind.Bidder in
-    let none_here : first_failed here ≡ None = rw is at free in
-    let checks = none-failed here none_here in
+    let checks = kind-checks-hold v kind.Bidder before r is free in
     let room : nat_lt (length (map bidder_of (of_kind v kind.Bidder before))) MOST_BIDDERS ≡ true = checks.1.1.1.1.1.0 in
     let below = ltb-true _ _ room in
     let count = length-map (of_kind v kind.Bidder before) bidder_of in
@@ -62,17 +55,13 @@ small : (quantities : List ℕ) → list_all (λ (quantity : ℕ). nat_le quanti
 small [] are = tt
 small (n ∷ quantities) are = (let parts = and_parts _ _ are in (leb-true n GREATEST_QUANTITY parts.0, small quantities parts.1))
 
-length-drop-one : {X : Type 0} (xs : List X) (n : ℕ) → length xs ≡ n + 1 → length (drop 1 xs) ≡ n
-length-drop-one [] n is = absurd (omega arith)
-length-drop-one (x ∷ xs) n is = omega arith
-
 -- a record without a fault tells a bid within the limits, and there is room for it
 bid-within : (t : Terms) (eligibility place : ℕ) (before : List Bid) (r : Record) → first_failed (bid_checks t eligibility place before r) ≡ None
     → IsBid (lots_in t) (bid_told r) × (length before < MOST_BIDS)
 bid-within t eligibility place before r free =
     let checks = none-failed (bid_checks t eligibility place before r) free in
     let wide = eqb-true (length r) (length t.categories + 1) checks.0 in
-    let fields = length-drop-one r (length t.categories) wide in
+    let fields : length (drop 1 r) ≡ length t.categories = (let cut = length-drop 1 r in omega arith) in
     let sized : length (bid_told r).package ≡ length (lots_in t).supply = length-map (drop 1 r) _ ∙ fields ∙ sym (length-map t.categories _) in
     let most = and_parts _ _ checks.1.1.0 in (
       record { sized = sized; quantities = small (bid_told r).package checks.1.1.1.1.1.0; amount = leb-true _ _ most.1 },
@@ -92,20 +81,16 @@ bids-within t eligibility before (r ∷ more) none few =
     let rest = bids-within t eligibility (before ++ r ∷ []) more parts.1 (omega arith) in
     (subst (λ (rs : List Record). length rs ≤ MOST_BIDS) (append_assoc before (r ∷ []) more) rest.0, (bid.0, rest.1))
 
-form-or : (o : Option FormFault) (answer : Result Offers FormFault) (form : Offers) → unless o answer ≡ Ok form → (o ≡ None) × (answer ≡ Ok form)
-form-or None answer form told = (refl, told)
-form-or (Some f) answer form told = cc
-
 form-within : (t : Terms) (records : List Record) (form : Offers) → form_of_records t records ≡ Ok form → IsWithin (lots_in t) form
 form-within t [] form told = cc
 form-within t (header ∷ more) form told =
     let first = ok-behind (bidder_told t header) _ form told in
     let eligibility = eligibility_of t first.0 in
-    let second = form-or (first_fault (bid_fault t eligibility) [] more) _ form first.2 in
+    let made : Offers = record { bidder = first.0; bids = map bid_told more } in
+    let second = unless-ok (first_fault (bid_fault t eligibility) [] more) made form first.2 in
     let within = bids-within t eligibility [] more second.0 (omega arith) in
     let count = length-map more bid_told in
-    let made : Offers = record { bidder = first.0; bids = map bid_told more } in
-    subst (λ (o : Offers). IsWithin (lots_in t) o) (ok-is _ made form refl second.1) (omega arith, within.1)
+    subst (λ (o : Offers). IsWithin (lots_in t) o) second.1 (omega arith, within.1)
 
 -- ---- what an input tells
 
@@ -138,31 +123,23 @@ last-within : (lots : Lots) (bidder : ℕ) (before : Option Offers) (forms : Lis
     → BidsWithin lots (bids_in (last_or before (filter (λ (form : Offers). form.bidder == bidder) forms)))
 last-within lots bidder before [] so_far within = so_far
 last-within lots bidder before (form ∷ forms) so_far within =
-    by (form.bidder == bidder) refl (last-within lots bidder (Some form) forms within.0 within.1) (last-within lots bidder before forms so_far within.1)
-  where
-    by : (b : Bool) → (form.bidder == bidder) ≡ b
-        → BidsWithin lots (bids_in (last_or (Some form) (filter (λ (f : Offers). f.bidder == bidder) forms)))
-        → BidsWithin lots (bids_in (last_or before (filter (λ (f : Offers). f.bidder == bidder) forms)))
-        → BidsWithin lots (bids_in (last_or before (filter (λ (f : Offers). f.bidder == bidder) (form ∷ forms))))
-    by true is here left = rw is here
-    by false is here left = rw is left
+    elim (cases_Bool (form.bidder == bidder)) [
+      | inl is ↦ rw is (last-within lots bidder (Some form) forms within.0 within.1)
+      | inr is ↦ rw is (last-within lots bidder before forms so_far within.1)
+    ]
 
-each-few : (lots : Lots) (forms : List Offers) → AllByRecursion (IsWithin lots) forms → (a n : ℕ)
-    → AllByRecursion (λ form. length form ≤ MOST_BIDS) (map (λ bidder. bids_in (last_or None (forms_of bidder forms))) (range_with_len a n))
-each-few lots forms within a zero = tt
-each-few lots forms within a (suc n) = ((last-within lots a None forms (omega arith, tt) within).0, each-few lots forms within (a + 1) n)
-
-each-bids : (lots : Lots) (forms : List Offers) → AllByRecursion (IsWithin lots) forms → (a n : ℕ)
-    → AllByRecursion (λ form. AllByRecursion (IsBid lots) form) (map (λ bidder. bids_in (last_or None (forms_of bidder forms))) (range_with_len a n))
-each-bids lots forms within a zero = tt
-each-bids lots forms within a (suc n) = ((last-within lots a None forms (omega arith, tt) within).1, each-bids lots forms within (a + 1) n)
+in-each : {X : Type 0} (P : X → Type 0) (f : ℕ → X) → ((b : ℕ) → P (f b)) → (a n : ℕ) → AllByRecursion P (map f (range_with_len a n))
+in-each P f has a zero = tt
+in-each P f has a (suc n) = (has a, in-each P f has (a + 1) n)
 
 -- the book that forms leave
 pub book-within : (t : Terms) (forms : List Offers) → length t.bidders ≤ MOST_BIDDERS → AllByRecursion (IsWithin (lots_in t)) forms → IsBook (lots_in t) (sale_left t forms).book
 book-within t forms few within =
-    let count = length-map-range_with_len (λ bidder. bids_in (last_or None (forms_of bidder forms))) 1 (length t.bidders) in
+    let bids_of = λ (bidder : ℕ). bids_in (last_or None (forms_of bidder forms)) in
+    let each : (b : ℕ) → BidsWithin (lots_in t) (bids_of b) = λ b. last-within (lots_in t) b None forms (omega arith, tt) within in
+    let count = length-map-range_with_len bids_of 1 (length t.bidders) in
     record {
       bidders = omega arith;
-      forms = each-few (lots_in t) forms within 1 (length t.bidders);
-      bids = each-bids (lots_in t) forms within 1 (length t.bidders);
+      forms = in-each (λ form. length form ≤ MOST_BIDS) bids_of (λ b. (each b).0) 1 (length t.bidders);
+      bids = in-each (λ form. AllByRecursion (IsBid (lots_in t)) form) bids_of (λ b. (each b).1) 1 (length t.bidders);
     }

@@ -1,15 +1,13 @@
 -- The lots that an input tells are within the limits.
-use Rattle.std.proofs.Common.{◌≡◌, ◌≤◌, ◌<◌, ◌+◌, ◌==◌, ◌∷◌, [], ℕ, Bool, true, false, List, None, Some, Ok, arith, leb-true, length, map, refl}
-use Rattle.std.specs.Prelude.{find, nat_le, nat_lt}
+use Rattle.std.proofs.Common.{◌≡◌, ◌≤◌, ◌<◌, ◌∷◌, [], ℕ, Bool, true, List, None, Some, Ok, arith, leb-true, length, map, find, nat_le, nat_lt, inl, inr}
 use Rattle.std.specs.List.{AllByRecursion, list_all}
 use Rattle.std.specs.Option.{option_map_or}
-use Rattle.std.proofs.lemmas.Bool.{and_parts, ltb-true}
+use Rattle.std.proofs.lemmas.Bool.{and_parts, cases_Bool, ltb-true}
 use Rattle.std.proofs.lemmas.List.{length-map}
 use Rattle.auction_terms.specs.Entries.{is_member_of, pool_with, terms_of}
-use Rattle.auction_terms.specs.FirstFault.{first_failed, first_fault}
+use Rattle.auction_terms.specs.FirstFault.{first_fault}
 use Rattle.auction_terms.specs.Limits.{IsLots, IsWeightedCap}
 use Rattle.auction_terms.specs.Records.{Record}
-use Rattle.auction_terms.specs.RulesText as rules_text
 use Rattle.auction_terms.specs.RulesText.{category_of, entries_of, entry_fault, field_number, is_between, number_told, entry_numbers, of_kind, record_kind, value_text}
 use Rattle.auction_terms.specs.inside.RulesText.{member_of, pool_of}
 use Rattle.auction_terms.specs.Terms.{Terms, lots_in}
@@ -19,12 +17,11 @@ use Rattle.auction_terms.specs.declared.record_kinds.RecordKind.TheVariants as k
 use Rattle.auction_terms.specs.declared.record_kinds.Version.{Version}
 use Rattle.auction_terms.specs.declared.rules.Category.{Category}
 use Rattle.auction_terms.specs.declared.draft.Member.{Member}
-use Rattle.auction_terms.specs.declared.rules_text.RulesFault.{RulesFault}
 use Rattle.auction_terms.specs.declared.rules_text.RulesFault.TheVariants as rules_fault
 use Rattle.auction_input.specs.TextsTold.{terms_told}
 use Rattle.auction_input.proofs.AnswerFacts.{ok-refused_as}
 use Rattle.auction_input.proofs.LimitFacts.{unless-large}
-use Rattle.auction_input.proofs.RecordFacts.{each-of-kind, few-of-kind, none-failed, rules-told}
+use Rattle.auction_input.proofs.RecordFacts.{each-of-kind, few-of-kind, kind-checks-hold, rules-told}
 
 -- ---- a record without a fault
 
@@ -42,10 +39,7 @@ record IsCategoryRecord (v : Version) (r : Record) : Type 0 where
 category-checks : (v : Version) (before : List Record) (r : Record) → record_kind v r ≡ Some kind.Category → entry_fault v before r ≡ None
     → IsCategoryRecord v r × (length (of_kind v kind.Category before) < MOST_CATEGORIES)
 category-checks v before r is free =
-    let place = length before + 2 in
-    let here : List (Bool × RulesFault) = (length r == rules_text.field_count v, rules_fault.FieldCount place) ∷ rules_text.kind_checks v place (entries_of v before) r kind.Category in
-    let none_here : first_failed here ≡ None = rw is at free in
-    let checks = none-failed here none_here in
+    let checks = kind-checks-hold v kind.Category before r is free in
     let ranges = in-range (entry_numbers v r kind.Category) checks.1.1.1.0 in
     let room : nat_lt (length (map (category_of v) (of_kind v kind.Category before))) MOST_CATEGORIES ≡ true = checks.1.1.1.1.1.0 in
     let below = ltb-true _ _ room in
@@ -57,10 +51,7 @@ category-checks v before r is free =
 pool-checks : (v : Version) (before : List Record) (r : Record) → record_kind v r ≡ Some kind.Pool → entry_fault v before r ≡ None
     → (field_number 3 r ≤ GREATEST_AMOUNT) × (length (of_kind v kind.Pool before) < MOST_POOLS)
 pool-checks v before r is free =
-    let place = length before + 2 in
-    let here : List (Bool × RulesFault) = (length r == rules_text.field_count v, rules_fault.FieldCount place) ∷ rules_text.kind_checks v place (entries_of v before) r kind.Pool in
-    let none_here : first_failed here ≡ None = rw is at free in
-    let checks = none-failed here none_here in
+    let checks = kind-checks-hold v kind.Pool before r is free in
     let ranges = in-range (entry_numbers v r kind.Pool) checks.1.1.1.0 in
     let room : nat_lt (length (map pool_of (of_kind v kind.Pool before))) MOST_POOLS ≡ true = checks.1.1.1.1.1.0 in
     let below = ltb-true _ _ room in
@@ -69,34 +60,19 @@ pool-checks v before r is free =
 
 member-checks : (v : Version) (before : List Record) (r : Record) → record_kind v r ≡ Some kind.Member → entry_fault v before r ≡ None → field_number 4 r ≤ GREATEST_WEIGHT
 member-checks v before r is free =
-    let place = length before + 2 in
-    let here : List (Bool × RulesFault) = (length r == rules_text.field_count v, rules_fault.FieldCount place) ∷ rules_text.kind_checks v place (entries_of v before) r kind.Member in
-    let none_here : first_failed here ≡ None = rw is at free in
-    let checks = none-failed here none_here in
-    (in-range (entry_numbers v r kind.Member) checks.1.1.1.0).0
+    (in-range (entry_numbers v r kind.Member) (kind-checks-hold v kind.Member before r is free).1.1.1.0).0
 
 -- ---- what records without a fault make
 
-small-supplies : (v : Version) (records : List Record) → AllByRecursion (IsCategoryRecord v) records → AllByRecursion (λ n. n ≤ GREATEST_QUANTITY) (map (λ (category : Category). category.supply) (map (category_of v) records))
-small-supplies v [] h = tt
-small-supplies v (r ∷ records) h = (h.0.supply, small-supplies v records h.1)
-
-small-values : (v : Version) (records : List Record) → AllByRecursion (IsCategoryRecord v) records → AllByRecursion (λ n. n ≤ GREATEST_VALUE) (map (λ (category : Category). category.value) (map (category_of v) records))
-small-values v [] h = tt
-small-values v (r ∷ records) h = (h.0.value, small-values v records h.1)
-
-small-weights : (records : List Record) → AllByRecursion (λ r. field_number 4 r ≤ GREATEST_WEIGHT) records → AllByRecursion (λ (member : Member). member.weight ≤ GREATEST_WEIGHT) (map member_of records)
-small-weights [] h = tt
-small-weights (r ∷ records) h = (h.0, small-weights records h.1)
+-- what holds of each element holds of each value that is made of one
+each-made : {X Y : Type 0} (P : X → Type 0) (Q : Y → Type 0) (f : X → Y) → ((x : X) → P x → Q (f x)) → (xs : List X) → AllByRecursion P xs → AllByRecursion Q (map f xs)
+each-made P Q f made [] h = tt
+each-made P Q f made (x ∷ xs) h = (made x h.0, each-made P Q f made xs h.1)
 
 -- the weight of a category that a member names, and of one that none does
 weight-in : (test : Member → Bool) (members : List Member) → AllByRecursion (λ (member : Member). member.weight ≤ GREATEST_WEIGHT) members → option_map_or (λ (member : Member). member.weight) (find test members) 0 ≤ GREATEST_WEIGHT
 weight-in test [] h = omega arith
-weight-in test (member ∷ members) h = by (test member) refl (weight-in test members h.1)
-  where
-    by : (b : Bool) → test member ≡ b → option_map_or (λ (m : Member). m.weight) (find test members) 0 ≤ GREATEST_WEIGHT → option_map_or (λ (m : Member). m.weight) (find test (member ∷ members)) 0 ≤ GREATEST_WEIGHT
-    by true is rest = rw is h.0
-    by false is rest = rw is rest
+weight-in test (member ∷ members) h = elim (cases_Bool (test member)) [ inl is ↦ rw is h.0 | inr is ↦ rw is (weight-in test members h.1) ]
 
 weights-in : (members : List Member) (pool : List ℕ) (categories : List Category) → AllByRecursion (λ (member : Member). member.weight ≤ GREATEST_WEIGHT) members → AllByRecursion (λ n. n ≤ GREATEST_WEIGHT) (map (λ (category : Category). option_map_or (λ (member : Member). member.weight) (find (is_member_of pool category.name) members) 0) categories)
 weights-in members pool [] h = tt
@@ -115,7 +91,7 @@ made-lots v more none step =
     let few_pools = few-of-kind v kind.Pool MOST_POOLS (λ before r is free. (pool-checks v before r is free).1) [] more none (omega arith) in
     let each = each-of-kind v kind.Category (IsCategoryRecord v) (λ before r is free. (category-checks v before r is free).0) [] more none in
     let caps = each-of-kind v kind.Pool (λ r. field_number 3 r ≤ GREATEST_AMOUNT) (λ before r is free. (pool-checks v before r is free).0) [] more none in
-    let weights = small-weights (of_kind v kind.Member more) (each-of-kind v kind.Member (λ r. field_number 4 r ≤ GREATEST_WEIGHT) (member-checks v) [] more none) in
+    let weights = each-made _ (λ (member : Member). member.weight ≤ GREATEST_WEIGHT) member_of (λ r h. h) _ (each-of-kind v kind.Member (λ r. field_number 4 r ≤ GREATEST_WEIGHT) (member-checks v) [] more none) in
     let told = length-map categories (category_of v) in
     let count = length-map (map (category_of v) categories) (λ (category : Category). category.supply) in
     let told_pools = length-map pools pool_of in
@@ -123,8 +99,8 @@ made-lots v more none step =
     let pool_count = length-map (terms_of step (entries_of v more)).pools cap_of in
     record {
       categories = omega arith;
-      supplies = small-supplies v categories each;
-      values = small-values v categories each;
+      supplies = each-made _ _ (λ (category : Category). category.supply) (λ _ h. h) _ (each-made _ (λ (category : Category). category.supply ≤ GREATEST_QUANTITY) (category_of v) (λ r h. h.supply) categories each);
+      values = each-made _ _ (λ (category : Category). category.value) (λ _ h. h) _ (each-made _ (λ (category : Category). category.value ≤ GREATEST_VALUE) (category_of v) (λ r h. h.value) categories each);
       few_pools = omega arith;
       pools = small-pools (entries_of v more).categories (entries_of v more).members weights pools caps;
     }

@@ -1,11 +1,11 @@
 -- The first line of a text, and what is before the next part.
-use Rattle.std.proofs.Common.{◌≡◌, ◌≤◌, ◌<◌, ◌+◌, ◌∷◌, ◌++◌, ◌∙◌, Bool, true, false, ℕ, zero, suc, List, [], drop, take, length, refl, ap, subst, sym, arith, ◌⊎◌, inl, inr}
-use Rattle.std.specs.Prelude.{◌==◌, ◌||◌, IfOk, Option, None, Some, Result, Ok, Err, Vec, count_by, filter, find, map, slice_index}
+use Rattle.std.proofs.Common.{◌≡◌, ◌≤◌, ◌<◌, ◌+◌, ◌∷◌, ◌++◌, ◌∙◌, Bool, true, false, ℕ, zero, suc, List, [], drop, take, length, refl, ap, subst, sym, arith, ◌⊎◌, inl, inr, ◌==◌, ◌||◌, IfOk, Option, None, Some, Result, Ok, Err, Vec, count_by, filter, find, map, slice_index, Global, Bor, bytes_eq}
 use Rattle.auction_terms.specs.FirstFault.{first_fault}
 use Rattle.auction_input.specs.declared.parts.PartFault.TheVariants as fault
 use Rattle.std.proofs.lemmas.Bool.Decides.{Decides-eqb}
+use Rattle.std.proofs.lemmas.Bool.{cases_Bool, ne_eqb}
 use Rattle.auction_terms.specs.Lines.{is_line_feed}
-use Rattle.std.proofs.lemmas.List.{length-map, map-append}
+use Rattle.std.proofs.lemmas.List.{length-map, map-append, nil_from_length}
 use Rattle.std.proofs.lemmas.List.Sums.{length-filter}
 use Rattle.auction_input.specs.declared.part_kind.PartKind.{PartKind}
 use Rattle.requests.specs.declared.request.Request.TheVariants as request
@@ -17,10 +17,7 @@ use Rattle.auction_input.specs.inside.Parts.{is_held, kind_named, known_kinds, p
 use Rattle.auction_input.specs.declared.parts.Part as declared
 use Rattle.auction_terms.specs.Borrowed.{bytes_of}
 use Rattle.std.specs.Option.{option_map_or}
-use Rattle.std.specs.declared.alloc.Global.{Global}
-use denote.Ref.{Bor}
 use Rattle.std.specs.List.{list_any}
-use Rattle.std.specs.Str.{bytes_eq}
 use Rattle.std.proofs.lemmas.Slice.Eq.{bytes_eq-Decides}
 
 -- a text with a line feed, none before it
@@ -41,13 +38,6 @@ cut-none (b ∷ c ∷ rest) some none =
     let first : is_line_feed b ≡ false = none 0 (omega arith) in
     let later = cut-none (c ∷ rest) (omega arith) (λ k h. none (suc k) (omega arith)) in
     rw (first, later) refl
-
-not-percent : (b : ℕ) → (b ≡ 37 → ⊥) → (b == 37) ≡ false
-not-percent b differs = by (b == 37) refl
-  where
-    by : (t : Bool) → (b == 37) ≡ t → t ≡ false
-    by true h = absurd (differs ((Decides-eqb b 37).0 h))
-    by false h = refl
 
 -- the byte at a place that begins the rest
 pub heads-at : (text : List ℕ) (end : ℕ) → end < length text → slice_index text end ≡ 37 → heads_part (drop end text) ≡ true
@@ -86,35 +76,28 @@ module _ (name : List ℕ) where
 
   named-in : (ks : List PartKind) → NamedIn (map name_of ks) (find is_named ks)
   named-in [] = refl
-  named-in (k ∷ ks) = by (is_named k) refl (named-in ks)
-    where
-      by : (t : Bool) → is_named k ≡ t → NamedIn (map name_of ks) (find is_named ks) → NamedIn (map name_of (k ∷ ks)) (find is_named (k ∷ ks))
-      by true is rest = rw is ((bytes_eq-Decides name (name_of k)).0 is, ap (λ (t : Bool). t || list_any (bytes_eq name) (map name_of ks)) is)
-      by false is rest = rw is (behind (name_of k) (map name_of ks) (find is_named ks) is rest)
+  named-in (k ∷ ks) = elim (cases_Bool (is_named k)) [
+    | inl is ↦ rw is ((bytes_eq-Decides name (name_of k)).0 is, ap (λ (t : Bool). t || list_any (bytes_eq name) (map name_of ks)) is)
+    | inr is ↦ rw is (behind (name_of k) (map name_of ks) (find is_named ks) is (named-in ks))
+  ]
 
   names-known : (asked : Request) → part_names asked ≡ map name_of (known_kinds asked)
   names-known (request.Verify workers) = refl
   names-known (request.Explain bids) = refl
   names-known asked = refl
 
-  named-so : (asked : Request) (found : Option PartKind) → kind_named asked name ≡ found → NamedIn (part_names asked) found
+  pub named-so : (asked : Request) (found : Option PartKind) → kind_named asked name ≡ found → NamedIn (part_names asked) found
   named-so asked found is = rw (names-known asked) (subst (NamedIn (map name_of (known_kinds asked))) is (named-in (known_kinds asked)))
-
-  pub name-told : (asked : Request) (k : PartKind) → kind_named asked name ≡ Some k → (name ≡ name_of k) × (list_any (bytes_eq name) (part_names asked) ≡ true)
-  name-told asked k is = named-so asked (Some k) is
-
-  pub no-name-told : (asked : Request) → kind_named asked name ≡ None → list_any (bytes_eq name) (part_names asked) ≡ false
-  no-name-told asked is = named-so asked None is
 
 -- ---- parts, by their names
 
 -- a part of a kind that is told
 pub known-part : (asked : Request) (before : List Part) (p : Part) (k : PartKind) → kind_named asked p.name ≡ Some k → part_fault asked before p ≡ None
-known-part asked before p k is = rw (name-told p.name asked k is).1 refl
+known-part asked before p k is = rw (named-so p.name asked (Some k) is).1 refl
 
 -- a part of no known kind
 pub unknown-part : (asked : Request) (before : List Part) (p : Part) → kind_named asked p.name ≡ None → part_fault asked before p ≡ Some (fault.PartName (length before + 1))
-unknown-part asked before p is = rw (no-name-told p.name asked is) refl
+unknown-part asked before p is = rw (named-so p.name asked None is) refl
 
 abbrev held_part : declared.Part → Part
 held_part p = record { name = name_of p.kind; bytes = p.bytes.now }
@@ -127,7 +110,7 @@ pub held-more : (old new : List declared.Part) (asked : Request) (name : List �
     → parts_held new ≡ parts_held old ++ so_named part.bytes.now name ∷ []
 held-more old new asked name part told grown =
     ap parts_held grown ∙ map-append held_part old (part ∷ [])
-    ∙ ap (λ (n : List ℕ). parts_held old ++ so_named part.bytes.now n ∷ []) (sym (name-told name asked part.kind told).0)
+    ∙ ap (λ (n : List ℕ). parts_held old ++ so_named part.bytes.now n ∷ []) (sym (named-so name asked (Some part.kind) told).0)
 
 module _ (k : PartKind) where
   abbrev held_named : List declared.Part → List (List ℕ)
@@ -139,11 +122,10 @@ module _ (k : PartKind) where
   -- what is held of a kind are the parts of its name
   pub texts_held : (held : List declared.Part) → bytes_held held ≡ held_named held
   texts_held [] = refl
-  texts_held (part ∷ held) = by (is_held k part) refl (texts_held held)
-    where
-      by : (t : Bool) → is_held k part ≡ t → bytes_held held ≡ held_named held → bytes_held (part ∷ held) ≡ held_named (part ∷ held)
-      by true is rest = rw is (ap (λ (xs : List (List ℕ)). part.bytes.now ∷ xs) rest)
-      by false is rest = rw is rest
+  texts_held (part ∷ held) = elim (cases_Bool (is_held k part)) [
+    | inl is ↦ rw is (ap (λ (xs : List (List ℕ)). part.bytes.now ∷ xs) (texts_held held))
+    | inr is ↦ rw is (texts_held held)
+  ]
 
   pub count_held : (held : List declared.Part) → count_by (is_held k) held ≡ length (held_named held)
   count_held held =
@@ -157,12 +139,10 @@ module _ (k : PartKind) where
 
   pub first_held : (held : List declared.Part) (found : Option declared.Part) → find (is_held k) held ≡ found → option_map_or (λ (part : declared.Part). part.bytes.now) found [] ≡ only_text (held_named held)
   first_held [] found is = ap (λ (o : Option declared.Part). option_map_or (λ (part : declared.Part). part.bytes.now) o []) (sym is)
-  first_held (part ∷ held) found is = by (is_held k part) refl (first_held held found)
-    where
-      by : (t : Bool) → is_held k part ≡ t → (find (is_held k) held ≡ found → option_map_or (λ (p : declared.Part). p.bytes.now) found [] ≡ only_text (held_named held))
-          → option_map_or (λ (p : declared.Part). p.bytes.now) found [] ≡ only_text (held_named (part ∷ held))
-      by true here rest = rw here (ap (λ (o : Option declared.Part). option_map_or (λ (p : declared.Part). p.bytes.now) o []) (sym (rw here at is)))
-      by false other rest = rw other (rest (rw other at is))
+  first_held (part ∷ held) found is = elim (cases_Bool (is_held k part)) [
+    | inl here ↦ rw here (ap (λ (o : Option declared.Part). option_map_or (λ (p : declared.Part). p.bytes.now) o []) (sym (rw here at is)))
+    | inr other ↦ rw other (first_held held found (rw other at is))
+  ]
 
 -- where nothing is before the first part, the first fault is that of a part
 pub fault-of-parts : (asked : Request) (text : List ℕ) → bytes_before (cut_lines text) ≡ [] → input_fault asked text ≡ first_fault (part_fault asked) [] (parts_in (cut_lines text))
@@ -175,8 +155,7 @@ starts-here (b ∷ text) zero none next = inr (next (omega arith))
 starts-here (b ∷ text) (suc n) none next = absurd (omega arith)
 
 pub none-left : (xs : List ℕ) → (length xs == 0) ≡ true → xs ≡ []
-none-left [] is = refl
-none-left (x ∷ xs) is = (let e : length (x ∷ xs) ≡ 0 = (Decides-eqb (length (x ∷ xs)) 0).0 is in absurd (omega arith))
+none-left xs is = nil_from_length xs ((Decides-eqb (length xs) 0).0 is)
 
 -- the first of the lines
 abbrev pub first_line : List (List ℕ) → List ℕ
@@ -199,11 +178,7 @@ onto-rest b (line ∷ more) = refl
 -- the first line of a text begins as the text does
 starts-alike : (text : List ℕ) → heads_part (first_line (cut_lines text)) ≡ heads_part text
 starts-alike [] = refl
-starts-alike (b ∷ rest) = by (is_line_feed b) refl
-  where
-    by : (t : Bool) → is_line_feed b ≡ t → heads_part (first_line (cut_lines (b ∷ rest))) ≡ heads_part (b ∷ rest)
-    by true is = rw is refl
-    by false is = rw is (ap heads_part (onto-first b (cut_lines rest)))
+starts-alike (b ∷ rest) = elim (cases_Bool (is_line_feed b)) [ inl is ↦ rw is refl | inr is ↦ rw is (ap heads_part (onto-first b (cut_lines rest))) ]
 
 -- nothing is before a part that begins the text
 none-before : (lines : List (List ℕ)) → heads_part (first_line lines) ≡ true → bytes_before lines ≡ []
@@ -231,17 +206,10 @@ plain-body text n plain (bytes, parts) =
 
 -- with one more byte in front
 body-more : (b : ℕ) (rest : List ℕ) (n : ℕ) → (is_line_feed b ≡ true → heads_part rest ≡ false) → IsBody rest n → IsBody (b ∷ rest) (suc n)
-body-more b rest n plain body = by (is_line_feed b) refl
-  where
-    by : (t : Bool) → is_line_feed b ≡ t → IsBody (b ∷ rest) (suc n)
-    by true is =
-        let before = plain-body rest n (plain is) body in
-        (rw is (ap (λ xs. b ∷ xs) before.0), rw is before.1)
-    by false is =
-        let (bytes, parts) = body in (
-          rw (is, onto-first b (cut_lines rest), onto-rest b (cut_lines rest)) (ap (λ xs. b ∷ xs) bytes),
-          rw (is, onto-rest b (cut_lines rest)) parts,
-        )
+body-more b rest n plain body = elim (cases_Bool (is_line_feed b)) [
+  | inl is ↦ (let before = plain-body rest n (plain is) body in (rw is (ap (λ xs. b ∷ xs) before.0), rw is before.1))
+  | inr is ↦ (rw (is, onto-first b (cut_lines rest), onto-rest b (cut_lines rest)) (ap (λ xs. b ∷ xs) body.0), rw (is, onto-rest b (cut_lines rest)) body.1)
+]
 
 -- a line feed at a place, and a percent sign after it
 abbrev pub EndsBody : List ℕ → ℕ → Type 0
@@ -249,7 +217,7 @@ EndsBody text k = (suc k < length text) × (slice_index text k ≡ 10) × (slice
 
 plain-after : (b : ℕ) (rest : List ℕ) → (EndsBody (b ∷ rest) 0 → ⊥) → is_line_feed b ≡ true → heads_part rest ≡ false
 plain-after b [] none feed = refl
-plain-after b (c ∷ rest) none feed = not-percent c (λ is. none (omega arith, (Decides-eqb b 10).0 feed, is))
+plain-after b (c ∷ rest) none feed = ne_eqb c 37 (λ is. none (omega arith, (Decides-eqb b 10).0 feed, is))
 
 -- up to the first such place, and that line feed
 body-found : (text : List ℕ) (k : ℕ) → EndsBody text k → ((j : ℕ) → j < k → EndsBody text j → ⊥) → IsBody text (suc k)

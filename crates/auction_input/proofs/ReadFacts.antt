@@ -1,6 +1,5 @@
 -- What reads consume, one behind the other.
-use Rattle.std.proofs.Common.{◌++◌, ◌∙◌, ℕ, List, Option, Some, None, ap, sym}
-use Rattle.std.proofs.lemmas.List.{append_assoc}
+use Rattle.std.proofs.Common.{◌++◌, ◌∙◌, ℕ, List, Option, Some, None, ap, sym, append_assoc}
 use Rattle.std.specs.Io.KnownBytes.{Consumes}
 
 pub Consumes-then : (a b c : Option (List ℕ)) (xs ys : List ℕ) → Consumes a b xs → Consumes b c ys → Consumes a c (xs ++ ys)

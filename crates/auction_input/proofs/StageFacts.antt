@@ -1,6 +1,5 @@
 -- What stages tell together.
-use Rattle.std.proofs.Common.{◌≡◌, ◌+◌, ◌++◌, ◌∷◌, ◌∙◌, [], ℕ, List, Result, Ok, Err, ap, append_assoc, arith, length, refl, sym, inl, inr}
-use Rattle.std.proofs.lemmas.List.{append-nil}
+use Rattle.std.proofs.Common.{◌≡◌, ◌+◌, ◌++◌, ◌∷◌, ◌∙◌, [], ℕ, List, Result, Ok, Err, ap, append_assoc, arith, length, refl, sym, inl, inr, append-nil}
 use Rattle.auction_input.specs.Refused.{Refuses}
 use Rattle.auction_input.specs.declared.refusal.Refusal.{Refusal}
 use Rattle.auction_terms.specs.Stages.{and_then, each_in_turn}
@@ -37,14 +36,14 @@ module _ {X A E : Type 0} (tell : ℕ → X → Result A E) where
   pub left-first : (items : List X) → IsLeft 1 items [] items
   left-first items = onto-none (each_in_turn tell 1 items)
 
-  onto-more : (told : List A) (y : A) (r : Result (List A) E) → and_then (and_then r (λ more. Ok (y ∷ more))) (λ more. Ok (told ++ more)) ≡ and_then r (λ more. Ok ((told ++ y ∷ []) ++ more))
-  onto-more told y (Ok more) = ap (λ (xs : List A). Ok xs) (sym (append_assoc told (y ∷ []) more))
-  onto-more told y (Err e) = refl
+  onto-all : (told ys : List A) (r : Result (List A) E) → and_then (and_then r (λ zs. Ok (ys ++ zs))) (λ more. Ok (told ++ more)) ≡ and_then r (λ more. Ok ((told ++ ys) ++ more))
+  onto-all told ys (Ok zs) = ap (λ (xs : List A). Ok xs) (sym (append_assoc told ys zs))
+  onto-all told ys (Err e) = refl
 
   pub left-more : (n : ℕ) (items : List X) (told : List A) (x : X) (rest : List X) (y : A) → IsLeft n items told (x ∷ rest) → tell n x ≡ Ok y → IsLeft (n + 1) items (told ++ y ∷ []) rest
   left-more n items told x rest y left tells =
       left ∙ ap (λ (r : Result A E). and_then (and_then r (λ first. and_then (each_in_turn tell (n + 1) rest) (λ more. Ok (first ∷ more)))) (λ more. Ok (told ++ more))) tells
-      ∙ onto-more told y (each_in_turn tell (n + 1) rest)
+      ∙ onto-all told (y ∷ []) (each_in_turn tell (n + 1) rest)
 
   pub left-fault : (n : ℕ) (items : List X) (told : List A) (x : X) (rest : List X) (e : E) → IsLeft n items told (x ∷ rest) → tell n x ≡ Err e → each_in_turn tell 1 items ≡ Err e
   left-fault n items told x rest e left tells =
@@ -66,10 +65,6 @@ module _ {X A E : Type 0} (tell : ℕ → X → Result A E) where
   each-apart n m (x ∷ front) back count =
       ap (λ (r : Result (List A) E). and_then (tell n x) (λ y. and_then r (λ more. Ok (y ∷ more)))) (each-apart (n + 1) m front back (omega arith))
       ∙ apart (tell n x) (each_in_turn tell (n + 1) front) (each_in_turn tell m back)
-
-  onto-all : (told ys : List A) (r : Result (List A) E) → and_then (and_then r (λ zs. Ok (ys ++ zs))) (λ more. Ok (told ++ more)) ≡ and_then r (λ more. Ok ((told ++ ys) ++ more))
-  onto-all told ys (Ok zs) = ap (λ (xs : List A). Ok xs) (sym (append_assoc told ys zs))
-  onto-all told ys (Err e) = refl
 
   -- the next items tell their values
   pub left-stage : (n m : ℕ) (items : List X) (told : List A) (stage rest : List X) (ys : List A) → n + length stage ≡ m → IsLeft n items told (stage ++ rest) → each_in_turn tell n stage ≡ Ok ys

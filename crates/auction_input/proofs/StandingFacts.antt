@@ -1,9 +1,7 @@
 -- What stands of a bidder whose first session submitted its forms, where no other session made a call.
-use Rattle.std.proofs.Common.{◌≡◌, ◌≢◌, ◌≤◌, ◌-◌, ◌==◌, ◌&&◌, ◌∷◌, ◌∙◌, [], ℕ, Bool, true, false, List, ap, ap₂, arith, cond, length, map, refl, subst, suc, sym}
-use Rattle.std.specs.Prelude.{All, Err, IfOk, None, Ok, Result, Option, Some, count_by, filter}
+use Rattle.std.proofs.Common.{◌≡◌, ◌≢◌, ◌≤◌, ◌-◌, ◌==◌, ◌&&◌, ◌∷◌, ◌∙◌, [], ℕ, Bool, true, false, List, ap, ap₂, arith, cond, length, map, refl, subst, suc, sym, All, Err, IfOk, None, Ok, Result, Option, Some, count_by, filter, option_and_then, option_map, Global, Vec, inl, inr}
 use Rattle.std.specs.List.{last_or}
-use Rattle.std.specs.Option.{option_and_then, option_map}
-use Rattle.std.proofs.lemmas.Bool.{and_from, and_parts, eq-eqb, eqb-false, eqb-true, false≢true}
+use Rattle.std.proofs.lemmas.Bool.{and_from, and_parts, cases_Bool, eq-eqb, eqb-false, eqb-true, false≢true}
 use Rattle.std.proofs.lemmas.List.{length-map}
 use Rattle.std.proofs.lemmas.List.Elements.{All-filter, All-map, filter_passes}
 use Rattle.std.proofs.lemmas.List.Sums.{length-filter}
@@ -24,9 +22,7 @@ use Rattle.bid_desk.specs.Holding.{ChairOwn, IsCallerOf, SessionOwn}
 use Rattle.bid_desk.specs.Sessions.{IsSessionOf}
 use Rattle.bid_desk.specs.Settlement.{IsSettled, OwnIs, is_named}
 use Rattle.auction_input.specs.Submissions.{AreAccepted, AreSubmitted, forms_of}
-use Rattle.std.specs.declared.alloc.Global.{Global}
 use Rattle.std.specs.declared.sync.Arc.{Arc}
-use Rattle.std.specs.declared.vec.Vec.{Vec}
 use Rattle.auction_input.specs.inside.Submissions.{AreByBidder, HasSubmitted, HaveSubmitted, HoldsLists}
 
 abbrev History : Type 0
@@ -54,15 +50,10 @@ stands-last (e ∷ entries) (f ∷ forms) last form accepted is =
     let left : form_left (Some e) ≡ Some f = ap₂ (λ (c : Call Offers) (r : Reply Offers). option_map (λ (s : Standing Offers). s.form) (left_standing c r)) call reply in
     ap (λ (t : Bool). form_left (last_or last (cond t (e ∷ changes entries) (changes entries)))) change ∙ stands-last entries forms (Some e) (Some f) accepted.1 left
 
--- a list that keeps nothing has nothing to keep
-no-head : {X Y : Type 0} (f : X → Y) (x : X) (xs : List X) (t : Bool) → map f (cond t (x ∷ xs) xs) ≡ [] → (t ≡ false) × (map f xs ≡ [])
-no-head f x xs true none = absurd (cc)
-no-head f x xs false none = (refl, none)
-
 -- a caller with no call made neither the first call nor a later one
 not-own : (e : Entry Offers) (h : History) (c : Caller) → own_pairs (e ∷ h) c ≡ [] → (is_same_caller c e.caller ≡ false) × (own_pairs h c ≡ [])
 unfolding own_pairs
-not-own e h c none = no-head pair_of e (filter (λ (x : Entry Offers). is_same_caller c x.caller) h) (is_same_caller c e.caller) none
+not-own e h c none = elim (cases_Bool (is_same_caller c e.caller)) [ inl is ↦ (let some = rw is at none in absurd (cc)) | inr is ↦ (is, rw is at none) ]
 
 module _ (t : Terms) (b : ℕ) where
   -- a caller of a bidder is its first session, if it is none of the others

@@ -1,16 +1,14 @@
 -- What is kept while forms are put with those of their bidder, and while sessions submit them.
-use Rattle.std.proofs.Common.{◌⊎◌, ◌≡◌, ◌≢◌, ◌+◌, ◌<◌, ◌≤◌, ◌++◌, ◌==◌, ◌∷◌, ◌∙◌, [], List, ℕ, suc, Err, false, true, Ok, ap, append-nil, append_assoc, arith, cond, inl, inr, length, map, refl, subst, sym, take}
-use Rattle.std.specs.Prelude.{All, Any, IfOk, if◌then◌else◌, is_err, is_ok, OnOk, vec_len, Option, Result, slice_index_or, slice_set}
+use Rattle.std.proofs.Common.{◌⊎◌, ◌≡◌, ◌≢◌, ◌+◌, ◌<◌, ◌≤◌, ◌++◌, ◌==◌, ◌∷◌, ◌∙◌, [], List, ℕ, suc, Err, false, true, Ok, ap, append-nil, append_assoc, arith, cond, inl, inr, length, map, refl, subst, sym, take, All, Any, IfOk, if◌then◌else◌, is_err, is_ok, OnOk, vec_len, Option, Result, slice_index_or, slice_set, Global, Vec}
 use Rattle.std.specs.Arc.{arc_value}
 use Rattle.std.specs.List.{AllZip}
 use Rattle.std.proofs.lemmas.Bool.{cases_Bool, eqb-false, eqb-true}
-use Rattle.std.proofs.lemmas.List.{get_or_append_left, get_or-map, length-append, length-take-le, get_or-set_other, get_or-set_same, length-map, map-append, map-set, take_more}
+use Rattle.std.proofs.lemmas.List.{get_or_append_left, get_or-map, length-append, length-take-le, get_or-set_other, get_or-set_same, length-map, map-append, map-set, nil_from_length, take_more}
 use Rattle.std.proofs.lemmas.List.Elements.{All-append, All-cons, All-filter, All-head, All-map, All-nil, All-push, All-rest, All-same, All-tail, All-weaker, filter_passes}
 use Rattle.std.proofs.lemmas.List.Quantifiers.{Any-push}
+use Rattle.std.proofs.lemmas.Slice.Zip.{AllZip-long, all_zipped_more}
 use Rattle.std.proofs.lemmas.List.Sums.{sum_by-le}
-use Rattle.std.specs.declared.alloc.Global.{Global}
 use Rattle.std.specs.declared.sync.Arc.{Arc}
-use Rattle.std.specs.declared.vec.Vec.{Vec}
 use Rattle.auction_terms.specs.Terms.{AreTerms, Terms, session_count}
 use Rattle.auction_terms.specs.declared.rules.Bidder.{Bidder}
 use Rattle.bid_book.specs.declared.call.Call.{Call}
@@ -73,8 +71,7 @@ all-fresh b (bidder ∷ bidders) =
     (All-map (λ (s : SessionOwn). s.pairs ≡ []) (fresh_session b) _ (λ k d l. refl)) (all-fresh (b + 1) bidders)
 
 no-forms : (forms : List Shared) → true ≡ (length forms == 0) → form_values forms ≡ []
-no-forms [] none = refl
-no-forms (f ∷ forms) none = (let zero : length (f ∷ forms) ≡ 0 = eqb-true _ _ (sym none) in absurd (omega arith))
+no-forms forms none = ap form_values (nil_from_length forms (eqb-true _ _ (sym none)))
 
 -- the sessions that are left, once one was taken
 module _ (before after : List SessionOwn) (session : SessionOwn) (taken : before ≡ session ∷ after) (fresh : All (λ (s : SessionOwn). s.pairs ≡ []) before) where
@@ -152,32 +149,10 @@ zip-from-places R [] (y ∷ ys) same each = absurd (omega arith)
 zip-from-places R (x ∷ xs) [] same each = absurd (omega arith)
 zip-from-places R (x ∷ xs) (y ∷ ys) same each = (each 0 x y (omega arith), zip-from-places R xs ys (omega arith) (λ k d e l. each (suc k) d e (omega arith)))
 
--- one more of each
-pub zip-more : {X Y : Type 0} (R : X → Y → Type 0) (xs : List X) (ys : List Y) (x : X) (y : Y) → AllZip R xs ys → R x y → AllZip R (xs ++ x ∷ []) (ys ++ y ∷ [])
-zip-more R [] [] x y each one = (one, tt)
-zip-more R [] (z ∷ ys) x y each one = absurd each
-zip-more R (w ∷ xs) [] x y each one = absurd each
-zip-more R (w ∷ xs) (z ∷ ys) x y each one = (each.0, zip-more R xs ys x y each.1 one)
-
 pub zip-of-vec : {X Y Z E : Type 0} (R : X → Y → Type 0) (xs : List X) (n : ℕ) (result : Result (Vec Y Z) E) → n ≡ length xs → IfOk result (λ v. vec_len v ≡ n)
     → IfOk result (λ v. (k : ℕ) (d : X) (e : Y) → k < length xs → R (slice_index_or xs k d) (slice_index_or v.items k e)) → IfOk result (λ v. AllZip R xs v.items)
 zip-of-vec R xs n (Ok v) size len each = zip-from-places R xs v.items (let same = v.ok.0 in omega arith) each
 zip-of-vec R xs n (Err e) size len each = tt
-
--- one form more was accepted
-pub accepted-more : (forms : List Offers) (pairs : List (Call Offers × Reply Offers)) (form : Offers) (pair : Call Offers × Reply Offers) → AreAccepted forms pairs → IsAccepted form pair
-    → AreAccepted (forms ++ form ∷ []) (pairs ++ pair ∷ [])
-accepted-more [] [] form pair before one = (one, tt)
-accepted-more [] (p ∷ pairs) form pair before one = absurd before
-accepted-more (f ∷ forms) [] form pair before one = absurd before
-accepted-more (f ∷ forms) (p ∷ pairs) form pair before one = (before.0, accepted-more forms pairs form pair before.1 one)
-
--- as many as there are forms
-accepted-length : (forms : List Offers) (pairs : List (Call Offers × Reply Offers)) → AreAccepted forms pairs → length forms ≡ length pairs
-accepted-length [] [] all = refl
-accepted-length [] (p ∷ pairs) all = absurd all
-accepted-length (f ∷ forms) [] all = absurd all
-accepted-length (f ∷ forms) (p ∷ pairs) all = ap suc (accepted-length forms pairs all.1)
 
 -- the last one was accepted
 accepted-last : (forms : List Offers) (pairs : List (Call Offers × Reply Offers)) (pair : Call Offers × Reply Offers) → AreAccepted forms (pairs ++ pair ∷ []) → (number : ℕ) × (pair.1 ≡ Accepted number)
@@ -214,7 +189,7 @@ module _ (forms : List Shared) (k : ℕ) (d : Shared) (small : k < length forms)
       take_more (form_values forms) k (arc_value d) inside ∙ ap (λ (o : Offers). take k (form_values forms) ++ o ∷ []) value-here in
       subst (λ xs. AreAccepted xs own') (sym taken)
       (subst (AreAccepted (take k (form_values forms) ++ form ∷ [])) (sym (recorded other).own_is)
-      (accepted-more (take k (form_values forms)) own form (Submit form over, reply) accepted (over, number, ap (λ (r : Reply Offers). (Submit form over, r)) is)))
+      (all_zipped_more IsAccepted (take k (form_values forms)) own form (Submit form over, reply) accepted (over, number, ap (λ (r : Reply Offers). (Submit form over, r)) is)))
 
   -- the form at a place was not accepted after those before it, and what its session called shows it
   pub unaccepted-here : (before after : Holding) (caller : Caller) (own own' : List (Call Offers × Reply Offers)) (share share' : ℕ) (over : Option ℕ) (reply : Reply Offers)
@@ -222,8 +197,8 @@ module _ (forms : List Shared) (k : ℕ) (d : Shared) (small : k < length forms)
       → (reply ≢ CallLimit → IsRecorded before after caller own own' share share' (Submit (arc_value d) over) reply) → (reply ≡ CallLimit → own' ≡ own)
       → ¬ (AreAccepted (form_values forms) own')
   unaccepted-here before after caller own own' share share' over reply accepted other recorded limit all =
-      let short : length own ≡ length (take k (form_values forms)) = sym (accepted-length (take k (form_values forms)) own accepted) in
-      let long : length (form_values forms) ≡ length own' = accepted-length (form_values forms) own' all in
+      let short : length own ≡ length (take k (form_values forms)) = AllZip-long IsAccepted (take k (form_values forms)) own accepted in
+      let long : length own' ≡ length (form_values forms) = AllZip-long IsAccepted (form_values forms) own' all in
       elim (at-limit reply) [
         | inl is ↦
             (let kept : length own' ≡ length own = ap length (limit is) in absurd (omega (arith, inside, length-take-le k (form_values forms) (omega (arith, inside)))))

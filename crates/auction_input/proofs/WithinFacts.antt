@@ -1,5 +1,5 @@
 -- The auction that an input tells is within the limits.
-use Rattle.std.proofs.Common.{◌≡◌, ℕ, List, Ok, subst}
+use Rattle.std.proofs.Common.{◌≡◌, ℕ, List, Ok, subst, codes}
 use Rattle.auction_terms.specs.Limits.{IsBook, IsLots}
 use Rattle.auction_input.specs.Auction.{Auction, auction_told}
 use Rattle.auction_input.specs.BookLeft.{sale_left}
@@ -7,7 +7,6 @@ use Rattle.auction_input.specs.Parts.{parts_named}
 use Rattle.auction_input.specs.PartsTold.{only_text, parts_told}
 use Rattle.auction_input.specs.TextsTold.{form_told, groups_told, terms_told}
 use Rattle.auction_terms.specs.Stages.{each_in_turn}
-use Rattle.std.specs.Prelude.{codes}
 use Rattle.auction_input.specs.declared.refusal.Refusal.TheVariants as refusal
 use Rattle.requests.specs.declared.request.Request.{Request}
 use Rattle.auction_input.proofs.AnswerFacts.{ok-behind, ok-refused_as, unless-ok}

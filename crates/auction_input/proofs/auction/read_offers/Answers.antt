@@ -1,5 +1,4 @@
-use Rattle.std.proofs.Common.{◌≡◌, ◌∙◌, List, ℕ, Ok, ap, inr, refl, subst}
-use Rattle.std.specs.Prelude.{[], None, Some}
+use Rattle.std.proofs.Common.{◌≡◌, ◌∙◌, List, ℕ, Ok, ap, inr, refl, subst, [], None, Some}
 use Rattle.bid_forms.specs.Offers.{Offers}
 use Rattle.auction_input.specs.Calls.{one_too_many}
 use Rattle.auction_input.specs.Parts.{parts_held}

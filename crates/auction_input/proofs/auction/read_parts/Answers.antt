@@ -1,8 +1,8 @@
-use Rattle.std.proofs.Common.{◌∙◌, sym}
+use Rattle.std.proofs.Common.{◌∙◌, None, Some, inl, sym}
 use Rattle.auction_input.specs.Refused.{Refuses}
 use Rattle.auction_input.specs.PartsTold.{parts_told}
 use Rattle.auction_input.specs.declared.refusal.Refusal.TheVariants as refusal
-use Rattle.auction_input.proofs.AuctionFacts.{parts-are, parts-miscounted, parts-refused}
+use Rattle.auction_input.proofs.AuctionFacts.{counted, parts-refused}
 use Rattle.requests.proofs.StepFacts.{if-err-of}
 use Rattle.auction_input.proofs.auction.read_parts.Goals as goal
 
@@ -13,10 +13,10 @@ returns-in_err-parts-clause-refuses c =
 
 pub returns-in-None-clause-told : goal.returns-in-None-clause-told
 returns-in-None-clause-told c =
-    let counted = rw c.as_slice.ensures.value at c.miscounted.ensures in
-    parts-are c.args.request.now c.args.text.now c.in_ok-parts.parts c.in_ok-parts.ensures (sym counted ∙ c.in-None.is)
+    let count = rw c.as_slice.ensures.value at c.miscounted.ensures in
+    counted c.args.request.now c.args.text.now c.in_ok-parts.parts None c.in_ok-parts.ensures (sym count ∙ c.in-None.is)
 
 pub returns-clause-refuses : goal.returns-clause-refuses
 returns-clause-refuses c =
-    let counted = rw c.as_slice.ensures.value at c.miscounted.ensures in
-    parts-miscounted c.args.request.now c.args.text.now c.in_ok-parts.parts c.in-Some.kind c.in_ok-parts.ensures (sym counted ∙ c.in-Some.is)
+    let count = rw c.as_slice.ensures.value at c.miscounted.ensures in
+    inl (counted c.args.request.now c.args.text.now c.in_ok-parts.parts (Some c.in-Some.kind) c.in_ok-parts.ensures (sym count ∙ c.in-Some.is))

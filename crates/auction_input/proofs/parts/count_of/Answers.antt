@@ -1,6 +1,5 @@
-use Rattle.std.proofs.Common.{◌≡◌, ◌∙◌, rules}
+use Rattle.std.proofs.Common.{◌≡◌, ◌∙◌, rules, count_by}
 use Rattle.std.proofs.iter.runs.Made.{chains}
-use Rattle.std.specs.Prelude.{count_by}
 use Rattle.auction_input.specs.inside.Parts.{is_held}
 use Rattle.auction_input.proofs.PartFacts.{count_held}
 use Rattle.auction_input.proofs.parts.count_of.Goals as goal

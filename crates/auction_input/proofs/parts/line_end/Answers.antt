@@ -1,5 +1,4 @@
-use Rattle.std.proofs.Common.{◌≡◌, [], true, take, drop, length, add-one, refl, arith}
-use Rattle.std.specs.Prelude.{slice_index}
+use Rattle.std.proofs.Common.{◌≡◌, [], true, take, drop, length, add-one, refl, arith, slice_index}
 use Rattle.std.proofs.lemmas.List.{drop_all, take_all}
 use Rattle.auction_terms.specs.Lines.{is_line_feed}
 use Rattle.auction_input.proofs.PartFacts.{cut-at, cut-none}

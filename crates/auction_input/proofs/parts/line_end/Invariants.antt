@@ -1,5 +1,4 @@
-use Rattle.std.proofs.Common.{◌≡◌, ◌<◌, ℕ, false}
-use Rattle.std.specs.Prelude.{slice_index}
+use Rattle.std.proofs.Common.{◌≡◌, ◌<◌, ℕ, false, slice_index}
 use Rattle.auction_terms.specs.Lines.{is_line_feed}
 use Rattle.auction_input.proofs.parts.line_end.Given as goal
 

@@ -1,5 +1,4 @@
-use Rattle.std.proofs.Common.{rules, ◌≡◌, ◌∷◌, [], ◌++◌, ◌+◌, ◌∙◌, List, ap, sym, arith, refl, subst, length, length-append}
-use Rattle.std.specs.Prelude.{None, Some}
+use Rattle.std.proofs.Common.{rules, ◌≡◌, ◌∷◌, [], ◌++◌, ◌+◌, ◌∙◌, List, ap, sym, arith, refl, subst, length, length-append, None, Some}
 use Rattle.std.proofs.lemmas.List.{length-map}
 use Rattle.auction_terms.proofs.FirstFaultFacts.{CheckedSoFar, checked-all, checked-fault, checked-more}
 use Rattle.auction_input.specs.inside.Parts.{kind_named, part_name, part}

@@ -1,6 +1,5 @@
-use Rattle.std.proofs.Common.{◌≡◌, ◌++◌, ap₂, ◌∙◌}
+use Rattle.std.proofs.Common.{◌≡◌, ◌++◌, ap₂, ◌∙◌, take-append-drop}
 use Rattle.std.specs.List.{AllZip}
-use Rattle.std.proofs.lemmas.List.{take-append-drop}
 use Rattle.rayon.proofs.ListFacts.{AllZip-append}
 use Rattle.auction_input.specs.inside.InputTexts.{IsAnswer}
 use Rattle.auction_input.proofs.reading.read_each.Goals as goal

@@ -1,5 +1,4 @@
-use Rattle.std.proofs.Common.{◌≡◌, [], sym, subst}
-use Rattle.std.specs.Prelude.{All}
+use Rattle.std.proofs.Common.{◌≡◌, [], sym, subst, All}
 use Rattle.bid_desk.specs.Holding.{SessionOwn}
 use Rattle.auction_input.proofs.StandingFacts.{round-submitted}
 use Rattle.auction_input.proofs.SubmissionFacts.{all-fresh}

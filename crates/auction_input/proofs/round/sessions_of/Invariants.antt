@@ -1,5 +1,4 @@
-use Rattle.std.proofs.Common.{◌≡◌, ◌++◌, All, Err, Ok, map}
-use Rattle.std.specs.Prelude.{Any}
+use Rattle.std.proofs.Common.{◌≡◌, ◌++◌, All, Err, Ok, map, Any}
 use Rattle.auction_input.specs.declared.round.RoundFault.TheVariants.{WrongAnswer}
 use Rattle.auction_input.proofs.round.sessions_of.Given as goal
 
