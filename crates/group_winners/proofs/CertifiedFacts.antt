@@ -1,11 +1,8 @@
 -- What certificates come to, one after the other.
-use Rattle.std.proofs.Common.{◌≡◌, ◌≢◌, ◌<◌, ◌≤◌, ◌+◌, ◌∷◌, ◌∙◌, [], ⊎_elim, ℕ, zero, suc, true, false, List, Option, Some, Result, Ok, Err, ap, arith, length, map, refl, replicate, slice_index_or, subst, sym, take, inl, inr}
-use Rattle.std.specs.Prelude.{◌==◌, ◌⊎◌, IfErr, OnOk, slice_get, ℤ}
+use Rattle.std.proofs.Common.{◌≡◌, ◌≢◌, ◌<◌, ◌≤◌, ◌+◌, ◌∷◌, ◌∙◌, [], ⊎_elim, ℕ, zero, suc, true, false, List, Option, Some, Result, Ok, Err, ap, arith, length, map, refl, replicate, slice_index_or, subst, sym, take, inl, inr, ◌==◌, ◌⊎◌, IfErr, OnOk, slice_get, ℤ, option_map}
 use Rattle.std.specs.List.{AllZip}
-use Rattle.std.specs.Option.{option_map}
 use Rattle.std.proofs.lemmas.Bool.{cases_lt, eq-eqb, ne_eqb}
 use Rattle.std.proofs.lemmas.List.{get_or_default, length-map}
-use denote.Ref.{Bor}
 use Rattle.auction_terms.specs.declared.choices.Choice.{Choice}
 use Rattle.bid_desk.specs.Closing.{Closing}
 use Rattle.group_compiler.specs.Compiled.{Compiling, compiling, program_without}
@@ -16,11 +13,10 @@ use Rattle.program_rows.specs.Program.{Table}
 use Rattle.program_faults.specs.declared.certificate_fault.CertificateFault.{CertificateFault}
 use Rattle.program_faults.specs.declared.certificate_fault.FaultKind.{FaultKind}
 use Rattle.program_faults.specs.declared.certificate_fault.FaultKind.TheVariants as kind
-use Rattle.group_winners.specs.Certified.{bounds_of, certified, shown}
+use Rattle.group_winners.specs.Certified.{IsTooWide, bounds_of, certified, shown}
 use Rattle.auction_input.specs.Refused.{Refuses}
 use Rattle.auction_input.specs.declared.refusal.Refusal.{Refusal}
 use Rattle.auction_input.specs.Settled.{held}
-use Rattle.group_winners.specs.Certified.{IsTooWide}
 use Rattle.group_winners.specs.inside.Judging.{AllShown, AreFine, IsFirstFaulty, IsJudged, IsJudgedIfBegun, bounds_by, bound_held}
 use Rattle.auction_terms.specs.Borrowed.{bytes_of}
 use Rattle.auction_terms.specs.Stages.{and_then, each_in_turn, unless}
@@ -28,6 +24,7 @@ use Rattle.auction_input.specs.declared.auction.Auction as declared
 use Rattle.group_winners.specs.declared.certified.ClaimedBound as code
 use Rattle.auction_input.specs.declared.part_kind.PartKind.TheVariants as part
 use Rattle.auction_input.specs.declared.refusal.Refusal.TheVariants as refusal
+use Rattle.auction_input.proofs.InputTextFacts.{Text}
 use Rattle.auction_input.proofs.StageFacts.{stop}
 
 abbrev Bound : Type 0
@@ -103,10 +100,6 @@ pub all-checked : (book : Closing) (bounds : List code.ClaimedBound) (r : Result
 all-checked book bounds (Ok u) fine = (replicate (length bounds) tt, all-shown book 1 bounds fine)
 all-checked book bounds (Err r) fine = tt
 
-pub checks-ended : (book : Closing) (bounds : List code.ClaimedBound) (r : Result (Unit {0}) Refusal) → IfErr r (IsFirstFaulty book bounds) → IfErr r (EndsChecks (map (bound_held book) bounds))
-checks-ended book bounds (Ok u) first = tt
-checks-ended book bounds (Err r) first = ends-checks book bounds r first
-
 -- a verdict at its place
 pub verdict-at : (book : Closing) (bounds : List code.ClaimedBound) (verdicts : List (Option Verdict)) (k : ℕ) (b : code.ClaimedBound) (v : Option Verdict) → AllZip (IsJudgedIfBegun book) bounds verdicts → k < length bounds
     → IsJudgedIfBegun book (slice_index_or bounds k b) (slice_index_or verdicts k v)
@@ -114,13 +107,6 @@ verdict-at book [] verdicts k b v each within = absurd (omega arith)
 verdict-at book (x ∷ bounds) [] k b v each within = absurd each
 verdict-at book (x ∷ bounds) (y ∷ verdicts) zero b v each within = each.0
 verdict-at book (x ∷ bounds) (y ∷ verdicts) (suc k) b v each within = verdict-at book bounds verdicts k b v each.1 (omega arith)
-
--- as many places as there are certificates
-pub as-long : (book : Closing) (bounds : List code.ClaimedBound) (verdicts : List (Option Verdict)) → AllZip (IsJudgedIfBegun book) bounds verdicts → length verdicts ≡ length bounds
-as-long book [] [] each = refl
-as-long book [] (y ∷ verdicts) each = absurd each
-as-long book (x ∷ bounds) [] each = absurd each
-as-long book (x ∷ bounds) (y ∷ verdicts) each = ap suc (as-long book bounds verdicts each.1)
 
 -- one more certificate without a fault
 pub fine-more : (book : Closing) (bounds : List code.ClaimedBound) (count : ℕ) (b : code.ClaimedBound) → count < length bounds → b ≡ slice_index_or bounds count b → AreFine book bounds count → IsJudged book b ok → AreFine book bounds (count + 1)
@@ -132,9 +118,6 @@ fine-more book bounds count b within is fine own = λ k d small. ⊎_elim
     (cases_lt k count)
 
 -- ---- the certificates of an auction
-
-abbrev Text : Type 0
-Text = Bor (List ℕ)
 
 module _ (auction : declared.Auction) (won : List (List Choice)) where
   abbrev texts : List (List ℕ)

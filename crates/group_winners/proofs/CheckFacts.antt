@@ -1,6 +1,5 @@
 -- One check, or two in order, before what is told.
-use Rattle.std.proofs.Common.{◌≡◌, ◌∷◌, [], Bool, true, false, Result, Ok, Err, refl}
-use Rattle.std.specs.Prelude.{cond}
+use Rattle.std.proofs.Common.{◌≡◌, ◌∷◌, [], Bool, true, false, Result, Ok, Err, refl, cond}
 use Rattle.auction_terms.specs.FirstFault.{first_failed}
 use Rattle.auction_terms.specs.Stages.{unless}
 use Rattle.auction_input.specs.declared.refusal.Refusal.{Refusal}
@@ -18,17 +17,3 @@ module _ {A : Type 0} (e f : Refusal) where
   when-both true true r x told = (refl, refl, told)
   when-both true false r x told = cc
   when-both false second r x told = cc
-
-  pub first-refuses : (first second : Bool) (r : Result A Refusal) → first ≡ false → checked first second r ≡ Err e
-  first-refuses true second r failed = cc
-  first-refuses false second r failed = refl
-
-  pub second-refuses : (first second : Bool) (r : Result A Refusal) → first ≡ true → second ≡ false → checked first second r ≡ Err f
-  second-refuses true true r passed failed = cc
-  second-refuses true false r passed failed = refl
-  second-refuses false second r passed failed = cc
-
-  pub none-refuses : (first second : Bool) (r : Result A Refusal) → first ≡ true → second ≡ true → checked first second r ≡ r
-  none-refuses true true r passed passed_too = refl
-  none-refuses true false r passed passed_too = cc
-  none-refuses false second r passed passed_too = cc

@@ -1,10 +1,6 @@
 -- What comes of a claim of other outcomes, as the code finds it.
-use Rattle.std.proofs.Common.{◌≡◌, ◌≤◌, ◌+◌, ◌==◌, ◌∷◌, ◌∙◌, [], ℕ, Bool, List, Option, None, Some, Result, Ok, Err, ap, arith, eqb-true, inl, inr, length, refl, subst, sym}
-use Rattle.std.specs.Prelude.{◌⊎◌, ◌<◌, IfErr, IfOk, codes, slice_index, slice_index_or, true}
-use Rattle.std.specs.List.{zip}
-use Rattle.std.specs.Option.{option_map}
+use Rattle.std.proofs.Common.{◌≡◌, ◌≤◌, ◌+◌, ◌==◌, ◌∷◌, ◌∙◌, [], ℕ, Bool, List, Option, None, Some, Result, Ok, Err, ap, arith, eqb-true, inl, inr, length, refl, subst, sym, ◌⊎◌, ◌<◌, IfErr, IfOk, codes, slice_index, slice_index_or, true, zip, option_map}
 use Rattle.std.proofs.lemmas.List.{length-map}
-use denote.Ref.{Bor}
 use Rattle.auction_terms.specs.Borrowed.{bytes_of}
 use Rattle.auction_terms.specs.Groups.{starts_empty}
 use Rattle.auction_terms.specs.Stages.{each_in_turn, refused_as, unless}
@@ -19,6 +15,7 @@ use Rattle.auction_input.specs.declared.part_kind.PartKind.TheVariants as part
 use Rattle.auction_input.specs.declared.refusal.Refusal.TheVariants as refusal
 use Rattle.auction_input.specs.declared.refusal.Refusal.{Refusal}
 use Rattle.auction_input.proofs.AnswerFacts.{ok-behind, ok-is}
+use Rattle.auction_input.proofs.InputTextFacts.{Text}
 use Rattle.auction_input.proofs.StageFacts.{next}
 use Rattle.optimality.specs.Answers.{IsLimit, IsVerdict}
 use Rattle.optimality.specs.Only.{IsLargeOnlyAt, only_fault}
@@ -30,8 +27,8 @@ use Rattle.outcome.specs.Solution.{solution}
 use Rattle.program_faults.specs.declared.solution_fault.SolutionFault.TheVariants as fault
 use Rattle.outcome.specs.declared.uniqueness.Uniqueness.{Uniqueness}
 use Rattle.outcome.specs.declared.uniqueness.Uniqueness.TheVariants as uniqueness
-use Rattle.group_winners.specs.Claimed.{claims_told, first_program, of_tie, only_or_rival, tie_told, tied}
-use Rattle.group_winners.specs.Claimed.{IsTooWideClaim}
+use Rattle.group_winners.specs.Claimed.{IsTooWideClaim, claims_told, first_program, of_tie, only_or_rival, tie_told, tied}
+use Rattle.group_compiler.specs.Compiled.{Compiling, compiling, program_without}
 use Rattle.group_winners.specs.SolutionWinners.{solution_refused, winners_by, winners_of_groups}
 use Rattle.group_winners.specs.inside.Claiming.{IsWonFirst}
 use Rattle.group_winners.specs.inside.SolutionWinners.{winners}
@@ -57,25 +54,34 @@ wins-first auction won told =
     let (some, few, is) = first-of auction.sale 1 auction.groups auction.solutions won starts (eqb-true _ _ count) each in
     (starts, some, few, is)
 
-abbrev Text : Type 0
-Text = Bor (List ℕ)
-
-pub is-won-first : (auction : declared.Auction) (won : List (List Choice)) → winners_of_groups (held auction) ≡ Ok won → IsWonFirst auction (slice_index_or won 0 [])
+is-won-first : (auction : declared.Auction) (won : List (List Choice)) → winners_of_groups (held auction) ≡ Ok won → IsWonFirst auction (slice_index_or won 0 [])
 is-won-first auction won told =
     let (starts, some, few, is) = wins-first (held auction) won told in
     let count = length-map auction.solutions.items (λ (text : Text). text.now) in
     record { starts = starts; some = omega arith; won = is }
 
--- the first of what is won
-pub first-at : (won : List (List Choice)) (first : List Choice) → 1 ≤ length won → first ≡ slice_index_or won 0 first → slice_index_or won 0 [] ≡ first
+first-at : (won : List (List Choice)) (first : List Choice) → 1 ≤ length won → first ≡ slice_index_or won 0 first → slice_index_or won 0 [] ≡ first
 first-at [] first some is = absurd (omega arith)
 first-at (a ∷ won) first some is = sym is
+
+-- the first of what is won
+pub first-won : (auction : Auction) (won : List (List Choice)) (first : List Choice) → winners_of_groups auction ≡ Ok won → first ≡ slice_index_or won 0 first → slice_index_or won 0 [] ≡ first
+first-won auction won first told is = first-at won first (wins-first auction won told).2 is
+
+pub is-first-won : (auction : declared.Auction) (won : List (List Choice)) (first : List Choice) → winners_of_groups (held auction) ≡ Ok won → first ≡ slice_index_or won 0 first → IsWonFirst auction first
+is-first-won auction won first told is = subst (IsWonFirst auction) (first-won (held auction) won first told is) (is-won-first auction won told)
 
 -- nobody is in the first group
 pub first-empty : (groups : List (List ℕ)) → starts_empty groups ≡ true → slice_index_or groups 0 [] ≡ []
 first-empty [] starts = absurd (cc)
 first-empty ([] ∷ groups) starts = refl
 first-empty ((b ∷ group) ∷ groups) starts = (let none : length (b ∷ group) ≡ 0 = eqb-true (length (b ∷ group)) 0 starts in absurd (omega arith))
+
+-- the compiler's program for the first group is the auction's without anybody
+pub first-program : (auction : declared.Auction) (compiler : Compiling) (group : List ℕ) → compiler ≡ compiling auction.book auction.groups → starts_empty auction.groups ≡ true → group ≡ slice_index_or auction.groups 0 []
+    → program_without compiler.book group ≡ program_without auction.book []
+first-program auction compiler group own starts is =
+    ap (λ (k : Compiling). program_without k.book group) own ∙ ap (λ (g : List ℕ). program_without auction.book g) (is ∙ first-empty auction.groups starts)
 
 pub some-group : (groups : List (List ℕ)) → starts_empty groups ≡ true → 1 ≤ length groups
 some-group [] starts = absurd (cc)
@@ -187,8 +193,3 @@ module _ (auction : Auction) (first : List Choice) (text : List ℕ) (other : Li
   pub tie-refused : (r : Result Uniqueness Refusal) → IfErr r (λ e. tied auction.sale first other ≡ Err e) → IfErr r (Refuses (tie_told auction first text))
   tie-refused (Ok claim) told = tt
   tie-refused (Err e) told = inl (goes-over ∙ told)
-
--- a refusal, or something else
-pub refused-or-wide : (r : Result Uniqueness Refusal) (told : Result Uniqueness Refusal) (Other : Refusal → Type 0) → IfErr r (Refuses told) → IfErr r (λ e. Refuses told e ⊎ Other e)
-refused-or-wide (Ok claim) told Other refused = tt
-refused-or-wide (Err e) told Other refused = inl refused

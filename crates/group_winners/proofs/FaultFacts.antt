@@ -27,14 +27,10 @@ program-refuses f x (inr told) = inl (ap (λ (r : Result Table (ℕ × FaultKind
 abbrev pub no_point : SolutionFault → Result (List Bool) SolutionFault
 no_point f = Err f
 
-abbrev none_won : Refusal → Result (List Bool) Refusal
-none_won e = Err e
-
 -- a fault of a solution, as it is told
-told-solution : (p : Table) (n : ℕ) (f : SolutionFault) (x : Result (List Bool) SolutionFault) (r : Refusal) → r ≡ solution_refused p n f → no_point f ≡ x → Refuses (refused_as (solution_refused p n) x) r
-told-solution p n f x r told is = inl (ap (λ q. refused_as (solution_refused p n) q) (sym is) ∙ ap (λ (e : Refusal). none_won e) (sym told))
-
 pub solution-refuses : (p : Table) (n : ℕ) (f : SolutionFault) (x : Result (List Bool) SolutionFault) (r : Refusal) → r ≡ solution_refused p n f → Answers solution_text.is_solution_memory (no_point f) x
     → Refuses (refused_as (solution_refused p n) x) r
 solution-refuses p n solution.OutOfMemory x r told is = inr (ap (λ (e : Refusal). refusal_text e) told)
-solution-refuses p n f x r told is = told-solution p n f x r told is
+solution-refuses p n f x r told is =
+    let same : no_point f ≡ x = is in
+    inl (ap (λ q. refused_as (solution_refused p n) q) (sym same) ∙ ap (λ (e : Refusal). Err e) (sym told))

@@ -1,7 +1,5 @@
 -- What the solutions of all groups win, one by one and in turn.
-use Rattle.std.proofs.Common.{◌≡◌, ◌<◌, ◌≤◌, ◌+◌, ◌++◌, ◌∷◌, ◌∙◌, ℕ, zero, suc, List, [], None, Option, Some, Result, Ok, ap, ap₂, arith, drop, length, length-append, refl, slice_index_or, subst, sym}
-use Rattle.std.specs.Prelude.{◌-◌, IfErr, IfOk, IfSome}
-use denote.Ref.{Bor}
+use Rattle.std.proofs.Common.{◌≡◌, ◌<◌, ◌≤◌, ◌+◌, ◌++◌, ◌∷◌, ◌∙◌, ℕ, zero, suc, List, [], None, Option, Some, Result, Ok, ap, ap₂, arith, drop, length, length-append, refl, slice_index_or, subst, sym, ◌-◌, IfErr, IfOk, IfSome}
 use Rattle.std.specs.List.{AllZip, range_with_len, zip}
 use Rattle.std.proofs.lemmas.List.{drop_all, drop_more}
 use Rattle.std.proofs.lemmas.Slice.Zip.{get_or-zip, length-zip}
@@ -11,6 +9,7 @@ use Rattle.auction_terms.specs.Borrowed.{bytes_of}
 use Rattle.bid_desk.specs.Sale.{sale_of}
 use Rattle.auction_input.specs.Refused.{Refuses}
 use Rattle.auction_input.specs.declared.refusal.Refusal.{Refusal}
+use Rattle.auction_input.proofs.InputTextFacts.{Text}
 use Rattle.auction_input.proofs.StageFacts.{IsLeft, each-count, left-first, left-more, left-none, left-refused}
 use Rattle.group_winners.specs.SolutionWinners.{winners_by}
 use Rattle.group_winners.specs.inside.SolutionWinners.{IsToldAnswer, winners, winners_at, winners_told}
@@ -77,9 +76,6 @@ module _ (c : Compiling) (texts : List (List ℕ)) (same : length texts ≡ leng
 
   pub as-many : (all : List (List Choice)) → winners_told c texts ≡ Ok all → length all ≡ length c.groups
   as-many all told = (let size = length-zip c.groups texts in let count = each-count (winners (sale_of c.book)) 1 items all told in omega arith)
-
-abbrev Text : Type 0
-Text = Bor (List ℕ)
 
 pub text-at : (solutions : List Text) (n : ℕ) (text : Text) → n < length solutions → text ≡ slice_index_or solutions n text → text.now ≡ slice_index_or (bytes_of solutions) n []
 text-at [] n text below is = absurd (omega arith)

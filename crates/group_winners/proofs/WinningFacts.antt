@@ -1,11 +1,11 @@
 -- What a point of a program wins.
-use Rattle.std.proofs.Common.{◌≡◌, ◌∙◌, ◌≤◌, ℕ, Bool, true, false, List, [], ◌∷◌, Option, None, Some, length, refl, ap, sym, subst, zero, suc, arith}
-use Rattle.std.specs.Prelude.{not, ◌&&◌, is_some, slice_get, slice_index_or, IfOk, OnErr, Result, Ok, Err}
+use Rattle.std.proofs.Common.{◌≡◌, ◌∙◌, ◌≤◌, ℕ, Bool, false, List, [], ◌∷◌, Option, None, Some, length, refl, ap, sym, subst, zero, suc, arith, not, is_some, slice_get, slice_index_or, IfOk, OnErr, Result, Ok, Err}
 use Rattle.std.specs.Option.{option_map, option_map_or}
 use Rattle.std.specs.List.{range_with_len}
+use Rattle.std.proofs.lemmas.Bool.{and_parts}
 use Rattle.auction_terms.specs.declared.choices.Choice.{Choice}
 use Rattle.auction_limits.specs.declared.limits.TheConstants.{MOST_BIDDERS}
-use Rattle.auction_terms.specs.Allocations.{Book, IsFeasible, bid_of, is_eligible}
+use Rattle.auction_terms.specs.Allocations.{Book, IsFeasible, bid_of}
 use Rattle.auction_terms.specs.Packages.{Lots}
 use Rattle.program_rows.specs.Points.{AreAllowed}
 use Rattle.program_rows.specs.Program.{TableColumn, Table}
@@ -34,20 +34,13 @@ allowed-length [] (v ∷ values) allowed = absurd allowed
 allowed-length (c ∷ columns) [] allowed = absurd allowed
 allowed-length (c ∷ columns) (v ∷ values) allowed = ap suc (allowed-length columns values allowed.1)
 
-second : (x y : Bool) → (x && y) ≡ true → y ≡ true
-second true y is = is
-second false y is = cc
-
 -- what is feasible without a group is feasible with nobody left out
 pub feasible-for_all : (lots : Lots) (book : Book) (group : ℕ → Bool) (a : List Choice) → IsFeasible lots book group a → IsFeasible lots book (λ b. false) a
 feasible-for_all lots book group a feasible = record {
   one_bid_each = feasible.one_bid_each;
-  eligible = λ k d small. by (slice_index_or a k d) (feasible.eligible k d small);
+  eligible = λ k d small. (and_parts (not (group (slice_index_or a k d).bidder)) (is_some (bid_of book (slice_index_or a k d))) (feasible.eligible k d small)).1;
   fit = feasible.fit;
 }
-  where
-    by : (c : Choice) → is_eligible book group c ≡ true → is_eligible book (λ b. false) c ≡ true
-    by c is = second (not (group c.bidder)) (is_some (bid_of book c)) is
 
 -- what follows of the value of a result
 pub if-ok-weaker : {T E : Type 0} (P Q : T → Type 0) (r : Result T E) → ((x : T) → P x → Q x) → IfOk r P → IfOk r Q

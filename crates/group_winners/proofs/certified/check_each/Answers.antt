@@ -1,10 +1,10 @@
 use Rattle.std.proofs.Common.{List, Option, Result, inl, inr, map, refl, subst, sym}
 use Rattle.std.specs.List.{AllZip}
 use Rattle.program_faults.specs.declared.certificate_fault.CertificateFault.{CertificateFault}
-use Rattle.group_winners.specs.inside.Judging.{IsJudgedIfBegun, bound_held}
+use Rattle.group_winners.specs.inside.Judging.{IsFirstFaulty, IsJudgedIfBegun, bound_held}
 use Rattle.auction_input.specs.declared.refusal.Refusal.TheVariants as refusal
-use Rattle.group_winners.proofs.CertifiedFacts.{EndsChecks, all-checked, checks-ended}
-use Rattle.requests.proofs.StepFacts.{if-err-of}
+use Rattle.group_winners.proofs.CertifiedFacts.{EndsChecks, all-checked, ends-checks}
+use Rattle.requests.proofs.StepFacts.{if-err-of, if-err-weaker}
 use Rattle.group_winners.proofs.certified.check_each.Goals as goal
 
 abbrev Verdicts : Type 0
@@ -17,7 +17,9 @@ pub returns-clause-shown : goal.returns-clause-shown
 returns-clause-shown g c = all-checked c.args.compiler.now.book c.args.bounds.now c.first_refused.result c.first_refused.ensures.shown
 
 pub returns-clause-refuses : goal.returns-clause-refuses
-returns-clause-refuses g c = checks-ended c.args.compiler.now.book c.args.bounds.now c.first_refused.result c.first_refused.ensures.first
+returns-clause-refuses g c =
+    if-err-weaker (IsFirstFaulty c.args.compiler.now.book c.args.bounds.now) (EndsChecks (map (bound_held c.args.compiler.now.book) c.args.bounds.now)) c.first_refused.result
+    (ends-checks c.args.compiler.now.book c.args.bounds.now) c.first_refused.ensures.first
 
 pub returns-in_err-verdicts-clause-refuses : goal.returns-in_err-verdicts-clause-refuses
 returns-in_err-verdicts-clause-refuses g c =

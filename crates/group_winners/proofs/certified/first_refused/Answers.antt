@@ -1,12 +1,13 @@
 use Rattle.std.proofs.Common.{◌∙◌, Err, None, arith, refl, subst}
 use Rattle.std.proofs.lemmas.List.{get_or_default}
 use Rattle.group_winners.specs.declared.certified.ClaimedBound.{ClaimedBound}
-use Rattle.group_winners.specs.inside.Judging.{IsJudged}
-use Rattle.group_winners.proofs.CertifiedFacts.{as-long, verdict-at}
+use Rattle.group_winners.specs.inside.Judging.{IsJudged, IsJudgedIfBegun}
+use Rattle.group_winners.proofs.CertifiedFacts.{verdict-at}
+use Rattle.std.proofs.lemmas.Slice.Zip.{AllZip-long}
 use Rattle.group_winners.proofs.certified.first_refused.Goals as goal
 
 pub bounds-verdicts-place : goal.bounds-verdicts-place
-bounds-verdicts-place c = (let long = as-long c.args.compiler.now.book c.args.bounds.now c.args.verdicts.now c.requires in let within = c.loop-place-test.true in omega arith)
+bounds-verdicts-place c = (let long = AllZip-long (IsJudgedIfBegun c.args.compiler.now.book) c.args.bounds.now c.args.verdicts.now c.requires in let within = c.loop-place-test.true in omega arith)
 
 pub settled-verdict-requires : goal.settled-verdict-requires
 settled-verdict-requires c =

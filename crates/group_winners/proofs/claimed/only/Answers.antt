@@ -1,16 +1,14 @@
-use Rattle.std.proofs.Common.{◌≡◌, ◌∙◌, [], ℕ, List, Ok, ap, subst, sym}
-use Rattle.std.specs.Prelude.{◌⊎◌, slice_index_or}
-use Rattle.group_compiler.specs.Compiled.{Compiling, program_without}
+use Rattle.std.proofs.Common.{◌≡◌, ◌∙◌, [], ℕ, List, Ok, ap, subst, sym, ◌⊎◌, slice_index_or, None, Some}
+use Rattle.group_compiler.specs.Compiled.{program_without}
 use Rattle.outcome.specs.Solution.{solution}
 use Rattle.bid_desk.specs.Sale.{sale_of}
 use Rattle.optimality.specs.Answers.{IsLimit}
 use Rattle.optimality.specs.Only.{IsLargeOnlyAt, only_fault}
 use Rattle.program_faults.specs.declared.certificate_fault.FaultKind.TheVariants.{TooLarge}
 use Rattle.program_rows.specs.Program.{Table}
-use Rattle.std.specs.Prelude.{None, Some}
 use Rattle.auction_input.specs.Settled.{held}
 use Rattle.auction_terms.specs.Borrowed.{bytes_of}
-use Rattle.group_winners.proofs.ClaimedFacts.{first-empty, no-fault, one-unique, only-refused, only-told}
+use Rattle.group_winners.proofs.ClaimedFacts.{first-program, no-fault, one-unique, only-refused, only-told}
 use Rattle.group_winners.proofs.WinnersFeasible.{feasible-of}
 use Rattle.group_winners.proofs.ReportFacts.{text-at}
 use Rattle.group_winners.proofs.WinningFacts.{allowed-length}
@@ -23,9 +21,7 @@ pub returns-in-Err-clause-refuses : goal.returns-in-Err-clause-refuses
 returns-in-Err-clause-refuses c =
     let auction = c.args.auction.now in
     let point = c.in-Ok.point in
-    let nobody : c.group.result.now ≡ [] = c.group.ensures ∙ first-empty auction.groups c.requires.won.starts in
-    let same : c.in_ok-program.program ≡ program_without auction.book [] =
-    c.in_ok-program.ensures ∙ ap (λ (k : Compiling). program_without k.book c.group.result.now) c.requires.compiler ∙ ap (λ (group : List ℕ). program_without auction.book group) nobody in
+    let same = c.in_ok-program.ensures ∙ first-program auction c.args.compiler.now c.group.result.now c.requires.compiler c.requires.won.starts c.group.ensures in
     let text = text-at auction.solutions.items 0 c.index.result.now c.requires.won.some c.index.ensures in
     let solved : solution (program_without auction.book []) (slice_index_or (bytes_of auction.solutions.items) 0 []) ≡ Ok point = sym (subst (λ (t : List ℕ). Ok point ≡ solution (program_without auction.book []) t) text (subst (λ (p : Table). Ok point ≡ solution p c.index.result.now.now) same c.in-Ok.ensures.answer)) in
     let (claimed, one, alone) = one-unique auction c.args.first.now c.index-2.result.now c.requires.one c.requires.alone c.index-2.ensures in
@@ -42,9 +38,7 @@ pub returns-clause-told : goal.returns-clause-told
 returns-clause-told c =
     let auction = c.args.auction.now in
     let point = c.in-Ok.point in
-    let nobody : c.group.result.now ≡ [] = c.group.ensures ∙ first-empty auction.groups c.requires.won.starts in
-    let same : c.in_ok-program.program ≡ program_without auction.book [] =
-    c.in_ok-program.ensures ∙ ap (λ (k : Compiling). program_without k.book c.group.result.now) c.requires.compiler ∙ ap (λ (group : List ℕ). program_without auction.book group) nobody in
+    let same = c.in_ok-program.ensures ∙ first-program auction c.args.compiler.now c.group.result.now c.requires.compiler c.requires.won.starts c.group.ensures in
     let text = text-at auction.solutions.items 0 c.index.result.now c.requires.won.some c.index.ensures in
     let solved : solution (program_without auction.book []) (slice_index_or (bytes_of auction.solutions.items) 0 []) ≡ Ok point = sym (subst (λ (t : List ℕ). Ok point ≡ solution (program_without auction.book []) t) text (subst (λ (p : Table). Ok point ≡ solution p c.index.result.now.now) same c.in-Ok.ensures.answer)) in
     let (claimed, one, alone) = one-unique auction c.args.first.now c.index-2.result.now c.requires.one c.requires.alone c.index-2.ensures in

@@ -1,12 +1,10 @@
-use Rattle.std.proofs.Common.{◌≡◌, ◌∙◌, [], ℕ, List, Ok, Result, ap, subst, sym}
-use Rattle.std.specs.Prelude.{IfErr, IfOk}
+use Rattle.std.proofs.Common.{◌≡◌, Ok, Result, subst, sym, IfErr, IfOk}
 use Rattle.auction_input.specs.Refused.{Refuses}
 use Rattle.auction_input.specs.Settled.{held}
 use Rattle.auction_input.specs.declared.refusal.Refusal.{Refusal}
-use Rattle.group_compiler.specs.Compiled.{Compiling, program_without}
 use Rattle.outcome.specs.declared.uniqueness.Uniqueness.{Uniqueness}
 use Rattle.group_winners.specs.SolutionWinners.{winners_by}
-use Rattle.group_winners.proofs.ClaimedFacts.{first-empty, one-tie, refuses-tie, tie-refused, tie-told}
+use Rattle.group_winners.proofs.ClaimedFacts.{first-program, one-tie, refuses-tie, tie-refused, tie-told}
 use Rattle.auction_input.proofs.StageFacts.{stop}
 use Rattle.group_winners.proofs.claimed.tie.Goals as goal
 
@@ -17,9 +15,7 @@ pub returns-in-Ok-clause-told : goal.returns-in-Ok-clause-told
 returns-in-Ok-clause-told c =
     let auction = c.args.auction.now in
     let text = c.index.result.now in
-    let nobody : c.group.result.now ≡ [] = c.group.ensures ∙ first-empty auction.groups c.requires.won.starts in
-    let same : program_without c.args.compiler.now.book c.group.result.now ≡ program_without auction.book [] =
-    ap (λ (k : Compiling). program_without k.book c.group.result.now) c.requires.compiler ∙ ap (λ (group : List ℕ). program_without auction.book group) nobody in
+    let same = first-program auction c.args.compiler.now c.group.result.now c.requires.compiler c.requires.won.starts c.group.ensures in
     let won = subst (λ p. winners_by p 1 text.now ≡ Ok c.in-Ok.other) same c.in-Ok.ensures.won in
     let claimed = one-tie auction c.args.first.now text c.requires.one c.requires.alone c.index.ensures in
     subst (λ (told : Told). IfOk c.tied.result (λ claim. told ≡ Ok claim)) (sym claimed) (tie-told (held auction) c.args.first.now text.now c.in-Ok.other won c.tied.result c.tied.ensures.told)
@@ -28,9 +24,7 @@ pub returns-in-Ok-clause-refuses : goal.returns-in-Ok-clause-refuses
 returns-in-Ok-clause-refuses c =
     let auction = c.args.auction.now in
     let text = c.index.result.now in
-    let nobody : c.group.result.now ≡ [] = c.group.ensures ∙ first-empty auction.groups c.requires.won.starts in
-    let same : program_without c.args.compiler.now.book c.group.result.now ≡ program_without auction.book [] =
-    ap (λ (k : Compiling). program_without k.book c.group.result.now) c.requires.compiler ∙ ap (λ (group : List ℕ). program_without auction.book group) nobody in
+    let same = first-program auction c.args.compiler.now c.group.result.now c.requires.compiler c.requires.won.starts c.group.ensures in
     let won = subst (λ p. winners_by p 1 text.now ≡ Ok c.in-Ok.other) same c.in-Ok.ensures.won in
     let claimed = one-tie auction c.args.first.now text c.requires.one c.requires.alone c.index.ensures in
     subst (λ (told : Told). IfErr c.tied.result (Refuses told)) (sym claimed) (tie-refused (held auction) c.args.first.now text.now c.in-Ok.other won c.tied.result c.tied.ensures.refuses)
@@ -39,9 +33,7 @@ pub returns-in-Err-clause-refuses : goal.returns-in-Err-clause-refuses
 returns-in-Err-clause-refuses c =
     let auction = c.args.auction.now in
     let text = c.index.result.now in
-    let nobody : c.group.result.now ≡ [] = c.group.ensures ∙ first-empty auction.groups c.requires.won.starts in
-    let same : program_without c.args.compiler.now.book c.group.result.now ≡ program_without auction.book [] =
-    ap (λ (k : Compiling). program_without k.book c.group.result.now) c.requires.compiler ∙ ap (λ (group : List ℕ). program_without auction.book group) nobody in
+    let same = first-program auction c.args.compiler.now c.group.result.now c.requires.compiler c.requires.won.starts c.group.ensures in
     let refused = subst (λ p. Refuses (winners_by p 1 text.now) c.in-Err.refusal) same c.in-Err.ensures.refuses in
     let claimed = one-tie auction c.args.first.now text c.requires.one c.requires.alone c.index.ensures in
     rw (claimed, c.of_tie.ensures) (stop _ _ _ (refuses-tie _ c.in-Err.refusal refused))

@@ -2,10 +2,8 @@ use Rattle.std.proofs.Common.{◌≡◌, ◌∙◌, IfErr, IfOk, List, ℕ, Ok, 
 use Rattle.std.proofs.lemmas.List.{length-map}
 use Rattle.std.proofs.lemmas.Result.{IfOk-weaker}
 use Rattle.auction_input.specs.Refused.{Refuses}
-use Rattle.auction_input.specs.Settled.{held}
 use Rattle.auction_terms.specs.Borrowed.{bytes_of}
 use Rattle.group_compiler.specs.Compiled.{Compiling}
-use Rattle.group_winners.specs.SolutionWinners.{winners_of_groups}
 use Rattle.group_winners.specs.inside.SolutionWinners.{winners_told}
 use Rattle.group_winners.proofs.CountFacts.{goes-over}
 use Rattle.group_winners.proofs.ReportFacts.{as-many}
@@ -22,16 +20,10 @@ returns-clause-count g c =
 
 pub returns-clause-won : goal.returns-clause-won
 returns-clause-won g c =
-    let auction = c.args.auction.now in
-    let solutions = c.as_slice.result.now in
-    let told : winners_told c.args.compiler.now (bytes_of solutions) ≡ winners_of_groups (held auction) =
-    ap (λ (k : Compiling). winners_told k (bytes_of solutions)) c.requires.compiler ∙ sym (goes-over auction c.requires.first solutions c.requires.each c.as_slice.ensures.value) in
+    let told = goes-over c.args.auction.now c.requires.first c.args.compiler.now c.as_slice.result.now c.requires.compiler c.requires.each c.as_slice.ensures.value in
     subst (λ told. IfOk c.all_won.result (λ won. told ≡ Ok won.items)) told c.all_won.ensures.won
 
 pub returns-clause-refuses : goal.returns-clause-refuses
 returns-clause-refuses g c =
-    let auction = c.args.auction.now in
-    let solutions = c.as_slice.result.now in
-    let told : winners_told c.args.compiler.now (bytes_of solutions) ≡ winners_of_groups (held auction) =
-    ap (λ (k : Compiling). winners_told k (bytes_of solutions)) c.requires.compiler ∙ sym (goes-over auction c.requires.first solutions c.requires.each c.as_slice.ensures.value) in
+    let told = goes-over c.args.auction.now c.requires.first c.args.compiler.now c.as_slice.result.now c.requires.compiler c.requires.each c.as_slice.ensures.value in
     subst (λ told. IfErr c.all_won.result (Refuses told)) told c.all_won.ensures.refuses
