@@ -1,9 +1,10 @@
 -- What the loop keeps that goes on behind a faulty record, and that all faults of a form begin with the first one.
-use Rattle.std.proofs.Common.{◌≡◌, ◌+◌, ◌∷◌, ◌++◌, ◌∙◌, Bool, true, false, ℕ, List, [], length, map, refl, sym, ap, arith, append_assoc}
-use Rattle.std.specs.Prelude.{◌&&◌, Option, Some, None, Result, Ok, Err, drop, if◌then◌else◌, option_map, option_to_list, MatchOption}
+use Rattle.std.proofs.Common.{subst, ◌≡◌, ◌+◌, ◌∷◌, ◌++◌, ◌∙◌, Bool, ℕ, List, [], length, map, refl, sym, ap, arith, append_assoc, Option, Some, None, Result, Ok, Err, drop, if◌then◌else◌, option_map, option_to_list, MatchOption, inl, inr}
 use Rattle.std.specs.List.{list_all}
 use Rattle.std.specs.Option.{option_map_or, option_or}
 use Rattle.auction_terms.proofs.AllFaultsFacts.{BeginAs, begin-all_faults, begin-both, begin-one_failed, begin-or_else, begin-told, found-all, found-more, option_or-assoc}
+use Rattle.auction_terms.proofs.FirstFaultFacts.{first_failed-append}
+use Rattle.std.proofs.lemmas.Bool.{cases_Bool}
 use Rattle.auction_terms.specs.AllFaults.{AreFaultsOf, accepted_with, all_faults, each_failed, found, one_failed, or_else, where_none}
 use Rattle.auction_terms.specs.FirstFault.{first_failed, first_fault}
 use Rattle.auction_terms.specs.Records.{Record}
@@ -26,12 +27,7 @@ use Rattle.bid_forms.proofs.FormFacts.{checks-parts}
 -- the fault of the next item, and those behind it
 pub each-more : {X : Type 0} (test : X → Bool) (f : FormFault) (n : ℕ) (x : X) (more : List X)
     → each_failed test f n (x ∷ more) ≡ option_to_list (option_map (found n) (first_failed ((test x, f) ∷ []))) ++ each_failed test f (n + 1) more
-each-more test f n x more = by (test x)
-  where
-    by : (b : Bool) → (if b then each_failed test f (n + 1) more else found n f ∷ each_failed test f (n + 1) more)
-        ≡ option_to_list (option_map (found n) (if b then None else Some f)) ++ each_failed test f (n + 1) more
-    by true = refl
-    by false = refl
+each-more test f n x more = elim (cases_Bool (test x)) [ inl is ↦ rw is refl | inr is ↦ rw is refl ]
 
 -- what was found so far and what is still to be found, with the next item
 pub each-next : {X : Type 0} (test : X → Bool) (f : FormFault) (n : ℕ) (x : X) (ahead rest : List X) (whole so_far : List (Found FormFault))
@@ -43,12 +39,7 @@ each-next test f n x ahead rest whole so_far is next =
 -- an item that is told as the fault where it fails, and the others as one
 begin-each : {X : Type 0} (test : X → Bool) (f : FormFault) (n : ℕ) (xs : List X) → BeginAs (each_failed test f n xs) (first_failed ((list_all test xs, f) ∷ []))
 begin-each test f n [] = refl
-begin-each test f n (x ∷ xs) = by (test x) (begin-each test f (n + 1) xs)
-  where
-    by : (b : Bool) → BeginAs (each_failed test f (n + 1) xs) (if list_all test xs then None else Some f)
-        → BeginAs (if b then each_failed test f (n + 1) xs else found n f ∷ each_failed test f (n + 1) xs) (if (b && list_all test xs) then None else Some f)
-    by true rest = rest
-    by false rest = (n, each_failed test f (n + 1) xs, refl)
+begin-each test f n (x ∷ xs) = elim (cases_Bool (test x)) [ inl is ↦ rw is (begin-each test f (n + 1) xs) | inr is ↦ rw is (n, each_failed test f (n + 1) xs, refl) ]
 
 -- ---------- all faults begin with the first one ----------
 
@@ -56,13 +47,10 @@ pub begin-quantities : (place : ℕ) (r : Record) → BeginAs (all_quantity_faul
 begin-quantities place r =
     let texts = each_failed is_quantity_text (fault.QuantityText place) 2 (drop 1 r) in
     let ranges = each_failed is_quantity (fault.QuantityRange place) 2 (bid_told r).package in
-    by (list_all is_quantity_text (drop 1 r)) (begin-both texts ranges (first_failed ((list_all is_quantity_text (drop 1 r), fault.QuantityText place) ∷ [])) (first_failed ((list_all is_quantity (bid_told r).package, fault.QuantityRange place) ∷ []))
+    let of_texts : List (Bool × FormFault) = (list_all is_quantity_text (drop 1 r), fault.QuantityText place) ∷ [] in
+    let of_ranges : List (Bool × FormFault) = (list_all is_quantity (bid_told r).package, fault.QuantityRange place) ∷ [] in
+    subst (BeginAs (all_quantity_faults place r)) (sym (first_failed-append of_texts of_ranges)) (begin-both texts ranges (first_failed of_texts) (first_failed of_ranges)
     (begin-each is_quantity_text (fault.QuantityText place) 2 (drop 1 r)) (begin-each is_quantity (fault.QuantityRange place) 2 (bid_told r).package))
-  where
-    by : (b : Bool) → BeginAs (all_quantity_faults place r) (option_or (if b then None else Some (fault.QuantityText place)) (first_failed ((list_all is_quantity (bid_told r).package, fault.QuantityRange place) ∷ [])))
-        → BeginAs (all_quantity_faults place r) (if b then first_failed ((list_all is_quantity (bid_told r).package, fault.QuantityRange place) ∷ []) else Some (fault.QuantityText place))
-    by true h = h
-    by false h = h
 
 -- where the amount has no fault
 begin-package : (t : Terms) (eligibility place : ℕ) (before : List Bid) (r : Record) → first_failed (amount_checks t.step place r) ≡ None
@@ -111,14 +99,10 @@ pub begin-form : (t : Terms) (records : List Record) → AreFaultsOf (all_form_f
 begin-form t [] = (0, [], refl)
 begin-form t (header ∷ entries) = by (bidder_told t header)
   where
-    behind : (f : FormFault) (b : Bool) → AreFaultsOf {A = Offers} (if b then found 1 f ∷ all_bids_faults t GREATEST_AMOUNT entries else found 0 f ∷ []) (Err f)
-    behind f true = (1, all_bids_faults t GREATEST_AMOUNT entries, refl)
-    behind f false = (0, [], refl)
-
     by : (told : Result ℕ FormFault) → AreFaultsOf {A = Offers} (faults_of_bidder t entries told) (and_then told (λ bidder.
         unless (first_fault (bid_fault t (eligibility_of t bidder)) [] entries) (Ok (record { bidder = bidder; bids = map bid_told entries }))))
     by (Ok bidder) = begin-told (all_bids_faults t (eligibility_of t bidder) entries) (first_fault (bid_fault t (eligibility_of t bidder)) [] entries) _ (begin-bids t (eligibility_of t bidder) entries)
-    by (Err f) = behind f (is_unknown_bidder f)
+    by (Err f) = elim (cases_Bool (is_unknown_bidder f)) [ inl is ↦ rw is (1, all_bids_faults t GREATEST_AMOUNT entries, refl) | inr is ↦ rw is (0, [], refl) ]
 
 -- ---------- what the loop keeps ----------
 

@@ -1,9 +1,7 @@
 -- A bid whose record has no fault is one that the rules allow.
-use Rattle.std.proofs.Common.{◌≡◌, ◌∙◌, ◌+◌, ◌∷◌, [], Bool, true, false, ℕ, List, Option, Some, None, arith, drop, length, map, refl}
-use Rattle.std.specs.Prelude.{◌==◌, ◌%◌, if◌then◌else◌, is_some, nat_le, not}
+use Rattle.std.proofs.Common.{◌≡◌, ◌∙◌, ◌+◌, Bool, true, false, ℕ, List, Option, Some, None, arith, drop, length, map, refl, ◌==◌, ◌%◌, if◌then◌else◌, is_some, nat_le, not, eq-eqb, eqb-true}
 use Rattle.std.specs.List.{list_all}
-use Rattle.std.proofs.lemmas.Bool.{eq-eqb, eqb-true}
-use Rattle.std.proofs.lemmas.List.{length-map}
+use Rattle.std.proofs.lemmas.List.{length-drop, length-map}
 use Rattle.auction_terms.specs.FirstFault.{first_failed}
 use Rattle.auction_terms.specs.Numbers.{number_of}
 use Rattle.auction_terms.specs.Records.{Record}
@@ -21,8 +19,7 @@ passed false fault more none = cc none
 
 -- a record with a field for the amount and one for each category tells a quantity for each category
 one-for-each : (r : Record) (n : ℕ) → length r ≡ n + 1 → length (map number_told (drop 1 r)) ≡ n
-one-for-each [] n e = absurd (omega (arith, e))
-one-for-each (x ∷ more) n e = length-map more number_told ∙ omega (arith, e)
+one-for-each r n e = length-map (drop 1 r) number_told ∙ (let cut = length-drop 1 r in omega (arith, e, cut))
 
 pub bid-allowed : (t : Terms) (eligibility place : ℕ) (r : Record) (lots : List ℕ) (amount : ℕ) → amount ≡ field_number 1 r → lots ≡ (bid_told r).package
     → first_failed (count_checks t place r) ≡ None → first_failed (amount_checks t.step place r) ≡ None → first_failed (quantity_checks place r) ≡ None

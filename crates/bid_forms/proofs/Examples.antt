@@ -1,6 +1,5 @@
 -- The definitions on small forms.
-use Rattle.std.proofs.Common.{◌≡◌, refl}
-use Rattle.std.specs.Prelude.{[], ◌∷◌, Ok, Err, codes}
+use Rattle.std.proofs.Common.{◌≡◌, refl, [], ◌∷◌, Ok, Err, codes}
 use Rattle.csv.specs.Records.{field_at}
 use Rattle.csv.proofs.OnLiterals.{csv_on_literals}
 use Rattle.auction_terms.specs.FirstFault.{first_fault}

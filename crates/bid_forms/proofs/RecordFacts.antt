@@ -1,13 +1,11 @@
 -- The fields of a record, one after the other.
-use Rattle.std.proofs.Common.{◌≡◌, ◌<◌, ◌+◌, ◌-◌, ◌∷◌, ◌++◌, ◌∙◌, Bool, true, false, ℕ, zero, suc, List, [], Some, None, add-one, drop, length, map, slice_index_or, refl, sym, ap, arith, ◌&&◌, append_assoc}
-use Rattle.std.specs.Prelude.{All, ◌≤◌, is_some, not, nat_le, unwrap_or}
+use Rattle.std.proofs.Common.{◌≡◌, ◌<◌, ◌+◌, ◌-◌, ◌∷◌, ◌++◌, ◌∙◌, Bool, true, false, ℕ, zero, suc, List, [], Some, None, add-one, drop, length, map, slice_index_or, refl, sym, ap, arith, ◌&&◌, append_assoc, All, ◌≤◌, is_some, not, nat_le, unwrap_or, le-leb, bytes_eq, drop-cons}
 use Rattle.std.specs.List.{list_all}
-use Rattle.std.proofs.lemmas.Bool.{le-leb}
+use Rattle.std.proofs.lemmas.Bool.{and_right}
+use Rattle.std.proofs.lemmas.List.{length_push}
 use Rattle.std.proofs.lemmas.List.Elements.{All-push}
 use Rattle.auction_terms.specs.Numbers.{number_of}
-use Rattle.std.specs.Str.{bytes_eq}
 use Rattle.std.specs.Cmp.Lexicographic.{pointwise}
-use Rattle.std.proofs.Math.Seq.{drop-cons}
 use Rattle.csv.specs.Records.{field_at}
 use Rattle.auction_terms.specs.RulesText.{number_told, record_field}
 use Rattle.auction_terms.specs.Records.{Record}
@@ -19,11 +17,7 @@ pub differ-lengths : (xs ys : List (List ℕ)) → (length xs ≡ length ys → 
 differ-lengths [] [] differ = absurd (differ refl)
 differ-lengths [] (y ∷ ys) differ = refl
 differ-lengths (x ∷ xs) [] differ = refl
-differ-lengths (x ∷ xs) (y ∷ ys) differ = by (bytes_eq x y) (differ-lengths xs ys (λ e. differ (ap suc e)))
-  where
-    by : (b : Bool) → pointwise bytes_eq xs ys ≡ false → (b && pointwise bytes_eq xs ys) ≡ false
-    by true h = h
-    by false h = refl
+differ-lengths (x ∷ xs) (y ∷ ys) differ = and_right (bytes_eq x y) _ (differ-lengths xs ys (λ e. differ (ap suc e)))
 
 fields-from : (r : Record) (i : ℕ) → i < length r → drop i r ≡ unwrap_or (field_at r i) [] ∷ drop (suc i) r
 unfolding field_at
@@ -76,12 +70,6 @@ quantities-none r n within items (texts, limits, are, each, few) small none =
     let told = rw (fields-more r n small, sym (ap is_some none)) at texts in
     sym told
 
--- a list with one more element
-one-more : (items : List ℕ) (value n : ℕ) → length items < n → length (items ++ value ∷ []) < n + 1
-one-more [] value n fewer = omega arith
-one-more (item ∷ items) value zero fewer = absurd (omega arith)
-one-more (item ∷ items) value (suc n) fewer = (let more = one-more items value n (omega arith) in omega arith)
-
 -- the next field is a quantity
 pub quantities-small : (r : Record) (n : ℕ) (within : Bool) (items : List ℕ) (value : ℕ) → QuantitiesSoFar r n within items → n < length r
     → Some value ≡ number_of (record_field (n + 1) r) → value ≤ GREATEST_QUANTITY → QuantitiesSoFar r (n + 1) within (items ++ value ∷ [])
@@ -93,7 +81,7 @@ quantities-small r n within items value (texts, limits, are, each, fewer) small 
       rw (next, ← some, test) at limits,
       λ h. (let told = are h in let more = rw (next, ← some) at told in append_assoc items (value ∷ []) _ ∙ more),
       All-push (λ quantity. quantity ≤ GREATEST_QUANTITY) items value each few,
-      one-more items value n fewer,
+      (let longer = length_push items value in omega arith),
     )
 
 -- the next field is a number above the limit
@@ -104,12 +92,8 @@ quantities-great r n within items value (texts, limits, are, each, fewer) small 
     let is_text : is_some (number_of (record_field (n + 1) r)) ≡ true = sym (ap is_some some) in
     let told = rw (next, ← some, great) at limits in (
       rw (next, is_text) at texts,
-      never within _ told,
+      sym (and_right within false refl) ∙ told,
       λ h. cc h,
       each,
       omega arith,
     )
-  where
-    never : (b all : Bool) → (b && false) ≡ all → false ≡ all
-    never true all e = e
-    never false all e = e

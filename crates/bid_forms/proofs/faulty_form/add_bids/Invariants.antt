@@ -1,5 +1,4 @@
-use Rattle.std.proofs.Common.{List, length}
-use Rattle.std.specs.Prelude.{◌≤◌}
+use Rattle.std.proofs.Common.{List, length, ◌≤◌}
 use Rattle.auction_terms.specs.AllFaults.{KeepsMore}
 use Rattle.auction_terms.specs.declared.faults.Found.{Found}
 use Rattle.auction_limits.specs.declared.limits.TheConstants.{MOST_BIDS}

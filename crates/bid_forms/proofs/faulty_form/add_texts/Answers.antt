@@ -1,6 +1,4 @@
-use Rattle.std.proofs.Common.{◌≡◌, ◌<◌, ◌≤◌, ◌+◌, ◌++◌, ◌∷◌, ◌∙◌, [], ap, append-nil, arith, drop, length}
-use Rattle.std.proofs.Math.ListN.{drop_of_length-le}
-use Rattle.std.specs.Prelude.{option_map, option_to_list}
+use Rattle.std.proofs.Common.{◌≡◌, ◌<◌, ◌≤◌, ◌+◌, ◌++◌, ◌∷◌, ◌∙◌, [], ap, append-nil, arith, drop, length, drop_of_length-le, option_map, option_to_list}
 use Rattle.csv.specs.Records.{fields_of}
 use Rattle.auction_terms.proofs.AllFaultsFacts.{keeps-both}
 use Rattle.auction_terms.specs.AllFaults.{each_failed, found}

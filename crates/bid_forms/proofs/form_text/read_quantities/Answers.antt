@@ -1,5 +1,4 @@
-use Rattle.std.proofs.Common.{◌≡◌, ◌+◌, ◌<◌, Some, None, false, refl, arith, length, rules, ◌++◌, ◌∷◌, []}
-use Rattle.std.specs.Prelude.{nat_le}
+use Rattle.std.proofs.Common.{◌≡◌, ◌+◌, ◌<◌, Some, None, false, refl, arith, length, rules, ◌++◌, ◌∷◌, [], nat_le}
 use Rattle.csv.specs.Records.{fields_of}
 use Rattle.auction_terms.specs.RulesText.{record_field}
 use Rattle.auction_terms.specs.Numbers.{number_of}

@@ -1,12 +1,12 @@
-use Rattle.std.proofs.Common.{◌≡◌, ◌∙◌, false, sym}
-use Rattle.std.specs.Prelude.{nat_eq}
+use Rattle.std.proofs.Common.{◌≡◌, ◌∙◌, false, sym, nat_eq}
 use Rattle.std.specs.List.{list_any}
-use Rattle.bid_forms.proofs.PackageFacts.{not-false, seen-more, still-known, unseen-is-new}
+use Rattle.bid_forms.proofs.PackageFacts.{seen-more, still-known, unseen-is-new}
+use Rattle.bid_forms.proofs.RecordFacts.{when-not-true}
 use Rattle.bid_forms.proofs.seen.earlier.Goals as goal
 
 pub returns-in-Ok-true-clause-number : goal.returns-in-Ok-true-clause-number
 returns-in-Ok-true-clause-number c =
-    let unknown : list_any (nat_eq c.fingerprint-print.result) c.args.seen.now.prints.keys ≡ false = not-false _ (sym c.in-Ok-true.field-0-test ∙ c.in-Ok-true.ensures.added) in
+    let unknown : list_any (nat_eq c.fingerprint-print.result) c.args.seen.now.prints.keys ≡ false = when-not-true _ (sym c.in-Ok-true.field-0-test ∙ c.in-Ok-true.ensures.added) in
     sym (unseen-is-new c.args.seen.now.multiplier 1 c.args.seen.now.prints.keys c.args.quantities.now c.args.bids.now c.requires.seen (rw c.fingerprint-print.ensures at unknown))
 
 pub returns-in-Ok-true-clause-seen : goal.returns-in-Ok-true-clause-seen

@@ -1,5 +1,4 @@
-use Rattle.std.proofs.Common.{◌≡◌, drop}
-use Rattle.std.specs.Prelude.{◌+◌, ◌*◌, ◌%◌, ◌^◌, fold}
+use Rattle.std.proofs.Common.{◌≡◌, drop, ◌+◌, ◌*◌, ◌%◌, ◌^◌, fold}
 use Rattle.bid_forms.specs.inside.Fingerprints.{fingerprint}
 use Rattle.bid_forms.proofs.seen.fingerprint.Given as goal
 

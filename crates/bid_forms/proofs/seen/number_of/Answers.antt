@@ -1,5 +1,4 @@
-use Rattle.std.proofs.Common.{◌≡◌, ◌∙◌, true, false, ap, sym}
-use Rattle.std.specs.Str.{bytes_eq}
+use Rattle.std.proofs.Common.{◌≡◌, ◌∙◌, true, false, ap, sym, bytes_eq}
 use Rattle.bid_forms.proofs.PackageFacts.{number-step}
 use Rattle.bid_forms.proofs.seen.number_of.Goals as goal
 

@@ -1,6 +1,5 @@
-use Rattle.std.proofs.Common.{◌≡◌, ◌+◌, drop}
+use Rattle.std.proofs.Common.{◌≡◌, ◌+◌, drop, bytes_eq}
 use Rattle.std.specs.List.{position_from}
-use Rattle.std.specs.Str.{bytes_eq}
 use Rattle.auction_terms.specs.declared.bids.Bid.{Bid}
 use Rattle.bid_forms.specs.Offers.{number_of_package}
 use Rattle.bid_forms.proofs.seen.number_of.Given as goal
