@@ -1,5 +1,5 @@
 -- What is read of texts is what they tell, their sizes included.
-use Rattle.std.proofs.Common.{◌≡◌, ◌+◌, ◌++◌, ◌∷◌, ◌<◌, ◌≤◌, [], ℕ, Bool, List, Result, Ok, Err, ap, arith, length, map, refl, subst, sym, inl, inr, All, IfErr, OnOk, if◌then◌else◌, nat_lt, Bor}
+use Rattle.std.proofs.Common.{◌≡◌, ◌+◌, ◌++◌, ◌∷◌, ◌<◌, ◌≤◌, [], ℕ, Bool, List, Result, Ok, Err, ap, arith, length, map, refl, subst, sym, inl, inr, All, OnOk, if◌then◌else◌, nat_lt, Bor}
 use Rattle.std.specs.List.{AllZip}
 use Rattle.std.proofs.lemmas.List.Elements.{All-cons, All-nil}
 use Rattle.std.proofs.lemmas.Bool.Decides.{leb_tells}
@@ -65,14 +65,10 @@ first-refused t n m (text ∷ texts) (form ∷ before) f after count each =
     let head : form_told t n text.now ≡ Ok form = ap (λ r. refused_as (refusal.Form n) r) (sym each.0.tells) in
     behind _ form _ (refusal.Form m f) head (stop _ _ (refusal.Form m f) (first-refused t (n + 1) m texts before f after (omega arith) each.1))
 
-all-refused : (t : Terms) (count : ℕ) (texts : List Text) (answers : List (Result Offers FormFault)) (e : Refusal) → AllZip (IsAnswer t) texts answers → IsFirstErr count answers e → Refuses (more_told t count (bytes_of texts)) e
+pub all-refused : (t : Terms) (count : ℕ) (texts : List Text) (answers : List (Result Offers FormFault)) (e : Refusal) → AllZip (IsAnswer t) texts answers → IsFirstErr count answers e → Refuses (more_told t count (bytes_of texts)) e
 all-refused t count texts answers (refusal.Form n f) each (before, after, are, number) = first-refused t (count + 1) n texts before f after (omega arith) (rw are at each)
 all-refused t count texts answers refusal.OutOfMemory each is = inr refl
 all-refused t count texts answers e each is = absurd is
-
-pub if-refused : {A : Type 0} (t : Terms) (count : ℕ) (texts : List Text) (answers : List (Result Offers FormFault)) (r : Result A Refusal) → AllZip (IsAnswer t) texts answers → IfErr r (IsFirstErr count answers) → IfErr r (Refuses (more_told t count (bytes_of texts)))
-if-refused t count texts answers (Ok x) each first = tt
-if-refused t count texts answers (Err e) each first = all-refused t count texts answers e each first
 
 -- ---- sizes
 

@@ -1,5 +1,5 @@
 -- The first line of a text, and what is before the next part.
-use Rattle.std.proofs.Common.{◌≡◌, ◌≤◌, ◌<◌, ◌+◌, ◌∷◌, ◌++◌, ◌∙◌, Bool, true, false, ℕ, zero, suc, List, [], drop, take, length, refl, ap, subst, sym, arith, ◌⊎◌, inl, inr, ◌==◌, ◌||◌, IfOk, Option, None, Some, Result, Ok, Err, Vec, count_by, filter, find, map, slice_index, Global, Bor, bytes_eq}
+use Rattle.std.proofs.Common.{◌≡◌, ◌≤◌, ◌<◌, ◌+◌, ◌∷◌, ◌++◌, ◌∙◌, Bool, true, false, ℕ, zero, suc, List, [], drop, take, length, refl, ap, subst, sym, arith, ◌⊎◌, inl, inr, ◌==◌, ◌||◌, Option, None, Some, count_by, filter, find, map, slice_index, Bor, bytes_eq}
 use Rattle.auction_terms.specs.FirstFault.{first_fault}
 use Rattle.auction_input.specs.declared.parts.PartFault.TheVariants as fault
 use Rattle.std.proofs.lemmas.Bool.Decides.{Decides-eqb}
@@ -131,11 +131,6 @@ module _ (k : PartKind) where
   count_held held =
       let bytes = λ (part : declared.Part). part.bytes in
       sym (length-filter (is_held k) held) ∙ sym (length-map (filter (is_held k) held) bytes) ∙ sym (length-map (map bytes (filter (is_held k) held)) (λ (text : Bor (List ℕ)). text.now)) ∙ ap length (texts_held held)
-
-  pub ok_texts : {E : Type 0} (held : List declared.Part) (r : Result (Vec (Bor (List ℕ)) Global) E) → IfOk r (λ texts. texts.items ≡ map (λ (part : declared.Part). part.bytes) (filter (is_held k) held))
-      → IfOk r (λ texts. bytes_of texts.items ≡ held_named held)
-  ok_texts held (Ok texts) is = ap bytes_of is ∙ texts_held held
-  ok_texts held (Err e) is = tt
 
   pub first_held : (held : List declared.Part) (found : Option declared.Part) → find (is_held k) held ≡ found → option_map_or (λ (part : declared.Part). part.bytes.now) found [] ≡ only_text (held_named held)
   first_held [] found is = ap (λ (o : Option declared.Part). option_map_or (λ (part : declared.Part). part.bytes.now) o []) (sym is)

@@ -40,15 +40,6 @@ module _ {X A E : Type 0} (tell : ℕ → X → Result A E) where
   onto-all told ys (Ok zs) = ap (λ (xs : List A). Ok xs) (sym (append_assoc told ys zs))
   onto-all told ys (Err e) = refl
 
-  pub left-more : (n : ℕ) (items : List X) (told : List A) (x : X) (rest : List X) (y : A) → IsLeft n items told (x ∷ rest) → tell n x ≡ Ok y → IsLeft (n + 1) items (told ++ y ∷ []) rest
-  left-more n items told x rest y left tells =
-      left ∙ ap (λ (r : Result A E). and_then (and_then r (λ first. and_then (each_in_turn tell (n + 1) rest) (λ more. Ok (first ∷ more)))) (λ more. Ok (told ++ more))) tells
-      ∙ onto-all told (y ∷ []) (each_in_turn tell (n + 1) rest)
-
-  pub left-fault : (n : ℕ) (items : List X) (told : List A) (x : X) (rest : List X) (e : E) → IsLeft n items told (x ∷ rest) → tell n x ≡ Err e → each_in_turn tell 1 items ≡ Err e
-  left-fault n items told x rest e left tells =
-      left ∙ ap (λ (r : Result A E). and_then (and_then r (λ first. and_then (each_in_turn tell (n + 1) rest) (λ more. Ok (first ∷ more)))) (λ more. Ok (told ++ more))) tells
-
   -- items of which the first tell their values, and what the rest tells
   apart : (told : Result A E) (front back : Result (List A) E)
       → and_then told (λ y. and_then (and_then front (λ ys. and_then back (λ zs. Ok (ys ++ zs)))) (λ more. Ok (y ∷ more))) ≡ and_then (and_then told (λ y. and_then front (λ ys. Ok (y ∷ ys)))) (λ ys. and_then back (λ zs. Ok (ys ++ zs)))
@@ -79,6 +70,13 @@ module _ {X A E : Type 0} (tell : ℕ → X → Result A E) where
       left ∙ ap (λ (r : Result (List A) E). and_then r (λ more. Ok (told ++ more))) (each-apart n (n + length stage) stage rest refl)
       ∙ ap (λ (r : Result (List A) E). and_then (and_then r (λ front. and_then (each_in_turn tell (n + length stage) rest) (λ zs. Ok (front ++ zs)))) (λ more. Ok (told ++ more))) tells
 
+  -- an item is a stage of one
+  pub left-more : (n : ℕ) (items : List X) (told : List A) (x : X) (rest : List X) (y : A) → IsLeft n items told (x ∷ rest) → tell n x ≡ Ok y → IsLeft (n + 1) items (told ++ y ∷ []) rest
+  left-more n items told x rest y left tells = left-stage n (n + 1) items told (x ∷ []) rest (y ∷ []) refl left (rw tells refl)
+
+  pub left-fault : (n : ℕ) (items : List X) (told : List A) (x : X) (rest : List X) (e : E) → IsLeft n items told (x ∷ rest) → tell n x ≡ Err e → each_in_turn tell 1 items ≡ Err e
+  left-fault n items told x rest e left tells = left-stage-fault n items told (x ∷ []) rest e left (rw tells refl)
+
   -- as many values are told as there are items
   one-more : (told : Result A E) (r : Result (List A) E) (ys : List A) (n : ℕ) → ((zs : List A) → r ≡ Ok zs → length zs ≡ n) → and_then told (λ y. and_then r (λ more. Ok (y ∷ more))) ≡ Ok ys → length ys ≡ n + 1
   one-more (Ok y) (Ok zs) [] n as_many is = cc
@@ -100,14 +98,13 @@ module _ {X A E : Type 0} (tell : ℕ → X → Result A E) where
   pub left-none : (n : ℕ) (items : List X) (told : List A) → IsLeft n items told [] → each_in_turn tell 1 items ≡ Ok told
   left-none n items told left = left ∙ ap (λ (xs : List A). Ok xs) (append-nil told)
 
--- the next item refuses
-pub left-refused : {X A : Type 0} (tell : ℕ → X → Result A Refusal) (n : ℕ) (items : List X) (told : List A) (x : X) (rest : List X) (r : Refusal) → IsLeft tell n items told (x ∷ rest) → Refuses (tell n x) r
-    → Refuses (each_in_turn tell 1 items) r
-left-refused tell n items told x rest r left (inl is) = inl (left-fault tell n items told x rest _ left is)
-left-refused tell n items told x rest r left (inr memory) = inr memory
-
 -- a stage of items refuses
 pub left-stage-refused : {X A : Type 0} (tell : ℕ → X → Result A Refusal) (n : ℕ) (items : List X) (told : List A) (stage rest : List X) (r : Refusal) → IsLeft tell n items told (stage ++ rest)
     → Refuses (each_in_turn tell n stage) r → Refuses (each_in_turn tell 1 items) r
 left-stage-refused tell n items told stage rest r left (inl is) = inl (left-stage-fault tell n items told stage rest _ left is)
 left-stage-refused tell n items told stage rest r left (inr memory) = inr memory
+
+-- the next item refuses
+pub left-refused : {X A : Type 0} (tell : ℕ → X → Result A Refusal) (n : ℕ) (items : List X) (told : List A) (x : X) (rest : List X) (r : Refusal) → IsLeft tell n items told (x ∷ rest) → Refuses (tell n x) r
+    → Refuses (each_in_turn tell 1 items) r
+left-refused tell n items told x rest r left refused = left-stage-refused tell n items told (x ∷ []) rest r left (stop _ _ r refused)

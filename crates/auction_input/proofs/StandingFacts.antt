@@ -23,7 +23,7 @@ use Rattle.bid_desk.specs.Sessions.{IsSessionOf}
 use Rattle.bid_desk.specs.Settlement.{IsSettled, OwnIs, is_named}
 use Rattle.auction_input.specs.Submissions.{AreAccepted, AreSubmitted, forms_of}
 use Rattle.std.specs.declared.sync.Arc.{Arc}
-use Rattle.auction_input.specs.inside.Submissions.{AreByBidder, HasSubmitted, HaveSubmitted, HoldsLists}
+use Rattle.auction_input.specs.inside.Submissions.{HasSubmitted, HaveSubmitted, HoldsLists}
 
 abbrev History : Type 0
 History = List (Entry Offers)
@@ -143,8 +143,3 @@ pub round-submitted : {E : Type 0} (result : Result Closing E) (t : Terms) (chai
 round-submitted (Ok book) t chair sessions lists terms rules settled submitted =
     λ forms by. settled-submitted book chair sessions forms (subst AreTerms (sym rules) terms) (subst (λ (u : Terms). IsSettled u book.history chair sessions) (sym rules) settled) (submitted forms by)
 round-submitted (Err e) t chair sessions lists terms rules settled submitted = tt
-
--- the book holds the forms of which the lists are
-pub forms-held : {E : Type 0} (result : Result Closing E) (forms : List Offers) (lists : List (Vec (Arc Offers Global) Global)) → AreByBidder forms lists → IfOk result (HoldsLists lists) → IfOk result (AreSubmitted forms)
-forms-held (Ok book) forms lists by holds = holds forms by
-forms-held (Err e) forms lists by holds = tt

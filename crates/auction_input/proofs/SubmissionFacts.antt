@@ -235,19 +235,14 @@ module _ (forms : List Offers) (lists : Lists) (by : AreByBidder forms lists) wh
       (job-submitted job (session_of d) (ended_of d) (All-head (IsFirstJob lists) job jobs first) each.0 (All-head (λ (x : D). ended_of x ≡ Ok tt) d done ok))
       (jobs-submitted session_of ended_of jobs done each.1 (All-tail (IsFirstJob lists) job jobs first) (All-tail (λ (x : D). ended_of x ≡ Ok tt) d done ok))
 
-  pub all-submitted : {D : Type 0} (session_of : D → SessionOwn) (ended_of : D → Result (Unit {0}) RoundFault) (others : List SessionOwn) (jobs : List JobOwn) (done : List D)
-      → All (IsIdle lists) others → AllZip (λ (job : JobOwn) (d : D). ComesTo job (session_of d) (ended_of d)) jobs done → All (IsFirstJob lists) jobs → All (λ (d : D). ended_of d ≡ Ok tt) done
-      → All (HasSubmitted forms) (others ++ map session_of done)
-  all-submitted session_of ended_of others jobs done idle each first ok =
-      All-append (HasSubmitted forms) others (map session_of done) (All-weaker (IsIdle lists) (HasSubmitted forms) idle-submitted others idle)
-      (jobs-submitted session_of ended_of jobs done each first ok)
-
 -- the sessions of jobs that all ended well, and the others, have submitted the forms of the lists
 pub lists-submitted : {D Z E : Type 0} (lists : Lists) (session_of : D → SessionOwn) (ended_of : D → Result (Unit {0}) RoundFault) (others : List SessionOwn) (jobs : List JobOwn) (done : List D) (result : Result (Vec SessionOwn Z) E)
     → All (IsIdle lists) others → AllZip (λ (job : JobOwn) (d : D). ComesTo job (session_of d) (ended_of d)) jobs done → All (IsFirstJob lists) jobs → OnOk result (All (λ (d : D). ended_of d ≡ Ok tt) done)
     → IfOk result (λ sessions. sessions.items ≡ others ++ map session_of done) → IfOk result (λ sessions. HaveSubmitted lists sessions.items)
 lists-submitted lists session_of ended_of others jobs done (Ok sessions) idle each first ok are =
-    λ forms by. All-same (HasSubmitted forms) sessions.items (others ++ map session_of done) are (all-submitted forms lists by session_of ended_of others jobs done idle each first ok)
+    λ forms by. All-same (HasSubmitted forms) sessions.items (others ++ map session_of done) are
+    (All-append (HasSubmitted forms) others (map session_of done) (All-weaker (IsIdle lists) (HasSubmitted forms) (idle-submitted forms lists by) others idle)
+    (jobs-submitted forms lists by session_of ended_of jobs done each first ok))
 lists-submitted lists session_of ended_of others jobs done (Err e) idle each first ok are = tt
 
 -- the sessions of an auction are few

@@ -1,5 +1,8 @@
-use Rattle.auction_input.proofs.PartFacts.{ok_texts}
+use Rattle.std.proofs.Common.{◌∙◌, ap}
+use Rattle.rayon.proofs.ListFacts.{IfOk-then}
+use Rattle.auction_terms.specs.Borrowed.{bytes_of}
+use Rattle.auction_input.proofs.PartFacts.{texts_held}
 use Rattle.auction_input.proofs.parts.texts_of.Goals as goal
 
 pub returns : goal.returns
-returns c = ok_texts c.args.kind c.args.parts.now c.texts_held.result c.texts_held.ensures
+returns c = IfOk-then c.texts_held.result _ _ c.texts_held.ensures (λ texts is. ap bytes_of is ∙ texts_held c.args.kind c.args.parts.now)

@@ -1,7 +1,7 @@
 use Rattle.std.proofs.Common.{sym, subst}
 use Rattle.auction_terms.specs.Terms.{AreTerms}
 use Rattle.auction_input.specs.inside.Submissions.{AreByBidder}
-use Rattle.auction_input.proofs.StandingFacts.{forms-held}
+use Rattle.rayon.proofs.ListFacts.{IfOk-then}
 use Rattle.auction_input.proofs.SubmissionFacts.{own-forms}
 use Rattle.auction_input.proofs.round.close_round_of.Goals as goal
 
@@ -16,4 +16,4 @@ run_round-requires-clause-own g c = λ _ _.
 pub returns-clause-submitted : goal.returns-clause-submitted
 returns-clause-submitted g c =
     let forms = c.args.forms.items in
-    forms-held c.run_round.result forms c.as_slice.result.now (subst (AreByBidder forms) (sym c.as_slice.ensures.value) c.in_ok-lists.ensures) c.run_round.ensures.submitted
+    IfOk-then c.run_round.result _ _ c.run_round.ensures.submitted (λ book holds. holds forms (subst (AreByBidder forms) (sym c.as_slice.ensures.value) c.in_ok-lists.ensures))
