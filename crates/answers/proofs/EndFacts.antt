@@ -1,9 +1,7 @@
 -- How reports and allocations end: with a digit and a line feed.
-use Rattle.std.proofs.Common.{◌≡◌, ◌≤◌, ◌+◌, ◌/◌, ◌%◌, ◌++◌, ◌∷◌, ◌∙◌, [], ℕ, zero, suc, Bool, true, false, List, append_assoc, ap, arith, length, lt-ltb, refl, subst, sym, ℤ, pos, negsuc}
-use Rattle.std.specs.Prelude.{◌==◌, codes, decimal}
+use Rattle.std.proofs.Common.{◌≡◌, ◌≤◌, ◌+◌, ◌/◌, ◌%◌, ◌++◌, ◌∷◌, ◌∙◌, [], ℕ, zero, suc, false, List, append_assoc, ap, arith, length, lt-ltb, refl, subst, sym, ℤ, pos, negsuc, ◌==◌, codes, decimal, zip, append-nil, inl, inr}
+use Rattle.std.proofs.lemmas.Bool.{cases_Bool}
 use Rattle.std.specs.Fmt.{digit_glyph, digits, digits_onto, signed_decimal}
-use Rattle.std.specs.List.{zip}
-use Rattle.std.proofs.lemmas.List.{append-nil}
 use Rattle.auction_terms.specs.declared.choices.Choice.{Choice}
 use Rattle.outcome.specs.Report.{allocation_text, cost, group_report, heading, in_turn, report_text}
 use Rattle.bid_desk.specs.Sale.{Sale}
@@ -19,23 +17,17 @@ record EndsInDigit (text : List ℕ) : Type 0 where
 
 ends-onto : (k n : ℕ) (more : List ℕ) (last : ℕ) → (front : List ℕ) × (digits_onto k 10 false n (more ++ last ∷ []) ≡ front ++ last ∷ [])
 ends-onto zero n more last = (more, refl)
-ends-onto (suc k) n more last = by (n / 10 == 0) refl (ends-onto k (n / 10) (digit_glyph false (n % 10) ∷ more) last)
-  where
-    by : (b : Bool) → (n / 10 == 0) ≡ b → (front : List ℕ) × (digits_onto k 10 false (n / 10) ((digit_glyph false (n % 10) ∷ more) ++ last ∷ []) ≡ front ++ last ∷ [])
-        → (front : List ℕ) × (digits_onto (suc k) 10 false n (more ++ last ∷ []) ≡ front ++ last ∷ [])
-    by true is later = (digit_glyph false (n % 10) ∷ more, rw is refl)
-    by false is (front, ends) = (front, rw is ends)
+ends-onto (suc k) n more last =
+    let (front, ends) = ends-onto k (n / 10) (digit_glyph false (n % 10) ∷ more) last in
+    elim (cases_Bool (n / 10 == 0)) [ inl is ↦ (digit_glyph false (n % 10) ∷ more, rw is refl) | inr is ↦ (front, rw is ends) ]
 
 glyph-is : (n : ℕ) → digit_glyph false (n % 10) ≡ 48 + n % 10
 glyph-is n = (let below = lt-ltb (n % 10) 10 (omega arith) in rw below refl)
 
 ends-from : (k n : ℕ) → (front : List ℕ) × (digits_onto (suc k) 10 false n [] ≡ front ++ digit_glyph false (n % 10) ∷ [])
-ends-from k n = by (n / 10 == 0) refl (ends-onto k (n / 10) [] (digit_glyph false (n % 10)))
-  where
-    by : (b : Bool) → (n / 10 == 0) ≡ b → (front : List ℕ) × (digits_onto k 10 false (n / 10) (digit_glyph false (n % 10) ∷ []) ≡ front ++ digit_glyph false (n % 10) ∷ [])
-        → (front : List ℕ) × (digits_onto (suc k) 10 false n [] ≡ front ++ digit_glyph false (n % 10) ∷ [])
-    by true is later = ([], rw is refl)
-    by false is (front, ends) = (front, rw is ends)
+ends-from k n =
+    let (front, ends) = ends-onto k (n / 10) [] (digit_glyph false (n % 10)) in
+    elim (cases_Bool (n / 10 == 0)) [ inl is ↦ ([], rw is refl) | inr is ↦ (front, rw is ends) ]
 
 decimal-is : (n : ℕ) → decimal n ≡ digits_onto 64 10 false n []
 unfolding digits

@@ -1,8 +1,6 @@
 -- What `explain` leaves.
-use Rattle.std.proofs.Common.{◌≡◌, ◌⊎◌, ◌∙◌, ℕ, Bool, true, false, List, [], Option, Result, Ok, Err, ap, inl, inr, refl, subst, sym}
-use Rattle.std.specs.Prelude.{◌↔◌, IfErr, IfOk, IsErr, IsTrue, MatchBool}
+use Rattle.std.proofs.Common.{◌≡◌, ◌⊎◌, ◌∙◌, ℕ, Bool, true, false, List, [], Option, Result, Ok, Err, ap, inl, inr, refl, subst, sym, ◌↔◌, IfErr, IfOk, IsErr, IsTrue, MatchBool, true≢false}
 use Rattle.std.specs.Io.KnownBytes.{Appends}
-use Rattle.std.proofs.lemmas.Bool.{true≢false}
 use Rattle.answers.specs.Exact.{IsUnwritten, Writes}
 use Rattle.answers.specs.Answer.{answer}
 use Rattle.answers.specs.Runs.{IsAnswered, IsExplained, IsRefused, by_lines, by_text}

@@ -1,6 +1,5 @@
 -- What `map` and `report` answer is feasible in the auction that the input tells.
-use Rattle.std.proofs.Common.{◌≡◌, ◌-◌, ◌+◌, ◌==◌, ◌∷◌, [], ℕ, List, Ok, arith, eqb-true, length, refl, subst, sym}
-use Rattle.std.specs.Prelude.{nat_le, slice_index_or}
+use Rattle.std.proofs.Common.{◌≡◌, ◌-◌, ◌+◌, ◌==◌, ◌∷◌, [], ℕ, List, Ok, arith, eqb-true, length, refl, subst, sym, nat_le, slice_index_or}
 use Rattle.std.specs.List.{AllZip, zip}
 use Rattle.auction_terms.specs.Groups.{starts_empty}
 use Rattle.auction_terms.specs.Limits.{IsBook}

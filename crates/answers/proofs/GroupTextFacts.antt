@@ -1,17 +1,15 @@
 -- Items that go out one after the other.
-use Rattle.std.proofs.Common.{◌≡◌, ◌<◌, ◌≤◌, ◌+◌, ◌-◌, ◌∷◌, ◌++◌, ◌∙◌, ℕ, suc, List, [], Option, None, Some, length, take, drop, get_or, refl, sym, ap, subst, arith, append_assoc, length-append}
+use Rattle.std.proofs.Common.{◌≡◌, ◌<◌, ◌≤◌, ◌+◌, ◌-◌, ◌∷◌, ◌++◌, ◌∙◌, ℕ, suc, List, [], Option, None, Some, length, take, drop, get_or, refl, sym, ap, subst, arith, append_assoc, length-append, MutBor, min, ◌^◌, map}
 use Rattle.std.specs.Io.KnownBytes.{Appends, append_known}
-use denote.Ref.{MutBor}
-use Rattle.std.proofs.lemmas.List.{append-nil, length-take, take-append-drop, take-append-le, take_more}
+use Rattle.std.proofs.lemmas.List.{append-nil, get_or-map, length-map, length-take, take-append-drop, take-append-le, take_more}
 use Rattle.byte_sinks.specs.Sinks.{Counts, HasFailed, IsFront, SentFront}
 use Rattle.byte_sinks.specs.declared.writer.Writer.{Writer}
 use Rattle.byte_sinks.specs.Adds.{Adds, IsBroken, IsNew, IsSent}
 use Rattle.byte_sinks.proofs.Adding.{Adds-then, counts-new, fails-new, front-behind, sent-whole}
 use Rattle.byte_sinks.proofs.Known.{Counts-then, IsFront-piece, SentFront-from}
 use Rattle.bid_desk.specs.Closing.{Closing}
-use Rattle.group_compiler.specs.Compiled.{GroupProgram}
-use Rattle.answers.specs.GroupTexts.{EndsIn, programs_bytes}
-use Rattle.std.specs.Prelude.{min, ◌^◌}
+use Rattle.group_compiler.specs.Compiled.{GroupProgram, compiled}
+use Rattle.answers.specs.GroupTexts.{EndsIn, program_bytes, programs_bytes}
 use Rattle.outcome.specs.Report.{in_turn}
 
 pub in_turn-append : {X : Type 0} (f : ℕ → X → List ℕ) (k : ℕ) (xs ys : List X) → in_turn f k (xs ++ ys) ≡ in_turn f k xs ++ in_turn f (k + length xs) ys
@@ -23,7 +21,7 @@ in_turn-append f k (x ∷ xs) ys =
     ∙ ap (λ n. (f k x ++ in_turn f (k + 1) xs) ++ in_turn f n ys) same
 
 -- the first items, with one more
-pub in_turn-more : {X : Type 0} (f : ℕ → X → List ℕ) (k : ℕ) (xs : List X) (i : ℕ) (x : X) → x ≡ get_or xs i x → i < length xs
+in_turn-more : {X : Type 0} (f : ℕ → X → List ℕ) (k : ℕ) (xs : List X) (i : ℕ) (x : X) → x ≡ get_or xs i x → i < length xs
     → in_turn f k (take i xs) ++ f (k + i) x ≡ in_turn f k (take (i + 1) xs)
 in_turn-more f k xs i x is small =
     let size : length (take i xs) ≡ i = omega (arith, length-take i xs) in
@@ -31,6 +29,16 @@ in_turn-more f k xs i x is small =
     let all = in_turn-append f k (take i xs) (x ∷ []) in
     let last : in_turn f (k + length (take i xs)) (x ∷ []) ≡ f (k + i) x = append-nil (f (k + length (take i xs)) x) ∙ ap (λ n. f (k + n) x) size in
     sym (ap (in_turn f k) more ∙ all ∙ ap (λ w. in_turn f k (take i xs) ++ w) last)
+
+-- the programs of the first groups, with that of the next
+pub programs-more : (book : Closing) (groups : List (List ℕ)) (place : ℕ) (group : List ℕ) → place < length groups → group ≡ get_or groups (place + 1 - 1) []
+    → programs_bytes book (take place (map (compiled book) groups)) ++ program_bytes book (place + 1) (compiled book group) ≡ programs_bytes book (take (place + 1) (map (compiled book) groups))
+programs-more book groups place group within is =
+    let order : 1 + place ≡ place + 1 = omega arith in
+    let at : place + 1 - 1 ≡ place = omega arith in
+    let own = ap (compiled book) (is ∙ ap (λ (n : ℕ). get_or groups n []) at) ∙ sym (get_or-map (compiled book) groups place [] (compiled book group) within) in
+    let size = length-map groups (compiled book) in
+    rw order at (in_turn-more (program_bytes book) 1 (map (compiled book) groups) place (compiled book group) own (omega arith))
 
 -- the first items, and the others
 pub in_turn-rest : {X : Type 0} (f : ℕ → X → List ℕ) (k : ℕ) (xs : List X) (i : ℕ)

@@ -1,8 +1,5 @@
 -- How a line is told.
-use Rattle.std.proofs.Common.{◌≡◌, ℕ, List, Option, Result, Ok, Err, inl, inr, subst, sym}
-use Rattle.std.specs.Prelude.{[], IfErr, OnOk}
-use Rattle.std.proofs.lemmas.List.{append-nil}
-use denote.Ref.{MutBor}
+use Rattle.std.proofs.Common.{◌≡◌, ℕ, List, Option, Result, Ok, Err, inl, inr, subst, sym, [], IfErr, OnOk, append-nil, MutBor}
 use Rattle.auction_input.specs.Line.{Puts}
 use Rattle.byte_sinks.proofs.Adding.{Adds-then, Adds-to, fails-new, sent-front, sent-whole}
 use Rattle.byte_sinks.specs.Adds.{Adds, IsBroken, IsNew, IsSent}

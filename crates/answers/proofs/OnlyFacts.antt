@@ -1,8 +1,9 @@
 -- What is said of other outcomes holds.
-use Rattle.std.proofs.Common.{◌≡◌, ◌≤◌, ◌∷◌, [], ℕ, Bool, true, false, cond, List, Option, None, Some, Ok, leb-true, refl, subst, sym}
-use Rattle.std.specs.Prelude.{IsPermutation, nat_le, not, slice_index_or}
+use Rattle.std.proofs.Common.{◌≡◌, ◌≤◌, ◌∷◌, [], ℕ, Bool, false, cond, List, Option, None, Some, Ok, leb-true, refl, subst, sym, IsPermutation, nat_le, not, slice_index_or}
 use Rattle.std.specs.List.{AllZip}
+use Rattle.rayon.proofs.ListFacts.{AllZip-weaken}
 use Rattle.std.specs.Option.{option_map, option_map_or}
+use Rattle.std.proofs.lemmas.Bool.{not-true}
 use Rattle.auction_terms.specs.Allocations.{total}
 use Rattle.auction_terms.specs.FirstFault.{first_failed}
 use Rattle.auction_terms.specs.Groups.{has}
@@ -46,13 +47,8 @@ same-bids p point = as-often (back p.columns point) (allocation_of p point) (λ 
 -- where the first allocation is the only one, each cost is settled
 pub settled-costs : (sale : Sale) (first : List Choice) → IsOnly sale.lots sale.book (λ b. false) first → (groups : List (List ℕ)) (won : List (List Choice)) → AllZip (IsGreatestWithout sale) groups won
     → AllZip (IsSettledCost sale first) groups won
-settled-costs sale first only [] [] each = tt
-settled-costs sale first only [] (a ∷ won) each = absurd each
-settled-costs sale first only (group ∷ groups) [] each = absurd each
-settled-costs sale first only (group ∷ groups) (a ∷ won) each = (
-  λ first' a' best best'. sym (only_first_settles_costs sale.lots sale.book group first first' a a' only best each.0 best').1,
-  settled-costs sale first only groups won each.1,
-)
+settled-costs sale first only = AllZip-weaken (IsGreatestWithout sale) (IsSettledCost sale first)
+    (λ group a greatest first' a' best best'. sym (only_first_settles_costs sale.lots sale.book group first first' a a' only best greatest best').1)
 
 module _ (sale : Sale) (within : IsBook sale.lots sale.book) (first : List Choice) (best : IsGreatest sale.lots sale.book (λ b. false) first) where
   abbrev program : Table
@@ -72,9 +68,9 @@ module _ (sale : Sale) (within : IsBook sale.lots sale.book) (first : List Choic
   only-or-rival solved text point told is faultless None none = only-one solved text point told is faultless none
   only-or-rival solved text point told is faultless (Some c) found = rivals_tie rivals_do_as_well sale.lots sale.book (λ b. false) first c best found
 
-no-fault : (o : Option (ℕ × FaultKind)) → option_map (λ (f : ℕ × FaultKind). refusal.Unique (record { line = f.0; kind = f.1 })) o ≡ None → o ≡ None
-no-fault None e = refl
-no-fault (Some f) e = cc
+pub no-fault : {F R : Type 0} (tell : F → R) (o : Option F) → option_map tell o ≡ None → o ≡ None
+no-fault tell None e = refl
+no-fault tell (Some f) e = cc
 
 module _ (auction : Auction) (within : IsBook auction.sale.lots auction.sale.book) (first : List Choice) (best : IsGreatest auction.sale.lots auction.sale.book (λ b. false) first)
     (won : winners_by (first_program auction) 1 (slice_index_or auction.solutions 0 []) ≡ Ok first) where
@@ -95,26 +91,17 @@ module _ (auction : Auction) (within : IsBook auction.sale.lots auction.sale.boo
   only-holds text claim told =
       let (point, point_is, judged) = ok-behind (refused_as (solution_refused p 1) (solution p solved)) _ claim told in
       let point_told = ok-refused_as (solution_refused p 1) (solution p solved) point point_is in
-      let (none, is) = unless-ok (option_map (λ (f : ℕ × FaultKind). refusal.Unique (record { line = f.0; kind = f.1 })) (only_fault p point text)) (only_or_rival sale first) claim judged in
-      let holds = only-or-rival sale within first best solved text point point_told (wins point point_told) (no-fault (only_fault p point text) none) (first_rival sale.lots sale.book first) refl in
+      let tell = λ (f : ℕ × FaultKind). refusal.Unique (record { line = f.0; kind = f.1 }) in
+      let (none, is) = unless-ok (option_map tell (only_fault p point text)) (only_or_rival sale first) claim judged in
+      let holds = only-or-rival sale within first best solved text point point_told (wins point point_told) (no-fault tell (only_fault p point text) none) (first_rival sale.lots sale.book first) refl in
       subst (λ (c : Uniqueness). Holds sale first c) is holds
 
-  rises : HasRisingBidders first
-  rises =
-      let (point, point_is, is) = ok-behind (refused_as (solution_refused p 1) (solution p solved)) _ first won in
-      let point_told = ok-refused_as (solution_refused p 1) (solution p solved) point point_is in
-      subst HasRisingBidders (wins point point_told) (solutions_come_back sale.lots sale.book (has []) solved point within point_told).rising
-
-  rises-too : (text : List ℕ) (other : List Choice) → winners_by p 1 text ≡ Ok other → HasRisingBidders other
-  rises-too text other told =
+  rises : (text : List ℕ) (other : List Choice) → winners_by p 1 text ≡ Ok other → HasRisingBidders other
+  rises text other told =
       let (point, point_is, is) = ok-behind (refused_as (solution_refused p 1) (solution p text)) _ other told in
       let point_told = ok-refused_as (solution_refused p 1) (solution p text) point point_is in
       let same : allocation_of p point ≡ other = ok-is _ (allocation_of p point) other refl is in
       subst HasRisingBidders same (solutions_come_back sale.lots sale.book (has []) text point within point_told).rising
-
-  not-same : (b : Bool) → not b ≡ true → b ≡ false
-  not-same true is = cc
-  not-same false is = refl
 
   tie-holds : (text : List ℕ) (claim : Uniqueness) → tie_told auction first text ≡ Ok claim → Holds sale first claim
   tie-holds text claim told =
@@ -124,7 +111,7 @@ module _ (auction : Auction) (within : IsBook auction.sale.lots auction.sale.boo
       let (none, is) = unless-ok (first_failed checks) (uniqueness.Tie other) claim ties in
       let each = none-failed checks none in
       let no_less : total sale.lots sale.book first ≤ total sale.lots sale.book other = leb-true _ _ each.0 in
-      let tie = others_tie sale.lots sale.book (λ b. false) first other best (feasible-of sale 1 [] text other within wins_too) no_less rises (rises-too text other wins_too) (not-same _ each.1.0) in
+      let tie = others_tie sale.lots sale.book (λ b. false) first other best (feasible-of sale 1 [] text other within wins_too) no_less (rises solved first won) (rises text other wins_too) (not-true _ each.1.0) in
       subst (λ (c : Uniqueness). Holds sale first c) is tie
 
   -- whatever is claimed
@@ -132,6 +119,4 @@ module _ (auction : Auction) (within : IsBook auction.sale.lots auction.sale.boo
   claim-holds [] [] claim told = subst (λ (c : Uniqueness). Holds sale first c) (ok-is _ uniqueness.Unasked claim refl told) tt
   claim-holds (text ∷ []) [] claim told = only-holds text claim told
   claim-holds [] (text ∷ []) claim told = tie-holds text claim told
-  claim-holds (text ∷ []) (t ∷ ties) claim told = cc
-  claim-holds (text ∷ u ∷ uniques) ties claim told = cc
-  claim-holds [] (text ∷ t ∷ ties) claim told = cc
+  claim-holds uniques ties claim told = cc

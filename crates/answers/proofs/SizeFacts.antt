@@ -1,8 +1,6 @@
 -- Counting entries, column by column.
-use Rattle.std.proofs.Common.{◌≡◌, ◌+◌, ◌-◌, ◌^◌, ℕ, zero, suc, List, [], ◌∷◌, ◌++◌, Option, None, Some, length, take, refl, ap, sym, ◌∙◌, arith}
-use Rattle.std.specs.Prelude.{min, slice_get, sum_by, ℤ}
+use Rattle.std.proofs.Common.{◌≡◌, ◌+◌, ◌-◌, ◌^◌, ℕ, zero, suc, List, [], ◌∷◌, ◌++◌, Option, None, Some, length, take, refl, ap, sym, ◌∙◌, arith, min, slice_get, sum_by, ℤ, option_map}
 use Rattle.std.proofs.lemmas.List.Sums.{sum_by-append}
-use Rattle.std.specs.Option.{option_map}
 use Rattle.program_rows.specs.Program.{TableColumn}
 
 -- how many entries these columns have, up to the greatest number of 64 bits

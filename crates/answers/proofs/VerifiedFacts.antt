@@ -1,9 +1,8 @@
 -- What certificates show of what groups win.
-use Rattle.std.proofs.Common.{◌≡◌, ◌≤◌, ◌+◌, ◌++◌, ◌==◌, ◌∷◌, ◌∙◌, [], ℕ, true, false, List, Option, None, Some, Result, Ok, Err, ap, arith, eqb-true, length, map, refl, subst, sym}
-use Rattle.std.specs.Prelude.{OnOk, ℤ, codes, slice_index_or}
+use Rattle.std.proofs.Common.{◌≡◌, ◌≤◌, ◌+◌, ◌++◌, ◌==◌, ◌∷◌, ◌∙◌, [], ℕ, true, false, List, Option, None, Result, Ok, Err, ap, arith, eqb-true, length, map, refl, subst, sym, OnOk, ℤ, codes, slice_index_or, option_map}
 use Rattle.std.specs.List.{AllZip, zip}
-use Rattle.std.specs.Option.{option_map}
 use Rattle.std.proofs.lemmas.Int.{ints}
+use Rattle.rayon.proofs.ListFacts.{AllZip-weaken}
 use Rattle.auction_terms.specs.Groups.{has, starts_empty}
 use Rattle.auction_terms.specs.Limits.{IsBook}
 use Rattle.auction_terms.specs.declared.choices.Choice.{Choice}
@@ -40,21 +39,18 @@ use Rattle.group_winners.proofs.ClaimedFacts.{some-group, wins-first}
 use Rattle.answers.proofs.EndFacts.{no-report, no-tie}
 use Rattle.group_winners.proofs.CheckFacts.{when-both, when-counted}
 use Rattle.group_winners.proofs.WinnersFeasible.{feasible-of}
-use Rattle.answers.proofs.OnlyFacts.{claim-holds, settled-costs}
+use Rattle.answers.proofs.OnlyFacts.{claim-holds, no-fault, settled-costs}
 
 -- ---- one group
 
 -- a bound that is shown is one
 shown-bound : (number : ℕ) (bound : Table × ℤ × List ℕ) (u : Unit {0}) → shown number bound ≡ Ok u → IsBound bound.0 bound.1
 shown-bound number bound u told =
-    let none = (unless-ok (option_map (λ (f : ℕ × FaultKind). refusal.Certificate number (record { line = f.0; kind = f.1 })) (certificate_fault bound.0 bound.1 bound.2)) tt u told).0 in
-    let faultless : certificate_fault bound.0 bound.1 bound.2 ≡ None = no-fault (certificate_fault bound.0 bound.1 bound.2) none in
+    let tell = λ (f : ℕ × FaultKind). refusal.Certificate number (record { line = f.0; kind = f.1 }) in
+    let none = (unless-ok (option_map tell (certificate_fault bound.0 bound.1 bound.2)) tt u told).0 in
+    let faultless : certificate_fault bound.0 bound.1 bound.2 ≡ None = no-fault tell (certificate_fault bound.0 bound.1 bound.2) none in
     let (certificate, tells, shows) = (verdict bound.0 bound.1 bound.2).0 faultless in
     shown-is-bound bound.0 bound.1 certificate shows
-  where
-    no-fault : (o : Option (ℕ × FaultKind)) → option_map (λ (f : ℕ × FaultKind). refusal.Certificate number (record { line = f.0; kind = f.1 })) o ≡ None → o ≡ None
-    no-fault None e = refl
-    no-fault (Some f) e = cc
 
 -- what is won without a group, of which a bound is shown, is of greatest total
 greatest-of : (sale : Sale) (number : ℕ) (group text certificate : List ℕ) (a : List Choice) (u : Unit {0}) → IsBook sale.lots sale.book
@@ -96,16 +92,10 @@ all-greatest sale n (group ∷ groups) (text ∷ texts) (certificate ∷ certifi
 
 own-costs : (sale : Sale) (first : List Choice) → IsGreatest sale.lots sale.book (λ b. false) first → (groups : List (List ℕ)) (won : List (List Choice)) → AllZip (IsGreatestWithout sale) groups won
     → AllZip (IsOwnCost sale first) groups won
-own-costs sale first best [] [] each = tt
-own-costs sale first best [] (a ∷ won) each = absurd each
-own-costs sale first best (group ∷ groups) [] each = absurd each
-own-costs sale first best (group ∷ groups) (a ∷ won) each = (
-  record {
-    own = λ of_all without by_all by_others. costs_are_own sale.lots sale.book group first a of_all without by_all by_others best each.0;
-    law = costs_are_bounded sale.lots sale.book group first a best each.0;
-  },
-  own-costs sale first best groups won each.1,
-)
+own-costs sale first best = AllZip-weaken (IsGreatestWithout sale) (IsOwnCost sale first) (λ group a greatest. record {
+  own = λ of_all without by_all by_others. costs_are_own sale.lots sale.book group first a of_all without by_all by_others best greatest;
+  law = costs_are_bounded sale.lots sale.book group first a best greatest;
+})
 
 first-greatest : (sale : Sale) (groups : List (List ℕ)) (won : List (List Choice)) → starts_empty groups ≡ true → AllZip (IsGreatestWithout sale) groups won
     → IsGreatest sale.lots sale.book (λ b. false) (slice_index_or won 0 [])

@@ -1,17 +1,14 @@
 -- How `verify` ends.
-use Rattle.std.proofs.Common.{◌≡◌, ℕ, List, Option, Ok, length, refl, inl, inr}
-use Rattle.std.specs.Prelude.{[], ◌⊎◌, slice_index_or}
+use Rattle.std.proofs.Common.{◌≡◌, ℕ, List, Option, Ok, length, refl, inl, inr, [], ◌⊎◌, slice_index_or}
 use Rattle.auction_terms.specs.declared.choices.Choice.{Choice}
 use Rattle.auction_input.specs.Auction.{Auction}
-use Rattle.group_winners.specs.Certified.{bounds_of, certified}
+use Rattle.group_winners.specs.Certified.{IsTooWide, bounds_of, certified}
 use Rattle.group_winners.specs.SolutionWinners.{winners_of_groups}
 use Rattle.answers.specs.Answer.{output_of}
 use Rattle.auction_input.specs.Refused.{Refuses}
 use Rattle.auction_input.specs.declared.refusal.Refusal.{Refusal}
-use Rattle.group_winners.specs.Claimed.{claims_told}
+use Rattle.group_winners.specs.Claimed.{IsTooWideClaim, claims_told}
 use Rattle.answers.specs.Exact.{Ends, IsBeyondSums, by_refusal}
-use Rattle.group_winners.specs.Certified.{IsTooWide}
-use Rattle.group_winners.specs.Claimed.{IsTooWideClaim}
 use Rattle.requests.specs.declared.request.Request.TheVariants as request
 use Rattle.auction_input.proofs.StageFacts.{behind, next, stop}
 

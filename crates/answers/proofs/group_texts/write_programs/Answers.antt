@@ -1,10 +1,10 @@
-use Rattle.std.proofs.Common.{rules, ◌≡◌, ◌<◌, ◌+◌, ◌-◌, ◌++◌, ◌∙◌, [], ℕ, List, ap, length, map, slice_index_or, take, drop, sym, arith, refl}
-use Rattle.std.proofs.lemmas.List.{append-nil, get_or-map, length-map}
+use Rattle.std.proofs.Common.{rules, ◌≡◌, ◌<◌, ◌+◌, ◌-◌, ◌++◌, ◌∙◌, ℕ, List, ap, length, map, take, drop, sym, arith, refl}
+use Rattle.std.proofs.lemmas.List.{append-nil, length-map}
 use Rattle.group_compiler.specs.Compiled.{GroupProgram, compiled}
 use Rattle.byte_sinks.proofs.Adding.{Adds-then, Adds-to, sent-quiet}
 use Rattle.outcome.specs.Report.{in_turn}
 use Rattle.answers.specs.GroupTexts.{program_bytes}
-use Rattle.answers.proofs.GroupTextFacts.{ends-in, ends-told, fails-told, in_turn-more, in_turn-rest}
+use Rattle.answers.proofs.GroupTextFacts.{ends-in, ends-told, fails-told, in_turn-rest, programs-more}
 use Rattle.answers.proofs.group_texts.write_programs.Goals as goal
 
 pub loop-place-preserved : goal.loop-place-preserved
@@ -16,15 +16,8 @@ loop-place-preserved g c =
     let f : ℕ → GroupProgram → List ℕ = program_bytes book in
     let place = c.loop-place.place in
     let x = compiled book c.group-group.result.now in
-    let order : 1 + place ≡ place + 1 = omega arith in
     let within : place < length groups = (let l = c.loop-place-test.true in let e = c.count-place-end.ensures.count in omega arith) in
-    let at : place + 1 - 1 ≡ place = omega arith in
-    let group = c.group-group.ensures ∙ ap (λ (n : ℕ). slice_index_or groups n []) at in
-    let is = ap (compiled book) group ∙ sym (get_or-map (compiled book) groups place [] x within) in
-    let size = length-map groups (compiled book) in
-    let small : place < length programs = omega arith in
-    let more = in_turn-more f 1 programs place x is small in
-    let bytes : in_turn f 1 (take place programs) ++ f (place + 1) x ≡ in_turn f 1 (take (place + 1) programs) = rw order at more in
+    let bytes = programs-more book groups place c.group-group.result.now within c.group-group.ensures in
     let own = Adds-to (Adds-then c.add_group.ensures c.flush.ensures.adds) (append-nil (f (place + 1) x)) in
     record {
       added = Adds-to (Adds-then {xs = in_turn f 1 (take place programs)} i.added own) bytes;
@@ -40,16 +33,11 @@ returns-in-Err-clause-stopped g c =
     let f : ℕ → GroupProgram → List ℕ = program_bytes book in
     let place = c.loop-place.place in
     let x = compiled book c.group-group.result.now in
-    let order : 1 + place ≡ place + 1 = omega arith in
     let within : place < length groups = (let l = c.loop-place-test.true in let e = c.count-place-end.ensures.count in omega arith) in
-    let at : place + 1 - 1 ≡ place = omega arith in
-    let group = c.group-group.ensures ∙ ap (λ (n : ℕ). slice_index_or groups n []) at in
-    let is = ap (compiled book) group ∙ sym (get_or-map (compiled book) groups place [] x within) in
-    let size = length-map groups (compiled book) in
-    let small : place < length programs = omega arith in
-    let more = in_turn-more f 1 programs place x is small in
-    let bytes : in_turn f 1 (take place programs) ++ f (place + 1) x ≡ in_turn f 1 (take (place + 1) programs) = rw order at more in
+    let bytes : in_turn f 1 (take place programs) ++ f (place + 1) x ≡ in_turn f 1 (take (place + 1) programs) =
+    programs-more book groups place c.group-group.result.now within c.group-group.ensures in
     let own = Adds-to (Adds-then c.add_group.ensures c.flush.ensures.adds) (append-nil (f (place + 1) x)) in
+    let size = length-map groups (compiled book) in
     let rest = in_turn-rest f 1 programs (place + 1) in
     let later = in_turn f (1 + length (take (place + 1) programs)) (drop (place + 1) programs) in
     let whole : in_turn f 1 programs ≡ (in_turn f 1 (take place programs) ++ f (place + 1) x) ++ later = rw bytes rest in

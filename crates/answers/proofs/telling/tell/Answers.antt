@@ -1,5 +1,4 @@
-use Rattle.std.proofs.Common.{ℕ, List, ap, rules}
-use Rattle.std.specs.Prelude.{◌++◌, ◌∷◌, [], codes}
+use Rattle.std.proofs.Common.{ℕ, List, ap, rules, ◌++◌, ◌∷◌, [], codes}
 use Rattle.answers.proofs.LineFacts.{puts}
 use Rattle.answers.proofs.telling.tell.Goals as goal
 

@@ -1,10 +1,9 @@
-use Rattle.std.proofs.Common.{◌≡◌, ◌-◌, ℕ, List, [], Ok, ap₂, inr, refl, subst, IfErr, IfOk, slice_index_or}
+use Rattle.std.proofs.Common.{◌≡◌, ◌-◌, ℕ, List, [], Ok, ap₂, inr, refl, subst, IfErr, IfOk, slice_index_or, false}
 use Rattle.auction_terms.specs.Allocations.{IsFeasible}
 use Rattle.auction_terms.specs.Groups.{has}
 use Rattle.auction_terms.specs.Terms.{lots_in}
 use Rattle.bid_desk.specs.Closing.{book_of}
 use Rattle.group_compiler.specs.Compiled.{Compiling, program_without}
-use Rattle.std.specs.Prelude.{false}
 use Rattle.auction_input.specs.Refused.{Refuses}
 use Rattle.group_winners.specs.SolutionWinners.{winners_by}
 use Rattle.auction_input.specs.declared.refusal.Refusal.TheVariants as refusal
