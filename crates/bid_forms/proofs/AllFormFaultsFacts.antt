@@ -1,5 +1,5 @@
 -- What the loop keeps that goes on behind a faulty record, and that all faults of a form begin with the first one.
-use Rattle.std.proofs.Common.{subst, ◌≡◌, ◌+◌, ◌∷◌, ◌++◌, ◌∙◌, Bool, ℕ, List, [], length, map, refl, sym, ap, arith, append_assoc, Option, Some, None, Result, Ok, Err, drop, if◌then◌else◌, option_map, option_to_list, MatchOption, inl, inr}
+use Rattle.std.proofs.Common.{subst, ◌≡◌, ◌+◌, ◌∷◌, ◌++◌, ◌∙◌, Bool, ℕ, List, [], length, map, refl, sym, ap, arith, append_assoc, Option, Some, None, Result, Ok, Err, drop, option_map, option_to_list, MatchOption, inl, inr}
 use Rattle.std.specs.List.{list_all}
 use Rattle.std.specs.Option.{option_map_or, option_or}
 use Rattle.auction_terms.proofs.AllFaultsFacts.{BeginAs, begin-all_faults, begin-both, begin-one_failed, begin-or_else, begin-told, found-all, found-more, option_or-assoc}

@@ -1,4 +1,4 @@
-use Rattle.std.proofs.Common.{rules, ◌≡◌, ◌<◌, ◌+◌, ◌-◌, ◌++◌, ◌∙◌, ℕ, List, ap, length, map, take, drop, sym, arith, refl}
+use Rattle.std.proofs.Common.{rules, ◌≡◌, ◌<◌, ◌+◌, ◌++◌, ◌∙◌, ℕ, List, ap, length, map, take, drop, sym, arith, refl}
 use Rattle.std.proofs.lemmas.List.{append-nil, length-map}
 use Rattle.group_compiler.specs.Compiled.{GroupProgram, compiled}
 use Rattle.byte_sinks.proofs.Adding.{Adds-then, Adds-to, sent-quiet}
