@@ -1,10 +1,9 @@
 -- The first field of a line, and what follows it.
-use Rattle.std.proofs.Common.{◌≡◌, ℕ, suc, ◌+◌, ◌<◌, ◌≤◌, Bool, true, false, not, List, [], ◌∷◌, ◌==◌, get_or, take, drop, length, refl, sym, ap, ◌∙◌, add-one, drop-cons, arith}
+use Rattle.std.proofs.Common.{◌≡◌, ℕ, suc, ◌+◌, ◌<◌, ◌≤◌, Bool, true, false, not, List, [], ◌∷◌, ◌==◌, get_or, take, drop, length, refl, sym, ap, ◌∙◌, arith}
 use Rattle.std.specs.Prelude.{nat_lt}
 use Rattle.std.specs.List.{onto_first, position_or_len, slice_split}
 use Rattle.std.proofs.lemmas.Bool.{ltb-true, ltb-false, ne_eqb}
-use Rattle.std.proofs.lemmas.List.{length-take-le, take_all}
-use Rattle.std.proofs.Math.ListN.{drop_of_length-le}
+use Rattle.std.proofs.lemmas.List.{drop_all, drop_more, length-take-le, take_all}
 use Rattle.std.proofs.lemmas.List.Sums.{passes_at_first}
 use Rattle.std.proofs.lemmas.List.Splits.{slice_split-cons_no, slice_split_first}
 use Rattle.line_words.specs.Lines.{fields, is_space}
@@ -14,10 +13,6 @@ is_text b = not (is_space b)
 
 drop_one : (k x : ℕ) (xs : List ℕ) → drop (1 + k) (x ∷ xs) ≡ drop k xs
 drop_one k x xs = ap (λ (n : ℕ). drop n (x ∷ xs)) (let t : 1 + k ≡ suc k = omega arith in t)
-
-no_field : fields [] ≡ []
-unfolding fields
-no_field = refl
 
 space_first : (x : ℕ) (xs : List ℕ) → is_space x ≡ true → fields (x ∷ xs) ≡ fields xs
 unfolding fields
@@ -31,9 +26,6 @@ skipped (x ∷ xs) = by (is_space x) refl (skipped xs)
     by : (b : Bool) → is_space x ≡ b → fields xs ≡ fields (drop (position_or_len is_text xs) xs) → fields (x ∷ xs) ≡ fields (drop (position_or_len is_text (x ∷ xs)) (x ∷ xs))
     by true h more = space_first x xs h ∙ more ∙ ap fields (rw h (sym (drop_one (position_or_len is_text xs) x xs)))
     by false h more = rw h refl
-
-at_place : (xs : List ℕ) (n : ℕ) → n < length xs → drop n xs ≡ get_or xs n 0 ∷ drop (n + 1) xs
-at_place xs n h = rw (add-one, drop-cons xs n 0) refl
 
 -- a list without white space is one part
 one_part : (xs : List ℕ) → length xs ≤ position_or_len is_space xs → slice_split is_space xs ≡ xs ∷ []
@@ -59,12 +51,12 @@ word xs n place some within = by (nat_lt n (length xs)) refl
         let less = ltb-true _ _ h in
         let first : is_space (get_or xs n 0) ≡ true = rw place at (passes_at_first is_space xs 0 (rw place less)) in
         let first_part : slice_split is_space xs ≡ take n xs ∷ slice_split is_space (drop (n + 1) xs) = rw place at (slice_split_first is_space xs 0 (rw place less)) in
-        let rest : fields (drop n xs) ≡ fields (drop (n + 1) xs) = ap fields (at_place xs n less) ∙ space_first (get_or xs n 0) (drop (n + 1) xs) first in
+        let rest : fields (drop n xs) ≡ fields (drop (n + 1) xs) = ap fields (drop_more xs n 0 less) ∙ space_first (get_or xs n 0) (drop (n + 1) xs) first in
         rw (first_part, some_bytes, rest) refl
     by false h =
         let whole : n ≡ length xs = omega (arith, ltb-false _ _ h) in
         let all : take n xs ≡ xs = take_all n xs (omega arith) in
-        let none : drop n xs ≡ [] = drop_of_length-le xs (omega arith) in
+        let none : drop n xs ≡ [] = drop_all n xs (omega arith) in
         let size : (length xs == 0) ≡ false = rw all at some_bytes in
         rw (one_part xs (omega (arith, place)), size, all, none) refl
 
@@ -73,7 +65,7 @@ begins : (xs : List ℕ) (n : ℕ) → position_or_len is_text xs ≡ n → n < 
 begins xs n place less =
     let first : is_text (get_or xs n 0) ≡ true = rw place at (passes_at_first is_text xs 0 (rw place less)) in
     let other : is_space (get_or xs n 0) ≡ false = not_true _ first in
-    rw (at_place xs n less, other) (omega arith)
+    rw (drop_more xs n 0 less, other) (omega arith)
   where
     not_true : (b : Bool) → not b ≡ true → b ≡ false
     not_true true h = cc h
@@ -89,4 +81,5 @@ first_field line text start end at less is place within =
 
 -- a line of white space alone has no field
 pub no_fields : (line : List ℕ) → length line ≡ position_or_len is_text line → fields line ≡ []
-no_fields line at = skipped line ∙ ap fields (rw (← at) (drop_of_length-le line (omega arith))) ∙ no_field
+unfolding fields
+no_fields line at = skipped line ∙ ap fields (drop_all (position_or_len is_text line) line (omega (arith, at)))

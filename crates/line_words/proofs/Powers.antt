@@ -1,7 +1,7 @@
 -- Whole quotients by powers of ten.
 use Rattle.std.proofs.Common.{◌≡◌, ◌≢◌, ℕ, zero, suc, ◌+◌, ◌-◌, ◌*◌, ◌/◌, ◌%◌, ◌^◌, ◌<◌, ◌≤◌, true, false, refl, sym, ap, ◌∙◌, arith, Err}
 use Rattle.std.specs.Prelude.{◌==◌, nat_lt}
-use Rattle.std.proofs.Math.Nat.{pow-le-pow_right, one-le-pow, mul-le-mul_left, mul-le-mul_right, mod-eq_of_lt, mod-lt}
+use Rattle.std.proofs.Math.Nat.{pow-le-pow_right, one-le-pow, mul-le-mul_right, mod-eq_of_lt, mod-lt}
 use Rattle.std.proofs.lemmas.Nat.{pow-add, div-mul-add, mod-mul-add}
 use Rattle.std.proofs.lemmas.Bool.{ne_eqb, eq-eqb, lt-ltb}
 use Rattle.line_words.specs.declared.number.NumberFault.TheVariants.{NumberRange, NotWhole}
@@ -19,19 +19,10 @@ too_low digits places some small h =
     let rest : (digits % 10 ^ places == 0) ≡ false = rw (mod-eq_of_lt below) (ne_eqb _ _ (λ e. omega arith)) in
     rw rest refl
 
-pub too_high : (digits places : ℕ) → 0 < digits → 18 < places → Err NumberRange ≡ whole_of (digits * 10 ^ places) 1
-too_high digits places some h =
-    let power : 10 ^ 19 ≤ 10 ^ places = pow_above 19 places h in
-    let size : 10 ^ places ≤ digits * 10 ^ places = omega (arith, mul-le-mul_right (10 ^ places) some) in
-    let whole : ((digits * 10 ^ places) % 1 == 0) ≡ true = eq-eqb _ _ (omega arith) in
-    let above : nat_lt (10 ^ 18) ((digits * 10 ^ places) / 1) ≡ true = lt-ltb _ _ (omega arith) in
-    rw (whole, above) refl
-
-pub too_large : (digits places : ℕ) → 10 ^ 18 < digits → Err NumberRange ≡ whole_of (digits * 10 ^ places) 1
-too_large digits places h =
-    let size : digits ≤ digits * 10 ^ places = omega (arith, mul-le-mul_left {m = 1} {n = 10 ^ places} digits (pow_some places)) in
-    let whole : ((digits * 10 ^ places) % 1 == 0) ≡ true = eq-eqb _ _ (omega arith) in
-    let above : nat_lt (10 ^ 18) ((digits * 10 ^ places) / 1) ≡ true = lt-ltb _ _ (omega arith) in
+pub past_limit : (size : ℕ) → 10 ^ 18 < size → Err NumberRange ≡ whole_of size 1
+past_limit size h =
+    let whole : (size % 1 == 0) ≡ true = eq-eqb _ _ (omega arith) in
+    let above : nat_lt (10 ^ 18) (size / 1) ≡ true = lt-ltb _ _ (omega arith) in
     rw (whole, above) refl
 
 same_test : (rest factor : ℕ) → 0 < factor → (rest * factor == 0) ≡ (rest == 0)

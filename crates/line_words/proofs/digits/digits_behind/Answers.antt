@@ -3,16 +3,13 @@ use Rattle.line_words.proofs.Folding.{after-next, digit-at, next-low, fits}
 use Rattle.line_words.proofs.digits.digits_behind.Goals as goal
 
 pub overflow_mul-value : goal.overflow_mul-value
-overflow_mul-value c =
-    let low = fits c.loop-i.value (c.args.count + c.loop-i.i) c.loop-i.invariant.2 (omega (arith, c.requires.few)) in
-    omega (arith, low)
+overflow_mul-value c = omega (arith, fits c.loop-i.value (c.args.count + c.loop-i.i) c.loop-i.invariant.2 (omega (arith, c.requires.few)))
 
 pub overflow_add-value : goal.overflow_add-value
 overflow_add-value c =
-    let low = fits c.loop-i.value (c.args.count + c.loop-i.i) c.loop-i.invariant.2 (omega (arith, c.requires.few)) in
     let d = digit-at c.args.bytes.now c.loop-i.i c.requires.digits c.loop-i-test.true in
     let top : slice_index_or c.args.bytes.now c.loop-i.i 0 ≤ 57 = d.1 in
-    omega (arith, low, top)
+    omega (arith, fits c.loop-i.value (c.args.count + c.loop-i.i) c.loop-i.invariant.2 (omega (arith, c.requires.few)), top)
 
 pub loop-i-preserved : goal.loop-i-preserved
 loop-i-preserved c =

@@ -1,5 +1,5 @@
-use Rattle.std.proofs.Common.{◌≡◌, ◌∙◌, List, ℕ, ◌-◌, sym, drop, length, take, arith}
-use Rattle.std.proofs.lemmas.List.{length-drop, take-append-drop, take_all}
+use Rattle.std.proofs.Common.{◌∙◌, List, ℕ, ◌-◌, sym, drop, length, take, arith}
+use Rattle.std.proofs.lemmas.List.{take-append-drop, take_rest}
 use Rattle.line_words.proofs.FieldLaws.{first_field, no_fields}
 use Rattle.line_words.proofs.fields.next_field.Goals as goal
 
@@ -12,10 +12,8 @@ returns-clause-first c =
     let start = c.text_in-start.result in
     let end = c.space_in-end.result in
     let text : List ℕ = take (length line - start) (drop start line) in
-    let whole : text ≡ drop start line = take_all (length line - start) (drop start line) (omega (arith, length-drop start line)) in
-    let rest : take (length text - end) (drop end text) ≡ drop end text = take_all (length text - end) (drop end text) (omega (arith, length-drop end text)) in
-    let told = first_field line text start end c.text_in-start.ensures.value (omega (arith, c.text_in-start.ensures.within, c.if-start-line.false)) whole c.space_in-end.ensures.value c.space_in-end.ensures.within in
-    rw rest told
+    rw (take_rest text end)
+    (first_field line text start end c.text_in-start.ensures.value (omega (arith, c.text_in-start.ensures.within, c.if-start-line.false)) (take_rest line start) c.space_in-end.ensures.value c.space_in-end.ensures.within)
 
 pub returns-clause-rest : goal.returns-clause-rest
 returns-clause-rest c =
@@ -23,6 +21,4 @@ returns-clause-rest c =
     let start = c.text_in-start.result in
     let end = c.space_in-end.result in
     let text : List ℕ = take (length line - start) (drop start line) in
-    let whole : text ≡ drop start line = take_all (length line - start) (drop start line) (omega (arith, length-drop start line)) in
-    let rest : take (length text - end) (drop end text) ≡ drop end text = take_all (length text - end) (drop end text) (omega (arith, length-drop end text)) in
-    rw (← c.text_in-start.ensures.value, rest, take-append-drop end text, whole) (sym (take-append-drop start line))
+    rw (← c.text_in-start.ensures.value, take_rest text end, take-append-drop end text, take_rest line start) (sym (take-append-drop start line))

@@ -1,4 +1,5 @@
-use Rattle.std.proofs.Common.{◌≡◌, ℕ, ◌-◌, ◌^◌, ◌<◌, ◌≤◌, true, length, take, get_or}
+use Rattle.std.proofs.Common.{◌≡◌, ◌-◌, ◌^◌, ◌<◌, ◌≤◌, true, length, take}
+use Rattle.std.specs.List.{list_all}
 use Rattle.std.specs.Char.{is_ascii_digit}
 use Rattle.std.specs.Str.Parse.{digits_value_after}
 use Rattle.line_words.proofs.number.few_digits.Given as goal
@@ -7,7 +8,7 @@ use Rattle.line_words.proofs.number.few_digits.Given as goal
 abbrev pub invariant-loop-i : goal.invariant-loop-i
 invariant-loop-i l = record {
   within : l.i ≤ length l.bytes;
-  digits : (k : ℕ) → k < l.i → is_ascii_digit (get_or l.bytes k 0) ≡ true;
+  digits : list_all is_ascii_digit (take l.i l.bytes) ≡ true;
   value : l.value ≡ digits_value_after 10 0 (take l.i l.bytes);
   low : l.value < 10 ^ l.i;
 }
