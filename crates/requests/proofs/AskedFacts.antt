@@ -9,7 +9,7 @@ use Rattle.std.specs.Str.Parse.{IsNumeral, digits_value, without_leading_plus}
 use Rattle.clap.proofs.ValueTestLemmas.{Accepts-accepts, accepts-Accepts}
 use Rattle.clap.proofs.SimpleLemmas.{is_false}
 use Rattle.clap.proofs.WalkLemmas.{both}
-use Rattle.clap.specs.Words.{AddsInTurn, AddsSubcommand, App, HasKind, Kinds, Row, Text, app_of, fault_of, is_simple_and_free, kind_of, new_app, subcommand_of, with_subcommand}
+use Rattle.clap.specs.Words.{AddsInTurn, AddsSubcommand, App, HasKind, Kinds, Row, Text, app_of, fault_of, kind_of, new_app, subcommand_of, with_subcommand}
 use Rattle.clap.specs.declared.builder.command.Command.{Command}
 use Rattle.clap.specs.ValueTests.{is_unsigned_in}
 use Rattle.clap.specs.declared.builder.value_parser.ValueParser.TheVariants as parser
@@ -43,16 +43,11 @@ number-unread most text unwritten = go (is_unsigned_in 1 most text) refl
         absurd (unwritten (h.0, h.1))
     go false e = refl
 
-pub wdp-free : is_simple_and_free wdp ≡ true
-wdp-free = refl
-
 -- a command with one more, which is plain
 added : (old sub new : Command) → AddsSubcommand old sub new → (a s : App) → app_of old ≡ a → app_of sub ≡ s → s.top.is_plain ≡ true → app_of new ≡ with_subcommand a s.top
 added old sub new adds a s is_old is_sub plain =
     let all : (app_of sub).top.is_plain ≡ true = ap (λ (x : App). x.top.is_plain) is_sub ∙ plain in
-    let groups = both _ _ all in
-    let external = both _ _ groups.1 in
-    let global = both _ _ external.1 in
+    let global = both _ _ (both _ _ (both _ _ all).1).1 in
     subst (λ (x : App). app_of new ≡ with_subcommand x s.top) is_old
     (subst (λ (x : App). app_of new ≡ with_subcommand (app_of old) x.top) is_sub (adds.shape (is_false _ global.0)))
 

@@ -29,11 +29,7 @@ none : AskAlike []
 none = (for_nothing, λ k never. absurd never)
 
 one : (k : ErrorKind) → AskAlike (k ∷ [])
-one k = (by_fault k, go)
-  where
-    go : (x : ErrorKind) → IsAmong x (k ∷ []) → by_fault x ≡ by_fault k
-    go x (inl is) = ap by_fault is
-    go x (inr never) = absurd never
+one k = (by_fault k, λ x among. elim among [ inl is ↦ ap by_fault is | inr never ↦ absurd never ])
 
 either : (b : Bool) (xs ys : Kinds) → AskAlike xs → AskAlike ys → AskAlike (cond b xs ys)
 either true xs ys first second = first
@@ -160,8 +156,7 @@ of-stray s = either s.is_leaf _ _ (one kind.UnknownArgument) (for_nothing, go)
   where
     go : (k : ErrorKind) → IsAmong k (kind.UnknownArgument ∷ kind.InvalidSubcommand ∷ []) → by_fault k ≡ for_nothing
     go k (inl is) = ap by_fault is
-    go k (inr (inl is)) = ap by_fault is
-    go k (inr (inr never)) = absurd never
+    go k (inr among) = elim among [ inl is ↦ ap by_fault is | inr never ↦ absurd never ]
 
 of-step : (s : Shape) (position : ℕ) (h : Held) (step : Step) → AskAlike (step_fault s position h step)
 of-step s position h value = mapped _ (arg_by_index s.rules position) (stray_fault s) (λ a. of-positional s.rules s.args_override_self a h) (of-stray s)
@@ -171,11 +166,7 @@ of-step s position h (subcommand name) = none
 
 module _ (s : Shape) (names : Names) (off : (s.disable_help_subcommand ≡ true) ⊎ (names ≡ [])) where
   unanswered : (waiting : Waiting) (word : Text) → (s.disable_help_subcommand ≡ true) ⊎ (subcommand_met names waiting word ≡ None)
-  unanswered waiting word = go off
-    where
-      go : (s.disable_help_subcommand ≡ true) ⊎ (names ≡ []) → (s.disable_help_subcommand ≡ true) ⊎ (subcommand_met names waiting word ≡ None)
-      go (inl is) = inl is
-      go (inr is) = inr (ap (λ (xs : Names). subcommand_met xs waiting word) is ∙ unmet waiting word)
+  unanswered waiting word = elim off [ inl is ↦ inl is | inr is ↦ inr (ap (λ (xs : Names). subcommand_met xs waiting word) is ∙ unmet waiting word) ]
 
   of-word : (is_trailing : Bool) (waiting : Waiting) (word : Text) (h : Held) → AskAlike (word_fault s names is_trailing waiting word h)
   of-word is_trailing waiting word h = either is_trailing _ _ none (of-other s (subcommand_met names waiting word) word h (unanswered waiting word))

@@ -7,16 +7,6 @@ pub if-err-of : {T E : Type 0} (P : E → Type 0) (r : Result T E) (e : E) → I
 if-err-of P (Ok x) e is holds = tt
 if-err-of P (Err y) e is holds = subst P (sym is) holds
 
--- what follows of the error of a result
-pub if-err-weaker : {T E : Type 0} (P Q : E → Type 0) (r : Result T E) → ((e : E) → P e → Q e) → IfErr r P → IfErr r Q
-if-err-weaker P Q (Ok x) weaker holds = tt
-if-err-weaker P Q (Err e) weaker holds = weaker e holds
-
--- what follows of two facts where a result is there
-pub on-ok-both : {T E P Q S : Type 0} (r : Result T E) → (P → Q → S) → OnOk r P → OnOk r Q → OnOk r S
-on-ok-both (Ok x) follows p q = follows p q
-on-ok-both (Err e) follows p q = tt
-
 -- what holds anyhow
 pub on-ok-given : {T E P : Type 0} (r : Result T E) → P → OnOk r P
 on-ok-given (Ok x) holds = holds
