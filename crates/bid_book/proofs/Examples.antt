@@ -5,7 +5,6 @@ use Rattle.bid_book.specs.declared.call.Call.TheVariants.{Submit, Withdraw, Show
 use Rattle.bid_book.specs.declared.caller.Caller.{Caller}
 use Rattle.bid_book.specs.declared.caller.Caller.TheVariants.{Session, Chair}
 use Rattle.bid_book.specs.declared.entry.Entry.{Entry}
-use Rattle.bid_book.specs.declared.reply.Reply.{Reply}
 use Rattle.bid_book.specs.declared.reply.Reply.TheVariants.{Accepted, Withdrawn, Shown, Stale, Closed, RoundOver}
 use Rattle.bid_book.specs.History.{after, reply_due, run, standing_of}
 

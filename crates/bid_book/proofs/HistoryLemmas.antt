@@ -1,12 +1,13 @@
 -- One entry more.
-use Rattle.std.proofs.Common.{◌≡◌, ◌≢◌, ℕ, zero, suc, ◌+◌, ◌<◌, ◌≤◌, List, [], ◌∷◌, ◌++◌, Bool, true, false, not, ◌&&◌, ◌||◌, ◌==◌, cond, map, length, take, refl, sym, ap, ◌∙◌, subst, arith, append-nil, ◌⊎◌, inl, inr, length-append}
+use Rattle.std.proofs.Common.{◌≡◌, ◌≢◌, ℕ, zero, suc, ◌+◌, ◌<◌, ◌≤◌, List, [], ◌∷◌, ◌++◌, Bool, true, false, not, ◌==◌, cond, length, take, refl, sym, ap, ◌∙◌, subst, arith, append-nil, ◌⊎◌, inl, inr, length-append}
 use Rattle.std.specs.Prelude.{if◌then◌else◌, filter, nat_le, slice_get, nat_eq, Option, Some, None, Ok, Err, IfOk, OnOk}
 use Rattle.std.specs.declared.result.Result.{Result}
 use Rattle.std.specs.declared.sync.Arc.{Arc}
-use Rattle.std.specs.List.{last_or, list_any}
+use Rattle.std.specs.List.{last_or}
 use Rattle.std.specs.Option.{option_and_then, option_map, option_eq}
-use Rattle.std.proofs.lemmas.Bool.{eqb-true, eq-eqb, true≢false, false≢true, le-leb, lt-leb, or_right, cases_lt}
+use Rattle.std.proofs.lemmas.Bool.{eqb-true, le-leb, lt-leb, or_right, cases_lt}
 use Rattle.std.proofs.lemmas.List.Elements.{filter-append}
+use Rattle.std.proofs.lemmas.List.Sums.{count_by-le-length, length-filter}
 use Rattle.bid_forms.specs.Offers.{Offers}
 use Rattle.bid_book.specs.declared.caller.Caller.{Caller}
 use Rattle.bid_book.specs.declared.caller.Caller.TheVariants.{Session, Chair}
@@ -37,9 +38,6 @@ IsLegal-push h e legal right = record {
         | inr p ↦ subst (λ (w : List (Entry Offers)). IsRightAfter w x) (sym p.1) (subst (λ (y : Entry Offers). IsRightAfter h y) p.0 right)
       ];
 }
-
-pub IsLegal-nil : IsLegalHistory []
-IsLegal-nil = record { each = λ k e at. absurd (cc) }
 
 last_or-push : {X : Type 0} (o : Option X) (xs : List X) (x : X) → last_or o (xs ++ x ∷ []) ≡ Some x
 last_or-push o [] x = refl
@@ -131,7 +129,7 @@ Summarizes-close counts standing n o h was call reply is right =
 pub Summarizes-nothing : (counts : ℕ → Counts) (standing : ℕ → Option (Standing Offers)) → ((q : ℕ) → counts q ≡ record { entries = 0; changes = 0 }) → ((q : ℕ) → standing q ≡ None) → Summarizes counts standing 0 true []
 unfolding standing_of is_closed
 Summarizes-nothing counts standing none empty = record {
-  legal = IsLegal-nil;
+  legal = record { each = λ k e at. absurd (cc) };
   entries_are = λ q. ap (λ (c : Counts). c.entries) (none q);
   changes_are = λ q. ap (λ (c : Counts). c.changes) (none q);
   standing_is = λ q. empty q;
@@ -139,21 +137,14 @@ Summarizes-nothing counts standing none empty = record {
   open_is = refl;
 }
 
--- a bidder has at most as many changes as entries
-pub length-filter_le : {X : Type 0} (p : X → Bool) (xs : List X) → length (filter p xs) ≤ length xs
-length-filter_le p [] = omega arith
-length-filter_le p (x ∷ xs) = go (length-filter_le p xs) (p x)
-  where
-    go : length (filter p xs) ≤ length xs → (t : Bool) → length (cond t (x ∷ filter p xs) (filter p xs)) ≤ suc (length xs)
-    go h true = omega arith
-    go h false = omega arith
-
 module _ {counts : ℕ → Counts} {standing : ℕ → Option (Standing Offers)} {n : ℕ} {o : Bool} {h : List (Entry Offers)} (was : Summarizes counts standing n o h) where
+  -- a bidder has at most as many changes as entries
   pub changes_fit : (b : ℕ) → (counts b).changes ≤ (counts b).entries
   changes_fit b =
-      rw (was.entries_are b, was.changes_are b) (length-filter_le (λ (e : Entry Offers). is_change_reply e.reply) (entries_beside (Session b 0) h))
+      let is_change : Entry Offers → Bool = λ e. is_change_reply e.reply in
+      rw (was.entries_are b, was.changes_are b, length-filter is_change (entries_beside (Session b 0) h)) (count_by-le-length is_change (entries_beside (Session b 0) h))
 
-  pub change_answer-is : (b : ℕ) (over : Option ℕ) (done : Reply Offers)
+  change_answer-is : (b : ℕ) (over : Option ℕ) (done : Reply Offers)
       → change_answer o (option_map (λ (s : Standing Offers). s.number) (standing b)) over done ≡ answer_to_change (entries_beside (Session b 0) h) (entries_beside Chair h) over done
   unfolding standing_of is_closed
   change_answer-is b over done = rw (was.standing_is b, was.open_is) (go (has_close (entries_beside Chair h)))
@@ -162,6 +153,21 @@ module _ {counts : ℕ → Counts} {standing : ℕ → Option (Standing Offers)}
           ≡ (if t then RoundOver else if option_eq nat_eq over (standing_number (entries_beside (Session b 0) h)) then done else Stale (standing_number (entries_beside (Session b 0) h)))
       go true = refl
       go false = refl
+
+  -- the answer to a change
+  pub change_told : (b : ℕ) {k : Counts} {s : Option ℕ} {reply : Reply Offers} (over : Option ℕ) (done : ℕ → Reply Offers) → k ≡ counts b
+      → reply ≡ change_answer o s over (done (k.changes + 1)) → s ≡ option_map (λ (s : Standing Offers). s.number) (standing b)
+      → reply ≡ answer_to_change (entries_beside (Session b 0) h) (entries_beside Chair h) over (done (length (changes (entries_beside (Session b 0) h)) + 1))
+  change_told b {k} over done is told at =
+      told ∙ ap (λ s. change_answer o s over (done (k.changes + 1))) at ∙ change_answer-is b over (done (k.changes + 1))
+      ∙ ap (λ n. answer_to_change (entries_beside (Session b 0) h) (entries_beside Chair h) over (done (n + 1))) (ap (λ n. n.changes) is ∙ was.changes_are b)
+
+  -- the limit, by what is counted
+  pub at_limit : (b s : ℕ) {k : Counts} → k ≡ counts b → call_limit ≤ k.entries → call_limit ≤ length (entries_beside (Session b s) h)
+  at_limit b s {k} is l = let all : k.entries ≡ length (entries_beside (Session b s) h) = ap (λ n. n.entries) is ∙ was.entries_are b in omega (arith, all, l)
+
+  pub below_limit : (b s : ℕ) {k : Counts} → k ≡ counts b → k.entries < call_limit → length (entries_beside (Session b s) h) < call_limit
+  below_limit b s {k} is l = let all : k.entries ≡ length (entries_beside (Session b s) h) = ap (λ n. n.entries) is ∙ was.entries_are b in omega (arith, all, l)
 
 -- the same records, told in another way
 pub Summarizes-same : {counts counts' : ℕ → Counts} {standing standing' : ℕ → Option (Standing Offers)} {n n' : ℕ} {o o' : Bool} {h h' : List (Entry Offers)} → Summarizes counts standing n o h
@@ -194,18 +200,19 @@ module _ {F : Type 0} (h : List (Entry F)) (c : Caller) (call : Call F) where
   unfolding after
   after-below l = rw (lt-leb _ _ l) refl
 
-answer_to_change-recorded : {F : Type 0} (own chair : List (Entry F)) (over : Option ℕ) (done : Reply F) → done ≢ CallLimit → answer_to_change own chair over done ≢ CallLimit
-answer_to_change-recorded own chair over done h =
+answer_to_change-other : {F : Type 0} (own chair : List (Entry F)) (over : Option ℕ) (done other : Reply F) → RoundOver ≢ other → Stale (standing_number own) ≢ other → done ≢ other
+    → answer_to_change own chair over done ≢ other
+answer_to_change-other own chair over done other over_not stale_not done_not =
     go (has_close chair) (option_eq nat_eq over (standing_number own))
   where
-    go : (s t : Bool) → (if s then RoundOver else if t then done else Stale (standing_number own)) ≢ CallLimit
-    go true t e = cc
-    go false true e = h e
-    go false false e = cc
+    go : (s t : Bool) → (if s then RoundOver else if t then done else Stale (standing_number own)) ≢ other
+    go true t = over_not
+    go false true = done_not
+    go false false = stale_not
 
 pub answer_to-recorded : {F : Type 0} (own chair : List (Entry F)) (call : Call F) → answer_to own chair call ≢ CallLimit
-answer_to-recorded own chair (Submit form over) = answer_to_change-recorded own chair over (Accepted (length (changes own) + 1)) (λ e. cc)
-answer_to-recorded own chair (Withdraw over) = answer_to_change-recorded own chair (Some over) (Withdrawn (length (changes own) + 1)) (λ e. cc)
+answer_to-recorded own chair (Submit form over) = answer_to_change-other own chair over (Accepted (length (changes own) + 1)) CallLimit (λ e. cc) (λ e. cc) (λ e. cc)
+answer_to-recorded own chair (Withdraw over) = answer_to_change-other own chair (Some over) (Withdrawn (length (changes own) + 1)) CallLimit (λ e. cc) (λ e. cc) (λ e. cc)
 answer_to-recorded own chair Show = λ e. cc
 answer_to-recorded own chair Close = λ e. cc
 
@@ -223,10 +230,8 @@ answer-below_recorded h c call l limit =
     answer_to-recorded (entries_beside c h) (entries_beside Chair h) call (sym (answer-below h c call l) ∙ limit)
 
 pub chair_closes : (call : Call Offers) → MayMake Chair call → call ≡ Close
-chair_closes (Submit form over) may = absurd may
-chair_closes (Withdraw over) may = absurd may
-chair_closes Show may = absurd may
 chair_closes Close may = refl
+chair_closes call may = absurd may
 
 pub answer-close : (h : List (Entry Offers)) (call : Call Offers) (o : Bool) → length (entries_beside Chair h) < call_limit → call ≡ Close → o ≡ not (is_closed h)
     → Closed o ≡ answer_to (entries_beside Chair h) (entries_beside Chair h) call
@@ -249,18 +254,9 @@ after-told_limit h c call reply told limit =
     ]
 
 -- what is shown is what stands
-answer_to_change-shown : {F : Type 0} (own chair : List (Entry F)) (over : Option ℕ) (done : Reply F) (x : Option (Standing F)) → done ≢ Shown x → answer_to_change own chair over done ≢ Shown x
-answer_to_change-shown own chair over done x h =
-    go (has_close chair) (option_eq nat_eq over (standing_number own))
-  where
-    go : (s t : Bool) → (if s then RoundOver else if t then done else Stale (standing_number own)) ≢ Shown x
-    go true t e = cc
-    go false true e = h e
-    go false false e = cc
-
 answer_to-shown : {F : Type 0} (own chair : List (Entry F)) (call : Call F) (x : Option (Standing F)) → answer_to own chair call ≡ Shown x → standing_after own ≡ x
-answer_to-shown own chair (Submit form over) x e = absurd (answer_to_change-shown own chair over (Accepted (length (changes own) + 1)) x (λ f. cc) e)
-answer_to-shown own chair (Withdraw over) x e = absurd (answer_to_change-shown own chair (Some over) (Withdrawn (length (changes own) + 1)) x (λ f. cc) e)
+answer_to-shown own chair (Submit form over) x e = absurd (answer_to_change-other own chair over (Accepted (length (changes own) + 1)) (Shown x) (λ f. cc) (λ f. cc) (λ f. cc) e)
+answer_to-shown own chair (Withdraw over) x e = absurd (answer_to_change-other own chair (Some over) (Withdrawn (length (changes own) + 1)) (Shown x) (λ f. cc) (λ f. cc) (λ f. cc) e)
 answer_to-shown own chair Show x e = cc
 answer_to-shown own chair Close x e = cc
 
@@ -269,11 +265,8 @@ unfolding standing_of
 answer-shown h b s call x e =
     elim (cases_lt (length (entries_beside (Session b s) h)) call_limit) [
       | inl l ↦ answer_to-shown (entries_beside (Session b s) h) (entries_beside Chair h) call x (sym (answer-below h (Session b s) call l) ∙ e)
-      | inr l ↦ absurd (limit_not_shown (sym (answer-limit h (Session b s) call l) ∙ e))
+      | inr l ↦ (let bad : CallLimit ≡ Shown x = sym (answer-limit h (Session b s) call l) ∙ e in cc)
     ]
-  where
-    limit_not_shown : CallLimit ≢ Shown x
-    limit_not_shown f = cc
 
 -- the same of a result
 pub recorded_told : {X Z E : Type 0} (result : Result (Reply (Arc X Z)) E) (h h' : List (Entry X)) (c : Caller) (call : Call X) → IfOk result (λ r. reply_value r ≡ reply_due h c call) → OnOk result (h' ≡ after h c call)
@@ -289,12 +282,6 @@ unrecorded_told (Err e) h h' c call told is = tt
 pub answer-close_not_shown : {F : Type 0} (h : List (Entry F)) (x : Option (Standing F)) → reply_due h Chair Close ≢ Shown x
 answer-close_not_shown {F} h x e =
     elim (cases_lt (length (entries_beside Chair h)) call_limit) [
-      | inl l ↦ closed (sym (answer-below h Chair Close l) ∙ e)
-      | inr l ↦ limit (sym (answer-limit h Chair Close l) ∙ e)
+      | inl l ↦ (let bad : Closed (not (has_close (entries_beside Chair h))) ≡ Shown x = sym (answer-below h Chair Close l) ∙ e in cc)
+      | inr l ↦ (let bad : CallLimit ≡ Shown x = sym (answer-limit h Chair Close l) ∙ e in cc)
     ]
-  where
-    closed : Closed (not (has_close (entries_beside Chair h))) ≢ Shown x
-    closed f = cc
-
-    limit : CallLimit ≢ Shown x
-    limit f = cc

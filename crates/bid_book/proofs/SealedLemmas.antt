@@ -1,14 +1,12 @@
 -- Why a round is sealed.
-use Rattle.std.proofs.Common.{◌≡◌, ℕ, List, [], ◌∷◌, ◌++◌, Bool, true, false, ◌&&◌, ◌==◌, cond, map, length, refl, sym, ap, ◌∙◌, subst, arith, append-nil}
+use Rattle.std.proofs.Common.{◌≡◌, ℕ, List, [], ◌∷◌, ◌++◌, Bool, true, false, ◌==◌, cond, map, length, refl, sym, ap, ◌∙◌, append-nil}
 use Rattle.std.specs.Prelude.{if◌then◌else◌, filter, nat_le}
-use Rattle.std.proofs.lemmas.Bool.{and_parts, eqb-true, eq-eqb, true≢false, false≢true, cond-true, cond-false}
+use Rattle.std.proofs.lemmas.Bool.{and_parts, eqb-true, eq-eqb, true≢false, false≢true}
 use Rattle.std.proofs.lemmas.List.Elements.{filter-append}
-use Rattle.bid_forms.specs.Offers.{Offers}
 use Rattle.bid_book.specs.declared.caller.Caller.{Caller}
 use Rattle.bid_book.specs.declared.caller.Caller.TheVariants.{Session, Chair}
 use Rattle.bid_book.specs.declared.call.Call.{Call}
 use Rattle.bid_book.specs.declared.entry.Entry.{Entry}
-use Rattle.bid_book.specs.declared.reply.Reply.{Reply}
 use Rattle.bid_book.specs.declared.reply.Reply.TheVariants.{CallLimit}
 use Rattle.bid_book.specs.History.{call_limit, is_beside, is_same_caller, entries_beside, answer_to, reply_due, after, run_from, run, own_pairs}
 use Rattle.bid_book.specs.Sealed.{concerns, calls_concerning, IsSealed}
@@ -25,9 +23,8 @@ filter_within {X} p q h (x ∷ xs) = go (filter_within p q h xs) (q x) (p x) ref
 
 beside_concerns : (b : ℕ) (c d : Caller) → concerns b c ≡ true → is_beside c d ≡ true → concerns b d ≡ true
 beside_concerns b (Session k s) (Session m t) e f = eq-eqb _ _ (eqb-true _ _ e ∙ eqb-true _ _ f)
-beside_concerns b (Session k s) Chair e f = absurd (false≢true f)
-beside_concerns b Chair (Session m t) e f = absurd (false≢true f)
 beside_concerns b Chair Chair e f = refl
+beside_concerns b c d e f = absurd (false≢true f)
 
 same_concerns : (b s : ℕ) (d : Caller) → is_same_caller (Session b s) d ≡ true → concerns b d ≡ true
 same_concerns b s (Session m t) f = (and_parts (b == m) (s == t) f).0
