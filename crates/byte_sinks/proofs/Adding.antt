@@ -1,5 +1,5 @@
 -- Adding to a writer, one piece behind another.
-use Rattle.std.proofs.Common.{◌≡◌, ◌∙◌, ℕ, Bool, true, false, List, [], ◌∷◌, ◌++◌, length, refl, sym, ap, subst, Option, Some, None, Result, Ok, Err}
+use Rattle.std.proofs.Common.{◌≡◌, ◌∙◌, ℕ, Bool, true, false, List, [], ◌++◌, refl, sym, ap, subst, Option, Some, None, Result, Ok, Err}
 use Rattle.std.specs.Prelude.{IfErr, OnOk}
 use Rattle.std.specs.Io.KnownBytes.{Appends, append_known}
 use Rattle.std.proofs.lemmas.List.{append-nil}
@@ -90,7 +90,6 @@ sent-front {X} {taken} {failures} {s} {a} {b} {bytes} new added broken =
     let ahead = subst (λ (x : X). IsFront (taken b.sink.now) (append_known (taken x) bytes)) new.untouched (front-behind (new.whole, new.empty) added broken) in
     subst (λ (n : ℕ). SentFront (taken s.now) (taken b.sink.now) bytes n) (sym broken.1) (SentFront-from (taken s.now) (taken b.sink.now) bytes b.sent ahead (counts-new new added))
 
--- nothing where there is no item
 -- what a call promises that makes a writer to a sink, adds the bytes and flushes it, where the sink ends as x
 pub tells-front : {X : Type 0} {taken : X → Option (List ℕ)} {failures : X → ℕ} {s : MutBor X} {a b c : Writer X} {bytes : List ℕ} (x : X) (r : Result (Unit {0}) WriteFault)
     → IsNew s a → Adds taken failures a b bytes → Adds taken failures b c [] → IfErr r (λ e. IsBroken c (written_of e)) → x ≡ c.sink.now → IfErr r (λ e. SentFront (taken s.now) (taken x) bytes (written_of e))

@@ -2,7 +2,8 @@
 use Rattle.std.proofs.Common.{◌≡◌, ℕ, zero, suc, ◌+◌, ◌-◌, ◌<◌, ◌≤◌, List, [], ◌∷◌, ◌++◌, length, take, drop, refl, sym, ap, ◌∙◌, append_assoc, length-append, arith, Option, Some, None, Result, Ok, Err}
 use Rattle.std.specs.Prelude.{OnErr, ◌^◌, flat_map, get_or, min, slice_get}
 use Rattle.std.specs.Io.KnownBytes.{Appends, Keeps, append_known}
-use Rattle.std.proofs.lemmas.List.{append-nil, take-append-drop, take_all, length-drop, length-take, take-take, drop-take, take_at}
+use Rattle.std.proofs.lemmas.List.{append-nil, take-append-drop, take_more, take_rest, length-drop, length-take, take-take, drop-take, take_at}
+use Rattle.std.proofs.lemmas.Grind.{flat_map-append}
 use Rattle.byte_sinks.specs.Sinks.{IsFront, Counts, SentFront}
 
 pub Appends-nothing : (a : Option (List ℕ)) → Appends a a []
@@ -44,11 +45,8 @@ module _ (i n m : ℕ) (xs piece : List ℕ) (e : piece ≡ take (min (length (t
   abbrev rest : List ℕ
   rest = drop i xs
 
-  whole : take (length xs - i) rest ≡ rest
-  whole = take_all (length xs - i) rest (omega (arith, length-drop i xs))
-
   is_front : piece ≡ take (min (length rest) m) rest
-  is_front = e ∙ ap (λ (ys : List ℕ). take (min (length ys) m) ys) whole
+  is_front = e ∙ ap (λ (ys : List ℕ). take (min (length ys) m) ys) (take_rest xs i)
 
   few : n ≤ min (length rest) m
   few = omega (arith, ap length is_front, length-take (min (length rest) m) rest)
@@ -114,16 +112,10 @@ IsFront-longer (Some fs) None xs ys q = tt
 IsFront-longer None (Some hs) xs ys q = absurd q
 IsFront-longer (Some fs) (Some hs) xs ys q = (q.0 ++ ys, longer q.0 ys q.1, rw (← append_assoc hs xs ys, q.2) (append_assoc fs q.0 ys))
 
-flat_map-suc : {X : Type 0} (f : X → List ℕ) (xs : List X) (i : ℕ) (d : X) → i < length xs → flat_map f (take i xs) ++ f (get_or xs i d) ≡ flat_map f (take (suc i) xs)
-flat_map-suc f [] i d lt = absurd (omega arith)
-flat_map-suc f (y ∷ xs) zero d lt = sym (append-nil (f y))
-flat_map-suc f (y ∷ xs) (suc i) d lt = append_assoc (f y) (flat_map f (take i xs)) (f (get_or xs i d)) ∙ ap (λ (w : List ℕ). f y ++ w) (flat_map-suc f xs i d (omega arith))
-
 -- the item of a loop behind those before it
 pub flat_map-next_or : {X : Type 0} (f : X → List ℕ) (xs : List X) (i : ℕ) (d : X) → i < length xs → flat_map f (take i xs) ++ f (get_or xs i d) ≡ flat_map f (take (i + 1) xs)
 flat_map-next_or f xs i d lt =
-    let after : suc i ≡ i + 1 = omega arith in
-    flat_map-suc f xs i d lt ∙ ap (λ (n : ℕ). flat_map f (take n xs)) after
+    rw (take_more xs i d lt, flat_map-append f (take i xs) (get_or xs i d ∷ []), append-nil (f (get_or xs i d))) refl
 
 pub flat_map-next_item : {X : Type 0} (f : X → List ℕ) (xs : List X) (i : ℕ) (x : X) → x ≡ get_or xs i x → i < length xs → flat_map f (take i xs) ++ f x ≡ flat_map f (take (i + 1) xs)
 flat_map-next_item f xs i x e lt = ap (λ y. flat_map f (take i xs) ++ f y) e ∙ flat_map-next_or f xs i x lt
