@@ -7,12 +7,8 @@ use Rattle.std.specs.Str.Parse.{digits_value}
 use Rattle.std.proofs.lemmas.Bool.{and_parts, lt-ltb, le-ltb, eq-eqb}
 use Rattle.std.proofs.lemmas.Bool.Decides.{nat_tests}
 use Rattle.std.proofs.lemmas.Grind.{common_steps}
-use Rattle.line_words.proofs.Folding.{one-more}
 use Rattle.line_words.proofs.TokenForm.{all-before, none-after}
 use Rattle.line_words.specs.Numbers.{number, signed, is_exponent_mark, is_minus, without_sign, mantissa, fraction_digits, exponent_text}
-
-pub below_next : (v d i : ℕ) → v < 10 ^ i → d ≤ 9 → v * 10 + d < 10 ^ (i + 1)
-below_next v d i h le = let next : suc i ≡ i + 1 = omega arith in subst (λ (k : ℕ). v * 10 + d < 10 ^ k) next (one-more v d i h le)
 
 no-point : (b : ℕ) → is_ascii_digit b ≡ true → (b == 46) ≡ false
 no-point b h = grind (arith, common_steps, nat_tests, h)
