@@ -88,25 +88,26 @@ module _ (counts counts' : ℕ → Counts) (standing standing' : ℕ → Option 
       e : Entry Offers
       e = record { caller = Session b s; call = call; reply = reply }
 
+      own : (q : ℕ) (t : Bool) → (q == b) ≡ t → entries_beside (Session q 0) (h ++ record { caller = Session b s; call = call; reply = reply } ∷ [])
+          ≡ (if t then entries_beside (Session b 0) h ++ record { caller = Session b s; call = call; reply = reply } ∷ [] else entries_beside (Session q 0) h)
+      own q true f = entries_beside-push (Session q 0) h e true f ∙ ap (λ w. entries_beside (Session w 0) h ++ e ∷ []) (eqb-true q b f)
+      own q false f = entries_beside-push (Session q 0) h e false f
+
       entries : (q : ℕ) (t : Bool) → (q == b) ≡ t → (counts' q).entries ≡ length (entries_beside (Session q 0) (h ++ record { caller = Session b s; call = call; reply = reply } ∷ []))
-      entries q true f =
-          let same : q ≡ b = eqb-true _ _ f in
-          rw (cs q, f, entries_beside-push (Session q 0) h (record { caller = Session b s; call = call; reply = reply }) true f, length-append) (ap (λ m. m + 1) (was.entries_are b ∙ ap (λ w. length (entries_beside (Session w 0) h)) (sym same)))
-      entries q false f = rw (cs q, f, entries_beside-push (Session q 0) h (record { caller = Session b s; call = call; reply = reply }) false f) (was.entries_are q)
+      entries q true f = rw (cs q, f, own q true f, length-append) (ap (λ m. m + 1) (was.entries_are b))
+      entries q false f = rw (cs q, f, own q false f) (was.entries_are q)
 
       changed : (q : ℕ) (t : Bool) → (q == b) ≡ t → (counts' q).changes ≡ length (changes (entries_beside (Session q 0) (h ++ record { caller = Session b s; call = call; reply = reply } ∷ [])))
       changed q true f =
-          let same : q ≡ b = eqb-true _ _ f in
-          rw (cs q, f, entries_beside-push (Session q 0) h (record { caller = Session b s; call = call; reply = reply }) true f, length_changes-push (entries_beside (Session q 0) h) (record { caller = Session b s; call = call; reply = reply }) (is_change_reply reply) refl)
-          (ap (λ m. m + (if is_change_reply reply then 1 else 0)) (was.changes_are b ∙ ap (λ w. length (changes (entries_beside (Session w 0) h))) (sym same)))
-      changed q false f = rw (cs q, f, entries_beside-push (Session q 0) h (record { caller = Session b s; call = call; reply = reply }) false f) (was.changes_are q)
+          rw (cs q, f, own q true f, length_changes-push (entries_beside (Session b 0) h) (record { caller = Session b s; call = call; reply = reply }) (is_change_reply reply) refl)
+          (ap (λ m. m + (if is_change_reply reply then 1 else 0)) (was.changes_are b))
+      changed q false f = rw (cs q, f, own q false f) (was.changes_are q)
 
       stands : (q : ℕ) (t : Bool) → (q == b) ≡ t → standing' q ≡ standing_after (entries_beside (Session q 0) (h ++ record { caller = Session b s; call = call; reply = reply } ∷ []))
       stands q true f =
-          let same : q ≡ b = eqb-true _ _ f in
-          rw (ss q, f, entries_beside-push (Session q 0) h (record { caller = Session b s; call = call; reply = reply }) true f, standing_after-push (entries_beside (Session q 0) h) (record { caller = Session b s; call = call; reply = reply }) (is_change_reply reply) refl)
-          (ap (λ w. if is_change_reply reply then left_standing call reply else w) (was.standing_is b ∙ ap (λ w. standing_after (entries_beside (Session w 0) h)) (sym same)))
-      stands q false f = rw (ss q, f, entries_beside-push (Session q 0) h (record { caller = Session b s; call = call; reply = reply }) false f) (was.standing_is q)
+          rw (ss q, f, own q true f, standing_after-push (entries_beside (Session b 0) h) (record { caller = Session b s; call = call; reply = reply }) (is_change_reply reply) refl)
+          (ap (λ w. if is_change_reply reply then left_standing call reply else w) (was.standing_is b))
+      stands q false f = rw (ss q, f, own q false f) (was.standing_is q)
 
 -- a close by the chair
 pub Summarizes-close : (counts : ℕ → Counts) (standing : ℕ → Option (Standing Offers)) (n : ℕ) (o : Bool) (h : List (Entry Offers)) → Summarizes counts standing n o h
@@ -238,21 +239,6 @@ pub answer-close : (h : List (Entry Offers)) (call : Call Offers) (o : Bool) →
 unfolding is_closed
 answer-close h call o l e opened = rw e (ap Closed opened)
 
--- the history after a call, by its answer
-pub after-told : {F : Type 0} (h : List (Entry F)) (c : Caller) (call : Call F) (reply : Reply F) → reply ≡ reply_due h c call → reply ≢ CallLimit → after h c call ≡ h ++ record { caller = c; call = call; reply = reply } ∷ []
-after-told {F} h c call reply told less =
-    elim (cases_lt (length (entries_beside c h)) call_limit) [
-      | inl l ↦ after-below h c call l ∙ ap (λ (r : Reply F). h ++ record { caller = c; call = call; reply = r } ∷ []) (sym told)
-      | inr l ↦ absurd (less (told ∙ answer-limit h c call l))
-    ]
-
-pub after-told_limit : {F : Type 0} (h : List (Entry F)) (c : Caller) (call : Call F) (reply : Reply F) → reply ≡ reply_due h c call → reply ≡ CallLimit → after h c call ≡ h
-after-told_limit h c call reply told limit =
-    elim (cases_lt (length (entries_beside c h)) call_limit) [
-      | inl l ↦ absurd (answer-below_recorded h c call l (sym told ∙ limit))
-      | inr l ↦ after-limit h c call l
-    ]
-
 -- what is shown is what stands
 answer_to-shown : {F : Type 0} (own chair : List (Entry F)) (call : Call F) (x : Option (Standing F)) → answer_to own chair call ≡ Shown x → standing_after own ≡ x
 answer_to-shown own chair (Submit form over) x e = absurd (answer_to_change-other own chair over (Accepted (length (changes own) + 1)) (Shown x) (λ f. cc) (λ f. cc) (λ f. cc) e)
@@ -268,15 +254,23 @@ answer-shown h b s call x e =
       | inr l ↦ (let bad : CallLimit ≡ Shown x = sym (answer-limit h (Session b s) call l) ∙ e in cc)
     ]
 
--- the same of a result
+-- the history after a call, by its answer, where there is a result
 pub recorded_told : {X Z E : Type 0} (result : Result (Reply (Arc X Z)) E) (h h' : List (Entry X)) (c : Caller) (call : Call X) → IfOk result (λ r. reply_value r ≡ reply_due h c call) → OnOk result (h' ≡ after h c call)
     → IfOk result (λ r. reply_value r ≢ CallLimit → h' ≡ h ++ record { caller = c; call = call; reply = reply_value r } ∷ [])
-recorded_told (Ok r) h h' c call told is = λ less. is ∙ after-told h c call (reply_value r) told less
+recorded_told {X} (Ok r) h h' c call told is =
+    λ less. is ∙ elim (cases_lt (length (entries_beside c h)) call_limit) [
+      | inl l ↦ after-below h c call l ∙ ap (λ (r : Reply X). h ++ record { caller = c; call = call; reply = r } ∷ []) (sym told)
+      | inr l ↦ absurd (less (told ∙ answer-limit h c call l))
+    ]
 recorded_told (Err e) h h' c call told is = tt
 
 pub unrecorded_told : {X Z E : Type 0} (result : Result (Reply (Arc X Z)) E) (h h' : List (Entry X)) (c : Caller) (call : Call X) → IfOk result (λ r. reply_value r ≡ reply_due h c call) → OnOk result (h' ≡ after h c call)
     → IfOk result (λ r. reply_value r ≡ CallLimit → h' ≡ h)
-unrecorded_told (Ok r) h h' c call told is = λ limit. is ∙ after-told_limit h c call (reply_value r) told limit
+unrecorded_told (Ok r) h h' c call told is =
+    λ limit. is ∙ elim (cases_lt (length (entries_beside c h)) call_limit) [
+      | inl l ↦ absurd (answer-below_recorded h c call l (sym told ∙ limit))
+      | inr l ↦ after-limit h c call l
+    ]
 unrecorded_told (Err e) h h' c call told is = tt
 
 pub answer-close_not_shown : {F : Type 0} (h : List (Entry F)) (x : Option (Standing F)) → reply_due h Chair Close ≢ Shown x
