@@ -2,7 +2,7 @@
 use Rattle.std.proofs.Common.{◌≡◌, ℕ, suc, ◌+◌, ◌<◌, ◌≤◌, Bool, true, false, not, List, [], ◌∷◌, ◌==◌, get_or, take, drop, length, refl, sym, ap, ◌∙◌, arith}
 use Rattle.std.specs.Prelude.{nat_lt}
 use Rattle.std.specs.List.{onto_first, position_or_len, slice_split}
-use Rattle.std.proofs.lemmas.Bool.{ltb-true, ltb-false, ne_eqb}
+use Rattle.std.proofs.lemmas.Bool.{ltb-true, ltb-false, ne_eqb, not-true}
 use Rattle.std.proofs.lemmas.List.{drop_all, drop_more, length-take-le, take_all}
 use Rattle.std.proofs.lemmas.List.Sums.{passes_at_first}
 use Rattle.std.proofs.lemmas.List.Splits.{slice_split-cons_no, slice_split_first}
@@ -64,12 +64,7 @@ word xs n place some within = by (nat_lt n (length xs)) refl
 begins : (xs : List ℕ) (n : ℕ) → position_or_len is_text xs ≡ n → n < length xs → 0 < position_or_len is_space (drop n xs)
 begins xs n place less =
     let first : is_text (get_or xs n 0) ≡ true = rw place at (passes_at_first is_text xs 0 (rw place less)) in
-    let other : is_space (get_or xs n 0) ≡ false = not_true _ first in
-    rw (drop_more xs n 0 less, other) (omega arith)
-  where
-    not_true : (b : Bool) → not b ≡ true → b ≡ false
-    not_true true h = cc h
-    not_true false h = refl
+    rw (drop_more xs n 0 less, not-true (is_space (get_or xs n 0)) first) (omega arith)
 
 -- the first field of a line, and what follows it
 pub first_field : (line text : List ℕ) (start end : ℕ) → start ≡ position_or_len is_text line → start < length line → text ≡ drop start line → end ≡ position_or_len is_space text → end ≤ length text

@@ -1,4 +1,3 @@
-use Rattle.std.proofs.Common.{sym}
 use Rattle.bid_book.specs.declared.caller.Caller.TheVariants.{Session, Chair}
 use Rattle.bid_book.specs.History.{call_value}
 use Rattle.bid_book.proofs.HistoryLemmas.{recorded_told, unrecorded_told}
