@@ -81,10 +81,7 @@ of-action action.SetTrue again a values rows = of-set again a values rows
 of-action action.SetFalse again a values rows = of-set again a values rows
 of-action action.Append again a values rows = of-values a.ignore_case (parser_of_value a.parser) values
 of-action action.Count again a values rows = of-count a values rows
-of-action action.Help again a values rows = of-request action.Help
-of-action action.HelpShort again a values rows = of-request action.HelpShort
-of-action action.HelpLong again a values rows = of-request action.HelpLong
-of-action action.Version again a values rows = of-request action.Version
+of-action x again a values rows = of-request x
 
 of-use : (again : Bool) (a : Rule) (values : List Text) (rows : List Row) → AskAlike (use_fault again a values rows)
 of-use again a values rows =
@@ -160,9 +157,7 @@ of-stray s = either s.is_leaf _ _ (one kind.UnknownArgument) (for_nothing, go)
 
 of-step : (s : Shape) (position : ℕ) (h : Held) (step : Step) → AskAlike (step_fault s position h step)
 of-step s position h value = mapped _ (arg_by_index s.rules position) (stray_fault s) (λ a. of-positional s.rules s.args_override_self a h) (of-stray s)
-of-step s position h (next waiting) = none
-of-step s position h (trailing n) = none
-of-step s position h (subcommand name) = none
+of-step s position h step = none
 
 module _ (s : Shape) (names : Names) (off : (s.disable_help_subcommand ≡ true) ⊎ (names ≡ [])) where
   unanswered : (waiting : Waiting) (word : Text) → (s.disable_help_subcommand ≡ true) ⊎ (subcommand_met names waiting word ≡ None)
