@@ -6,7 +6,7 @@ use Rattle.std.specs.Str.Parse.{digits_value_after}
 use Rattle.std.specs.Char.{digit_value, is_ascii_digit}
 use Rattle.std.proofs.lemmas.Bool.{and_parts, or_parts}
 use Rattle.std.proofs.lemmas.List.{drop_all, take_all}
-use Rattle.line_words.specs.Numbers.{is_exponent_mark, without_sign, exponent_text, exponent_digits, is_minus}
+use Rattle.line_words.specs.Numbers.{is_exponent_mark, without_sign, exponent_digits, is_minus}
 
 pub after-append : (n : ℕ) (front back : List ℕ) → digits_value_after 10 n (front ++ back) ≡ digits_value_after 10 (digits_value_after 10 n front) back
 after-append n [] back = refl
