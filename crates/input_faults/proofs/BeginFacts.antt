@@ -2,21 +2,17 @@
 use Rattle.std.proofs.Common.{◌≡◌, ◌+◌, ◌++◌, ◌∷◌, ◌∙◌, ℕ, List, [], Option, None, Some, Result, Ok, Err, ap, length, refl}
 use Rattle.std.proofs.lemmas.List.{map-append}
 use Rattle.std.specs.Prelude.{Bool, true, false, if◌then◌else◌, nat_lt}
-use Rattle.auction_terms.specs.AllFaults.{AreFaultsOf, accepted_with, all_faults, found, or_else}
+use Rattle.auction_terms.specs.AllFaults.{AreFaultsOf, accepted_with, all_faults, found}
 use Rattle.auction_terms.specs.Stages.{and_then, each_in_turn, refused_as, unless}
 use Rattle.auction_terms.specs.declared.faults.Found.{Found}
 use Rattle.auction_limits.specs.declared.limits.TheConstants.{TEXT_LIMIT}
 use Rattle.input_faults.specs.FaultsAs.{fault_as, faults_as, faults_of_sized}
 
--- faults that are told as others
-pub begin-as : {A F G : Type 0} (whole : F → G) (faults : List (Found F)) (told : Result A F) → AreFaultsOf faults told → AreFaultsOf (faults_as whole faults) (refused_as whole told)
-begin-as whole faults (Ok x) are = ap (faults_as whole) are
-begin-as whole faults (Err f) (field, more, are) = (field, faults_as whole more, ap (faults_as whole) are)
-
--- and once more
-pub as-as : {F G H : Type 0} (part : F → G) (whole : G → H) (faults : List (Found F)) → faults_as whole (faults_as part faults) ≡ faults_as (λ f. whole (part f)) faults
-as-as part whole [] = refl
-as-as part whole (at ∷ more) = ap (λ faults. found at.field (whole (part at.fault)) ∷ faults) (as-as part whole more)
+-- where a value is told there is no fault
+pub none-told : {A F G : Type 0} (whole : F → G) (faults : List (Found F)) (told : Result A G) (x : A) → AreFaultsOf (faults_as whole faults) told → told ≡ Ok x → faults ≡ []
+none-told whole [] told x are is = refl
+none-told whole (at ∷ more) (Ok y) x are is = cc
+none-told whole (at ∷ more) (Err f) x are is = cc
 
 -- a text and its size
 pub begin-sized : {A F : Type 0} (too_large : F) (text : List ℕ) (faults : List (Found F)) (told : Result A F) → AreFaultsOf faults told
@@ -39,14 +35,6 @@ begin-next whole [] others (Ok x) next are behind = behind x refl
 begin-next whole (at ∷ some) others (Ok x) next are behind = cc
 begin-next whole some others (Err f) next (field, more, are) behind =
     (field, more ++ faults_as whole others, map-append (λ at. found at.field (whole at.fault)) some others ∙ ap (λ faults. faults ++ faults_as whole others) are)
-
--- a stage, and what is looked at only where it has no fault
-pub begin-else : {A B F G : Type 0} (whole : F → G) (some others : List (Found F)) (told : Result A G) (next : A → Result B G) → AreFaultsOf (faults_as whole some) told
-    → ((x : A) → told ≡ Ok x → AreFaultsOf (faults_as whole others) (next x)) → AreFaultsOf (faults_as whole (or_else some others)) (and_then told next)
-begin-else whole [] others (Ok x) next are behind = behind x refl
-begin-else whole (at ∷ some) others (Ok x) next are behind = cc
-begin-else whole [] others (Err f) next (field, more, are) behind = cc
-begin-else whole (at ∷ some) others (Err f) next are behind = are
 
 -- the same faults, where more is made of what is told
 pub begin-more : {A B F : Type 0} (faults : List (Found F)) (told : Result A F) (make : A → B) → AreFaultsOf faults told → AreFaultsOf faults (and_then told (λ x. Ok (make x)))

@@ -1,5 +1,5 @@
 -- Going over a list once, item by item.
-use Rattle.std.proofs.Common.{◌≡◌, ◌≤◌, ◌<◌, ◌+◌, ◌∷◌, ◌∙◌, ℕ, List, [], add-one, ap, arith, drop, drop_of_length-le, length, length-drop, refl, slice_index_or, sym}
+use Rattle.std.proofs.Common.{◌≡◌, ◌<◌, ◌+◌, ◌∷◌, ◌∙◌, ℕ, List, [], add-one, ap, arith, drop, drop_of_length-le, length, length-drop, refl, slice_index_or, sym}
 use Rattle.std.proofs.lemmas.List.{drop_more, get_or_past}
 use Rattle.input_faults.specs.TextDetails.{numbered}
 
@@ -22,6 +22,4 @@ pub no-item : {X : Type 0} (n : ℕ) (items : List (List X)) → drop n items �
 no-item n items none =
     let size = length-drop n items in
     let sizes = ap length none in
-    let all : length items ≤ n = omega arith in
-    let behind : length items ≤ n + 1 = omega arith in
-    (sym (drop_of_length-le items behind), sym (numbered-next n items ∙ get_or_past items n [] all))
+    (sym (drop_of_length-le items (omega arith)), sym (numbered-next n items ∙ get_or_past items n [] (omega arith)))

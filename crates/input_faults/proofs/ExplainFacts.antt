@@ -9,6 +9,7 @@ use Rattle.auction_terms.proofs.AllFaultsFacts.{none-kept}
 use Rattle.auction_terms.specs.AllFaults.{AreFaultsOf, Keeps}
 use Rattle.auction_terms.specs.declared.faults.Faults.{Faults}
 use Rattle.auction_terms.specs.declared.faults.Found.{Found}
+use Rattle.input_faults.proofs.BeginFacts.{none-told}
 use Rattle.input_faults.proofs.InputBegins.{begin-input}
 use Rattle.input_faults.specs.Explained.{IsCutShort, by_put}
 use Rattle.input_faults.specs.FaultLines.{explanation, fault_lines}
@@ -52,13 +53,5 @@ pub is-faulty : (asked : Request) (input : List ℕ) (held : Faults Fault) (empt
 is-faulty asked input held empty keeps none some = faulty held (input_faults asked input) (auction_told asked input) empty keeps (begin-input asked input) none some
 
 -- nothing is told of an input that tells an auction
-lines-of-none : (detail_of : ℕ → Fault → List ℕ) (faults : List (Found Fault)) → faults_as refusal_of faults ≡ [] → fault_lines detail_of faults ≡ []
-lines-of-none detail_of [] none = refl
-lines-of-none detail_of (at ∷ more) none = cc
-
-of-told : (detail_of : ℕ → Fault → List ℕ) (faults : List (Found Fault)) (told : Result Auction Refusal) (auction : Auction) → AreFaultsOf (faults_as refusal_of faults) told → told ≡ Ok auction → fault_lines detail_of faults ≡ []
-of-told detail_of faults (Ok a) auction are is = lines-of-none detail_of faults are
-of-told detail_of faults (Err r) auction are is = cc
-
 pub nothing-explained : (asked : Request) (input : List ℕ) (auction : Auction) → auction_told asked input ≡ Ok auction → explanation asked input ≡ []
-nothing-explained asked input auction is = of-told (detail asked input) (input_faults asked input) (auction_told asked input) auction (begin-input asked input) is
+nothing-explained asked input auction is = ap (fault_lines (detail asked input)) (none-told refusal_of (input_faults asked input) (auction_told asked input) auction (begin-input asked input) is)

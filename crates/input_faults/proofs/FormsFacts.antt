@@ -1,8 +1,8 @@
 -- Forms that are read one after the other, whatever the others are.
-use Rattle.std.proofs.Common.{◌≡◌, ◌≤◌, ◌<◌, ◌+◌, ◌++◌, ◌∷◌, ◌∙◌, [], ℕ, Bool, true, false, List, Ok, Err, ap, arith, drop, drop_of_length-le, length, refl, slice_index_or, subst, sym}
-use Rattle.std.proofs.lemmas.List.{drop_more, length-append}
+use Rattle.std.proofs.Common.{◌≡◌, ◌≤◌, ◌+◌, ◌++◌, ◌∷◌, ◌∙◌, [], ℕ, Bool, true, false, List, Ok, Err, ap, arith, drop, drop_of_length-le, length, subst, sym}
+use Rattle.std.proofs.lemmas.List.{length-append}
 use Rattle.auction_input.proofs.InputTextFacts.{Text}
-use Rattle.auction_input.proofs.StageFacts.{IsLeft, left-fault, left-first, left-more, left-none}
+use Rattle.auction_input.proofs.StageFacts.{IsLeft, left-fault, left-more, left-none}
 use Rattle.auction_input.specs.Calls.{CountsCalls}
 use Rattle.auction_input.specs.TextsTold.{form_told}
 use Rattle.auction_input.specs.declared.calls.Calls.{Calls}
@@ -17,14 +17,6 @@ use Rattle.input_faults.specs.InputFaults.{call_fault}
 abbrev pub HasRead : Bool → Terms → List Text → ℕ → Calls → Type 0
 HasRead true t texts place calls = (forms : List Offers) × (length forms ≡ place) × IsLeft (form_told t) (place + 1) (bytes_of texts) forms (bytes_of (drop place texts)) × CountsCalls calls forms
 HasRead false t texts place calls = (r : Refusal) × (each_in_turn (form_told t) 1 (bytes_of texts) ≡ Err r)
-
--- none is read
-pub none-read : (t : Terms) (texts : List Text) (calls : Calls) → CountsCalls calls [] → HasRead true t texts 0 calls
-none-read t texts calls counts = ([], refl, left-first (form_told t) (bytes_of texts), counts)
-
--- the text at a place, and those behind it
-pub next-text : (texts : List Text) (place : ℕ) (other : Text) → place < length texts → bytes_of (drop place texts) ≡ (slice_index_or texts place other).now ∷ bytes_of (drop (place + 1) texts)
-next-text texts place other within = ap bytes_of (drop_more texts place other within)
 
 -- one form more is read
 pub form-more : (known : Bool) (t : Terms) (texts : List Text) (place : ℕ) (old new : Calls) (text : List ℕ) (form : Offers) → HasRead known t texts place old → bytes_of (drop place texts) ≡ text ∷ bytes_of (drop (place + 1) texts)

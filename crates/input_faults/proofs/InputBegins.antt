@@ -1,5 +1,5 @@
 -- All faults of an input begin with the one that is told.
-use Rattle.std.proofs.Common.{ℕ, List, [], Option, None, Some, Result, Ok, refl, subst, sym}
+use Rattle.std.proofs.Common.{ℕ, List, [], Option, None, Some, Result, Ok, Err, ap, refl, subst, sym}
 use Rattle.std.specs.Prelude.{codes}
 use Rattle.auction_input.specs.Auction.{Auction, auction_told}
 use Rattle.auction_input.specs.BookLeft.{sale_left}
@@ -31,7 +31,7 @@ use Rattle.bid_forms.specs.AllFormFaults.{all_form_faults}
 use Rattle.bid_forms.specs.FormText.{form_of_records}
 use Rattle.bid_forms.specs.Offers.{Offers}
 use Rattle.bid_forms.specs.declared.form_text.FormFault.TheVariants as form
-use Rattle.input_faults.proofs.BeginFacts.{as-as, begin-as, begin-each, begin-fault, begin-next, begin-sized}
+use Rattle.input_faults.proofs.BeginFacts.{begin-each, begin-fault, begin-next, begin-sized}
 use Rattle.input_faults.specs.FaultsAs.{fault_as, faults_as}
 use Rattle.input_faults.specs.InputFaults.{call_fault, faults_in_parts, faults_of_form, faults_of_forms, faults_of_groups, faults_of_rules, faults_of_texts, faults_under, input_faults, refusal_of, where_read}
 use Rattle.input_faults.specs.declared.fault.Fault.{Fault}
@@ -40,8 +40,8 @@ use Rattle.requests.specs.declared.request.Request.{Request}
 
 -- faults of a text that are told as refusals by way of those of the input
 by-fault : {A F : Type 0} (part : F → Fault) (faults : List (Found F)) (told : Result A F) → AreFaultsOf faults told → AreFaultsOf (faults_as refusal_of (faults_as part faults)) (refused_as (λ f. refusal_of (part f)) told)
-by-fault {A} part faults told are =
-    subst (λ (fs : List (Found Refusal)). AreFaultsOf {A = A} fs (refused_as (λ f. refusal_of (part f)) told)) (sym (as-as part refusal_of faults)) (begin-as (λ f. refusal_of (part f)) faults told are)
+by-fault part faults (Ok x) are = ap (λ fs. faults_as refusal_of (faults_as part fs)) are
+by-fault part faults (Err f) (field, more, are) = (field, faults_as refusal_of (faults_as part more), ap (λ fs. faults_as refusal_of (faults_as part fs)) are)
 
 pub begin-terms : (text : List ℕ) → AreFaultsOf (faults_as refusal_of (faults_of_rules text)) (terms_told text)
 begin-terms text = by-fault fault.Rules _ _ (begin-sized rules.TooLarge text (all_rules_faults (records_of text)) (rules_of_records (records_of text)) (begin-rules (records_of text)))
@@ -49,9 +49,6 @@ begin-terms text = by-fault fault.Rules _ _ (begin-sized rules.TooLarge text (al
 pub begin-one-form : (t : Terms) (number : ℕ) (text : List ℕ) → AreFaultsOf (faults_as refusal_of (faults_of_form t number text)) (form_told t number text)
 begin-one-form t number text =
     by-fault (fault.Form number) _ _ (begin-sized form.TooLarge text (all_form_faults t (records_of text)) (form_of_records t (records_of text)) (begin-form t (records_of text)))
-
-begin-forms : (t : Terms) (texts : List (List ℕ)) → AreFaultsOf (faults_as refusal_of (faults_of_forms t texts)) (each_in_turn (form_told t) 1 texts)
-begin-forms t texts = begin-each refusal_of (faults_of_form t) (form_told t) (begin-one-form t) 1 [] texts
 
 begin-group-text : (t : Terms) (text : List ℕ) → AreFaultsOf (faults_as refusal_of (faults_of_groups t text)) (groups_told t text)
 begin-group-text t text = by-fault fault.Groups _ _ (begin-sized groups.TooLarge text (all_group_faults t.bidders text) (groups_of t.bidders text) (begin-groups t.bidders text))
@@ -64,7 +61,7 @@ under make forms groups t =
 begin-under : (make : List Offers → List (List ℕ) → Auction) (forms : List (List ℕ)) (groups : List ℕ) (t : Terms) → AreFaultsOf (faults_as refusal_of (faults_under forms groups t)) (under make forms groups t)
 begin-under make forms groups t =
     let calls : Result (List Offers) Refusal → List (Found Refusal) = λ r. faults_as refusal_of (fault_as fault.CallLimit (call_fault r)) in
-    begin-next refusal_of (faults_of_forms t forms) _ (each_in_turn (form_told t) 1 forms) _ (begin-forms t forms) (λ read is.
+    begin-next refusal_of (faults_of_forms t forms) _ (each_in_turn (form_told t) 1 forms) _ (begin-each refusal_of (faults_of_form t) (form_told t) (begin-one-form t) 1 [] forms) (λ read is.
     begin-next refusal_of (faults_of_groups t groups) _ (groups_told t groups) _ (begin-group-text t groups) (λ lists told.
     subst (λ (r : Result (List Offers) Refusal). AreFaultsOf (calls r) (refused_as refusal.CallLimit (unless (first_fault one_too_many [] read) (Ok (make read lists))))) (sym is)
     (begin-fault fault.CallLimit refusal_of (first_fault one_too_many [] read) (make read lists))))

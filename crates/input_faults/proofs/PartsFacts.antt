@@ -1,13 +1,11 @@
 -- The fault of the parts, or none.
-use Rattle.std.proofs.Common.{◌≡◌, ◌∷◌, ◌∙◌, ℕ, List, [], Option, None, Some, Result, Err, ap, refl, sym}
-use Rattle.std.specs.Prelude.{◌≢◌, Vec, codes}
-use Rattle.std.specs.declared.alloc.Global.{Global}
+use Rattle.std.proofs.Common.{◌≡◌, ◌∷◌, ◌∙◌, ℕ, List, [], Option, None, Some, Err, ap, refl, sym}
+use Rattle.std.specs.Prelude.{◌≢◌, codes}
 use Rattle.auction_input.specs.Parts.{Part, TellsParts, cut_lines, input_fault, parts_in, parts_named}
 use Rattle.auction_input.specs.PartsTold.{only_text}
 use Rattle.auction_input.specs.Plan.{miscounted}
 use Rattle.auction_input.specs.TextsTold.{terms_told}
 use Rattle.auction_input.specs.declared.part_kind.PartKind.{PartKind}
-use Rattle.auction_input.specs.declared.parts.Part as declared
 use Rattle.auction_input.specs.declared.parts.PartFault.{PartFault}
 use Rattle.auction_input.specs.declared.parts.PartFault.TheVariants as part_fault
 use Rattle.auction_terms.specs.AllFaults.{found, or_else}
@@ -23,11 +21,8 @@ use Rattle.requests.specs.declared.request.Request.{Request}
 abbrev of-parts : Option PartFault → Option PartKind → List (Found Fault)
 of-parts part count = or_else (fault_as fault.Parts part) (fault_as fault.PartCount count)
 
-abbrev no_parts : PartFault → Result (Vec declared.Part Global) PartFault
-no_parts f = Err f
-
 -- a fault of the parts that isn't want of memory
-pub part-told : (asked : Request) (text : List ℕ) (f : PartFault) → TellsParts asked (no_parts f) text → f ≢ part_fault.OutOfMemory → input_fault asked text ≡ Some f
+pub part-told : (asked : Request) (text : List ℕ) (f : PartFault) → TellsParts asked (Err f) text → f ≢ part_fault.OutOfMemory → input_fault asked text ≡ Some f
 part-told asked text part_fault.OutOfMemory told other = absurd (other refl)
 part-told asked text part_fault.BeforeFirst told other = told
 part-told asked text (part_fault.PartName n) told other = told

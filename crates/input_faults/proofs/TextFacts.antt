@@ -1,8 +1,6 @@
 -- What texts tell, and all faults of each.
-use Rattle.std.proofs.Common.{◌≡◌, ◌≤◌, ◌<◌, ◌++◌, ◌∷◌, ℕ, Bool, true, false, List, [], Result, Ok, Err, ap, arith, length, refl, sym, inl, inr}
+use Rattle.std.proofs.Common.{◌≡◌, ◌≤◌, ◌<◌, ◌++◌, ◌∷◌, ℕ, Bool, false, List, [], Result, Ok, Err, ap, arith, length, refl, sym, inl, inr}
 use Rattle.std.proofs.lemmas.Bool.Decides.{leb_tells}
-use Rattle.std.specs.Prelude.{⊤}
-use Rattle.std.specs.Bool.{MatchBool}
 use Rattle.auction_input.proofs.FaultFacts.{no_rules}
 use Rattle.auction_input.proofs.InputTextFacts.{rules-faulted, rules-tell}
 use Rattle.auction_input.specs.TextsTold.{form_in, form_told, terms_told}
@@ -23,9 +21,9 @@ use Rattle.bid_forms.specs.FormText.{form_of_records, is_form_memory}
 use Rattle.bid_forms.specs.Offers.{Offers}
 use Rattle.bid_forms.specs.declared.form_text.FormFault.{FormFault}
 use Rattle.bid_forms.specs.declared.form_text.FormFault.TheVariants as form
-use Rattle.input_faults.proofs.InputBegins.{begin-one-form, begin-terms}
+use Rattle.input_faults.proofs.BeginFacts.{none-told}
 use Rattle.input_faults.specs.FaultsAs.{faults_as, faults_of_sized}
-use Rattle.input_faults.specs.InputFaults.{faults_of_form, faults_of_rules, faults_of_texts, faults_under, refusal_of, where_read}
+use Rattle.input_faults.specs.InputFaults.{faults_of_rules, faults_of_texts, faults_under, refusal_of, where_read}
 use Rattle.input_faults.specs.declared.fault.Fault.{Fault}
 
 -- what is kept of the faults of a text, whatever its size
@@ -33,22 +31,13 @@ pub keeps-sized : {F : Type 0} (held : Faults F) (too_large : F) (text : List �
     → Keeps held (faults_of_sized too_large text faults)
 keeps-sized held too_large text faults large small = elim (leb_tells 4194305 (length text)) [ inl (is, more) ↦ rw is (large (omega arith)) | inr (is, few) ↦ rw is (small (omega arith)) ]
 
--- where a value is told there is no fault
-none-told : {A F G : Type 0} (whole : F → G) (faults : List (Found F)) (told : Result A G) (x : A) → AreFaultsOf (faults_as whole faults) told → told ≡ Ok x → faults ≡ []
-none-told whole [] told x are is = refl
-none-told whole (at ∷ more) (Ok y) x are is = cc
-none-told whole (at ∷ more) (Err f) x are is = cc
-
-nothing-more : (held : Faults Fault) (faults : List (Found Fault)) → faults ≡ [] → KeepsMore held held faults
-nothing-more held faults none = rw none (keeps-none held)
+-- where a value is told there is nothing more to keep
+pub nothing-more : {A : Type 0} (held : Faults Fault) (faults : List (Found Fault)) (told : Result A Refusal) (x : A) → AreFaultsOf (faults_as refusal_of faults) told → told ≡ Ok x → KeepsMore held held faults
+nothing-more held faults told x are is = rw (none-told refusal_of faults told x are is) (keeps-none held)
 
 -- a fault that isn't want of memory is what is told
 is-told : {A F : Type 0} (is_memory : F → Bool) (f : F) (told : Result A F) → is_memory f ≡ false → Answers {A = A} is_memory (Err f) told → told ≡ Err f
-is-told {A} {F} is_memory f told other answers = by (is_memory f) other answers
-  where
-    by : (b : Bool) → b ≡ false → MatchBool b ⊤ (Err f ≡ told) → told ≡ Err f
-    by true other answers = cc
-    by false other answers = sym answers
+is-told is_memory f told other answers = sym (rw other at answers)
 
 -- ---- rules
 
@@ -58,9 +47,6 @@ rules-read text t large told = ap (refused_as refusal.Rules) (rules-tell text t 
 pub rules-refused : (text : List ℕ) (f : RulesFault) → is_rules_memory f ≡ false → (TEXT_LIMIT < length text → no_rules f ≡ no_rules rules.TooLarge) → (length text ≤ TEXT_LIMIT → Answers is_rules_memory (no_rules f) (rules_of_records (records_of text)))
     → terms_told text ≡ Err (refusal.Rules f)
 rules-refused text f other large told = ap (refused_as refusal.Rules) (is-told is_rules_memory f _ other (rules-faulted text f large told))
-
-pub rules-without : (held : Faults Fault) (text : List ℕ) (t : Terms) → terms_told text ≡ Ok t → KeepsMore held held (faults_of_rules text)
-rules-without held text t is = nothing-more held (faults_of_rules text) (none-told refusal_of (faults_of_rules text) (terms_told text) t (begin-terms text) is)
 
 -- ---- forms
 
@@ -78,9 +64,6 @@ no_form f = Err f
 pub form-refused : (t : Terms) (n : ℕ) (text : List ℕ) (f : FormFault) → is_form_memory f ≡ false → (TEXT_LIMIT < length text → no_form f ≡ no_form form.TooLarge)
     → (length text ≤ TEXT_LIMIT → Answers is_form_memory (no_form f) (form_of_records t (records_of text))) → form_told t n text ≡ Err (refusal.Form n f)
 form-refused t n text f other large told = ap (refused_as (refusal.Form n)) (is-told is_form_memory f _ other (form-sized t text (Err f) large told))
-
-pub form-without : (held : Faults Fault) (t : Terms) (n : ℕ) (text : List ℕ) (f : Offers) → form_told t n text ≡ Ok f → KeepsMore held held (faults_of_form t n text)
-form-without held t n text f is = nothing-more held (faults_of_form t n text) (none-told refusal_of (faults_of_form t n text) (form_told t n text) f (begin-one-form t n text) is)
 
 -- ---- texts together
 

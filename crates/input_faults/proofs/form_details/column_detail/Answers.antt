@@ -4,7 +4,6 @@ use Rattle.std.specs.Str.{bytes_eq}
 use Rattle.csv.specs.Records.{fields_of}
 use Rattle.auction_terms.specs.RulesText.{record_field}
 use Rattle.bid_forms.proofs.RecordFacts.{when-not-false, when-not-true}
-use Rattle.input_faults.proofs.ColumnFacts.{column-here, column-next}
 use Rattle.input_faults.specs.Details.{column_told}
 use Rattle.input_faults.proofs.form_details.column_detail.Goals as goal
 
@@ -17,7 +16,7 @@ returns-then-ne c =
     let named : c.as_bytes-name.result.now ≡ category.name = c.as_bytes-name.ensures.bytes ∙ ap (λ x. x.name) (sym c.index-categories-place.is) in
     let differs : bytes_eq (record_field (place + 2) r) category.name ≡ false = rw (c.field-value.ensures, named) at (when-not-true _ c.if-ne.ensures) in
     let next : drop place all ≡ category ∷ drop (place + 1) all = drop_more all place category c.loop-place-test.true ∙ ap (λ x. x ∷ drop (place + 1) all) (sym c.index-categories-place.is) in
-    rw (c.field-value.ensures, named) (sym (c.loop-place.invariant ∙ column-here r (place + 2) _ _ category next differs))
+    rw (c.field-value.ensures, named) (sym (rw (next, differs) at c.loop-place.invariant))
 
 pub loop-place-preserved : goal.loop-place-preserved
 loop-place-preserved c =
@@ -29,7 +28,7 @@ loop-place-preserved c =
     let same : bytes_eq (record_field (place + 2) r) category.name ≡ true = rw (c.field-value.ensures, named) at (when-not-false _ c.if-ne.ensures) in
     let next : drop place all ≡ category ∷ drop (place + 1) all = drop_more all place category c.loop-place-test.true ∙ ap (λ x. x ∷ drop (place + 1) all) (sym c.index-categories-place.is) in
     let after : place + 2 + 1 ≡ place + 1 + 2 = omega arith in
-    c.loop-place.invariant ∙ column-next r (place + 2) _ _ category next same ∙ ap (λ n. column_told r n (drop (place + 1) all)) after
+    (rw (next, same) at c.loop-place.invariant) ∙ ap (λ n. column_told r n (drop (place + 1) all)) after
 
 pub returns : goal.returns
 returns c =

@@ -1,4 +1,4 @@
-use Rattle.std.proofs.Common.{◌<◌, ◌∙◌, ℕ, ap, arith, length, rules}
+use Rattle.std.proofs.Common.{◌∙◌, ℕ, ap, arith, rules}
 use Rattle.auction_terms.specs.Records.{records_of}
 use Rattle.auction_terms.specs.RulesText.{version_of}
 use Rattle.byte_sinks.proofs.Adding.{Adds-then, Adds-to}
@@ -16,11 +16,8 @@ loop-at-init g c =
 pub loop-at-preserved : goal.loop-at-preserved
 loop-at-preserved g c =
     let (added, stands, known) = c.loop-at.invariant in
-    let text = c.args.text.now in
-    let place = c.loop-at.at-index in
-    let all = c.args.faults.now in
-    let lt : place < length all = omega arith in (
-      Adds-to (Adds-then added (c.in_ok-add_line_of_rules.ensures.added text stands known)) (flat_map-next_or (fault_line (detail_in_rules (records_of text))) all place _ lt),
+    let text = c.args.text.now in (
+      Adds-to (Adds-then added (c.in_ok-add_line_of_rules.ensures.added text stands known)) (flat_map-next_or (fault_line (detail_in_rules (records_of text))) c.args.faults.now c.loop-at.at-index _ (omega arith)),
       c.in_ok-add_line_of_rules.ensures.stands text stands,
       known,
     )

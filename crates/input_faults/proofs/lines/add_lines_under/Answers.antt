@@ -1,4 +1,4 @@
-use Rattle.std.proofs.Common.{◌<◌, arith, length, rules}
+use Rattle.std.proofs.Common.{arith, rules}
 use Rattle.auction_terms.specs.Borrowed.{bytes_of}
 use Rattle.byte_sinks.proofs.Adding.{Adds-then, Adds-to}
 use Rattle.byte_sinks.proofs.Known.{flat_map-next_or}
@@ -12,11 +12,8 @@ loop-at-init g c = (search rules, c.in_ok-form.ensures.reads, rw c.within_limit.
 pub loop-at-preserved : goal.loop-at-preserved
 loop-at-preserved g c =
     let (added, reads, stands) = c.loop-at.invariant in
-    let groups = c.args.groups.now in
-    let place = c.loop-at.at-index in
-    let all = c.args.faults.now in
-    let lt : place < length all = omega arith in (
-      Adds-to (Adds-then added (c.in_ok-add_line_under.ensures.added groups stands)) (flat_map-next_or (fault_line (detail_under c.args.rules.now (bytes_of c.args.forms.now) groups)) all place _ lt),
+    let groups = c.args.groups.now in (
+      Adds-to (Adds-then added (c.in_ok-add_line_under.ensures.added groups stands)) (flat_map-next_or (fault_line (detail_under c.args.rules.now (bytes_of c.args.forms.now) groups)) c.args.faults.now c.loop-at.at-index _ (omega arith)),
       c.in_ok-add_line_under.ensures.form,
       c.in_ok-add_line_under.ensures.names _ stands,
     )

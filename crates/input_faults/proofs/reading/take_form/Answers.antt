@@ -1,4 +1,5 @@
-use Rattle.input_faults.proofs.TextFacts.{form-read, form-refused, form-without, keeps-sized}
+use Rattle.input_faults.proofs.InputBegins.{begin-one-form}
+use Rattle.input_faults.proofs.TextFacts.{form-read, form-refused, keeps-sized, nothing-more}
 use Rattle.auction_input.specs.declared.refusal.Refusal.TheVariants as refusal
 use Rattle.bid_forms.specs.declared.form_text.FormFault.TheVariants as form
 use Rattle.input_faults.proofs.reading.take_form.Goals as goal
@@ -9,7 +10,7 @@ returns-in-Ok c =
     let t = c.args.rules.now in
     let n = c.args.number in
     let told = form-read t n text c.in-Ok.form c.in-Ok.ensures.too_large c.in-Ok.ensures.answer in
-    record { faults = form-without c.args.faults.now t n text c.in-Ok.form told; form = told }
+    record { faults = nothing-more c.args.faults.now _ _ _ (begin-one-form t n text) told; form = told }
 
 pub returns-in_ok-add_form-in-Err : goal.returns-in_ok-add_form-in-Err
 returns-in_ok-add_form-in-Err c =

@@ -1,4 +1,5 @@
 use Rattle.std.proofs.Common.{◌≡◌, ◌≤◌, ◌+◌, ◌++◌, [], ℕ, List, ap, drop, drop_of_length-le, length, slice_index_or}
+use Rattle.std.proofs.lemmas.List.{drop_more}
 use Rattle.auction_input.proofs.InputTextFacts.{Text}
 use Rattle.auction_terms.proofs.AllFaultsFacts.{found-all, found-more, keeps-both}
 use Rattle.auction_terms.specs.AllFaults.{accepted_with, all_faults}
@@ -7,7 +8,7 @@ use Rattle.auction_terms.specs.Terms.{Terms}
 use Rattle.auction_terms.specs.declared.faults.Found.{Found}
 use Rattle.input_faults.specs.InputFaults.{faults_of_form, faults_of_forms}
 use Rattle.input_faults.specs.declared.fault.Fault.{Fault}
-use Rattle.input_faults.proofs.FormsFacts.{calls-known, form-less, form-more, next-text}
+use Rattle.input_faults.proofs.FormsFacts.{calls-known, form-less, form-more}
 use Rattle.input_faults.proofs.reading.take_forms.Goals.{in-Some, in-None}
 use Rattle.input_faults.proofs.reading.take_forms.Goals as goal
 
@@ -23,7 +24,7 @@ loop-place-preserved c =
     let calls = c.loop-place.calls in
     let none : Text = record { ref_ptr = (0, 0); now = [] } in
     let text = (slice_index_or texts place none).now in
-    let next = next-text texts place none c.loop-place-test.true in
+    let next = ap bytes_of (drop_more texts place none c.loop-place-test.true) in
     let of_text = faults_by_form t (place + 1) accepted text in (
       so_far ++ of_text,
       accepted_with of_text accepted text,

@@ -1,4 +1,5 @@
-use Rattle.input_faults.proofs.TextFacts.{keeps-sized, rules-read, rules-refused, rules-without}
+use Rattle.input_faults.proofs.InputBegins.{begin-terms}
+use Rattle.input_faults.proofs.TextFacts.{keeps-sized, nothing-more, rules-read, rules-refused}
 use Rattle.auction_input.specs.declared.refusal.Refusal.TheVariants as refusal
 use Rattle.auction_terms.specs.declared.rules_text.RulesFault.TheVariants as rules
 use Rattle.input_faults.proofs.reading.take_rules.Goals as goal
@@ -7,7 +8,7 @@ pub returns-in-Ok : goal.returns-in-Ok
 returns-in-Ok c =
     let text = c.args.text.now in
     let told = rules-read text c.in-Ok.rules c.in-Ok.ensures.too_large c.in-Ok.ensures.answer in
-    record { faults = rules-without c.args.faults.now text c.in-Ok.rules told; rules = told }
+    record { faults = nothing-more c.args.faults.now _ _ _ (begin-terms text) told; rules = told }
 
 pub returns-in_ok-add_rules-in-Err : goal.returns-in_ok-add_rules-in-Err
 returns-in_ok-add_rules-in-Err c =

@@ -6,8 +6,7 @@ use Rattle.input_faults.proofs.record_cursor.take_record.Goals as goal
 pub returns-then-branch : goal.returns-then-branch
 returns-then-branch c = λ n records stands.
     let next : c.args.left.now ≡ fields_of c.next.new.row ∷ c.next.new.self = rw c.if-branch.true at c.in_ok-next.ensures.next in
-    let (left, held) = next-item n records _ _ (sym stands ∙ next) in
-    (left, held)
+    next-item n records _ _ (sym stands ∙ next)
 
 pub returns : goal.returns
 returns c = λ n records stands.

@@ -1,4 +1,4 @@
-use Rattle.std.proofs.Common.{◌<◌, length, arith}
+use Rattle.std.proofs.Common.{arith}
 use Rattle.byte_sinks.proofs.Adding.{Adds-then, Adds-to}
 use Rattle.byte_sinks.proofs.Known.{flat_map-next_or}
 use Rattle.input_faults.specs.Shown.{shown_byte}
@@ -6,7 +6,4 @@ use Rattle.input_faults.proofs.shown.add_shown_bytes.Goals as goal
 
 pub loop-byte-preserved : goal.loop-byte-preserved
 loop-byte-preserved g c =
-    let place = c.loop-byte.byte-index in
-    let all = c.args.bytes.now in
-    let lt : place < length all = omega arith in
-    Adds-to (Adds-then c.loop-byte.invariant c.add_shown_byte.ensures) (flat_map-next_or shown_byte all place _ lt)
+    Adds-to (Adds-then c.loop-byte.invariant c.add_shown_byte.ensures) (flat_map-next_or shown_byte c.args.bytes.now c.loop-byte.byte-index _ (omega arith))
