@@ -15,35 +15,18 @@ lots = record { supply = 2 ∷ 1 ∷ []; values = 10 ∷ 0 ∷ []; pools = recor
 form : List Bid
 form = bid 30 (1 ∷ 0 ∷ []) ∷ bid 90 (3 ∷ 2 ∷ []) ∷ bid 35 (2 ∷ 0 ∷ []) ∷ bid 50 (2 ∷ 1 ∷ []) ∷ bid 9 (1 ∷ 0 ∷ []) ∷ bid 40 (2 ∷ 0 ∷ []) ∷ []
 
-kept : why_left_out lots form (bid 30 (1 ∷ 0 ∷ [])) ≡ None
+worked_reasons :
+    (why_left_out lots form (bid 30 (1 ∷ 0 ∷ [])) ≡ None)
+    -- three lots of two: the first category is told, though there aren't two of the second either, and the pool's load is 70
+    × (why_left_out lots form (bid 90 (3 ∷ 2 ∷ [])) ≡ Some (reason.OverSupply 0 3 2))
+    × (why_left_out lots form (bid 90 (2 ∷ 2 ∷ [])) ≡ Some (reason.OverSupply 1 2 1))
+    -- 2 * 10 + 1 * 20
+    × (why_left_out lots form (bid 50 (2 ∷ 1 ∷ [])) ≡ Some (reason.OverCap 0 40 30))
+    -- 9 pounds for a lot worth 10
+    × (why_left_out lots form (bid 9 (1 ∷ 0 ∷ [])) ≡ Some (reason.BelowWorth 1))
+    -- a net of 15, where the first bid has one of 20 with one lot of these
+    × (why_left_out lots form (bid 35 (2 ∷ 0 ∷ [])) ≡ Some (reason.Dominated 1))
+    -- a net of 20, as much
+    × (why_left_out lots form (bid 40 (2 ∷ 0 ∷ [])) ≡ Some (reason.Dominated 1))
 unfolding bid lots form
-kept = refl
-
--- three lots of two: the first category is told, though there aren't two of the second either, and the pool's load is 70
-more_than_there_is : why_left_out lots form (bid 90 (3 ∷ 2 ∷ [])) ≡ Some (reason.OverSupply 0 3 2)
-unfolding bid lots form
-more_than_there_is = refl
-
-second_category : why_left_out lots form (bid 90 (2 ∷ 2 ∷ [])) ≡ Some (reason.OverSupply 1 2 1)
-unfolding bid lots form
-second_category = refl
-
--- 2 * 10 + 1 * 20
-above_the_cap : why_left_out lots form (bid 50 (2 ∷ 1 ∷ [])) ≡ Some (reason.OverCap 0 40 30)
-unfolding bid lots form
-above_the_cap = refl
-
--- 9 pounds for a lot worth 10
-less_than_unsold : why_left_out lots form (bid 9 (1 ∷ 0 ∷ [])) ≡ Some (reason.BelowWorth 1)
-unfolding bid lots form
-less_than_unsold = refl
-
--- a net of 15, where the first bid has one of 20 with one lot of these
-dominated : why_left_out lots form (bid 35 (2 ∷ 0 ∷ [])) ≡ Some (reason.Dominated 1)
-unfolding bid lots form
-dominated = refl
-
--- a net of 20, as much
-as_good : why_left_out lots form (bid 40 (2 ∷ 0 ∷ [])) ≡ Some (reason.Dominated 1)
-unfolding bid lots form
-as_good = refl
+worked_reasons = (refl, refl, refl, refl, refl, refl, refl)

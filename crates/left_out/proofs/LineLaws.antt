@@ -19,6 +19,4 @@ numbered-next {X} line xs i d small =
 -- all of them
 pub numbered-all : {X : Type 0} (line : ℕ × X → List ℕ) (xs : List X) (i : ℕ) → length xs ≤ i → flat_map line (take i (enumerate_from 1 xs)) ≡ flat_map line (enumerate_from 1 xs)
 numbered-all {X} line xs i over =
-    let count = length-enumerate_from 1 xs in
-    let all : length (enumerate_from 1 xs) ≤ i = omega (arith, count, over) in
-    ap (λ (ys : List (ℕ × X)). flat_map line ys) (take_all i (enumerate_from 1 xs) all)
+    ap (λ (ys : List (ℕ × X)). flat_map line ys) (take_all i (enumerate_from 1 xs) (let count = length-enumerate_from 1 xs in omega (arith, count, over)))

@@ -78,11 +78,8 @@ dominated-none : (lots : Lots) (form : List Bid) (x : Bid) → is_none (dominate
 dominated-none lots form x = none-mapped _ _ ∙ none-found (λ y. dominates lots y x) 1 form
 
 regroup : (a b c d : Bool) → (a && (b && (c && d))) ≡ (((a && b) && c) && d)
-regroup true b c d = go b
-  where
-    go : (b : Bool) → (b && (c && d)) ≡ ((b && c) && d)
-    go true = refl
-    go false = refl
+regroup true true c d = refl
+regroup true false c d = refl
 regroup false b c d = refl
 
 pub kept-without : KeptWithoutReason

@@ -1,26 +1,15 @@
 -- The steps of searches by place.
-use Rattle.std.proofs.Common.{◌≡◌, ◌∙◌, ◌+◌, ◌-◌, ◌<◌, ◌≤◌, ◌∷◌, ℕ, zero, suc, Bool, true, false, cond, List, [], Option, Some, refl, sym, ap, arith, add-one, drop, get_or, length, map, slice_index_or}
+use Rattle.std.proofs.Common.{◌≡◌, ◌∙◌, ◌+◌, ◌-◌, ◌<◌, ◌≤◌, ◌∷◌, ℕ, suc, Bool, true, false, List, [], Option, Some, refl, sym, ap, arith, drop, length, map, slice_index_or}
 use Rattle.std.specs.Prelude.{nat_lt, option_map, slice_index}
 use Rattle.std.specs.List.{find, position_from, range_with_len}
-use Rattle.std.proofs.Math.Seq.{drop-cons}
 use Rattle.std.proofs.lemmas.Bool.Decides.{nat_tests}
-use Rattle.std.proofs.lemmas.List.{length-map}
+use Rattle.std.proofs.lemmas.List.{drop-map, drop_more, get_or-map}
 use Rattle.auction_terms.specs.declared.rules.Pool.{Pool}
 use Rattle.auction_terms.specs.Packages.{WeightedCap, pool_at, weighed}
 use Rattle.auction_terms.specs.Terms.{Terms, lots_in}
 use Rattle.left_out.specs.Reasons.{over_cap}
 use Rattle.left_out.specs.declared.reason.Reason.{Reason}
 use Rattle.left_out.specs.declared.reason.Reason.TheVariants as reason
-
--- where the test passes, the search ends there
-found-here : {X : Type 0} (b : Bool) (x : X) (rest : Option X) → b ≡ true → cond b (Some x) rest ≡ Some x
-found-here true x rest passed = refl
-found-here false x rest passed = cc
-
--- where it doesn't, the search goes on
-found-later : {X : Type 0} (b : Bool) (x : X) (rest : Option X) → b ≡ false → cond b (Some x) rest ≡ rest
-found-later true x rest failed = cc
-found-later false x rest failed = refl
 
 -- ---- categories
 
@@ -33,7 +22,7 @@ pub supply-passed : (supplies quantities : List ℕ) (i : ℕ) → i < length qu
 supply-passed supplies quantities i small within =
     let more : length quantities - i ≡ suc (length quantities - (i + 1)) = omega arith in
     let failed : nat_lt (slice_index supplies i) (slice_index quantities i) ≡ false = grind (arith, nat_tests) in
-    ap (λ (n : ℕ). find (is_above supplies quantities) (range_with_len i n)) more ∙ found-later (is_above supplies quantities i) i (find (is_above supplies quantities) (range_with_len (i + 1) (length quantities - (i + 1)))) failed
+    rw (more, failed) refl
 
 -- ---- pools
 
@@ -43,26 +32,17 @@ cap_in pool = record { cap = pool.cap; weights = pool.weights }
 abbrev is_over : List ℕ → WeightedCap → Bool
 is_over quantities pool = nat_lt pool.cap (weighed pool.weights quantities)
 
-cap-at : (pools : List Pool) (i : ℕ) (pool : Pool) (d : WeightedCap) → i < length pools → pool ≡ slice_index_or pools i pool → get_or (map cap_in pools) i d ≡ cap_in pool
-cap-at [] i pool d small at = absurd (omega arith)
-cap-at (first ∷ pools) zero pool d small at = ap cap_in (sym at)
-cap-at (first ∷ pools) (suc i) pool d small at = cap-at pools i pool d (omega arith) at
-
 -- the pool at a place, and those behind it
 caps-from : (pools : List Pool) (i : ℕ) (pool : Pool) → i < length pools → pool ≡ slice_index_or pools i pool → drop i (map cap_in pools) ≡ cap_in pool ∷ drop (i + 1) (map cap_in pools)
 caps-from pools i pool small at =
-    let count = length-map pools cap_in in
-    let within : i < length (map cap_in pools) = omega (arith, count, small) in
-    let d : WeightedCap = record { cap = 0; weights = [] } in
-    rw (add-one i) (drop-cons (map cap_in pools) i d within ∙ ap (λ (c : WeightedCap). c ∷ drop (suc i) (map cap_in pools)) (cap-at pools i pool d small at))
+    drop-map cap_in i pools ∙ ap (map cap_in) (drop_more pools i pool small ∙ ap (λ (p : Pool). p ∷ drop (i + 1) pools) (sym at)) ∙ ap (λ (caps : List WeightedCap). cap_in pool ∷ caps) (sym (drop-map cap_in (i + 1) pools))
 
 -- a pool that isn't loaded above its cap
 pub cap-passed : (quantities : List ℕ) (pools : List Pool) (i load : ℕ) (pool : Pool) → i < length pools → pool ≡ slice_index_or pools i pool → load ≡ weighed pool.weights quantities → load ≤ pool.cap
     → position_from (is_over quantities) i (drop i (map cap_in pools)) ≡ position_from (is_over quantities) (i + 1) (drop (i + 1) (map cap_in pools))
 cap-passed quantities pools i load pool small at load_is within =
     let failed : nat_lt pool.cap (weighed pool.weights quantities) ≡ false = grind (arith, nat_tests) in
-    ap (λ (caps : List WeightedCap). position_from (is_over quantities) i caps) (caps-from pools i pool small at)
-    ∙ found-later (is_over quantities (cap_in pool)) i (position_from (is_over quantities) (i + 1) (drop (i + 1) (map cap_in pools))) failed
+    rw (caps-from pools i pool small at, failed) refl
 
 -- the first one that is
 pub cap-found : (t : Terms) (quantities : List ℕ) (i load : ℕ) (pool : Pool) → i < length t.pools → pool ≡ slice_index_or t.pools i pool → load ≡ weighed pool.weights quantities → pool.cap < load
@@ -70,9 +50,7 @@ pub cap-found : (t : Terms) (quantities : List ℕ) (i load : ℕ) (pool : Pool)
     → Some (reason.OverCap i load pool.cap) ≡ over_cap (lots_in t) quantities
 cap-found t quantities i load pool small at load_is above so_far =
     let passed : nat_lt pool.cap (weighed pool.weights quantities) ≡ true = grind (arith, nat_tests) in
-    let found : position_from (is_over quantities) 0 (map cap_in t.pools) ≡ Some i =
-    so_far ∙ ap (λ (caps : List WeightedCap). position_from (is_over quantities) i caps) (caps-from t.pools i pool small at)
-    ∙ found-here (is_over quantities (cap_in pool)) i (position_from (is_over quantities) (i + 1) (drop (i + 1) (map cap_in t.pools))) passed in
-    let here : pool_at (lots_in t) i ≡ cap_in pool = cap-at t.pools i pool (record { cap = 0; weights = [] }) small at in
+    let found : position_from (is_over quantities) 0 (map cap_in t.pools) ≡ Some i = rw (caps-from t.pools i pool small at, passed) at so_far in
+    let here : pool_at (lots_in t) i ≡ cap_in pool = get_or-map cap_in t.pools i pool (record { cap = 0; weights = [] }) small ∙ ap cap_in (sym at) in
     let told : ℕ → Reason = λ place. reason.OverCap place (weighed (pool_at (lots_in t) place).weights quantities) (pool_at (lots_in t) place).cap in
     sym (ap (λ (o : Option ℕ). option_map told o) found ∙ ap (λ (c : WeightedCap). Some (reason.OverCap i (weighed c.weights quantities) c.cap)) here ∙ ap (λ (n : ℕ). Some (reason.OverCap i n pool.cap)) (sym load_is))

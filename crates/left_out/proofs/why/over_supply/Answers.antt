@@ -1,4 +1,4 @@
-use Rattle.std.proofs.Common.{◌≤◌, ◌<◌, ◌∙◌, List, ℕ, length, rules, subst}
+use Rattle.std.proofs.Common.{◌≤◌, ◌∙◌, rules}
 use Rattle.std.specs.Prelude.{slice_index}
 use Rattle.auction_terms.specs.Terms.{lots_in}
 use Rattle.left_out.proofs.SearchLaws.{supply-passed}
@@ -9,6 +9,5 @@ loop-category-preserved c =
     let quantities = c.args.package.now in
     let supplies = (lots_in c.args.rules.now).supply in
     let place = c.loop-category.category in
-    let small : place < length quantities = subst (λ (all : List ℕ). place < length all) c.quantities-quantities.ensures.quantities c.loop-category-test.true in
     let within : slice_index quantities place ≤ slice_index supplies place = search rules in
-    c.loop-category.invariant ∙ supply-passed supplies quantities place small within
+    c.loop-category.invariant ∙ supply-passed supplies quantities place (rw c.quantities-quantities.ensures.quantities at c.loop-category-test.true) within
