@@ -13,15 +13,11 @@ use Rattle.input_faults.proofs.explaining.explain.Goals as goal
 
 pub returns-in_err-faults-clause-refused : goal.returns-in_err-faults-clause-refused
 returns-in_err-faults-clause-refused g c =
-    let taken = g.S.Sink.taken c.args.out.now in
-    let failures = g.S.Sink.failures c.args.out.now in
-    if-err-of (IsCutShort (explanation c.args.request.now c.args.text.now) taken taken failures failures) c.from_residual.result refusal.OutOfMemory c.from_residual.ensures.1 (by_memory refl refl)
+    if-err-of (IsCutShort _ _ _ _ _) c.from_residual.result refusal.OutOfMemory c.from_residual.ensures.1 (by_memory refl refl)
 
 pub returns-in_err-lines-clause-refused : goal.returns-in_err-lines-clause-refused
 returns-in_err-lines-clause-refused g c =
-    let taken = g.S.Sink.taken c.args.out.now in
-    let failures = g.S.Sink.failures c.args.out.now in
-    if-err-of (IsCutShort (explanation c.args.request.now c.args.text.now) taken taken failures failures) c.from_residual-in_err-lines.result refusal.OutOfMemory c.from_residual-in_err-lines.ensures.1 (by_memory refl refl)
+    if-err-of (IsCutShort _ _ _ _ _) c.from_residual-in_err-lines.result refusal.OutOfMemory c.from_residual-in_err-lines.ensures.1 (by_memory refl refl)
 
 pub returns-in_err-put_lines-clause-refused : goal.returns-in_err-put_lines-clause-refused
 returns-in_err-put_lines-clause-refused g c =

@@ -1,4 +1,4 @@
-use Rattle.std.proofs.Common.{◌≡◌, ◌+◌, ◌∙◌, ◌∷◌, true, false, ap, arith, drop, drop_of_length-le, sym}
+use Rattle.std.proofs.Common.{◌≡◌, ◌+◌, ◌∙◌, ◌∷◌, true, false, ap, arith, drop, drop_of_length-le, refl, sym}
 use Rattle.std.proofs.lemmas.List.{drop_more}
 use Rattle.std.specs.Str.{bytes_eq}
 use Rattle.csv.specs.Records.{fields_of}
@@ -16,7 +16,7 @@ returns-then-ne c =
     let named : c.as_bytes-name.result.now ≡ category.name = c.as_bytes-name.ensures.bytes ∙ ap (λ x. x.name) (sym c.index-categories-place.is) in
     let differs : bytes_eq (record_field (place + 2) r) category.name ≡ false = rw (c.field-value.ensures, named) at (when-not-true _ c.if-ne.ensures) in
     let next : drop place all ≡ category ∷ drop (place + 1) all = drop_more all place category c.loop-place-test.true ∙ ap (λ x. x ∷ drop (place + 1) all) (sym c.index-categories-place.is) in
-    rw (c.field-value.ensures, named) (sym (rw (next, differs) at c.loop-place.invariant))
+    rw (c.field-value.ensures, named, c.loop-place.invariant, next, differs) refl
 
 pub loop-place-preserved : goal.loop-place-preserved
 loop-place-preserved c =

@@ -1,7 +1,7 @@
-use Rattle.std.proofs.Common.{◌∙◌}
+use Rattle.std.proofs.Common.{◌∙◌, refl}
 use Rattle.auction_terms.specs.Records.{records_of}
 use Rattle.byte_sinks.proofs.Adding.{Adds-to}
-use Rattle.input_faults.proofs.DetailFacts.{line-with, of-no-rules, rules-known}
+use Rattle.input_faults.proofs.DetailFacts.{line-with, of-no-rules}
 use Rattle.input_faults.specs.TextDetails.{detail_in_rules}
 use Rattle.input_faults.proofs.lines.add_line_of_rules.Goals as goal
 
@@ -10,7 +10,7 @@ returns-in_ok-go_to-in-Rules g c = record {
   added = λ text stands known.
       let after = c.in_ok-go_to-in-Rules.ensures.stands text stands in
       Adds-to c.add_line.ensures (line-with (detail_in_rules (records_of text)) c.args.at _ (c.rules_detail-detail.ensures
-      ∙ rules-known (records_of text) c.args.at.field _ c.args.at.fault c.in-Rules.fault c.args.version _ c.in-Rules.is known (c.in_ok-go_to-in-Rules.ensures.place ∙ c.place.ensures) after.held));
+      ∙ rw (c.in-Rules.is, known, after.held, c.in_ok-go_to-in-Rules.ensures.place ∙ c.place.ensures) refl));
   stands = λ text stands. c.in_ok-go_to-in-Rules.ensures.stands text stands;
 }
 

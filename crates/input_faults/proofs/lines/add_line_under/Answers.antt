@@ -1,7 +1,7 @@
-use Rattle.std.proofs.Common.{◌∙◌}
+use Rattle.std.proofs.Common.{◌∙◌, refl}
 use Rattle.auction_terms.specs.Borrowed.{bytes_of}
 use Rattle.byte_sinks.proofs.Adding.{Adds-to}
-use Rattle.input_faults.proofs.DetailFacts.{form-known, groups-known, line-with, of-neither}
+use Rattle.input_faults.proofs.DetailFacts.{form-known, line-with, of-neither}
 use Rattle.input_faults.specs.TextDetails.{detail_under}
 use Rattle.input_faults.proofs.lines.add_line_under.Goals as goal
 
@@ -24,7 +24,7 @@ returns-in-Groups g c =
       added = λ groups stands.
           let after = c.go_to-in-Groups.ensures.stands _ stands in
           Adds-to c.add_line-in-Groups.ensures (line-with (detail_under t forms groups) c.args.at _ (c.group_detail-detail.ensures
-          ∙ groups-known t forms groups c.args.at.field _ _ c.args.at.fault c.in-Groups.fault _ _ c.in-Groups.is c.go_to-in-Groups.ensures.number (c.go_to-in-Groups.ensures.place ∙ c.place-in-Groups.ensures) after.line after.name));
+          ∙ rw (c.in-Groups.is, after.name, c.go_to-in-Groups.ensures.number, after.line, c.go_to-in-Groups.ensures.place ∙ c.place-in-Groups.ensures) refl));
       form = c.requires;
       names = λ text stands. c.go_to-in-Groups.ensures.stands text stands;
     }
