@@ -33,17 +33,13 @@ none-above [] q k asked there p_is q_is = refl
 none-above (x ∷ p) [] k asked there p_is q_is =
     let start : k ≡ k + 0 = omega arith in
     let next : (i : ℕ) → k + 1 + i ≡ k + suc i = λ i. omega arith in
-    let x_is : asked k ≡ x = ap asked start ∙ p_is 0 in
-    let n_is : there k ≡ 0 = ap there start ∙ q_is 0 in
-    let rest = none-above p [] (k + 1) asked there (λ i. ap asked (next i) ∙ p_is (suc i)) (λ i. ap there (next i) ∙ q_is (suc i)) in
-    none-if (nat_lt (there k) (asked k)) k _ ∙ ap₂ (λ (b c : Bool). b && c) (ap₂ (λ (n y : ℕ). not (nat_lt n y)) n_is x_is ∙ not-above x 0) rest
+    none-if (nat_lt (there k) (asked k)) k _ ∙ ap₂ (λ (b c : Bool). b && c) (ap₂ (λ (m y : ℕ). not (nat_lt m y)) (ap there start ∙ q_is 0) (ap asked start ∙ p_is 0) ∙ not-above x 0)
+    (none-above p [] (k + 1) asked there (λ i. ap asked (next i) ∙ p_is (suc i)) (λ i. ap there (next i) ∙ q_is (suc i)))
 none-above (x ∷ p) (n ∷ q) k asked there p_is q_is =
     let start : k ≡ k + 0 = omega arith in
     let next : (i : ℕ) → k + 1 + i ≡ k + suc i = λ i. omega arith in
-    let x_is : asked k ≡ x = ap asked start ∙ p_is 0 in
-    let n_is : there k ≡ n = ap there start ∙ q_is 0 in
-    let rest = none-above p q (k + 1) asked there (λ i. ap asked (next i) ∙ p_is (suc i)) (λ i. ap there (next i) ∙ q_is (suc i)) in
-    none-if (nat_lt (there k) (asked k)) k _ ∙ ap₂ (λ (b c : Bool). b && c) (ap₂ (λ (m y : ℕ). not (nat_lt m y)) n_is x_is ∙ not-above x n) rest
+    none-if (nat_lt (there k) (asked k)) k _ ∙ ap₂ (λ (b c : Bool). b && c) (ap₂ (λ (m y : ℕ). not (nat_lt m y)) (ap there start ∙ q_is 0) (ap asked start ∙ p_is 0) ∙ not-above x n)
+    (none-above p q (k + 1) asked there (λ i. ap asked (next i) ∙ p_is (suc i)) (λ i. ap there (next i) ∙ q_is (suc i)))
 
 supply-none : (lots : Lots) (quantities : List ℕ) → is_none (over_supply lots quantities) ≡ is_within quantities lots.supply
 supply-none lots quantities =

@@ -1,4 +1,4 @@
-use Rattle.std.proofs.Common.{◌≡◌, ◌≤◌, ◌<◌, ◌+◌, ◌∙◌, ℕ, suc, List, [], ap, arith, get_or, length, sym}
+use Rattle.std.proofs.Common.{◌≡◌, ◌≤◌, ◌<◌, ◌+◌, ◌∙◌, ℕ, suc, List, [], ap, arith, length, sym}
 use Rattle.auction_terms.specs.Allocations.{form_of}
 use Rattle.auction_terms.specs.declared.bids.Bid.{Bid}
 use Rattle.auction_terms.specs.declared.rules.Bidder.{Bidder}
@@ -16,8 +16,7 @@ loop-place-preserved g c =
     let count : length c.bidders.result.now ≡ length book = ap (λ (bs : List Bidder). length bs) c.bidders.ensures.value ∙ ap (λ (u : Terms). length u.bidders) c.rules.ensures.rules ∙ sym c.rules.ensures.bidders in
     let within : c.loop-place.place < length book = (let l = c.loop-place-test.true in omega arith) in
     let next : c.loop-place.place + 1 ≡ suc c.loop-place.place = omega arith in
-    let form : form_of book (c.loop-place.place + 1) ≡ get_or book c.loop-place.place [] = ap (λ (b : ℕ). form_of book b) next in
-    Adds-to (Adds-then c.loop-place.invariant (Adds-to c.add_form_of.ensures (ap (λ (bids : List Bid). form_lines t (c.loop-place.place + 1) bids) form)))
+    Adds-to (Adds-then c.loop-place.invariant (Adds-to c.add_form_of.ensures (ap (λ (b : ℕ). form_lines t (c.loop-place.place + 1) (form_of book b)) next)))
     (numbered-next (λ (numbered : ℕ × List Bid). form_lines t numbered.0 numbered.1) book c.loop-place.place [] within)
 
 pub returns : goal.returns
