@@ -8,18 +8,12 @@ use Rattle.auction_input.specs.TextsTold.{terms_told}
 use Rattle.auction_input.specs.declared.part_kind.PartKind.{PartKind}
 use Rattle.auction_input.specs.declared.parts.PartFault.{PartFault}
 use Rattle.auction_input.specs.declared.parts.PartFault.TheVariants as part_fault
-use Rattle.auction_terms.specs.AllFaults.{found, or_else}
-use Rattle.auction_terms.specs.declared.faults.Found.{Found}
+use Rattle.auction_terms.specs.AllFaults.{found}
 use Rattle.input_faults.specs.FaultsAs.{fault_as}
 use Rattle.input_faults.specs.InputFaults.{faults_of_parts}
 use Rattle.input_faults.specs.TextDetails.{detail, detail_in_input, detail_in_parts, detail_in_texts}
-use Rattle.input_faults.specs.declared.fault.Fault.{Fault}
 use Rattle.input_faults.specs.declared.fault.Fault.TheVariants as fault
 use Rattle.requests.specs.declared.request.Request.{Request}
-
--- the first of two
-abbrev of-parts : Option PartFault → Option PartKind → List (Found Fault)
-of-parts part count = or_else (fault_as fault.Parts part) (fault_as fault.PartCount count)
 
 -- a fault of the parts that isn't want of memory
 pub part-told : (asked : Request) (text : List ℕ) (f : PartFault) → TellsParts asked (Err f) text → f ≢ part_fault.OutOfMemory → input_fault asked text ≡ Some f
@@ -29,13 +23,10 @@ part-told asked text (part_fault.PartName n) told other = told
 
 module _ (asked : Request) (text : List ℕ) where
   pub parts-unknown : (f : PartFault) → input_fault asked text ≡ Some f → faults_of_parts asked text ≡ found 0 (fault.Parts f) ∷ []
-  parts-unknown f is = ap (λ (o : Option PartFault). of-parts o (miscounted asked (parts_in (cut_lines text)))) is
+  parts-unknown f is = rw is refl
 
   pub parts-counted : (parts : List Part) (count : Option PartKind) → input_fault asked text ≡ None → parts ≡ parts_in (cut_lines text) → miscounted asked parts ≡ count → faults_of_parts asked text ≡ fault_as fault.PartCount count
-  parts-counted parts count none held is =
-      ap (λ (o : Option PartFault). of-parts o (miscounted asked (parts_in (cut_lines text)))) none
-      ∙ ap (λ (ps : List Part). of-parts None (miscounted asked ps)) (sym held)
-      ∙ ap (λ (o : Option PartKind). of-parts None o) is
+  parts-counted parts count none held is = rw (none, ← held, is) refl
 
 -- the details of an input are those of the texts in its parts
 pub parts-detail : (asked : Request) (text : List ℕ) (parts : List Part) (rules : List ℕ) (forms : List (List ℕ)) (groups : List ℕ) → input_fault asked text ≡ None → parts ≡ parts_in (cut_lines text)

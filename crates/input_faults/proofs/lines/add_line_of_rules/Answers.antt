@@ -8,9 +8,8 @@ use Rattle.input_faults.proofs.lines.add_line_of_rules.Goals as goal
 pub returns-in_ok-go_to-in-Rules : goal.returns-in_ok-go_to-in-Rules
 returns-in_ok-go_to-in-Rules g c = record {
   added = λ text stands known.
-      let after = c.in_ok-go_to-in-Rules.ensures.stands text stands in
       Adds-to c.add_line.ensures (line-with (detail_in_rules (records_of text)) c.args.at _ (c.rules_detail-detail.ensures
-      ∙ rw (c.in-Rules.is, known, after.held, c.in_ok-go_to-in-Rules.ensures.place ∙ c.place.ensures) refl));
+      ∙ rw (c.in-Rules.is, known, (c.in_ok-go_to-in-Rules.ensures.stands text stands).held, c.in_ok-go_to-in-Rules.ensures.place ∙ c.place.ensures) refl));
   stands = λ text stands. c.in_ok-go_to-in-Rules.ensures.stands text stands;
 }
 

@@ -7,19 +7,15 @@ use Rattle.input_faults.proofs.reading.take_form.Goals as goal
 pub returns-in-Ok : goal.returns-in-Ok
 returns-in-Ok c =
     let text = c.args.text.now in
-    let t = c.args.rules.now in
-    let n = c.args.number in
-    let told = form-read t n text c.in-Ok.form c.in-Ok.ensures.too_large c.in-Ok.ensures.answer in
-    record { faults = nothing-more c.args.faults.now _ _ _ (begin-one-form t n text) told; form = told }
+    let told = form-read c.args.rules.now c.args.number text c.in-Ok.form c.in-Ok.ensures.too_large c.in-Ok.ensures.answer in
+    record { faults = nothing-more c.args.faults.now _ _ _ (begin-one-form c.args.rules.now c.args.number text) told; form = told }
 
 pub returns-in_ok-add_form-in-Err : goal.returns-in_ok-add_form-in-Err
 returns-in_ok-add_form-in-Err c =
     let text = c.args.text.now in
-    let t = c.args.rules.now in
-    let n = c.args.number in
     let found = c.in_ok-found-in-Err in
     let f = c.in-Err.fault in
     record {
       faults = c.in_ok-add_form-in-Err.ensures _ (keeps-sized found.found form.TooLarge text _ found.ensures.too_large found.ensures.all);
-      form = (refusal.Form n f, form-refused t n text f c.in_ok-check_form_fault-in-Err.ensures c.in-Err.ensures.too_large c.in-Err.ensures.answer);
+      form = (refusal.Form c.args.number f, form-refused c.args.rules.now c.args.number text f c.in_ok-check_form_fault-in-Err.ensures c.in-Err.ensures.too_large c.in-Err.ensures.answer);
     }

@@ -4,5 +4,4 @@ use Rattle.input_faults.proofs.reading.take_groups.Goals as goal
 
 pub returns : goal.returns
 returns c =
-    let found = c.in_ok-found in
-    c.in_ok-add_groups.ensures _ (keeps-sized found.found groups.TooLarge c.args.text.now _ found.ensures.too_large found.ensures.all)
+    c.in_ok-add_groups.ensures _ (keeps-sized c.in_ok-found.found groups.TooLarge c.args.text.now _ c.in_ok-found.ensures.too_large c.in_ok-found.ensures.all)
