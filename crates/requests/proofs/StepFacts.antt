@@ -7,6 +7,11 @@ pub if-err-of : {T E : Type 0} (P : E → Type 0) (r : Result T E) (e : E) → I
 if-err-of P (Ok x) e is holds = tt
 if-err-of P (Err y) e is holds = subst P (sym is) holds
 
+-- what follows of the error of a result
+pub if-err-weaker : {T E : Type 0} (P Q : E → Type 0) (r : Result T E) → ((e : E) → P e → Q e) → IfErr r P → IfErr r Q
+if-err-weaker P Q (Ok x) weaker holds = tt
+if-err-weaker P Q (Err e) weaker holds = weaker e holds
+
 -- what holds anyhow
 pub on-ok-given : {T E P : Type 0} (r : Result T E) → P → OnOk r P
 on-ok-given (Ok x) holds = holds
