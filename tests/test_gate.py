@@ -599,14 +599,14 @@ class Tasks(unittest.TestCase):
             lanes.Lanes(tasks, 4, 100, {("a", "proof"): 30, ("b", "proof"): 20, ("c", "proof"): 10}).run()
         self.assertEqual(begun, {"a": (2, own), "b": (1, max(own, 4)), "c": (1, max(own, 4))})
 
-    def test_the_longest_chain_has_more_processes_where_there_are_only_proofs(self):
-        for work, jobs in ((0, (2, 1, 1)), (9, (1, 1, 1))):
+    def test_a_proof_has_the_chosen_processes_where_there_are_only_proofs(self):
+        for work, jobs in ((0, (2, 3, 1)), (9, (1, 1, 1))):
             given = {}
             tasks = {(name, "proof"): ([], lines, 1, lambda _, jobs, name=name: given.setdefault(name, jobs) and time.sleep(0.05))
                      for name, lines in (("a", 30), ("b", 20), ("c", 10))}
             tasks["a", "edits"] = [("a", "proof")], work, 1, lambda given, jobs: True
             with contextlib.redirect_stdout(io.StringIO()):
-                lanes.Lanes(tasks, 3, 100).run()
+                lanes.Lanes(tasks, 3, 100, chosen={("a", "proof"): 2, ("b", "proof"): 4, ("c", "proof"): 1}).run()
             self.assertEqual((given["a"], given["b"], given["c"]), jobs)
 
     def test_each_crate_has_its_seconds(self):
@@ -615,6 +615,7 @@ class Tasks(unittest.TestCase):
         measured = lanes.measured()
         self.assertEqual([crate for crate in crates if (crate, "tests" if crate.endswith("_tests") else "proof") not in measured], [])
         self.assertLessEqual({crate for crate, _ in measured}, set(crates))
+        self.assertEqual(set(lanes.chosen()), {key for key in measured if key[1] == "proof"})
         edited = {crate for crate in crates if (ROOT / "crates" / crate / "must-fail").is_dir()}
         self.assertLessEqual({crate for crate, kind in measured if kind == "edits"}, edited)
 

@@ -11,19 +11,25 @@ MOST_JOBS = 4
 MEMORY_OF_A_JOB = 0.6
 # How many seconds a task takes for each of its lines, where none are measured.
 SECONDS_OF_A_LINE = 0.06
-# With how many processes the proof that has the longest chain of proofs behind it is begun at least, where no tests and edits fill
-# the processors, and all waits for that chain.
-LEAST_OF_LONGEST = 2
 # The priorities: of the proof with the longest chain, of other proofs, and of tests and edits.
 NICE = {"longest": 0, "proofs": 4, "fillers": 10}
 MEASURED = os.path.join(os.path.dirname(os.path.abspath(__file__)), "seconds")
 
 
+def rows():
+    """What is noted of each task: its crate, what is done, and numbers."""
+    with open(MEASURED, encoding="utf-8") as lines:
+        return [line.split() for line in lines if line.strip() and not line.startswith("#")]
+
+
 def measured():
     """The processor time that each task takes with one process, in seconds, as it was measured: by the crate and what is done."""
-    with open(MEASURED, encoding="utf-8") as lines:
-        rows = [line.split() for line in lines if line.strip() and not line.startswith("#")]
-    return {(crate, kind): float(seconds) for crate, kind, seconds in rows}
+    return {(crate, kind): float(seconds) for crate, kind, seconds, *_ in rows()}
+
+
+def chosen():
+    """With how many processes each proof is begun where there are only proofs."""
+    return {(crate, kind): int(many[0]) for crate, kind, _, *many in rows() if many}
 
 
 def chains(tasks, seconds):
@@ -71,13 +77,13 @@ class Lanes:
     Each further process of a check reads the crate anew (`bid_book` takes 55 s of processor time with one, 103 with four). So a task
     has one, and more where processors would be idle. And more tasks than processors take each other's caches: eight checks on four
     processors take a fifth more of processor time than four. So one is begun where a processor is idle; but the proof with the
-    longest chain behind it, which all waits for in the end, at once; where there are only proofs, with two processes.
+    longest chain behind it, which all waits for in the end, at once. Where there are only proofs, each has as many as were chosen.
     A task is what it waits for, its work in lines, its memory, and a call that gets what was given and how many jobs it may use.
-    `took` tells the seconds of those that were measured.
+    `took` tells the seconds of those that were measured, `chosen` the processes.
     """
 
-    def __init__(self, tasks, processors, memory, took=()):
-        self.tasks, self.processors, self.memory = tasks, processors, memory
+    def __init__(self, tasks, processors, memory, took=(), chosen=()):
+        self.tasks, self.processors, self.memory, self.chosen = tasks, processors, memory, dict(chosen)
         self.seconds = {key: lines and dict(took).get(key, lines * SECONDS_OF_A_LINE) for key, (_, lines, _, _) in tasks.items()}
         self.behind = chains(tasks, self.seconds)
         # (tests take longer alone than edits, which are tried in several checks)
@@ -123,8 +129,8 @@ class Lanes:
 
     def jobs_of(self, key, idle, many):
         """With how many jobs a task is begun, where so many processors are idle for so many tasks."""
-        least = 1 if self.is_filled or self.rank(key) else LEAST_OF_LONGEST
-        return self.fitting(key, min(most_jobs(key), self.processors, max(-(-idle // many), least)))
+        chosen = 0 if self.is_filled else self.chosen.get(key, 0)
+        return self.fitting(key, min(most_jobs(key), self.processors, chosen or max(-(-idle // many), 1)))
 
     def start_all(self, pool_of, fills):
         """Starts what is ready, as many tasks as there are processors. (`pool_of(key)`: which threads run a task.)"""
