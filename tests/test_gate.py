@@ -600,13 +600,13 @@ class Tasks(unittest.TestCase):
         self.assertEqual(begun, {"a": (2, own), "b": (1, max(own, 4)), "c": (1, max(own, 4))})
 
     def test_a_proof_has_the_chosen_processes_where_there_are_only_proofs(self):
-        for work, jobs in ((0, (2, 3, 1)), (9, (1, 1, 1))):
+        for processors, work, jobs in ((4, 0, (3, 4, 2)), (4, 9, (2, 1, 1)), (3, 0, (1, 1, 1))):
             given = {}
             tasks = {(name, "proof"): ([], lines, 1, lambda _, jobs, name=name: given.setdefault(name, jobs) and time.sleep(0.05))
                      for name, lines in (("a", 30), ("b", 20), ("c", 10))}
             tasks["a", "edits"] = [("a", "proof")], work, 1, lambda given, jobs: True
             with contextlib.redirect_stdout(io.StringIO()):
-                lanes.Lanes(tasks, 3, 100, chosen={("a", "proof"): 2, ("b", "proof"): 4, ("c", "proof"): 1}).run()
+                lanes.Lanes(tasks, processors, 100, chosen={("a", "proof"): 3, ("b", "proof"): 4, ("c", "proof"): 2}).run()
             self.assertEqual((given["a"], given["b"], given["c"]), jobs)
 
     def test_each_crate_has_its_seconds(self):

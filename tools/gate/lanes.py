@@ -129,7 +129,8 @@ class Lanes:
 
     def jobs_of(self, key, idle, many):
         """With how many jobs a task is begun, where so many processors are idle for so many tasks."""
-        chosen = 0 if self.is_filled else self.chosen.get(key, 0)
+        # (they are chosen for four processors; on fewer each further process takes from others)
+        chosen = 0 if self.is_filled or self.processors < MOST_JOBS else self.chosen.get(key, 0)
         return self.fitting(key, min(most_jobs(key), self.processors, chosen or max(-(-idle // many), 1)))
 
     def start_all(self, pool_of, fills):
