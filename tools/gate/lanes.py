@@ -28,7 +28,7 @@ def measured():
 
 
 def chosen():
-    """With how many processes each proof is begun where there are only proofs."""
+    """With how many processes each proof is begun where there are only proofs, on four processors."""
     return {(crate, kind): int(many[0]) for crate, kind, _, *many in rows() if many}
 
 
@@ -77,7 +77,8 @@ class Lanes:
     Each further process of a check reads the crate anew (`bid_book` takes 55 s of processor time with one, 103 with four). So a task
     has one, and more where processors would be idle. And more tasks than processors take each other's caches: eight checks on four
     processors take a fifth more of processor time than four. So one is begun where a processor is idle; but the proof with the
-    longest chain behind it, which all waits for in the end, at once. Where there are only proofs, each has as many as were chosen.
+    longest chain behind it, which all waits for in the end, at once. Where there are only proofs, each has as many
+    processes as were chosen, on four processors or more.
     A task is what it waits for, its work in lines, its memory, and a call that gets what was given and how many jobs it may use.
     `took` tells the seconds of those that were measured, `chosen` the processes.
     """
@@ -130,8 +131,8 @@ class Lanes:
     def jobs_of(self, key, idle, many):
         """With how many jobs a task is begun, where so many processors are idle for so many tasks."""
         # (they are chosen for four processors; on fewer each further process takes from others)
-        chosen = 0 if self.is_filled or self.processors < MOST_JOBS else self.chosen.get(key, 0)
-        return self.fitting(key, min(most_jobs(key), self.processors, chosen or max(-(-idle // many), 1)))
+        told = 0 if self.is_filled or self.processors < MOST_JOBS else self.chosen.get(key, 0)
+        return self.fitting(key, min(most_jobs(key), self.processors, told or max(-(-idle // many), 1)))
 
     def start_all(self, pool_of, fills):
         """Starts what is ready, as many tasks as there are processors. (`pool_of(key)`: which threads run a task.)"""
