@@ -9,8 +9,8 @@ import shutil
 import sys
 
 # What is used of rt. A toolchain whose rt lacks one of them runs its gate as it is.
-USED = ("main", "in_lanes", "processors", "free", "must_fail", "read_edit", "edits_of", "say", "STORE", "own_sum", "KIT", "Crate.ci",
-        "Crate.prove", "Crate.link", "rtlib.help_of", "rtlib.PARTS", "rtlib.RATTLE", "rtlib.guarded")
+USED = ("main", "in_lanes", "processors", "free", "must_fail", "read_edit", "edits_of", "say", "KIT", "Crate.ci", "Crate.prove",
+        "Crate.link", "rtlib.help_of", "rtlib.PARTS", "rtlib.RATTLE", "rtlib.guarded")
 # And what is used of one that makes tasks of edits.
 USED_FOR_TASKS = ("add_edits", "need", "REFUSED", "AT_LIMIT", "MISSED", "Kept.key", "Kept.of_edit", "Kept.tried", "Kept.keep_tried", "Kept.is_untouched")
 
