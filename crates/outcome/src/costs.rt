@@ -66,3 +66,11 @@ pub fn cost_of(book: &ClosedBook, first: &[Choice], group: &Group, choices: &[Ch
     let theirs = amounts_in(book, group, first) as i128;
     without - (all - theirs)
 }
+
+/// The opportunity cost of a group, by an allocation without it, beside the first one.
+pub fn cost(book: &ClosedBook, first: &Allocation, group: &Group, without: &Allocation) -> i128
+    ensures { result ≡ cost (lots_in book.now.rules) (book_of book.now) first.now group.now
+        without.now }
+{
+    cost_of(book, first.choices(), group, without.choices())
+}

@@ -23,11 +23,12 @@ mod winning;
 mod writing;
 
 pub use allocation::{Allocation, same_winners};
-pub use costs::total;
+pub use costs::{cost, total};
 pub use heading::add_names_line;
 pub use limits::{SOLUTION_LIMIT, TOLERANCE_PARTS};
 pub use reading::read_solution;
 pub use rivals::with_rival;
+pub use sale::amount_of;
 pub use uniqueness::Uniqueness;
 pub use value_fault::ValueFault;
 pub use winning::map_back;

@@ -7,6 +7,7 @@ pub mod FewerBidLaws
 pub mod LegalLaws
 pub mod PieceLemmas
 pub mod ColumnLemmas
+pub mod CostedLaws
 pub mod BuildLaws
 pub mod BuiltLaws
 pub mod SumLaws

@@ -9,6 +9,7 @@ pub mod Rows
 pub mod Faithful
 pub mod Legal
 pub mod Bounded
+pub mod Costed
 pub mod Seeds
 pub mod Only
 pub mod inside

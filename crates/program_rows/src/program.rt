@@ -1,5 +1,6 @@
 ghost use Rattle.std.specs.Prelude.{◌≡◌, ◌<◌, Some, length, slice_get};
 ghost use Rattle.std.specs.Option.{option_map};
+ghost use Rattle.program_rows.specs.Costed.{costed_program};
 ghost use Rattle.program_rows.specs.Parts.{IsProgram, table_of};
 ghost use Rattle.program_rows.specs.Points.{broken_row, objective};
 ghost use Rattle.program_rows.specs.Spelling.{column_bid};
@@ -40,6 +41,26 @@ impl Program {
         ensures { result ≡ table_of parts }
     {
         Program { parts }
+    }
+
+    /// The same program with other costs.
+    pub fn with_costs(self, costs: Vec<i64>) -> Program
+        requires { length costs.items ≡ length self.columns }
+        ensures { result ≡ costed_program self costs.items }
+    {
+        let Program { parts } = self;
+        let ProgramParts {
+            objective_name,
+            rows,
+            columns,
+        } = parts;
+        Program {
+            parts: ProgramParts {
+                objective_name,
+                rows,
+                columns: columns.with_costs(costs),
+            },
+        }
     }
 
     /// What every program keeps: names are printable, those of rows differ, and so do those of columns; entries stand in row order, and none is 0.

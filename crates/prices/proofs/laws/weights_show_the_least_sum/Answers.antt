@@ -1,0 +1,5 @@
+use Rattle.prices.proofs.WeightLaws.{shown_is_least_sum}
+use Rattle.prices.proofs.laws.weights_show_the_least_sum.Goals as goal
+
+pub returns : goal.returns
+returns c = shown_is_least_sum

@@ -1,0 +1,11 @@
+use Rattle.std.proofs.Common.{◌≡◌, ◌++◌, drop, map}
+use Rattle.bid_desk.specs.Closing.{book_of}
+use Rattle.prices.specs.Listed.{price_in}
+use Rattle.prices.specs.Prices.{surplus}
+use Rattle.prices.specs.Raised.{raised_cost}
+use Rattle.prices.proofs.raised.raised_costs.Given as goal
+
+-- with those of the other columns they are all
+abbrev pub invariant-loop-column : goal.invariant-loop-column
+invariant-loop-column l =
+    l.costs.items ++ map (raised_cost (surplus (book_of l.book) l.first (price_in l.prices))) (drop l.column l.program.columns) ≡ map (raised_cost (surplus (book_of l.book) l.first (price_in l.prices))) l.program.columns
