@@ -1,5 +1,6 @@
 pub mod FirstFault
 pub mod AllFaults
+pub mod Accepted
 pub mod Stages
 pub mod Borrowed
 pub mod Records
@@ -9,6 +10,7 @@ pub mod Terms
 pub mod RulesText
 pub mod RulesFields
 pub mod AllRulesFaults
+pub mod AcceptedRules
 pub mod Entries
 pub mod Lines
 pub mod Packages

@@ -1,9 +1,11 @@
 //! Laws over the definitions alone: which fault is the first, and what presolve may drop so that nothing is lost.
 
-ghost use Rattle.std.specs.Prelude.{◌≡◌, ℕ, List};
+ghost use Rattle.std.specs.Prelude.{◌≡◌, ℕ, List, Some};
+ghost use Rattle.auction_terms.specs.Accepted.{AreOfItems, StaysFaultless};
+ghost use Rattle.auction_terms.specs.AcceptedRules.{RulesFaultsAreOfRecords};
 ghost use Rattle.auction_terms.specs.FirstFault.{TellsTheFirst};
 ghost use Rattle.auction_terms.specs.AllFaults.{AreFaultsOf};
-ghost use Rattle.auction_terms.specs.AllGroupFaults.{all_group_faults};
+ghost use Rattle.auction_terms.specs.AllGroupFaults.{all_group_faults, all_line_faults, fault_of_name};
 ghost use Rattle.auction_terms.specs.GroupsText.{group_line_fault, groups_of, name_fault};
 ghost use Rattle.auction_terms.specs.Packages.{SmallerFits, SmallerLoadsNoMore};
 ghost use Rattle.auction_terms.specs.Allocations.{LoadsAddUp, TotalsAreNets};
@@ -11,9 +13,9 @@ ghost use Rattle.auction_terms.specs.Domination.{SmallerSizesSuffice};
 ghost use Rattle.auction_terms.specs.Keeping.{KeepsTheBest, KeptAreEnough};
 ghost use Rattle.auction_terms.specs.Limits.{KeptAreOffers};
 ghost use Rattle.auction_terms.specs.Only.{OnlyAmongAll, RivalsDoAsWell};
-ghost use Rattle.auction_terms.specs.AllRulesFaults.{all_rules_faults};
+ghost use Rattle.auction_terms.specs.AllRulesFaults.{all_rules_faults, fault_of_entry};
 ghost use Rattle.auction_terms.specs.Records.{Record};
-ghost use Rattle.auction_terms.specs.RulesText.{entry_fault, rules_of_records};
+ghost use Rattle.auction_terms.specs.RulesText.{entry_fault, rules_of_records, version_of};
 ghost use Rattle.auction_terms.specs.declared.record_kinds.Version.{Version};
 ghost use Rattle.auction_terms.specs.declared.rules.Bidder.{Bidder};
 
@@ -42,6 +44,30 @@ pub fn all_faults_of_rules_begin_with_the_first()
 pub fn all_faults_of_groups_begin_with_the_first()
     ensures { (bidders : List Bidder) (text : List ℕ)
         → AreFaultsOf (all_group_faults bidders text) (groups_of bidders text) }
+{}
+
+/// Each fault that is told of a list, whatever its items are checked for, is one that an item has by the accepted ones before it; these have none.
+pub fn faults_of_a_list_are_of_its_items<R, F>()
+    ensures { (faults_of : ℕ → List R → R → List F) → StaysFaultless faults_of
+        → AreOfItems faults_of }
+{}
+
+/// Behind a header that tells a version, the faults of rules are those of their records, by the accepted ones before them.
+pub fn faults_of_rules_are_of_their_records()
+    ensures rules { (version : Version) (header : Record) (entries : List Record)
+        → version_of header ≡ Some version → RulesFaultsAreOfRecords version header entries }
+    ensures records { (version : Version) → AreOfItems (fault_of_entry version) }
+{}
+
+/// The faults of groups are those of their lines, each by itself.
+pub fn faults_of_groups_are_of_their_lines()
+    ensures { (bidders : List Bidder) → AreOfItems (λ place before line.
+        all_line_faults bidders place line) }
+{}
+
+/// The faults of the names in a line of groups are those of the names, by the accepted ones before them.
+pub fn faults_of_a_group_are_of_its_names()
+    ensures { (bidders : List Bidder) (line : ℕ) → AreOfItems (fault_of_name bidders line) }
 {}
 
 /// A package that is at most another loads no pool more.
