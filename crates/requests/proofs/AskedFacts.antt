@@ -15,8 +15,7 @@ use Rattle.clap.specs.ValueTests.{is_unsigned_in}
 use Rattle.clap.specs.declared.builder.value_parser.ValueParser.TheVariants as parser
 use Rattle.clap.specs.declared.error.Error.{Error}
 use Rattle.clap.specs.declared.error.kind.ErrorKind.TheVariants as kind
-use Rattle.requests.specs.declared.request.Request.{Request}
-use Rattle.requests.specs.Asked.{asked, by_fault, by_faults, commands, for_answer, named, spelled, wdp}
+use Rattle.requests.specs.Asked.{CommandLine, asked, by_fault, by_faults, commands, faults_of, for_answer, named, spelled, text_of, wdp}
 use Rattle.requests.proofs.KindsFacts.{asks-as}
 
 abbrev written : List ℕ → ℕ
@@ -77,16 +76,19 @@ then-added old new before app told adds is same = adds ∙ ap (λ (xs : List App
 -- ---- what words ask for
 
 -- the texts that the parser takes, by the words from which they are made
-pub told-words : {Z : Type 0} (slice items from : List (String Z)) (texts again : List (Bor Text)) → slice ≡ items → items ≡ from → map (λ text. text.now) texts ≡ spelled (map (λ word. word.bytes.items) slice) → again ≡ texts
-    → map (λ text. text.now) again ≡ spelled (map (λ word. word.bytes.items) from)
+pub told-words : {Z : Type 0} (slice items from : List (String Z)) (texts again : List (Bor Text)) → slice ≡ items → items ≡ from → map (λ text. text.now) texts ≡ spelled (map text_of slice) → again ≡ texts
+    → map (λ text. text.now) again ≡ spelled (map text_of from)
 told-words {Z} slice items from texts again is_slice is_from is_spelled is_again =
-    ap (λ (xs : List (Bor Text)). map (λ text. text.now) xs) is_again ∙ is_spelled ∙ ap (λ (ws : List (String Z)). spelled (map (λ word. word.bytes.items) ws)) (is_slice ∙ is_from)
+    ap (λ (xs : List (Bor Text)). map (λ text. text.now) xs) is_again ∙ is_spelled ∙ ap (λ (ws : List (String Z)). spelled (map text_of ws)) (is_slice ∙ is_from)
 
 module _ (words texts : List Text) (same : texts ≡ spelled words) where
-  pub told-answer : (rows : Option (Text × List Row)) (request : Request) → fault_of wdp texts ≡ [] → rows ≡ subcommand_of wdp texts → request ≡ named rows → asked words ≡ for_answer request
-  told-answer rows request none met is =
-      subst (λ (t : List Text). by_faults (fault_of wdp t) (named (subcommand_of wdp t)) ≡ for_answer request) same
-      (ap (λ (kinds : Kinds). by_faults kinds (named (subcommand_of wdp texts))) none ∙ ap (λ (r : Request). for_answer r) (sym (is ∙ ap named met)))
+  pub told-answer : (rows : Option (Text × List Row)) (line : CommandLine) → fault_of wdp texts ≡ [] → rows ≡ subcommand_of wdp texts → line ≡ named rows → asked words ≡ for_answer line
+  told-answer rows line none met is =
+      subst (λ (t : List Text). by_faults (fault_of wdp t) (named (subcommand_of wdp t)) ≡ for_answer line) same
+      (ap (λ (kinds : Kinds). by_faults kinds (named (subcommand_of wdp texts))) none ∙ ap (λ (l : CommandLine). for_answer l) (sym (is ∙ ap named met)))
+
+  pub among-faults : (e : Error) → HasKind (fault_of wdp texts) e → HasKind (faults_of words) e
+  among-faults e among = subst (λ (t : List Text). HasKind (fault_of wdp t) e) same among
 
   pub told-fault : (e : Error) → HasKind (fault_of wdp texts) e → (kind_of e ≡ kind.OutOfMemory) ⊎ (asked words ≡ by_fault (kind_of e))
   told-fault e (inl memory) = inl memory

@@ -18,8 +18,7 @@ use Rattle.clap.specs.declared.builder.action.ArgAction.{ArgAction}
 use Rattle.clap.specs.declared.builder.value_parser.ValueParser.{ValueParser}
 use Rattle.clap.specs.declared.error.kind.ErrorKind.TheVariants as kind
 use Rattle.clap.specs.declared.error.kind.ErrorKind.{ErrorKind}
-use Rattle.requests.specs.declared.request.Request.{Request}
-use Rattle.requests.specs.Asked.{Asked, by_fault, by_faults, for_nothing, wdp}
+use Rattle.requests.specs.Asked.{Asked, CommandLine, by_fault, by_faults, for_nothing, wdp}
 
 -- each of the kinds asks for the same
 abbrev pub AskAlike : Kinds → Type 0
@@ -216,9 +215,9 @@ alike : (words : List Text) → AskAlike (fault_of wdp words)
 alike words = of-built (built wdp) nothing_held (argument_words wdp words) refl
 
 -- what the first of them asks for
-by-first : (kinds : Kinds) (request : Request) (k : ErrorKind) → AskAlike kinds → IsAmong k kinds → by_faults kinds request ≡ by_fault k
-by-first [] request k (asked, same) among = absurd among
-by-first (first ∷ more) request k (asked, same) among = same first (inl refl) ∙ sym (same k among)
+by-first : (kinds : Kinds) (line : CommandLine) (k : ErrorKind) → AskAlike kinds → IsAmong k kinds → by_faults kinds line ≡ by_fault k
+by-first [] line k (asked, same) among = absurd among
+by-first (first ∷ more) line k (asked, same) among = same first (inl refl) ∙ sym (same k among)
 
-pub asks-as : (words : List Text) (request : Request) (k : ErrorKind) → IsAmong k (fault_of wdp words) → by_faults (fault_of wdp words) request ≡ by_fault k
-asks-as words request k among = by-first (fault_of wdp words) request k (alike words) among
+pub asks-as : (words : List Text) (line : CommandLine) (k : ErrorKind) → IsAmong k (fault_of wdp words) → by_faults (fault_of wdp words) line ≡ by_fault k
+asks-as words line k among = by-first (fault_of wdp words) line k (alike words) among

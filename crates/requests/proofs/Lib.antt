@@ -1,3 +1,4 @@
 pub mod AskedFacts
 pub mod KindsFacts
 pub mod StepFacts
+mod WorkedWords

@@ -1,5 +1,5 @@
 -- What the words on the command line ask for.
-use Rattle.std.specs.Prelude.{ℕ, List, [], ◌∷◌, ◌++◌, Bool, Option, None, Some, Result, Ok, Err, String, false, true, codes, fold, if◌then◌else◌, map}
+use Rattle.std.specs.Prelude.{ℕ, List, [], ◌∷◌, ◌++◌, Bool, Option, None, Some, Result, Ok, Err, String, false, true, codes, fold, if◌then◌else◌, map, option_and_then, option_map, unwrap_or}
 use Rattle.std.specs.Option.{option_map_or}
 use Rattle.std.specs.Str.{bytes_eq}
 use Rattle.std.specs.Str.Parse.{digits_value, without_leading_plus}
@@ -7,10 +7,11 @@ use Rattle.std.specs.Vec.Iter.{into_iter_items}
 use Rattle.std.specs.declared.vec.IntoIter.{IntoIter}
 use Rattle.requests.specs.declared.request.Request.TheVariants as request
 use Rattle.requests.specs.declared.request.Request.{Request}
+use Rattle.requests.specs.declared.command.Command.{Command}
 use Rattle.auction_limits.specs.declared.limits.TheConstants.{MOST_GROUPS}
 use Rattle.clap.specs.Simple.{on_top}
 use Rattle.clap.specs.ValueTests.{is_unsigned_in}
-use Rattle.clap.specs.Words.{App, Kinds, Row, Rule, Text, fault_of, first_of, new_app, new_rule, subcommand_of, with_rule, with_subcommand}
+use Rattle.clap.specs.Words.{App, Kinds, Row, Rule, Text, all_of, fault_of, first_of, new_app, new_rule, subcommand_of, with_rule, with_subcommand}
 use Rattle.clap.specs.declared.builder.action.ArgAction.TheVariants as action
 use Rattle.clap.specs.declared.builder.value_parser.ValueParser.TheVariants as parser
 use Rattle.clap.specs.declared.error.kind.ErrorKind.TheVariants as kind
@@ -29,16 +30,36 @@ group = record (new_rule (codes "group")) { long = Some (codes "group"); value_n
 abbrev pub bids : Rule
 bids = record (new_rule (codes "bids")) { long = Some (codes "bids"); action = Some action.SetTrue }
 
+-- the file that is written: -o FILE, --output FILE
+abbrev pub output : Rule
+output = record (new_rule (codes "output")) { short = Some 111; long = Some (codes "output"); value_names = 1 }
+
+-- the file that is read, at most one
+abbrev pub file : Rule
+file = record (new_rule (codes "files")) { value_names = 1 }
+
+-- the files that are read, as many as there are words for them
+abbrev pub files : Rule
+files = record file { action = Some action.Append }
+
+-- a command that reads forms, with the files that it reads and writes
+abbrev pub for_forms : App → App
+for_forms app = with_rule (with_rule app output) files
+
+-- one that reads one text, with the same
+abbrev pub for_text : App → App
+for_text app = with_rule (with_rule app output) file
+
 -- the commands, in the order in which the help lists them; `help` is listed among them (what it does is said below)
 abbrev pub commands : List App
 commands =
-    new_app (codes "text") ∷
-    with_rule (new_app (codes "compile")) workers ∷
-    new_app (codes "check") ∷
-    with_rule (new_app (codes "map")) group ∷
-    with_rule (new_app (codes "report")) workers ∷
-    with_rule (new_app (codes "verify")) workers ∷
-    with_rule (new_app (codes "explain")) bids ∷
+    for_forms (new_app (codes "text")) ∷
+    for_forms (with_rule (new_app (codes "compile")) workers) ∷
+    for_text (new_app (codes "check")) ∷
+    for_forms (with_rule (new_app (codes "map")) group) ∷
+    for_forms (with_rule (new_app (codes "report")) workers) ∷
+    for_forms (with_rule (new_app (codes "verify")) workers) ∷
+    for_forms (with_rule (new_app (codes "explain")) bids) ∷
     new_app (codes "help") ∷ []
 
 -- the program's own words: a version, and the commands
@@ -53,10 +74,14 @@ option_number id most rows = option_map_or (λ text. if is_unsigned_in 1 most te
 abbrev pub option_flag : Text → List Row → Bool
 option_flag id rows = option_map_or (λ text. bytes_eq text (codes "true")) (first_of id rows) false
 
+-- the texts of an argument, in order
+abbrev pub option_texts : Text → List Row → List Text
+option_texts id rows = unwrap_or (all_of id rows) []
+
 -- the request of the command that is named, with its options
-abbrev pub named : Option (Text × List Row) → Request
-named None = request.Text
-named (Some (name, rows)) =
+abbrev pub request_named : Option (Text × List Row) → Request
+request_named None = request.Text
+request_named (Some (name, rows)) =
     if bytes_eq name (codes "compile") then request.Compile (option_number (codes "workers") MOST_WORKERS rows)
     else if bytes_eq name (codes "check") then request.Check
     else if bytes_eq name (codes "map") then request.Map (option_number (codes "group") MOST_GROUPS rows)
@@ -65,9 +90,36 @@ named (Some (name, rows)) =
     else if bytes_eq name (codes "explain") then request.Explain (option_flag (codes "bids") rows)
     else request.Text
 
--- what words ask for: that a request is answered, help, the version; or nothing, since they have a fault
+-- what a command line asks for: a request, the files that it reads, in order (none: standard input), and the one that it writes
+-- (none: standard output)
+pub record CommandLine : Type 0 where
+  pub request : Request
+  pub files : List Text
+  pub output : Option Text
+
+-- the request of the command that is named, with its files; no command names none
+abbrev pub named : Option (Text × List Row) → CommandLine
+named found = record {
+  request = request_named found;
+  files = option_map_or (λ (name, rows). option_texts (codes "files") rows) found [];
+  output = option_and_then (λ (name, rows). first_of (codes "output") rows) found;
+}
+
+-- the bytes of a word
+abbrev pub text_of : {Z : Type 0} → String Z → Text
+text_of word = word.bytes.items
+
+-- what the program's own record of a command line says
+abbrev pub command_line_of : Command → CommandLine
+command_line_of command = record {
+  request = command.request;
+  files = map text_of command.files.items;
+  output = option_map text_of command.output;
+}
+
+-- what words ask for: an answer, help, the version; or nothing, since they have a fault
 pub data Asked : Type 0 where
-  for_answer : Request → Asked
+  for_answer : CommandLine → Asked
   for_help : Asked
   for_version : Asked
   for_nothing : Asked
@@ -78,21 +130,25 @@ by_fault kind.DisplayHelp = for_help
 by_fault kind.DisplayVersion = for_version
 by_fault k = for_nothing
 
--- the first fault counts; without one the request does
-abbrev pub by_faults : Kinds → Request → Asked
-by_faults [] request = for_answer request
-by_faults (first ∷ more) request = by_fault first
+-- the first fault counts; without one the command line does
+abbrev pub by_faults : Kinds → CommandLine → Asked
+by_faults [] line = for_answer line
+by_faults (first ∷ more) line = by_fault first
 
 -- the words as the parser takes them: `help` in front of others stands as `--help` behind them
 abbrev pub spelled : List Text → List Text
 spelled (program ∷ first ∷ more) = if bytes_eq first (codes "help") then program ∷ (more ++ codes "--help" ∷ []) else program ∷ first ∷ more
 spelled words = words
 
+-- the faults that words may be refused by, the program's own name first; none where they have none
+abbrev pub faults_of : List Text → Kinds
+faults_of words = fault_of wdp (spelled words)
+
 -- what words ask for, the program's own name first
 abbrev pub asked : List Text → Asked
-asked words = by_faults (fault_of wdp (spelled words)) (named (subcommand_of wdp (spelled words)))
+asked words = by_faults (faults_of words) (named (subcommand_of wdp (spelled words)))
 
 -- the same of the words that std tells, and nothing where it tells none
 abbrev pub asked_of : {Z E : Type 0} → Result (IntoIter (String Z) Z) E → Asked
-asked_of (Ok words) = asked (map (λ word. word.bytes.items) (into_iter_items words))
+asked_of (Ok words) = asked (map text_of (into_iter_items words))
 asked_of (Err e) = for_nothing
