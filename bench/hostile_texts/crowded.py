@@ -6,6 +6,7 @@ low: each bid has less than most others have of one category alone, which is ano
   a 31st of a category's quantities tell them apart.
 nets: the packages rise with the bids, and so do the amounts, so that their nets alone tell bids apart, but for one that
   pays far more: steps between the least and the greatest net have all others in one.
+nested: each package is smaller than those before it, so that all bids behind a bid dominate it.
 """
 BIDS, CATEGORIES, BASE = 4000, 32, 700
 SAMPLE = 31
@@ -67,3 +68,7 @@ def low(forms):
 def nets(forms):
     amounts = [1_000_000 + bid for bid in range(BIDS)]
     return auction([[bid + 1] * CATEGORIES for bid in range(BIDS)], forms, amounts[:-1] + [10 ** 12])
+
+
+def nested(forms):
+    return auction([[BIDS - bid] * CATEGORIES for bid in range(BIDS)], forms)

@@ -1,9 +1,9 @@
-"""Files that an enemy chose for tools/gather and tools/explain, and the words that a run on them takes.
+"""Files that an enemy chose for ./wdp-office gather and ./wdp-office explain, and the words that a run on them takes.
 
 rows, quotes, fields, empty, quoted: one form of rows of one package, of doubled quotes in one field, of one row's commas, of
-  rows without anything, and of one row's quoted fields; tools/gather refuses it.
-untrue: one form of rows with three faults each, which tools/gather tells.
-bids: a form for which tools/explain --bids tells what is left out, of so many bids over 32 categories, of which those at
+  rows without anything, and of one row's quoted fields; ./wdp-office gather refuses it.
+untrue: one form of rows with three faults each, which ./wdp-office gather tells.
+bids: a form for which ./wdp-office explain --bids tells what is left out, of so many bids over 32 categories, of which those at
   places that a sample may take ask for 10,000 lots.
 gathered, explained: a form of so many bids as bench/make_input makes it, for either tool.
 """
@@ -13,8 +13,8 @@ import sys
 
 import measuring
 
-sys.path.insert(0, os.path.join(measuring.ROOT, "tools"))
-from office.tests.inputs_of_tests import far_apart_at_places  # noqa: E402
+sys.path[:0] = [os.path.join(measuring.ROOT, "python", name) for name in ("src", "tests")]
+from inputs_of_tests import far_apart_at_places  # noqa: E402
 
 HEADER = b"Ant,Low,High\n"
 RULES = b"rules,1,1,,\ncategory,Low,6,0,0\ncategory,High,4,0,0\nbidder,Ant,20,1,\n"
@@ -36,7 +36,7 @@ def gather_words(folder, rules, form, bidder="Ant"):
 
 
 def form_of(kind, size):
-    """The bytes of a form that tools/gather refuses."""
+    """The bytes of a form that ./wdp-office gather refuses."""
     if kind == "quotes":
         return HEADER + b'"' + b'""' * (size // 2) + b'",1,1\n'
     return HEADER + ROWS[kind] * (size // len(ROWS[kind])) + b"1\n"

@@ -45,6 +45,13 @@ same_test lots x y j =
     (λ a. le-ltb (size y.package) (size x.package) (size_le x.package y.package a))
     (λ w a. lt-ltb (size y.package) (size x.package) (size_lt y.package x.package w a))
 
+-- of bids that tell their sizes and nets, one beats another just where it dominates it
+pub beats_dominates : (lots : Lots) (x s : SizedBid) → TellsItsSize x → TellsItsSize s → TellsItsNet lots x → TellsItsNet lots s → beats x s ≡ dominates lots s.bid.now x.bid.now
+beats_dominates lots x s told its_size mine its_net =
+    beats_told lots x s told mine its_net
+    ∙ ap (λ (n : ℕ). beats_sized lots x.bid.now (record { size = n; number = s.number; bid = s.bid.now })) its_size
+    ∙ same_test lots x.bid.now s.bid.now s.number
+
 -- a bid that doesn't fit dominates none that fits
 dominates_none : (lots : Lots) (x y : Bid) → fits lots x.package ≡ true → fits lots y.package ≡ false → dominates lots y x ≡ false
 dominates_none lots x y fit unfit = ⊎_elim

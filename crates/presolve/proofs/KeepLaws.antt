@@ -26,8 +26,8 @@ use Rattle.auction_terms.specs.Limits.{AreOffers, IsBefore, IsBook}
 use Rattle.auction_terms.specs.Offers.{offers, offer_of}
 use Rattle.auction_terms.proofs.LimitLaws.{kept_are_offers}
 use Rattle.bid_desk.specs.Closing.{Closing, book_of, bids_in, form_standing}
-use Rattle.presolve.specs.Flags.{flags_of, flags_of_form, kept_in_form}
-use Rattle.presolve.specs.inside.Flags.{flagged_from, flags_of_bidders}
+use Rattle.presolve.specs.Flags.{flags_of, kept_in_form}
+use Rattle.presolve.specs.inside.Flags.{flagged_from}
 use Rattle.presolve.proofs.ChoiceLaws.{bidder_within, flag_is, its_bid_at}
 
 -- a book has a form for each bidder of its rules
@@ -193,48 +193,51 @@ forms_from book i (suc n) e =
     let next : (i + 1) + n ≡ length book = omega arith in
     ap (λ (rest : Book). form_of book (i + 1) ∷ rest) (forms_from book (i + 1) n next) ∙ sym (next_form book i (omega arith))
 
-module _ (lots : Lots) (book : Book) where
-  -- the flags of a bidder's form, where they were made
-  abbrev pub IsFlagged : ℕ → Result (Vec Bool Global) AllocError → Type 0
-  IsFlagged bidder made = IfOk made (λ flags. flags.items ≡ flags_of_form lots (form_of book bidder))
+-- the bidders from one on are those of two ranges, one behind the other
+ranges_joined : (first front back : ℕ) → range_with_len first (front + back) ≡ range_with_len first front ++ range_with_len (first + front) back
+ranges_joined first zero back = ap (range_with_len first) (let e : 0 + back ≡ back = omega arith in e) ∙ ap (λ (n : ℕ). range_with_len n back) (let e : first ≡ first + 0 = omega arith in e)
+ranges_joined first (suc front) back =
+    ap (range_with_len first) (let e : suc front + back ≡ suc (front + back) = omega arith in e)
+    ∙ ap (λ (ns : List ℕ). first ∷ ns) (ranges_joined (first + 1) front back ∙ ap (λ (n : ℕ). range_with_len (first + 1) front ++ range_with_len n back) (let e : first + 1 + front ≡ first + suc front = omega arith in e))
 
-  each_flagged : (bidders : List ℕ) (forms : List (Vec Bool Global)) → AllZip IsFlagged bidders (map (λ form. Ok form) forms) → map (λ (form : Vec Bool Global). form.items) forms ≡ map (λ bidder. flags_of_form lots (form_of book bidder)) bidders
-  each_flagged [] [] each = refl
-  each_flagged [] (form ∷ forms) each = absurd each
-  each_flagged (bidder ∷ bidders) [] each = absurd each
-  each_flagged (bidder ∷ bidders) (form ∷ forms) each = ap₂ (λ x xs. x ∷ xs) each.0 (each_flagged bidders forms each.1)
+-- what is made of each form, as flags or reasons
+module _ {X : Type 0} (of_form : List Bid → List X) (book : Book) where
+  abbrev pub of_bidders : List ℕ → List (List X)
+  of_bidders bidders = map (λ bidder. of_form (form_of book bidder)) bidders
 
-  -- flags that are made for each of these bidders are those of their forms
-  pub flags_for_each : (bidders : List ℕ) (made : Result (Vec (Vec Bool Global) Global) AllocError) (answers : List (Result (Vec Bool Global) AllocError)) → AllZip IsFlagged bidders answers
-      → MatchResult made (λ all. (forms : List (Vec Bool Global)) × (answers ≡ map (λ form. Ok form) forms) × (all.items ≡ forms)) (λ e. Contains answers (Err e))
-      → IfOk made (λ all. map (λ (form : Vec Bool Global). form.items) all.items ≡ flags_of_bidders lots book bidders)
-  flags_for_each bidders (Ok all) answers each (forms, are, all_is) =
-      ap (map (λ (form : Vec Bool Global). form.items)) all_is
-      ∙ each_flagged bidders forms (rw are at each)
-  flags_for_each bidders (Err e) answers each h = tt
+  abbrev items_of : List (Vec X Global) → List (List X)
+  items_of forms = map (λ (form : Vec X Global). form.items) forms
 
-  -- the bidders from one on are those of two ranges, one behind the other
-  ranges_joined : (first front back : ℕ) → range_with_len first (front + back) ≡ range_with_len first front ++ range_with_len (first + front) back
-  ranges_joined first zero back = ap (range_with_len first) (let e : 0 + back ≡ back = omega arith in e) ∙ ap (λ (n : ℕ). range_with_len n back) (let e : first ≡ first + 0 = omega arith in e)
-  ranges_joined first (suc front) back =
-      ap (range_with_len first) (let e : suc front + back ≡ suc (front + back) = omega arith in e)
-      ∙ ap (λ (ns : List ℕ). first ∷ ns) (ranges_joined (first + 1) front back ∙ ap (λ (n : ℕ). range_with_len (first + 1) front ++ range_with_len n back) (let e : first + 1 + front ≡ first + suc front = omega arith in e))
+  -- that of a bidder's form, where it was made
+  abbrev pub IsMade : ℕ → Result (Vec X Global) AllocError → Type 0
+  IsMade bidder made = IfOk made (λ form. form.items ≡ of_form (form_of book bidder))
 
-  -- the flags of all bidders are those of the book
-  pub flags_whole : (count : ℕ) (flags : List (List Bool)) → count ≡ length book → flags ≡ flags_of_bidders lots book (range_with_len 1 count) → flags ≡ flags_of lots book
-  flags_whole count flags all are =
-      are ∙ ap (λ (n : ℕ). flags_of_bidders lots book (range_with_len 1 n)) all
-      ∙ sym (map-map (flags_of_form lots) (form_of book) (range_with_len 1 (length book)))
-      ∙ ap (map (flags_of_form lots)) (forms_from book 0 (length book) (omega arith))
+  each_made : (bidders : List ℕ) (forms : List (Vec X Global)) → AllZip IsMade bidders (map (λ form. Ok form) forms) → items_of forms ≡ of_bidders bidders
+  each_made [] [] each = refl
+  each_made [] (form ∷ forms) each = absurd each
+  each_made (bidder ∷ bidders) [] each = absurd each
+  each_made (bidder ∷ bidders) (form ∷ forms) each = ap₂ (λ x xs. x ∷ xs) each.0 (each_made bidders forms each.1)
 
-  -- the flags of two ranges of bidders, one behind the other, are those of the book
-  pub flags_joined : (front back : ℕ) (forms others : List (Vec Bool Global)) → front + back ≡ length book
-      → map (λ (form : Vec Bool Global). form.items) forms ≡ flags_of_bidders lots book (range_with_len 1 front)
-      → map (λ (form : Vec Bool Global). form.items) others ≡ flags_of_bidders lots book (range_with_len (1 + front) back)
-      → map (λ (form : Vec Bool Global). form.items) (forms ++ others) ≡ flags_of lots book
-  flags_joined front back forms others count are_front are_back =
-      flags_whole (front + back) (map (λ (form : Vec Bool Global). form.items) (forms ++ others)) count
-      (map-append (λ (form : Vec Bool Global). form.items) forms others
-      ∙ ap₂ (λ (xs ys : List (List Bool)). xs ++ ys) are_front are_back
-      ∙ sym (map-append (λ bidder. flags_of_form lots (form_of book bidder)) (range_with_len 1 front) (range_with_len (1 + front) back))
-      ∙ ap (flags_of_bidders lots book) (sym (ranges_joined 1 front back)))
+  -- what is made for each of these bidders is that of their forms
+  pub made_for_each : (bidders : List ℕ) (made : Result (Vec (Vec X Global) Global) AllocError) (answers : List (Result (Vec X Global) AllocError)) → AllZip IsMade bidders answers
+      → MatchResult made (λ all. (forms : List (Vec X Global)) × (answers ≡ map (λ form. Ok form) forms) × (all.items ≡ forms)) (λ e. Contains answers (Err e))
+      → IfOk made (λ all. items_of all.items ≡ of_bidders bidders)
+  made_for_each bidders (Ok all) answers each (forms, are, all_is) = ap items_of all_is ∙ each_made bidders forms (rw are at each)
+  made_for_each bidders (Err e) answers each h = tt
+
+  -- that of all bidders is that of the book
+  pub made_for_all : (count : ℕ) (made : List (List X)) → count ≡ length book → made ≡ of_bidders (range_with_len 1 count) → made ≡ map of_form book
+  made_for_all count made all are =
+      are ∙ ap (λ (n : ℕ). of_bidders (range_with_len 1 n)) all
+      ∙ sym (map-map of_form (form_of book) (range_with_len 1 (length book)))
+      ∙ ap (map of_form) (forms_from book 0 (length book) (omega arith))
+
+  -- that of two ranges of bidders, one behind the other, is that of the book
+  pub made_in_two : (front back : ℕ) (forms others : List (Vec X Global)) → front + back ≡ length book → items_of forms ≡ of_bidders (range_with_len 1 front) → items_of others ≡ of_bidders (range_with_len (1 + front) back)
+      → items_of (forms ++ others) ≡ map of_form book
+  made_in_two front back forms others count are_front are_back =
+      made_for_all (front + back) (items_of (forms ++ others)) count
+      (map-append (λ (form : Vec X Global). form.items) forms others
+      ∙ ap₂ (λ (xs ys : List (List X)). xs ++ ys) are_front are_back
+      ∙ sym (map-append (λ bidder. of_form (form_of book bidder)) (range_with_len 1 front) (range_with_len (1 + front) back))
+      ∙ ap of_bidders (sym (ranges_joined 1 front back)))

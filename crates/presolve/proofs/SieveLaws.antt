@@ -3,7 +3,7 @@ use Rattle.std.proofs.Common.{◌≡◌, ◌≢◌, ⊎_elim, ◌+◌, ◌-◌, 
 use Rattle.std.specs.Prelude.{All, AllPairs, int_le}
 use Rattle.std.specs.List.Sorted.{IsNonDecreasing}
 use Rattle.std.specs.Int.{bit_at}
-use Rattle.std.proofs.lemmas.Bool.{and_parts, cases_eq, cases_lt, false≢true, le-ltb}
+use Rattle.std.proofs.lemmas.Bool.{and_parts, cases_Bool, cases_eq, cases_lt, false≢true, le-ltb}
 use Rattle.std.proofs.lemmas.Nat.Bits.{bit_at-zero}
 use Rattle.std.proofs.lemmas.List.{get_or-map, get_or-set_other, get_or-set_same, get_or_default, get_or_past, length-map}
 use Rattle.std.proofs.lemmas.List.Elements.{All-push}
@@ -13,7 +13,7 @@ use Rattle.auction_terms.proofs.PackageLaws.{within_at}
 use Rattle.presolve.specs.declared.order.SizedBid.{SizedBid}
 use Rattle.presolve.specs.declared.sieve.Level.{Level}
 use Rattle.presolve.specs.declared.sieve.Sieve.{Sieve}
-use Rattle.presolve.specs.inside.Sieves.{AreRanked, AreSieved, IsMarked, IsSieve, shortfall}
+use Rattle.presolve.specs.inside.Sieves.{AreRanked, AreSieved, IsMarked, IsSieve, Sifts, shortfall}
 use Rattle.presolve.specs.inside.Sizes.{beats}
 
 -- what holds of each word before a place, and of the one that is set there
@@ -84,8 +84,8 @@ is_sieve rivals numbers number sieve lower same made =
           record {
             ranked = ranked;
             level = level;
-            bit = λ d. (let long = made.levels.long (slice_index sieve.ranks.items k) d level in omega arith);
           };
+      long = λ r d inside. (let long = made.levels.long r d inside in omega arith);
       sifts = λ k d e inside i f within b.
           let its : slice_index numbers i ≡ number (slice_index_or rivals i f) = ap (λ (xs : List ℕ). slice_index xs i) same ∙ get_or-map number rivals i f 0 within in
           let mine : slice_index numbers k ≡ number (slice_index_or rivals k d) = ap (λ (xs : List ℕ). slice_index xs k) same ∙ get_or-map number rivals k d 0 inside in
@@ -122,3 +122,16 @@ none_marked words i zeros marked =
     (cases_lt (i / 64) (length words)) in
     let no_bit : bit_at (slice_index words (i / 64)) (i % 64) ≡ 0 = ap (λ (n : ℕ). bit_at n (i % 64)) zero ∙ bit_at-zero (i % 64) in
     omega arith
+
+-- where words sift, a rival beats the bid only if they mark it
+pub only_marked : (x : SizedBid) (rivals : List SizedBid) (words : List ℕ) (i : ℕ) (d : SizedBid) → Sifts rivals x words → i < length rivals → (IsMarked words i → beats x (slice_index_or rivals i d) ≡ false) → beats x (slice_index_or rivals i d) ≡ false
+only_marked x rivals words i d sifting within unbeaten = ⊎_elim
+    (λ (yes : beats x (slice_index_or rivals i d) ≡ true). unbeaten (sifting i d within yes))
+    (λ (no : beats x (slice_index_or rivals i d) ≡ false). no)
+    (cases_Bool (beats x (slice_index_or rivals i d)))
+
+-- a bid doesn't beat itself
+pub none_itself : (x : SizedBid) (rivals : List SizedBid) (place i : ℕ) (d : SizedBid) → x ≡ slice_index_or rivals place x → i < length rivals → beats x (slice_index_or rivals i d) ≡ true → i ≢ place
+none_itself x rivals place i d is within beaten = λ (same : i ≡ place).
+    let at : slice_index_or rivals i d ≡ x = ap (λ (n : ℕ). slice_index_or rivals n d) same ∙ get_or_default rivals place d x (omega arith) ∙ sym is in
+    absurd (false≢true (sym (ap (λ (smaller : Bool). smaller && (int_le x.net x.net && is_within x.bid.now.package x.bid.now.package)) (le-ltb x.size x.size (omega arith))) ∙ subst (λ (s : SizedBid). beats x s ≡ true) at beaten))

@@ -3,7 +3,7 @@
 ghost use Rattle.std.specs.Prelude.{◌≡◌, ◌≤◌, All, length, map, IfOk};
 ghost use Rattle.auction_terms.specs.Packages.{size};
 ghost use Rattle.auction_terms.specs.Terms.{lots_in};
-ghost use Rattle.presolve.specs.inside.Sizes.{fitting_from, sized_of, IsOrdered, TellsItsNet, TellsItsSize};
+ghost use Rattle.presolve.specs.inside.Sizes.{AreNumbered, fitting_from, sized_of, IsOrdered, TellsItsNet, TellsItsSize};
 ghost use Rattle.presolve.specs.Sizes.{IsBySize};
 ghost use Rattle.auction_limits.specs.declared.limits.TheConstants.{GREATEST_AMOUNT, MOST_BIDS};
 ghost use Rattle.bid_forms.specs.Offers.{IsBidWithinLimits};
@@ -40,6 +40,23 @@ fn sized<'b>(rules: &Rules, bid: &'b Bid, number: u16) -> SizedBid<'b>
         size: bid.package.size(),
         number,
     }
+}
+
+// All bids of a form, with their sizes, by number.
+pub(crate) fn numbered<'b>(
+    alloc: Global,
+    rules: &Rules,
+    bids: &'b [Bid],
+) -> Result<Vec<SizedBid<'b>>, AllocError>
+    requires few { length bids.now ≤ MOST_BIDS }
+    requires limits { All IsBidWithinLimits bids.now }
+    ensures { IfOk result (λ numbered. AreNumbered (lots_in rules.now) bids.now numbered.items) }
+{
+    let mut numbered = Vec::with_capacity(alloc, bids.len())?;
+    for (place, bid) in bids.iter().enumerate() {
+        numbered.push_reserved(sized(rules, bid, place as u16 + 1));
+    }
+    Ok(numbered)
 }
 
 // The bids that fit, with their sizes, by number.

@@ -12,17 +12,20 @@
 //! what is left is taken together with these levels by `&`, four at a time, until nothing is left, which is soon so for
 //! nearly all bids. A bit that is left at the end is a candidate, and is compared with the bid exactly.
 //!
+//! Which bid dominates first, by its number, is asked of the same sieves, of rivals that stand by number and include those
+//! that don't fit: all but the bid itself are left at first, and the first candidate that dominates is the answer.
+//!
 //! What to mind when changing it: the levels only have to be sound, that is, to have the bit of every rival that dominates
 //! the bid (`Sifts`). One that has too many bits costs time and changes no answer, since each candidate is compared. So the
 //! ranks (`ranks`) may be any that rise with the numbers, a sieve may be left out, and the order of the sieves doesn't
 //! matter. Ranks that don't rise aren't sound, nor is a bit that is left out.
 
-ghost use Rattle.std.specs.Prelude.{◌≡◌, ◌+◌, ◌/◌, ◌<◌, ◌≤◌, ℕ, List, true, false, slice_index, slice_index_or, All, length, map, IfOk, IsTrue};
+ghost use Rattle.std.specs.Prelude.{◌≡◌, ◌≢◌, ◌+◌, ◌/◌, ◌<◌, ◌≤◌, ℕ, List, false, slice_index, slice_index_or, unwrap_or, All, length, map, IfOk, IfSome};
 ghost use Rattle.std.specs.Int.{bit_at, div_ceil};
-ghost use Rattle.std.specs.List.{list_any};
+ghost use Rattle.std.specs.List.{list_any, position_from};
 ghost use Rattle.auction_limits.specs.declared.limits.TheConstants.{MOST_BIDS, MOST_CATEGORIES};
 ghost use Rattle.presolve.specs.declared.order.SizedBid.{SizedBid};
-ghost use Rattle.presolve.specs.inside.Sieves.{AreLevels, AreSieved, HasPlace, IsMarked, IsSieve, Sifts, shortfall};
+ghost use Rattle.presolve.specs.inside.Sieves.{AreLevels, AreSieved, BeatsAt, HasPlace, HasWords, IsMarked, IsSieve, Sifts, shortfall};
 ghost use Rattle.presolve.specs.inside.Sizes.{AreRivals, beats};
 
 use crate::order::SizedBid;
@@ -202,7 +205,7 @@ pub(crate) fn sieves(
 fn level_at(sieves: &[Sieve], number: usize, place: usize) -> &[u64]
     requires some { 1 ≤ length sieves.now }
     requires within { All (HasPlace place) sieves.now }
-    ensures bit { place / 64 < length result.now }
+    ensures long { (words : ℕ) → All (HasWords words) sieves.now → words ≤ length result.now }
     ensures sifts { (rivals : List SizedBid) (x : SizedBid) → All (IsSieve rivals) sieves.now
         → place < length rivals → x ≡ slice_index_or rivals place x → Sifts rivals x result.now }
 {
@@ -242,13 +245,25 @@ fn leave_before(left: &mut [u64], place: usize)
     left[place / 64] = (1 << (place % 64)) - 1;
 }
 
+// Leaves all places but one.
+fn leave_others(left: &mut [u64], place: usize)
+    requires { place / 64 < length left.old }
+    ensures count { length left.new ≡ length left.old }
+    ensures others { (i : ℕ) → i / 64 < length left.new → i ≢ place → IsMarked left.new i }
+{
+    for word in 0..left.len() {
+        left[word] = u64::MAX;
+    }
+    left[place / 64] = !(1 << (place % 64));
+}
+
 // Leaves of the bits that are left those that the level of each sieve has too, for the rival at a place; whether there are
 // any. A level that is taken twice changes nothing.
 fn sift(left: &mut [u64], sieves: &[Sieve], place: usize) -> bool
-    requires left { length left.old ≡ place / 64 + 1 }
     requires some { 1 ≤ length sieves.now }
     requires few { length sieves.now ≤ MOST_CATEGORIES + 1 }
     requires within { All (HasPlace place) sieves.now }
+    requires long { All (HasWords (length left.old)) sieves.now }
     ensures count { length left.new ≡ length left.old }
     ensures sifts { (rivals : List SizedBid) (x : SizedBid) → All (IsSieve rivals) sieves.now
         → place < length rivals → x ≡ slice_index_or rivals place x → Sifts rivals x left.old
@@ -275,48 +290,79 @@ fn does_beat(rival: &SizedBid<'_>, bid: &SizedBid<'_>) -> bool
     rival.size < bid.size && rival.net >= bid.net && bid.bid.package.covers(&rival.bid.package)
 }
 
-// Whether one of the candidates beats the bid: the rivals from a place on whose bit is set, the lowest one for the first.
-fn is_beaten_among(
+// The place of the first of the candidates that beats the bid: of the rivals from a place on those whose bit is set.
+fn first_among(
     rivals: &[SizedBid<'_>],
     first: usize,
     candidates: u64,
     bid: &SizedBid<'_>,
-) -> bool
+) -> Option<usize>
     requires sized { All (λ s. length s.bid.now.package ≡ length bid.now.bid.now.package)
         rivals.now }
     requires within { first < length rivals.now }
-    ensures beaten { IsTrue result → list_any (beats bid.now) rivals.now ≡ true }
-    ensures unbeaten { result ≡ false → (k : ℕ) (d : SizedBid) → bit_at candidates k ≡ 1
-        → first + k < length rivals.now
+    ensures near { IfSome result (λ place. place < first + 64) }
+    ensures beaten { IfSome result (BeatsAt rivals.now bid.now) }
+    ensures unbeaten { (k : ℕ) (d : SizedBid) → bit_at candidates k ≡ 1
+        → first + k < unwrap_or result (length rivals.now)
         → beats bid.now (slice_index_or rivals.now (first + k) d) ≡ false }
 {
     let mut left = candidates;
     while left != 0 {
-        if let Some(rival) = rivals.get(first + left.trailing_zeros() as usize) {
+        let place = first + left.trailing_zeros() as usize;
+        if let Some(rival) = rivals.get(place) {
             if does_beat(rival, bid) {
-                return true;
+                return Some(place);
             }
         }
         left &= left - 1;
     }
-    false
+    None
 }
 
-// Whether one of the candidates that are left beats the bid.
-fn is_beaten_by(rivals: &[SizedBid<'_>], left: &[u64], bid: &SizedBid<'_>) -> bool
+// The place of the first of the candidates that are left that beats the bid.
+fn first_left(rivals: &[SizedBid<'_>], left: &[u64], bid: &SizedBid<'_>) -> Option<usize>
     requires sized { All (λ s. length s.bid.now.package ≡ length bid.now.bid.now.package)
         rivals.now }
     requires within { length left.now ≤ div_ceil (length rivals.now) 64 }
-    ensures beaten { IsTrue result → list_any (beats bid.now) rivals.now ≡ true }
-    ensures unbeaten { result ≡ false → (i : ℕ) (d : SizedBid) → IsMarked left.now i
-        → i < length rivals.now → beats bid.now (slice_index_or rivals.now i d) ≡ false }
+    ensures beaten { IfSome result (BeatsAt rivals.now bid.now) }
+    ensures unbeaten { (i : ℕ) (d : SizedBid) → IsMarked left.now i
+        → i < unwrap_or result (length rivals.now)
+        → beats bid.now (slice_index_or rivals.now i d) ≡ false }
 {
     for word in 0..left.len() {
-        if is_beaten_among(rivals, word * 64, left[word], bid) {
-            return true;
+        let found = first_among(rivals, word * 64, left[word], bid);
+        if found.is_some() {
+            return found;
         }
     }
-    false
+    None
+}
+
+// The place of the first of the rivals that beats the one at a place, where the bits that are left sift them.
+fn first_sifted(
+    rivals: &[SizedBid<'_>],
+    sieves: &[Sieve],
+    left: &mut [u64],
+    place: usize,
+    bid: &SizedBid<'_>,
+) -> Option<usize>
+    requires sized { All (λ s. length s.bid.now.package ≡ length bid.now.bid.now.package)
+        rivals.now }
+    requires sieves { All (IsSieve rivals.now) sieves.now }
+    requires some { 1 ≤ length sieves.now }
+    requires few { length sieves.now ≤ MOST_CATEGORIES + 1 }
+    requires within { place < length rivals.now }
+    requires bid { bid.now ≡ slice_index_or rivals.now place bid.now }
+    requires long { length left.old ≤ div_ceil (length rivals.now) 64 }
+    requires sifts { Sifts rivals.now bid.now left.old }
+    ensures first { result ≡ position_from (beats bid.now) 0 rivals.now }
+    ensures within { IfSome result (λ first. first < length rivals.now) }
+{
+    if sift(left, sieves, place) {
+        first_left(rivals, left, bid)
+    } else {
+        None
+    }
 }
 
 // Whether one of the bids that fit dominates the one at a place. Those behind it aren't smaller.
@@ -338,5 +384,29 @@ pub(crate) fn is_beaten(
     let mut words = [0; MOST_WORDS];
     let left = &mut words[..place / 64 + 1];
     leave_before(left, place);
-    sift(left, sieves, place) && is_beaten_by(rivals, left, bid)
+    first_sifted(rivals, sieves, left, place, bid).is_some()
+}
+
+// The place of the first of the rivals that beats the one at a place, whatever their order.
+pub(crate) fn first_beating(
+    rivals: &[SizedBid<'_>],
+    sieves: &[Sieve],
+    place: usize,
+    bid: &SizedBid<'_>,
+) -> Option<usize>
+    requires sized { All (λ s. length s.bid.now.package ≡ length bid.now.bid.now.package)
+        rivals.now }
+    requires many { length rivals.now ≤ MOST_BIDS }
+    requires sieves { All (IsSieve rivals.now) sieves.now }
+    requires some { 1 ≤ length sieves.now }
+    requires few { length sieves.now ≤ MOST_CATEGORIES + 1 }
+    requires within { place < length rivals.now }
+    requires bid { bid.now ≡ slice_index_or rivals.now place bid.now }
+    ensures first { result ≡ position_from (beats bid.now) 0 rivals.now }
+    ensures within { IfSome result (λ first. first < length rivals.now) }
+{
+    let mut words = [0; MOST_WORDS];
+    let left = &mut words[..rivals.len().div_ceil(64)];
+    leave_others(left, place);
+    first_sifted(rivals, sieves, left, place, bid)
 }

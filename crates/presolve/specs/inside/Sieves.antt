@@ -40,13 +40,21 @@ pub record AreSieved (numbers : List ℕ) (sieve : Sieve) : Type 0 where
 abbrev pub Sifts : List SizedBid → SizedBid → List ℕ → Type 0
 Sifts rivals x words = (i : ℕ) (d : SizedBid) → i < length rivals → beats x (slice_index_or rivals i d) ≡ true → IsMarked words i
 
--- a place has a rank, and the level of that rank has a bit for it
+-- the rival at a place beats the bid
+abbrev pub BeatsAt : List SizedBid → SizedBid → ℕ → Type 0
+BeatsAt rivals x place = (place < length rivals) × ((d : SizedBid) → beats x (slice_index_or rivals place d) ≡ true)
+
+-- a place has a rank, and the rank a level
 pub record HasPlace (place : ℕ) (sieve : Sieve) : Type 0 where
   pub ranked : place < length sieve.ranks.items
   pub level : slice_index sieve.ranks.items place < length sieve.levels.items
-  pub bit : (d : Level) → place / 64 < length (slice_index_or sieve.levels.items (slice_index sieve.ranks.items place) d).words.items
+
+-- each level has so many words at least
+abbrev pub HasWords : ℕ → Sieve → Type 0
+HasWords words sieve = All (λ level. words ≤ length level.words.items) sieve.levels.items
 
 -- the level of each rival's rank sifts those that beat it
 pub record IsSieve (rivals : List SizedBid) (sieve : Sieve) : Type 0 where
   pub places : (k : ℕ) → k < length rivals → HasPlace k sieve
+  pub long : HasWords (div_ceil (length rivals) 64) sieve
   pub sifts : (k : ℕ) (d : SizedBid) (e : Level) → k < length rivals → Sifts rivals (slice_index_or rivals k d) (slice_index_or sieve.levels.items (slice_index sieve.ranks.items k) e).words.items

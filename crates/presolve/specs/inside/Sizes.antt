@@ -40,6 +40,12 @@ pub record IsOrdered (lots : Lots) (form : List Bid) (bids : List SizedBid) : Ty
   pub told : All TellsItsSize bids
   pub nets : All (TellsItsNet lots) bids
 
+-- all bids, in the order of their numbers
+pub record AreNumbered (lots : Lots) (form : List Bid) (bids : List SizedBid) : Type 0 where
+  pub same : map (λ (s : SizedBid). s.bid.now) bids ≡ form
+  pub told : All TellsItsSize bids
+  pub nets : All (TellsItsNet lots) bids
+
 -- bids with a quantity for each of n categories, by rising size
 pub record AreRivals (n : ℕ) (rivals : List SizedBid) : Type 0 where
   pub sized : All (λ s. length s.bid.now.package ≡ n) rivals

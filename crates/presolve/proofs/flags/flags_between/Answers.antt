@@ -2,7 +2,8 @@ use Rattle.std.proofs.Common.{◌≡◌, ◌-◌, ℕ, ap, ap₂, ◌∙◌, sub
 use Rattle.std.specs.List.{AllZip, range_with_len}
 use Rattle.auction_terms.specs.Terms.{lots_in}
 use Rattle.bid_desk.specs.Closing.{book_of}
-use Rattle.presolve.proofs.KeepLaws.{IsFlagged, flags_for_each}
+use Rattle.presolve.proofs.KeepLaws.{IsMade, made_for_each}
+use Rattle.presolve.specs.Flags.{flags_of_form}
 use Rattle.presolve.proofs.flags.flags_between.Goals as goal
 
 pub returns : goal.returns
@@ -14,5 +15,5 @@ returns g c =
     let h = c.in_ok-made.ensures in
     let chain = rw c.map.ensures.f at h.1 in
     let every : chain.0 ≡ range_with_len c.args.first (c.args.end - c.args.first) = chain.1 ∙ ap₂ range_with_len start (ap₂ (λ (e s : ℕ). e - s) end start) in
-    flags_for_each (lots_in book.rules) (book_of book) (range_with_len c.args.first (c.args.end - c.args.first)) c.in_ok-made.made h.0
-    (subst (λ bidders. AllZip (IsFlagged (lots_in book.rules) (book_of book)) bidders h.0) every chain.2) h.2
+    made_for_each (flags_of_form (lots_in book.rules)) (book_of book) (range_with_len c.args.first (c.args.end - c.args.first)) c.in_ok-made.made h.0
+    (subst (λ bidders. AllZip (IsMade (flags_of_form (lots_in book.rules)) (book_of book)) bidders h.0) every chain.2) h.2

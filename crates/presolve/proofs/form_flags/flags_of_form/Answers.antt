@@ -33,6 +33,11 @@ is_kept_beside-requires-clause-rivals c =
     let size : length c.rival-item.result.bid.now.package ≡ n = subst (λ (s : SizedBid). length s.bid.now.package ≡ n) (sym at) (rivals.sized c.loop-place.place c.rival-item.result small) in
     rw (size, c.deref-in-loop-place.ensures.value) rivals
 
+pub is_kept_beside-requires-clause-sieves : goal.is_kept_beside-requires-clause-sieves
+is_kept_beside-requires-clause-sieves c =
+    let each = rw c.deref.ensures.value at c.in_ok-sieves.ensures.each in
+    rw (c.deref-in-loop-place.ensures.value, c.deref-in-loop-place-2.ensures.value) each
+
 pub is_kept_beside-requires-clause-many : goal.is_kept_beside-requires-clause-many
 is_kept_beside-requires-clause-many c =
     let few = no_more_fit (lots_in c.args.rules.now) c.args.bids.now c.in_ok-rivals.rivals.items c.in_ok-rivals.ensures in

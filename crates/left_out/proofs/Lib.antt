@@ -1,4 +1,0 @@
-pub mod ReasonLaws
-pub mod SearchLaws
-pub mod LineLaws
-mod Examples

@@ -1,5 +1,0 @@
-use Rattle.left_out.proofs.ReasonLaws.{kept-without}
-use Rattle.left_out.proofs.laws.a_bid_is_kept_just_without_a_reason.Goals as goal
-
-pub returns : goal.returns
-returns c = kept-without

@@ -1,9 +1,0 @@
-use Rattle.std.proofs.Common.{rules}
-use Rattle.byte_sinks.proofs.Adding.{tells-front, tells-quiet}
-use Rattle.left_out.proofs.writing.write_left_out.Goals as goal
-
-pub returns-clause-err : goal.returns-clause-err
-returns-clause-err g c = tells-front _ c.flush.result c.new-writer.ensures c.add_forms.ensures c.flush.ensures.adds c.flush.ensures.err (search rules)
-
-pub returns-clause-succeeded : goal.returns-clause-succeeded
-returns-clause-succeeded g c = tells-quiet _ c.flush.result c.new-writer.ensures c.add_forms.ensures c.flush.ensures.adds c.flush.ensures.ok (search rules)

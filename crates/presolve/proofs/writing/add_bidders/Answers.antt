@@ -1,0 +1,34 @@
+use Rattle.std.proofs.Common.{◌++◌, ◌≡◌, ◌∙◌, ◌+◌, ℕ, List, [], Option, ap, arith, length, slice_index_or, sym}
+use Rattle.std.proofs.lemmas.List.{get_or-map, length-map}
+use Rattle.std.specs.declared.vec.Vec.{Vec}
+use Rattle.std.specs.Global.{Global}
+use Rattle.byte_sinks.proofs.Adding.{Adds-then, Adds-to}
+use Rattle.presolve.specs.Lines.{form_lines, replaced_lines}
+use Rattle.presolve.specs.declared.reason.Reason.{Reason}
+use Rattle.presolve.proofs.LineLaws.{numbered-all, numbered-next}
+use Rattle.presolve.proofs.writing.add_bidders.Goals as goal
+
+abbrev items : Vec (Option Reason) Global → List (Option Reason)
+items form = form.items
+
+pub loop-place-preserved : goal.loop-place-preserved
+loop-place-preserved g c =
+    let t = c.args.rules.now in
+    let reasons = c.args.reasons.now in
+    let forms = c.reasons.inside.forms.items in
+    let place = c.loop-place.place in
+    let count : length reasons ≡ length forms = sym (ap (λ (xs : List (List (Option Reason))). length xs) c.reasons.view_is) ∙ length-map forms items in
+    let within = c.loop-place-test.true in
+    let own : c.deref.result.now ≡ slice_index_or reasons place [] =
+    c.deref.ensures.value ∙ ap items c.index.ensures ∙ sym (get_or-map items forms place c.index.result.now [] (omega (arith, within, c.len-place-end.ensures)))
+    ∙ ap (λ (xs : List (List (Option Reason))). slice_index_or xs place []) c.reasons.view_is in
+    Adds-to (Adds-then c.loop-place.invariant (Adds-to c.add_bidder.ensures (ap (λ (reasons : List (Option Reason)). replaced_lines t c.args.bidders.now (place + 1) ++ form_lines t (place + 1) reasons) own)))
+    (numbered-next (λ (numbered : ℕ × List (Option Reason)). replaced_lines t c.args.bidders.now numbered.0 ++ form_lines t numbered.0 numbered.1) reasons place [] (omega (arith, within, c.len-place-end.ensures)))
+
+pub returns : goal.returns
+returns g c =
+    let t = c.args.rules.now in
+    let reasons = c.args.reasons.now in
+    let forms = c.reasons.inside.forms.items in
+    let count : length reasons ≡ length forms = sym (ap (λ (xs : List (List (Option Reason))). length xs) c.reasons.view_is) ∙ length-map forms items in
+    Adds-to c.loop-place.invariant (numbered-all (λ (numbered : ℕ × List (Option Reason)). replaced_lines t c.args.bidders.now numbered.0 ++ form_lines t numbered.0 numbered.1) reasons c.loop-place.place (omega (arith, c.loop-place-test.false, c.len-place-end.ensures)))

@@ -1,0 +1,161 @@
+//! Writing the lines of bids that no program has, and of forms that others replace.
+
+ghost use Rattle.std.specs.Prelude.{◌≡◌, ◌++◌, ◌==◌, [], None, flat_map, if◌then◌else◌, IfErr, OnErr, OnOk};
+ghost use Rattle.std.specs.Io.KnownBytes.{Appends};
+ghost use Rattle.std.specs.List.{last_or};
+ghost use Rattle.std.specs.Option.{option_map_or};
+ghost use Rattle.byte_sinks.specs.Adds.{Adds};
+ghost use Rattle.byte_sinks.specs.Sinks.{HasFailed, SentFront};
+ghost use Rattle.byte_sinks.specs.Written.{written_of};
+ghost use Rattle.presolve.specs.Lines.{form_lines, forms_by, left_out_line, left_out_lines, replaced_line, replaced_lines};
+
+use crate::reason::Reason;
+use crate::reasons::Reasons;
+use crate::words::{add_line, add_replaced_line};
+use auction_terms::Rules;
+use byte_sinks::{Sink, WriteFault, Writer};
+
+// Adds the line of a bid, where there is a reason for it.
+fn add_left_out<S: Sink>(
+    writer: &mut Writer<'_, S>,
+    rules: &Rules,
+    bidder: usize,
+    number: usize,
+    why: Option<Reason>,
+)
+    ensures { Adds S.taken S.failures writer.old writer.new
+        (option_map_or (left_out_line rules.now bidder number) why []) }
+{
+    if let Some(reason) = why {
+        add_line(writer, rules, bidder, number, reason);
+    }
+}
+
+// Adds the lines of a bidder's form.
+fn add_form<S: Sink>(
+    writer: &mut Writer<'_, S>,
+    rules: &Rules,
+    bidder: usize,
+    reasons: &[Option<Reason>],
+)
+    ensures { Adds S.taken S.failures writer.old writer.new
+        (form_lines rules.now bidder reasons.now) }
+{
+    for place in 0..reasons.len() {
+        add_left_out(writer, rules, bidder, place + 1, reasons[place]);
+    }
+}
+
+// The number of a bidder's last form.
+fn last_form(bidders: &[u16], bidder: usize) -> Option<usize>
+    ensures { result ≡ last_or None (forms_by bidders.now bidder) }
+{
+    let mut last = None;
+    for place in 0..bidders.len() {
+        if usize::from(bidders[place]) == bidder {
+            last = Some(place + 1);
+        }
+    }
+    last
+}
+
+// Adds the line of a form of some bidder, where it is of this one, and not its last.
+fn add_replaced<S: Sink>(
+    writer: &mut Writer<'_, S>,
+    rules: &Rules,
+    bidder: usize,
+    last: usize,
+    form: (usize, u16),
+)
+    ensures { Adds S.taken S.failures writer.old writer.new
+        (if form.1 == bidder then (if form.0 == last then []
+        else replaced_line rules.now bidder last form.0) else []) }
+{
+    let (number, owner) = form;
+    if usize::from(owner) == bidder && number != last {
+        add_replaced_line(writer, rules, bidder, last, number);
+    }
+}
+
+// Adds the lines of a bidder's forms but the last.
+fn add_replaced_by<S: Sink>(
+    writer: &mut Writer<'_, S>,
+    rules: &Rules,
+    bidders: &[u16],
+    bidder: usize,
+    last: usize,
+)
+    ensures { Adds S.taken S.failures writer.old writer.new
+        (flat_map (λ number. if number == last then []
+        else replaced_line rules.now bidder last number) (forms_by bidders.now bidder)) }
+{
+    for place in 0..bidders.len() {
+        add_replaced(writer, rules, bidder, last, (place + 1, bidders[place]));
+    }
+}
+
+// Adds the lines of a bidder's forms that are replaced.
+fn add_replaced_forms<S: Sink>(
+    writer: &mut Writer<'_, S>,
+    rules: &Rules,
+    bidders: &[u16],
+    bidder: usize,
+)
+    ensures { Adds S.taken S.failures writer.old writer.new
+        (replaced_lines rules.now bidders.now bidder) }
+{
+    if let Some(last) = last_form(bidders, bidder) {
+        add_replaced_by(writer, rules, bidders, bidder, last);
+    }
+}
+
+// Adds the lines of a bidder.
+fn add_bidder<S: Sink>(
+    writer: &mut Writer<'_, S>,
+    rules: &Rules,
+    bidders: &[u16],
+    bidder: usize,
+    reasons: &[Option<Reason>],
+)
+    ensures { Adds S.taken S.failures writer.old writer.new
+        (replaced_lines rules.now bidders.now bidder ++ form_lines rules.now bidder reasons.now) }
+{
+    add_replaced_forms(writer, rules, bidders, bidder);
+    add_form(writer, rules, bidder, reasons);
+}
+
+// Adds the lines of a book.
+fn add_bidders<S: Sink>(
+    writer: &mut Writer<'_, S>,
+    rules: &Rules,
+    bidders: &[u16],
+    reasons: &Reasons,
+)
+    ensures { Adds S.taken S.failures writer.old writer.new
+        (left_out_lines rules.now bidders.now reasons.now) }
+{
+    for place in 0..reasons.forms.len() {
+        add_bidder(writer, rules, bidders, place + 1, &reasons.forms[place]);
+    }
+}
+
+/// Writes a line for each bid of a book that there is a reason for, by rising number of the bidder, then of the bid; and
+/// before those of a bidder one for each of its forms that its last one replaces. The numbers of forms are their places, from
+/// 1, among the bidders of all forms. It takes no memory.
+pub fn write_left_out<S: Sink>(
+    rules: &Rules,
+    form_bidders: &[u16],
+    reasons: &Reasons,
+    out: &mut S,
+) -> Result<(), WriteFault>
+    ensures ok { OnOk result (Appends (S.taken out.old) (S.taken out.new)
+        (left_out_lines rules.now form_bidders.now reasons.now)) }
+    ensures err { IfErr result (λ e. SentFront (S.taken out.old) (S.taken out.new)
+        (left_out_lines rules.now form_bidders.now reasons.now) (written_of e)) }
+    ensures failed { OnErr result (HasFailed (S.failures out.old) (S.failures out.new)) }
+    ensures succeeded { OnOk result (S.failures out.new ≡ S.failures out.old) }
+{
+    let mut writer = Writer::new(out);
+    add_bidders(&mut writer, rules, form_bidders, reasons);
+    writer.flush()
+}
