@@ -3,6 +3,7 @@ pub mod Solution
 pub mod PointAllocation
 pub mod Coming
 pub mod Report
+pub mod Pricing
 pub mod Uniqueness
 pub mod Costs
 pub mod Ties

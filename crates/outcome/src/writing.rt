@@ -1,6 +1,6 @@
 //! Writing allocations and reports.
 
-ghost use Rattle.std.specs.Prelude.{◌≡◌, ◌<◌, ◌++◌, length, false, true, OnOk, OnErr, IfErr};
+ghost use Rattle.std.specs.Prelude.{◌≡◌, ◌<◌, ◌++◌, [], length, slice_index_or, false, true, OnOk, OnErr, IfErr};
 ghost use Rattle.std.specs.Io.KnownBytes.{Appends};
 ghost use Rattle.auction_terms.specs.Allocations.{IsFeasible};
 ghost use Rattle.auction_terms.specs.Groups.{starts_empty};
@@ -10,10 +10,12 @@ ghost use Rattle.byte_sinks.specs.Sinks.{HasFailed, SentFront};
 ghost use Rattle.byte_sinks.specs.Adds.{Adds};
 ghost use Rattle.byte_sinks.specs.Written.{written_of};
 ghost use Rattle.bid_desk.specs.Sale.{sale_of};
+ghost use Rattle.outcome.specs.Pricing.{pricing_text};
 ghost use Rattle.outcome.specs.Report.{allocation_text, report_text};
 ghost use Rattle.outcome.specs.Uniqueness.{uniqueness_text};
 
 use crate::allocation::Allocation;
+use crate::pricing::{Pricing, add_pricing};
 use crate::reporting::add_groups;
 use crate::uniqueness::{Uniqueness, add_uniqueness};
 use crate::winners::add_allocation;
@@ -56,22 +58,40 @@ fn add_report<S: Sink>(
     add_groups(writer, book, allocations[0].choices(), groups, allocations);
 }
 
-/// Adds a report, and behind it what is known of other outcomes.
+/// Adds what the winners pay, and what is known of other outcomes.
+fn add_after_report<S: Sink>(
+    writer: &mut Writer<'_, S>,
+    book: &ClosedBook,
+    first: &Allocation,
+    pricing: &Option<Pricing>,
+    uniqueness: &Uniqueness,
+)
+    ensures { Adds S.taken S.failures writer.old writer.new
+        (pricing_text (sale_of book.now) first.now pricing.now
+        ++ uniqueness_text (sale_of book.now) uniqueness.now) }
+{
+    add_pricing(writer, book, first, pricing);
+    add_uniqueness(writer, book, uniqueness);
+}
+
+/// Adds a report, what the winners pay, and what is known of other outcomes.
 fn add_report_with<S: Sink>(
     writer: &mut Writer<'_, S>,
     book: &ClosedBook,
     groups: &Groups,
     allocations: &[Allocation],
+    pricing: &Option<Pricing>,
     uniqueness: &Uniqueness,
 )
     requires count { length groups.now ≡ length allocations.now }
     requires some { 0 < length allocations.now }
     ensures { Adds S.taken S.failures writer.old writer.new
         (report_text (sale_of book.now) groups.now allocations.now
-        ++ uniqueness_text (sale_of book.now) uniqueness.now) }
+        ++ (pricing_text (sale_of book.now) (slice_index_or allocations.now 0 []) pricing.now
+        ++ uniqueness_text (sale_of book.now) uniqueness.now)) }
 {
     add_report(writer, book, groups, allocations);
-    add_uniqueness(writer, book, uniqueness);
+    add_after_report(writer, book, &allocations[0], pricing, uniqueness);
 }
 
 /// Writes an allocation for each group, the first of them for the empty group: each with its total and the group's opportunity cost. It takes no memory.
@@ -95,11 +115,12 @@ pub fn report<S: Sink>(
     writer.flush()
 }
 
-/// Writes the same report, and behind it what is known of other outcomes that are as good. It takes no memory.
+/// Writes the same report, and after it what the winners pay and what is known of other outcomes that are as good. It takes no memory.
 pub fn report_with<S: Sink>(
     book: &ClosedBook,
     groups: &Groups,
     allocations: &[Allocation],
+    pricing: &Option<Pricing>,
     uniqueness: &Uniqueness,
     sink: &mut S,
 ) -> Result<(), WriteFault>
@@ -107,14 +128,16 @@ pub fn report_with<S: Sink>(
     requires first { starts_empty groups.now ≡ true }
     ensures ok { OnOk result (Appends (S.taken sink.old) (S.taken sink.new)
         (report_text (sale_of book.now) groups.now allocations.now
-        ++ uniqueness_text (sale_of book.now) uniqueness.now)) }
+        ++ (pricing_text (sale_of book.now) (slice_index_or allocations.now 0 []) pricing.now
+        ++ uniqueness_text (sale_of book.now) uniqueness.now))) }
     ensures err { IfErr result (λ e. SentFront (S.taken sink.old) (S.taken sink.new)
         (report_text (sale_of book.now) groups.now allocations.now
-        ++ uniqueness_text (sale_of book.now) uniqueness.now) (written_of e)) }
+        ++ (pricing_text (sale_of book.now) (slice_index_or allocations.now 0 []) pricing.now
+        ++ uniqueness_text (sale_of book.now) uniqueness.now)) (written_of e)) }
     ensures failed { OnErr result (HasFailed (S.failures sink.old) (S.failures sink.new)) }
     ensures succeeded { OnOk result (S.failures sink.new ≡ S.failures sink.old) }
 {
     let mut writer = Writer::new(sink);
-    add_report_with(&mut writer, book, groups, allocations, uniqueness);
+    add_report_with(&mut writer, book, groups, allocations, pricing, uniqueness);
     writer.flush()
 }

@@ -58,7 +58,7 @@ amount_small lots book c h = amount_in (bid_of book c) (λ x e. (bid_within lots
 
 -- ---------- gains ----------
 
--- the total is what the seller has, and the gains
+-- the total is the revenue and the gains
 pub total_parts : (lots : Lots) (book : Book) (first : List Choice) (price : ℕ → ℕ) → ArePrices book first price → total lots book first ≡ revenue lots book first price + sum_by (gain book price) first
 total_parts lots book first price prices =
     let e = amounts_are book price first (recursion_from_All (λ c. price c.bidder ≤ amount_of book c) first prices) in
@@ -95,7 +95,7 @@ module _ (f : Choice → ℕ) (b : ℕ) where
       let whole = sum_filter f (λ c. c.bidder == b) (c ∷ xs) in
       omega arith
 
-  -- or it stands behind
+  -- or it comes later
   pub found_later : (c : Choice) (xs : List Choice) → (c.bidder == b) ≡ false → of_bidder (c ∷ xs) ≡ of_bidder xs
   found_later c xs e =
       let t : sum_by (λ c. cond (c.bidder == b) (f c) 0) (c ∷ xs) ≡ cond (c.bidder == b) (f c) 0 + sum_by (λ c. cond (c.bidder == b) (f c) 0) xs = sum_by-cons (λ (x : Choice). cond (x.bidder == b) (f x) 0) c xs in
@@ -109,13 +109,13 @@ module _ (f : Choice → ℕ) (b : ℕ) where
       let s : count_by (λ c. c.bidder == b) (c ∷ xs) ≡ cond (c.bidder == b) 1 0 + count_by (λ c. c.bidder == b) xs = sum_by-cons (λ (x : Choice). cond (x.bidder == b) 1 0) c xs in
       omega arith
 
--- the one at a place, behind which there is none
+-- the one at a place, after which there is none
 pub found_at : (f : Choice → ℕ) (b : ℕ) (xs : List Choice) (i : ℕ) (d : Choice) → i < length xs → (slice_index_or xs i d).bidder ≡ b → count_by (λ c. c.bidder == b) (drop i xs) ≤ 1 → of_bidder f b (drop i xs) ≡ f (slice_index_or xs i d)
 found_at f b xs i d l e h =
     let next : drop i xs ≡ slice_index_or xs i d ∷ drop (suc i) xs = drop-cons xs i d l in
     ap (of_bidder f b) next ∙ found_here f b (slice_index_or xs i d) (drop (suc i) xs) (eq-eqb (slice_index_or xs i d).bidder b e) (subst (λ (ys : List Choice). count_by (λ c. c.bidder == b) ys ≤ 1) next h)
 
--- those so far and the next one, in a list that is told otherwise
+-- those so far and the next one, in an equal list
 pub one_more : {X : Type 0} (P : X → Type 0) (xs ys : List X) (i : ℕ) (d : X) → ys ≡ xs → i < length ys → All P (take i xs) → P (slice_index_or ys i d) → All P (take (i + 1) xs)
 one_more P xs ys i d e l all here = All-more P xs i d (subst (λ (zs : List _). i < length zs) e l) all (subst (λ (zs : List _). P (slice_index_or zs i d)) e here)
 

@@ -1,4 +1,4 @@
--- What prices cover, where no feasible allocation brings more.
+-- Prices that no feasible allocation blocks cover every group.
 use Rattle.std.proofs.Common.{◌≡◌, ℕ, ◌+◌, ◌≤◌, Bool, true, false, not, ◌==◌, cond, List, [], ◌∷◌, is_some, refl, sym, ap, ◌∙◌, arith, le_refl, ⊎_elim, eqb-true, eq-eqb, pos, ◌-ℤ◌, ◌≤ℤ◌}
 use Rattle.std.specs.Prelude.{sum_by, count_by, filter}
 use Rattle.std.specs.List.{AllByRecursion}
@@ -17,7 +17,8 @@ use Rattle.auction_terms.proofs.PackageLaws.{keeps_the_best}
 use Rattle.auction_terms.proofs.AllocationLaws.{IsGood, StandIn, good, stand_in_without, stand_in_with, stand_in_kept, stand_in_feasible, stand_in_total}
 use Rattle.outcome.specs.Report.{amounts_of_group}
 use Rattle.program_rows.proofs.EachLaws.{each}
-use Rattle.prices.specs.Prices.{ArePrices, KeptBringNoMore, NoneBringsMoreCovers, NoneBringsMoreIsGreatest, gain, paid, paid_by_group, revenue, surplus, surplus_of}
+use Rattle.outcome.specs.Pricing.{paid}
+use Rattle.prices.specs.Prices.{ArePrices, KeptBidsSuffice, UnblockedCovers, UnblockedIsGreatest, gain, paid_by_group, revenue, surplus, surplus_of}
 
 -- ---------- sums over bidders ----------
 
@@ -157,8 +158,8 @@ nobody_has f (c ∷ a) = nobody_has f a
 covers_by : (w f g p r s n all : ℕ) → w ≤ r + s → s ≤ n → r + n + g ≡ p + f → (pos w -ℤ (pos f -ℤ pos g)) ≤ℤ pos p
 covers_by w f g p r s n all h k e = omega (arith, ints)
 
-pub none_brings_more_covers : NoneBringsMoreCovers
-none_brings_more_covers lots book first price feasible prices none group without best =
+pub unblocked_covers : UnblockedCovers
+unblocked_covers lots book first price feasible prices none group without best =
     let most = none without (allowed lots book group without best.feasible) in
     let within = surplus_outside lots book first price prices group without best.feasible in
     let sums = parts lots book first price prices group in
@@ -166,8 +167,8 @@ none_brings_more_covers lots book first price feasible prices none group without
     covers_by (total lots book without) (total lots book first) (amounts_of_group book group first) (paid_by_group price group first) (revenue lots book first price) (surplus_of book first price without)
     (sum_by (λ c. cond (not (has group c.bidder)) (gain book price c) 0) first) 0 most within (omega arith)
 
-pub none_brings_more_is_greatest : NoneBringsMoreIsGreatest
-none_brings_more_is_greatest lots book first price feasible prices none = record {
+pub unblocked_is_greatest : UnblockedIsGreatest
+unblocked_is_greatest lots book first price feasible prices none = record {
   feasible = feasible;
   greatest = λ other f.
       let most = none other f in
@@ -218,8 +219,8 @@ module _ (lots : Lots) (book : Book) (s : ℕ → ℕ) where
       })
       (keeps_the_best lots (form_of book c.bidder) c.bid g.bid g.stands g.fits)
 
-pub kept_bring_no_more : KeptBringNoMore
-kept_bring_no_more lots book first price sized of_kept a f =
+pub kept_bids_suffice : KeptBidsSuffice
+kept_bids_suffice lots book first price sized of_kept a f =
     let r = instead lots book (surplus book first price) a (recursion_from_All (IsGood lots book (λ b. false)) a (good lots book (λ b. false) sized a f)) in
     let most = of_kept r.choices (stand_in_feasible lots book (λ b. false) a r.choices f r.stand_in) (All-from_recursion _ r.choices r.kept) in
     let low = stand_in_total lots book (λ b. false) a r.choices sized f r.stand_in in

@@ -13,9 +13,10 @@ use Rattle.outcome.specs.Report.{cost}
 use Rattle.program_faults.specs.declared.certificate_fault.FaultKind.TheVariants.{NotShown}
 use Rattle.program_rows.specs.Points.{objective}
 use Rattle.program_rows.specs.Spelling.{column_bid}
-use Rattle.prices.specs.Listed.{price_in, weighted}
+use Rattle.outcome.specs.Pricing.{paid, price_in}
+use Rattle.prices.specs.Listed.{weighted}
 use Rattle.prices.specs.inside.Weighing.{weight_by}
-use Rattle.prices.specs.Prices.{paid, paid_by_group, revenue, surplus, surplus_of}
+use Rattle.prices.specs.Prices.{paid_by_group, revenue, surplus, surplus_of}
 use Rattle.prices.specs.Raised.{raised_program}
 use Rattle.prices.specs.Weights.{weighted_costs, weight_on}
 

@@ -1,4 +1,4 @@
--- There is an allocation of greatest total without any group, and so prices that cover every group leave none that brings more.
+-- There is an allocation of greatest total without any group, and so no allocation blocks prices that cover every group.
 use Rattle.std.proofs.Common.{◌≡◌, ℕ, zero, suc, ◌+◌, ◌≤◌, Bool, true, false, not, ◌&&◌, ◌||◌, ◌==◌, cond, List, [], ◌∷◌, is_some, length, refl, sym, ap, ◌∙◌, arith, ⊎_elim, inl, inr, le_refl, eqb-true, eq-eqb, ℤ, pos, ◌-ℤ◌, ◌≤ℤ◌}
 use Rattle.std.specs.Prelude.{sum_by, ◌⊎◌}
 use Rattle.std.specs.List.{AllByRecursion, enumerate_from, list_all, list_any}
@@ -22,8 +22,8 @@ use Rattle.program_rows.specs.Rows.{program_of}
 use Rattle.program_rows.specs.Faithful.{IsGreatest, back}
 use Rattle.program_rows.proofs.FaithfulLaws.{least_is_greatest, presolved_is_faithful}
 use Rattle.optimality.proofs.ColumnSums.{allowed-length}
-use Rattle.prices.specs.Prices.{ArePrices, CoversEveryGroup, CoversJustWhere, EveryGroupHasACost, NoneBringsMore, gain, paid_by_group, revenue, surplus_of}
-use Rattle.prices.proofs.CoverLaws.{added, none_brings_more_covers, parts, surplus_is}
+use Rattle.prices.specs.Prices.{ArePrices, CoversEveryGroup, CoversIffNoneBlocks, EveryGroupHasACost, NoneBlocks, gain, paid_by_group, revenue, surplus_of}
+use Rattle.prices.proofs.CoverLaws.{added, unblocked_covers, parts, surplus_is}
 
 -- ---------- the least of finitely many values ----------
 
@@ -178,7 +178,7 @@ occur (c ∷ a) = (
   all_agree (λ x. occurs a x.bidder ≡ true) (λ x. occurs (c ∷ a) x.bidder ≡ true) a (λ x h. or_right (c.bidder == x.bidder) (occurs a x.bidder) h) (occur a),
 )
 
--- what a bidder in the list brings is added
+-- the term of a bidder in the list is added
 found : (a : List Choice) (b n : ℕ) → cond (occurs a b) n 0 ≤ sum_by (λ c. cond (b == c.bidder) n 0) a
 found [] b n = omega arith
 found (c ∷ a) b n =
@@ -238,10 +238,10 @@ without_missing lots book first a f = record {
   fit = f.fit;
 }
 
-brings_by : (t w f g p r n m : ℕ) → t ≤ w → (pos w -ℤ (pos f -ℤ pos g)) ≤ℤ pos p → r + n + g ≡ p + f → n ≤ m → t ≤ r + m
-brings_by t w f g p r n m low cost sums more = omega (arith, ints)
+blocked_by : (t w f g p r n m : ℕ) → t ≤ w → (pos w -ℤ (pos f -ℤ pos g)) ≤ℤ pos p → r + n + g ≡ p + f → n ≤ m → t ≤ r + m
+blocked_by t w f g p r n m low cost sums more = omega (arith, ints)
 
-pub covers_leaves_none : (lots : Lots) (book : Book) (first : List Choice) (price : ℕ → ℕ) → IsBook lots book → ArePrices book first price → CoversEveryGroup lots book first price → NoneBringsMore lots book first price
+pub covers_leaves_none : (lots : Lots) (book : Book) (first : List Choice) (price : ℕ → ℕ) → IsBook lots book → ArePrices book first price → CoversEveryGroup lots book first price → NoneBlocks lots book first price
 covers_leaves_none lots book first price within prices covers a f =
     let group = missing a first in
     let outer : Choice → ℕ = λ d. cond (not (has group d.bidder)) (gain book price d) 0 in
@@ -253,8 +253,8 @@ covers_leaves_none lots book first price within prices covers a f =
     let small = sums_at_most outer (λ d. cond (occurs a d.bidder) (gain book price d) 0) first (all_agree (λ d. occurs a d.bidder ≡ false → has group d.bidder ≡ true) (λ d. outer d ≤ cond (occurs a d.bidder) (gain book price d) 0) first (λ d h. outer_is a group (gain book price) d h) (are_missing a first)) in
     let back = exchange_back a (gain book price) first in
     let e = surplus_is book first price a in
-    brings_by (total lots book a) (total lots book best.0) (total lots book first) (amounts_of_group book group first) (paid_by_group price group first) (revenue lots book first price) (sum_by outer first) (surplus_of book first price a)
+    blocked_by (total lots book a) (total lots book best.0) (total lots book first) (amounts_of_group book group first) (paid_by_group price group first) (revenue lots book first price) (sum_by outer first) (surplus_of book first price a)
     low costs (omega arith) (omega arith)
 
-pub covers_just_where : CoversJustWhere
-covers_just_where lots book first price within feasible prices = (covers_leaves_none lots book first price within prices, none_brings_more_covers lots book first price feasible prices)
+pub covers_iff_none_blocks : CoversIffNoneBlocks
+covers_iff_none_blocks lots book first price within feasible prices = (covers_leaves_none lots book first price within prices, unblocked_covers lots book first price feasible prices)

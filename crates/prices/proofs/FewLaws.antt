@@ -1,20 +1,21 @@
 -- How much the winners of an allocation can pay, and a group can cost.
-use Rattle.std.proofs.Common.{◌≡◌, ℕ, zero, suc, ◌+◌, ◌*◌, ◌-◌, ◌<◌, ◌≤◌, ◌^◌, true, false, not, cond, List, [], ◌∷◌, Some, length, slice_index_or, refl, sym, ap, ◌∙◌, subst, arith, ℤ, drop, ap₂, negsuc, pos, neg_ℤ, ◌+ℤ◌, ◌-ℤ◌, ◌≤ℤ◌}
-use Rattle.std.specs.Prelude.{sum_by, All, ◌*ℤ◌, ◌<ℤ◌}
-use Rattle.std.specs.List.{AllByRecursion, AllZip, zip}
+use Rattle.std.proofs.Common.{◌≡◌, ℕ, Bool, leb-true, le-leb, zero, suc, ◌+◌, ◌*◌, ◌-◌, ◌<◌, ◌≤◌, ◌^◌, true, false, not, cond, List, [], ◌∷◌, Some, length, slice_index_or, refl, sym, ap, ◌∙◌, subst, arith, ℤ, drop, ap₂, negsuc, pos, neg_ℤ, ◌+ℤ◌, ◌-ℤ◌, ◌≤ℤ◌}
+use Rattle.std.specs.Prelude.{sum_by, All, nat_le, ◌&&◌, ◌*ℤ◌}
+use Rattle.std.specs.List.{AllByRecursion, AllZip, list_all, zip}
+use Rattle.std.proofs.lemmas.Bool.{and_parts}
 use Rattle.std.proofs.lemmas.Int.{ints, to_z-of_z}
 use mir.Syntax.{w128}
 use mir.Val.{SFits, to_z, of_z}
 use Rattle.std.proofs.lemmas.List.Filters.{sum_by-filter_both}
 use Rattle.std.proofs.lemmas.List.Sums.{sum_by-cons}
-use Rattle.std.proofs.lemmas.List.Elements.{recursion_from_All}
+use Rattle.std.proofs.lemmas.List.Elements.{All-from_recursion, recursion_from_All}
 use native.Mathlib.Nat.{mul-le-mul_left}
 use Rattle.auction_limits.specs.declared.limits.TheConstants.{GREATEST_AMOUNT, MOST_BIDDERS}
 use Rattle.auction_terms.specs.declared.bids.Bid.{Bid}
 use Rattle.auction_terms.specs.declared.choices.Choice.{Choice}
 use Rattle.auction_terms.specs.Groups.{has}
 use Rattle.auction_terms.specs.Packages.{Lots}
-use Rattle.auction_terms.specs.Allocations.{Book, amount_of, bid_at, bid_of, form_of, is_eligible, IsFeasible}
+use Rattle.auction_terms.specs.Allocations.{Book, amount_of, bid_at, bid_of, form_of, is_eligible, weighed_choice, IsFeasible}
 use Rattle.auction_terms.specs.Limits.{IsBook}
 use Rattle.auction_terms.proofs.AllocationLaws.{value_of}
 use Rattle.auction_terms.proofs.OfferLaws.{all_agree}
@@ -24,8 +25,9 @@ use Rattle.outcome.proofs.CostLaws.{costs_are_bounded}
 use Rattle.program_rows.specs.Faithful.{IsGreatest}
 use Rattle.prices.specs.Listed.{weighted}
 use Rattle.prices.specs.inside.Weighing.{weight_by}
-use Rattle.prices.specs.Prices.{ArePrices, paid}
-use Rattle.prices.specs.Weights.{ShowsLeastSum, Weighted, weight_on, weighted_costs}
+use Rattle.outcome.specs.Pricing.{paid}
+use Rattle.prices.specs.Prices.{ArePrices, MeetReserves}
+use Rattle.prices.specs.Weights.{Weighted, weight_on, weighted_costs}
 use Rattle.prices.proofs.CodeLaws.{amount_small}
 
 -- ---------- few winners ----------
@@ -113,15 +115,15 @@ cost_few lots book first group without within best rising other =
 
 -- ---------- numbers of 128 bits ----------
 
-pub fits_between : (z : ℤ) → neg_ℤ (pos (2 ^ 120)) ≤ℤ z → z ≤ℤ pos (2 ^ 120) → SFits w128 z
+pub fits_between : (z : ℤ) → neg_ℤ (pos (2 ^ 124)) ≤ℤ z → z ≤ℤ pos (2 ^ 124) → SFits w128 z
 fits_between (pos n) low high = record { sfits = omega (arith, ints) }
 fits_between (negsuc n) low high = record { sfits = omega (arith, ints) }
 
-pub exact : (z : ℤ) → neg_ℤ (pos (2 ^ 120)) ≤ℤ z → z ≤ℤ pos (2 ^ 120) → to_z w128 (of_z w128 z) ≡ z
+pub exact : (z : ℤ) → neg_ℤ (pos (2 ^ 124)) ≤ℤ z → z ≤ℤ pos (2 ^ 124) → to_z w128 (of_z w128 z) ≡ z
 exact z low high = to_z-of_z w128 z (fits_between z low high)
 
 -- a product of a weight and a cost
-pub product_few : (w : ℕ) (cost : ℤ) → w ≤ 10 ^ 18 → pos 0 ≤ℤ cost → cost ≤ℤ pos (2 ^ 48) → (pos 0 ≤ℤ (pos w *ℤ cost)) × ((pos w *ℤ cost) ≤ℤ pos (2 ^ 108))
+pub product_few : (w : ℕ) (cost : ℤ) → w ≤ 2 ^ 64 → pos 0 ≤ℤ cost → cost ≤ℤ pos (2 ^ 48) → (pos 0 ≤ℤ (pos w *ℤ cost)) × ((pos w *ℤ cost) ≤ℤ pos (2 ^ 112))
 product_few w (pos k) small low high =
     let most : k ≤ 2 ^ 48 = omega (arith, ints) in
     let to : w * k ≤ w * (2 ^ 48) = mul-le-mul_left w most in
@@ -129,7 +131,7 @@ product_few w (pos k) small low high =
 product_few w (negsuc k) small low high = absurd (omega (arith, ints))
 
 -- a product, and a sum, of numbers that fit
-module _ (a k : ℤ) (w : ℕ) (cost : ℤ) (e : a ≡ pos w) (f : k ≡ cost) (small : w ≤ 10 ^ 18) (low : pos 0 ≤ℤ cost) (high : cost ≤ℤ pos (2 ^ 48)) where
+module _ (a k : ℤ) (w : ℕ) (cost : ℤ) (e : a ≡ pos w) (f : k ≡ cost) (small : w ≤ 2 ^ 64) (low : pos 0 ≤ℤ cost) (high : cost ≤ℤ pos (2 ^ 48)) where
   pub factors : to_z w128 (of_z w128 a) *ℤ to_z w128 (of_z w128 k) ≡ pos w *ℤ cost
   factors =
       let left : to_z w128 (of_z w128 a) ≡ pos w = exact a (rw e (omega (arith, ints))) (rw e (omega (arith, ints))) ∙ e in
@@ -144,8 +146,8 @@ module _ (a k : ℤ) (w : ℕ) (cost : ℤ) (e : a ≡ pos w) (f : k ≡ cost) (
   pub product_is : to_z w128 (of_z w128 (to_z w128 (of_z w128 a) *ℤ to_z w128 (of_z w128 k))) ≡ pos w *ℤ cost
   product_is = to_z-of_z w128 (to_z w128 (of_z w128 a) *ℤ to_z w128 (of_z w128 k)) product_fits ∙ factors
 
-pub sum_is : (s n : ℤ) (place : ℕ) → pos 0 ≤ℤ s → s ≤ℤ pos (place * 2 ^ 108) → pos 0 ≤ℤ n → n ≤ℤ pos (2 ^ 108) → place < 1024
-    → (to_z w128 (of_z w128 (s +ℤ to_z w128 (of_z w128 n))) ≡ s +ℤ n) × (pos 0 ≤ℤ (s +ℤ n)) × ((s +ℤ n) ≤ℤ pos ((place + 1) * 2 ^ 108))
+pub sum_is : (s n : ℤ) (place : ℕ) → pos 0 ≤ℤ s → s ≤ℤ pos (place * 2 ^ 112) → pos 0 ≤ℤ n → n ≤ℤ pos (2 ^ 112) → place < 1024
+    → (to_z w128 (of_z w128 (s +ℤ to_z w128 (of_z w128 n))) ≡ s +ℤ n) × (pos 0 ≤ℤ (s +ℤ n)) × ((s +ℤ n) ≤ℤ pos ((place + 1) * 2 ^ 112))
 sum_is s n place ls hs ln hn few =
     let right : to_z w128 (of_z w128 n) ≡ n = exact n (omega (arith, ints)) (omega (arith, ints)) in
     let whole : to_z w128 (of_z w128 (s +ℤ n)) ≡ s +ℤ n = exact (s +ℤ n) (omega (arith, ints)) (omega (arith, ints)) in
@@ -170,15 +172,6 @@ all_greatest lots book [] won weights h = tt
 all_greatest lots book (g ∷ groups) [] weights h = tt
 all_greatest lots book (g ∷ groups) (w ∷ won) [] h = tt
 all_greatest lots book (g ∷ groups) (w ∷ won) (y ∷ weights) h = (h.0, all_greatest lots book groups won weights h.1)
-
--- what lies on a winner is at most the scale, by either sum
-pub within_are : (groups : List (List ℕ)) (won : List (List Choice)) (weights : List ℕ) (scale : ℕ) (a : List Choice) → length won ≡ length groups
-    → All (λ c. weight_by groups weights c.bidder ≤ scale) a → All (λ c. weight_on (weighted groups won weights) c.bidder ≤ scale) a
-within_are groups won weights scale a e h k d l = subst (λ (n : ℕ). n ≤ scale) (sym (weights_are groups won weights (slice_index_or a k d).bidder e)) (h k d l)
-
-pub are_within : (groups : List (List ℕ)) (won : List (List Choice)) (weights : List ℕ) (scale : ℕ) (a : List Choice) → length won ≡ length groups
-    → All (λ c. weight_on (weighted groups won weights) c.bidder ≤ scale) a → All (λ c. weight_by groups weights c.bidder ≤ scale) a
-are_within groups won weights scale a e h k d l = subst (λ (n : ℕ). n ≤ scale) (weights_are groups won weights (slice_index_or a k d).bidder e) (h k d l)
 
 -- one more weight
 weight_step : (groups : List (List ℕ)) (weights : List ℕ) (bidder i : ℕ) → i < length groups → i < length weights
@@ -240,13 +233,41 @@ as_many_won lots book (g ∷ groups) (w ∷ won) h = ap suc (as_many_won lots bo
 
 -- ---------- what weights show, by the numbers that are compared ----------
 
-module _ (lots : Lots) (book : Book) (first : List Choice) (price : ℕ → ℕ) (scale : ℕ) (groups : List (List ℕ)) (won : List (List Choice)) (weights : List ℕ) (bound costs : ℤ) (n : ℕ) (e : bound ≡ pos scale *ℤ (pos n -ℤ pos 1)) (f : n ≡ paid price first)
-    (g : costs ≡ weighted_costs lots book first (weighted groups won weights)) where
-  pub shows_from : length won ≡ length groups → All (λ c. weight_by groups weights c.bidder ≤ scale) first → bound <ℤ costs → ShowsLeastSum lots book first price scale (weighted groups won weights)
-  shows_from many within less = record {
-    within = within_are groups won weights scale first many within;
-    above = subst (λ (m : ℕ). (pos scale *ℤ (pos m -ℤ pos 1)) <ℤ weighted_costs lots book first (weighted groups won weights)) f (subst (λ (z : ℤ). (pos scale *ℤ (pos n -ℤ pos 1)) <ℤ z) g (subst (λ (z : ℤ). z <ℤ costs) e less));
-  }
+-- a reserve that a price meets is at most the amount
+pub reserves_few : (lots : Lots) (book : Book) (reserves : List ℕ) (price : ℕ → ℕ) (a : List Choice) → IsBook lots book → ArePrices book a price → MeetReserves reserves book a price
+    → All (λ c. weighed_choice reserves book c ≤ GREATEST_AMOUNT) a
+reserves_few lots book reserves price a within prices meets k d l =
+    let met = meets k d l in
+    let most = prices k d l in
+    let small = amount_small lots book (slice_index_or a k d) within in
+    omega arith
 
-  pub shows_to : ShowsLeastSum lots book first price scale (weighted groups won weights) → bound <ℤ costs
-  shows_to shows = subst (λ (z : ℤ). z <ℤ costs) (sym e) (subst (λ (z : ℤ). (pos scale *ℤ (pos n -ℤ pos 1)) <ℤ z) (sym g) (subst (λ (m : ℕ). (pos scale *ℤ (pos m -ℤ pos 1)) <ℤ weighted_costs lots book first (weighted groups won weights)) (sym f) shows.above))
+both_true : (b c : Bool) → b ≡ true → c ≡ true → (b && c) ≡ true
+both_true b c h g = rw (h, g) refl
+
+module _ (groups : List (List ℕ)) (won : List (List Choice)) (weights : List ℕ) (many : length won ≡ length groups) (own : ℕ → ℕ) (scale : ℕ) where
+  -- whether the weights on the winners are within the scale, by the sums of the code
+  pub within_told : (a : List Choice) → All (λ c. weight_by groups weights c.bidder + own c.bidder ≤ scale) a → list_all (λ c. nat_le (weight_on (weighted groups won weights) c.bidder + own c.bidder) scale) a ≡ true
+  within_told a h = by a (recursion_from_All _ a h)
+    where
+      by : (xs : List Choice) → AllByRecursion (λ c. weight_by groups weights c.bidder + own c.bidder ≤ scale) xs → list_all (λ c. nat_le (weight_on (weighted groups won weights) c.bidder + own c.bidder) scale) xs ≡ true
+      by [] h = refl
+      by (c ∷ xs) h = both_true _ _ (le-leb _ _ (subst (λ (n : ℕ). n + own c.bidder ≤ scale) (sym (weights_are groups won weights c.bidder many)) h.0)) (by xs h.1)
+
+  pub within_asked : (a : List Choice) → list_all (λ c. nat_le (weight_on (weighted groups won weights) c.bidder + own c.bidder) scale) a ≡ true → All (λ c. weight_by groups weights c.bidder + own c.bidder ≤ scale) a
+  within_asked a h = All-from_recursion _ a (by a h)
+    where
+      by : (xs : List Choice) → list_all (λ c. nat_le (weight_on (weighted groups won weights) c.bidder + own c.bidder) scale) xs ≡ true → AllByRecursion (λ c. weight_by groups weights c.bidder + own c.bidder ≤ scale) xs
+      by [] h = tt
+      by (c ∷ xs) h =
+          let parts = and_parts (nat_le (weight_on (weighted groups won weights) c.bidder + own c.bidder) scale) (list_all (λ c. nat_le (weight_on (weighted groups won weights) c.bidder + own c.bidder) scale) xs) h in
+          (subst (λ (n : ℕ). n + own c.bidder ≤ scale) (weights_are groups won weights c.bidder many) (leb-true _ _ parts.0), by xs parts.1)
+
+-- where they aren't, nothing is shown
+pub not_within : (b c : Bool) → (b ≡ true → ⊥) → false ≡ (b && c)
+not_within true c h = absurd (h refl)
+not_within false c h = refl
+
+-- where they are, the numbers say it
+pub is_shown : (b : Bool) (r : Bool) (c d : Bool) → b ≡ true → r ≡ c → c ≡ d → r ≡ (b && d)
+is_shown b r c d e f g = rw e (f ∙ g)

@@ -23,8 +23,8 @@ use Rattle.program_rows.proofs.FaithfulLaws.{back_is, chosen, counted_members, e
 use Rattle.optimality.specs.Laws.{IsBound}
 use Rattle.optimality.proofs.BoundLaws.{shown-is-bound}
 use Rattle.prices.specs.Prices.{ArePrices, CoversEveryGroup, revenue, surplus}
-use Rattle.prices.specs.Raised.{RaisedBoundSays, ShownCovers, raise_by, raised, raised_column, raised_program}
-use Rattle.prices.proofs.CoverLaws.{kept_bring_no_more, none_brings_more_covers}
+use Rattle.prices.specs.Raised.{RaisedBoundExcludesBlocking, ShownCovers, raise_by, raised, raised_column, raised_program}
+use Rattle.prices.proofs.CoverLaws.{kept_bids_suffice, unblocked_covers}
 
 -- ---------- points and objectives of a raised program ----------
 
@@ -118,19 +118,19 @@ module _ (lots : Lots) (book : Book) (raise : ℕ → ℕ) (within : IsBook lots
       let more = raised_objective raise program v in
       omega (arith, ints)
 
-pub raised_bound_says : RaisedBoundSays
-raised_bound_says lots book first price within = (
-  λ bound. kept_bring_no_more lots book first price (sized lots book within) (bound_of_totals lots book (surplus book first price) within (revenue lots book first price) bound),
+pub raised_bound_excludes : RaisedBoundExcludesBlocking
+raised_bound_excludes lots book first price within = (
+  λ bound. kept_bids_suffice lots book first price (sized lots book within) (bound_of_totals lots book (surplus book first price) within (revenue lots book first price) bound),
   λ none. totals_bound lots book (surplus book first price) within (revenue lots book first price) none,
 )
 
 pub shown_covers : ShownCovers
 shown_covers lots book first price certificate within feasible prices shows =
-    none_brings_more_covers lots book first price feasible prices ((raised_bound_says lots book first price within).0 (shown-is-bound (raised_program lots book first price) (neg_ℤ (pos (revenue lots book first price))) certificate shows))
+    unblocked_covers lots book first price feasible prices ((raised_bound_excludes lots book first price within).0 (shown-is-bound (raised_program lots book first price) (neg_ℤ (pos (revenue lots book first price))) certificate shows))
 
--- the same of a bound that is told otherwise
+-- the same of a bound that is equal to it
 pub bound_covers : (lots : Lots) (book : Book) (first : List Choice) (price : ℕ → ℕ) (p : Table) (least : ℤ) → IsBook lots book → IsFeasible lots book (λ b. false) first → ArePrices book first price
     → p ≡ raised_program lots book first price → least ≡ neg_ℤ (pos (revenue lots book first price)) → IsBound p least → CoversEveryGroup lots book first price
 bound_covers lots book first price p least within feasible prices e f bound =
     let here = subst (λ (q : Table). IsBound q (neg_ℤ (pos (revenue lots book first price)))) e (subst (λ (z : ℤ). IsBound p z) f bound) in
-    none_brings_more_covers lots book first price feasible prices ((raised_bound_says lots book first price within).0 here)
+    unblocked_covers lots book first price feasible prices ((raised_bound_excludes lots book first price within).0 here)

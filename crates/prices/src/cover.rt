@@ -8,7 +8,7 @@ ghost use Rattle.bid_desk.specs.Closing.{book_of};
 ghost use Rattle.optimality.specs.Answers.{IsVerdict};
 ghost use Rattle.optimality.specs.Sizes.{IsLargeAt};
 ghost use Rattle.optimality.specs.Verdict.{certificate_fault};
-ghost use Rattle.prices.specs.Listed.{price_in};
+ghost use Rattle.outcome.specs.Pricing.{price_in};
 ghost use Rattle.prices.specs.Prices.{ArePrices, CoversEveryGroup, revenue};
 ghost use Rattle.prices.specs.Raised.{raised_program};
 ghost use Rattle.program_faults.specs.declared.certificate_fault.FaultKind.TheVariants.{TooLarge};
@@ -23,8 +23,8 @@ use program_faults::{CertificateFault, FaultKind};
 use program_rows::Program;
 use std::alloc::Global;
 
-/// Checks that a text tells a certificate that the prices of the winners cover every group of bidders: that no point of the program
-/// of the kept bids, raised by what is left to their bidders, has an objective below minus what the seller has.
+/// Checks that a text is a certificate that the winners' prices cover every group of bidders: that no point of the program of the
+/// kept bids, with each column's cost raised by its bidder's surplus, has an objective below minus the revenue.
 pub fn check_cover(
     alloc: Global,
     text: &[u8],

@@ -1,31 +1,19 @@
-//! What is left to winners of their amounts, behind their prices, and what the seller has.
+//! The winners' surplus, which is their amounts less their prices, and the seller's revenue.
 
-ghost use Rattle.std.specs.Prelude.{◌≡◌, ◌≤◌, ◌-◌, ◌==◌, ◌^◌, ◌↔◌, All, IsTrue, count_by, length, sum_by};
+ghost use Rattle.std.specs.Prelude.{◌≡◌, ◌≤◌, ◌-◌, ◌==◌, ◌^◌, count_by, length, sum_by};
 ghost use Rattle.auction_limits.specs.declared.limits.TheConstants.{GREATEST_AMOUNT};
 ghost use Rattle.auction_terms.specs.Allocations.{amount_of};
 ghost use Rattle.auction_terms.specs.Terms.{lots_in};
 ghost use Rattle.bid_desk.specs.Closing.{book_of};
-ghost use Rattle.prices.specs.Listed.{price_in};
+ghost use Rattle.outcome.specs.Pricing.{price_in};
 ghost use Rattle.prices.specs.Prices.{ArePrices, gain, revenue, surplus};
 
-use crate::amounts::{amount_of, price_of};
+use crate::amounts::amount_of;
 use auction_terms::Choice;
 use bid_desk::ClosedBook;
-use outcome::{Allocation, total};
+use outcome::{Allocation, price_of, total};
 
-/// Whether each winner pays at most the amount of its bid.
-pub fn are_prices(book: &ClosedBook, first: &Allocation, prices: &[u64]) -> bool
-    ensures { IsTrue result ↔ ArePrices (book_of book.now) first.now (price_in prices.now) }
-{
-    for choice in first.choices() {
-        if price_of(prices, choice.bidder) > amount_of(book, *choice) {
-            return false;
-        }
-    }
-    true
-}
-
-/// What is left of a winner's amount.
+/// A winner's amount less its price.
 fn gain_of(book: &ClosedBook, prices: &[u64], choice: Choice) -> u64
     requires { price_in prices.now choice.bidder ≤ amount_of (book_of book.now) choice }
     ensures gain { result ≡ gain (book_of book.now) (price_in prices.now) choice }
@@ -34,7 +22,7 @@ fn gain_of(book: &ClosedBook, prices: &[u64], choice: Choice) -> u64
     amount_of(book, choice) - price_of(prices, choice.bidder)
 }
 
-/// What is left to a bidder, of whom there is one choice at most.
+/// The surplus of a bidder, of whom there is one choice at most.
 pub fn surplus_of(book: &ClosedBook, choices: &[Choice], prices: &[u64], bidder: u16) -> u64
     requires prices { ArePrices (book_of book.now) choices.now (price_in prices.now) }
     requires one { count_by (λ c. c.bidder == bidder) choices.now ≤ 1 }

@@ -1,27 +1,28 @@
 //! What prices cover, what a certificate shows of it, and what weights show of their sum: laws of the definitions alone.
 
-ghost use Rattle.prices.specs.Prices.{CoversJustWhere, EveryGroupHasACost, KeptBringNoMore, NoneBringsMoreCovers, NoneBringsMoreIsGreatest};
-ghost use Rattle.prices.specs.Raised.{RaisedBoundSays, ShownCovers};
+ghost use Rattle.prices.specs.Prices.{CoversIffNoneBlocks, EveryGroupHasACost, KeptBidsSuffice, UnblockedCovers, UnblockedIsGreatest};
+ghost use Rattle.prices.specs.Raised.{RaisedBoundExcludesBlocking, ShownCovers};
 ghost use Rattle.prices.specs.Weights.{ShownIsLeastSum};
 
-/// Prices cover every group where no feasible allocation brings more than the revenue and its bidders' surplus.
-pub fn what_brings_no_more_covers()
-    ensures { NoneBringsMoreCovers }
+/// If no feasible allocation blocks, which is to have a total above the revenue and its bidders' surplus, then the prices cover every
+/// group.
+pub fn unblocked_prices_cover()
+    ensures { UnblockedCovers }
 {}
 
-/// And then the allocation is of greatest total.
-pub fn what_brings_no_more_is_greatest()
-    ensures { NoneBringsMoreIsGreatest }
+/// Then the winners' allocation is of greatest total, too.
+pub fn an_unblocked_allocation_is_greatest()
+    ensures { UnblockedIsGreatest }
 {}
 
-/// It is enough that no allocation of kept bids brings more.
-pub fn kept_bids_tell_what_brings_more()
-    ensures { KeptBringNoMore }
+/// No feasible allocation blocks if none of kept bids does.
+pub fn kept_bids_suffice_to_block()
+    ensures { KeptBidsSuffice }
 {}
 
-/// In a book within the limits prices cover every group just where no feasible allocation brings more.
-pub fn prices_cover_just_where_none_brings_more()
-    ensures { CoversJustWhere }
+/// In a book within the limits prices cover every group if and only if no feasible allocation blocks.
+pub fn prices_cover_if_and_only_if_none_blocks()
+    ensures { CoversIffNoneBlocks }
 {}
 
 /// Every group has a cost, whoever is in it.
@@ -29,9 +30,9 @@ pub fn every_group_has_a_cost()
     ensures { EveryGroupHasACost }
 {}
 
-/// That is one bound on the program of the kept bids, each raised by its bidder's surplus.
-pub fn a_raised_bound_says_so()
-    ensures { RaisedBoundSays }
+/// No feasible allocation blocks if and only if minus the revenue is a bound on the program of the kept bids with raised costs.
+pub fn a_raised_bound_excludes_blocking()
+    ensures { RaisedBoundExcludesBlocking }
 {}
 
 /// So one certificate shows that prices cover every group.

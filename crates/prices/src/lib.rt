@@ -1,4 +1,4 @@
-//! Prices of winners: that they cover what every group of bidders costs the others, and that none that do so come to less.
+//! Prices of winners: that they cover every group's opportunity cost, and that no such prices that meet the reserves have a lower sum.
 #![tactic(auto)]
 
 mod amounts;
@@ -7,7 +7,8 @@ mod gains;
 pub mod laws;
 mod least_sum;
 mod raised;
+mod reserves;
 
 pub use cover::check_cover;
-pub use gains::are_prices;
-pub use least_sum::{GREATEST_MULTIPLIER, shows_least_sum};
+pub use least_sum::{Weights, shows_least_sum};
+pub use reserves::reserve_of;

@@ -1,4 +1,4 @@
-//! A program whose columns cost more, each by what is left to the bidder of its bid.
+//! A program with the cost of each column raised by the surplus of its bidder.
 
 ghost use Rattle.std.specs.Prelude.{◌≡◌, ◌<◌, ◌≤◌, ◌++◌, ◌∷◌, [], IfOk, OnOk, Some, drop, length, map, slice_get};
 ghost use Rattle.std.specs.List.{AllByRecursion};
@@ -6,7 +6,7 @@ ghost use Rattle.std.specs.Option.{option_map};
 ghost use Rattle.auction_limits.specs.declared.limits.TheConstants.{GREATEST_AMOUNT};
 ghost use Rattle.bid_desk.specs.Closing.{book_of};
 ghost use Rattle.outcome.specs.PointAllocation.{IsMap};
-ghost use Rattle.prices.specs.Listed.{price_in};
+ghost use Rattle.outcome.specs.Pricing.{price_in};
 ghost use Rattle.prices.specs.Prices.{ArePrices, surplus};
 ghost use Rattle.prices.specs.Raised as of_program;
 ghost use Rattle.prices.specs.Raised.{raised_cost};
@@ -19,7 +19,7 @@ use outcome::Allocation;
 use program_rows::Program;
 use std::alloc::{AllocError, Global};
 
-/// By how much the column of a bid costs more; 0 where it is of no bid.
+/// By how much the cost of the column of a bid is raised; 0 if the column is of no bid.
 fn raise_of(book: &ClosedBook, first: &Allocation, prices: &[u64], bid: Option<Choice>) -> u64
     requires prices { ArePrices (book_of book.now) first.now (price_in prices.now) }
     requires map { IsMap first.now }
@@ -33,7 +33,7 @@ fn raise_of(book: &ClosedBook, first: &Allocation, prices: &[u64], bid: Option<C
     }
 }
 
-/// What a column costs then.
+/// The raised cost of a column.
 fn raised_cost(
     program: &Program,
     book: &ClosedBook,
@@ -52,7 +52,7 @@ fn raised_cost(
     program.cost(column) + raise as i64
 }
 
-/// What the columns cost then.
+/// The raised costs of all columns.
 fn raised_costs(
     alloc: Global,
     program: &Program,
@@ -74,7 +74,7 @@ fn raised_costs(
     Ok(costs)
 }
 
-/// The program with each column raised by what is left to the bidder of its bid.
+/// The program with the cost of each column raised by the surplus of its bidder.
 pub fn raised(
     alloc: Global,
     program: Program,

@@ -12,7 +12,7 @@ use Rattle.optimality.specs.Verdict.{certificate_fault}
 use Rattle.program_faults.specs.declared.certificate_fault.FaultKind.TheVariants.{TooLarge}
 use Rattle.program_rows.specs.Legal.{IsSmall}
 use Rattle.program_rows.specs.Program.{Table, TableColumn}
-use Rattle.prices.specs.Listed.{price_in}
+use Rattle.outcome.specs.Pricing.{price_in}
 use Rattle.prices.specs.Prices.{revenue, surplus}
 use Rattle.prices.specs.Raised.{raised, raised_program}
 use Rattle.prices.proofs.CodeLaws.{negated, small_costs}

@@ -1,7 +1,7 @@
 use Rattle.std.proofs.Common.{◌≡◌, ◌≤◌, ◌*◌, ◌^◌, take}
 use Rattle.std.specs.Prelude.{sum_by}
 use Rattle.bid_desk.specs.Closing.{book_of}
-use Rattle.prices.specs.Listed.{price_in}
+use Rattle.outcome.specs.Pricing.{price_in}
 use Rattle.prices.specs.Prices.{gain}
 use Rattle.prices.proofs.gains.gains_of.Given as goal
 

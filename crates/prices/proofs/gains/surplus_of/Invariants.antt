@@ -1,11 +1,11 @@
 use Rattle.std.proofs.Common.{◌≡◌, ◌≤◌, ◌==◌, drop}
 use Rattle.std.specs.Prelude.{count_by}
 use Rattle.bid_desk.specs.Closing.{book_of}
-use Rattle.prices.specs.Listed.{price_in}
+use Rattle.outcome.specs.Pricing.{price_in}
 use Rattle.prices.specs.Prices.{surplus}
 use Rattle.prices.proofs.gains.surplus_of.Given as goal
 
--- all of it is left to what stands from here on
+-- the whole sum is that from here on
 abbrev pub invariant-loop-choice : goal.invariant-loop-choice
 invariant-loop-choice l = record {
   surplus : surplus (book_of l.book) (drop l.choice-index l.choices) (price_in l.prices) l.bidder ≡ surplus (book_of l.book) l.choices (price_in l.prices) l.bidder;

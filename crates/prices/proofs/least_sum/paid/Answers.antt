@@ -1,13 +1,12 @@
-use Rattle.std.proofs.Common.{◌∙◌, ap, arith, take_all}
+use Rattle.std.proofs.Common.{◌∙◌, ap, arith}
 use Rattle.auction_terms.specs.Terms.{lots_in}
 use Rattle.bid_desk.specs.Closing.{book_of}
-use Rattle.prices.specs.Listed.{price_in}
-use Rattle.prices.specs.Prices.{paid}
+use Rattle.outcome.specs.Pricing.{paid, price_in}
 use Rattle.prices.proofs.FewLaws.{paid_few}
 use Rattle.prices.proofs.least_sum.paid.Goals as goal
 
 pub returns-clause-small : goal.returns-clause-small
 returns-clause-small c =
-    let few = paid_few (lots_in c.args.book.now.rules) (book_of c.args.book.now) (price_in c.args.prices.now) c.args.first.now c.rules-within_limits.ensures.book c.requires.feasible c.choices-choices.ensures.rising c.requires.prices in
-    let whole = c.loop-choice.invariant.sum_is ∙ ap (paid (price_in c.args.prices.now)) (take_all c.loop-choice.choice-index c.choices-choices.result.now c.loop-choice-test.false ∙ c.choices-choices.ensures.choices) in
+    let few = paid_few (lots_in c.args.book.now.rules) (book_of c.args.book.now) (price_in c.args.prices.now) c.args.first.now c.rules-within_limits.ensures.book c.requires.feasible c.choices.ensures.rising c.requires.prices in
+    let whole = c.paid.ensures.sum ∙ ap (paid (price_in c.args.prices.now)) c.choices.ensures.choices in
     omega (arith, few, whole)

@@ -1,58 +1,85 @@
-use Rattle.std.proofs.Common.{◌≡◌, ◌≤◌, ◌∙◌, false, refl, rules, subst, sym, ℤ}
-use Rattle.std.specs.Prelude.{All, IsTrue, ◌<ℤ◌}
-use Rattle.std.proofs.lemmas.Bool.{both_ways, OnTrue_from}
+use Rattle.std.proofs.Common.{◌≡◌, ◌≤◌, ◌+◌, ◌∙◌, ℕ, List, false, true, ap, ap₂, arith, length, refl, rules, subst, sym, ℤ}
+use Rattle.std.specs.Prelude.{All, int_lt, pos, ◌+ℤ◌}
+use Rattle.std.specs.List.{list_all}
+use Rattle.std.proofs.lemmas.Bool.{OnTrue_from}
 use Rattle.std.proofs.lemmas.Int.{to_z-of_z}
 use Rattle.std.proofs.lemmas.List.Elements.{All-from_recursion}
 use mir.Syntax.{w128}
 use mir.Val.{SFits, to_z, of_z}
+use Rattle.auction_limits.specs.declared.limits.TheConstants.{GREATEST_AMOUNT}
+use Rattle.auction_terms.specs.Allocations.{weighed_choice}
 use Rattle.auction_terms.specs.Terms.{lots_in}
 use Rattle.auction_terms.specs.declared.choices.Choice.{Choice}
 use Rattle.auction_terms.specs.Groups.{has}
 use Rattle.bid_desk.specs.Closing.{book_of}
+use Rattle.outcome.specs.Pricing.{paid, price_in}
 use Rattle.program_rows.specs.Faithful.{IsGreatest}
-use Rattle.prices.specs.Listed.{price_in, weighted}
+use Rattle.prices.specs.Listed.{weighted}
 use Rattle.prices.specs.inside.Weighing.{weight_by}
-use Rattle.prices.specs.Weights.{ShowsLeastSum, Weighted}
-use Rattle.prices.proofs.FewLaws.{all_greatest, are_within, as_many_won, shows_from, shows_to}
+use Rattle.prices.specs.Prices.{reserves_in}
+use Rattle.prices.specs.Weights.{Weighted, scaled_below, shows_least_sum, weighted_costs, weighted_reserves}
+use Rattle.prices.proofs.FewLaws.{all_greatest, as_many_won, few_winners, is_shown, not_within, reserves_few, within_asked, within_told}
 use Rattle.prices.proofs.WeightLaws.{shown_is_least_sum}
 use Rattle.prices.proofs.least_sum.shows_least_sum.Goals as goal
 
+pub weighted_reserves-reserves-requires-clause-few : goal.weighted_reserves-reserves-requires-clause-few
+weighted_reserves-reserves-requires-clause-few c =
+    let few = few_winners (lots_in c.args.book.now.rules) (book_of c.args.book.now) c.args.first.now c.rules-within_limits.ensures.book c.requires.first.feasible c.choices-2.ensures.rising in
+    let same = ap length c.choices-2.ensures.choices in
+    omega (arith, few, same)
+
+pub weighted_reserves-reserves-requires-clause-limits : goal.weighted_reserves-reserves-requires-clause-limits
+weighted_reserves-reserves-requires-clause-limits c =
+    subst (All (λ (x : Choice). weighed_choice (reserves_in c.args.book.now.rules) (book_of c.args.book.now) x ≤ GREATEST_AMOUNT)) (sym c.choices-2.ensures.choices)
+    (reserves_few (lots_in c.args.book.now.rules) (book_of c.args.book.now) (reserves_in c.args.book.now.rules) (price_in c.args.prices.now) c.args.first.now c.rules-within_limits.ensures.book c.requires.prices c.requires.reserves)
+
 module _ (c : goal.After-is_below) where
-  abbrev Shows : Type 0
-  Shows = ShowsLeastSum (lots_in c.args.book.now.rules) (book_of c.args.book.now) c.args.first.now (price_in c.args.prices.now) c.args.scale (weighted c.args.groups.now c.args.won.now c.args.weights.now)
+  abbrev ws : List Weighted
+  ws = weighted c.args.groups.now c.args.won.now c.args.weights.now.groups.now
+
+  abbrev own : ℕ → ℕ
+  own = price_in c.args.weights.now.own.now
+
+  abbrev scale : ℕ
+  scale = c.args.weights.now.scale
+
+  many : length c.args.won.now ≡ length c.args.groups.now
+  many = as_many_won (lots_in c.args.book.now.rules) (book_of c.args.book.now) c.args.groups.now c.args.won.now c.requires.without
 
   bound_is : to_z w128 (of_z w128 c.bound_of-bound.result) ≡ c.bound_of-bound.result
   bound_is = let fits : SFits w128 c.bound_of-bound.result = search rules in to_z-of_z w128 c.bound_of-bound.result fits
 
-  costs_are : to_z w128 (of_z w128 c.weighted_costs.result) ≡ c.weighted_costs.result
-  costs_are = let fits : SFits w128 c.weighted_costs.result = search rules in to_z-of_z w128 c.weighted_costs.result fits
+  costs_are : to_z w128 (of_z w128 c.weighted_costs-costs.result) ≡ c.weighted_costs-costs.result
+  costs_are = let fits : SFits w128 c.weighted_costs-costs.result = search rules in to_z-of_z w128 c.weighted_costs-costs.result fits
 
-  shown : IsTrue c.is_below.result → Shows
-  shown h =
-      let less = subst (λ (z : ℤ). c.bound_of-bound.result <ℤ z) costs_are (subst (λ (z : ℤ). z <ℤ to_z w128 (of_z w128 c.weighted_costs.result)) bound_is (c.is_below.ensures.0 h)) in
-      let within = subst (All (λ (x : Choice). weight_by c.args.groups.now c.args.weights.now x.bidder ≤ c.args.scale)) c.choices.ensures.choices (c.are_within.ensures.0 c.if-not-are_within.false) in
-      shows_from (lots_in c.args.book.now.rules) (book_of c.args.book.now) c.args.first.now (price_in c.args.prices.now) c.args.scale c.args.groups.now c.args.won.now c.args.weights.now c.bound_of-bound.result c.weighted_costs.result c.paid.result
-      c.bound_of-bound.ensures c.paid.ensures.paid c.weighted_costs.ensures.sum (as_many_won (lots_in c.args.book.now.rules) (book_of c.args.book.now) c.args.groups.now c.args.won.now c.requires.without) within less
+  above : c.is_below.result ≡ int_lt (scaled_below scale (paid (price_in c.args.prices.now) c.args.first.now)) (weighted_costs (lots_in c.args.book.now.rules) (book_of c.args.book.now) c.args.first.now ws +ℤ pos (weighted_reserves (reserves_in c.args.book.now.rules) (book_of c.args.book.now) c.args.first.now own))
+  above =
+      let bound = bound_is ∙ c.bound_of-bound.ensures ∙ ap (scaled_below scale) c.paid.ensures.paid in
+      let reserves = c.weighted_reserves-reserves.ensures.sum ∙ ap (λ (a : List Choice). weighted_reserves (reserves_in c.args.book.now.rules) (book_of c.args.book.now) a own) c.choices-2.ensures.choices in
+      let both = ap₂ (λ (x : ℤ) (n : ℕ). x +ℤ pos n) (costs_are ∙ c.weighted_costs-costs.ensures.sum) reserves in
+      c.is_below.ensures ∙ ap₂ (λ (x y : ℤ). int_lt x y) bound both
 
-  told : Shows → IsTrue c.is_below.result
-  told shows =
-      let less = shows_to (lots_in c.args.book.now.rules) (book_of c.args.book.now) c.args.first.now (price_in c.args.prices.now) c.args.scale c.args.groups.now c.args.won.now c.args.weights.now c.bound_of-bound.result c.weighted_costs.result c.paid.result
-      c.bound_of-bound.ensures c.paid.ensures.paid c.weighted_costs.ensures.sum shows in
-      c.is_below.ensures.1 (subst (λ (z : ℤ). z <ℤ to_z w128 (of_z w128 c.weighted_costs.result)) (sym bound_is) (subst (λ (z : ℤ). c.bound_of-bound.result <ℤ z) (sym costs_are) less))
+  within : All (λ (x : Choice). weight_by c.args.groups.now c.args.weights.now.groups.now x.bidder + own x.bidder ≤ scale) c.args.first.now
+  within = subst (All (λ (x : Choice). weight_by c.args.groups.now c.args.weights.now.groups.now x.bidder + own x.bidder ≤ scale)) c.choices.ensures.choices (c.are_within.ensures.0 c.if-not-are_within.false)
+
+  shown : c.is_below.result ≡ shows_least_sum (reserves_in c.args.book.now.rules) (lots_in c.args.book.now.rules) (book_of c.args.book.now) c.args.first.now (price_in c.args.prices.now) scale ws own
+  shown = is_shown _ _ _ _ (within_told c.args.groups.now c.args.won.now c.args.weights.now.groups.now many own scale c.args.first.now within) above refl
 
 pub returns-clause-shows : goal.returns-clause-shows
-returns-clause-shows c = (shown c, told c)
+returns-clause-shows c = shown c
 
 pub returns-clause-least : goal.returns-clause-least
 returns-clause-least c = OnTrue_from c.is_below.result _ (λ h.
-    shown_is_least_sum (lots_in c.args.book.now.rules) (book_of c.args.book.now) c.args.first.now (price_in c.args.prices.now) c.args.scale (weighted c.args.groups.now c.args.won.now c.args.weights.now)
-    (All-from_recursion (λ (w : Weighted). IsGreatest (lots_in c.args.book.now.rules) (book_of c.args.book.now) (has w.group) w.without) (weighted c.args.groups.now c.args.won.now c.args.weights.now)
-    (all_greatest (lots_in c.args.book.now.rules) (book_of c.args.book.now) c.args.groups.now c.args.won.now c.args.weights.now c.requires.without)) (shown c h))
+    shown_is_least_sum (reserves_in c.args.book.now.rules) (lots_in c.args.book.now.rules) (book_of c.args.book.now) c.args.first.now (price_in c.args.prices.now) (scale c) (ws c) (own c)
+    (All-from_recursion (λ (w : Weighted). IsGreatest (lots_in c.args.book.now.rules) (book_of c.args.book.now) (has w.group) w.without) (ws c)
+    (all_greatest (lots_in c.args.book.now.rules) (book_of c.args.book.now) c.args.groups.now c.args.won.now c.args.weights.now.groups.now c.requires.without)) (sym (shown c) ∙ h))
 
 pub returns-then-not-are_within-clause-shows : goal.returns-then-not-are_within-clause-shows
-returns-then-not-are_within-clause-shows c = (
-  λ t. absurd (both_ways false refl t),
-  λ shows.
-      let within = are_within c.args.groups.now c.args.won.now c.args.weights.now c.args.scale c.args.first.now (as_many_won (lots_in c.args.book.now.rules) (book_of c.args.book.now) c.args.groups.now c.args.won.now c.requires.without) shows.within in
-      sym c.if-not-are_within.true ∙ c.are_within.ensures.1 (subst (All (λ (x : Choice). weight_by c.args.groups.now c.args.weights.now x.bidder ≤ c.args.scale)) (sym c.choices.ensures.choices) within),
-)
+returns-then-not-are_within-clause-shows c =
+    let many = as_many_won (lots_in c.args.book.now.rules) (book_of c.args.book.now) c.args.groups.now c.args.won.now c.requires.without in
+    let scale = c.args.weights.now.scale in
+    not_within _ _ (λ yes.
+    let within = within_asked c.args.groups.now c.args.won.now c.args.weights.now.groups.now many (price_in c.args.weights.now.own.now) scale c.args.first.now yes in
+    let t = c.are_within.ensures.1 (subst (All (λ (x : Choice). weight_by c.args.groups.now c.args.weights.now.groups.now x.bidder + price_in c.args.weights.now.own.now x.bidder ≤ scale)) (sym c.choices.ensures.choices) within) in
+    let wrong : false ≡ true = sym c.if-not-are_within.true ∙ t in
+    cc)

@@ -10,5 +10,5 @@ abbrev pub invariant-loop-place : goal.invariant-loop-place
 invariant-loop-place l = record {
   sum_is : l.sum +ℤ weighted_costs (lots_in l.book.rules) (book_of l.book) l.first (weighted (drop l.place l.groups) (drop l.place l.won) (drop l.place l.weights)) ≡ weighted_costs (lots_in l.book.rules) (book_of l.book) l.first (weighted l.groups l.won l.weights);
   low : pos 0 ≤ℤ l.sum;
-  high : l.sum ≤ℤ pos (l.place * 2 ^ 108);
+  high : l.sum ≤ℤ pos (l.place * 2 ^ 112);
 }

@@ -2,7 +2,7 @@ use Rattle.std.proofs.Common.{◌∙◌, ap, ℤ, List}
 use Rattle.bid_desk.specs.Closing.{book_of}
 use Rattle.program_rows.specs.Costed.{costed_program}
 use Rattle.program_rows.specs.Program.{TableColumn}
-use Rattle.prices.specs.Listed.{price_in}
+use Rattle.outcome.specs.Pricing.{price_in}
 use Rattle.prices.specs.Prices.{surplus}
 use Rattle.prices.proofs.CodeLaws.{costed_is_raised}
 use Rattle.prices.proofs.raised.raised.Goals as goal

@@ -2,7 +2,7 @@ use Rattle.std.proofs.Common.{◌<◌, ◌∙◌, ◌++◌, ◌∷◌, [], ap, l
 use Rattle.std.proofs.lemmas.Int.{to_z-of_z}
 use mir.Val.{SFits}
 use Rattle.bid_desk.specs.Closing.{book_of}
-use Rattle.prices.specs.Listed.{price_in}
+use Rattle.outcome.specs.Pricing.{price_in}
 use Rattle.prices.specs.Prices.{surplus}
 use Rattle.prices.specs.Raised.{raised_cost}
 use Rattle.prices.proofs.CodeLaws.{cost_pushed}

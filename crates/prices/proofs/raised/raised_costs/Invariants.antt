@@ -1,6 +1,6 @@
 use Rattle.std.proofs.Common.{◌≡◌, ◌++◌, drop, map}
 use Rattle.bid_desk.specs.Closing.{book_of}
-use Rattle.prices.specs.Listed.{price_in}
+use Rattle.outcome.specs.Pricing.{price_in}
 use Rattle.prices.specs.Prices.{surplus}
 use Rattle.prices.specs.Raised.{raised_cost}
 use Rattle.prices.proofs.raised.raised_costs.Given as goal

@@ -1,0 +1,107 @@
+//! One line of prices or of weights.
+
+ghost use Rattle.std.specs.Prelude.{◌≡◌, ◌∷◌, ◌==◌, [], IfOk, IfSome, ◌<◌, ◌^◌, slice_index};
+ghost use Rattle.price_texts.specs.Given.{parsed_line, parsed_number, parsed_fields};
+ghost use Rattle.line_words.specs.Lines.{fields};
+
+use crate::given::{Given, Subject, is_given};
+use crate::known::Known;
+use crate::price_fault::PriceFault;
+use auction_terms::number;
+use line_words::next_field;
+
+// What a line at this place gives a subject, after lines that gave these.
+fn given_number(
+    before: &[Given],
+    place: usize,
+    subject: Subject,
+    token: &[u8],
+) -> Result<Option<Given>, PriceFault>
+    ensures { result ≡ parsed_number before.now place subject token.now }
+{
+    if is_given(before, subject) {
+        return Err(PriceFault::RepeatedName { place });
+    }
+    match number(token) {
+        Some(number) => Ok(Some(Given {
+            subject,
+            number,
+            place,
+        })),
+        None => Err(PriceFault::NumberText { place }),
+    }
+}
+
+// What a line of one field gives.
+fn given_scale(
+    known: &Known<'_>,
+    before: &[Given],
+    place: usize,
+    token: &[u8],
+) -> Result<Option<Given>, PriceFault>
+    ensures { result ≡ parsed_fields known.now before.now place (token.now ∷ []) }
+{
+    if known.has_scale() {
+        given_number(before, place, Subject::Scale, token)
+    } else {
+        Err(PriceFault::Fields { place })
+    }
+}
+
+// What a line of two fields gives.
+fn given_name(
+    known: &Known<'_>,
+    before: &[Given],
+    place: usize,
+    name: &[u8],
+    token: &[u8],
+) -> Result<Option<Given>, PriceFault>
+    ensures { result ≡ parsed_fields known.now before.now place (name.now ∷ token.now ∷ []) }
+{
+    match known.subject(place, name) {
+        Ok(subject) => given_number(before, place, subject, token),
+        Err(fault) => Err(fault),
+    }
+}
+
+// What the fields of a line give.
+fn given_fields(
+    known: &Known<'_>,
+    before: &[Given],
+    place: usize,
+    line: &[u8],
+) -> Result<Option<Given>, PriceFault>
+    ensures { result ≡ parsed_fields known.now before.now place (fields line.now) }
+{
+    let Some(first) = next_field(line) else {
+        return Ok(None);
+    };
+    let Some(second) = next_field(first.rest) else {
+        return given_scale(known, before, place, first.text);
+    };
+    if next_field(second.rest).is_some() {
+        return Err(PriceFault::Fields { place });
+    }
+    given_name(known, before, place, first.text, second.text)
+}
+
+fn is_comment(line: &[u8]) -> bool
+    ensures { result ≡ (slice_index line.now 0 == 35) }
+{
+    !line.is_empty() && line[0] == b'#'
+}
+
+/// What a line at this place gives, after lines that gave these.
+pub fn given_in(
+    known: &Known<'_>,
+    before: &[Given],
+    place: usize,
+    line: &[u8],
+) -> Result<Option<Given>, PriceFault>
+    ensures { result ≡ parsed_line known.now before.now place line.now }
+{
+    if is_comment(line) {
+        return Ok(None);
+    }
+    given_fields(known, before, place, line)
+}

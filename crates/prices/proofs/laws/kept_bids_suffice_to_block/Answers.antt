@@ -1,0 +1,5 @@
+use Rattle.prices.proofs.CoverLaws.{kept_bids_suffice}
+use Rattle.prices.proofs.laws.kept_bids_suffice_to_block.Goals as goal
+
+pub returns : goal.returns
+returns c = kept_bids_suffice

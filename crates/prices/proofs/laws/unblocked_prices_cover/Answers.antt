@@ -1,0 +1,5 @@
+use Rattle.prices.proofs.CoverLaws.{unblocked_covers}
+use Rattle.prices.proofs.laws.unblocked_prices_cover.Goals as goal
+
+pub returns : goal.returns
+returns c = unblocked_covers

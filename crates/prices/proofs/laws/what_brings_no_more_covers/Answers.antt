@@ -1,5 +1,0 @@
-use Rattle.prices.proofs.CoverLaws.{none_brings_more_covers}
-use Rattle.prices.proofs.laws.what_brings_no_more_covers.Goals as goal
-
-pub returns : goal.returns
-returns c = none_brings_more_covers
