@@ -9,15 +9,16 @@ use Rattle.bid_desk.specs.Sale.{Sale, sale_of}
 use Rattle.auction_input.specs.Auction.{Auction, auction_told}
 use Rattle.auction_input.specs.BookLeft.{sale_left}
 use Rattle.auction_input.specs.Calls.{one_too_many}
+use Rattle.auction_input.specs.Input.{Input}
 use Rattle.auction_terms.specs.FirstFault.{first_fault}
 use Rattle.auction_input.specs.Refused.{Refuses}
 use Rattle.auction_input.specs.declared.refusal.Refusal.{Refusal}
 use Rattle.auction_input.specs.Settled.{RefusesAuction}
 use Rattle.auction_terms.specs.Borrowed.{bytes_of}
-use Rattle.auction_input.specs.Parts.{Part, TellsParts, cut_lines, parts_held, parts_in, parts_named}
+use Rattle.auction_input.specs.Parts.{Part, TellsParts, parts_held, parts_named, input_parts}
 use Rattle.auction_input.specs.PartsTold.{only_text, parts_told}
 use Rattle.auction_input.specs.Plan.{miscounted}
-use Rattle.auction_input.specs.inside.Auctions.{HoldTexts, RefusesRun, Tell}
+use Rattle.auction_input.specs.inside.Auctions.{HoldTexts, RefusesRun, Tell, bidders_of}
 use Rattle.auction_terms.specs.Stages.{and_then, each_in_turn, refused_as, unless}
 use Rattle.auction_input.specs.Submissions.{AreSubmitted, forms_of}
 use Rattle.auction_input.specs.TextsTold.{form_told, groups_told, terms_told}
@@ -38,20 +39,20 @@ use Rattle.auction_input.proofs.StageFacts.{behind, next, stop}
 abbrev count-stage : Request → List Part → Result (List Part) Refusal
 count-stage asked parts = refused_as refusal.PartCount (unless (miscounted asked parts) (Ok parts))
 
-module _ (asked : Request) (input : List ℕ) (held : Vec declared.Part Global) where
+module _ (asked : Request) (input : Input) (held : Vec declared.Part Global) where
   pub counted : (found : Option PartKind) → TellsParts asked (Ok held) input → miscounted asked (parts_held held.items) ≡ found
       → parts_told asked input ≡ refused_as refusal.PartCount (unless found (Ok (parts_held held.items)))
   counted found told is =
-      ap (λ (f : Option PartFault). and_then (refused_as refusal.Parts (unless f (Ok (parts_in (cut_lines input))))) (count-stage asked)) told.0
+      ap (λ (f : Option PartFault). and_then (refused_as refusal.Parts (unless f (Ok (input_parts input)))) (count-stage asked)) told.0
       ∙ ap (count-stage asked) (sym told.1)
       ∙ ap (λ (f : Option PartKind). refused_as refusal.PartCount (unless f (Ok (parts_held held.items)))) is
 
 abbrev no_parts : PartFault → Result (Vec declared.Part Global) PartFault
 no_parts f = Err f
 
-pub parts-refused : (asked : Request) (input : List ℕ) (f : PartFault) → TellsParts asked (no_parts f) input → Refuses (parts_told asked input) (refusal.Parts f)
+pub parts-refused : (asked : Request) (input : Input) (f : PartFault) → TellsParts asked (no_parts f) input → Refuses (parts_told asked input) (refusal.Parts f)
 parts-refused asked input fault.OutOfMemory told = inr refl
-parts-refused asked input f told = inl (ap (λ (found : Option PartFault). and_then (refused_as refusal.Parts (unless found (Ok (parts_in (cut_lines input))))) (count-stage asked)) told)
+parts-refused asked input f told = inl (ap (λ (found : Option PartFault). and_then (refused_as refusal.Parts (unless found (Ok (input_parts input)))) (count-stage asked)) told)
 
 -- ---- the stages behind the parts
 
@@ -61,21 +62,24 @@ pub record Rest : Type 0 where
   pub certificates : List (List ℕ)
   pub uniques : List (List ℕ)
   pub ties : List (List ℕ)
+  pub prices : List (List ℕ)
+  pub covers : List (List ℕ)
+  pub weights : List (List ℕ)
 
 abbrev pub rest_in : List Part → Rest
-rest_in parts = record { solutions = parts_named (codes "%solution") parts; certificates = parts_named (codes "%certificate") parts; uniques = parts_named (codes "%unique") parts; ties = parts_named (codes "%tie") parts }
+rest_in parts = record { solutions = parts_named (codes "%solution") parts; certificates = parts_named (codes "%certificate") parts; uniques = parts_named (codes "%unique") parts; ties = parts_named (codes "%tie") parts; prices = parts_named (codes "%prices") parts; covers = parts_named (codes "%cover") parts; weights = parts_named (codes "%weights") parts }
 
 abbrev pub rest_held : Beside → Rest
-rest_held beside = record { solutions = bytes_of beside.solutions.items; certificates = bytes_of beside.certificates.items; uniques = bytes_of beside.uniques.items; ties = bytes_of beside.ties.items }
+rest_held beside = record { solutions = bytes_of beside.solutions.items; certificates = bytes_of beside.certificates.items; uniques = bytes_of beside.uniques.items; ties = bytes_of beside.ties.items; prices = bytes_of beside.prices.items; covers = bytes_of beside.covers.items; weights = bytes_of beside.weights.items }
 
 pub rest-same : (beside : Beside) (parts : List Part) → HoldTexts parts beside → rest_in parts ≡ rest_held beside
-rest-same beside parts hold = rw (hold.solutions, hold.certificates, hold.uniques, hold.ties) refl
+rest-same beside parts hold = rw (hold.solutions, hold.certificates, hold.uniques, hold.ties, hold.prices, hold.covers, hold.weights) refl
 
 -- the auction that forms leave, with groups and these texts
 abbrev auction_of : Terms → List Offers → List (List ℕ) → Rest → Auction
-auction_of t forms groups rest = record { rules = t; sale = sale_left t forms; groups = groups; solutions = rest.solutions; certificates = rest.certificates; uniques = rest.uniques; ties = rest.ties }
+auction_of t forms groups rest = record { rules = t; sale = sale_left t forms; form_bidders = bidders_of forms; groups = groups; solutions = rest.solutions; certificates = rest.certificates; uniques = rest.uniques; ties = rest.ties; prices = rest.prices; covers = rest.covers; weights = rest.weights }
 
-module _ (asked : Request) (input : List ℕ) (parts : List Part) (cut : parts_told asked input ≡ Ok parts) where
+module _ (asked : Request) (input : Input) (parts : List Part) (cut : parts_told asked input ≡ Ok parts) where
   pub terms-refused : (r : Refusal) → Refuses (terms_told (only_text (parts_named (codes "%rules") parts))) r → Refuses (auction_told asked input) r
   terms-refused r refused = behind _ parts _ r cut (stop _ _ r refused)
 
@@ -135,11 +139,11 @@ sale-is book forms submitted =
     (λ b least most. ap (λ (form : Option Offers). bids_in form) (submitted.standing b least (omega arith))) in
     ap (sale_with book.rules) same
 
-abbrev pub sold : Terms → Sale → List (List ℕ) → Rest → Auction
-sold t sale groups rest = record { rules = t; sale = sale; groups = groups; solutions = rest.solutions; certificates = rest.certificates; uniques = rest.uniques; ties = rest.ties }
+abbrev pub sold : Terms → Sale → List ℕ → List (List ℕ) → Rest → Auction
+sold t sale bidders groups rest = record { rules = t; sale = sale; form_bidders = bidders; groups = groups; solutions = rest.solutions; certificates = rest.certificates; uniques = rest.uniques; ties = rest.ties; prices = rest.prices; covers = rest.covers; weights = rest.weights }
 
 -- the auction that a settled book and groups are, with the texts behind them
 pub auction-held : (book : Closing) (t : Terms) (forms : List Offers) (groups : List (List ℕ)) (rest : Rest) → book.rules ≡ t → AreSubmitted forms book
-    → auction_of t forms groups rest ≡ sold book.rules (sale_of book) groups rest
+    → auction_of t forms groups rest ≡ sold book.rules (sale_of book) (bidders_of forms) groups rest
 auction-held book t forms groups rest rules submitted =
-    ap (λ (u : Terms). auction_of u forms groups rest) (sym rules) ∙ ap (λ (sale : Sale). sold book.rules sale groups rest) (sym (sale-is book forms submitted))
+    ap (λ (u : Terms). auction_of u forms groups rest) (sym rules) ∙ ap (λ (sale : Sale). sold book.rules sale (bidders_of forms) groups rest) (sym (sale-is book forms submitted))

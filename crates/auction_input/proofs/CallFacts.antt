@@ -46,17 +46,22 @@ option_or-none : {F : Type 0} (a : Option F) → option_or a None ≡ a
 option_or-none None = refl
 option_or-none (Some fault) = refl
 
-first-behind : {R F : Type 0} (fault_of : List R → R → Option F) (before items : List R) (item : R) → first_fault fault_of before (items ++ item ∷ []) ≡ option_or (first_fault fault_of before items) (fault_of (before ++ items) item)
+-- the first fault of items, and of those behind them
+pub first-append : {R F : Type 0} (fault_of : List R → R → Option F) (before items more : List R) → first_fault fault_of before (items ++ more) ≡ option_or (first_fault fault_of before items) (first_fault fault_of (before ++ items) more)
 unfolding first_fault
-first-behind fault_of before [] item = option_or-none (fault_of before item) ∙ ap (λ xs. fault_of xs item) (sym (append-nil before))
-first-behind fault_of before (x ∷ items) item =
-    ap (option_or (fault_of before x)) (first-behind fault_of (before ++ x ∷ []) items item)
-    ∙ ap (λ xs. option_or (fault_of before x) (option_or (first_fault fault_of (before ++ x ∷ []) items) (fault_of xs item))) (append_assoc before (x ∷ []) items)
-    ∙ sym (option_or-assoc (fault_of before x) (first_fault fault_of (before ++ x ∷ []) items) (fault_of (before ++ x ∷ items) item))
+first-append fault_of before [] more = ap (λ xs. first_fault fault_of xs more) (sym (append-nil before))
+first-append fault_of before (x ∷ items) more =
+    ap (option_or (fault_of before x)) (first-append fault_of (before ++ x ∷ []) items more)
+    ∙ ap (λ xs. option_or (fault_of before x) (option_or (first_fault fault_of (before ++ x ∷ []) items) (first_fault fault_of xs more))) (append_assoc before (x ∷ []) items)
+    ∙ sym (option_or-assoc (fault_of before x) (first_fault fault_of (before ++ x ∷ []) items) (first_fault fault_of (before ++ x ∷ items) more))
+
+one-fault : {R F : Type 0} (fault_of : List R → R → Option F) (before : List R) (item : R) → first_fault fault_of before (item ∷ []) ≡ fault_of before item
+unfolding first_fault
+one-fault fault_of before item = option_or-none (fault_of before item)
 
 -- the first fault of one item more
 pub first-more : {R F : Type 0} (fault_of : List R → R → Option F) (items : List R) (item : R) → first_fault fault_of [] (items ++ item ∷ []) ≡ option_or (first_fault fault_of [] items) (fault_of items item)
-first-more fault_of items item = first-behind fault_of [] items item
+first-more fault_of items item = first-append fault_of [] items (item ∷ []) ∙ ap (option_or (first_fault fault_of [] items)) (one-fault fault_of items item)
 
 -- no item has a fault
 first-none : {R F : Type 0} (fault_of : List R → R → Option F) → first_fault fault_of [] [] ≡ None

@@ -1,24 +1,37 @@
 -- The first line of a text, and what is before the next part.
-use Rattle.std.proofs.Common.{◌≡◌, ◌≤◌, ◌<◌, ◌+◌, ◌∷◌, ◌++◌, ◌∙◌, Bool, true, false, ℕ, zero, suc, List, [], drop, take, length, refl, ap, subst, sym, arith, ◌⊎◌, inl, inr, ◌==◌, ◌||◌, Option, None, Some, count_by, filter, find, map, slice_index, Bor, bytes_eq}
+use Rattle.std.proofs.Common.{◌≡◌, ◌≤◌, ◌<◌, ◌+◌, ◌∷◌, ◌++◌, ◌∙◌, Bool, true, false, ℕ, zero, suc, List, [], drop, take, length, refl, Result, Err, Vec, Global, ap, append_assoc, subst, sym, arith, ◌⊎◌, inl, inr, ◌==◌, ◌||◌, Option, None, Some, count_by, filter, find, map, slice_index, slice_index_or, not, Bor, bytes_eq}
 use Rattle.auction_terms.specs.FirstFault.{first_fault}
+use Rattle.auction_terms.proofs.FirstFaultFacts.{CheckedSoFar}
+use Rattle.auction_input.proofs.CallFacts.{first-append}
 use Rattle.auction_input.specs.declared.parts.PartFault.TheVariants as fault
-use Rattle.std.proofs.lemmas.Bool.Decides.{Decides-eqb}
+use Rattle.auction_input.specs.declared.parts.PartFault.{PartFault}
+use Rattle.std.proofs.lemmas.Bool.Decides.{Decides-eqb, leb_tells}
 use Rattle.std.proofs.lemmas.Bool.{cases_Bool, ne_eqb}
 use Rattle.auction_terms.specs.Lines.{is_line_feed}
-use Rattle.std.proofs.lemmas.List.{length-map, map-append, nil_from_length}
+use Rattle.std.proofs.lemmas.List.{append-nil, drop_more, length-map, length-take-le, map-append, nil_from_length}
 use Rattle.std.proofs.lemmas.List.Sums.{length-filter}
 use Rattle.auction_input.specs.declared.part_kind.PartKind.{PartKind}
 use Rattle.requests.specs.declared.request.Request.TheVariants as request
 use Rattle.requests.specs.declared.request.Request.{Request}
 use Rattle.memchr.specs.Find.{FindsNeedle, OccursAt}
-use Rattle.auction_input.specs.Parts.{Part, bytes_before, onto_first_line, cut_lines, heads_part, input_fault, name_of, part_fault, part_names, parts_held, parts_in, parts_named}
+use Rattle.auction_input.specs.Parts.{Part, TellsParts, bytes_before, onto_first_line, cut_lines, has_bytes_before, heads_part, input_fault, name_of, part_fault, part_names, parts_from, parts_held, parts_in, parts_named, input_parts}
+use Rattle.auction_input.specs.Input.{Given, Input}
 use Rattle.auction_input.specs.PartsTold.{only_text}
-use Rattle.auction_input.specs.inside.Parts.{is_held, kind_named, known_kinds, part}
+use Rattle.auction_input.specs.inside.Parts.{HaveAdded, IsFaultBehind, is_held, kind_named, known_kinds, part}
 use Rattle.auction_input.specs.declared.parts.Part as declared
 use Rattle.auction_terms.specs.Borrowed.{bytes_of}
-use Rattle.std.specs.Option.{option_map_or}
+use Rattle.std.specs.Option.{option_map_or, option_or}
+use Rattle.std.specs.Prelude.{nat_lt}
 use Rattle.std.specs.List.{list_any}
 use Rattle.std.proofs.lemmas.Slice.Eq.{bytes_eq-Decides}
+
+or-false : (a b : Bool) → a || b ≡ false → (a ≡ false) × (b ≡ false)
+or-false true b is = cc
+or-false false b is = (refl, is)
+
+not-false : (a : Bool) → not a ≡ false → a ≡ true
+not-false true is = refl
+not-false false is = cc
 
 -- a text with a line feed, none before it
 pub cut-at : (text : List ℕ) (end : ℕ) → end < length text → ((k : ℕ) → k < end → is_line_feed (slice_index text k) ≡ false) → is_line_feed (slice_index text end) ≡ true
@@ -53,11 +66,11 @@ headed (b ∷ text) (suc n) some is = is
 -- the parts of a text that begins with one: that one, and those after it
 pub parts-headed : (text : List ℕ) (n end : ℕ) → 0 < n → heads_part text ≡ true
     → cut_lines text ≡ take n text ∷ cut_lines (drop n text)
-    → bytes_before (cut_lines (drop n text)) ≡ take end (drop n text) → parts_in (cut_lines (drop n text)) ≡ parts_in (cut_lines (drop end (drop n text)))
-    → parts_in (cut_lines text) ≡ part (take n text) (take end (drop n text)) ∷ parts_in (cut_lines (drop end (drop n text)))
-parts-headed text n end some is cut bytes parts =
+    → bytes_before (cut_lines (drop n text)) ≡ take end (drop n text) → ((at : ℕ) → parts_in at (cut_lines (drop n text)) ≡ parts_in at (cut_lines (drop end (drop n text))))
+    → (at : ℕ) → parts_in at (cut_lines text) ≡ part at (take n text) (take end (drop n text)) ∷ parts_in at (cut_lines (drop end (drop n text)))
+parts-headed text n end some is cut bytes parts at =
     let head : heads_part (take n text) ≡ true = headed text n some is in
-    rw (cut, head, bytes, parts) refl
+    rw (cut, head, bytes, parts at) refl
 
 -- ---- names and kinds
 
@@ -100,17 +113,93 @@ pub unknown-part : (asked : Request) (before : List Part) (p : Part) → kind_na
 unknown-part asked before p is = rw (named-so p.name asked None is) refl
 
 abbrev held_part : declared.Part → Part
-held_part p = record { name = name_of p.kind; bytes = p.bytes.now }
+held_part p = record { text = p.text; name = name_of p.kind; bytes = p.bytes.now }
 
-abbrev so_named : List ℕ → List ℕ → Part
-so_named bytes name = record { name = name; bytes = bytes }
+abbrev so_named : ℕ → List ℕ → List ℕ → Part
+so_named n bytes name = record { text = n; name = name; bytes = bytes }
 
 -- one part more is held
 pub held-more : (old new : List declared.Part) (asked : Request) (name : List ℕ) (part : declared.Part) → kind_named asked name ≡ Some part.kind → new ≡ old ++ part ∷ []
-    → parts_held new ≡ parts_held old ++ so_named part.bytes.now name ∷ []
+    → parts_held new ≡ parts_held old ++ so_named part.text part.bytes.now name ∷ []
 held-more old new asked name part told grown =
     ap parts_held grown ∙ map-append held_part old (part ∷ [])
-    ∙ ap (λ (n : List ℕ). parts_held old ++ so_named part.bytes.now n ∷ []) (sym (named-so name asked (Some part.kind) told).0)
+    ∙ ap (λ (n : List ℕ). parts_held old ++ so_named part.text part.bytes.now n ∷ []) (sym (named-so name asked (Some part.kind) told).0)
+
+-- where nothing is before the first part, the first fault is that of a part
+pub fault-of-parts : (asked : Request) (input : Input) → list_any has_bytes_before input.texts ≡ false → input_fault asked input ≡ first_fault (part_fault asked) [] (input_parts input)
+fault-of-parts asked input none = rw none refl
+
+-- a text of those with nothing before their first parts
+pub none-at : (texts : List Given) (place : ℕ) (d : Given) → place < length texts → list_any has_bytes_before texts ≡ false → has_bytes_before (slice_index_or texts place d) ≡ false
+none-at [] place d within none = absurd (omega arith)
+none-at (given ∷ texts) zero d within none = (or-false _ _ none).0
+none-at (given ∷ texts) (suc place) d within none = none-at texts place d (omega arith) (or-false _ _ none).1
+
+pub nothing-before : (given : Given) → has_bytes_before given ≡ false → bytes_before (cut_lines given.bytes) ≡ []
+nothing-before given is = nil_from_length _ ((Decides-eqb (length (bytes_before (cut_lines given.bytes))) 0).0 (not-false _ is))
+
+-- behind the old parts these of all have no fault, and the rest is left
+pub record CheckedBehind (asked : Request) (old all before rest : List Part) : Type 0 where
+  pub all_is : old ++ all ≡ before ++ rest
+  pub fault_is : first_fault (part_fault asked) old all ≡ first_fault (part_fault asked) before rest
+
+pub behind-more : (asked : Request) (old all before ahead rest : List Part) (p : Part) → CheckedBehind asked old all before ahead → ahead ≡ p ∷ rest → part_fault asked before p ≡ None
+    → CheckedBehind asked old all (before ++ p ∷ []) rest
+unfolding first_fault
+behind-more asked old all before ahead rest p so_far next none =
+    let told = rw (next, none) at so_far.fault_is in
+    record {
+      all_is = so_far.all_is ∙ rw next (sym (append_assoc before (p ∷ []) rest));
+      fault_is = told;
+    }
+
+pub behind-fault : (asked : Request) (old all before ahead rest : List Part) (p : Part) (f : PartFault) → CheckedBehind asked old all before ahead → ahead ≡ p ∷ rest → part_fault asked before p ≡ Some f
+    → first_fault (part_fault asked) old all ≡ Some f
+unfolding first_fault
+behind-fault asked old all before ahead rest p f so_far next found =
+    let told = rw (next, found) at so_far.fault_is in
+    told
+
+pub behind-all : (asked : Request) (old all before : List Part) → CheckedBehind asked old all before [] → HaveAdded asked old before all
+unfolding first_fault
+behind-all asked old all before so_far = record { sound = so_far.fault_is; held = sym (so_far.all_is ∙ append-nil before) }
+
+-- the parts of a whole text behind those that are checked
+module _ (asked : Request) (all before more rest : List Part) (held : List Part) (so_far : CheckedSoFar (part_fault asked) all before (more ++ rest)) where
+  pub text-more : HaveAdded asked before held more → CheckedSoFar (part_fault asked) all held rest
+  text-more added = record {
+    all_is = so_far.all_is ∙ sym (append_assoc before more rest) ∙ ap (λ (xs : List Part). xs ++ rest) (sym added.held);
+    fault_is = so_far.fault_is ∙ first-append (part_fault asked) before more rest ∙ ap (λ (o : Option PartFault). option_or o (first_fault (part_fault asked) (before ++ more) rest)) added.sound
+        ∙ ap (λ (xs : List Part). first_fault (part_fault asked) xs rest) (sym added.held);
+  }
+
+  pub text-fault : (f : PartFault) → first_fault (part_fault asked) before more ≡ Some f → first_fault (part_fault asked) [] all ≡ Some f
+  text-fault f found = so_far.fault_is ∙ first-append (part_fault asked) before more rest ∙ ap (λ (o : Option PartFault). option_or o (first_fault (part_fault asked) (before ++ more) rest)) found
+
+abbrev no_parts : PartFault → Result (Vec declared.Part Global) PartFault
+no_parts f = Err f
+
+-- one of its parts is refused
+pub text-refused : (asked : Request) (input : Input) (before more rest : List Part) (f : PartFault) → list_any has_bytes_before input.texts ≡ false
+    → CheckedSoFar (part_fault asked) (input_parts input) before (more ++ rest) → IsFaultBehind asked before more f → TellsParts asked (no_parts f) input
+text-refused asked input before more rest fault.OutOfMemory none so_far found = tt
+text-refused asked input before more rest fault.BeforeFirst none so_far found = fault-of-parts asked input none ∙ text-fault asked (input_parts input) before more rest [] so_far fault.BeforeFirst found
+text-refused asked input before more rest (fault.PartName n) none so_far found = fault-of-parts asked input none ∙ text-fault asked (input_parts input) before more rest [] so_far (fault.PartName n) found
+
+-- the text that is next, and those behind it
+pub next-text : (texts : List Given) (place : ℕ) (d : Given) → place < length texts
+    → parts_from place (drop place texts) ≡ parts_in place (cut_lines (slice_index_or texts place d).bytes) ++ parts_from (place + 1) (drop (place + 1) texts)
+next-text texts place d within = ap (parts_from place) (drop_more texts place d within)
+
+-- whether the scan for the first part goes on
+pub before-is : (text : List ℕ) (n : ℕ) → n ≤ length text → bytes_before (cut_lines text) ≡ take n text → not (length (bytes_before (cut_lines text)) == 0) ≡ nat_lt 0 n
+before-is text n within is = rw (is, length-take-le n text within) (is-some n)
+  where
+    is-some : (k : ℕ) → not (k == 0) ≡ nat_lt 0 k
+    is-some zero = refl
+    is-some (suc k) =
+        let some : (suc k == 0) ≡ false = ne_eqb (suc k) 0 (λ is. absurd (omega arith)) in
+        elim (leb_tells 1 (suc k)) [ inl (is, _) ↦ rw (some, is) refl | inr (_, above) ↦ absurd (omega arith) ]
 
 module _ (k : PartKind) where
   abbrev held_named : List declared.Part → List (List ℕ)
@@ -138,10 +227,6 @@ module _ (k : PartKind) where
     | inl here ↦ rw here (ap (λ (o : Option declared.Part). option_map_or (λ (p : declared.Part). p.bytes.now) o []) (sym (rw here at is)))
     | inr other ↦ rw other (first_held held found (rw other at is))
   ]
-
--- where nothing is before the first part, the first fault is that of a part
-pub fault-of-parts : (asked : Request) (text : List ℕ) → bytes_before (cut_lines text) ≡ [] → input_fault asked text ≡ first_fault (part_fault asked) [] (parts_in (cut_lines text))
-fault-of-parts asked text none = rw none refl
 
 -- where the scan for the first part stops at once, it stands there, or the text is empty
 pub starts-here : (text : List ℕ) (n : ℕ) → n ≤ 0 → (n < length text → heads_part (drop n text) ≡ true) → (text ≡ []) ⊎ (heads_part text ≡ true)
@@ -180,85 +265,100 @@ none-before : (lines : List (List ℕ)) → heads_part (first_line lines) ≡ tr
 none-before [] is = refl
 none-before (line ∷ more) is = rw is refl
 
--- a first line that heads no part
-plain-first : (lines : List (List ℕ)) → heads_part (first_line lines) ≡ false
-    → (bytes_before lines ≡ first_line lines ++ bytes_before (rest_of lines)) × (parts_in lines ≡ parts_in (rest_of lines))
-plain-first [] is = (refl, refl)
-plain-first (line ∷ more) is = (rw is refl, rw is refl)
+module _ (at : ℕ) where
+  -- a first line that heads no part
+  plain-first : (lines : List (List ℕ)) → heads_part (first_line lines) ≡ false
+      → (bytes_before lines ≡ first_line lines ++ bytes_before (rest_of lines)) × (parts_in at lines ≡ parts_in at (rest_of lines))
+  plain-first [] is = (refl, refl)
+  plain-first (line ∷ more) is = (rw is refl, rw is refl)
 
--- the first line, and what is before the next part after it, are so many bytes
-abbrev pub IsBody : List ℕ → ℕ → Type 0
-IsBody text n = (first_line (cut_lines text) ++ bytes_before (rest_of (cut_lines text)) ≡ take n text) × (parts_in (rest_of (cut_lines text)) ≡ parts_in (cut_lines (drop n text)))
+  -- the first line, and what is before the next part after it, are so many bytes
+  abbrev pub IsBody : List ℕ → ℕ → Type 0
+  IsBody text n = (first_line (cut_lines text) ++ bytes_before (rest_of (cut_lines text)) ≡ take n text) × (parts_in at (rest_of (cut_lines text)) ≡ parts_in at (cut_lines (drop n text)))
 
--- the same of a text that begins with no part
-abbrev pub IsBefore : List ℕ → ℕ → Type 0
-IsBefore text n = (bytes_before (cut_lines text) ≡ take n text) × (parts_in (cut_lines text) ≡ parts_in (cut_lines (drop n text)))
+  -- the same of a text that begins with no part
+  abbrev pub IsBefore : List ℕ → ℕ → Type 0
+  IsBefore text n = (bytes_before (cut_lines text) ≡ take n text) × (parts_in at (cut_lines text) ≡ parts_in at (cut_lines (drop n text)))
 
-plain-body : (text : List ℕ) (n : ℕ) → heads_part text ≡ false → IsBody text n → IsBefore text n
-plain-body text n plain (bytes, parts) =
-    let first = plain-first (cut_lines text) (starts-alike text ∙ plain) in
-    (first.0 ∙ bytes, first.1 ∙ parts)
+  plain-body : (text : List ℕ) (n : ℕ) → heads_part text ≡ false → IsBody text n → IsBefore text n
+  plain-body text n plain (bytes, parts) =
+      let first = plain-first (cut_lines text) (starts-alike text ∙ plain) in
+      (first.0 ∙ bytes, first.1 ∙ parts)
 
--- with one more byte in front
-body-more : (b : ℕ) (rest : List ℕ) (n : ℕ) → (is_line_feed b ≡ true → heads_part rest ≡ false) → IsBody rest n → IsBody (b ∷ rest) (suc n)
-body-more b rest n plain body = elim (cases_Bool (is_line_feed b)) [
-  | inl is ↦ (let before = plain-body rest n (plain is) body in (rw is (ap (λ xs. b ∷ xs) before.0), rw is before.1))
-  | inr is ↦ (rw (is, onto-first b (cut_lines rest), onto-rest b (cut_lines rest)) (ap (λ xs. b ∷ xs) body.0), rw (is, onto-rest b (cut_lines rest)) body.1)
+  -- with one more byte in front
+  body-more : (b : ℕ) (rest : List ℕ) (n : ℕ) → (is_line_feed b ≡ true → heads_part rest ≡ false) → IsBody rest n → IsBody (b ∷ rest) (suc n)
+  body-more b rest n plain body = elim (cases_Bool (is_line_feed b)) [
+    | inl is ↦ (let before = plain-body rest n (plain is) body in (rw is (ap (λ xs. b ∷ xs) before.0), rw is before.1))
+    | inr is ↦ (rw (is, onto-first b (cut_lines rest), onto-rest b (cut_lines rest)) (ap (λ xs. b ∷ xs) body.0), rw (is, onto-rest b (cut_lines rest)) body.1)
+  ]
+
+  -- a line feed at a place, and a percent sign after it
+  abbrev pub EndsBody : List ℕ → ℕ → Type 0
+  EndsBody text k = (suc k < length text) × (slice_index text k ≡ 10) × (slice_index text (suc k) ≡ 37)
+
+  plain-after : (b : ℕ) (rest : List ℕ) → (EndsBody (b ∷ rest) 0 → ⊥) → is_line_feed b ≡ true → heads_part rest ≡ false
+  plain-after b [] none feed = refl
+  plain-after b (c ∷ rest) none feed = ne_eqb c 37 (λ is. none (omega arith, (Decides-eqb b 10).0 feed, is))
+
+  -- up to the first such place, and that line feed
+  body-found : (text : List ℕ) (k : ℕ) → EndsBody text k → ((j : ℕ) → j < k → EndsBody text j → ⊥) → IsBody text (suc k)
+  body-found [] k (small, feed, percent) none = absurd (omega arith)
+  body-found (b ∷ rest) zero (small, feed, percent) none =
+      let is : is_line_feed b ≡ true = rw feed refl in
+      let next : heads_part rest ≡ true = heads-at rest 0 (omega arith) percent in
+      let nothing = none-before (cut_lines rest) (starts-alike rest ∙ next) in
+      (rw is (ap (λ xs. b ∷ xs) nothing), rw is refl)
+  body-found (b ∷ rest) (suc k) (small, feed, percent) none =
+      body-more b rest (suc k) (plain-after b rest (none 0 (omega arith)))
+      (body-found rest k (omega arith, feed, percent) (λ j less (within, f, p). none (suc j) (omega arith) (omega arith, f, p)))
+
+  -- or all of a text without one
+  body-all : (text : List ℕ) → ((j : ℕ) → EndsBody text j → ⊥) → IsBody text (length text)
+  body-all [] none = (refl, refl)
+  body-all (b ∷ rest) none =
+      body-more b rest (length rest) (plain-after b rest (none 0))
+      (body-all rest (λ j (within, f, p). none (suc j) (omega arith, f, p)))
+
+  module _ (text : List ℕ) (k : ℕ) where
+    ends-occurs : EndsBody text k → OccursAt text (10 ∷ 37 ∷ []) k
+    ends-occurs (within, feed, percent) = record { fits = omega arith; reads = reads }
+      where
+        reads : (j : ℕ) → j < 2 → slice_index text (k + j) ≡ slice_index (10 ∷ 37 ∷ []) j
+        reads zero small = (let e : k + 0 ≡ k = omega arith in rw e feed)
+        reads (suc zero) small = (let e : k + 1 ≡ suc k = omega arith in rw e percent)
+        reads (suc (suc j)) small = absurd (omega arith)
+
+    occurs-ends : OccursAt text (10 ∷ 37 ∷ []) k → EndsBody text k
+    occurs-ends occurs =
+        let fits = occurs.fits in
+        let feed = occurs.reads 0 (omega arith) in
+        let percent = occurs.reads 1 (omega arith) in
+        (omega arith, subst (λ m. slice_index text m ≡ 10) (omega arith) feed, subst (λ m. slice_index text m ≡ 37) (omega arith) percent)
+
+  -- what a search for a line feed with a percent sign after it finds
+  pub found-before : (text : List ℕ) (k : ℕ) → heads_part text ≡ false → FindsNeedle text (10 ∷ 37 ∷ []) 0 (Some k)
+      → IsBefore text (k + 1) × (heads_part (drop (k + 1) text) ≡ true)
+  found-before text k plain (first, occurs) =
+      let ends = occurs-ends text k occurs in
+      let one : k + 1 ≡ suc k = omega arith in
+      let within = ends.0 in
+      let earlier : (j : ℕ) → j < k → EndsBody text j → ⊥ = λ j less there. first.before j (omega arith) less (ends-occurs text j there) in
+      (rw one (plain-body text (suc k) plain (body-found text k ends earlier)), rw one (heads-at text (suc k) within ends.2))
+
+  pub none-found-before : (text : List ℕ) → heads_part text ≡ false → FindsNeedle text (10 ∷ 37 ∷ []) 0 None → IsBefore text (length text)
+  none-found-before text plain none =
+      plain-body text (length text) plain (body-all text (λ j there. let within = there.0 in none j (omega arith) (omega arith) (ends-occurs text j there)))
+
+-- a text with nothing before its first part is empty, or begins with that
+pub starts-so : (text : List ℕ) → bytes_before (cut_lines text) ≡ [] → (text ≡ []) ⊎ (heads_part text ≡ true)
+starts-so [] none = inl refl
+starts-so (b ∷ text) none = elim (cases_Bool (heads_part (b ∷ text))) [
+  | inl is ↦ inr is
+  | inr plain ↦ (let bytes = (plain-first 0 (cut_lines (b ∷ text)) (starts-alike (b ∷ text) ∙ plain)).0 in absurd (some-before b text (sym bytes ∙ none)))
 ]
-
--- a line feed at a place, and a percent sign after it
-abbrev pub EndsBody : List ℕ → ℕ → Type 0
-EndsBody text k = (suc k < length text) × (slice_index text k ≡ 10) × (slice_index text (suc k) ≡ 37)
-
-plain-after : (b : ℕ) (rest : List ℕ) → (EndsBody (b ∷ rest) 0 → ⊥) → is_line_feed b ≡ true → heads_part rest ≡ false
-plain-after b [] none feed = refl
-plain-after b (c ∷ rest) none feed = ne_eqb c 37 (λ is. none (omega arith, (Decides-eqb b 10).0 feed, is))
-
--- up to the first such place, and that line feed
-body-found : (text : List ℕ) (k : ℕ) → EndsBody text k → ((j : ℕ) → j < k → EndsBody text j → ⊥) → IsBody text (suc k)
-body-found [] k (small, feed, percent) none = absurd (omega arith)
-body-found (b ∷ rest) zero (small, feed, percent) none =
-    let is : is_line_feed b ≡ true = rw feed refl in
-    let next : heads_part rest ≡ true = heads-at rest 0 (omega arith) percent in
-    let nothing = none-before (cut_lines rest) (starts-alike rest ∙ next) in
-    (rw is (ap (λ xs. b ∷ xs) nothing), rw is refl)
-body-found (b ∷ rest) (suc k) (small, feed, percent) none =
-    body-more b rest (suc k) (plain-after b rest (none 0 (omega arith)))
-    (body-found rest k (omega arith, feed, percent) (λ j less (within, f, p). none (suc j) (omega arith) (omega arith, f, p)))
-
--- or all of a text without one
-body-all : (text : List ℕ) → ((j : ℕ) → EndsBody text j → ⊥) → IsBody text (length text)
-body-all [] none = (refl, refl)
-body-all (b ∷ rest) none =
-    body-more b rest (length rest) (plain-after b rest (none 0))
-    (body-all rest (λ j (within, f, p). none (suc j) (omega arith, f, p)))
-
-module _ (text : List ℕ) (k : ℕ) where
-  ends-occurs : EndsBody text k → OccursAt text (10 ∷ 37 ∷ []) k
-  ends-occurs (within, feed, percent) = record { fits = omega arith; reads = reads }
-    where
-      reads : (j : ℕ) → j < 2 → slice_index text (k + j) ≡ slice_index (10 ∷ 37 ∷ []) j
-      reads zero small = (let e : k + 0 ≡ k = omega arith in rw e feed)
-      reads (suc zero) small = (let e : k + 1 ≡ suc k = omega arith in rw e percent)
-      reads (suc (suc j)) small = absurd (omega arith)
-
-  occurs-ends : OccursAt text (10 ∷ 37 ∷ []) k → EndsBody text k
-  occurs-ends occurs =
-      let fits = occurs.fits in
-      let feed = occurs.reads 0 (omega arith) in
-      let percent = occurs.reads 1 (omega arith) in
-      (omega arith, subst (λ m. slice_index text m ≡ 10) (omega arith) feed, subst (λ m. slice_index text m ≡ 37) (omega arith) percent)
-
--- what a search for a line feed with a percent sign after it finds
-pub found-before : (text : List ℕ) (k : ℕ) → heads_part text ≡ false → FindsNeedle text (10 ∷ 37 ∷ []) 0 (Some k)
-    → IsBefore text (k + 1) × (heads_part (drop (k + 1) text) ≡ true)
-found-before text k plain (first, occurs) =
-    let ends = occurs-ends text k occurs in
-    let one : k + 1 ≡ suc k = omega arith in
-    let within = ends.0 in
-    let earlier : (j : ℕ) → j < k → EndsBody text j → ⊥ = λ j less there. first.before j (omega arith) less (ends-occurs text j there) in
-    (rw one (plain-body text (suc k) plain (body-found text k ends earlier)), rw one (heads-at text (suc k) within ends.2))
-
-pub none-found-before : (text : List ℕ) → heads_part text ≡ false → FindsNeedle text (10 ∷ 37 ∷ []) 0 None → IsBefore text (length text)
-none-found-before text plain none =
-    plain-body text (length text) plain (body-all text (λ j there. let within = there.0 in none j (omega arith) (omega arith) (ends-occurs text j there)))
+  where
+    some-before : (x : ℕ) (rest : List ℕ) → first_line (cut_lines (x ∷ rest)) ++ bytes_before (rest_of (cut_lines (x ∷ rest))) ≡ [] → ⊥
+    some-before x rest is = elim (cases_Bool (is_line_feed x)) [
+      | inl feed ↦ (let one = rw feed at is in cc)
+      | inr other ↦ (let one = rw (other, onto-first x (cut_lines rest)) at is in cc)
+    ]

@@ -3,9 +3,11 @@ use Rattle.std.proofs.Common.{◌≡◌, ℕ, List, Ok, subst, codes}
 use Rattle.auction_terms.specs.Limits.{IsBook, IsLots}
 use Rattle.auction_input.specs.Auction.{Auction, auction_told}
 use Rattle.auction_input.specs.BookLeft.{sale_left}
+use Rattle.auction_input.specs.Input.{Input}
 use Rattle.auction_input.specs.Parts.{parts_named}
 use Rattle.auction_input.specs.PartsTold.{only_text, parts_told}
 use Rattle.auction_input.specs.TextsTold.{form_told, groups_told, terms_told}
+use Rattle.auction_input.specs.inside.Auctions.{bidders_of}
 use Rattle.auction_terms.specs.Stages.{each_in_turn}
 use Rattle.auction_input.specs.declared.refusal.Refusal.TheVariants as refusal
 use Rattle.requests.specs.declared.request.Request.{Request}
@@ -14,14 +16,14 @@ use Rattle.auction_input.proofs.LimitFacts.{book-within, forms-within, terms-few
 use Rattle.auction_input.proofs.LotFacts.{lots-within}
 
 -- an auction that is told has lots and a book within the limits
-pub auction-within : (asked : Request) (input : List ℕ) (auction : Auction) → auction_told asked input ≡ Ok auction → IsLots auction.sale.lots × IsBook auction.sale.lots auction.sale.book
+pub auction-within : (asked : Request) (input : Input) (auction : Auction) → auction_told asked input ≡ Ok auction → IsLots auction.sale.lots × IsBook auction.sale.lots auction.sale.book
 auction-within asked input auction told =
     let (parts, parts_are, more) = ok-behind (parts_told asked input) _ auction told in
     let rules = only_text (parts_named (codes "%rules") parts) in
     let (t, t_is, more_forms) = ok-behind (terms_told rules) _ auction more in
     let (forms, forms_are, more_groups) = ok-behind (each_in_turn (form_told t) 1 (parts_named (codes "%form") parts)) _ auction more_forms in
     let (groups, groups_are, more_calls) = ok-behind (groups_told t (only_text (parts_named (codes "%groups") parts))) _ auction more_groups in
-    let whole : Auction = record { rules = t; sale = sale_left t forms; groups = groups; solutions = parts_named (codes "%solution") parts; certificates = parts_named (codes "%certificate") parts; uniques = parts_named (codes "%unique") parts; ties = parts_named (codes "%tie") parts } in
+    let whole : Auction = record { rules = t; sale = sale_left t forms; form_bidders = bidders_of forms; groups = groups; solutions = parts_named (codes "%solution") parts; certificates = parts_named (codes "%certificate") parts; uniques = parts_named (codes "%unique") parts; ties = parts_named (codes "%tie") parts; prices = parts_named (codes "%prices") parts; covers = parts_named (codes "%cover") parts; weights = parts_named (codes "%weights") parts } in
     let is : whole ≡ auction = (unless-ok _ whole auction (ok-refused_as refusal.CallLimit _ auction more_calls)).1 in
     let within = book-within t forms (terms-few rules t t_is) (forms-within t 1 (parts_named (codes "%form") parts) forms forms_are) in
     subst (λ (a : Auction). IsLots a.sale.lots × IsBook a.sale.lots a.sale.book) is (lots-within rules t t_is, within)

@@ -6,6 +6,7 @@ use Rattle.mps_meaning.specs.declared.fault.FaultKind.TheVariants as kind
 use Rattle.auction_input.specs.Line.{line}
 use Rattle.auction_input.specs.declared.part_kind.PartKind.TheVariants as part
 use Rattle.auction_input.specs.declared.refusal.Refusal.TheVariants as refusal
+use Rattle.price_texts.specs.declared.price_fault.PriceFault.TheVariants as price
 use Rattle.program_faults.specs.declared.certificate_fault.FaultKind.TheVariants as certificate
 
 below_reserve : line (refusal.Form 1 (form.BelowReserve 2)) ≡ codes "wdp: form 1: 12 BelowReserve at record 2\n"
@@ -33,3 +34,20 @@ unique_refused = refl
 
 tie_refused : line (refusal.TieRowBroken (codes "B1")) ≡ codes "wdp: tie: 8 RowBroken at row B1\n"
 tie_refused = refl
+
+prices : line (refusal.PartCount part.Prices) ≡ codes "wdp: input: wrong number of prices\n"
+prices = refl
+
+below_the_reserve : line (refusal.Prices (price.BelowReserve 3)) ≡ codes "wdp: prices: 8 BelowReserve at line 3\n"
+unfolding digits
+below_the_reserve = refl
+
+without_price : line (refusal.MissingPrice (codes "Beta")) ≡ codes "wdp: prices: 6 MissingWinner Beta\n"
+without_price = refl
+
+not_covered : line (refusal.Cover (record { line = 3; kind = certificate.NotShown })) ≡ codes "wdp: cover: 9 NotShown at line 3\n"
+unfolding digits
+not_covered = refl
+
+no_scale : line (refusal.Weights price.NoScale) ≡ codes "wdp: weights: 9 NoScale\n"
+no_scale = refl

@@ -1,7 +1,8 @@
 -- The auction that an input tells: its parts, rules, forms and groups, and the call limit, in this order.
-use Rattle.std.specs.Prelude.{ℕ, List, [], Result, Ok, codes}
+use Rattle.std.specs.Prelude.{ℕ, List, [], Result, Ok, codes, map}
 use Rattle.auction_input.specs.BookLeft.{sale_left}
 use Rattle.auction_input.specs.Calls.{one_too_many}
+use Rattle.auction_input.specs.Input.{Input}
 use Rattle.auction_input.specs.Parts.{parts_named}
 use Rattle.auction_input.specs.PartsTold.{only_text, parts_told}
 use Rattle.auction_input.specs.TextsTold.{form_told, groups_told, terms_told}
@@ -12,18 +13,23 @@ use Rattle.auction_terms.specs.FirstFault.{first_fault}
 use Rattle.auction_terms.specs.Stages.{and_then, each_in_turn, refused_as, unless}
 use Rattle.auction_terms.specs.Terms.{Terms}
 use Rattle.bid_desk.specs.Sale.{Sale}
+use Rattle.bid_forms.specs.Offers.{Offers}
 
--- the rules, the sale by them, the groups that are left out of it, and the texts of solutions and of certificates; what is claimed of other outcomes: texts of certificates that there is none as good, and of solutions that are
+-- the rules, the sale by them, the bidder of each form in the order of the input, the groups that are left out of the sale, and the texts of solutions and of certificates; what is claimed of other outcomes: texts of certificates that there is none as good, and of solutions that are; and texts of prices, of certificates that they cover every group, and of weights
 pub record Auction : Type 0 where
   pub rules : Terms
   pub sale : Sale
+  pub form_bidders : List ℕ
   pub groups : List (List ℕ)
   pub solutions : List (List ℕ)
   pub certificates : List (List ℕ)
   pub uniques : List (List ℕ)
   pub ties : List (List ℕ)
+  pub prices : List (List ℕ)
+  pub covers : List (List ℕ)
+  pub weights : List (List ℕ)
 
-abbrev pub auction_told : Request → List ℕ → Result Auction Refusal
+abbrev pub auction_told : Request → Input → Result Auction Refusal
 auction_told asked input =
     and_then (parts_told asked input) (λ parts.
     and_then (terms_told (only_text (parts_named (codes "%rules") parts))) (λ t.
@@ -32,9 +38,13 @@ auction_told asked input =
     refused_as refusal.CallLimit (unless (first_fault one_too_many [] forms) (Ok (record {
       rules = t;
       sale = sale_left t forms;
+      form_bidders = map (λ (form : Offers). form.bidder) forms;
       groups = groups;
       solutions = parts_named (codes "%solution") parts;
       certificates = parts_named (codes "%certificate") parts;
       uniques = parts_named (codes "%unique") parts;
       ties = parts_named (codes "%tie") parts;
+      prices = parts_named (codes "%prices") parts;
+      covers = parts_named (codes "%cover") parts;
+      weights = parts_named (codes "%weights") parts;
     })))))))

@@ -1,9 +1,13 @@
 pub mod Auction
 pub mod BookLeft
 pub mod Calls
+pub mod FileTexts
+pub mod FileWords
+pub mod Input
 pub mod Line
 pub mod Parts
 pub mod PartsTold
+pub mod Places
 pub mod Plan
 pub mod ReadInput
 pub mod Refused

@@ -14,6 +14,8 @@ use Rattle.program_faults.specs.MpsFaultText.{mps_fault_text}
 use Rattle.byte_sinks.specs.Sinks.{HasFailed, SentFront}
 use Rattle.byte_sinks.specs.declared.write_fault.WriteFault.TheVariants as write
 use Rattle.program_faults.specs.CertificateFaultText.{certificate_fault_text}
+use Rattle.price_texts.specs.PriceFaultText.{price_fault_text}
+use Rattle.price_texts.specs.declared.price_fault.PriceFault.TheVariants as price
 use Rattle.program_faults.specs.SolutionFaultText.{solution_fault_text}
 use Rattle.auction_terms.specs.declared.groups_text.GroupFault.TheVariants as groups
 use Rattle.auction_terms.specs.declared.rules_text.RulesFault.TheVariants as rules
@@ -33,6 +35,8 @@ refusal_text (refusal.Form n form.OutOfMemory) = codes "out of memory"
 refusal_text (refusal.Groups groups.OutOfMemory) = codes "out of memory"
 refusal_text (refusal.Solution n solution.OutOfMemory) = codes "out of memory"
 refusal_text (refusal.Tie solution.OutOfMemory) = codes "out of memory"
+refusal_text (refusal.Prices price.OutOfMemory) = codes "out of memory"
+refusal_text (refusal.Weights price.OutOfMemory) = codes "out of memory"
 refusal_text (refusal.Input input.ReadFailed) = codes "input: read failed"
 refusal_text (refusal.Input input.TooLarge) = codes "input: too large"
 refusal_text (refusal.Parts part.BeforeFirst) = codes "input: bytes before the first part"
@@ -42,6 +46,9 @@ refusal_text (refusal.PartCount kind_of_part.Form) = codes "input: wrong number 
 refusal_text (refusal.PartCount kind_of_part.Groups) = codes "input: wrong number of groups"
 refusal_text (refusal.PartCount kind_of_part.Solution) = codes "input: wrong number of solutions"
 refusal_text (refusal.PartCount kind_of_part.Certificate) = codes "input: wrong number of certificates"
+refusal_text (refusal.PartCount kind_of_part.Prices) = codes "input: wrong number of prices"
+refusal_text (refusal.PartCount kind_of_part.Cover) = codes "input: wrong number of covers"
+refusal_text (refusal.PartCount kind_of_part.Weights) = codes "input: wrong number of weights"
 refusal_text (refusal.PartCount claimed) = codes "input: wrong number of unique and tie"
 refusal_text (refusal.Rules f) = codes "rules: " ++ rules_fault_text f
 refusal_text (refusal.Form n f) = (codes "form " ++ (decimal n ++ codes ": ")) ++ form_fault_text f
@@ -62,6 +69,10 @@ refusal_text (refusal.TieBoundBroken name) = codes "tie: 7 BoundBroken at column
 refusal_text (refusal.TieRowBroken name) = codes "tie: 8 RowBroken at row " ++ name
 refusal_text refusal.LowerTie = codes "tie: total below that of group 1"
 refusal_text refusal.SameTie = codes "tie: same winners as group 1"
+refusal_text (refusal.Prices f) = codes "prices: " ++ price_fault_text f
+refusal_text (refusal.MissingPrice name) = codes "prices: 6 MissingWinner " ++ name
+refusal_text (refusal.Cover f) = elim (f.kind) [ certificate.OutOfMemory ↦ codes "out of memory" | k ↦ codes "cover: " ++ certificate_fault_text f.line f.kind ]
+refusal_text (refusal.Weights f) = codes "weights: " ++ price_fault_text f
 refusal_text (refusal.Write (write.Sink written)) = codes "write failed after " ++ (decimal written ++ codes " bytes")
 
 -- and its line

@@ -1,9 +1,10 @@
 -- The parts of the input. A line that begins with a percent sign heads a part, whose bytes run up to the next such line.
-use Rattle.std.specs.Prelude.{Vec, ◌≡◌, ◌==◌, ◌+◌, ◌++◌, Bool, ⊤, ℕ, List, [], ◌∷◌, Option, None, Some, Result, Ok, Err, codes, filter, if◌then◌else◌, length, map, slice_index, slice_index_or}
+use Rattle.std.specs.Prelude.{Vec, ◌≡◌, ◌==◌, ◌+◌, ◌++◌, Bool, ⊤, not, ℕ, List, [], ◌∷◌, Option, None, Some, Result, Ok, Err, codes, filter, if◌then◌else◌, length, map, slice_index, slice_index_or}
 use Rattle.std.specs.Option.{option_or}
 use Rattle.std.specs.List.{list_any}
 use Rattle.std.specs.Str.{bytes_eq}
 use Rattle.std.specs.declared.alloc.Global.{Global}
+use Rattle.auction_input.specs.Input.{Given, Input}
 use Rattle.auction_input.specs.declared.parts.PartFault.TheVariants as fault
 use Rattle.auction_input.specs.declared.parts.PartFault.{PartFault}
 use Rattle.auction_input.specs.declared.part_kind.PartKind.TheVariants as kind
@@ -27,8 +28,9 @@ cut_lines (b ∷ rest) = if is_line_feed b then (b ∷ []) ∷ cut_lines rest el
 abbrev pub heads_part : List ℕ → Bool
 heads_part line = slice_index line 0 == 37
 
--- the name in the line that heads a part, and the bytes after that line
+-- the number of the text that a part is of, the name in the line that heads it, and the bytes after that line
 pub record Part : Type 0 where
+  pub text : ℕ
   pub name : List ℕ
   pub bytes : List ℕ
 
@@ -37,15 +39,28 @@ abbrev pub bytes_before : List (List ℕ) → List ℕ
 bytes_before [] = []
 bytes_before (line ∷ more) = if heads_part line then [] else line ++ bytes_before more
 
--- the parts of a list of lines
-abbrev pub parts_in : List (List ℕ) → List Part
-parts_in [] = []
-parts_in (line ∷ more) = if heads_part line then record { name = slice_index_or (lines_of line) 0 []; bytes = bytes_before more } ∷ parts_in more else parts_in more
+-- the parts of the lines of text n
+abbrev pub parts_in : ℕ → List (List ℕ) → List Part
+parts_in n [] = []
+parts_in n (line ∷ more) = if heads_part line then record { text = n; name = slice_index_or (lines_of line) 0 []; bytes = bytes_before more } ∷ parts_in n more else parts_in n more
 
--- the names that a part may have; certificates, and what is claimed of other outcomes, are for `verify`, and for `explain`, which lets them be
+-- the parts of texts, which are numbered from n on; each text is cut by itself
+abbrev pub parts_from : ℕ → List Given → List Part
+parts_from n [] = []
+parts_from n (given ∷ more) = parts_in n (cut_lines given.bytes) ++ parts_from (n + 1) more
+
+-- the parts of an input, in the order of its texts, which are numbered from 0
+abbrev pub input_parts : Input → List Part
+input_parts input = parts_from 0 input.texts
+
+-- whether a text has bytes before its first part
+abbrev pub has_bytes_before : Given → Bool
+has_bytes_before given = not (length (bytes_before (cut_lines given.bytes)) == 0)
+
+-- the names that a part may have; certificates, what is claimed of other outcomes, and prices are for `verify`, and for `explain`, which ignores them
 abbrev pub part_names : Request → List (List ℕ)
-part_names (request.Verify workers) = codes "%rules" ∷ codes "%form" ∷ codes "%groups" ∷ codes "%solution" ∷ codes "%certificate" ∷ codes "%unique" ∷ codes "%tie" ∷ []
-part_names (request.Explain bids) = codes "%rules" ∷ codes "%form" ∷ codes "%groups" ∷ codes "%solution" ∷ codes "%certificate" ∷ codes "%unique" ∷ codes "%tie" ∷ []
+part_names (request.Verify workers) = codes "%rules" ∷ codes "%form" ∷ codes "%groups" ∷ codes "%solution" ∷ codes "%certificate" ∷ codes "%unique" ∷ codes "%tie" ∷ codes "%prices" ∷ codes "%cover" ∷ codes "%weights" ∷ []
+part_names (request.Explain bids) = codes "%rules" ∷ codes "%form" ∷ codes "%groups" ∷ codes "%solution" ∷ codes "%certificate" ∷ codes "%unique" ∷ codes "%tie" ∷ codes "%prices" ∷ codes "%cover" ∷ codes "%weights" ∷ []
 part_names asked = codes "%rules" ∷ codes "%form" ∷ codes "%groups" ∷ codes "%solution" ∷ []
 
 -- a part of no such name, given the parts before it
@@ -53,10 +68,10 @@ abbrev pub part_fault : Request → List Part → Part → Option PartFault
 part_fault asked before p = if list_any (bytes_eq p.name) (part_names asked) then None else Some (fault.PartName (length before + 1))
 
 -- the first fault of the input
-abbrev pub input_fault : Request → List ℕ → Option PartFault
-input_fault asked text =
-    option_or (if length (bytes_before (cut_lines text)) == 0 then None else Some fault.BeforeFirst)
-    (first_fault (part_fault asked) [] (parts_in (cut_lines text)))
+abbrev pub input_fault : Request → Input → Option PartFault
+input_fault asked input =
+    option_or (if list_any has_bytes_before input.texts then Some fault.BeforeFirst else None)
+    (first_fault (part_fault asked) [] (input_parts input))
 
 -- the bytes of the parts of a name, in the order of the input
 abbrev pub parts_named : List ℕ → List Part → List (List ℕ)
@@ -71,13 +86,16 @@ name_of kind.Solution = codes "%solution"
 name_of kind.Certificate = codes "%certificate"
 name_of kind.Unique = codes "%unique"
 name_of kind.Tie = codes "%tie"
+name_of kind.Prices = codes "%prices"
+name_of kind.Cover = codes "%cover"
+name_of kind.Weights = codes "%weights"
 
 -- what is held of parts, by the names of their kinds
 abbrev pub parts_held : List declared.Part → List Part
-parts_held held = map (λ (part : declared.Part). record { name = name_of part.kind; bytes = part.bytes.now }) held
+parts_held held = map (λ (part : declared.Part). record { text = part.text; name = name_of part.kind; bytes = part.bytes.now }) held
 
 -- the parts, where the input has no fault, and else the first fault; or memory was short
-abbrev pub TellsParts : Request → Result (Vec declared.Part Global) PartFault → List ℕ → Type 0
-TellsParts asked (Ok held) text = (input_fault asked text ≡ None) × (parts_held held.items ≡ parts_in (cut_lines text))
-TellsParts asked (Err fault.OutOfMemory) text = ⊤
-TellsParts asked (Err f) text = input_fault asked text ≡ Some f
+abbrev pub TellsParts : Request → Result (Vec declared.Part Global) PartFault → Input → Type 0
+TellsParts asked (Ok held) input = (input_fault asked input ≡ None) × (parts_held held.items ≡ input_parts input)
+TellsParts asked (Err fault.OutOfMemory) input = ⊤
+TellsParts asked (Err f) input = input_fault asked input ≡ Some f

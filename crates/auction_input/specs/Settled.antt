@@ -2,6 +2,7 @@
 use Rattle.std.specs.Prelude.{◌≡◌, ◌≢◌, ◌⊎◌, ℕ, List, Ok, codes}
 use Rattle.auction_input.specs.Auction.{Auction, auction_told}
 use Rattle.auction_terms.specs.Borrowed.{bytes_of}
+use Rattle.auction_input.specs.Input.{Input}
 use Rattle.auction_input.specs.Parts.{Part, parts_named}
 use Rattle.auction_input.specs.PartsTold.{only_text, parts_told}
 use Rattle.auction_input.specs.Refused.{Refuses}
@@ -20,18 +21,18 @@ use Rattle.bid_desk.specs.Sale.{sale_of}
 
 -- what an auction that is settled holds
 abbrev pub held : declared.Auction → Auction
-held auction = record { rules = auction.book.rules; sale = sale_of auction.book; groups = auction.groups; solutions = bytes_of auction.solutions.items; certificates = bytes_of auction.certificates.items; uniques = bytes_of auction.uniques.items; ties = bytes_of auction.ties.items }
+held auction = record { rules = auction.book.rules; sale = sale_of auction.book; form_bidders = auction.form_bidders.items; groups = auction.groups; solutions = bytes_of auction.solutions.items; certificates = bytes_of auction.certificates.items; uniques = bytes_of auction.uniques.items; ties = bytes_of auction.ties.items; prices = bytes_of auction.prices.items; covers = bytes_of auction.covers.items; weights = bytes_of auction.weights.items }
 
 -- the auction, which the request reads, is accepted, and yet a wrong answer of the desk is told: that it gave one isn't said, since nothing is known of what a lock gives
-abbrev pub IsUnsettled : Request → List ℕ → Refusal → Type 0
+abbrev pub IsUnsettled : Request → Input → Refusal → Type 0
 IsUnsettled asked input r = (asked ≢ request.Check) × (auction : Auction) × (auction_told asked input ≡ Ok auction) × (r ≡ refusal.Round round.WrongAnswer)
 
 -- why an input leaves no settled auction
-abbrev pub RefusesAuction : Request → List ℕ → Refusal → Type 0
+abbrev pub RefusesAuction : Request → Input → Refusal → Type 0
 RefusesAuction asked input r = Refuses (auction_told asked input) r ⊎ IsUnsettled asked input r
 
 -- a book holds the forms that the input tells, which were submitted in their order under the rules that it tells
-pub record HoldsForms (asked : Request) (input : List ℕ) (book : Closing) : Type 0 where
+pub record HoldsForms (asked : Request) (input : Input) (book : Closing) : Type 0 where
   pub parts : List Part
   pub forms : List Offers
   pub parts_are : parts_told asked input ≡ Ok parts

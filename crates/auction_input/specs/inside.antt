@@ -1,5 +1,7 @@
 pub mod Auctions
+pub mod FileTexts
 pub mod InputTexts
 pub mod Parts
+pub mod Places
 pub mod Submissions
 pub mod TextsTold

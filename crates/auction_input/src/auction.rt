@@ -7,11 +7,12 @@ ghost use Rattle.auction_input.specs.Settled.{HoldsForms, RefusesAuction, held};
 ghost use Rattle.auction_input.specs.Parts.{parts_held, parts_named};
 ghost use Rattle.auction_input.specs.PartsTold.{only_text, parts_told};
 ghost use Rattle.auction_input.specs.Sold.{IsSold};
-ghost use Rattle.auction_input.specs.inside.Auctions.{HasRun, HoldTexts, RefusesInputs, RefusesRun, Tell};
+ghost use Rattle.auction_input.specs.inside.Auctions.{HasRun, HoldTexts, bidders_of, RefusesInputs, RefusesRun, Tell};
 ghost use Rattle.bid_forms.specs.Offers.{Meets};
 ghost use Rattle.auction_input.specs.TextsTold.{groups_told, terms_told};
 
 use crate::calls::check_calls;
+use crate::given::Input;
 use crate::part_kind::PartKind;
 use crate::parts::{Part, split_parts, text_of, texts_of};
 use crate::reading::{miscounted, read_forms};
@@ -25,42 +26,50 @@ use std::alloc::{AllocError, Global};
 use std::sync::Wait;
 use std::thread::Threads;
 
-/// A settled auction, the groups that are left out of it, and the texts of solutions and of certificates; what is claimed of
-/// other outcomes: texts of certificates that there is none as good, and of solutions that are.
+/// A settled auction, the bidder of each form in the order of the input, the groups that are left out of it, and the texts of solutions and of certificates; what is claimed of
+/// other outcomes: texts of certificates that there is none as good, and of solutions that are; and texts of prices, of
+/// certificates that they cover every group, and of weights.
 #[derive(Drop)]
 pub struct Auction<'t> {
     pub book: ClosedBook,
+    pub form_bidders: Vec<u16>,
     pub groups: Groups,
     pub solutions: Vec<&'t [u8]>,
     pub certificates: Vec<&'t [u8]>,
     pub uniques: Vec<&'t [u8]>,
     pub ties: Vec<&'t [u8]>,
+    pub prices: Vec<&'t [u8]>,
+    pub covers: Vec<&'t [u8]>,
+    pub weights: Vec<&'t [u8]>,
 }
 
-// The parts of a text, as many as the request takes.
+// The parts of an input, as many as the request takes.
 fn read_parts<'t>(
     alloc: Global,
     request: &Request,
-    text: &'t [u8],
+    input: &'t Input,
 ) -> Result<Vec<Part<'t>>, Refusal>
-    ensures told { IfOk result (λ held. parts_told request.now text.now
+    ensures told { IfOk result (λ held. parts_told request.now input.now
         ≡ Ok (parts_held held.items)) }
-    ensures refuses { IfErr result (Refuses (parts_told request.now text.now)) }
+    ensures refuses { IfErr result (Refuses (parts_told request.now input.now)) }
 {
-    let parts = split_parts(alloc, request, text)?;
+    let parts = split_parts(alloc, request, input)?;
     match miscounted(request, parts.as_slice()) {
         None => Ok(parts),
         Some(kind) => Err(Refusal::PartCount(kind)),
     }
 }
 
-// The texts that no round is run by: of solutions and of certificates, and of what is claimed of other outcomes.
+// The texts that the round doesn't need: of solutions and of certificates, of what is claimed of other outcomes, and of prices.
 #[derive(Drop)]
 struct Beside<'t> {
     solutions: Vec<&'t [u8]>,
     certificates: Vec<&'t [u8]>,
     uniques: Vec<&'t [u8]>,
     ties: Vec<&'t [u8]>,
+    prices: Vec<&'t [u8]>,
+    covers: Vec<&'t [u8]>,
+    weights: Vec<&'t [u8]>,
 }
 
 fn texts_beside<'t>(alloc: Global, parts: &[Part<'t>]) -> Result<Beside<'t>, AllocError>
@@ -71,6 +80,9 @@ fn texts_beside<'t>(alloc: Global, parts: &[Part<'t>]) -> Result<Beside<'t>, All
         certificates: texts_of(alloc, parts, PartKind::Certificate)?,
         uniques: texts_of(alloc, parts, PartKind::Unique)?,
         ties: texts_of(alloc, parts, PartKind::Tie)?,
+        prices: texts_of(alloc, parts, PartKind::Prices)?,
+        covers: texts_of(alloc, parts, PartKind::Cover)?,
+        weights: texts_of(alloc, parts, PartKind::Weights)?,
     })
 }
 
@@ -111,36 +123,65 @@ fn read_offers(
     Ok((forms, groups))
 }
 
-// Runs the round over the forms of these parts. With its book come the groups.
+// The bidder of each form.
+fn bidders_of(alloc: Global, forms: &[Form]) -> Result<Vec<u16>, AllocError>
+    ensures { IfOk result (λ bidders. bidders.items ≡ bidders_of forms.now) }
+{
+    let mut bidders = Vec::with_capacity(alloc, forms.len())?;
+    for form in forms {
+        bidders.push_reserved(form.bidder());
+    }
+    Ok(bidders)
+}
+
+// The round over the forms of an input: its book, the bidder of each form, and the groups.
+#[derive(Drop)]
+struct Run {
+    book: ClosedBook,
+    form_bidders: Vec<u16>,
+    groups: Groups,
+}
+
+// Runs the round over the forms of these parts.
 fn close_auction<R: Threads + Wait + Sync + AllocGlobal>(
     rt: &R,
     parts: &[Part<'_>],
-) -> Result<(ClosedBook, Groups), Refusal>
-    ensures told { IfOk result (λ run. HasRun (parts_held parts.now) run.0 run.1) }
+) -> Result<Run, Refusal>
+    ensures told { IfOk result (λ run. HasRun (parts_held parts.now) run.book
+        run.form_bidders.items run.groups) }
     ensures refuses { IfErr result (RefusesRun (parts_held parts.now)) }
 {
     let alloc: Global = rt.alloc();
     let rules = rules_in(alloc, text_of(parts, PartKind::Rules))?;
     let (forms, groups) = read_offers(rt, alloc, parts, &rules)?;
+    let form_bidders = bidders_of(alloc, forms.as_slice())?;
     let book = close_round(rt, rules, forms)?;
-    Ok((book, groups))
+    Ok(Run {
+        book,
+        form_bidders,
+        groups,
+    })
 }
 
 /// Reads the rules, the forms and the groups, tests the call limit, and runs the round.
 pub fn read_auction<'t, R: Threads + Wait + Sync + AllocGlobal>(
     rt: &R,
     request: &Request,
-    text: &'t [u8],
+    input: &'t Input,
 ) -> Result<Auction<'t>, Refusal>
     requires { request.now ≢ Request.Check }
-    ensures told { IfOk result (λ auction. auction_told request.now text.now ≡ Ok (held auction)) }
-    ensures submitted { IfOk result (λ auction. HoldsForms request.now text.now auction.book) }
-    ensures sold { IfOk result (λ auction. IsSold request.now text.now (held auction)) }
-    ensures refuses { IfErr result (RefusesAuction request.now text.now) }
+    ensures told { IfOk result (λ auction. auction_told request.now input.now ≡ Ok (held auction)) }
+    ensures submitted { IfOk result (λ auction. HoldsForms request.now input.now auction.book) }
+    ensures sold { IfOk result (λ auction. IsSold request.now input.now (held auction)) }
+    ensures refuses { IfErr result (RefusesAuction request.now input.now) }
 {
-    let parts = read_parts(rt.alloc(), request, text)?;
+    let parts = read_parts(rt.alloc(), request, input)?;
     let beside = texts_beside(rt.alloc(), parts.as_slice())?;
-    let (book, groups) = close_auction(rt, parts.as_slice())?;
+    let Run {
+        book,
+        form_bidders,
+        groups,
+    } = close_auction(rt, parts.as_slice())?;
     // Its contract says that the book is closed.
     let _history = book.history();
     let Beside {
@@ -148,13 +189,20 @@ pub fn read_auction<'t, R: Threads + Wait + Sync + AllocGlobal>(
         certificates,
         uniques,
         ties,
+        prices,
+        covers,
+        weights,
     } = beside;
     Ok(Auction {
         book,
+        form_bidders,
         groups,
         solutions,
         certificates,
         uniques,
         ties,
+        prices,
+        covers,
+        weights,
     })
 }

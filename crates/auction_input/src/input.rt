@@ -1,8 +1,14 @@
 //! Reading the input.
 
-ghost use Rattle.std.specs.Prelude.{◌≡◌, IfErr, IfOk, OnOk};
-ghost use Rattle.auction_input.specs.ReadInput.{IsUntaken, IsWhole};
+ghost use Rattle.std.specs.Prelude.{◌≡◌, ◌≢◌, ◌≤◌, ◌<◌, ◌++◌, ◌∷◌, [], ℕ, IfErr, IfOk, List, None, OnOk, length, sum_by};
+ghost use Rattle.auction_input.specs.FileTexts.{AreRead, IsContent, IsInputRead, IsTextOf, IsUnread, IsUnreadOf, is_standard_input, named_files};
+ghost use Rattle.auction_input.specs.Input.{input_of};
+ghost use Rattle.auction_input.specs.inside.FileTexts.{fault_among};
+ghost use Rattle.auction_input.specs.ReadInput.{IsUntaken, IsUntakenOf, IsWhole, IsWholeWithin};
+ghost use Rattle.auction_input.specs.declared.files.FilePlace.TheVariants as place_of_file;
 
+use crate::files::{FileFault, FilePlace, FileRefusal, Files};
+use crate::given::{Given, Input};
 use crate::source::Source;
 use std::alloc::{AllocError, Global};
 use std::io::Read;
@@ -22,6 +28,14 @@ pub enum InputFault {
     OutOfMemory,
 }
 
+/// Why what a command reads isn't read.
+#[derive(Clone, Copy, Debug, PartialEq, Eq)]
+pub enum Unread {
+    /// Standard input isn't, or all texts together are too large, or memory was short.
+    Input(InputFault),
+    File(FileRefusal),
+}
+
 impl From<AllocError> for InputFault {
     ghost use Rattle.std.specs.Prelude.{◌≡◌};
     ghost use Rattle.auction_input.specs.declared.input.InputFault.TheVariants.{OutOfMemory};
@@ -33,18 +47,23 @@ impl From<AllocError> for InputFault {
     }
 }
 
-/// Reads all bytes of an input, and at most one byte more than the limit.
-pub fn read_input<I: Read>(alloc: Global, input: &mut Source<I>) -> Result<Vec<u8>, InputFault>
-    ensures whole { IfOk result (λ text. IsWhole (I.remaining input.old.reader)
+// Reads all bytes of a source, and at most one byte more than so many.
+fn read_bytes<I: Read>(
+    alloc: Global,
+    input: &mut Source<I>,
+    limit: usize,
+) -> Result<Vec<u8>, InputFault>
+    requires { limit ≤ INPUT_LIMIT }
+    ensures whole { IfOk result (λ text. IsWholeWithin limit (I.remaining input.old.reader)
         (I.remaining input.new.reader) text.items) }
     ensures unfailed { OnOk result (input.new.failures ≡ input.old.failures) }
-    ensures untaken { IfErr result (λ f. IsUntaken f (I.remaining input.old.reader)
+    ensures untaken { IfErr result (λ f. IsUntakenOf limit f (I.remaining input.old.reader)
         (I.remaining input.new.reader) input.old.failures input.new.failures) }
 {
     let mut text: Vec<u8> = Vec::new(alloc);
     let mut block = [0u8; BLOCK_LEN];
-    while text.len() <= INPUT_LIMIT {
-        let room = INPUT_LIMIT + 1 - text.len();
+    while text.len() <= limit {
+        let room = limit + 1 - text.len();
         let most = room.min(BLOCK_LEN);
         let Ok(count) = input.read(&mut block[..most]) else {
             return Err(InputFault::ReadFailed);
@@ -55,4 +74,200 @@ pub fn read_input<I: Read>(alloc: Global, input: &mut Source<I>) -> Result<Vec<u
         text.extend_from_slice(&block[..count])?;
     }
     Err(InputFault::TooLarge)
+}
+
+// A file at that place isn't read.
+fn refused(place: usize, fault: FileFault) -> Unread
+    ensures { result ≡ Unread.File (record { file = place_of_file.Read place; fault = fault }) }
+{
+    Unread::File(FileRefusal {
+        file: FilePlace::Read(place),
+        fault,
+    })
+}
+
+// Reads the file of a name, which is at that place, with at most so many bytes.
+fn read_file<D: Files>(
+    alloc: Global,
+    files: &D,
+    name: &str,
+    place: usize,
+    limit: usize,
+) -> Result<Vec<u8>, Unread>
+    requires { limit ≤ INPUT_LIMIT }
+    ensures within { IfOk result (λ text. length text.items ≤ limit) }
+    ensures content { IfOk result (λ text. IsContent (D.content files.now name.now) text.items) }
+    ensures unread { IfErr result (λ f. f ≢ Unread.Input InputFault.ReadFailed) }
+{
+    let file = match files.open(name) {
+        Ok(file) => file,
+        Err(fault) => return Err(refused(place, fault)),
+    };
+    match read_bytes(alloc, &mut Source::new(file), limit) {
+        Ok(bytes) => Ok(bytes),
+        Err(InputFault::ReadFailed) => Err(refused(place, FileFault::ReadFailed)),
+        Err(fault) => Err(Unread::Input(fault)),
+    }
+}
+
+/// Whether a name stands for standard input.
+pub fn is_standard_input(name: &str) -> bool
+    ensures { result ≡ is_standard_input name.now }
+{
+    name == "-" || name == "/dev/stdin"
+}
+
+// Reads what a name, which is at that place, stands for, with at most so many bytes.
+fn read_named<D: Files, I: Read>(
+    alloc: Global,
+    files: &D,
+    name: &str,
+    place: usize,
+    input: &mut Source<I>,
+    limit: usize,
+) -> Result<Vec<u8>, Unread>
+    requires { limit ≤ INPUT_LIMIT }
+    ensures within { IfOk result (λ text. length text.items ≤ limit) }
+    ensures text { IfOk result (λ text. IsTextOf (D.content files.now) name.now
+        (I.remaining input.old.reader) (I.remaining input.new.reader) text.items) }
+    ensures unfailed { OnOk result (input.new.failures ≡ input.old.failures) }
+    ensures unread { IfErr result (λ f. IsUnreadOf f (I.remaining input.old.reader)
+        (I.remaining input.new.reader) input.old.failures input.new.failures) }
+{
+    if !is_standard_input(name) {
+        return read_file(alloc, files, name, place, limit);
+    }
+    match read_bytes(alloc, input, limit) {
+        Ok(bytes) => Ok(bytes),
+        Err(fault) => Err(Unread::Input(fault)),
+    }
+}
+
+// The fault of the text at a place among so many: with others it may not be empty, and where one follows its last line has an end.
+fn fault_among(text: &[u8], place: usize, count: usize) -> Option<FileFault>
+    requires { place < count }
+    ensures { result ≡ fault_among text.now place count }
+{
+    if count == 1 {
+        return None;
+    }
+    if text.is_empty() {
+        return Some(FileFault::Empty);
+    }
+    if place + 1 < count && text[text.len() - 1] != b'\n' {
+        return Some(FileFault::NoLineEnd);
+    }
+    None
+}
+
+// Reads the text of a name, which is at that place among so many, with at most so many bytes.
+fn read_given<D: Files, I: Read>(
+    alloc: Global,
+    files: &D,
+    name: &str,
+    place: usize,
+    count: usize,
+    input: &mut Source<I>,
+    limit: usize,
+) -> Result<Given, Unread>
+    requires place { place < count }
+    requires limit { limit ≤ INPUT_LIMIT }
+    ensures within { IfOk result (λ given. length given.bytes ≤ limit) }
+    ensures name { IfOk result (λ given. given.name ≡ name.now) }
+    ensures text { IfOk result (λ given. IsTextOf (D.content files.now) given.name
+        (I.remaining input.old.reader) (I.remaining input.new.reader) given.bytes) }
+    ensures sound { IfOk result (λ given. fault_among given.bytes place count ≡ None) }
+    ensures unfailed { OnOk result (input.new.failures ≡ input.old.failures) }
+    ensures unread { IfErr result (λ f. IsUnreadOf f (I.remaining input.old.reader)
+        (I.remaining input.new.reader) input.old.failures input.new.failures) }
+{
+    let bytes = match read_named(alloc, files, name, place, input, limit) {
+        Ok(bytes) => bytes,
+        Err(fault) => return Err(fault),
+    };
+    if let Some(fault) = fault_among(bytes.as_slice(), place, count) {
+        return Err(refused(place, fault));
+    }
+    match Vec::from_slice(alloc, name.as_bytes()) {
+        Ok(name) => Ok(Given::new(name, bytes)),
+        Err(_) => Err(Unread::Input(InputFault::OutOfMemory)),
+    }
+}
+
+fn add_given(texts: &mut Vec<Given>, given: Given) -> Result<(), AllocError>
+    ensures { OnOk result (texts.new.items ≡ texts.old.items ++ given ∷ []) }
+{
+    texts.push(given)?;
+    Ok(())
+}
+
+// Reads the texts of names, in order.
+fn read_each<D: Files, I: Read>(
+    alloc: Global,
+    files: &D,
+    names: &[String],
+    input: &mut Source<I>,
+) -> Result<Vec<Given>, Unread>
+    ensures read { IfOk result (λ texts. AreRead (D.content files.now) (named_files names.now)
+        (I.remaining input.old.reader) (I.remaining input.new.reader) texts.items) }
+    ensures within { IfOk result (λ texts. sum_by (λ given. length given.bytes) texts.items
+        ≤ INPUT_LIMIT) }
+    ensures unfailed { OnOk result (input.new.failures ≡ input.old.failures) }
+    ensures unread { IfErr result (λ f. IsUnreadOf f (I.remaining input.old.reader)
+        (I.remaining input.new.reader) input.old.failures input.new.failures) }
+{
+    let mut texts = Vec::new(alloc);
+    let mut room = INPUT_LIMIT;
+    let mut place = 0;
+    for name in names {
+        let given = match read_given(alloc, files, name.as_str(), place, names.len(), input, room) {
+            Ok(given) => given,
+            Err(fault) => return Err(fault),
+        };
+        place += 1;
+        room -= given.bytes().len();
+        match add_given(&mut texts, given) {
+            Ok(()) => {}
+            Err(AllocError) => return Err(Unread::Input(InputFault::OutOfMemory)),
+        }
+    }
+    Ok(texts)
+}
+
+// Reads standard input to its end, as one text by itself.
+fn read_alone<I: Read>(alloc: Global, input: &mut Source<I>) -> Result<Input, InputFault>
+    ensures read { IfOk result (λ read. (bytes : List ℕ) × IsWhole (I.remaining input.old.reader)
+        (I.remaining input.new.reader) bytes × (read ≡ input_of bytes)) }
+    ensures unfailed { OnOk result (input.new.failures ≡ input.old.failures) }
+    ensures untaken { IfErr result (λ f. IsUntaken f (I.remaining input.old.reader)
+        (I.remaining input.new.reader) input.old.failures input.new.failures) }
+{
+    let bytes = read_bytes(alloc, input, INPUT_LIMIT)?;
+    Ok(Input::of_text(alloc, bytes)?)
+}
+
+/// Reads the texts of names, in order; without names standard input, as one text by itself.
+pub fn read_inputs<D: Files, I: Read>(
+    alloc: Global,
+    files: &D,
+    names: &[String],
+    input: &mut Source<I>,
+) -> Result<Input, Unread>
+    ensures read { IfOk result (IsInputRead (D.content files.now) (named_files names.now)
+        (I.remaining input.old.reader) (I.remaining input.new.reader)) }
+    ensures unfailed { OnOk result (input.new.failures ≡ input.old.failures) }
+    ensures unread { IfErr result (λ f. IsUnread (named_files names.now) f
+        (I.remaining input.old.reader) (I.remaining input.new.reader) input.old.failures
+        input.new.failures) }
+{
+    if names.is_empty() {
+        return match read_alone(alloc, input) {
+            Ok(given) => Ok(given),
+            Err(fault) => Err(Unread::Input(fault)),
+        };
+    }
+    match read_each(alloc, files, names, input) {
+        Ok(texts) => Ok(Input::new(texts)),
+        Err(fault) => Err(fault),
+    }
 }

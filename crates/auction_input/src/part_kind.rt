@@ -16,6 +16,9 @@ pub enum PartKind {
     Certificate,
     Unique,
     Tie,
+    Prices,
+    Cover,
+    Weights,
 }
 
 // What every request knows.
@@ -27,7 +30,7 @@ const OF_ALL: [PartKind; 4] = [
 ];
 
 // And what `verify` judges too.
-const OF_VERIFY: [PartKind; 7] = [
+const OF_VERIFY: [PartKind; 10] = [
     PartKind::Rules,
     PartKind::Form,
     PartKind::Groups,
@@ -35,6 +38,9 @@ const OF_VERIFY: [PartKind; 7] = [
     PartKind::Certificate,
     PartKind::Unique,
     PartKind::Tie,
+    PartKind::Prices,
+    PartKind::Cover,
+    PartKind::Weights,
 ];
 
 impl PartKind {
@@ -50,6 +56,9 @@ impl PartKind {
             PartKind::Certificate => b"%certificate".as_slice(),
             PartKind::Unique => b"%unique".as_slice(),
             PartKind::Tie => b"%tie".as_slice(),
+            PartKind::Prices => b"%prices".as_slice(),
+            PartKind::Cover => b"%cover".as_slice(),
+            PartKind::Weights => b"%weights".as_slice(),
         }
     }
 }

@@ -1,21 +1,24 @@
 //! The parts of the input.
 
-ghost use Rattle.std.specs.Prelude.{◌≡◌, ◌≤◌, ◌<◌, ◌++◌, ◌∷◌, ◌⊎◌, [], IfOk, OnOk, drop, filter, find, length, map, take, true};
+ghost use Rattle.std.specs.Prelude.{◌≡◌, ◌≤◌, ◌<◌, ◌++◌, ◌∷◌, ◌⊎◌, ℕ, [], IfErr, IfOk, OnOk, drop, filter, find, length, map, take, true};
+ghost use Rattle.std.specs.List.{list_any};
 ghost use Rattle.std.specs.Option.{option_copied};
-ghost use Rattle.auction_input.specs.Parts.{TellsParts, heads_part, bytes_before, cut_lines, name_of, parts_held, parts_in, parts_named};
+ghost use Rattle.auction_input.specs.Parts.{TellsParts, heads_part, bytes_before, cut_lines, has_bytes_before, name_of, parts_held, parts_in, parts_named};
 ghost use Rattle.auction_input.specs.PartsTold.{only_text};
 ghost use Rattle.auction_terms.specs.Borrowed.{bytes_of};
-ghost use Rattle.auction_input.specs.inside.Parts.{is_held, part, part_name};
+ghost use Rattle.auction_input.specs.inside.Parts.{HaveAdded, IsFaultBehind, is_held, part, part_name};
 
+use crate::given::{Given, Input};
 use crate::part_kind::{PartKind, kind_named};
 use auction_terms::LineReader;
 use memchr::memmem;
 use requests::Request;
 use std::alloc::{AllocError, Global};
 
-/// A part of the input: its kind, and the bytes behind the line that heads it.
+/// A part of the input: the number of its text, from 0, its kind, and the bytes behind the line that heads it.
 #[derive(Clone, Copy)]
 pub struct Part<'t> {
+    pub text: usize,
     pub kind: PartKind,
     pub bytes: &'t [u8],
 }
@@ -64,7 +67,8 @@ fn is_headed(text: &[u8]) -> bool
 fn body_end(text: &[u8]) -> usize
     ensures within { result ≤ length text.now }
     ensures bytes { bytes_before (cut_lines text.now) ≡ take result text.now }
-    ensures parts { parts_in (cut_lines text.now) ≡ parts_in (cut_lines (drop result text.now)) }
+    ensures parts { (n : ℕ) → parts_in n (cut_lines text.now)
+        ≡ parts_in n (cut_lines (drop result text.now)) }
     ensures next { result < length text.now → heads_part (drop result text.now) ≡ true }
 {
     if is_headed(text) {
@@ -76,8 +80,8 @@ fn body_end(text: &[u8]) -> usize
     }
 }
 
-// The name in the line that heads a part.
-fn head_name(head: &[u8]) -> &[u8]
+/// The name in the line that heads a part.
+pub fn head_name(head: &[u8]) -> &[u8]
     ensures { result.now ≡ part_name head.now }
 {
     match LineReader::new(head).next() {
@@ -86,25 +90,34 @@ fn head_name(head: &[u8]) -> &[u8]
     }
 }
 
-// A part, and what comes after it.
+/// A part, and what comes after it.
 #[derive(Clone, Copy)]
-struct FirstPart<'t> {
-    head: &'t [u8],
-    bytes: &'t [u8],
-    rest: &'t [u8],
+pub struct FirstPart<'t> {
+    pub head: &'t [u8],
+    pub bytes: &'t [u8],
+    pub rest: &'t [u8],
 }
 
-// The first part of a text that begins with one.
-fn first_part(text: &[u8]) -> FirstPart<'_>
+/// The first part of a text that begins with one.
+pub fn first_part(text: &[u8]) -> FirstPart<'_>
     requires { heads_part text.now ≡ true }
-    ensures parts { parts_in (cut_lines text.now)
-        ≡ part result.head.now result.bytes.now ∷ parts_in (cut_lines result.rest.now) }
+    ensures parts { (n : ℕ) → parts_in n (cut_lines text.now)
+        ≡ part n result.head.now result.bytes.now ∷ parts_in n (cut_lines result.rest.now) }
     ensures shorter { length result.rest.now < length text.now }
     ensures next { (result.rest.now ≡ []) ⊎ (heads_part result.rest.now ≡ true) }
 {
     let (head, after) = text.split_at(line_end(text));
     let (bytes, rest) = after.split_at(body_end(after));
     FirstPart { head, bytes, rest }
+}
+
+/// What comes after the bytes before the first part.
+pub fn without_bytes_before(text: &[u8]) -> &[u8]
+    ensures parts { (n : ℕ) → parts_in n (cut_lines text.now) ≡ parts_in n (cut_lines result.now) }
+    ensures within { length result.now ≤ length text.now }
+    ensures next { (result.now ≡ []) ⊎ (heads_part result.now ≡ true) }
+{
+    text.split_at(body_end(text)).1
 }
 
 fn add_part<'t>(parts: &mut Vec<Part<'t>>, part: Part<'t>) -> Result<(), AllocError>
@@ -114,18 +127,19 @@ fn add_part<'t>(parts: &mut Vec<Part<'t>>, part: Part<'t>) -> Result<(), AllocEr
     Ok(())
 }
 
-/// Splits the input of a request into its parts. No byte is copied.
-pub fn split_parts<'t>(
-    alloc: Global,
+// Adds the parts of the text of that number, which begins with its first part.
+fn add_parts<'t>(
+    parts: &mut Vec<Part<'t>>,
     request: &Request,
+    number: usize,
     text: &'t [u8],
-) -> Result<Vec<Part<'t>>, PartFault>
-    ensures { TellsParts request.now result text.now }
+) -> Result<(), PartFault>
+    requires { bytes_before (cut_lines text.now) ≡ [] }
+    ensures added { OnOk result (HaveAdded request.now (parts_held parts.old.items)
+        (parts_held parts.new.items) (parts_in number (cut_lines text.now))) }
+    ensures fault { IfErr result (IsFaultBehind request.now (parts_held parts.old.items)
+        (parts_in number (cut_lines text.now))) }
 {
-    if body_end(text) > 0 {
-        return Err(PartFault::BeforeFirst);
-    }
-    let mut parts = Vec::new(alloc);
     let mut rest = text;
     while !rest.is_empty() {
         let first = first_part(rest);
@@ -134,9 +148,48 @@ pub fn split_parts<'t>(
                 part: parts.len() + 1,
             });
         };
-        let bytes = first.bytes;
-        add_part(&mut parts, Part { kind, bytes })?;
+        let part = Part {
+            text: number,
+            kind,
+            bytes: first.bytes,
+        };
+        add_part(parts, part)?;
         rest = first.rest;
+    }
+    Ok(())
+}
+
+/// Whether a text has bytes before its first part.
+pub fn has_bytes_before(given: &Given) -> bool
+    ensures { result ≡ has_bytes_before given.now }
+{
+    body_end(given.bytes()) > 0
+}
+
+fn have_bytes_before(texts: &[Given]) -> bool
+    ensures { result ≡ list_any has_bytes_before texts.now }
+{
+    texts.iter().any(|given| has_bytes_before(given))
+}
+
+/// Splits each text of the input of a request into its parts. No byte is copied.
+pub fn split_parts<'t>(
+    alloc: Global,
+    request: &Request,
+    input: &'t Input,
+) -> Result<Vec<Part<'t>>, PartFault>
+    ensures { TellsParts request.now result input.now }
+{
+    let texts = input.texts();
+    if have_bytes_before(texts) {
+        return Err(PartFault::BeforeFirst);
+    }
+    let mut parts = Vec::new(alloc);
+    for place in 0..texts.len() {
+        match add_parts(&mut parts, request, place, texts[place].bytes()) {
+            Ok(()) => {}
+            Err(fault) => return Err(fault),
+        }
     }
     Ok(parts)
 }

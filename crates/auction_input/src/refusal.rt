@@ -2,18 +2,21 @@
 
 ghost use Rattle.std.specs.Prelude.{◌≡◌};
 ghost use Rattle.auction_input.specs.Line.{refusal_text};
+ghost use Rattle.auction_input.specs.Places.{counted_as, with_number};
 ghost use Rattle.auction_input.specs.Told.{told_text};
 
 use crate::input::InputFault;
 use crate::name::Name;
 use crate::part_kind::PartKind;
 use crate::parts::PartFault;
+use crate::places::Counted;
 use crate::round::RoundFault;
 use crate::told::Told;
 use auction_terms::{GroupFault, RulesFault, Wording};
 use bid_forms::FormFault;
 use byte_sinks::WriteFault;
 use mps_meaning::FaultKind;
+use price_texts::PriceFault;
 use program_faults::{CertificateFault, MpsFault, SolutionFault};
 use std::alloc::AllocError;
 
@@ -78,6 +81,16 @@ pub enum Refusal {
     LowerTie,
     /// The winners of a tie are those of group 1.
     SameTie,
+    /// A line of the prices.
+    Prices(PriceFault),
+    /// The prices leave out the winner of that name.
+    MissingPrice {
+        bidder: Name,
+    },
+    /// What is to show that the prices cover every group.
+    Cover(CertificateFault),
+    /// A line of the weights.
+    Weights(PriceFault),
     Write(WriteFault),
     OutOfMemory,
 }
@@ -115,6 +128,9 @@ fn in_count(kind: PartKind) -> Told<'static>
         PartKind::Solution => "input: wrong number of solutions",
         PartKind::Certificate => "input: wrong number of certificates",
         PartKind::Unique | PartKind::Tie => "input: wrong number of unique and tie",
+        PartKind::Prices => "input: wrong number of prices",
+        PartKind::Cover => "input: wrong number of covers",
+        PartKind::Weights => "input: wrong number of weights",
     }))
 }
 
@@ -122,6 +138,28 @@ impl Refusal {
     /// What is told of it. Wherever memory was short, just that is told.
     pub fn told(&self) -> Told<'_>
         ensures { told_text result ≡ refusal_text self.now }
+    {
+        self.told_as(self.number())
+    }
+
+    // The number of its part; of a refusal without one any number serves.
+    fn number(&self) -> usize
+        ensures { with_number result self.now ≡ self.now }
+    {
+        match self {
+            Refusal::Parts(PartFault::PartName { part }) => *part,
+            Refusal::Form { form, .. } | Refusal::CallLimit { form } => *form,
+            Refusal::Solution { solution, .. }
+            | Refusal::BoundBroken { solution, .. }
+            | Refusal::RowBroken { solution, .. } => *solution,
+            Refusal::Certificate { certificate, .. } => *certificate,
+            _ => 0,
+        }
+    }
+
+    /// What is told of it with another number of its part.
+    pub fn told_as(&self, number: usize) -> Told<'_>
+        ensures { told_text result ≡ refusal_text (with_number number self.now) }
     {
         match self {
             Refusal::Rules(RulesFault::OutOfMemory)
@@ -155,16 +193,27 @@ impl Refusal {
                 },
             )
             | Refusal::Tie(SolutionFault::OutOfMemory)
+            | Refusal::Prices(PriceFault::OutOfMemory)
+            | Refusal::Cover(
+                CertificateFault {
+                    kind: program_faults::FaultKind::OutOfMemory,
+                    ..
+                },
+            )
+            | Refusal::Weights(PriceFault::OutOfMemory)
             | Refusal::OutOfMemory => Told::only(Wording::Words(OUT_OF_MEMORY)),
             Refusal::Input(fault) => in_input(*fault),
+            Refusal::Parts(PartFault::PartName { .. }) => {
+                in_parts(PartFault::PartName { part: number })
+            }
             Refusal::Parts(fault) => in_parts(*fault),
             Refusal::PartCount(kind) => in_count(*kind),
             Refusal::Rules(fault) => Told::in_part("rules: ", fault.wording()),
-            Refusal::Form { form, fault } => Told::in_number("form ", *form, fault.wording()),
+            Refusal::Form { fault, .. } => Told::in_number("form ", number, fault.wording()),
             Refusal::Groups(fault) => Told::in_part("groups: ", fault.wording()),
-            Refusal::CallLimit { form } => Told::in_number(
+            Refusal::CallLimit { .. } => Told::in_number(
                 "form ",
-                *form,
+                number,
                 Wording::Words("CallLimit"),
             ),
             Refusal::Round(RoundFault::WrongAnswer) => Told::in_part(
@@ -180,24 +229,24 @@ impl Refusal {
                 Wording::Words("group 1 is not empty"),
             ),
             Refusal::Program(fault) => Told::in_part("program: ", fault.wording()),
-            Refusal::Solution { solution, fault } => Told::in_number(
+            Refusal::Solution { fault, .. } => Told::in_number(
                 "solution ",
-                *solution,
+                number,
                 fault.wording(),
             ),
-            Refusal::BoundBroken { solution, column } => Told {
-                part: Wording::Between("solution ", *solution as u64, ": "),
+            Refusal::BoundBroken { column, .. } => Told {
+                part: Wording::Between("solution ", number as u64, ": "),
                 fault: Wording::Words("7 BoundBroken at column "),
                 name: column.as_slice(),
             },
-            Refusal::RowBroken { solution, row } => Told {
-                part: Wording::Between("solution ", *solution as u64, ": "),
+            Refusal::RowBroken { row, .. } => Told {
+                part: Wording::Between("solution ", number as u64, ": "),
                 fault: Wording::Words("8 RowBroken at row "),
                 name: row.as_slice(),
             },
-            Refusal::Certificate { certificate, fault } => Told::in_number(
+            Refusal::Certificate { fault, .. } => Told::in_number(
                 "certificate ",
-                *certificate,
+                number,
                 fault.wording(),
             ),
             Refusal::Unique(fault) => Told::in_part("unique: ", fault.wording()),
@@ -217,12 +266,72 @@ impl Refusal {
                 Wording::Words("total below that of group 1"),
             ),
             Refusal::SameTie => Told::in_part("tie: ", Wording::Words("same winners as group 1")),
+            Refusal::Prices(fault) => Told::in_part("prices: ", fault.wording()),
+            Refusal::MissingPrice { bidder } => Told {
+                part: Wording::Words("prices: "),
+                fault: Wording::Words("6 MissingWinner "),
+                name: bidder.as_slice(),
+            },
+            Refusal::Cover(fault) => Told::in_part("cover: ", fault.wording()),
+            Refusal::Weights(fault) => Told::in_part("weights: ", fault.wording()),
             Refusal::Write(WriteFault::Sink { written }) => Told::only(Wording::Between(
                 "write failed after ",
                 *written,
                 " bytes",
             )),
         }
+    }
+
+    /// What is counted in each text of an input to find the one that it is of, and its number among that; nothing where
+    /// memory was short, or where it is of no text.
+    pub fn counted(&self) -> Option<(Counted, usize)>
+        ensures { result ≡ counted_as self.now }
+    {
+        let (kind, number) = match self {
+            Refusal::Rules(RulesFault::OutOfMemory)
+            | Refusal::Form {
+                fault: FormFault::OutOfMemory,
+                ..
+            }
+            | Refusal::Groups(GroupFault::OutOfMemory)
+            | Refusal::Solution {
+                fault: SolutionFault::OutOfMemory,
+                ..
+            }
+            | Refusal::Certificate {
+                fault: CertificateFault {
+                    kind: program_faults::FaultKind::OutOfMemory,
+                    ..
+                },
+                ..
+            }
+            | Refusal::Unique(
+                CertificateFault {
+                    kind: program_faults::FaultKind::OutOfMemory,
+                    ..
+                },
+            )
+            | Refusal::Tie(SolutionFault::OutOfMemory) => return None,
+            Refusal::Parts(PartFault::BeforeFirst) => return Some((Counted::BytesBefore, 1)),
+            Refusal::Parts(PartFault::PartName { part }) => return Some((Counted::Parts, *part)),
+            Refusal::Rules(_) => (PartKind::Rules, 1),
+            Refusal::Form { form, .. } | Refusal::CallLimit { form } => (PartKind::Form, *form),
+            Refusal::Groups(_) | Refusal::NoGroup { .. } | Refusal::FirstGroupNotEmpty => {
+                (PartKind::Groups, 1)
+            }
+            Refusal::Solution { solution, .. }
+            | Refusal::BoundBroken { solution, .. }
+            | Refusal::RowBroken { solution, .. } => (PartKind::Solution, *solution),
+            Refusal::Certificate { certificate, .. } => (PartKind::Certificate, *certificate),
+            Refusal::Unique(_) => (PartKind::Unique, 1),
+            Refusal::Tie(_)
+            | Refusal::TieBoundBroken { .. }
+            | Refusal::TieRowBroken { .. }
+            | Refusal::LowerTie
+            | Refusal::SameTie => (PartKind::Tie, 1),
+            _ => return None,
+        };
+        Some((Counted::Kind(kind), number))
     }
 }
 

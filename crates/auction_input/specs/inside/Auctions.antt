@@ -1,7 +1,8 @@
 -- What the parts of an auction tell, and the round that is run by them.
-use Rattle.std.specs.Prelude.{◌≡◌, ◌⊎◌, ℕ, List, [], None, Ok, codes}
+use Rattle.std.specs.Prelude.{◌≡◌, ◌⊎◌, ℕ, List, [], None, Ok, codes, map}
 use Rattle.auction_input.specs.Auction.{auction_told}
 use Rattle.auction_input.specs.Calls.{one_too_many}
+use Rattle.auction_input.specs.Input.{Input}
 use Rattle.auction_input.specs.Parts.{Part, parts_named}
 use Rattle.auction_input.specs.PartsTold.{only_text, parts_told}
 use Rattle.auction_input.specs.Refused.{Refuses}
@@ -25,6 +26,9 @@ pub record HoldTexts (parts : List Part) (beside : Beside) : Type 0 where
   pub certificates : bytes_of beside.certificates.items ≡ parts_named (codes "%certificate") parts
   pub uniques : bytes_of beside.uniques.items ≡ parts_named (codes "%unique") parts
   pub ties : bytes_of beside.ties.items ≡ parts_named (codes "%tie") parts
+  pub prices : bytes_of beside.prices.items ≡ parts_named (codes "%prices") parts
+  pub covers : bytes_of beside.covers.items ≡ parts_named (codes "%cover") parts
+  pub weights : bytes_of beside.weights.items ≡ parts_named (codes "%weights") parts
 
 -- parts tell these rules, forms and groups, and each form has a call of its bidder's left
 pub record Tell (parts : List Part) (t : Terms) (forms : List Offers) (groups : List (List ℕ)) : Type 0 where
@@ -35,11 +39,16 @@ pub record Tell (parts : List Part) (t : Terms) (forms : List Offers) (groups : 
 
 -- each input with these parts is refused so
 abbrev pub RefusesInputs : List Part → Refusal → Type 0
-RefusesInputs parts r = (asked : Request) → (input : List ℕ) → parts_told asked input ≡ Ok parts → Refuses (auction_told asked input) r
+RefusesInputs parts r = (asked : Request) → (input : Input) → parts_told asked input ≡ Ok parts → Refuses (auction_told asked input) r
 
--- the forms that the parts tell are submitted under their rules, in a book; and their groups are these
-pub record HasRun (parts : List Part) (book : Closing) (groups : List (List ℕ)) : Type 0 where
+-- the bidder of each form
+abbrev pub bidders_of : List Offers → List ℕ
+bidders_of forms = map (λ (form : Offers). form.bidder) forms
+
+-- the forms that the parts tell are submitted under their rules, in a book; their bidders and the groups are these
+pub record HasRun (parts : List Part) (book : Closing) (bidders : List ℕ) (groups : List (List ℕ)) : Type 0 where
   pub forms : List Offers
+  pub bidders_are : bidders ≡ bidders_of forms
   pub told : Tell parts book.rules forms groups
   pub submitted : AreSubmitted forms book
 

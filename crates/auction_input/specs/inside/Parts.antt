@@ -1,20 +1,24 @@
 -- The parts of the input, by their kinds, as the code sorts them.
-use Rattle.std.specs.Prelude.{Bool, ℕ, List, [], ◌∷◌, Option, find, slice_index_or}
+use Rattle.std.specs.Prelude.{◌≡◌, ◌++◌, ⊤, None, Some, Bool, ℕ, List, [], ◌∷◌, Option, find, slice_index_or}
 use Rattle.std.specs.Str.{bytes_eq}
 use Rattle.auction_input.specs.declared.part_kind.PartKind.TheVariants as kind
 use Rattle.auction_input.specs.declared.part_kind.PartKind.{PartKind}
 use Rattle.auction_input.specs.declared.parts.Part as declared
 use Rattle.requests.specs.declared.request.Request.TheVariants as request
 use Rattle.requests.specs.declared.request.Request.{Request}
-use Rattle.auction_input.specs.Parts.{Part, name_of}
+use Rattle.auction_input.specs.Parts.{Part, name_of, part_fault}
+use Rattle.auction_input.specs.declared.parts.PartFault.TheVariants as fault
+use Rattle.auction_input.specs.declared.parts.PartFault.{PartFault}
+use Rattle.auction_terms.specs.FirstFault.{first_fault}
 use Rattle.auction_terms.specs.Lines.{lines_of}
 
 -- the name in the line that heads a part
 abbrev pub part_name : List ℕ → List ℕ
 part_name head = slice_index_or (lines_of head) 0 []
 
-abbrev pub part : List ℕ → List ℕ → Part
-part head bytes = record { name = part_name head; bytes = bytes }
+-- the part of text n with this head
+abbrev pub part : ℕ → List ℕ → List ℕ → Part
+part n head bytes = record { text = n; name = part_name head; bytes = bytes }
 
 -- whether a part that is held is of a kind
 abbrev pub is_held : PartKind → declared.Part → Bool
@@ -22,10 +26,20 @@ is_held k part = bytes_eq (name_of part.kind) (name_of k)
 
 -- the kinds that a request knows
 abbrev pub known_kinds : Request → List PartKind
-known_kinds (request.Verify workers) = kind.Rules ∷ kind.Form ∷ kind.Groups ∷ kind.Solution ∷ kind.Certificate ∷ kind.Unique ∷ kind.Tie ∷ []
-known_kinds (request.Explain bids) = kind.Rules ∷ kind.Form ∷ kind.Groups ∷ kind.Solution ∷ kind.Certificate ∷ kind.Unique ∷ kind.Tie ∷ []
+known_kinds (request.Verify workers) = kind.Rules ∷ kind.Form ∷ kind.Groups ∷ kind.Solution ∷ kind.Certificate ∷ kind.Unique ∷ kind.Tie ∷ kind.Prices ∷ kind.Cover ∷ kind.Weights ∷ []
+known_kinds (request.Explain bids) = kind.Rules ∷ kind.Form ∷ kind.Groups ∷ kind.Solution ∷ kind.Certificate ∷ kind.Unique ∷ kind.Tie ∷ kind.Prices ∷ kind.Cover ∷ kind.Weights ∷ []
 known_kinds asked = kind.Rules ∷ kind.Form ∷ kind.Groups ∷ kind.Solution ∷ []
 
 -- the kind that a name tells to a request
 abbrev pub kind_named : Request → List ℕ → Option PartKind
 kind_named asked name = find (λ k. bytes_eq name (name_of k)) (known_kinds asked)
+
+-- parts without a fault are held behind those that were held before
+pub record HaveAdded (asked : Request) (old new parts : List Part) : Type 0 where
+  pub sound : first_fault (part_fault asked) old parts ≡ None
+  pub held : new ≡ old ++ parts
+
+-- the first fault of parts behind others; or memory was short
+abbrev pub IsFaultBehind : Request → List Part → List Part → PartFault → Type 0
+IsFaultBehind asked old parts fault.OutOfMemory = ⊤
+IsFaultBehind asked old parts f = first_fault (part_fault asked) old parts ≡ Some f

@@ -1,10 +1,10 @@
-use Rattle.std.proofs.Common.{◌≡◌, List, ℕ, Ok, inl, subst, sym}
+use Rattle.std.proofs.Common.{◌≡◌, ◌∙◌, ap, refl, inr, List, ℕ, Ok, inl, subst, sym}
 use Rattle.auction_terms.specs.Terms.{Terms}
 use Rattle.auction_input.specs.Parts.{parts_held}
 use Rattle.auction_input.specs.Refused.{Refuses}
 use Rattle.auction_input.specs.TextsTold.{terms_told}
 use Rattle.auction_input.specs.declared.refusal.Refusal.TheVariants as refusal
-use Rattle.auction_input.specs.inside.Auctions.{RefusesRun, Tell}
+use Rattle.auction_input.specs.inside.Auctions.{RefusesRun, Tell, bidders_of}
 use Rattle.auction_input.proofs.AuctionFacts.{round-refused, terms-refused}
 use Rattle.requests.proofs.StepFacts.{if-err-of}
 use Rattle.auction_input.proofs.auction.close_auction.Goals as goal
@@ -24,6 +24,10 @@ returns-in_err-forms-clause-refuses g c =
     let r = c.in_err-forms.field-0.0 in
     if-err-of (RefusesRun (parts_held c.args.parts.now)) c.from_residual-in_err-forms.result r c.from_residual-in_err-forms.ensures.1 (inl c.in_err-forms.ensures.refuses)
 
+pub returns-in_err-form_bidders-clause-refuses : goal.returns-in_err-form_bidders-clause-refuses
+returns-in_err-form_bidders-clause-refuses g c =
+    if-err-of (RefusesRun (parts_held c.args.parts.now)) c.from_residual-in_err-form_bidders.result refusal.OutOfMemory c.from_residual-in_err-form_bidders.ensures.1 (inl (λ asked input cut. inr refl))
+
 pub returns-in_err-book-clause-refuses : goal.returns-in_err-book-clause-refuses
 returns-in_err-book-clause-refuses g c =
     let parts = parts_held c.args.parts.now in
@@ -37,6 +41,7 @@ returns-clause-told g c =
     let groups = c.in_ok-forms.groups in
     record {
       forms = forms;
+      bidders_are = c.in_ok-form_bidders.ensures ∙ ap bidders_of c.as_slice.ensures.value;
       told = subst (λ (t : Terms). Tell (parts_held c.args.parts.now) t forms groups) (sym c.in_ok-book.ensures.rules) c.in_ok-forms.ensures.told;
       submitted = c.in_ok-book.ensures.submitted;
     }

@@ -1,11 +1,11 @@
-use Rattle.std.proofs.Common.{◌∙◌, List, Ok, ap, inl, inr, refl, subst}
+use Rattle.std.proofs.Common.{◌∙◌, ℕ, List, Ok, ap, inl, inr, refl, subst, sym}
 use Rattle.auction_input.specs.Auction.{Auction}
 use Rattle.auction_input.specs.Parts.{parts_held}
 use Rattle.auction_input.specs.Settled.{RefusesAuction}
 use Rattle.auction_input.specs.declared.parts.Part as declared
 use Rattle.auction_input.specs.declared.refusal.Refusal.TheVariants as refusal
 use Rattle.auction_input.specs.inside.Auctions.{HasRun, HoldTexts, RefusesRun}
-use Rattle.auction_input.proofs.AuctionFacts.{auction-held, rest-same, run-refused, sold, told-is}
+use Rattle.auction_input.proofs.AuctionFacts.{auction-held, rest-same, rest_in, run-refused, sold, told-is}
 use Rattle.auction_input.proofs.StageFacts.{stop}
 use Rattle.bid_desk.specs.Sale.{sale_of}
 use Rattle.requests.proofs.StepFacts.{if-err-of}
@@ -17,18 +17,18 @@ Parts = List declared.Part
 pub returns-in_err-parts-clause-refuses : goal.returns-in_err-parts-clause-refuses
 returns-in_err-parts-clause-refuses g c =
     let asked = c.args.request.now in
-    let input = c.args.text.now in
+    let input = c.args.input.now in
     let r = c.in_err-parts.field-0.0 in
     if-err-of (RefusesAuction asked input) c.from_residual.result r c.from_residual.ensures.1 (inl (stop _ _ r c.in_err-parts.ensures.refuses))
 
 pub returns-in_err-beside-clause-refuses : goal.returns-in_err-beside-clause-refuses
 returns-in_err-beside-clause-refuses g c =
-    if-err-of (RefusesAuction c.args.request.now c.args.text.now) c.from_residual-in_err-beside.result refusal.OutOfMemory c.from_residual-in_err-beside.ensures.1 (inl (inr refl))
+    if-err-of (RefusesAuction c.args.request.now c.args.input.now) c.from_residual-in_err-beside.result refusal.OutOfMemory c.from_residual-in_err-beside.ensures.1 (inl (inr refl))
 
 pub returns-in_err-book-clause-refuses : goal.returns-in_err-book-clause-refuses
 returns-in_err-book-clause-refuses g c =
     let asked = c.args.request.now in
-    let input = c.args.text.now in
+    let input = c.args.input.now in
     let r = c.in_err-book.field-0.0 in
     let refused = subst (λ (xs : Parts). RefusesRun (parts_held xs) r) c.as_slice-2.ensures.value c.in_err-book.ensures.refuses in
     if-err-of (RefusesAuction asked input) c.from_residual-in_err-book.result r c.from_residual-in_err-book.ensures.1
@@ -36,20 +36,23 @@ returns-in_err-book-clause-refuses g c =
 
 pub returns-clause-told : goal.returns-clause-told
 returns-clause-told g c =
-    let book = c.in_ok-book.book in
-    let groups = c.in_ok-book.groups in
+    let book = c.in_ok-book.field-0.book in
+    let bidders = c.in_ok-book.field-0.form_bidders.items in
+    let groups = c.in_ok-book.field-0.groups in
     let parts = parts_held c.in_ok-parts.parts.items in
-    let run = subst (λ (xs : Parts). HasRun (parts_held xs) book groups) c.as_slice-2.ensures.value c.in_ok-book.ensures.told in
+    let run = subst (λ (xs : Parts). HasRun (parts_held xs) book bidders groups) c.as_slice-2.ensures.value c.in_ok-book.ensures.told in
     let hold = subst (λ (xs : Parts). HoldTexts (parts_held xs) c.in_ok-beside.beside) c.as_slice.ensures.value c.in_ok-beside.ensures in
-    told-is c.args.request.now c.args.text.now parts c.in_ok-parts.ensures.told book.rules run.forms groups run.told
-    ∙ ap (λ (a : Auction). Ok a) (auction-held book book.rules run.forms groups _ refl run.submitted
-    ∙ ap (sold book.rules (sale_of book) groups) (rest-same c.in_ok-beside.beside parts hold))
+    told-is c.args.request.now c.args.input.now parts c.in_ok-parts.ensures.told book.rules run.forms groups run.told
+    ∙ ap (λ (a : Auction). Ok a) (auction-held book book.rules run.forms groups (rest_in parts) refl run.submitted
+    ∙ ap (λ (xs : List ℕ). sold book.rules (sale_of book) xs groups (rest_in parts)) (sym run.bidders_are)
+    ∙ ap (sold book.rules (sale_of book) bidders groups) (rest-same c.in_ok-beside.beside parts hold))
 
 pub returns-clause-submitted : goal.returns-clause-submitted
 returns-clause-submitted g c =
-    let book = c.in_ok-book.book in
-    let groups = c.in_ok-book.groups in
-    let run = subst (λ (xs : Parts). HasRun (parts_held xs) book groups) c.as_slice-2.ensures.value c.in_ok-book.ensures.told in
+    let book = c.in_ok-book.field-0.book in
+    let bidders = c.in_ok-book.field-0.form_bidders.items in
+    let groups = c.in_ok-book.field-0.groups in
+    let run = subst (λ (xs : Parts). HasRun (parts_held xs) book bidders groups) c.as_slice-2.ensures.value c.in_ok-book.ensures.told in
     record {
       parts = parts_held c.in_ok-parts.parts.items;
       forms = run.forms;
@@ -61,7 +64,7 @@ returns-clause-submitted g c =
 
 pub returns-clause-sold : goal.returns-clause-sold
 returns-clause-sold g c =
-    let book = c.in_ok-book.book in
+    let book = c.in_ok-book.field-0.book in
     record {
       told = returns-clause-told g c;
       book = book;

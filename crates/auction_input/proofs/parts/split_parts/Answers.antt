@@ -1,61 +1,46 @@
-use Rattle.std.proofs.Common.{rules, ◌≡◌, ◌∷◌, [], ◌++◌, ◌+◌, ◌∙◌, List, ap, sym, arith, refl, subst, length, length-append, None, Some}
-use Rattle.std.proofs.lemmas.List.{length-map}
-use Rattle.auction_terms.proofs.FirstFaultFacts.{CheckedSoFar, checked-all, checked-fault, checked-more}
-use Rattle.auction_input.specs.inside.Parts.{kind_named, part_name, part}
-use Rattle.auction_input.specs.Parts.{Part, bytes_before, cut_lines, part_fault, parts_held, parts_in}
-use Rattle.auction_input.proofs.PartFacts.{fault-of-parts, held-more, known-part, none-left, starts-here, unknown-part}
+use Rattle.std.proofs.Common.{◌≡◌, ◌<◌, ◌+◌, ◌∷◌, ◌∙◌, ℕ, List, false, ap, arith, drop, drop_of_length-le, length, slice_index_or, subst, sym}
+use Rattle.std.proofs.lemmas.List.{drop_more}
+use Rattle.auction_terms.proofs.FirstFaultFacts.{CheckedSoFar, checked-all}
+use Rattle.auction_input.specs.Input.{Given}
+use Rattle.std.specs.List.{list_any}
+use Rattle.auction_input.specs.Parts.{cut_lines, has_bytes_before, part_fault, parts_from, parts_held, parts_in, input_parts}
+use Rattle.auction_input.proofs.PartFacts.{fault-of-parts, text-more, text-refused}
 use Rattle.auction_input.proofs.parts.split_parts.Goals as goal
 
-pub loop-rest-init : goal.loop-rest-init
-loop-rest-init c = (
-  rw c.new-parts.ensures.items (record { all_is = refl; fault_is = refl }),
-  rw c.new-parts.ensures.items (omega arith),
-  starts-here c.args.text.now c.body_end.result c.if-body_end-gt0.false c.body_end.ensures.next,
-)
+-- the text at a place, and those behind it
+ahead : (texts seen : List Given) (place : ℕ) (x : Given) → seen ≡ texts → place < length seen → x ≡ slice_index_or seen place x → drop place texts ≡ x ∷ drop (place + 1) texts
+ahead texts seen place x same within is = rw (← same) (drop_more seen place x within ∙ ap (λ (y : Given). y ∷ drop (place + 1) seen) (sym is))
 
-pub loop-rest-preserved : goal.loop-rest-preserved
-loop-rest-preserved c =
+pub loop-place-preserved : goal.loop-place-preserved
+loop-place-preserved c =
     let asked = c.args.request.now in
-    let text = c.args.text.now in
-    let (so_far, few, starts) = c.loop-rest.invariant in
-    let first = c.first_part-first in
-    let p = part first.result.head.now first.result.bytes.now in
-    let k = c.in-Some.kind in
-    let old = c.loop-rest.parts.items in
-    let new = c.add_part.new.parts.items in
-    let kind : kind_named asked (part_name first.result.head.now) ≡ Some k = rw c.head_name.ensures at (sym c.kind_named.ensures ∙ c.in-Some.is) in
-    let grown : parts_held new ≡ parts_held old ++ p ∷ [] = held-more old new asked (part_name first.result.head.now) (record { kind = k; bytes = first.result.bytes }) kind c.in_ok-add_part.ensures in
-    let one : length new ≡ length old + 1 = ap length c.in_ok-add_part.ensures ∙ length-append old _ in
-    let less = first.ensures.shorter in (
-      subst (λ (held : List Part). CheckedSoFar (part_fault asked) (parts_in (cut_lines text)) held (parts_in (cut_lines first.result.rest.now))) (sym grown)
-          (checked-more (part_fault asked) (parts_in (cut_lines text)) (parts_held old) (parts_in (cut_lines c.loop-rest.rest.now)) (parts_in (cut_lines first.result.rest.now)) p so_far first.ensures.parts (known-part asked (parts_held old) p k kind)),
-      omega arith,
-      first.ensures.next,
-    )
+    let input = c.args.input.now in
+    let place = c.loop-place.place in
+    let x = c.index-texts-place.result in
+    let old = parts_held c.loop-place.parts.items in
+    let next = ahead input.texts c.texts-texts.result.now place x c.texts-texts.ensures c.loop-place-test.true c.index-texts-place.is in
+    let here = subst (λ rest. CheckedSoFar (part_fault asked) (input_parts input) old rest) (ap (parts_from place) next) c.loop-place.invariant in
+    let added = rw c.bytes.ensures at c.in-Ok.ensures.added in
+    text-more asked (input_parts input) old (parts_in place (cut_lines x.bytes)) (parts_from (place + 1) (drop (place + 1) input.texts)) (parts_held c.add_parts.new.parts.items) here added
 
-pub returns-in_default : goal.returns-in_default
-returns-in_default c =
+pub returns-in-Err : goal.returns-in-Err
+returns-in-Err c =
     let asked = c.args.request.now in
-    let (so_far, few, starts) = c.loop-rest.invariant in
-    let text = c.args.text.now in
-    let held = c.loop-rest.parts.items in
-    let first = c.first_part-first in
-    let p = part first.result.head.now first.result.bytes.now in
-    let kind : kind_named asked (part_name first.result.head.now) ≡ None = rw c.head_name.ensures at (sym c.kind_named.ensures ∙ c.in_default.is) in
-    let nothing : c.body_end.result ≡ 0 = omega arith in
-    let none : bytes_before (cut_lines text) ≡ [] = rw nothing at c.body_end.ensures.bytes in
-    let length-is : c.len.result ≡ length held = search rules in
-    let count : c.len.result ≡ length (parts_held held) = length-is ∙ sym (length-map held _) in
-    rw count (fault-of-parts asked text none
-    ∙ checked-fault (part_fault asked) (parts_in (cut_lines text)) (parts_held held) (parts_in (cut_lines c.loop-rest.rest.now)) (parts_in (cut_lines first.result.rest.now)) p _ so_far first.ensures.parts (unknown-part asked (parts_held held) p kind))
+    let input = c.args.input.now in
+    let place = c.loop-place.place in
+    let x = c.index-texts-place.result in
+    let old = parts_held c.loop-place.parts.items in
+    let next = ahead input.texts c.texts-texts.result.now place x c.texts-texts.ensures c.loop-place-test.true c.index-texts-place.is in
+    let here = subst (λ rest. CheckedSoFar (part_fault asked) (input_parts input) old rest) (ap (parts_from place) next) c.loop-place.invariant in
+    let none : list_any has_bytes_before input.texts ≡ false = rw c.texts-texts.ensures at (sym c.have_bytes_before.ensures ∙ c.if-have_bytes_before.false) in
+    text-refused asked input old (parts_in place (cut_lines x.bytes)) (parts_from (place + 1) (drop (place + 1) input.texts)) c.in-Err.fault none here (rw c.bytes.ensures at c.in-Err.ensures.fault)
 
 pub returns : goal.returns
 returns c =
     let asked = c.args.request.now in
-    let (so_far, few, starts) = c.loop-rest.invariant in
-    let text = c.args.text.now in
-    let empty : c.loop-rest.rest.now ≡ [] = none-left c.loop-rest.rest.now (sym c.is_empty.ensures ∙ c.loop-rest-test.false) in
-    let nothing : c.body_end.result ≡ 0 = omega arith in
-    let none : bytes_before (cut_lines text) ≡ [] = rw nothing at c.body_end.ensures.bytes in
-    let end = checked-all (part_fault asked) (parts_in (cut_lines text)) (parts_held c.loop-rest.parts.items) (rw empty at so_far) in
-    (fault-of-parts asked text none ∙ end.0, sym end.1)
+    let input = c.args.input.now in
+    let none : list_any has_bytes_before input.texts ≡ false = rw c.texts-texts.ensures at (sym c.have_bytes_before.ensures ∙ c.if-have_bytes_before.false) in
+    let many = ap length c.texts-texts.ensures in
+    let all = drop_of_length-le input.texts (omega arith) in
+    let end = checked-all (part_fault asked) (input_parts input) (parts_held c.loop-place.parts.items) (subst (λ texts. CheckedSoFar (part_fault asked) (input_parts input) (parts_held c.loop-place.parts.items) (parts_from c.loop-place.place texts)) all c.loop-place.invariant) in
+    (fault-of-parts asked input none ∙ end.0, sym end.1)

@@ -1,11 +1,7 @@
-use Rattle.std.proofs.Common.{◌≡◌, ◌≤◌, ◌+◌, ◌⊎◌, [], true, length}
+use Rattle.std.proofs.Common.{drop}
 use Rattle.auction_terms.proofs.FirstFaultFacts.{CheckedSoFar}
-use Rattle.auction_input.specs.Parts.{cut_lines, heads_part, part_fault, parts_held, parts_in}
+use Rattle.auction_input.specs.Parts.{part_fault, parts_from, parts_held, input_parts}
 use Rattle.auction_input.proofs.parts.split_parts.Given as goal
 
-abbrev pub invariant-loop-rest : goal.invariant-loop-rest
-invariant-loop-rest l = CheckedSoFar (part_fault l.fn.request) (parts_in (cut_lines l.fn.text)) (parts_held l.parts.items) (parts_in (cut_lines l.rest))
-    × (length l.parts.items + length l.rest ≤ length l.fn.text) × ((l.rest ≡ []) ⊎ (heads_part l.rest ≡ true))
-
-abbrev pub decreases-loop-rest : goal.decreases-loop-rest
-decreases-loop-rest l = length l.rest
+abbrev pub invariant-loop-place : goal.invariant-loop-place
+invariant-loop-place l = CheckedSoFar (part_fault l.fn.request) (input_parts l.fn.input) (parts_held l.parts.items) (parts_from l.place (drop l.place l.fn.input.texts))

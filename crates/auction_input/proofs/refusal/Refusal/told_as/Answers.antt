@@ -1,4 +1,4 @@
-use Rattle.auction_input.proofs.refusal.Refusal.told.Goals as goal
+use Rattle.auction_input.proofs.refusal.Refusal.told_as.Goals as goal
 
 pub returns-in-BoundBroken : goal.returns-in-BoundBroken
 returns-in-BoundBroken c = rw (c.in-BoundBroken.is, c.as_slice.ensures)

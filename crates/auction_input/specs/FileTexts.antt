@@ -1,0 +1,55 @@
+-- What is read of files by their names.
+use Rattle.std.specs.Prelude.{◌≡◌, ◌≤◌, ◌-◌, ◌||◌, ⊤, ℕ, Bool, List, [], ◌∷◌, Option, None, Some, String, codes, length, map, not, sum_by}
+use Rattle.std.specs.Bool.{MatchBool}
+use Rattle.std.specs.Io.KnownBytes.{Consumes, IsAtEnd}
+use Rattle.std.specs.Str.{bytes_eq}
+use Rattle.auction_input.specs.Input.{Given, Input, input_of}
+use Rattle.auction_input.specs.ReadInput.{IsUntaken, IsWhole}
+use Rattle.auction_input.specs.declared.input.Unread.{Unread}
+use Rattle.auction_input.specs.declared.input.Unread.TheVariants as unread
+use Rattle.auction_input.specs.declared.input.InputFault.TheVariants as input
+use Rattle.auction_input.specs.declared.input.TheConstants.{INPUT_LIMIT}
+use Rattle.byte_sinks.specs.Sinks.{HasFailed}
+
+-- the names that stand for standard input
+abbrev pub is_standard_input : List ℕ → Bool
+is_standard_input name = bytes_eq name (codes "-") || bytes_eq name (codes "/dev/stdin")
+
+-- these are the bytes of a file, where those are known
+abbrev pub IsContent : Option (List ℕ) → List ℕ → Type 0
+IsContent None bytes = ⊤
+IsContent (Some whole) bytes = bytes ≡ whole
+
+-- what is read by a name: standard input to its end, or a file, of which standard input knows nothing
+abbrev pub IsTextOf : (List ℕ → Option (List ℕ)) → List ℕ → Option (List ℕ) → Option (List ℕ) → List ℕ → Type 0
+IsTextOf content name left left' bytes = MatchBool (is_standard_input name) (Consumes left left' bytes × IsAtEnd left') ((left' ≡ left) × IsContent (content name) bytes)
+
+-- the bytes of names
+abbrev pub named_files : {Z : Type 0} → List (String Z) → List (List ℕ)
+named_files names = map (λ name. name.bytes.items) names
+
+-- the texts that are read by these names, one after the other
+abbrev pub AreRead : (List ℕ → Option (List ℕ)) → List (List ℕ) → Option (List ℕ) → Option (List ℕ) → List Given → Type 0
+AreRead content [] left left' texts = (texts ≡ []) × (left' ≡ left)
+AreRead content (name ∷ names) left left' texts =
+    (bytes : List ℕ) × (more : List Given) × (mid : Option (List ℕ)) × (texts ≡ record { name = name; bytes = bytes } ∷ more) × IsTextOf content name left mid bytes × AreRead content names mid left' more
+
+-- what a command reads: without names standard input, as one text by itself; else the texts of the names, which have no more bytes together than an input may have
+abbrev pub IsInputRead : (List ℕ → Option (List ℕ)) → List (List ℕ) → Option (List ℕ) → Option (List ℕ) → Input → Type 0
+IsInputRead content [] left left' input = (bytes : List ℕ) × IsWhole left left' bytes × (input ≡ input_of bytes)
+IsInputRead content names left left' input = AreRead content names left left' input.texts × (sum_by (λ given. length given.bytes) input.texts ≤ INPUT_LIMIT)
+
+-- what is read of standard input where not all texts are
+abbrev pub IsReadInPart : Option (List ℕ) → Option (List ℕ) → Type 0
+IsReadInPart left left' = (front : List ℕ) × Consumes left left' front
+
+-- why texts of names aren't read: a read of standard input failed, or none did
+abbrev pub IsUnreadOf : Unread → Option (List ℕ) → Option (List ℕ) → ℕ → ℕ → Type 0
+IsUnreadOf (unread.Input input.ReadFailed) left left' reads reads' = HasFailed reads reads' × IsReadInPart left left'
+IsUnreadOf f left left' reads reads' = (reads' ≡ reads) × IsReadInPart left left'
+
+-- why the input isn't read
+abbrev pub IsUnread : List (List ℕ) → Unread → Option (List ℕ) → Option (List ℕ) → ℕ → ℕ → Type 0
+IsUnread [] (unread.Input f) left left' reads reads' = IsUntaken f left left' reads reads'
+IsUnread [] (unread.File f) left left' reads reads' = ⊥
+IsUnread names f left left' reads reads' = IsUnreadOf f left left' reads reads'

@@ -1,0 +1,28 @@
+-- The words on a file that isn't read, or not written.
+use Rattle.std.specs.Prelude.{◌++◌, ℕ, List, codes}
+use Rattle.auction_input.specs.declared.files.FileFault.{FileFault}
+use Rattle.auction_input.specs.declared.files.FileFault.TheVariants as fault
+use Rattle.auction_input.specs.declared.files.FileKind.{FileKind}
+use Rattle.auction_input.specs.declared.files.FileKind.TheVariants as kind
+
+abbrev pub kind_words : FileKind → List ℕ
+kind_words kind.Folder = codes "a folder"
+kind_words kind.Pipe = codes "a named pipe"
+kind_words kind.Device = codes "a device"
+kind_words kind.Socket = codes "a socket"
+
+-- behind the last ones stands the name of another file
+abbrev pub fault_words : FileFault → List ℕ
+fault_words fault.NotFound = codes "no such file or directory"
+fault_words fault.Denied = codes "permission denied"
+fault_words fault.Unopened = codes "it can't be opened"
+fault_words fault.ReadFailed = codes "read failed"
+fault_words (fault.NotRead kind) = codes "it is " ++ (kind_words kind ++ codes "; what isn't a file is read as standard input: wdp COMMAND < FILE")
+fault_words (fault.NotReplaced kind) = codes "it is " ++ (kind_words kind ++ codes ", and -o puts a whole file in its place; wdp COMMAND > FILE writes to it")
+fault_words fault.ReadOnly = codes "it may not be written"
+fault_words fault.Unwritten = codes "it can't be written"
+fault_words fault.Empty = codes "it is empty"
+fault_words fault.NoLineEnd = codes "its last line has no end, and a file follows"
+fault_words fault.OutOfMemory = codes "out of memory"
+fault_words fault.ReadToo = codes "it is read, too"
+fault_words (fault.ReadAlready n) = codes "it is read already, as "

@@ -1,0 +1,19 @@
+-- What a command reads: texts with the names of their files.
+use Rattle.std.specs.Prelude.{ℕ, List, [], ◌∷◌, map}
+
+-- a text that was read, and the name of its file; standard input by itself has none
+pub record Given : Type 0 where
+  pub name : List ℕ
+  pub bytes : List ℕ
+
+-- the texts in their order
+pub record Input : Type 0 where
+  pub texts : List Given
+
+-- one text by itself
+abbrev pub input_of : List ℕ → Input
+input_of bytes = record { texts = record { name = []; bytes = bytes } ∷ [] }
+
+-- the bytes of the texts
+abbrev pub text_bytes : Input → List (List ℕ)
+text_bytes input = map (λ (given : Given). given.bytes) input.texts

@@ -1,0 +1,144 @@
+//! Files, as a run sees them.
+
+ghost use Rattle.std.specs.Prelude.{◌≡◌, ℕ, IfOk, List, Option, flat_map};
+ghost use Rattle.auction_input.specs.FileWords.{fault_words, kind_words};
+
+use byte_sinks::{LimitSink, MemorySink, Sink, StdSink};
+use std::alloc::AllocError;
+use std::io::{Read, Write};
+
+/// What a name has that isn't a file.
+#[derive(Clone, Copy, Debug, PartialEq, Eq)]
+pub enum FileKind {
+    Folder,
+    Pipe,
+    Device,
+    Socket,
+}
+
+/// Why a file isn't read, or not written.
+#[derive(Clone, Copy, Debug, PartialEq, Eq)]
+pub enum FileFault {
+    NotFound,
+    Denied,
+    Unopened,
+    ReadFailed,
+    /// What isn't a file isn't read.
+    NotRead(FileKind),
+    /// What isn't a file isn't replaced by one.
+    NotReplaced(FileKind),
+    ReadOnly,
+    Unwritten,
+    /// One of several files without a byte.
+    Empty,
+    /// One of several files whose last line has no end, though another follows.
+    NoLineEnd,
+    /// It is the file at that place, from 0, of those that are read.
+    ReadAlready(usize),
+    /// The file that is to be written is one of those that are read.
+    ReadToo,
+    OutOfMemory,
+}
+
+/// Which file of a command line: one of those that are read, by its place from 0, or the one that is written.
+#[derive(Clone, Copy, Debug, PartialEq, Eq)]
+pub enum FilePlace {
+    Read(usize),
+    Written,
+}
+
+/// A file that isn't read, or not written, and why.
+#[derive(Clone, Copy, Debug, PartialEq, Eq)]
+pub struct FileRefusal {
+    pub file: FilePlace,
+    pub fault: FileFault,
+}
+
+impl From<AllocError> for FileFault {
+    ghost use Rattle.std.specs.Prelude.{◌≡◌};
+    ghost use Rattle.auction_input.specs.declared.files.FileFault.TheVariants.{OutOfMemory};
+
+    ghost from_gives = { λ _ e. e ≡ OutOfMemory };
+
+    fn from(_: AllocError) -> FileFault {
+        FileFault::OutOfMemory
+    }
+}
+
+impl FileKind {
+    /// Its name.
+    pub fn words(self) -> &'static str
+        ensures { result.now ≡ kind_words self }
+    {
+        match self {
+            FileKind::Folder => "a folder",
+            FileKind::Pipe => "a named pipe",
+            FileKind::Device => "a device",
+            FileKind::Socket => "a socket",
+        }
+    }
+}
+
+impl FileFault {
+    /// What is told of it; behind the last words of a file that is read already stands the name of the other one.
+    pub fn words(self) -> [&'static str; 3]
+        ensures { flat_map (λ w. w.now) result ≡ fault_words self }
+    {
+        match self {
+            FileFault::NotFound => ["no such file or directory", "", ""],
+            FileFault::Denied => ["permission denied", "", ""],
+            FileFault::Unopened => ["it can't be opened", "", ""],
+            FileFault::ReadFailed => ["read failed", "", ""],
+            FileFault::NotRead(kind) => [
+                "it is ",
+                kind.words(),
+                "; what isn't a file is read as standard input: wdp COMMAND < FILE",
+            ],
+            FileFault::NotReplaced(kind) => [
+                "it is ",
+                kind.words(),
+                ", and -o puts a whole file in its place; wdp COMMAND > FILE writes to it",
+            ],
+            FileFault::ReadOnly => ["it may not be written", "", ""],
+            FileFault::Unwritten => ["it can't be written", "", ""],
+            FileFault::Empty => ["it is empty", "", ""],
+            FileFault::NoLineEnd => ["its last line has no end, and a file follows", "", ""],
+            FileFault::ReadAlready(_) => ["it is read already, as ", "", ""],
+            FileFault::ReadToo => ["it is read, too", "", ""],
+            FileFault::OutOfMemory => ["out of memory", "", ""],
+        }
+    }
+}
+
+/// Files by their names.
+pub trait Files {
+    /// The bytes of the file of a name, where they are known.
+    ghost content: { Self → List ℕ → Option (List ℕ) };
+
+    type File: Read + Drop;
+
+    /// Looks at all files before any is opened. Without names standard input alone is read.
+    fn look(&self, names: &[String], output: Option<&str>) -> Result<(), FileRefusal>;
+
+    /// Opens a file that isn't standard input.
+    fn open(&self, name: &str) -> Result<Self::File, FileFault>
+        ensures { IfOk result (λ file. Self.File.remaining file ≡ content self.now name.now) };
+}
+
+/// A sink that may be sent to a file.
+pub trait Output: Sink {
+    /// From here on the bytes go to the file of that name. A sink that knows no files refuses.
+    fn open(&mut self, name: &str) -> Result<(), FileFault>
+        ensures taken { Self.taken self.new ≡ Self.taken self.old }
+        ensures failures { Self.failures self.new ≡ Self.failures self.old }
+    {
+        let _ = name;
+        Err(FileFault::Unopened)
+    }
+}
+
+impl Output for MemorySink {}
+
+impl Output for LimitSink {}
+
+impl<W: Write + Drop> Output for StdSink<W> {}
