@@ -15,8 +15,8 @@ use Rattle.input_faults.specs.TextDetails.{detail_in_rules, detail_under, number
 use Rattle.input_faults.specs.declared.fault.Fault.{Fault}
 use Rattle.input_faults.specs.declared.fault.Fault.TheVariants as fault
 
-pub line-with : (detail_of : ℕ → Fault → List ℕ) (at : Found Fault) (told : List ℕ) → told ≡ detail_of at.field at.fault → refusal_text (refusal_of at.fault) ++ (told ++ 10 ∷ []) ≡ fault_line detail_of at
-line-with detail_of at told is = ap (λ (d : List ℕ). refusal_text (refusal_of at.fault) ++ (d ++ 10 ∷ [])) is
+pub line-with : (told_of : Fault → List ℕ) (detail_of : ℕ → Fault → List ℕ) (at : Found Fault) (told : List ℕ) → told ≡ detail_of at.field at.fault → told_of at.fault ++ (told ++ 10 ∷ []) ≡ fault_line told_of detail_of at
+line-with told_of detail_of at told is = ap (λ (d : List ℕ). told_of at.fault ++ (d ++ 10 ∷ [])) is
 
 pub form-known : (t : Terms) (forms : List (List ℕ)) (groups : List ℕ) (n number other place : ℕ) (told : Fault) (f : FormFault) (most : Option ℕ) (row : Record) → told ≡ fault.Form number f → other ≡ number
     → most ≡ eligibility_told t (numbered 1 (records_of (within_limit (numbered other forms)))) → place ≡ form_place f → row ≡ numbered place (records_of (within_limit (numbered other forms)))

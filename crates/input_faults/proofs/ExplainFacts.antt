@@ -3,6 +3,7 @@ use Rattle.std.proofs.Common.{◌≡◌, ◌∷◌, ℕ, Bool, true, false, List
 use Rattle.std.specs.Io.KnownBytes.{Appends}
 use Rattle.std.specs.Prelude.{◌↔◌, IsErr, IsTrue, Option, not}
 use Rattle.auction_input.specs.Auction.{Auction, auction_told}
+use Rattle.auction_input.specs.Input.{Input}
 use Rattle.auction_input.specs.declared.refusal.Refusal.{Refusal}
 use Rattle.auction_input.specs.declared.refusal.Refusal.TheVariants as refusal
 use Rattle.auction_terms.proofs.AllFaultsFacts.{none-kept}
@@ -12,7 +13,7 @@ use Rattle.auction_terms.specs.declared.faults.Found.{Found}
 use Rattle.input_faults.proofs.BeginFacts.{none-told}
 use Rattle.input_faults.proofs.InputBegins.{begin-input}
 use Rattle.input_faults.specs.Explained.{IsCutShort, by_put}
-use Rattle.input_faults.specs.FaultLines.{explanation, fault_lines}
+use Rattle.input_faults.specs.FaultLines.{explanation, fault_lines, told_of}
 use Rattle.input_faults.specs.FaultsAs.{faults_as}
 use Rattle.input_faults.specs.InputFaults.{input_faults, refusal_of}
 use Rattle.input_faults.specs.TextDetails.{detail}
@@ -26,8 +27,8 @@ use Rattle.byte_sinks.specs.declared.write_fault.WriteFault.TheVariants as write
 use Rattle.requests.specs.declared.request.Request.{Request}
 
 -- the lines of what is kept are those of the first faults
-pub held-lines : (detail_of : ℕ → Fault → List ℕ) (held : Faults Fault) (faults : List (Found Fault)) → Keeps held faults → held_lines detail_of held ≡ fault_lines detail_of faults
-held-lines detail_of held faults keeps = rw (keeps.kept, keeps.more) refl
+pub held-lines : (told : Fault → List ℕ) (detail_of : ℕ → Fault → List ℕ) (held : Faults Fault) (faults : List (Found Fault)) → Keeps held faults → held_lines told detail_of held ≡ fault_lines told detail_of faults
+held-lines told detail_of held faults keeps = rw (keeps.kept, keeps.more) refl
 
 pub cut-short : (lines : List ℕ) (taken taken' : Option (List ℕ)) (failures failures' : ℕ) (f : WriteFault) → SentFront taken taken' lines (written_of f) → HasFailed failures failures'
     → IsCutShort lines taken taken' failures failures' (refusal.Write f)
@@ -44,14 +45,14 @@ faulty held (at ∷ more) (Err r) false keeps are none some = (λ _. refl, λ _.
 faulty held (at ∷ more) (Err r) true keeps are none some = (let nothing = none-kept held (at ∷ more) keeps (none refl) in cc)
 
 -- where none is kept, there is none, and nothing is told
-pub nothing-found : (asked : Request) (input : List ℕ) (held : Faults Fault) (taken : Option (List ℕ)) → Keeps held (input_faults asked input) → length held.kept.items ≡ 0 → Appends taken taken (explanation asked input)
+pub nothing-found : (asked : Request) (input : Input) (held : Faults Fault) (taken : Option (List ℕ)) → Keeps held (input_faults asked input) → length held.kept.items ≡ 0 → Appends taken taken (explanation asked input)
 nothing-found asked input held taken keeps none =
-    subst (λ (bytes : List ℕ). Appends taken taken bytes) (sym (ap (fault_lines (detail asked input)) (none-kept held (input_faults asked input) keeps none))) (Appends-nothing taken)
+    subst (λ (bytes : List ℕ). Appends taken taken bytes) (sym (ap (fault_lines (told_of input.texts) (detail asked input)) (none-kept held (input_faults asked input) keeps none))) (Appends-nothing taken)
 
-pub is-faulty : (asked : Request) (input : List ℕ) (held : Faults Fault) (empty : Bool) → Keeps held (input_faults asked input) → (empty ≡ true → length held.kept.items ≡ 0) → (empty ≡ false → length held.kept.items ≡ 0 → ⊥)
+pub is-faulty : (asked : Request) (input : Input) (held : Faults Fault) (empty : Bool) → Keeps held (input_faults asked input) → (empty ≡ true → length held.kept.items ≡ 0) → (empty ≡ false → length held.kept.items ≡ 0 → ⊥)
     → IsTrue (not empty) ↔ IsErr (auction_told asked input)
 is-faulty asked input held empty keeps none some = faulty held (input_faults asked input) (auction_told asked input) empty keeps (begin-input asked input) none some
 
 -- nothing is told of an input that tells an auction
-pub nothing-explained : (asked : Request) (input : List ℕ) (auction : Auction) → auction_told asked input ≡ Ok auction → explanation asked input ≡ []
-nothing-explained asked input auction is = ap (fault_lines (detail asked input)) (none-told refusal_of (input_faults asked input) (auction_told asked input) auction (begin-input asked input) is)
+pub nothing-explained : (asked : Request) (input : Input) (auction : Auction) → auction_told asked input ≡ Ok auction → explanation asked input ≡ []
+nothing-explained asked input auction is = ap (fault_lines (told_of input.texts) (detail asked input)) (none-told refusal_of (input_faults asked input) (auction_told asked input) auction (begin-input asked input) is)

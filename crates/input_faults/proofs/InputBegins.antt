@@ -1,10 +1,11 @@
 -- All faults of an input begin with the one that is told.
-use Rattle.std.proofs.Common.{ℕ, List, [], Option, None, Some, Result, Ok, Err, ap, refl, subst, sym}
+use Rattle.std.proofs.Common.{ℕ, List, [], Option, None, Some, Result, Ok, Err, ap, map, refl, subst, sym}
 use Rattle.std.specs.Prelude.{codes}
 use Rattle.auction_input.specs.Auction.{Auction, auction_told}
 use Rattle.auction_input.specs.BookLeft.{sale_left}
 use Rattle.auction_input.specs.Calls.{one_too_many}
-use Rattle.auction_input.specs.Parts.{Part, cut_lines, input_fault, parts_in, parts_named}
+use Rattle.auction_input.specs.Input.{Input}
+use Rattle.auction_input.specs.Parts.{Part, input_fault, parts_named, input_parts}
 use Rattle.auction_input.specs.PartsTold.{only_text}
 use Rattle.auction_input.specs.TextsTold.{form_told, groups_told, terms_told}
 use Rattle.auction_input.specs.declared.parts.PartFault.{PartFault}
@@ -88,15 +89,19 @@ abbrev auction_in : List Part → Terms → List Offers → List (List ℕ) → 
 auction_in parts t forms groups = record {
   rules = t;
   sale = sale_left t forms;
+  form_bidders = map (λ (form : Offers). form.bidder) forms;
   groups = groups;
   solutions = parts_named (codes "%solution") parts;
   certificates = parts_named (codes "%certificate") parts;
   uniques = parts_named (codes "%unique") parts;
   ties = parts_named (codes "%tie") parts;
+  prices = parts_named (codes "%prices") parts;
+  covers = parts_named (codes "%cover") parts;
+  weights = parts_named (codes "%weights") parts;
 }
 
-pub begin-input : (asked : Request) (input : List ℕ) → AreFaultsOf (faults_as refusal_of (input_faults asked input)) (auction_told asked input)
+pub begin-input : (asked : Request) (input : Input) → AreFaultsOf (faults_as refusal_of (input_faults asked input)) (auction_told asked input)
 begin-input asked input =
-    let parts = parts_in (cut_lines input) in
+    let parts = input_parts input in
     begin-parts asked parts (input_fault asked input) (faults_in_parts parts) _
     (begin-texts (auction_in parts) (only_text (parts_named (codes "%rules") parts)) (parts_named (codes "%form") parts) (only_text (parts_named (codes "%groups") parts)))

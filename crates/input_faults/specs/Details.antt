@@ -2,6 +2,8 @@
 use Rattle.std.specs.Prelude.{◌+◌, ◌++◌, ◌==◌, not, ℕ, List, [], ◌∷◌, Option, Some, codes, decimal, if◌then◌else◌, length}
 use Rattle.std.specs.Option.{option_map_or}
 use Rattle.std.specs.Str.{bytes_eq}
+use Rattle.auction_input.specs.declared.part_kind.PartKind.{PartKind}
+use Rattle.auction_input.specs.declared.part_kind.PartKind.TheVariants as part
 use Rattle.auction_terms.specs.Records.{Record}
 use Rattle.auction_terms.specs.RulesFields.{limits_outside}
 use Rattle.auction_terms.specs.RulesText.{field_count, is_kind, record_field, record_kind}
@@ -20,6 +22,8 @@ use Rattle.bid_forms.specs.ToldOfRecords.{points_told, reserve_told}
 use Rattle.bid_forms.specs.declared.form_text.FormFault.{FormFault}
 use Rattle.bid_forms.specs.declared.form_text.FormFault.TheVariants as form
 use Rattle.input_faults.specs.Shown.{shown_text}
+use Rattle.requests.specs.declared.request.Request.{Request}
+use Rattle.requests.specs.declared.request.Request.TheVariants as request
 
 -- ---------- words ----------
 
@@ -38,6 +42,26 @@ count_told count wanted = codes ": " ++ (decimal count ++ (codes " fields in pla
 -- limits that a number is outside of
 abbrev pub limits_told : ℕ → ℕ → List ℕ
 limits_told least greatest = codes " isn't between " ++ (decimal least ++ (codes " and " ++ decimal greatest))
+
+-- ---------- parts ----------
+
+-- the first line, where it heads no part
+abbrev pub beginning_told : List ℕ → List ℕ
+beginning_told line = codes ": the text begins with " ++ (shown_text line ++ codes " and has no %rules before it")
+
+-- a kind of which a request takes another number of parts, and that number
+abbrev pub wanted_told : Request → PartKind → List ℕ
+wanted_told asked part.Rules = codes " rules in place of 1"
+wanted_told request.Text part.Groups = codes " groups in place of 0"
+wanted_told (request.Explain bids) part.Groups = codes " groups in place of 1 at most"
+wanted_told asked part.Groups = codes " groups in place of 1"
+wanted_told (request.Map k) part.Solution = codes " solutions in place of 1"
+wanted_told asked part.Solution = codes " solutions in place of 0"
+wanted_told asked kind = []
+
+-- so many parts of a kind
+abbrev pub parts_count_told : Request → PartKind → ℕ → List ℕ
+parts_count_told asked kind count = codes ": " ++ (decimal count ++ wanted_told asked kind)
 
 -- ---------- rules ----------
 

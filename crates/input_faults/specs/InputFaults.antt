@@ -1,7 +1,8 @@
 -- All faults of an input, in the order in which they are told. Behind faulty parts nothing is looked at, and behind faulty rules no form and no groups; each form is, whatever the others are; calls are counted where every form is read.
 use Rattle.std.specs.Prelude.{◌++◌, ℕ, List, [], Option, None, Result, Ok, Err, codes}
 use Rattle.auction_input.specs.Calls.{one_too_many}
-use Rattle.auction_input.specs.Parts.{Part, cut_lines, input_fault, parts_in, parts_named}
+use Rattle.auction_input.specs.Input.{Input}
+use Rattle.auction_input.specs.Parts.{Part, input_fault, parts_named, input_parts}
 use Rattle.auction_input.specs.PartsTold.{only_text}
 use Rattle.auction_input.specs.Plan.{miscounted}
 use Rattle.auction_input.specs.TextsTold.{form_told, terms_told}
@@ -35,8 +36,8 @@ refusal_of (fault.Groups f) = refusal.Groups f
 refusal_of (fault.CallLimit n) = refusal.CallLimit n
 
 -- the fault of the parts
-abbrev pub faults_of_parts : Request → List ℕ → List (Found Fault)
-faults_of_parts asked input = or_else (fault_as fault.Parts (input_fault asked input)) (fault_as fault.PartCount (miscounted asked (parts_in (cut_lines input))))
+abbrev pub faults_of_parts : Request → Input → List (Found Fault)
+faults_of_parts asked input = or_else (fault_as fault.Parts (input_fault asked input)) (fault_as fault.PartCount (miscounted asked (input_parts input)))
 
 -- the faults of the rules
 abbrev pub faults_of_rules : List ℕ → List (Found Fault)
@@ -77,5 +78,5 @@ abbrev pub faults_in_parts : List Part → List (Found Fault)
 faults_in_parts parts = faults_of_texts (only_text (parts_named (codes "%rules") parts)) (parts_named (codes "%form") parts) (only_text (parts_named (codes "%groups") parts))
 
 -- the faults of an input
-abbrev pub input_faults : Request → List ℕ → List (Found Fault)
-input_faults asked input = or_else (faults_of_parts asked input) (faults_in_parts (parts_in (cut_lines input)))
+abbrev pub input_faults : Request → Input → List (Found Fault)
+input_faults asked input = or_else (faults_of_parts asked input) (faults_in_parts (input_parts input))

@@ -1,6 +1,8 @@
 pub mod FaultsAs
 pub mod InputFaults
 pub mod Shown
+pub mod FileNames
+pub mod PlacedText
 pub mod Details
 pub mod TextDetails
 pub mod FaultLines

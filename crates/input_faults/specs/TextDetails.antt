@@ -1,8 +1,15 @@
 -- The detail of each fault of an input, from the texts in which it is.
 use Rattle.std.specs.Prelude.{ℕ, List, [], ◌∷◌, Option, None, Some, Result, Ok, Err, codes, if◌then◌else◌, length, nat_lt, slice_index_or}
-use Rattle.auction_input.specs.Parts.{Part, cut_lines, input_fault, parts_in, parts_named}
+use Rattle.auction_input.specs.Input.{Given, Input}
+use Rattle.auction_input.specs.Parts.{Part, input_fault, name_of, parts_named, input_parts}
 use Rattle.auction_input.specs.PartsTold.{only_text}
+use Rattle.auction_input.specs.Places.{spot_of}
+use Rattle.auction_input.specs.Plan.{miscounted}
 use Rattle.auction_input.specs.TextsTold.{terms_told}
+use Rattle.auction_input.specs.declared.part_kind.PartKind.{PartKind}
+use Rattle.auction_input.specs.declared.parts.PartFault.TheVariants as part_fault
+use Rattle.auction_input.specs.declared.places.Spot.{Spot}
+use Rattle.auction_input.specs.declared.refusal.Refusal.TheVariants as refusal
 use Rattle.auction_input.specs.declared.parts.PartFault.{PartFault}
 use Rattle.auction_input.specs.declared.refusal.Refusal.{Refusal}
 use Rattle.auction_terms.specs.FaultPlaces.{group_place, rules_place}
@@ -16,7 +23,7 @@ use Rattle.auction_limits.specs.declared.limits.TheConstants.{TEXT_LIMIT}
 use Rattle.auction_terms.specs.declared.rules_text.RulesFault.{RulesFault}
 use Rattle.bid_forms.specs.ToldOfRecords.{eligibility_told, form_place}
 use Rattle.bid_forms.specs.declared.form_text.FormFault.{FormFault}
-use Rattle.input_faults.specs.Details.{form_fault_told, group_told, rules_told}
+use Rattle.input_faults.specs.Details.{beginning_told, form_fault_told, group_told, parts_count_told, rules_told}
 use Rattle.input_faults.specs.declared.fault.Fault.{Fault}
 use Rattle.input_faults.specs.declared.fault.Fault.TheVariants as fault
 use Rattle.requests.specs.declared.request.Request.{Request}
@@ -63,11 +70,30 @@ detail_in_parts parts n f =
     let rules = only_text (parts_named (codes "%rules") parts) in
     detail_in_texts (terms_told rules) rules (parts_named (codes "%form") parts) (only_text (parts_named (codes "%groups") parts)) n f
 
--- a fault of an input; one without parts has none
-abbrev pub detail_in_input : Option PartFault → List ℕ → ℕ → Fault → List ℕ
-detail_in_input None input n f = detail_in_parts (parts_in (cut_lines input)) n f
-detail_in_input (Some broken) input n f = []
+-- the bytes of the text at a place, from 0
+abbrev pub bytes_at : List Given → ℕ → List ℕ
+bytes_at texts n = (slice_index_or texts n (record { name = []; bytes = [] })).bytes
+
+-- those of the text that a refusal is of; where there is but one, of that
+abbrev pub text_at : List Given → Option Spot → List ℕ
+text_at texts None = bytes_at texts 0
+text_at texts (Some at) = bytes_at texts at.text
+
+-- the one fault of an input that isn't cut into parts
+abbrev pub detail_without_parts : PartFault → List Given → List ℕ
+detail_without_parts part_fault.BeforeFirst texts = beginning_told (numbered 1 (lines_of (text_at texts (spot_of texts (refusal.Parts part_fault.BeforeFirst)))))
+detail_without_parts f texts = []
+
+-- a fault of parts, of which there are too few or too many of a kind, if there are
+abbrev pub detail_of_counted : Request → Option PartKind → List Part → ℕ → Fault → List ℕ
+detail_of_counted asked (Some kind) parts n f = parts_count_told asked kind (length (parts_named (name_of kind) parts))
+detail_of_counted asked None parts n f = detail_in_parts parts n f
+
+-- a fault of an input
+abbrev pub detail_in_input : Request → Option PartFault → Input → ℕ → Fault → List ℕ
+detail_in_input asked None input n f = detail_of_counted asked (miscounted asked (input_parts input)) (input_parts input) n f
+detail_in_input asked (Some broken) input n f = detail_without_parts broken input.texts
 
 -- the detail of a fault at a field of the input of a request
-abbrev pub detail : Request → List ℕ → ℕ → Fault → List ℕ
-detail asked input n f = detail_in_input (input_fault asked input) input n f
+abbrev pub detail : Request → Input → ℕ → Fault → List ℕ
+detail asked input n f = detail_in_input asked (input_fault asked input) input n f

@@ -4,7 +4,7 @@ ghost use Rattle.std.specs.Prelude.{◌≡◌, ◌++◌, codes, decimal};
 ghost use Rattle.csv.specs.Records.{fields_of};
 ghost use Rattle.auction_terms.specs.RulesText.{record_field};
 ghost use Rattle.auction_terms.specs.Wording.{wording_text};
-ghost use Rattle.input_faults.specs.Details.{field_told};
+ghost use Rattle.input_faults.specs.Details.{beginning_told, field_told};
 ghost use Rattle.input_faults.specs.Shown.{shown_text};
 ghost use Rattle.input_faults.specs.inside.DetailText.{detail_text};
 ghost use Rattle.byte_sinks.specs.Adds.{Adds};
@@ -19,6 +19,8 @@ use csv::ByteRecord;
 #[derive(Clone, Copy)]
 pub enum Detail<'d> {
     Nothing,
+    /// The first line of a text, which heads no part.
+    Beginning(&'d [u8]),
     /// Words on the whole record or line.
     Whole(Wording),
     /// The number of a field, what stands there, and what is wrong with it.
@@ -76,12 +78,22 @@ fn add_column<S: Sink>(writer: &mut Writer<'_, S>, number: usize, value: &[u8], 
     writer.add(name);
 }
 
+// Adds the first line of a text, which heads no part.
+fn add_beginning<S: Sink>(writer: &mut Writer<'_, S>, line: &[u8])
+    ensures { Adds S.taken S.failures writer.old writer.new (beginning_told line.now) }
+{
+    writer.add(b": the text begins with ");
+    add_shown(writer, line);
+    writer.add(b" and has no %rules before it");
+}
+
 /// Adds a detail.
 pub fn add_detail<S: Sink>(writer: &mut Writer<'_, S>, detail: &Detail<'_>)
     ensures { Adds S.taken S.failures writer.old writer.new (detail_text detail.now) }
 {
     match *detail {
         Detail::Nothing => writer.add(b""),
+        Detail::Beginning(line) => add_beginning(writer, line),
         Detail::Whole(words) => add_wording(writer, words),
         Detail::Field(number, value, wrong) => add_value(writer, ", field ", number, value, wrong),
         Detail::Column(number, value, name) => add_column(writer, number, value, name),

@@ -8,7 +8,7 @@ ghost use Rattle.input_faults.specs.FaultLines.{explanation};
 
 use crate::finding::input_faults;
 use crate::lines::{lines_of, put_lines};
-use auction_input::Refusal;
+use auction_input::{Input, Refusal};
 use byte_sinks::Sink;
 use requests::Request;
 use std::alloc::Global;
@@ -18,23 +18,23 @@ use std::alloc::Global;
 pub fn explain<S: Sink>(
     alloc: Global,
     request: &Request,
-    text: &[u8],
+    input: &Input,
     out: &mut S,
 ) -> Result<bool, Refusal>
     ensures written { OnOk result (Appends (S.taken out.old) (S.taken out.new)
-        (explanation request.now text.now)) }
+        (explanation request.now input.now)) }
     ensures faulty { IfOk result (λ faulty. IsTrue faulty
-        ↔ IsErr (auction_told request.now text.now)) }
+        ↔ IsErr (auction_told request.now input.now)) }
     ensures untouched { IfOk result (λ faulty. faulty ≡ false → out.new ≡ out.old) }
     ensures succeeded { OnOk result (S.failures out.new ≡ S.failures out.old) }
-    ensures refused { IfErr result (IsCutShort (explanation request.now text.now)
+    ensures refused { IfErr result (IsCutShort (explanation request.now input.now)
         (S.taken out.old) (S.taken out.new) (S.failures out.old) (S.failures out.new)) }
 {
-    let faults = input_faults(alloc, request, text)?;
+    let faults = input_faults(alloc, request, input)?;
     if faults.kept.is_empty() {
         return Ok(false);
     }
-    let lines = lines_of(alloc, request, text, &faults)?;
+    let lines = lines_of(alloc, request, input, &faults)?;
     put_lines(&lines, out)?;
     Ok(true)
 }

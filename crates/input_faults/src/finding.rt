@@ -1,7 +1,7 @@
 //! Finding all faults of an input.
 
 ghost use Rattle.std.specs.Prelude.{◌≡◌, ◌≢◌, ◌∷◌, [], IfOk, List, MatchOption, OnOk};
-ghost use Rattle.auction_input.specs.Parts.{cut_lines, parts_held, parts_in};
+ghost use Rattle.auction_input.specs.Parts.{parts_held, input_parts};
 ghost use Rattle.auction_terms.specs.AllFaults.{Keeps, KeepsMore};
 ghost use Rattle.auction_terms.specs.Borrowed.{bytes_of};
 ghost use Rattle.auction_terms.specs.declared.faults.Found.{Found};
@@ -11,7 +11,7 @@ ghost use Rattle.input_faults.specs.declared.fault.Fault as declared;
 use crate::fault::Fault;
 use crate::merging::add_call;
 use crate::reading::{take_forms, take_groups, take_rules};
-use auction_input::{Part, PartFault, PartKind, miscounted, split_parts, text_of, texts_of};
+use auction_input::{Input, Part, PartFault, PartKind, miscounted, split_parts, text_of, texts_of};
 use auction_terms::{Faults, Rules};
 use requests::Request;
 use std::alloc::{AllocError, Global};
@@ -31,16 +31,16 @@ fn take_parts<'t>(
     alloc: Global,
     faults: &mut Faults<Fault>,
     request: &Request,
-    text: &'t [u8],
+    input: &'t Input,
 ) -> Result<Option<Vec<Part<'t>>>, AllocError>
     ensures faults { OnOk result (KeepsMore faults.old faults.new
-        (faults_of_parts request.now text.now)) }
+        (faults_of_parts request.now input.now)) }
     ensures parts { IfOk result (λ parts. MatchOption parts
-        ((at : Found declared.Fault) × (faults_of_parts request.now text.now ≡ at ∷ []))
-        (λ held. (faults_of_parts request.now text.now ≡ [])
-        × (parts_held held.items ≡ parts_in (cut_lines text.now)))) }
+        ((at : Found declared.Fault) × (faults_of_parts request.now input.now ≡ at ∷ []))
+        (λ held. (faults_of_parts request.now input.now ≡ [])
+        × (parts_held held.items ≡ input_parts input.now))) }
 {
-    let parts = match split_parts(alloc, request, text) {
+    let parts = match split_parts(alloc, request, input) {
         Ok(parts) => parts,
         Err(fault) => {
             check_part_fault(fault)?;
@@ -97,12 +97,12 @@ fn take_texts(
 pub fn input_faults(
     alloc: Global,
     request: &Request,
-    text: &[u8],
+    input: &Input,
 ) -> Result<Faults<Fault>, AllocError>
-    ensures { IfOk result (λ faults. Keeps faults (input_faults request.now text.now)) }
+    ensures { IfOk result (λ faults. Keeps faults (input_faults request.now input.now)) }
 {
     let mut faults = Faults::new(alloc);
-    let Some(parts) = take_parts(alloc, &mut faults, request, text)? else {
+    let Some(parts) = take_parts(alloc, &mut faults, request, input)? else {
         return Ok(faults);
     };
     take_texts(alloc, &mut faults, parts.as_slice())?;

@@ -2,15 +2,14 @@
 
 ghost use Rattle.std.specs.Prelude.{◌≡◌, ◌++◌, ◌∷◌, [], ℕ, List, IfErr, IfOk, OnErr, OnOk, flat_map};
 ghost use Rattle.std.specs.Io.KnownBytes.{Appends};
-ghost use Rattle.auction_input.specs.Line.{refusal_text};
+ghost use Rattle.auction_input.specs.Parts.{parts_held};
+ghost use Rattle.auction_input.specs.Plan.{miscounted};
 ghost use Rattle.auction_input.specs.TextsTold.{terms_told};
-ghost use Rattle.auction_input.specs.Told.{told_text};
 ghost use Rattle.auction_terms.specs.Borrowed.{bytes_of};
 ghost use Rattle.auction_terms.specs.Records.{records_of};
 ghost use Rattle.auction_terms.specs.RulesText.{version_of};
-ghost use Rattle.input_faults.specs.FaultLines.{fault_line, more_line};
-ghost use Rattle.input_faults.specs.InputFaults.{refusal_of};
-ghost use Rattle.input_faults.specs.TextDetails.{detail, detail_in_rules, detail_in_texts, detail_under, numbered, within_limit};
+ghost use Rattle.input_faults.specs.FaultLines.{fault_line, more_line, told_of};
+ghost use Rattle.input_faults.specs.TextDetails.{detail, detail_in_rules, detail_in_texts, detail_of_counted, detail_under, numbered, within_limit};
 ghost use Rattle.input_faults.specs.inside.Cursors.{ReadsForm, StandsAt, StandsAtName};
 ghost use Rattle.input_faults.specs.inside.DetailText.{detail_text};
 ghost use Rattle.input_faults.specs.inside.HeldLines.{held_lines};
@@ -25,32 +24,32 @@ use crate::form_details::form_detail;
 use crate::form_reading::{FormReading, within_limit};
 use crate::group_details::group_detail;
 use crate::name_cursor::NameCursor;
+use crate::part_details::{count_detail, part_detail};
+use crate::placed::add_told;
 use crate::reading::rules_in;
 use crate::record_cursor::RecordCursor;
 use crate::rules_details::rules_detail;
 use crate::wording::add_wording;
-use auction_input::{PartKind, Told, split_parts, text_of, texts_of};
+use auction_input::{
+    Input, Part, PartKind, Places, count_of, miscounted, split_parts, text_of, texts_of,
+};
 use auction_terms::{Faults, Found, Rules, Version, Wording, version_of};
 use byte_sinks::{MemorySink, Sink, WriteFault, Writer};
 use requests::Request;
 use std::alloc::{AllocError, Global};
 
-// Adds what is told of a refusal.
-fn add_told<S: Sink>(writer: &mut Writer<'_, S>, told: &Told<'_>)
-    ensures { Adds S.taken S.failures writer.old writer.new (told_text told.now) }
-{
-    add_wording(writer, told.part);
-    add_wording(writer, told.fault);
-    writer.add(told.name);
-}
-
 // Adds the line of a fault.
-fn add_line<S: Sink>(writer: &mut Writer<'_, S>, fault: Fault, detail: &Detail<'_>)
+fn add_line<S: Sink>(
+    writer: &mut Writer<'_, S>,
+    places: &Places<'_>,
+    fault: Fault,
+    detail: &Detail<'_>,
+)
     ensures { Adds S.taken S.failures writer.old writer.new
-        (refusal_text (refusal_of fault) ++ (detail_text detail.now ++ 10 ∷ [])) }
+        (told_of places.now fault ++ (detail_text detail.now ++ 10 ∷ [])) }
 {
     let refusal = fault.refusal();
-    add_told(writer, &refusal.told());
+    add_told(writer, places.texts(), places.spot_of(&refusal), &refusal);
     add_detail(writer, detail);
     writer.add(b"\n");
 }
@@ -59,6 +58,7 @@ fn add_line<S: Sink>(writer: &mut Writer<'_, S>, fault: Fault, detail: &Detail<'
 fn add_line_of_rules<S: Sink>(
     alloc: Global,
     writer: &mut Writer<'_, S>,
+    places: &Places<'_>,
     cursor: &mut RecordCursor<'_>,
     version: Option<Version>,
     at: Found<Fault>,
@@ -66,7 +66,7 @@ fn add_line_of_rules<S: Sink>(
     ensures added { (text : List ℕ) → StandsAt cursor.old text
         → version ≡ version_of (numbered 1 (records_of text))
         → OnOk result (Adds S.taken S.failures writer.old writer.new
-        (fault_line (detail_in_rules (records_of text)) at)) }
+        (fault_line (told_of places.now) (detail_in_rules (records_of text)) at)) }
     ensures stands { (text : List ℕ) → StandsAt cursor.old text
         → OnOk result (StandsAt cursor.new text) }
 {
@@ -74,11 +74,11 @@ fn add_line_of_rules<S: Sink>(
         Fault::Rules(fault) => {
             cursor.go_to(alloc, fault.place())?;
             let detail = rules_detail(version, &cursor.row, at.field, fault);
-            add_line(writer, at.fault, &detail);
+            add_line(writer, places, at.fault, &detail);
             Ok(())
         }
         _ => {
-            add_line(writer, at.fault, &Detail::Nothing);
+            add_line(writer, places, at.fault, &Detail::Nothing);
             Ok(())
         }
     }
@@ -88,19 +88,28 @@ fn add_line_of_rules<S: Sink>(
 fn add_lines_of_rules<S: Sink>(
     alloc: Global,
     writer: &mut Writer<'_, S>,
+    places: &Places<'_>,
     text: &[u8],
     faults: &[Found<Fault>],
 ) -> Result<(), AllocError>
     ensures { OnOk result (Adds S.taken S.failures writer.old writer.new
-        (flat_map (fault_line (detail_in_rules (records_of text.now))) faults.now)) }
+        (flat_map (fault_line (told_of places.now) (detail_in_rules (records_of text.now)))
+        faults.now)) }
 {
     let mut cursor = RecordCursor::new(alloc, text);
     cursor.go_to(alloc, 1)?;
     let version = version_of(&cursor.row);
     for at in faults {
-        add_line_of_rules(alloc, writer, &mut cursor, version, *at)?;
+        add_line_of_rules(alloc, writer, places, &mut cursor, version, *at)?;
     }
     Ok(())
+}
+
+// A fault, and where the parts with faults are.
+#[derive(Clone, Copy)]
+struct Placed<'p, 'i> {
+    places: &'p Places<'i>,
+    at: Found<Fault>,
 }
 
 // Adds the line of a fault where the rules are read.
@@ -111,16 +120,18 @@ fn add_line_under<'t, S: Sink>(
     forms: &[&'t [u8]],
     form: &mut FormReading<'t>,
     names: &mut NameCursor<'_>,
-    at: Found<Fault>,
+    placed: Placed<'_, '_>,
 ) -> Result<(), AllocError>
     requires { ReadsForm rules.now (bytes_of forms.now) form.old }
     ensures added { (groups : List ℕ) → StandsAtName names.old (within_limit groups)
         → OnOk result (Adds S.taken S.failures writer.old writer.new
-        (fault_line (detail_under rules.now (bytes_of forms.now) groups) at)) }
+        (fault_line (told_of placed.entry.places.now)
+        (detail_under rules.now (bytes_of forms.now) groups) placed.entry.at)) }
     ensures form { OnOk result (ReadsForm rules.now (bytes_of forms.now) form.new) }
     ensures names { (text : List ℕ) → StandsAtName names.old text
         → OnOk result (StandsAtName names.new text) }
 {
+    let Placed { places, at } = placed;
     match at.fault {
         Fault::Form {
             form: number,
@@ -128,17 +139,17 @@ fn add_line_under<'t, S: Sink>(
         } => {
             form.go_to(alloc, rules, forms, number, fault.place())?;
             let detail = form_detail(rules, form.eligibility, &form.cursor.row, at.field, fault);
-            add_line(writer, at.fault, &detail);
+            add_line(writer, places, at.fault, &detail);
             Ok(())
         }
         Fault::Groups(fault) => {
             names.go_to(fault.place(), at.field);
             let detail = group_detail(names.name, at.field, fault);
-            add_line(writer, at.fault, &detail);
+            add_line(writer, places, at.fault, &detail);
             Ok(())
         }
         _ => {
-            add_line(writer, at.fault, &Detail::Nothing);
+            add_line(writer, places, at.fault, &Detail::Nothing);
             Ok(())
         }
     }
@@ -148,30 +159,38 @@ fn add_line_under<'t, S: Sink>(
 fn add_lines_under<S: Sink>(
     alloc: Global,
     writer: &mut Writer<'_, S>,
+    places: &Places<'_>,
     rules: &Rules,
     forms: &[&[u8]],
     groups: &[u8],
     faults: &[Found<Fault>],
 ) -> Result<(), AllocError>
     ensures { OnOk result (Adds S.taken S.failures writer.old writer.new
-        (flat_map (fault_line (detail_under rules.now (bytes_of forms.now) groups.now))
-        faults.now)) }
+        (flat_map (fault_line (told_of places.now)
+        (detail_under rules.now (bytes_of forms.now) groups.now)) faults.now)) }
 {
     let mut form = FormReading::begin(alloc, rules, forms, 0)?;
     let mut names = NameCursor::new(within_limit(groups));
     for at in faults {
-        add_line_under(alloc, writer, rules, forms, &mut form, &mut names, *at)?;
+        let placed = Placed { places, at: *at };
+        add_line_under(alloc, writer, rules, forms, &mut form, &mut names, placed)?;
     }
     Ok(())
 }
 
-// Adds the lines of faults without details.
-fn add_plain_lines<S: Sink>(writer: &mut Writer<'_, S>, faults: &[Found<Fault>])
+// Adds the lines of faults that have one detail.
+fn add_lines_alike<S: Sink>(
+    writer: &mut Writer<'_, S>,
+    places: &Places<'_>,
+    faults: &[Found<Fault>],
+    detail: &Detail<'_>,
+)
     ensures { Adds S.taken S.failures writer.old writer.new
-        (flat_map (fault_line (λ field fault. [])) faults.now) }
+        (flat_map (fault_line (told_of places.now) (λ field fault. detail_text detail.now))
+        faults.now) }
 {
     for at in faults {
-        add_line(writer, at.fault, &Detail::Nothing);
+        add_line(writer, places, at.fault, detail);
     }
 }
 
@@ -179,43 +198,75 @@ fn add_plain_lines<S: Sink>(writer: &mut Writer<'_, S>, faults: &[Found<Fault>])
 fn add_lines_in<S: Sink>(
     alloc: Global,
     writer: &mut Writer<'_, S>,
+    places: &Places<'_>,
     rules: &[u8],
     forms: &[&[u8]],
     groups: &[u8],
     faults: &[Found<Fault>],
 ) -> Result<(), AllocError>
     ensures { OnOk result (Adds S.taken S.failures writer.old writer.new
-        (flat_map (fault_line (detail_in_texts (terms_told rules.now) rules.now
+        (flat_map (fault_line (told_of places.now) (detail_in_texts (terms_told rules.now) rules.now
         (bytes_of forms.now) groups.now)) faults.now)) }
 {
     match rules_in(alloc, rules)? {
-        Some(rules) => add_lines_under(alloc, writer, &rules, forms, groups, faults),
-        None => add_lines_of_rules(alloc, writer, within_limit(rules), faults),
+        Some(rules) => add_lines_under(alloc, writer, places, &rules, forms, groups, faults),
+        None => add_lines_of_rules(alloc, writer, places, within_limit(rules), faults),
     }
+}
+
+// Adds the lines of the faults of parts.
+fn add_lines_of_parts<S: Sink>(
+    alloc: Global,
+    writer: &mut Writer<'_, S>,
+    places: &Places<'_>,
+    request: &Request,
+    parts: &[Part<'_>],
+    faults: &[Found<Fault>],
+) -> Result<(), AllocError>
+    ensures { OnOk result (Adds S.taken S.failures writer.old writer.new
+        (flat_map (fault_line (told_of places.now) (detail_of_counted request.now
+        (miscounted request.now (parts_held parts.now)) (parts_held parts.now))) faults.now)) }
+{
+    if let Some(kind) = miscounted(request, parts) {
+        let detail = count_detail(request, kind, count_of(parts, kind));
+        add_lines_alike(writer, places, faults, &detail);
+        return Ok(());
+    }
+    let rules = text_of(parts, PartKind::Rules);
+    let groups = text_of(parts, PartKind::Groups);
+    let forms = texts_of(alloc, parts, PartKind::Form)?;
+    add_lines_in(
+        alloc,
+        writer,
+        places,
+        rules,
+        forms.as_slice(),
+        groups,
+        faults,
+    )?;
+    Ok(())
 }
 
 // Adds the lines of the faults of an input.
 fn add_lines<S: Sink>(
     alloc: Global,
     writer: &mut Writer<'_, S>,
+    places: &Places<'_>,
     request: &Request,
-    text: &[u8],
+    input: &Input,
     faults: &[Found<Fault>],
 ) -> Result<(), AllocError>
     ensures { OnOk result (Adds S.taken S.failures writer.old writer.new
-        (flat_map (fault_line (detail request.now text.now)) faults.now)) }
+        (flat_map (fault_line (told_of places.now) (detail request.now input.now)) faults.now)) }
 {
-    match split_parts(alloc, request, text) {
+    match split_parts(alloc, request, input) {
         Ok(parts) => {
-            let rules = text_of(parts.as_slice(), PartKind::Rules);
-            let groups = text_of(parts.as_slice(), PartKind::Groups);
-            let forms = texts_of(alloc, parts.as_slice(), PartKind::Form)?;
-            add_lines_in(alloc, writer, rules, forms.as_slice(), groups, faults)?;
+            add_lines_of_parts(alloc, writer, places, request, parts.as_slice(), faults)?;
             Ok(())
         }
         Err(fault) => {
             check_part_fault(fault)?;
-            add_plain_lines(writer, faults);
+            add_lines_alike(writer, places, faults, &part_detail(fault, input.texts()));
             Ok(())
         }
     }
@@ -233,25 +284,47 @@ fn add_more<S: Sink>(writer: &mut Writer<'_, S>, more: u64)
     add_wording(writer, wording);
 }
 
-/// The lines of the faults of an input, and how many more there are. All memory is taken here, before the first line is put.
+// The lines of the faults of an input, whose texts are known.
 #[inline(never)]
-pub fn lines_of(
+fn lines_at(
     alloc: Global,
+    places: &Places<'_>,
     request: &Request,
-    text: &[u8],
+    input: &Input,
     faults: &Faults<Fault>,
 ) -> Result<Vec<u8>, AllocError>
     ensures { IfOk result (λ lines. lines.items
-        ≡ held_lines (detail request.now text.now) faults.now) }
+        ≡ held_lines (told_of places.now) (detail request.now input.now) faults.now) }
 {
     let mut sink = MemorySink::new(alloc);
     let mut writer = Writer::new(&mut sink);
-    add_lines(alloc, &mut writer, request, text, faults.kept.as_slice())?;
+    add_lines(
+        alloc,
+        &mut writer,
+        places,
+        request,
+        input,
+        faults.kept.as_slice(),
+    )?;
     add_more(&mut writer, faults.more);
     match writer.flush() {
         Ok(()) => Ok(sink.into_bytes()),
         Err(WriteFault::Sink { .. }) => Err(AllocError),
     }
+}
+
+/// The lines of the faults of an input, and how many more there are. All memory is taken here, before the first line is put.
+pub fn lines_of(
+    alloc: Global,
+    request: &Request,
+    input: &Input,
+    faults: &Faults<Fault>,
+) -> Result<Vec<u8>, AllocError>
+    ensures { IfOk result (λ lines. lines.items
+        ≡ held_lines (told_of input.now.texts) (detail request.now input.now) faults.now) }
+{
+    let places = Places::of_texts(alloc, input.texts())?;
+    lines_at(alloc, &places, request, input, faults)
 }
 
 /// Puts lines. It takes no memory.

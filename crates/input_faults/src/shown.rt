@@ -9,8 +9,8 @@ use byte_sinks::{Sink, Writer};
 // How many bytes of a text are shown.
 const SHOWN_LEN: usize = 40;
 
-// A hexadecimal digit.
-fn hex_digit(number: u8) -> u8
+/// A hexadecimal digit.
+pub fn hex_digit(number: u8) -> u8
     requires { number < 16 }
     ensures { result ≡ hex_digit number }
 {

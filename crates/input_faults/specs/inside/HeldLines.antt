@@ -4,5 +4,5 @@ use Rattle.auction_terms.specs.declared.faults.Faults.{Faults}
 use Rattle.input_faults.specs.FaultLines.{fault_line, more_line}
 use Rattle.input_faults.specs.declared.fault.Fault.{Fault}
 
-abbrev pub held_lines : (ℕ → Fault → List ℕ) → Faults Fault → List ℕ
-held_lines detail_of held = flat_map (fault_line detail_of) held.kept.items ++ more_line held.more
+abbrev pub held_lines : (Fault → List ℕ) → (ℕ → Fault → List ℕ) → Faults Fault → List ℕ
+held_lines told detail_of held = flat_map (fault_line told detail_of) held.kept.items ++ more_line held.more

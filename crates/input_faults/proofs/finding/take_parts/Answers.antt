@@ -9,16 +9,16 @@ use Rattle.input_faults.proofs.finding.take_parts.Goals as goal
 pub returns-in-Err : goal.returns-in-Err
 returns-in-Err c =
     let asked = c.args.request.now in
-    let text = c.args.text.now in
+    let input = c.args.input.now in
     let f = c.in-Err.fault in
-    let is = parts-unknown asked text f (part-told asked text f c.in-Err.ensures c.in_ok-check_part_fault-in-Err.ensures) in
+    let is = parts-unknown asked input f (part-told asked input f c.in-Err.ensures c.in_ok-check_part_fault-in-Err.ensures) in
     record { faults = rw is c.in_ok-add-in-Err.ensures; parts = (found 0 (fault.Parts f), is) }
 
 pub returns-in-None : goal.returns-in-None
 returns-in-None c =
     let (none, held) = c.in-Ok.ensures in
     let counted = rw c.as_slice.ensures.value at c.miscounted.ensures in
-    let is = parts-counted c.args.request.now c.args.text.now (parts_held c.in-Ok.parts.items) None none held (sym counted ∙ c.in-None.is) in
+    let is = parts-counted c.args.request.now c.args.input.now (parts_held c.in-Ok.parts.items) None none held (sym counted ∙ c.in-None.is) in
     record { faults = rw is (keeps-none c.args.faults.now); parts = (is, held) }
 
 pub returns : goal.returns
@@ -26,5 +26,5 @@ returns c =
     let (none, held) = c.in-Ok.ensures in
     let kind = c.in-Some.kind in
     let counted = rw c.as_slice.ensures.value at c.miscounted.ensures in
-    let is = parts-counted c.args.request.now c.args.text.now (parts_held c.in-Ok.parts.items) (Some kind) none held (sym counted ∙ c.in-Some.is) in
+    let is = parts-counted c.args.request.now c.args.input.now (parts_held c.in-Ok.parts.items) (Some kind) none held (sym counted ∙ c.in-Some.is) in
     record { faults = rw is c.in_ok-add-in-Some.ensures; parts = (found 0 (fault.PartCount kind), is) }

@@ -1,10 +1,12 @@
 use Rattle.std.proofs.Common.{◌∙◌, ◌++◌, ◌∷◌, [], ap}
-use Rattle.auction_input.specs.Line.{refusal_text}
 use Rattle.byte_sinks.proofs.Adding.{Adds-then, Adds-to}
+use Rattle.input_faults.specs.PlacedText.{told_at, told_in}
 use Rattle.input_faults.specs.inside.DetailText.{detail_text}
 use Rattle.input_faults.proofs.lines.add_line.Goals as goal
 
 pub returns : goal.returns
 returns g c =
-    Adds-to (Adds-then c.add_told.ensures (Adds-then c.add_detail.ensures c.add.ensures))
-    (ap (λ told. told ++ (detail_text c.args.detail.now ++ 10 ∷ [])) (c.told.ensures ∙ ap refusal_text c.refusal-refusal.ensures))
+    let texts = c.args.places.now in
+    let r = c.refusal-refusal.result in
+    let told = ap (λ xs. told_at xs c.spot_of.result r) c.texts.ensures ∙ ap (λ spot. told_at texts spot r) c.spot_of.ensures ∙ ap (told_in texts) c.refusal-refusal.ensures in
+    Adds-to (Adds-then c.add_told.ensures (Adds-then c.add_detail.ensures c.add.ensures)) (ap (λ bytes. bytes ++ (detail_text c.args.detail.now ++ 10 ∷ [])) told)

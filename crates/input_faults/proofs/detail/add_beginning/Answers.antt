@@ -1,0 +1,6 @@
+use Rattle.std.proofs.Common.{append_assoc}
+use Rattle.byte_sinks.proofs.Adding.{Adds-then, Adds-to}
+use Rattle.input_faults.proofs.detail.add_beginning.Goals as goal
+
+pub returns : goal.returns
+returns g c = Adds-to (Adds-then c.add.ensures (Adds-then c.add_shown.ensures c.add-2.ensures)) (simp append_assoc)

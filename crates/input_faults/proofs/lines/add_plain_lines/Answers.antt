@@ -1,9 +1,0 @@
-use Rattle.std.proofs.Common.{[], arith}
-use Rattle.byte_sinks.proofs.Adding.{Adds-then, Adds-to}
-use Rattle.byte_sinks.proofs.Known.{flat_map-next_or}
-use Rattle.input_faults.specs.FaultLines.{fault_line}
-use Rattle.input_faults.proofs.lines.add_plain_lines.Goals as goal
-
-pub loop-at-preserved : goal.loop-at-preserved
-loop-at-preserved g c =
-    Adds-to (Adds-then c.loop-at.invariant c.add_line.ensures) (flat_map-next_or (fault_line (λ field fault. [])) c.args.faults.now c.loop-at.at-index _ (omega arith))

@@ -1,9 +1,0 @@
-use Rattle.std.proofs.Common.{[], take}
-use Rattle.std.specs.Prelude.{flat_map}
-use Rattle.byte_sinks.specs.Adds.{Adds}
-use Rattle.input_faults.specs.FaultLines.{fault_line}
-use Rattle.input_faults.proofs.lines.add_plain_lines.Given as goal
-
--- the lines so far are added
-abbrev pub invariant-loop-at : goal.invariant-loop-at
-invariant-loop-at g l = Adds g.S.Sink.taken g.S.Sink.failures l.initial.writer l.writer (flat_map (fault_line (λ field fault. [])) (take l.at-index l.faults))
