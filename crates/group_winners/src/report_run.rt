@@ -96,8 +96,8 @@ impl<'a, 'b, 'g, 't> Winning<'a, 'b, 'g, 't> {
     }
 }
 
-// The text at a place.
-fn text_at<'t>(texts: &[&'t [u8]], place: usize) -> &'t [u8]
+/// The text at a place.
+pub fn text_at<'t>(texts: &[&'t [u8]], place: usize) -> &'t [u8]
     requires { place < length texts.now }
     ensures { result.now ≡ slice_index_or (bytes_of texts.now) place [] }
 {
