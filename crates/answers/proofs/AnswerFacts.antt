@@ -1,5 +1,6 @@
 -- What is answered to a request, by the auction that its input tells.
 use Rattle.std.proofs.Common.{◌≡◌, ◌≢◌, ◌∙◌, ℕ, List, Option, Result, Ok, Err, ap, inl, inr, refl, subst, sym, IfErr, OnOk}
+use Rattle.auction_input.specs.Input.{Input}
 use Rattle.answers.specs.Answer.{answer, output_of}
 use Rattle.answers.specs.Exact.{Ends, IsUnwritten, MeetsLimit, Writes, by_refusal}
 use Rattle.answers.specs.Sold.{HasSold}
@@ -15,20 +16,20 @@ use Rattle.requests.specs.declared.request.Request.{Request}
 use Rattle.requests.specs.declared.request.Request.TheVariants as request
 
 -- every command but `check` answers by the auction
-by-auction : (asked : Request) (input : List ℕ) → asked ≢ request.Check → answer asked input ≡ and_then (auction_told asked input) (output_of asked)
+by-auction : (asked : Request) (input : Input) → asked ≢ request.Check → answer asked input ≡ and_then (auction_told asked input) (output_of asked)
 by-auction request.Check input some = absurd (some refl)
 by-auction asked input some = refl
 
-meets-limit : (asked : Request) (input : List ℕ) (auction : Auction) (r : Refusal) → auction_told asked input ≡ Ok auction → IsBeyondLimit asked auction r → MeetsLimit asked input r
+meets-limit : (asked : Request) (input : Input) (auction : Auction) (r : Refusal) → auction_told asked input ≡ Ok auction → IsBeyondLimit asked auction r → MeetsLimit asked input r
 meets-limit (request.Verify workers) input auction r told beyond = (auction, told, beyond)
 meets-limit asked input auction r told beyond = absurd beyond
 
 -- the auction that was read, with texts that are faithful to it
-pub has-sold : (asked : Request) (input : List ℕ) (auction : Auction) → IsSold asked input auction → HasSold asked input
+pub has-sold : (asked : Request) (input : Input) (auction : Auction) → IsSold asked input auction → HasSold asked input
 has-sold request.Check input auction sold = tt
 has-sold asked input auction sold = (auction, sold, faithful-without asked input auction sold.told)
 
-module _ (asked : Request) (input : List ℕ) (some : asked ≢ request.Check) where
+module _ (asked : Request) (input : Input) (some : asked ≢ request.Check) where
   -- the auction isn't there
   pub no-auction : (taken : Option (List ℕ)) (failures : ℕ) (r : Refusal) → RefusesAuction asked input r → IsUnwritten asked input taken taken failures failures r
   no-auction taken failures r (inl refused) = inl (by_refusal (refuses-as _ _ r (by-auction asked input some) (stop (auction_told asked input) (output_of asked) r refused)) refl)

@@ -1,8 +1,9 @@
 -- How reports and allocations end: with a digit and a line feed.
-use Rattle.std.proofs.Common.{◌≡◌, ◌≤◌, ◌+◌, ◌/◌, ◌%◌, ◌++◌, ◌∷◌, ◌∙◌, [], ℕ, zero, suc, false, List, append_assoc, ap, arith, length, lt-ltb, refl, subst, sym, ℤ, pos, negsuc, ◌==◌, codes, decimal, zip, append-nil, inl, inr}
+use Rattle.std.proofs.Common.{◌≡◌, ◌≤◌, ◌+◌, ◌/◌, ◌%◌, ◌++◌, ◌∷◌, ◌∙◌, [], ℕ, zero, suc, Bool, true, false, Some, flat_map, List, append_assoc, ap, arith, length, lt-ltb, refl, subst, sym, ℤ, pos, negsuc, ◌==◌, codes, decimal, zip, append-nil, inl, inr}
 use Rattle.std.proofs.lemmas.Bool.{cases_Bool}
 use Rattle.std.specs.Fmt.{digit_glyph, digits, digits_onto, signed_decimal}
 use Rattle.auction_terms.specs.declared.choices.Choice.{Choice}
+use Rattle.outcome.specs.Pricing.{Priced, least_line, price_line, pricing_text, sum_line}
 use Rattle.outcome.specs.Report.{allocation_text, cost, group_report, heading, in_turn, report_text}
 use Rattle.bid_desk.specs.Sale.{Sale}
 
@@ -106,5 +107,43 @@ no-report sale (group ∷ groups) (a ∷ won) before some is =
     not-so before _ is (subst EndsInDigit (sym (append-nil (report_text sale (group ∷ groups) (a ∷ won)))) (groups-end sale a 1 (group, a) (zip groups won)))
 
 -- and no tie does
-pub no-tie : (sale : Sale) (report : List ℕ) (other : List Choice) (before : List ℕ) → before ++ codes "unique\n" ≡ report ++ (codes "tie\n" ++ allocation_text sale other) → ⊥
-no-tie sale report other before is = not-so before _ is (behind-more report _ (behind-more (codes "tie\n") _ (allocation-ends sale other)))
+pub no-tie : (sale : Sale) (report prices : List ℕ) (other : List Choice) (before : List ℕ) → before ++ codes "unique\n" ≡ report ++ (prices ++ (codes "tie\n" ++ allocation_text sale other)) → ⊥
+no-tie sale report prices other before is = not-so before _ is (behind-more report _ (behind-more prices _ (behind-more (codes "tie\n") _ (allocation-ends sale other))))
+
+-- nor do the lines of a least sum
+not-least : (before front : List ℕ) → before ++ codes "unique\n" ≡ front ++ codes "least\n" → ⊥
+not-least before front is =
+    let one = before ++ 117 ∷ 110 ∷ 105 ∷ 113 ∷ 117 ∷ [] in
+    let other = front ++ 108 ∷ 101 ∷ 97 ∷ 115 ∷ [] in
+    let split : before ++ codes "unique\n" ≡ one ++ 101 ∷ 10 ∷ [] = sym (append_assoc before (117 ∷ 110 ∷ 105 ∷ 113 ∷ 117 ∷ []) (101 ∷ 10 ∷ [])) in
+    let apart : front ++ codes "least\n" ≡ other ++ 116 ∷ 10 ∷ [] = sym (append_assoc front (108 ∷ 101 ∷ 97 ∷ 115 ∷ []) (116 ∷ 10 ∷ [])) in
+    let same : 101 ≡ 116 = sym (second-last-is one 101 10) ∙ ap second_last (sym split ∙ is ∙ apart) ∙ second-last-is other 116 10 in
+    omega (arith, same)
+
+-- nor do prices
+module _ (sale : Sale) (report : List ℕ) (first : List Choice) (p : Priced) (before : List ℕ) where
+  abbrev lines : List ℕ
+  lines = flat_map (price_line sale p.prices) first
+
+  abbrev sum : List ℕ
+  sum = sum_line p.prices first
+
+  abbrev with-end : List ℕ → List ℕ
+  with-end end = report ++ (codes "prices\n" ++ (lines ++ (sum ++ end)))
+
+  no-sum : before ++ codes "unique\n" ≡ with-end [] → ⊥
+  no-sum is = not-so before _ is (behind-more report _ (behind-more (codes "prices\n") _ (behind-more lines _ (subst EndsInDigit (sym (append-nil sum)) (number-ends (codes "sum ") _)))))
+
+  no-least : before ++ codes "unique\n" ≡ with-end (codes "least\n") → ⊥
+  no-least is =
+      let end = codes "least\n" in
+      let apart : with-end end ≡ (report ++ (codes "prices\n" ++ (lines ++ sum))) ++ end =
+      ap (λ (xs : List ℕ). report ++ (codes "prices\n" ++ xs)) (sym (append_assoc lines sum end)) ∙ ap (λ (xs : List ℕ). report ++ xs) (sym (append_assoc (codes "prices\n") (lines ++ sum) end)) ∙ sym (append_assoc report (codes "prices\n" ++ (lines ++ sum)) end) in
+      not-least before (report ++ (codes "prices\n" ++ (lines ++ sum))) (is ∙ apart)
+
+  by-end : (least : Bool) → before ++ codes "unique\n" ≡ with-end (least_line least) → ⊥
+  by-end false is = no-sum is
+  by-end true is = no-least is
+
+  pub no-pricing : before ++ codes "unique\n" ≡ report ++ (pricing_text sale first (Some p) ++ []) → ⊥
+  no-pricing is = by-end p.is_least (is ∙ ap (λ (xs : List ℕ). report ++ xs) (append-nil (pricing_text sale first (Some p))))

@@ -1,5 +1,6 @@
 -- What `text` and `compile` answer is faithful to the auction that the input tells.
 use Rattle.std.proofs.Common.{◌≡◌, ◌∷◌, [], ℕ, false, List, Ok, refl, subst, sym}
+use Rattle.auction_input.specs.Input.{Input}
 use Rattle.std.specs.List.{AllByRecursion}
 use Rattle.auction_terms.specs.Groups.{has}
 use Rattle.auction_input.specs.Auction.{Auction, auction_told}
@@ -17,7 +18,7 @@ use Rattle.outcome.specs.Report.{in_turn}
 use Rattle.answers.specs.GroupTexts.{program_text}
 use Rattle.answers.specs.Answer.{output_of}
 
-pub faithful-without : (asked : Request) (input : List ℕ) (auction : Auction) → auction_told asked input ≡ Ok auction → (group : List ℕ) → IsFaithfulToSale auction.sale group
+pub faithful-without : (asked : Request) (input : Input) (auction : Auction) → auction_told asked input ≡ Ok auction → (group : List ℕ) → IsFaithfulToSale auction.sale group
 faithful-without asked input auction told group =
     let (lots, book) = auction-within asked input auction told in
     presolved_text_is_faithful auction.sale.lots auction.sale.book (has group) lots book

@@ -4,9 +4,11 @@ pub mod EndFacts
 pub mod ExplainingFacts
 pub mod FaithfulFacts
 pub mod FeasibleFacts
+mod FileLineFacts
 pub mod GroupTextFacts
 mod LineFacts
 pub mod OnlyFacts
+pub mod PricedFacts
 pub mod ProgramTextFacts
 pub mod RunFacts
 mod SizeFacts

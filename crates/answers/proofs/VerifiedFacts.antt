@@ -1,5 +1,6 @@
 -- What certificates show of what groups win.
-use Rattle.std.proofs.Common.{◌≡◌, ◌≤◌, ◌+◌, ◌++◌, ◌==◌, ◌∷◌, ◌∙◌, [], ℕ, true, false, List, Option, None, Result, Ok, Err, ap, arith, eqb-true, length, map, refl, subst, sym, OnOk, ℤ, codes, slice_index_or, option_map}
+use Rattle.std.proofs.Common.{◌≡◌, ◌≤◌, ◌+◌, ◌++◌, ◌==◌, ◌∷◌, ◌∙◌, [], ℕ, true, false, List, Option, None, Some, Result, Ok, Err, IfSome, ◌≢◌, ap, arith, eqb-true, length, map, refl, subst, sym, OnOk, ℤ, codes, slice_index_or, option_map}
+use Rattle.auction_input.specs.Input.{Input}
 use Rattle.std.specs.List.{AllZip, zip}
 use Rattle.std.proofs.lemmas.Int.{ints}
 use Rattle.rayon.proofs.ListFacts.{AllZip-weaken}
@@ -12,6 +13,7 @@ use Rattle.optimality.specs.Laws.{IsBound}
 use Rattle.optimality.specs.Verdict.{certificate_fault}
 use Rattle.program_faults.specs.declared.certificate_fault.FaultKind.{FaultKind}
 use Rattle.outcome.proofs.CostLaws.{costs_are_bounded, costs_are_own}
+use Rattle.outcome.specs.Pricing.{Priced, pricing_text}
 use Rattle.outcome.specs.Report.{report_text}
 use Rattle.bid_desk.specs.Sale.{Sale}
 use Rattle.outcome.specs.Uniqueness.{uniqueness_text}
@@ -27,7 +29,8 @@ use Rattle.answers.specs.Answer.{answer, output_of}
 use Rattle.auction_terms.specs.Stages.{and_then, each_in_turn}
 use Rattle.answers.specs.Exact.{Writes}
 use Rattle.group_winners.specs.Claimed.{claims_told}
-use Rattle.answers.specs.Verified.{Holds, IsGreatestWithout, IsOnlyOutcome, IsOwnCost, IsTrueReport, UniqueIsOnly, VerifiedIsTrue, WritesTrueReport}
+use Rattle.group_winners.specs.Pricing.{pricing_told}
+use Rattle.answers.specs.Verified.{AreTruePrices, Holds, IsGreatestWithout, IsOnlyOutcome, IsOwnCost, IsPricedOutcome, IsTrueReport, PricesCover, UniqueIsOnly, VerifiedIsTrue, WritesTrueReport}
 use Rattle.group_winners.specs.SolutionWinners.{winners_of_groups}
 use Rattle.group_winners.specs.inside.SolutionWinners.{winners}
 use Rattle.auction_input.specs.declared.part_kind.PartKind.TheVariants as part
@@ -36,7 +39,8 @@ use Rattle.requests.specs.declared.request.Request.TheVariants as request
 use Rattle.auction_input.proofs.AnswerFacts.{ok-behind, ok-is, unless-ok}
 use Rattle.auction_input.proofs.WithinFacts.{auction-within}
 use Rattle.group_winners.proofs.ClaimedFacts.{some-group, wins-first}
-use Rattle.answers.proofs.EndFacts.{no-report, no-tie}
+use Rattle.answers.proofs.EndFacts.{no-pricing, no-report, no-tie}
+use Rattle.answers.proofs.PricedFacts.{auction-sized, pricing-holds}
 use Rattle.group_winners.proofs.CheckFacts.{when-both, when-counted}
 use Rattle.group_winners.proofs.WinnersFeasible.{feasible-of}
 use Rattle.answers.proofs.OnlyFacts.{claim-holds, no-fault, settled-costs}
@@ -106,34 +110,97 @@ first-greatest sale ((b ∷ group) ∷ groups) (a ∷ won) starts each = (let no
 
 -- ---- an auction
 
-true-report : (workers : ℕ) (auction : Auction) (out : List ℕ) → IsBook auction.sale.lots auction.sale.book → output_of (request.Verify workers) auction ≡ Ok out → IsTrueReport auction out
-true-report workers auction out within told =
-    let (won, won_is, behind) = ok-behind (and_then (winners_of_groups auction) (certified auction)) _ out told in
-    let (claim, claim_is, written) = ok-behind (claims_told auction (slice_index_or won 0 []) auction.uniques auction.ties) _ out behind in
-    let (allocations, wins, certifies) = ok-behind (winners_of_groups auction) (certified auction) won won_is in
-    let (starts, count, each) = when-both refusal.FirstGroupNotEmpty (refusal.PartCount part.Solution) (starts_empty auction.groups) (length auction.solutions == length auction.groups) _ allocations wins in
+-- allocations that certificates show to be of greatest total are
+pub certified-greatest : (auction : Auction) (won : List (List Choice)) → IsBook auction.sale.lots auction.sale.book → winners_of_groups auction ≡ Ok won → certified auction won ≡ Ok won → AllZip (IsGreatestWithout auction.sale) auction.groups won
+certified-greatest auction won within wins certifies =
+    let (starts, count, each) = when-both refusal.FirstGroupNotEmpty (refusal.PartCount part.Solution) (starts_empty auction.groups) (length auction.solutions == length auction.groups) _ won wins in
+    let (counts, all_told) = when-counted (length auction.certificates == length auction.groups) _ (refusal.PartCount part.Certificate) won certifies in
+    let (all, shown_are, same) = ok-behind (each_in_turn shown 1 (bounds_of auction won)) _ won all_told in
+    all-greatest auction.sale 1 auction.groups auction.solutions auction.certificates won all within (eqb-true _ _ count) (eqb-true _ _ counts) each shown_are
+
+-- what is certified is what is won
+as-won : (auction : Auction) (allocations won : List (List Choice)) → certified auction allocations ≡ Ok won → allocations ≡ won
+as-won auction allocations won certifies =
     let (counts, all_told) = when-counted (length auction.certificates == length auction.groups) _ (refusal.PartCount part.Certificate) won certifies in
     let (all, shown_are, same) = ok-behind (each_in_turn shown 1 (bounds_of auction allocations)) _ won all_told in
-    let is : allocations ≡ won = ok-is _ allocations won refl same in
-    let greatest = all-greatest auction.sale 1 auction.groups auction.solutions auction.certificates allocations all within (eqb-true _ _ count) (eqb-true _ _ counts) each shown_are in
-    let first = first-greatest auction.sale auction.groups allocations starts greatest in
-    let text : report_text auction.sale auction.groups won ++ uniqueness_text auction.sale claim ≡ out = ok-is _ (report_text auction.sale auction.groups won ++ uniqueness_text auction.sale claim) out refl written in
-    let claimed = subst (λ (xs : List (List Choice)). claims_told auction (slice_index_or xs 0 []) auction.uniques auction.ties ≡ Ok claim) (sym is) claim_is in
+    ok-is _ allocations won refl same
+
+-- what `verify` goes by: these allocations, certified, and what comes of the claim and of the prices
+record Verdicts (auction : Auction) (out : List ℕ) : Type 0 where
+  won : List (List Choice)
+  claim : Uniqueness
+  pricing : Option Priced
+  wins : winners_of_groups auction ≡ Ok won
+  certifies : certified auction won ≡ Ok won
+  claims : claims_told auction (slice_index_or won 0 []) auction.uniques auction.ties ≡ Ok claim
+  prices : pricing_told auction won ≡ Ok pricing
+  text : out ≡ report_text auction.sale auction.groups won ++ (pricing_text auction.sale (slice_index_or won 0 []) pricing ++ uniqueness_text auction.sale claim)
+
+verdicts : (workers : ℕ) (auction : Auction) (out : List ℕ) → output_of (request.Verify workers) auction ≡ Ok out → Verdicts auction out
+verdicts workers auction out told =
+    let (won, won_is, behind) = ok-behind (and_then (winners_of_groups auction) (certified auction)) _ out told in
+    let (claim, claim_is, after) = ok-behind (claims_told auction (slice_index_or won 0 []) auction.uniques auction.ties) _ out behind in
+    let (pricing, pricing_is, written) = ok-behind (pricing_told auction won) _ out after in
+    let (allocations, wins, certifies) = ok-behind (winners_of_groups auction) (certified auction) won won_is in
+    let is = as-won auction allocations won certifies in
     record {
-      won = allocations;
+      won = won;
       claim = claim;
-      text = sym text ∙ ap (λ (xs : List (List Choice)). report_text auction.sale auction.groups xs ++ uniqueness_text auction.sale claim) (sym is);
-      greatest = greatest;
-      costs = own-costs auction.sale (slice_index_or allocations 0 []) first auction.groups allocations greatest;
-      holds = claim-holds auction within (slice_index_or allocations 0 []) first (wins-first auction allocations wins).3 auction.uniques auction.ties claim claimed;
+      pricing = pricing;
+      wins = subst (λ (xs : List (List Choice)). winners_of_groups auction ≡ Ok xs) is wins;
+      certifies = subst (λ (xs : List (List Choice)). certified auction xs ≡ Ok won) is certifies;
+      claims = claim_is;
+      prices = pricing_is;
+      text = sym (ok-is _ (report_text auction.sale auction.groups won ++ (pricing_text auction.sale (slice_index_or won 0 []) pricing ++ uniqueness_text auction.sale claim)) out refl written);
     }
+
+module _ (auction : Auction) (out : List ℕ) (within : IsBook auction.sale.lots auction.sale.book) (sized : length auction.sale.book ≡ length auction.rules.bidders) (v : Verdicts auction out) where
+  greatest : AllZip (IsGreatestWithout auction.sale) auction.groups v.won
+  greatest = certified-greatest auction v.won within v.wins v.certifies
+
+  first : IsGreatest auction.sale.lots auction.sale.book (λ b. false) (slice_index_or v.won 0 [])
+  first = first-greatest auction.sale auction.groups v.won (wins-first auction v.won v.wins).0 greatest
+
+  priced : IfSome v.pricing (AreTruePrices auction (slice_index_or v.won 0 [])) × (v.pricing ≡ None → auction.prices ≡ [])
+  priced = pricing-holds auction within sized v.won first greatest v.pricing v.prices
+
+  true-report : IsTrueReport auction out
+  true-report = record {
+    won = v.won;
+    pricing = v.pricing;
+    claim = v.claim;
+    text = v.text;
+    greatest = greatest;
+    costs = own-costs auction.sale (slice_index_or v.won 0 []) first auction.groups v.won greatest;
+    prices = priced.0;
+    holds = claim-holds auction within (slice_index_or v.won 0 []) first (wins-first auction v.won v.wins).3 auction.uniques auction.ties v.claim v.claims;
+  }
+
+  priced-outcome : auction.prices ≢ [] → IsPricedOutcome auction out
+  priced-outcome some = by v.pricing refl
+    where
+      by : (o : Option Priced) → v.pricing ≡ o → IsPricedOutcome auction out
+      by None is = absurd (some (priced.1 is))
+      by (Some p) is = record {
+        won = v.won;
+        pricing = p;
+        claim = v.claim;
+        text = subst (λ (x : Option Priced). out ≡ report_text auction.sale auction.groups v.won ++ (pricing_text auction.sale (slice_index_or v.won 0 []) x ++ uniqueness_text auction.sale v.claim)) is v.text;
+        greatest = first;
+        prices = subst (λ (x : Option Priced). IfSome x (AreTruePrices auction (slice_index_or v.won 0 []))) is priced.0;
+      }
 
 -- ---- an input
 
 pub verified-is-true : VerifiedIsTrue
 verified-is-true workers input out told =
     let (auction, auction_is, text) = ok-behind (auction_told (request.Verify workers) input) (output_of (request.Verify workers)) out told in
-    (auction, auction_is, true-report workers auction out (auction-within (request.Verify workers) input auction auction_is).1 text)
+    (auction, auction_is, true-report auction out (auction-within (request.Verify workers) input auction auction_is).1 (auction-sized (request.Verify workers) input auction auction_is) (verdicts workers auction out text))
+
+pub prices-cover : PricesCover
+prices-cover workers input out told =
+    let (auction, auction_is, text) = ok-behind (auction_told (request.Verify workers) input) (output_of (request.Verify workers)) out told in
+    (auction, auction_is, priced-outcome auction out (auction-within (request.Verify workers) input auction auction_is).1 (auction-sized (request.Verify workers) input auction auction_is) (verdicts workers auction out text))
 
 -- some group has a report
 some-report : (sale : Sale) (groups : List (List ℕ)) (won : List (List Choice)) → 1 ≤ length groups → AllZip (IsGreatestWithout sale) groups won → 1 ≤ length (zip groups won)
@@ -142,27 +209,24 @@ some-report sale (group ∷ groups) [] some each = absurd each
 some-report sale (group ∷ groups) (a ∷ won) some each = omega arith
 
 -- a true report that ends with the line `unique`
-only-outcome : (auction : Auction) (before : List ℕ) → 1 ≤ length auction.groups → (won : List (List Choice)) (claim : Uniqueness) → before ++ codes "unique\n" ≡ report_text auction.sale auction.groups won ++ uniqueness_text auction.sale claim
+only-outcome : (auction : Auction) (before : List ℕ) → 1 ≤ length auction.groups → (won : List (List Choice)) (pricing : Option Priced) (claim : Uniqueness)
+    → before ++ codes "unique\n" ≡ report_text auction.sale auction.groups won ++ (pricing_text auction.sale (slice_index_or won 0 []) pricing ++ uniqueness_text auction.sale claim)
     → AllZip (IsGreatestWithout auction.sale) auction.groups won → Holds auction.sale (slice_index_or won 0 []) claim → IsOnlyOutcome auction (before ++ codes "unique\n")
-only-outcome auction before some won uniqueness.Unasked is greatest holds = absurd (no-report auction.sale auction.groups won before (some-report auction.sale auction.groups won some greatest) is)
-only-outcome auction before some won uniqueness.Only is greatest holds = record { won = won; text = is; only = holds; costs = settled-costs auction.sale (slice_index_or won 0 []) holds auction.groups won greatest }
-only-outcome auction before some won (uniqueness.Tie other) is greatest holds = absurd (no-tie auction.sale (report_text auction.sale auction.groups won) other before is)
-
-some-groups : (workers : ℕ) (auction : Auction) (out : List ℕ) → output_of (request.Verify workers) auction ≡ Ok out → 1 ≤ length auction.groups
-some-groups workers auction out told =
-    let (won, won_is, behind) = ok-behind (and_then (winners_of_groups auction) (certified auction)) _ out told in
-    let (allocations, wins, certifies) = ok-behind (winners_of_groups auction) (certified auction) won won_is in
-    some-group auction.groups (wins-first auction allocations wins).0
+only-outcome auction before some won None uniqueness.Unasked is each holds = absurd (no-report auction.sale auction.groups won before (some-report auction.sale auction.groups won some each) is)
+only-outcome auction before some won (Some p) uniqueness.Unasked is each holds = absurd (no-pricing auction.sale (report_text auction.sale auction.groups won) (slice_index_or won 0 []) p before is)
+only-outcome auction before some won pricing uniqueness.Only is each holds = record { won = won; pricing = pricing; text = is; only = holds; costs = settled-costs auction.sale (slice_index_or won 0 []) holds auction.groups won each }
+only-outcome auction before some won pricing (uniqueness.Tie other) is each holds = absurd (no-tie auction.sale (report_text auction.sale auction.groups won) (pricing_text auction.sale (slice_index_or won 0 []) pricing) other before is)
 
 pub unique-is-only : UniqueIsOnly
 unique-is-only workers input before told =
     let out = before ++ codes "unique\n" in
     let (auction, auction_is, text) = ok-behind (auction_told (request.Verify workers) input) (output_of (request.Verify workers)) out told in
-    let report = true-report workers auction out (auction-within (request.Verify workers) input auction auction_is).1 text in
-    (auction, auction_is, only-outcome auction before (some-groups workers auction out text) report.won report.claim report.text report.greatest report.holds)
+    let v = verdicts workers auction out text in
+    let report = true-report auction out (auction-within (request.Verify workers) input auction auction_is).1 (auction-sized (request.Verify workers) input auction auction_is) v in
+    (auction, auction_is, only-outcome auction before (some-group auction.groups (wins-first auction v.won v.wins).0) report.won report.pricing report.claim report.text report.greatest report.holds)
 
 -- what is written at Ok is a true report
-pub writes-true : {T E : Type 0} (workers : ℕ) (input : List ℕ) (result : Result T E) (taken taken' : Option (List ℕ)) → OnOk result (Writes (answer (request.Verify workers) input) taken taken') → OnOk result (WritesTrueReport workers input taken taken')
+pub writes-true : {T E : Type 0} (workers : ℕ) (input : Input) (result : Result T E) (taken taken' : Option (List ℕ)) → OnOk result (Writes (answer (request.Verify workers) input) taken taken') → OnOk result (WritesTrueReport workers input taken taken')
 writes-true workers input (Ok x) taken taken' (out, told, sent) =
     let (auction, auction_is, report) = verified-is-true workers input out told in
     record { auction = auction; out = out; told = auction_is; is_true = report; sent = sent }

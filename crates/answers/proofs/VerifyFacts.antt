@@ -8,6 +8,8 @@ use Rattle.answers.specs.Answer.{output_of}
 use Rattle.auction_input.specs.Refused.{Refuses}
 use Rattle.auction_input.specs.declared.refusal.Refusal.{Refusal}
 use Rattle.group_winners.specs.Claimed.{IsTooWideClaim, claims_told}
+use Rattle.group_winners.specs.Pricing.{IsTooWidePricing, pricing_told}
+use Rattle.outcome.specs.declared.uniqueness.Uniqueness.{Uniqueness}
 use Rattle.answers.specs.Exact.{Ends, IsBeyondSums, by_refusal}
 use Rattle.requests.specs.declared.request.Request.TheVariants as request
 use Rattle.auction_input.proofs.StageFacts.{behind, next, stop}
@@ -24,4 +26,11 @@ pub unclaimed : (workers : ℕ) (auction : Auction) (won : List (List Choice)) (
     → Refuses (claims_told auction (slice_index_or won 0 []) auction.uniques auction.ties) r ⊎ IsTooWideClaim auction r
     → Ends (output_of (request.Verify workers) auction) taken taken failures failures r ⊎ (IsBeyondSums auction r × (taken ≡ taken))
 unclaimed workers auction won taken failures r told certifies (inl refused) = inl (by_refusal (behind _ won _ r (next _ won _ _ told certifies) (stop _ _ r refused)) refl)
-unclaimed workers auction won taken failures r told certifies (inr wide) = inr ((won, told, inr (certifies, wide)), refl)
+unclaimed workers auction won taken failures r told certifies (inr wide) = inr ((won, told, inr (certifies, inl wide)), refl)
+
+-- solutions, certificates and a claim that are taken, and prices that aren't
+pub unpriced : (workers : ℕ) (auction : Auction) (won : List (List Choice)) (claim : Uniqueness) (taken : Option (List ℕ)) (failures : ℕ) (r : Refusal) → winners_of_groups auction ≡ Ok won → certified auction won ≡ Ok won
+    → claims_told auction (slice_index_or won 0 []) auction.uniques auction.ties ≡ Ok claim → Refuses (pricing_told auction won) r ⊎ IsTooWidePricing auction won r
+    → Ends (output_of (request.Verify workers) auction) taken taken failures failures r ⊎ (IsBeyondSums auction r × (taken ≡ taken))
+unpriced workers auction won claim taken failures r told certifies claims (inl refused) = inl (by_refusal (behind _ won _ r (next _ won _ _ told certifies) (behind _ claim _ r claims (stop _ _ r refused))) refl)
+unpriced workers auction won claim taken failures r told certifies claims (inr wide) = inr ((won, told, inr (certifies, inr wide)), refl)

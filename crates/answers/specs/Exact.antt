@@ -1,5 +1,6 @@
 -- What a command leaves, by what is told: the whole output, or the first refusal.
 use Rattle.std.specs.Prelude.{◌≡◌, ◌⊎◌, ℕ, List, Option, Result, Ok, length}
+use Rattle.auction_input.specs.Input.{Input}
 use Rattle.std.specs.Io.KnownBytes.{Appends}
 use Rattle.auction_input.specs.Auction.{Auction, auction_told}
 use Rattle.auction_input.specs.Refused.{Refuses}
@@ -14,6 +15,7 @@ use Rattle.byte_sinks.specs.declared.write_fault.WriteFault.TheVariants as write
 use Rattle.answers.specs.Answer.{answer}
 use Rattle.group_winners.specs.Certified.{IsTooWide, bounds_of, certified}
 use Rattle.group_winners.specs.Claimed.{IsTooWideClaim}
+use Rattle.group_winners.specs.Pricing.{IsTooWidePricing}
 use Rattle.group_winners.specs.SolutionWinners.{winners_of_groups}
 
 -- the output that is told was written, and nothing else
@@ -25,18 +27,18 @@ pub data Ends (told : Result (List ℕ) Refusal) (taken taken' : Option (List �
   by_refusal : {r : Refusal} → Refuses told r → taken' ≡ taken → Ends told taken taken' failures failures' r
   by_put : {written : ℕ} → (out : List ℕ) → told ≡ Ok out → SentFront taken taken' out written → HasFailed failures failures' → Ends told taken taken' failures failures' (refusal.Write (write.Sink written))
 
--- behind solutions that are taken it is a certificate of the groups, or behind all of these that of the claim
+-- after solutions that are accepted it is a certificate of the groups; after all of these that of the claim; and after that the cover of prices
 abbrev pub IsBeyondSums : Auction → Refusal → Type 0
 IsBeyondSums auction r =
     (won : List (List Choice)) × (winners_of_groups auction ≡ Ok won)
-    × (((length auction.certificates ≡ length auction.groups) × IsTooWide (bounds_of auction won) r) ⊎ ((certified auction won ≡ Ok won) × IsTooWideClaim auction r))
+    × (((length auction.certificates ≡ length auction.groups) × IsTooWide (bounds_of auction won) r) ⊎ ((certified auction won ≡ Ok won) × (IsTooWideClaim auction r ⊎ IsTooWidePricing auction won r)))
 
 -- `verify` alone adds up in 128 bits
-abbrev pub MeetsLimit : Request → List ℕ → Refusal → Type 0
+abbrev pub MeetsLimit : Request → Input → Refusal → Type 0
 MeetsLimit (request.Verify workers) input r = (auction : Auction) × (auction_told (request.Verify workers) input ≡ Ok auction) × IsBeyondSums auction r
 MeetsLimit asked input r = ⊥
 
 -- why a request is refused, or its output cut short; what the input doesn't settle is a wrong answer of the desk, and the limit of sums
-abbrev pub IsUnwritten : Request → List ℕ → Option (List ℕ) → Option (List ℕ) → ℕ → ℕ → Refusal → Type 0
+abbrev pub IsUnwritten : Request → Input → Option (List ℕ) → Option (List ℕ) → ℕ → ℕ → Refusal → Type 0
 IsUnwritten asked input taken taken' failures failures' r =
     Ends (answer asked input) taken taken' failures failures' r ⊎ ((IsUnsettled asked input r ⊎ MeetsLimit asked input r) × (taken' ≡ taken))

@@ -1,5 +1,6 @@
 -- What `text` and `compile` write where they end well: texts that are faithful to the auction that the input tells.
 use Rattle.std.specs.Prelude.{◌≡◌, ℕ, false, List, Ok}
+use Rattle.auction_input.specs.Input.{Input}
 use Rattle.std.specs.List.{AllByRecursion}
 use Rattle.auction_input.specs.Auction.{Auction, auction_told}
 use Rattle.group_winners.specs.Programs.{program_for}
@@ -18,7 +19,7 @@ IsFaithfulToSale sale group = IsFaithfulText sale.lots sale.book (has group) (te
 
 -- what `text` answers of an input is a text that is faithful to the auction which the input tells, with nobody left out
 abbrev pub TextIsFaithful : Type 0
-TextIsFaithful = (input out : List ℕ) → answer Text input ≡ Ok out
+TextIsFaithful = (input : Input) (out : List ℕ) → answer Text input ≡ Ok out
     → (auction : Auction) × (auction_told Text input ≡ Ok auction) × IsFaithfulText auction.sale.lots auction.sale.book (λ b. false) out
 
 -- the line and the text of each group in order, and each text faithful
@@ -28,5 +29,5 @@ pub record AreFaithfulTexts (auction : Auction) (out : List ℕ) : Type 0 where
 
 -- what `compile` answers of an input is these of the auction which the input tells
 abbrev pub CompiledIsFaithful : Type 0
-CompiledIsFaithful = (workers : ℕ) (input out : List ℕ) → answer (Compile workers) input ≡ Ok out
+CompiledIsFaithful = (workers : ℕ) (input : Input) (out : List ℕ) → answer (Compile workers) input ≡ Ok out
     → (auction : Auction) × (auction_told (Compile workers) input ≡ Ok auction) × AreFaithfulTexts auction out

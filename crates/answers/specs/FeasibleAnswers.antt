@@ -1,5 +1,6 @@
 -- What `map` and `report` print where they end well: allocations that are feasible in the auction that the input tells.
 use Rattle.std.specs.Prelude.{◌≡◌, ◌-◌, ℕ, List, [], Ok, slice_index_or}
+use Rattle.auction_input.specs.Input.{Input}
 use Rattle.std.specs.List.{AllZip}
 use Rattle.auction_input.specs.Auction.{Auction, auction_told}
 use Rattle.requests.specs.declared.request.Request.TheVariants.{Map, Report}
@@ -22,7 +23,7 @@ pub record AreFeasibleWinners (auction : Auction) (k : ℕ) (out : List ℕ) : T
 
 -- what `map` answers of an input is these of the auction which the input tells
 abbrev pub MappedIsFeasible : Type 0
-MappedIsFeasible = (k : ℕ) (input out : List ℕ) → answer (Map k) input ≡ Ok out
+MappedIsFeasible = (k : ℕ) (input : Input) (out : List ℕ) → answer (Map k) input ≡ Ok out
     → (auction : Auction) × (auction_told (Map k) input ≡ Ok auction) × AreFeasibleWinners auction k out
 
 -- a report on a feasible allocation for each group
@@ -33,5 +34,5 @@ pub record IsFeasibleReport (auction : Auction) (out : List ℕ) : Type 0 where
 
 -- what `report` answers of an input is one on the auction which the input tells
 abbrev pub ReportedIsFeasible : Type 0
-ReportedIsFeasible = (workers : ℕ) (input out : List ℕ) → answer (Report workers) input ≡ Ok out
+ReportedIsFeasible = (workers : ℕ) (input : Input) (out : List ℕ) → answer (Report workers) input ≡ Ok out
     → (auction : Auction) × (auction_told (Report workers) input ≡ Ok auction) × IsFeasibleReport auction out

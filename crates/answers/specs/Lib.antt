@@ -3,6 +3,7 @@ pub mod Exact
 pub mod FaithfulAnswers
 pub mod Sold
 pub mod FeasibleAnswers
+pub mod FileLines
 pub mod GroupTexts
 pub mod Runs
 pub mod Sizes

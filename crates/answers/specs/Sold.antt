@@ -1,17 +1,13 @@
 -- What stands behind the programs of an answer: the auction of a closed round, and texts that are faithful to it.
-use Rattle.std.specs.Prelude.{⊤, ℕ, List, Option}
+use Rattle.std.specs.Prelude.{⊤, ℕ, List}
+use Rattle.auction_input.specs.Input.{Input}
 use Rattle.auction_input.specs.Auction.{Auction}
-use Rattle.auction_input.specs.ReadInput.{IsWhole}
 use Rattle.auction_input.specs.Sold.{IsSold}
 use Rattle.requests.specs.declared.request.Request.TheVariants.{Check}
 use Rattle.requests.specs.declared.request.Request.{Request}
 use Rattle.answers.specs.FaithfulAnswers.{IsFaithfulToSale}
 
 -- the auction that a request reads; the text of its program without any group is faithful to it
-abbrev pub HasSold : Request → List ℕ → Type 0
+abbrev pub HasSold : Request → Input → Type 0
 HasSold Check input = ⊤
 HasSold asked input = (auction : Auction) × IsSold asked input auction × ((group : List ℕ) → IsFaithfulToSale auction.sale group)
-
--- the same of an input that was read
-abbrev pub HasReadSold : Request → Option (List ℕ) → Option (List ℕ) → Type 0
-HasReadSold asked left left' = (input : List ℕ) × IsWhole left left' input × HasSold asked input

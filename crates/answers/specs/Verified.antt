@@ -1,5 +1,6 @@
--- What `verify` writes where it ends well: allocations of greatest total, and so the groups' own opportunity costs; and what it says of other outcomes.
-use Rattle.std.specs.Prelude.{◌≡◌, ◌++◌, ⊤, ℕ, false, List, [], Option, Ok, codes, slice_index_or}
+-- What `verify` writes if it ends well: allocations of greatest total, and so the groups' own opportunity costs; prices that cover every group; and what it says of other outcomes.
+use Rattle.std.specs.Prelude.{◌≡◌, ◌≢◌, ◌++◌, ⊤, ℕ, false, true, List, [], Option, Some, IfSome, Ok, codes, slice_index_or}
+use Rattle.auction_input.specs.Input.{Input}
 use Rattle.std.specs.Io.KnownBytes.{Appends}
 use Rattle.std.specs.List.{AllZip}
 use Rattle.auction_input.specs.Auction.{Auction, auction_told}
@@ -8,7 +9,9 @@ use Rattle.auction_terms.specs.Groups.{has}
 use Rattle.auction_terms.specs.Only.{IsOnly}
 use Rattle.auction_terms.specs.declared.choices.Choice.{Choice}
 use Rattle.outcome.specs.Costs.{IsCost, IsGreatestTotal, opportunity_cost}
+use Rattle.outcome.specs.Pricing.{Priced, price_in, pricing_text}
 use Rattle.outcome.specs.Report.{amounts_of_group, cost, report_text}
+use Rattle.prices.specs.Prices.{ArePrices, CoversEveryGroup, IsLeastSum, MeetReserves, reserves_in}
 use Rattle.bid_desk.specs.Sale.{Sale}
 use Rattle.outcome.specs.Ties.{IsTheCost, IsTie}
 use Rattle.outcome.specs.Uniqueness.{uniqueness_text}
@@ -33,18 +36,27 @@ Holds sale first uniqueness.Unasked = ⊤
 Holds sale first uniqueness.Only = IsOnly sale.lots sale.book (λ b. false) first
 Holds sale first (uniqueness.Tie other) = IsTie sale.lots sale.book (λ b. false) first other
 
--- a report on an allocation of greatest total for each group, and on the groups' opportunity costs; and behind it what is said of other outcomes
+-- prices that are true: each winner's is at most its amount and at least the reserve of its lots, no list of bidders pays less than its opportunity cost, whichever allocations of greatest total are taken, and if their sum is called the least, no whole prices of which the latter two are true have a lower one
+pub record AreTruePrices (auction : Auction) (first : List Choice) (p : Priced) : Type 0 where
+  pub at_most : ArePrices auction.sale.book first (price_in p.prices)
+  pub at_least : MeetReserves (reserves_in auction.rules) auction.sale.book first (price_in p.prices)
+  pub covers : CoversEveryGroup auction.sale.lots auction.sale.book first (price_in p.prices)
+  pub least : p.is_least ≡ true → IsLeastSum (reserves_in auction.rules) auction.sale.lots auction.sale.book first (price_in p.prices)
+
+-- a report on an allocation of greatest total for each group, and on the groups' opportunity costs; and after it true prices, if there are prices, and what is said of other outcomes
 pub record IsTrueReport (auction : Auction) (out : List ℕ) : Type 0 where
   pub won : List (List Choice)
+  pub pricing : Option Priced
   pub claim : Uniqueness
-  pub text : out ≡ report_text auction.sale auction.groups won ++ uniqueness_text auction.sale claim
+  pub text : out ≡ report_text auction.sale auction.groups won ++ (pricing_text auction.sale (slice_index_or won 0 []) pricing ++ uniqueness_text auction.sale claim)
   pub greatest : AllZip (IsGreatestWithout auction.sale) auction.groups won
   pub costs : AllZip (IsOwnCost auction.sale (slice_index_or won 0 [])) auction.groups won
+  pub prices : IfSome pricing (AreTruePrices auction (slice_index_or won 0 []))
   pub holds : Holds auction.sale (slice_index_or won 0 []) claim
 
 -- what `verify` answers of an input is a true report on the auction that the input tells
 abbrev pub VerifiedIsTrue : Type 0
-VerifiedIsTrue = (workers : ℕ) (input out : List ℕ) → answer (Verify workers) input ≡ Ok out → (auction : Auction) × (auction_told (Verify workers) input ≡ Ok auction) × IsTrueReport auction out
+VerifiedIsTrue = (workers : ℕ) (input : Input) (out : List ℕ) → answer (Verify workers) input ≡ Ok out → (auction : Auction) × (auction_told (Verify workers) input ≡ Ok auction) × IsTrueReport auction out
 
 -- whichever allocations of greatest total are taken, the group's cost is the one that is written
 abbrev pub IsSettledCost : Sale → List Choice → List ℕ → List Choice → Type 0
@@ -53,17 +65,32 @@ IsSettledCost sale first group a = IsTheCost sale.lots sale.book group (cost sal
 -- the winners are the only ones of so great a total, and the costs follow from the lots, the bids and the group
 pub record IsOnlyOutcome (auction : Auction) (out : List ℕ) : Type 0 where
   pub won : List (List Choice)
-  pub text : out ≡ report_text auction.sale auction.groups won ++ codes "unique\n"
+  pub pricing : Option Priced
+  pub text : out ≡ report_text auction.sale auction.groups won ++ (pricing_text auction.sale (slice_index_or won 0 []) pricing ++ codes "unique\n")
   pub only : IsOnly auction.sale.lots auction.sale.book (λ b. false) (slice_index_or won 0 [])
   pub costs : AllZip (IsSettledCost auction.sale (slice_index_or won 0 [])) auction.groups won
 
+-- a report on an allocation of greatest total, after it these prices, which are true, and what is said of other outcomes
+pub record IsPricedOutcome (auction : Auction) (out : List ℕ) : Type 0 where
+  pub won : List (List Choice)
+  pub pricing : Priced
+  pub claim : Uniqueness
+  pub text : out ≡ report_text auction.sale auction.groups won ++ (pricing_text auction.sale (slice_index_or won 0 []) (Some pricing) ++ uniqueness_text auction.sale claim)
+  pub greatest : IsGreatestWithout auction.sale [] (slice_index_or won 0 [])
+  pub prices : AreTruePrices auction (slice_index_or won 0 []) pricing
+
+-- what `verify` answers of an input with prices has them among its bytes, and they are true
+abbrev pub PricesCover : Type 0
+PricesCover = (workers : ℕ) (input : Input) (out : List ℕ) → answer (Verify workers) input ≡ Ok out
+    → (auction : Auction) × (auction_told (Verify workers) input ≡ Ok auction) × (auction.prices ≢ [] → IsPricedOutcome auction out)
+
 -- where what `verify` answers of an input ends with the line `unique`, that is so
 abbrev pub UniqueIsOnly : Type 0
-UniqueIsOnly = (workers : ℕ) (input before : List ℕ) → answer (Verify workers) input ≡ Ok (before ++ codes "unique\n")
+UniqueIsOnly = (workers : ℕ) (input : Input) (before : List ℕ) → answer (Verify workers) input ≡ Ok (before ++ codes "unique\n")
     → (auction : Auction) × (auction_told (Verify workers) input ≡ Ok auction) × IsOnlyOutcome auction (before ++ codes "unique\n")
 
 -- a true report on the auction that an input tells was written, and nothing else
-pub record WritesTrueReport (workers : ℕ) (input : List ℕ) (taken taken' : Option (List ℕ)) : Type 0 where
+pub record WritesTrueReport (workers : ℕ) (input : Input) (taken taken' : Option (List ℕ)) : Type 0 where
   pub auction : Auction
   pub out : List ℕ
   pub told : auction_told (Verify workers) input ≡ Ok auction

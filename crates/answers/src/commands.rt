@@ -3,9 +3,9 @@
 ghost use Rattle.std.specs.Prelude.{◌≡◌, ◌≢◌, Bool, IfErr, OnOk};
 ghost use Rattle.answers.specs.Answer.{answer, output_of};
 ghost use Rattle.answers.specs.Exact.{IsUnwritten, Writes};
+ghost use Rattle.answers.specs.Runs.{AsksAnswer};
 ghost use Rattle.requests.specs.Requests.{IsRequestWithinLimits};
-ghost use Rattle.answers.specs.Runs.{IsAnswered, IsRefused};
-ghost use Rattle.answers.specs.Sold.{HasReadSold, HasSold};
+ghost use Rattle.answers.specs.Sold.{HasSold};
 ghost use Rattle.answers.specs.inside.Output.{IsWithoutOutput};
 ghost use Rattle.auction_input.specs.Settled.{held};
 
@@ -24,75 +24,53 @@ use crate::commands::map::write_winners;
 use crate::commands::report::write_costs;
 use crate::commands::text::write_program_of_all;
 use crate::commands::verify::write_verified;
-use auction_input::{Auction, Refusal, Source, read_auction, read_input};
+use auction_input::{Auction, Input, Refusal, read_auction};
 use byte_sinks::Sink;
 pub use explain::explain_input;
 use requests::Request;
-use std::io::Read;
 use std::sync::Wait;
 use std::thread::Threads;
 
-/// Reads the input, and writes what is asked for, unless that is `explain`.
-pub fn answer<R: Threads + Wait + Sync + AllocGlobal, I: Read, S: Sink>(
+/// Writes what is asked for of an input, unless that is `explain`. That of `check` tells a program, and the others' an auction.
+pub fn answer<R: Threads + Wait + Sync + AllocGlobal, S: Sink>(
     rt: &R,
     request: Request,
-    input: &mut Source<I>,
+    input: &Input,
     out: &mut S,
 ) -> Result<(), Refusal>
     requires limits { IsRequestWithinLimits request }
     requires answered { (bids : Bool) → request ≢ Request.Explain bids }
-    ensures answered { OnOk result (IsAnswered request (I.remaining input.old.reader)
-        (I.remaining input.new.reader) (S.taken out.old) (S.taken out.new)) }
-    ensures sold { OnOk result (HasReadSold request (I.remaining input.old.reader)
-        (I.remaining input.new.reader)) }
-    ensures succeeded { OnOk result ((S.failures out.new ≡ S.failures out.old)
-        × (input.new.failures ≡ input.old.failures)) }
-    ensures refused { IfErr result (IsRefused request (I.remaining input.old.reader)
-        (I.remaining input.new.reader) input.old.failures input.new.failures (S.taken out.old)
+    ensures written { OnOk result (Writes (answer request input.now) (S.taken out.old)
+        (S.taken out.new)) }
+    ensures sold { OnOk result (HasSold request input.now) }
+    ensures succeeded { OnOk result (S.failures out.new ≡ S.failures out.old) }
+    ensures asks { AsksAnswer request input.now }
+    ensures refused { IfErr result (IsUnwritten request input.now (S.taken out.old)
         (S.taken out.new) (S.failures out.old) (S.failures out.new)) }
 {
-    let text = read_input(rt.alloc(), input)?;
-    answer_text(rt, request, text.as_slice(), out)
-}
-
-// Writes what is asked for of a text. That of `check` tells a program, and the others' an auction.
-fn answer_text<R: Threads + Wait + Sync + AllocGlobal, S: Sink>(
-    rt: &R,
-    request: Request,
-    text: &[u8],
-    out: &mut S,
-) -> Result<(), Refusal>
-    requires { IsRequestWithinLimits request }
-    ensures written { OnOk result (Writes (answer request text.now) (S.taken out.old)
-        (S.taken out.new)) }
-    ensures sold { OnOk result (HasSold request text.now) }
-    ensures succeeded { OnOk result (S.failures out.new ≡ S.failures out.old) }
-    ensures refused { IfErr result (IsUnwritten request text.now (S.taken out.old) (S.taken out.new)
-        (S.failures out.old) (S.failures out.new)) }
-{
     match request {
-        Request::Check => check(rt.alloc(), text, out),
-        request => answer_auction(rt, &request, text, out),
+        Request::Check => check(rt.alloc(), input, out),
+        request => answer_auction(rt, &request, input, out),
     }
 }
 
-// Reads the auction that a text tells, and writes what is asked for of it.
+// Reads the auction that an input tells, and writes what is asked for of it.
 fn answer_auction<R: Threads + Wait + Sync + AllocGlobal, S: Sink>(
     rt: &R,
     request: &Request,
-    text: &[u8],
+    input: &Input,
     out: &mut S,
 ) -> Result<(), Refusal>
     requires limits { IsRequestWithinLimits request.now }
     requires auction { request.now ≢ Request.Check }
-    ensures written { OnOk result (Writes (answer request.now text.now) (S.taken out.old)
+    ensures written { OnOk result (Writes (answer request.now input.now) (S.taken out.old)
         (S.taken out.new)) }
-    ensures sold { OnOk result (HasSold request.now text.now) }
+    ensures sold { OnOk result (HasSold request.now input.now) }
     ensures succeeded { OnOk result (S.failures out.new ≡ S.failures out.old) }
-    ensures refused { IfErr result (IsUnwritten request.now text.now (S.taken out.old)
+    ensures refused { IfErr result (IsUnwritten request.now input.now (S.taken out.old)
         (S.taken out.new) (S.failures out.old) (S.failures out.new)) }
 {
-    let auction = read_auction(rt, request, text)?;
+    let auction = read_auction(rt, request, input)?;
     write_output(rt, request, &auction, out)
 }
 
@@ -117,7 +95,7 @@ fn write_output<R: Threads + Wait + Sync + AllocGlobal, S: Sink>(
         Request::Map { group } => write_winners(rt, auction, group, out),
         Request::Report { workers } => write_costs(rt, auction, workers, out),
         Request::Verify { workers } => write_verified(rt, auction, workers, out),
-        Request::Explain { bids: true } => write_bids_of(auction, out),
+        Request::Explain { bids: true } => write_bids_of(rt, auction, out),
         Request::Explain { bids: false } => Ok(()),
         Request::Check => unreachable!(),
     }

@@ -2,7 +2,7 @@
 
 ghost use Rattle.answers.specs.FaithfulAnswers.{CompiledIsFaithful, TextIsFaithful};
 ghost use Rattle.answers.specs.FeasibleAnswers.{MappedIsFeasible, ReportedIsFeasible};
-ghost use Rattle.answers.specs.Verified.{UniqueIsOnly, VerifiedIsTrue};
+ghost use Rattle.answers.specs.Verified.{PricesCover, UniqueIsOnly, VerifiedIsTrue};
 
 /// What `text` answers of an input is a text that is faithful to the auction that the input tells: each 0-1 point of its program maps back to a feasible allocation of the same total, and each feasible allocation is matched by a point of at least its total.
 pub fn a_text_is_faithful()
@@ -27,6 +27,11 @@ pub fn reported_allocations_are_feasible()
 /// What `verify` answers of an input is a report on allocations of greatest total, each without its group, of the auction that the input tells; and so each cost is the group's opportunity cost, and keeps the law on costs. What it says of other outcomes holds, too: the winners with nobody left out are the only ones, or the other allocation ties.
 pub fn a_verified_report_is_true()
     ensures { VerifiedIsTrue }
+{}
+
+/// If an input has prices, what `verify` answers has them, too, and no list of bidders pays less than its opportunity cost, whichever allocations of greatest total are taken; each winner pays at most its amount and at least the reserve of its lots. If `least` is printed, no whole prices that cover every list of bidders so and meet the reserves have a lower sum.
+pub fn printed_prices_cover_every_group()
+    ensures { PricesCover }
 {}
 
 /// Where what `verify` answers of an input ends with the line `unique`, no other feasible allocation of the auction that the input tells has as great a total; and so the winners, and each group's cost, follow from the rules, the bids and the group alone.

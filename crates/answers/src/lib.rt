@@ -3,6 +3,7 @@
 
 mod commands;
 mod compile_run;
+mod file_lines;
 mod group_texts;
 pub mod laws;
 mod pieces;
@@ -14,6 +15,7 @@ mod telling;
 pub use commands::answer;
 pub use commands::verify::verify;
 pub use compile_run::run_compile;
+pub use file_lines::tell_file;
 pub use group_texts::write_programs;
 pub use pieces::write_pieces;
 pub use run_fault::RunFault;

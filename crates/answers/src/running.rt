@@ -1,26 +1,28 @@
 //! The program on its words, its input and two sinks.
 
-ghost use Rattle.std.specs.Prelude.{◌≡◌, ◌≢◌, ◌⊎◌, ◌<◌, ◌≤◌, IfErr, IfSome, IsSome, List, Ok, codes, flat_map, length, ℕ};
+ghost use Rattle.std.specs.Prelude.{◌≡◌, ◌≢◌, ◌⊎◌, ◌<◌, ◌≤◌, IfErr, IfSome, IsSome, List, OnErr, Ok, codes, flat_map, length, ℕ};
 ghost use Rattle.std.specs.Io.KnownBytes.{Appends};
 ghost use Rattle.std.specs.IoError.{error_kind};
 ghost use Rattle.std.specs.declared.io.ErrorKind.TheVariants as io_kind;
 ghost use Rattle.clap.specs.Words.{kind_of};
 ghost use Rattle.auction_input.specs.Line.{Puts, line};
 ghost use Rattle.auction_input.specs.declared.refusal.Refusal.TheVariants as refusal;
-ghost use Rattle.requests.specs.Asked.{asked_of, by_fault, for_answer, for_nothing};
-ghost use Rattle.answers.specs.Exact.{Ends};
+ghost use Rattle.requests.specs.Asked.{asked_of, by_fault, command_line_of, for_answer, for_nothing};
+ghost use Rattle.answers.specs.Answer.{answer};
+ghost use Rattle.answers.specs.Exact.{Ends, Writes};
 ghost use Rattle.requests.specs.Requests.{IsRequestWithinLimits};
-ghost use Rattle.answers.specs.Runs.{HasExplained, IsAnswered, IsDone, IsRefused, IsUndone};
-ghost use Rattle.answers.specs.inside.Runs.{HasShown, IsToldWhy, IsUntold};
+ghost use Rattle.answers.specs.Runs.{HasExplained, IsAnswered, IsDone, IsRefused, IsUndone, NamesFiles};
+ghost use Rattle.answers.specs.inside.Runs.{HasExplainedInput, HasShown, IsToldSo, IsToldWhy, IsLeftUnanswered, IsUntold};
 
 use crate::commands::{answer, explain_input};
+use crate::file_lines::{tell_refusal, tell_unread};
 use crate::pieces::write_pieces;
 use crate::telling::tell;
-use auction_input::{Refusal, Source};
+use auction_input::{FilePlace, FileRefusal, Files, Input, Output, Refusal, Source, read_inputs};
 use byte_sinks::Sink;
 use clap::Error;
 use clap::error::ErrorKind;
-use requests::{Request, VERSION, request_of};
+use requests::{Command, Request, VERSION, command_of};
 use std::alloc::Global;
 use std::env::Args;
 use std::io;
@@ -30,25 +32,27 @@ use std::thread::Threads;
 
 /// The whole program on its words as std tells them, its own name first: the result is its exit status. It is 0 where the
 /// output is whole, 1 where the run is refused, or `explain` tells faults, and 2 where the words are.
-pub fn run<R: Threads + Wait + Sync + AllocGlobal, I: Read, S: Sink, F: Sink>(
+pub fn run<R: Threads + Wait + Sync + AllocGlobal, D: Files, I: Read, S: Output, F: Sink>(
     rt: &R,
     words: io::Result<Args>,
+    files: &D,
     input: &mut Source<I>,
     out: &mut S,
     faults: &mut F,
 ) -> u8
     ensures status { result ≤ 2 }
-    ensures done { result ≡ 0 → IsDone (asked_of words) (I.remaining input.old.reader)
+    ensures done { result ≡ 0 → IsDone (D.content files.now) (asked_of words)
+        (I.remaining input.old.reader)
         (I.remaining input.new.reader) (S.taken out.old) (S.taken out.new) }
     ensures quiet { result ≡ 0 → (F.taken faults.new ≡ F.taken faults.old)
         × (F.failures faults.new ≡ F.failures faults.old) }
     ensures succeeded { result ≢ 1 → (S.failures out.new ≡ S.failures out.old)
         × (input.new.failures ≡ input.old.failures) }
-    ensures refused { result ≡ 1 → ((r : Refusal) × IsUndone (asked_of words)
+    ensures refused { result ≡ 1 → ((told : List ℕ) × IsUndone (D.content files.now) (asked_of words)
         (I.remaining input.old.reader) (I.remaining input.new.reader) input.old.failures
         input.new.failures (S.taken out.old) (S.taken out.new) (S.failures out.old)
-        (S.failures out.new) r × Puts (line r) (F.taken faults.old) (F.taken faults.new)
-        (F.failures faults.old) (F.failures faults.new)) ⊎ HasExplained (asked_of words)
+        (S.failures out.new) told × Puts told (F.taken faults.old) (F.taken faults.new)
+        (F.failures faults.old) (F.failures faults.new)) ⊎ HasExplained (D.content files.now) (asked_of words)
         (I.remaining input.old.reader) (I.remaining input.new.reader) input.old.failures
         input.new.failures (S.taken out.old) (S.taken out.new) (S.failures out.old)
         (S.failures out.new) (F.taken faults.old) (F.taken faults.new) (F.failures faults.old)
@@ -68,8 +72,8 @@ pub fn run<R: Threads + Wait + Sync + AllocGlobal, I: Read, S: Sink, F: Sink>(
         Ok(words) => words,
         Err(error) => return without_words(&error, faults),
     };
-    match request_of(rt.alloc(), words) {
-        Ok(request) => answer_request(rt, request, input, out, faults),
+    match command_of(rt.alloc(), words) {
+        Ok(command) => answer_command(rt, &command, files, input, out, faults),
         Err(error) => tell_words(rt.alloc(), &error, out, faults),
     }
 }
@@ -86,7 +90,7 @@ fn without_words<F: Sink>(error: &io::Error, faults: &mut F) -> u8
         (F.taken faults.new) (F.failures faults.old) (F.failures faults.new) }
 {
     if error.kind() == io::ErrorKind::OutOfMemory {
-        tell(&Refusal::OutOfMemory, faults);
+        tell(&[], &Refusal::OutOfMemory, faults);
         return 1;
     }
     put_fault(b"wdp: a word is no text\n", faults)
@@ -103,37 +107,136 @@ fn put_fault<F: Sink>(text: &[u8], faults: &mut F) -> u8
     2
 }
 
-// Answers a request, or tells why not.
-fn answer_request<R: Threads + Wait + Sync + AllocGlobal, I: Read, S: Sink, F: Sink>(
+// Looks at the files that a command line names, and opens the one that is to be written.
+fn prepare<D: Files, S: Output>(
+    files: &D,
+    command: &Command,
+    out: &mut S,
+) -> Result<(), FileRefusal>
+    ensures taken { S.taken out.new ≡ S.taken out.old }
+    ensures failures { S.failures out.new ≡ S.failures out.old }
+    ensures named { OnErr result (NamesFiles (command_line_of command.now)) }
+{
+    let output = match &command.output {
+        Some(name) => name.as_str(),
+        None if command.files.is_empty() => return Ok(()),
+        None => return files.look(command.files.as_slice(), None),
+    };
+    files.look(command.files.as_slice(), Some(output))?;
+    match out.open(output) {
+        Ok(()) => Ok(()),
+        Err(fault) => Err(FileRefusal {
+            file: FilePlace::Written,
+            fault,
+        }),
+    }
+}
+
+// Prepares the files of a command line, and answers it, or tells why not.
+fn answer_command<R: Threads + Wait + Sync + AllocGlobal, D: Files, I: Read, S: Output, F: Sink>(
+    rt: &R,
+    command: &Command,
+    files: &D,
+    input: &mut Source<I>,
+    out: &mut S,
+    faults: &mut F,
+) -> u8
+    requires { IsRequestWithinLimits command.now.request }
+    ensures status { result ≤ 1 }
+    ensures answered { result ≡ 0 → IsAnswered (D.content files.now) (command_line_of command.now)
+        (I.remaining input.old.reader) (I.remaining input.new.reader) (S.taken out.old)
+        (S.taken out.new) }
+    ensures quiet { result ≡ 0 → (F.taken faults.new ≡ F.taken faults.old)
+        × (F.failures faults.new ≡ F.failures faults.old) }
+    ensures succeeded { result ≡ 0 → (S.failures out.new ≡ S.failures out.old)
+        × (input.new.failures ≡ input.old.failures) }
+    ensures refused { result ≡ 1 → IsToldSo (IsRefused (D.content files.now)
+        (command_line_of command.now) (I.remaining input.old.reader)
+        (I.remaining input.new.reader) input.old.failures input.new.failures (S.taken out.old)
+        (S.taken out.new) (S.failures out.old) (S.failures out.new)) (F.taken faults.old)
+        (F.taken faults.new) (F.failures faults.old) (F.failures faults.new)
+        ⊎ HasExplained (D.content files.now) (for_answer (command_line_of command.now))
+        (I.remaining input.old.reader) (I.remaining input.new.reader) input.old.failures
+        input.new.failures (S.taken out.old) (S.taken out.new) (S.failures out.old)
+        (S.failures out.new) (F.taken faults.old) (F.taken faults.new) (F.failures faults.old)
+        (F.failures faults.new) }
+{
+    match prepare(files, command, out) {
+        Ok(()) => answer_request(rt, command, files, input, out, faults),
+        Err(refusal) => {
+            tell_refusal(command, refusal, faults);
+            1
+        }
+    }
+}
+
+// Reads the input of a command line and answers it, or tells why not.
+fn answer_request<R: Threads + Wait + Sync + AllocGlobal, D: Files, I: Read, S: Output, F: Sink>(
+    rt: &R,
+    command: &Command,
+    files: &D,
+    input: &mut Source<I>,
+    out: &mut S,
+    faults: &mut F,
+) -> u8
+    requires { IsRequestWithinLimits command.now.request }
+    ensures status { result ≤ 1 }
+    ensures answered { result ≡ 0 → IsAnswered (D.content files.now) (command_line_of command.now)
+        (I.remaining input.old.reader) (I.remaining input.new.reader) (S.taken out.old)
+        (S.taken out.new) }
+    ensures quiet { result ≡ 0 → (F.taken faults.new ≡ F.taken faults.old)
+        × (F.failures faults.new ≡ F.failures faults.old) }
+    ensures succeeded { result ≡ 0 → (S.failures out.new ≡ S.failures out.old)
+        × (input.new.failures ≡ input.old.failures) }
+    ensures refused { result ≡ 1 → IsToldSo (IsRefused (D.content files.now)
+        (command_line_of command.now) (I.remaining input.old.reader)
+        (I.remaining input.new.reader) input.old.failures input.new.failures (S.taken out.old)
+        (S.taken out.new) (S.failures out.old) (S.failures out.new)) (F.taken faults.old)
+        (F.taken faults.new) (F.failures faults.old) (F.failures faults.new)
+        ⊎ HasExplained (D.content files.now) (for_answer (command_line_of command.now))
+        (I.remaining input.old.reader) (I.remaining input.new.reader) input.old.failures
+        input.new.failures (S.taken out.old) (S.taken out.new) (S.failures out.old)
+        (S.failures out.new) (F.taken faults.old) (F.taken faults.new) (F.failures faults.old)
+        (F.failures faults.new) }
+{
+    let names = command.files.as_slice();
+    match read_inputs(rt.alloc(), files, names, input) {
+        Ok(given) => answer_input(rt, command.request, &given, out, faults),
+        Err(unread) => {
+            tell_unread(command, unread, faults);
+            1
+        }
+    }
+}
+
+// Answers a request of an input, or tells why not.
+fn answer_input<R: Threads + Wait + Sync + AllocGlobal, S: Sink, F: Sink>(
     rt: &R,
     request: Request,
-    input: &mut Source<I>,
+    input: &Input,
     out: &mut S,
     faults: &mut F,
 ) -> u8
     requires { IsRequestWithinLimits request }
     ensures status { result ≤ 1 }
-    ensures answered { result ≡ 0 → IsAnswered request (I.remaining input.old.reader)
-        (I.remaining input.new.reader) (S.taken out.old) (S.taken out.new) }
+    ensures written { result ≡ 0 → Writes (answer request input.now) (S.taken out.old)
+        (S.taken out.new) }
     ensures quiet { result ≡ 0 → (F.taken faults.new ≡ F.taken faults.old)
         × (F.failures faults.new ≡ F.failures faults.old) }
-    ensures succeeded { result ≡ 0 → (S.failures out.new ≡ S.failures out.old)
-        × (input.new.failures ≡ input.old.failures) }
-    ensures refused { result ≡ 1 → IsToldWhy (IsRefused request (I.remaining input.old.reader)
-        (I.remaining input.new.reader) input.old.failures input.new.failures (S.taken out.old)
+    ensures succeeded { result ≡ 0 → S.failures out.new ≡ S.failures out.old }
+    ensures refused { result ≡ 1 → IsToldSo (IsLeftUnanswered request input.now (S.taken out.old)
         (S.taken out.new) (S.failures out.old) (S.failures out.new)) (F.taken faults.old)
         (F.taken faults.new) (F.failures faults.old) (F.failures faults.new)
-        ⊎ HasExplained (for_answer request) (I.remaining input.old.reader)
-        (I.remaining input.new.reader) input.old.failures input.new.failures (S.taken out.old)
-        (S.taken out.new) (S.failures out.old) (S.failures out.new) (F.taken faults.old)
-        (F.taken faults.new) (F.failures faults.old) (F.failures faults.new) }
+        ⊎ HasExplainedInput request input.now (S.taken out.old) (S.taken out.new)
+        (S.failures out.old) (S.failures out.new) (F.taken faults.old) (F.taken faults.new)
+        (F.failures faults.old) (F.failures faults.new) }
 {
     match request {
         Request::Explain { bids } => explain_request(rt, bids, input, out, faults),
         request => match answer(rt, request, input, out) {
             Ok(()) => 0,
             Err(refusal) => {
-                tell(&refusal, faults);
+                tell(input.texts(), &refusal, faults);
                 1
             }
         },
@@ -141,35 +244,31 @@ fn answer_request<R: Threads + Wait + Sync + AllocGlobal, I: Read, S: Sink, F: S
 }
 
 // Explains an input, or tells why not.
-fn explain_request<R: Threads + Wait + Sync + AllocGlobal, I: Read, S: Sink, F: Sink>(
+fn explain_request<R: Threads + Wait + Sync + AllocGlobal, S: Sink, F: Sink>(
     rt: &R,
     bids: bool,
-    input: &mut Source<I>,
+    input: &Input,
     out: &mut S,
     faults: &mut F,
 ) -> u8
     ensures status { result ≤ 1 }
-    ensures answered { result ≡ 0 → IsAnswered (Request.Explain bids) (I.remaining input.old.reader)
-        (I.remaining input.new.reader) (S.taken out.old) (S.taken out.new) }
+    ensures written { result ≡ 0 → Writes (answer (Request.Explain bids) input.now)
+        (S.taken out.old) (S.taken out.new) }
     ensures quiet { result ≡ 0 → (F.taken faults.new ≡ F.taken faults.old)
         × (F.failures faults.new ≡ F.failures faults.old) }
-    ensures succeeded { result ≡ 0 → (S.failures out.new ≡ S.failures out.old)
-        × (input.new.failures ≡ input.old.failures) }
-    ensures refused { result ≡ 1 → IsToldWhy (IsRefused (Request.Explain bids)
-        (I.remaining input.old.reader) (I.remaining input.new.reader) input.old.failures
-        input.new.failures (S.taken out.old) (S.taken out.new) (S.failures out.old)
-        (S.failures out.new)) (F.taken faults.old) (F.taken faults.new) (F.failures faults.old)
-        (F.failures faults.new) ⊎ HasExplained (for_answer (Request.Explain bids))
-        (I.remaining input.old.reader) (I.remaining input.new.reader) input.old.failures
-        input.new.failures (S.taken out.old) (S.taken out.new) (S.failures out.old)
-        (S.failures out.new) (F.taken faults.old) (F.taken faults.new) (F.failures faults.old)
-        (F.failures faults.new) }
+    ensures succeeded { result ≡ 0 → S.failures out.new ≡ S.failures out.old }
+    ensures refused { result ≡ 1 → IsToldSo (IsLeftUnanswered (Request.Explain bids) input.now
+        (S.taken out.old) (S.taken out.new) (S.failures out.old) (S.failures out.new))
+        (F.taken faults.old) (F.taken faults.new) (F.failures faults.old) (F.failures faults.new)
+        ⊎ HasExplainedInput (Request.Explain bids) input.now (S.taken out.old) (S.taken out.new)
+        (S.failures out.old) (S.failures out.new) (F.taken faults.old) (F.taken faults.new)
+        (F.failures faults.old) (F.failures faults.new) }
 {
     match explain_input(rt, bids, input, out) {
         Ok(false) => 0,
         Ok(true) => 1,
         Err(refusal) => {
-            tell(&refusal, faults);
+            tell(input.texts(), &refusal, faults);
             1
         }
     }
@@ -210,7 +309,7 @@ fn tell_words<S: Sink, F: Sink>(alloc: Global, error: &Error, out: &mut S, fault
         Some(text) if error.use_stderr() => put_fault(text.as_bytes(), faults),
         Some(text) => show(&[text.as_bytes()], out, faults),
         None => {
-            tell(&Refusal::OutOfMemory, faults);
+            tell(&[], &Refusal::OutOfMemory, faults);
             1
         }
     }
@@ -231,7 +330,7 @@ fn show<S: Sink, F: Sink>(pieces: &[&[u8]], out: &mut S, faults: &mut F) -> u8
     match write_pieces(pieces, out) {
         Ok(()) => 0,
         Err(fault) => {
-            tell(&Refusal::Write(fault), faults);
+            tell(&[], &Refusal::Write(fault), faults);
             1
         }
     }

@@ -1,6 +1,7 @@
 //! All faults of an input, as another crate asks for them.
 
-use auction_input::Refusal;
+use crate::worked::input_of;
+use auction_input::{Input, Refusal};
 use byte_sinks::{LimitSink, MemorySink, WriteFault};
 use input_faults::{explain, input_faults};
 use requests::Request;
@@ -30,7 +31,8 @@ fn bids(alloc: Global, count: usize) -> Result<Vec<u8>, Fail> {
 #[test]
 fn lines_end_where_a_put_fails(rt: HostRuntime) -> Result<(), Fail> {
     let mut out = LimitSink::new(rt.alloc(), 50, 7)?;
-    match explain(rt.alloc(), &COMPILE, FAULTY, &mut out) {
+    let input = input_of(rt.alloc(), FAULTY)?;
+    match explain(rt.alloc(), &COMPILE, &input, &mut out) {
         Err(Refusal::Write(WriteFault::Sink { written: 50 })) => {
             assert!(rt; out.bytes().len() == 50 && LINES.starts_with(out.bytes()));
             Ok(())
@@ -42,12 +44,13 @@ fn lines_end_where_a_put_fails(rt: HostRuntime) -> Result<(), Fail> {
 #[test]
 fn what_comes_after_ten_thousand_faults_is_counted(rt: HostRuntime) -> Result<(), Fail> {
     let text = bids(rt.alloc(), 10_003)?;
-    let faults = input_faults(rt.alloc(), &COMPILE, text.as_slice())?;
+    let input = Input::of_text(rt.alloc(), text)?;
+    let faults = input_faults(rt.alloc(), &COMPILE, &input)?;
     assert!(rt; faults.kept.len() == 10_000 && faults.more == 3);
     let mut out = MemorySink::new(rt.alloc());
     let end =
         b"form 1: 7 AmountStep at record 10001, field 1: '1' isn't a multiple of 5\nand 3 more\n";
-    match explain(rt.alloc(), &COMPILE, text.as_slice(), &mut out) {
+    match explain(rt.alloc(), &COMPILE, &input, &mut out) {
         Ok(_) => assert!(rt; out.bytes().ends_with(end.as_slice())),
         Err(_) => return Err(Fail::from("out of memory")),
     }

@@ -1,8 +1,10 @@
 //! What a run answers and leaves where its words are wrong, and where its input or its output fails at any byte.
 
+use crate::worked::input_of;
 use answers::{RunFault, run, run_compile};
 use auction_input::{Auction, Source, read_auction};
 use byte_sinks::{LimitSink, MemorySink};
+use files::NO_FILES;
 use group_compiler::OpenGate;
 use requests::Request;
 use std::alloc::{AllocError, Global};
@@ -14,6 +16,7 @@ use std::sync::Wait;
 use std::test::Fail;
 use std::thread::Threads;
 
+mod files;
 mod refused;
 
 const ONE_FORM: &[u8] =
@@ -56,7 +59,7 @@ const VERIFIED: &[u8] =
 
 /// Gives its bytes one by one, and fails once it was asked for more than `room` of them.
 #[derive(Drop)]
-struct LimitReader {
+pub struct LimitReader {
     rest: &'static [u8],
     room: usize,
 }
@@ -183,7 +186,8 @@ fn status_of<R: Threads + Wait + Sync + AllocGlobal>(
     faults: &mut MemorySink,
 ) -> u8 {
     let mut input = Source::new(row.input);
-    run(rt, told(rt.alloc(), row.words), &mut input, out, faults)
+    let words = told(rt.alloc(), row.words);
+    run(rt, words, &NO_FILES, &mut input, out, faults)
 }
 
 /// Whether such a run ends as it has to on a sink that takes so many bytes a put and has so much room: the output's front went
@@ -233,7 +237,7 @@ fn is_refused<R: Threads + Wait + Sync + AllocGlobal, I: Read>(
     let mut out = MemorySink::new(alloc);
     let mut faults = MemorySink::new(alloc);
     let words = told(alloc, &["wdp"]);
-    let status = run(rt, words, input, &mut out, &mut faults);
+    let status = run(rt, words, &NO_FILES, input, &mut out, &mut faults);
     status == 1 && faults.bytes() == line && out.bytes().is_empty()
 }
 
@@ -345,7 +349,8 @@ fn fails_at_each<R: Threads + Wait + Sync>(
 
 #[test]
 fn a_fault_names_the_group_of_the_next_byte(rt: HostRuntime) -> Result<(), Fail> {
-    match read_auction(&rt, &Request::Compile { workers: 2 }, TWO_GROUPS) {
+    let input = input_of(rt.alloc(), TWO_GROUPS)?;
+    match read_auction(&rt, &Request::Compile { workers: 2 }, &input) {
         Ok(auction) => fails_at_each(&rt, rt.alloc(), &auction),
         Err(_) => Err(Fail::from("auction")),
     }
@@ -361,7 +366,7 @@ fn ends_untold<R: Threads + Wait + Sync + AllocGlobal>(
     let mut out = MemorySink::new(rt.alloc());
     let mut input = Source::new(b"".as_slice());
     let words = told(rt.alloc(), words);
-    run(rt, words, &mut input, &mut out, faults) == status && out.bytes().is_empty()
+    run(rt, words, &NO_FILES, &mut input, &mut out, faults) == status && out.bytes().is_empty()
 }
 
 #[test]

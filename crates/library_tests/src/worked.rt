@@ -1,8 +1,9 @@
 //! The worked rules and forms, and what is made of them in more than one place.
 
+use auction_input::Input;
 use auction_terms::Rules;
 use bid_forms::{Form, read_form};
-use std::alloc::Global;
+use std::alloc::{AllocError, Global};
 use std::sync::Arc;
 use std::test::Fail;
 
@@ -38,4 +39,9 @@ pub const FORMS: [&[u8]; 3] = [ALPHA, BETA, GAMMA];
 
 pub fn form_of(alloc: Global, rules: &Rules, text: &[u8]) -> Result<Arc<Form, Global>, Fail> {
     Ok(Arc::new(alloc, read_form(alloc, text, rules)?)?)
+}
+
+/// An input of one text.
+pub fn input_of(alloc: Global, text: &[u8]) -> Result<Input, AllocError> {
+    Input::of_text(alloc, Vec::from_slice(alloc, text)?)
 }

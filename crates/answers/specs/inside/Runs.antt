@@ -1,12 +1,19 @@
 -- What a run leaves of its output where its words ask for no answer, and how its refusal is told.
-use Rattle.std.specs.Prelude.{◌≡◌, ◌⊎◌, ℕ, List, Option, Ok}
+use Rattle.std.specs.Prelude.{◌≡◌, ◌⊎◌, ℕ, Bool, IsErr, List, Option, Ok}
 use Rattle.std.specs.Io.KnownBytes.{Appends}
+use Rattle.auction_input.specs.Auction.{auction_told}
+use Rattle.auction_input.specs.Input.{Input}
 use Rattle.auction_input.specs.Line.{Puts, line}
 use Rattle.auction_input.specs.declared.refusal.Refusal.{Refusal}
 use Rattle.auction_input.specs.declared.refusal.Refusal.TheVariants as refusal
+use Rattle.input_faults.specs.Explained.{IsCutShort}
+use Rattle.input_faults.specs.FaultLines.{explanation}
+use Rattle.input_faults.specs.PlacedText.{placed_line}
 use Rattle.requests.specs.Asked.{Asked}
-use Rattle.answers.specs.Exact.{Ends}
-use Rattle.answers.specs.Runs.{IsShown}
+use Rattle.requests.specs.declared.request.Request.{Request}
+use Rattle.requests.specs.declared.request.Request.TheVariants.{Explain}
+use Rattle.answers.specs.Exact.{Ends, IsUnwritten}
+use Rattle.answers.specs.Runs.{AsksAnswer, IsShown}
 
 -- help or the version, which is asked for, went out
 abbrev pub HasShown : Asked → Option (List ℕ) → Option (List ℕ) → Type 0
@@ -19,3 +26,18 @@ IsUntold asked taken taken' failures failures' r = ((text : List ℕ) × IsShown
 -- a refusal for this reason is told by its line
 abbrev pub IsToldWhy : (Refusal → Type 0) → Option (List ℕ) → Option (List ℕ) → ℕ → ℕ → Type 0
 IsToldWhy Why taken taken' failures failures' = (r : Refusal) × Why r × Puts (line r) taken taken' failures failures'
+
+-- the line that tells why
+abbrev pub IsToldSo : (List ℕ → Type 0) → Option (List ℕ) → Option (List ℕ) → ℕ → ℕ → Type 0
+IsToldSo Why taken taken' failures failures' = (told : List ℕ) × Why told × Puts told taken taken' failures failures'
+
+-- why what is asked for of an input isn't written, or not all lines of its faults, by the line that tells it
+abbrev pub IsLeftUnanswered : Request → Input → Option (List ℕ) → Option (List ℕ) → ℕ → ℕ → List ℕ → Type 0
+IsLeftUnanswered asked input taken taken' failures failures' told =
+    (r : Refusal) × (told ≡ placed_line input.texts r)
+    × ((AsksAnswer asked input × IsUnwritten asked input taken taken' failures failures' r) ⊎ ((bids : Bool) × (asked ≡ Explain bids) × IsCutShort (explanation asked input) taken taken' failures failures' r))
+
+-- `explain` is asked for, an input with faults is explained, no put fails, and no line of a refusal is put
+abbrev pub HasExplainedInput : Request → Input → Option (List ℕ) → Option (List ℕ) → ℕ → ℕ → Option (List ℕ) → Option (List ℕ) → ℕ → ℕ → Type 0
+HasExplainedInput asked input taken taken' failures failures' told told' untold untold' =
+    ((bids : Bool) × (asked ≡ Explain bids) × IsErr (auction_told asked input) × Appends taken taken' (explanation asked input)) × (failures' ≡ failures) × (told' ≡ told) × (untold' ≡ untold)

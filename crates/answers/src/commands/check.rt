@@ -5,21 +5,21 @@ ghost use Rattle.answers.specs.Answer.{answer};
 ghost use Rattle.answers.specs.Exact.{IsUnwritten, Writes};
 
 use crate::sizes::write_sizes;
-use auction_input::Refusal;
+use auction_input::{Input, Refusal};
 use byte_sinks::Sink;
 use mps_reader::read_program;
 use requests::Request;
 use std::alloc::Global;
 
-/// Writes the sizes of the program that the input is the text of.
-pub fn check<S: Sink>(alloc: Global, text: &[u8], out: &mut S) -> Result<(), Refusal>
-    ensures written { OnOk result (Writes (answer Request.Check text.now) (S.taken out.old)
+/// Writes the sizes of the program that the one text of the input is.
+pub fn check<S: Sink>(alloc: Global, input: &Input, out: &mut S) -> Result<(), Refusal>
+    ensures written { OnOk result (Writes (answer Request.Check input.now) (S.taken out.old)
         (S.taken out.new)) }
     ensures succeeded { OnOk result (S.failures out.new ≡ S.failures out.old) }
-    ensures refused { IfErr result (IsUnwritten Request.Check text.now (S.taken out.old)
+    ensures refused { IfErr result (IsUnwritten Request.Check input.now (S.taken out.old)
         (S.taken out.new) (S.failures out.old) (S.failures out.new)) }
 {
-    let program = read_program(alloc, text)?;
+    let program = read_program(alloc, input.first_text())?;
     write_sizes(&program, out)?;
     Ok(())
 }

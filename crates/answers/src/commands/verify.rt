@@ -1,4 +1,4 @@
-//! The command `verify`: a report of solutions that certificates show to be optimal, and what comes of a claim that they are the only ones.
+//! The command `verify`: a report of solutions that certificates show to be optimal, prices that are shown to cover every group, and what comes of a claim that the winners are the only ones.
 
 ghost use Rattle.std.specs.Prelude.{◌≡◌, ◌≤◌, IfErr, OnOk};
 ghost use Rattle.auction_limits.specs.declared.limits.TheConstants.{MOST_WORKERS};
@@ -10,10 +10,10 @@ ghost use Rattle.answers.specs.Verified.{WritesTrueReport};
 ghost use Rattle.answers.specs.inside.Output.{IsWithoutOutput};
 
 use crate::commands::answer_auction;
-use auction_input::{Auction, Refusal};
+use auction_input::{Auction, Input, Refusal};
 use byte_sinks::Sink;
 use group_compiler::Compiler;
-use group_winners::{check_certificates, check_counts, claim_of, won_by_groups};
+use group_winners::{check_certificates, check_counts, claim_of, pricing_of, won_by_groups};
 use outcome::report_with;
 use requests::Request;
 use std::alloc::Global;
@@ -21,25 +21,26 @@ use std::sync::Wait;
 use std::thread::Threads;
 
 /// Writes what the solutions of all groups win, and the groups' opportunity costs, where certificates show that nobody
-/// wins more without its group; and behind it, where it is claimed, that nobody else can win as much, or a tie.
+/// wins more without its group; after it, if there are prices, what the winners pay; and, if it is claimed, that nobody else can win
+/// as much, or a tie.
 pub fn verify<R: Threads + Wait + Sync + AllocGlobal, S: Sink>(
     rt: &R,
-    text: &[u8],
+    input: &Input,
     workers: usize,
     out: &mut S,
 ) -> Result<(), Refusal>
     requires some { 1 ≤ workers }
     requires few { workers ≤ MOST_WORKERS }
-    ensures written { OnOk result (Writes (answer (Request.Verify workers) text.now)
+    ensures written { OnOk result (Writes (answer (Request.Verify workers) input.now)
         (S.taken out.old) (S.taken out.new)) }
-    ensures sold { OnOk result (HasSold (Request.Verify workers) text.now) }
-    ensures true_report { OnOk result (WritesTrueReport workers text.now (S.taken out.old)
+    ensures sold { OnOk result (HasSold (Request.Verify workers) input.now) }
+    ensures true_report { OnOk result (WritesTrueReport workers input.now (S.taken out.old)
         (S.taken out.new)) }
     ensures succeeded { OnOk result (S.failures out.new ≡ S.failures out.old) }
-    ensures refused { IfErr result (IsUnwritten (Request.Verify workers) text.now (S.taken out.old)
+    ensures refused { IfErr result (IsUnwritten (Request.Verify workers) input.now (S.taken out.old)
         (S.taken out.new) (S.failures out.old) (S.failures out.new)) }
 {
-    answer_auction(rt, &Request::Verify { workers }, text, out)
+    answer_auction(rt, &Request::Verify { workers }, input, out)
 }
 
 /// Writes what the solutions of an auction win, and the groups' opportunity costs, where certificates show that nobody wins more.
@@ -63,7 +64,17 @@ pub fn write_verified<R: Threads + Wait + Sync + AllocGlobal, S: Sink>(
     let won = won_by_groups(rt, auction, &compiler, workers)?;
     let allocations = won.as_slice();
     check_certificates(rt, alloc, auction, &compiler, allocations)?;
+    // Its contract says that the book is within limits.
+    let _within_limits = auction.book.rules();
     let claim = claim_of(alloc, auction, &compiler, allocations)?;
-    report_with(&auction.book, &auction.groups, allocations, &claim, out)?;
+    let pricing = pricing_of(alloc, auction, &compiler, allocations)?;
+    report_with(
+        &auction.book,
+        &auction.groups,
+        allocations,
+        &pricing,
+        &claim,
+        out,
+    )?;
     Ok(())
 }

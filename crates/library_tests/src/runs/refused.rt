@@ -3,11 +3,13 @@
 
 ghost use Rattle.std.specs.Prelude.{ℕ, List, Option, None};
 
+use super::files::NO_FILES;
 use super::{RUNS, Run, TWO_GROUPS, TWO_PROGRAMS, told};
+use crate::worked::input_of;
 use answers::{RunFault, run, run_compile, tell};
 use auction_input::{
-    Auction, Part, PartFault, PartKind, Refusal, Source, count_of, read_auction, split_parts,
-    text_of, texts_of,
+    Auction, Output, Part, PartFault, PartKind, Refusal, Source, count_of, read_auction,
+    split_parts, text_of, texts_of,
 };
 use byte_sinks::{Sink, SinkFailed};
 use group_compiler::OpenGate;
@@ -61,10 +63,12 @@ impl Sink for Expected {
     }
 }
 
+impl Output for Expected {}
+
 /// Out of memory where the refusal tells it, and else another failure.
 fn failure(refusal: &Refusal) -> Fail {
     let mut faults = Expected::new(SHORT);
-    tell(refusal, &mut faults);
+    tell(&[], refusal, &mut faults);
     if faults.is_whole() {
         Fail::from("out of memory")
     } else {
@@ -80,6 +84,7 @@ fn answers<R: Threads + Wait + Sync + AllocGlobal>(rt: &R, row: &Run) -> Result<
     match run(
         rt,
         words,
+        &NO_FILES,
         &mut Source::new(row.input),
         &mut out,
         &mut faults,
@@ -114,7 +119,8 @@ fn are_found(parts: &[Part<'_>]) -> bool {
 
 #[test]
 fn parts_or_want_of_memory(rt: HostRuntime) -> Result<(), Fail> {
-    match split_parts(rt.alloc(), &Request::Text, TWO_GROUPS) {
+    let input = input_of(rt.alloc(), TWO_GROUPS)?;
+    match split_parts(rt.alloc(), &Request::Text, &input) {
         Ok(parts) => assert!(rt; are_parts(parts.as_slice()) && are_found(parts.as_slice())),
         Err(PartFault::OutOfMemory) => return Err(Fail::from("out of memory")),
         Err(_) => return Err(Fail::from("parts")),
@@ -125,6 +131,7 @@ fn parts_or_want_of_memory(rt: HostRuntime) -> Result<(), Fail> {
 #[test]
 fn texts_of_a_kind_or_want_of_memory(rt: HostRuntime) -> Result<(), Fail> {
     let parts = [Part {
+        text: 0,
         kind: PartKind::Groups,
         bytes: LEFT_OUT,
     }];
@@ -154,7 +161,8 @@ fn compiles<R: Threads + Wait + Sync>(
 
 #[test]
 fn programs_or_want_of_memory(rt: HostRuntime) -> Result<(), Fail> {
-    match read_auction(&rt, &Request::Compile { workers: 2 }, TWO_GROUPS) {
+    let input = input_of(rt.alloc(), TWO_GROUPS)?;
+    match read_auction(&rt, &Request::Compile { workers: 2 }, &input) {
         Ok(auction) => compiles(&rt, rt.alloc(), &auction),
         Err(refusal) => Err(failure(&refusal)),
     }

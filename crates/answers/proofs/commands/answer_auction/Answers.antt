@@ -7,7 +7,7 @@ use Rattle.answers.proofs.commands.answer_auction.Goals as goal
 pub returns-in_err-auction-clause-refused : goal.returns-in_err-auction-clause-refused
 returns-in_err-auction-clause-refused g c =
     let asked = c.args.request.now in
-    let input = c.args.text.now in
+    let input = c.args.input.now in
     let taken = g.S.Sink.taken c.args.out.now in
     let failures = g.S.Sink.failures c.args.out.now in
     let r = c.in_err-auction.field-0.0 in
@@ -15,12 +15,12 @@ returns-in_err-auction-clause-refused g c =
 
 pub returns-clause-written : goal.returns-clause-written
 returns-clause-written g c =
-    written c.args.request.now c.args.text.now c.requires.auction (held c.in_ok-auction.auction) c.in_ok-auction.ensures.told c.write_output.result (g.S.Sink.taken c.args.out.now) (g.S.Sink.taken c.write_output.new.out) c.write_output.ensures.written
+    written c.args.request.now c.args.input.now c.requires.auction (held c.in_ok-auction.auction) c.in_ok-auction.ensures.told c.write_output.result (g.S.Sink.taken c.args.out.now) (g.S.Sink.taken c.write_output.new.out) c.write_output.ensures.written
 
 pub returns-clause-refused : goal.returns-clause-refused
 returns-clause-refused g c =
-    unwritten c.args.request.now c.args.text.now c.requires.auction (held c.in_ok-auction.auction) c.in_ok-auction.ensures.told c.write_output.result (g.S.Sink.taken c.args.out.now) (g.S.Sink.taken c.write_output.new.out)
+    unwritten c.args.request.now c.args.input.now c.requires.auction (held c.in_ok-auction.auction) c.in_ok-auction.ensures.told c.write_output.result (g.S.Sink.taken c.args.out.now) (g.S.Sink.taken c.write_output.new.out)
     (g.S.Sink.failures c.args.out.now) (g.S.Sink.failures c.write_output.new.out) c.write_output.ensures.refused
 
 pub returns-clause-sold : goal.returns-clause-sold
-returns-clause-sold g c = on-ok-given c.write_output.result (has-sold c.args.request.now c.args.text.now (held c.in_ok-auction.auction) c.in_ok-auction.ensures.sold)
+returns-clause-sold g c = on-ok-given c.write_output.result (has-sold c.args.request.now c.args.input.now (held c.in_ok-auction.auction) c.in_ok-auction.ensures.sold)

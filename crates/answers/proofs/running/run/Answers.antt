@@ -1,26 +1,31 @@
 use Rattle.std.proofs.Common.{◌∙◌, ap, arith, inl, inr, refl}
 use Rattle.clap.specs.Words.{kind_of}
+use Rattle.auction_input.specs.Line.{line}
 use Rattle.auction_input.specs.declared.refusal.Refusal.TheVariants as refusal
-use Rattle.requests.specs.Asked.{asked_of}
+use Rattle.requests.specs.Asked.{asked_of, command_line_of}
 use Rattle.answers.specs.Runs.{by_memory, by_request}
 use Rattle.answers.proofs.RunFacts.{untold}
 use Rattle.answers.proofs.running.run.Goals as goal
 
 pub returns-in-Err-clause-refused : goal.returns-in-Err-clause-refused
-returns-in-Err-clause-refused g c = λ one. inl (refusal.OutOfMemory, by_memory refl refl, c.without_words.ensures.refused one)
+returns-in-Err-clause-refused g c = λ one. inl (line refusal.OutOfMemory, by_memory refl refl, c.without_words.ensures.refused one)
 
 pub returns-in-Err-clause-told : goal.returns-in-Err-clause-told
 returns-in-Err-clause-told g c = λ two. (_, omega arith, c.without_words.ensures.told two)
 
-pub returns-in-Ok-request_of-clause-refused : goal.returns-in-Ok-request_of-clause-refused
-returns-in-Ok-request_of-clause-refused g c = λ one.
-    let asked = ap asked_of c.in-Ok.is ∙ c.in-Ok-request_of.ensures.request in
-    elim (c.answer_request.ensures.refused one) [
-      | inl why ↦ inl (why.0, by_request c.in-Ok-request_of.request asked why.1, why.2)
-      | inr explained ↦ inr ((explained.0.0, asked ∙ explained.0.1, explained.0.2), explained.1, explained.2, explained.3, explained.4)
+pub returns-in-Ok-command_of-clause-done : goal.returns-in-Ok-command_of-clause-done
+returns-in-Ok-command_of-clause-done g c = λ zero.
+    inl (command_line_of c.in-Ok-command_of.command, ap asked_of c.in-Ok.is ∙ c.in-Ok-command_of.ensures.asked, c.answer_command.ensures.answered zero)
+
+pub returns-in-Ok-command_of-clause-refused : goal.returns-in-Ok-command_of-clause-refused
+returns-in-Ok-command_of-clause-refused g c = λ one.
+    let asked = ap asked_of c.in-Ok.is ∙ c.in-Ok-command_of.ensures.asked in
+    elim (c.answer_command.ensures.refused one) [
+      | inl why ↦ inl (why.0, by_request _ asked why.1, why.2)
+      | inr explained ↦ inr ((explained.0.0, explained.0.1, asked ∙ explained.0.2, explained.0.3, explained.0.4), explained.1, explained.2, explained.3, explained.4)
     ]
 
-pub returns-in-Err-request_of-clause-refused : goal.returns-in-Err-request_of-clause-refused
-returns-in-Err-request_of-clause-refused g c = λ one.
+pub returns-in-Err-command_of-clause-refused : goal.returns-in-Err-command_of-clause-refused
+returns-in-Err-command_of-clause-refused g c = λ one.
     let why = c.tell_words.ensures.refused one in
-    inl (why.0, untold _ _ (kind_of c.in-Err-request_of.error) (ap asked_of c.in-Ok.is) c.in-Err-request_of.ensures.faults _ _ _ _ _ _ why.0 why.1, why.2)
+    inl (line why.0, untold _ _ _ (kind_of c.in-Err-command_of.error) (ap asked_of c.in-Ok.is) c.in-Err-command_of.ensures.shown _ _ _ _ _ _ why.0 why.1, why.2)

@@ -1,6 +1,10 @@
-use Rattle.std.proofs.Common.{ℕ, List, ap, rules, ◌++◌, ◌∷◌, [], codes}
+use Rattle.std.proofs.Common.{ap, rules, ◌++◌, ◌∷◌, [], codes}
+use Rattle.byte_sinks.proofs.Adding.{Adds-then}
+use Rattle.input_faults.specs.PlacedText.{told_at}
 use Rattle.answers.proofs.LineFacts.{puts}
 use Rattle.answers.proofs.telling.tell.Goals as goal
 
 pub returns : goal.returns
-returns g c = puts _ _ c.flush.result c.new-writer.ensures c.add_line.ensures c.flush.ensures.adds c.flush.ensures.ok c.flush.ensures.err (search rules) (ap (λ (t : List ℕ). codes "wdp: " ++ (t ++ 10 ∷ [])) c.told.ensures)
+returns g c =
+    puts _ _ c.flush.result c.new-writer.ensures (Adds-then c.add.ensures (Adds-then c.add_told.ensures c.add-2.ensures)) c.flush.ensures.adds c.flush.ensures.ok c.flush.ensures.err (search rules)
+    (ap (λ spot. codes "wdp: " ++ (told_at c.args.texts.now spot c.args.refusal.now ++ 10 ∷ [])) c.spot_of.ensures)

@@ -1,6 +1,8 @@
 use Rattle.std.proofs.Common.{◌≡◌, ℕ, Ok, Result, ap, inl, refl}
 use Rattle.program_rows.specs.Program.{Table}
 use Rattle.mps_meaning.specs.declared.fault.FaultKind.{FaultKind}
+use Rattle.auction_input.specs.Input.{text_bytes}
+use Rattle.auction_input.specs.PartsTold.{only_text}
 use Rattle.answers.specs.Answer.{answer}
 use Rattle.answers.specs.Exact.{IsUnwritten, by_refusal}
 use Rattle.mps_reader.specs.declared.limits.TheConstants.{PROGRAM_LIMIT}
@@ -20,29 +22,31 @@ use Rattle.answers.proofs.commands.check.check.Goals as goal
 
 pub returns-in_err-program-clause-refused : goal.returns-in_err-program-clause-refused
 returns-in_err-program-clause-refused g c =
-    let text = c.args.text.now in
+    let input = c.args.input.now in
+    let text = only_text (text_bytes input) in
     let taken = g.S.Sink.taken c.args.out.now in
     let failures = g.S.Sink.failures c.args.out.now in
     let f = c.in_err-program.field-0.0 in
-    let refused = program-refuses f (sized PROGRAM_LIMIT (0, kind.TooLarge) meaning text) (program-refused text f c.in_err-program.ensures.too_large c.in_err-program.ensures.meaning) in
-    if-err-of (IsUnwritten request.Check text taken taken failures failures) c.from_residual.result (refusal.Program f) c.from_residual.ensures.1 (inl (by_refusal (stop _ _ (refusal.Program f) refused) refl))
+    let refused = program-refuses f (sized PROGRAM_LIMIT (0, kind.TooLarge) meaning text) (program-refused text f (rw c.first_text.ensures at c.in_err-program.ensures.too_large) (rw c.first_text.ensures at c.in_err-program.ensures.meaning)) in
+    if-err-of (IsUnwritten request.Check input taken taken failures failures) c.from_residual.result (refusal.Program f) c.from_residual.ensures.1 (inl (by_refusal (stop _ _ (refusal.Program f) refused) refl))
 
 pub returns-in_err-write_sizes-clause-refused : goal.returns-in_err-write_sizes-clause-refused
 returns-in_err-write_sizes-clause-refused g c =
-    let text = c.args.text.now in
+    let input = c.args.input.now in
+    let text = only_text (text_bytes input) in
     let p = c.in_ok-program.program in
     let taken = g.S.Sink.taken c.args.out.now in
     let taken' = g.S.Sink.taken c.write_sizes.new.out in
     let failures = g.S.Sink.failures c.args.out.now in
     let failures' = g.S.Sink.failures c.write_sizes.new.out in
     let f = c.in_err-write_sizes.field-0.0 in
-    let told = program-told text p c.in_ok-program.ensures.too_large c.in_ok-program.ensures.meaning in
-    let whole : answer request.Check text ≡ Ok (sizes_text p) = ap (λ (r : Result Table (ℕ × FaultKind)). and_then (refused_as program_refused r) (λ program. Ok (sizes_text program))) told in
-    if-err-of (IsUnwritten request.Check text taken taken' failures failures') c.from_residual-in_err-write_sizes.result (refusal.Write f) c.from_residual-in_err-write_sizes.ensures.1
+    let told = program-told text p (rw c.first_text.ensures at c.in_ok-program.ensures.too_large) (rw c.first_text.ensures at c.in_ok-program.ensures.meaning) in
+    let whole : answer request.Check input ≡ Ok (sizes_text p) = ap (λ (r : Result Table (ℕ × FaultKind)). and_then (refused_as program_refused r) (λ program. Ok (sizes_text program))) told in
+    if-err-of (IsUnwritten request.Check input taken taken' failures failures') c.from_residual-in_err-write_sizes.result (refusal.Write f) c.from_residual-in_err-write_sizes.ensures.1
     (inl (cut-short _ (sizes_text p) taken taken' failures failures' f whole c.in_err-write_sizes.ensures.err c.in_err-write_sizes.ensures.failed))
 
 pub returns-clause-written : goal.returns-clause-written
 returns-clause-written g c =
     let p = c.in_ok-program.program in
-    let told = program-told c.args.text.now p c.in_ok-program.ensures.too_large c.in_ok-program.ensures.meaning in
+    let told = program-told (only_text (text_bytes c.args.input.now)) p (rw c.first_text.ensures at c.in_ok-program.ensures.too_large) (rw c.first_text.ensures at c.in_ok-program.ensures.meaning) in
     (sizes_text p, ap (λ (r : Result Table (ℕ × FaultKind)). and_then (refused_as program_refused r) (λ program. Ok (sizes_text program))) told, c.in_ok-write_sizes.ensures.ok)

@@ -1,5 +1,6 @@
-use Rattle.std.proofs.Common.{◌++◌, ◌∙◌, List, Ok, ap, inl, inr, refl, sym}
+use Rattle.std.proofs.Common.{◌++◌, ◌∙◌, [], List, Ok, ap, inl, inr, refl, slice_index_or, sym}
 use Rattle.auction_terms.specs.declared.choices.Choice.{Choice}
+use Rattle.outcome.specs.Pricing.{pricing_text}
 use Rattle.outcome.specs.Report.{report_text}
 use Rattle.bid_desk.specs.Sale.{sale_of}
 use Rattle.outcome.specs.Uniqueness.{uniqueness_text}
@@ -11,7 +12,8 @@ use Rattle.auction_input.specs.declared.refusal.Refusal.TheVariants as refusal
 use Rattle.answers.proofs.CommandFacts.{cut-short}
 use Rattle.requests.proofs.StepFacts.{if-err-of}
 use Rattle.auction_input.proofs.StageFacts.{next, stop}
-use Rattle.answers.proofs.VerifyFacts.{unclaimed, unshown}
+use Rattle.answers.proofs.VerifiedFacts.{certified-greatest}
+use Rattle.answers.proofs.VerifyFacts.{unclaimed, unpriced, unshown}
 use Rattle.answers.proofs.commands.verify.write_verified.Goals as goal
 
 pub returns-clause-written : goal.returns-clause-written
@@ -20,8 +22,12 @@ returns-clause-written g c =
     let all = c.as_slice-allocations.result.now in
     let won = c.in_ok-won.ensures.won ∙ ap (λ (xs : List (List Choice)). Ok xs) (sym c.as_slice-allocations.ensures.value) in
     let claim = c.in_ok-claim.claim in
-    let sent = c.in_ok-report_with.ensures.ok in
-    (report_text (sale_of auction.book) auction.groups all ++ uniqueness_text (sale_of auction.book) claim, next _ all _ _ (next _ all _ _ won c.in_ok-check_certificates.ensures.shown) (next _ claim _ _ c.in_ok-claim.ensures.told refl), sent)
+    let pricing = c.in_ok-pricing.pricing in
+    let sent = c.in_ok-report_with.ensures.ok in (
+      report_text (sale_of auction.book) auction.groups all ++ (pricing_text (sale_of auction.book) (slice_index_or all 0 []) pricing ++ uniqueness_text (sale_of auction.book) claim),
+      next _ all _ _ (next _ all _ _ won c.in_ok-check_certificates.ensures.shown) (next _ claim _ _ c.in_ok-claim.ensures.told (next _ pricing _ _ c.in_ok-pricing.ensures.told refl)),
+      sent,
+    )
 
 pub returns-in_err-check_counts-clause-refused : goal.returns-in_err-check_counts-clause-refused
 returns-in_err-check_counts-clause-refused g c =
@@ -69,6 +75,21 @@ returns-in_err-claim-clause-refused g c =
     if-err-of (IsWithoutOutput (request.Verify c.args.workers) auction taken taken failures failures) c.from_residual-in_err-claim.result r c.from_residual-in_err-claim.ensures.1
     (unclaimed c.args.workers auction c.as_slice-allocations.result.now taken failures r won c.in_ok-check_certificates.ensures.shown c.in_err-claim.ensures.refuses)
 
+pub returns-in_err-pricing-clause-refused : goal.returns-in_err-pricing-clause-refused
+returns-in_err-pricing-clause-refused g c =
+    let auction = held c.args.auction.now in
+    let taken = g.S.Sink.taken c.args.out.now in
+    let failures = g.S.Sink.failures c.args.out.now in
+    let r = c.in_err-pricing.field-0.0 in
+    let won = c.in_ok-won.ensures.won ∙ ap (λ (xs : List (List Choice)). Ok xs) (sym c.as_slice-allocations.ensures.value) in
+    if-err-of (IsWithoutOutput (request.Verify c.args.workers) auction taken taken failures failures) c.from_residual-in_err-pricing.result r c.from_residual-in_err-pricing.ensures.1
+    (unpriced c.args.workers auction c.as_slice-allocations.result.now c.in_ok-claim.claim taken failures r won c.in_ok-check_certificates.ensures.shown c.in_ok-claim.ensures.told c.in_err-pricing.ensures.refuses)
+
+pub pricing_of-requires-clause-without : goal.pricing_of-requires-clause-without
+pricing_of-requires-clause-without g c =
+    let won = c.in_ok-won.ensures.won ∙ ap (λ (xs : List (List Choice)). Ok xs) (sym c.as_slice-allocations.ensures.value) in
+    certified-greatest (held c.args.auction.now) c.as_slice-allocations.result.now c.rules-within_limits.ensures.book won c.in_ok-check_certificates.ensures.shown
+
 pub returns-in_err-report_with-clause-refused : goal.returns-in_err-report_with-clause-refused
 returns-in_err-report_with-clause-refused g c =
     let auction = c.args.auction.now in
@@ -78,9 +99,10 @@ returns-in_err-report_with-clause-refused g c =
     let failures' = g.S.Sink.failures c.report_with.new.sink in
     let all = c.as_slice-allocations.result.now in
     let claim = c.in_ok-claim.claim in
+    let pricing = c.in_ok-pricing.pricing in
     let f = c.in_err-report_with.field-0.0 in
     let won = c.in_ok-won.ensures.won ∙ ap (λ (xs : List (List Choice)). Ok xs) (sym c.as_slice-allocations.ensures.value) in
     let sent = c.in_err-report_with.ensures.err in
     if-err-of (IsWithoutOutput (request.Verify c.args.workers) (held auction) taken taken' failures failures') c.from_residual-in_err-report_with.result (refusal.Write f) c.from_residual-in_err-report_with.ensures.1
-    (inl (cut-short _ (report_text (sale_of auction.book) auction.groups all ++ uniqueness_text (sale_of auction.book) claim) taken taken' failures failures' f
-    (next _ all _ _ (next _ all _ _ won c.in_ok-check_certificates.ensures.shown) (next _ claim _ _ c.in_ok-claim.ensures.told refl)) sent c.in_err-report_with.ensures.failed))
+    (inl (cut-short _ (report_text (sale_of auction.book) auction.groups all ++ (pricing_text (sale_of auction.book) (slice_index_or all 0 []) pricing ++ uniqueness_text (sale_of auction.book) claim)) taken taken' failures failures' f
+    (next _ all _ _ (next _ all _ _ won c.in_ok-check_certificates.ensures.shown) (next _ claim _ _ c.in_ok-claim.ensures.told (next _ pricing _ _ c.in_ok-pricing.ensures.told refl))) sent c.in_err-report_with.ensures.failed))
