@@ -1,271 +1,164 @@
-"""./wdp and tools/prebuild on copies of the tree whose sources, or whose program as it was built, were changed. The toolchain
-isn't used: it is kept off the path, or a stand-in takes its place."""
-import copy
+"""./wdp and tools/prebuild on copies of what they read, whose program as it was built was changed. No toolchain is used: the
+programs are scripts that stand in for the built one."""
+from __future__ import annotations
+
+import gzip
 import hashlib
 import os
 import shutil
 import subprocess
-import sys
-import tempfile
+from dataclasses import dataclass
 from pathlib import Path
 
 import pytest
 
 ROOT = Path(__file__).resolve().parent.parent
-CASE = ROOT / "cases" / "one_form"
-CANNOT = "isn't on the path"
-NOT_RECORDED = "isn't the program that prebuilt/record names"
+NOT_RECORDED = b"wdp: prebuilt/wdp.gz isn't the program that prebuilt/record names: it isn't run; ./build makes one\n"
+NOT_HELD = b"wdp: the program in prebuilt/ doesn't run on this machine, or no folder can hold it; ./build makes one\n"
 SOURCE = "crates/auction_limits/src/limits.rt"
-PACKED, RECORD, UNPACKED, BUILT = "prebuilt/wdp.gz", "prebuilt/record", "prebuilt/out", "crates/wdp/out"
 
 
+def script(says: str) -> bytes:
+    return f"#!/bin/sh\necho {says} \"$@\"\n".encode()
+
+
+def sum_of(data: bytes) -> str:
+    return hashlib.sha256(data).hexdigest()
+
+
+@dataclass
 class Tree:
-    """A copy of the tree in a folder whose name has a space, and a path without the toolchain."""
+    """A folder with ./wdp and prebuilt/, in a folder whose name has a space and a line break, and a home."""
 
-    def __init__(self, folder):
-        self.home, self.root, self.bin, self.added = folder / "home", folder / "a tree", folder / "bin", []
-        shutil.copytree(ROOT, self.root, ignore=shutil.ignore_patterns("out", ".git", "cases", "*_tests", "must-fail", "__pycache__"))
-        self.home.mkdir()
-        self.bin.mkdir()
-        for name in ("sh", "env", "python3", "find", "sort", "xargs", "sha256sum", "cut", "sed", "cat", "touch", "mkdir", "mktemp", "gzip", "chmod",
-                     "mv", "rm", "ln", "uname", "dirname", "readlink", "nice"):
-            # (what stands for Python on the path may be a script that chooses one)
-            (self.bin / name).symlink_to(sys.executable if name == "python3" else shutil.which(name))
+    root: Path
+    home: Path
 
-    def copy(self, name):
-        """A copy of the tree, as of the files alone: with times of its own."""
-        made = copy.copy(self)
-        made.root = self.root.parent / name
-        subprocess.run(["cp", "-r", self.root, made.root], check=True)
-        return made
+    @property
+    def out(self) -> Path:
+        return self.root / "prebuilt" / "out"
 
-    def run(self, *words, given=b"", **more):
-        environment = {"PATH": str(self.bin), "HOME": str(self.home), **more}
-        return subprocess.run(words, cwd=self.root, input=given, capture_output=True, env=environment, timeout=60)
+    def run(self, *words: str | Path, **more: str) -> subprocess.CompletedProcess:
+        environment = {"PATH": "/usr/bin:/bin", "HOME": str(self.home), **more}
+        return subprocess.run(words or ["./wdp"], cwd=self.root, env=environment, capture_output=True, timeout=60)
 
-    def answers(self, **more):
-        """Whether the worked case is answered, with nothing on standard error."""
-        run = self.run("./wdp", "text", given=(CASE / "stdin").read_bytes(), **more)
-        return (run.returncode, run.stdout, run.stderr) == (0, (CASE / "stdout").read_bytes(), b"")
+    def put(self, program: bytes, recorded: str | None = None) -> str:
+        """A program that comes with the tree, and its record."""
+        (self.root / "prebuilt" / "wdp.gz").write_bytes(gzip.compress(program))
+        name = recorded or sum_of(program)
+        (self.root / "prebuilt" / "record").write_text(f"sources none\nprogram {name}\ntoolchain none\n")
+        return name
 
-    def refuses(self, *lines):
-        """Whether nothing is run, with these lines on standard error, in part: where a build says how far it is, once or oftener."""
-        run = self.run("./wdp", "text", given=(CASE / "stdin").read_bytes())
-        told = run.stderr.decode().splitlines()
-        print(run.returncode, told)
-        said = [line for n, line in enumerate(told) if not any("crates proved" in it for it in told[:n]) or "crates proved" not in line]
-        return (run.returncode, run.stdout) == (3, b"") and len(said) == len(lines) and all(part in line for part, line in zip(lines, said))
+    def answers(self, says: bytes, **more: str) -> bool:
+        run = self.run("./wdp", "x", **more)
+        return (run.returncode, run.stdout, run.stderr) == (0, says + b" x\n", b"")
 
-    def checks(self):
-        return self.run("tools/prebuild", "--check").returncode == 0
-
-    def change(self, path=SOURCE):
-        """Changes one byte in the middle of a file."""
-        old = (self.root / path).read_bytes()
-        at = len(old) // 2
-        (self.root / path).write_bytes(old[:at] + bytes([old[at] ^ 1]) + old[at + 1:])
-
-    def put_back(self, path=SOURCE):
-        """Puts a file of the tree there as it was."""
-        (self.root / path).unlink(missing_ok=True)
-        shutil.copy(ROOT / path, self.root / path)
-
-    def add(self, path, text="// new\n"):
-        """A further file, perhaps in a further folder."""
-        file = self.root / path
-        self.added.append(file if file.parent.exists() else file.parent)
-        file.parent.mkdir(exist_ok=True)
-        file.write_text(text)
-        return file
-
-    def restore(self):
-        for path in (SOURCE, PACKED, RECORD):
-            self.put_back(path)
-        for path in [*self.added, self.root / UNPACKED, self.root / BUILT, self.home / ".cache", self.bin / "rt"]:
-            shutil.rmtree(path) if path.is_dir() else path.unlink(missing_ok=True)
-        self.added = []
-
-    def compares(self, program):
-        return self.run("tools/prebuild", "--compare", program).returncode == 0
-
-    def stand_in(self, does="exit 1"):
-        """A toolchain that proves nothing."""
-        (self.bin / "rt").write_text("#!/bin/sh\n%s\n" % does)
-        (self.bin / "rt").chmod(0o755)
-
-
-@pytest.fixture(scope="module")
-def only_tree():
-    with tempfile.TemporaryDirectory(prefix="wdp-prebuilt-") as folder:
-        yield Tree(Path(folder))
+    def refuses(self, line: bytes, **more: str) -> bool:
+        run = self.run("./wdp", "x", **more)
+        return (run.returncode, run.stdout, run.stderr) == (3, b"", line)
 
 
 @pytest.fixture
-def tree(only_tree):
-    """Making a copy takes longer than putting back what a test changed."""
-    yield only_tree
-    only_tree.restore()
+def tree(tmp_path: Path) -> Tree:
+    root = tmp_path / "a tree\n"
+    (root / "prebuilt").mkdir(parents=True)
+    shutil.copy(ROOT / "wdp", root)
+    made = Tree(root, tmp_path / "home")
+    made.home.mkdir()
+    made.put(script("packed"))
+    return made
 
 
-def test_as_it_comes(tree):
-    assert tree.answers() and tree.checks() and tree.answers()
-    assert not tree.answers(WDP_FROM_SOURCES="1")
-    read = tree.run("./wdp", "text", CASE / "stdin", "-o", "out.mps")
-    assert (read.returncode, read.stdout, read.stderr) == (0, b"", b"")
-    assert (tree.root / "out.mps").read_bytes() == (CASE / "stdout").read_bytes()
-    assert tree.run("./wdp", "map", "--group", "a b").returncode == 2
+def test_it_is_unpacked_once(tree: Tree) -> None:
+    assert tree.answers(b"packed")
+    # it isn't asked for again what prebuilt/ holds
+    (tree.root / "prebuilt" / "wdp.gz").unlink()
+    assert tree.answers(b"packed")
+    assert [path.name for path in tree.out.glob("*/*")] == ["wdp"] and not list(tree.home.iterdir())
 
 
-# With other sources it isn't run.
-
-def test_a_changed_source(tree):
-    assert tree.answers()
-    tree.change()
-    assert tree.refuses(CANNOT) and not tree.checks()
-    tree.put_back()
-    assert tree.answers()
+def test_another_record_has_another_program(tree: Tree) -> None:
+    assert tree.answers(b"packed")
+    tree.put(script("renewed"))
+    assert tree.answers(b"renewed")
 
 
-def test_a_changed_source_with_an_old_time(tree):
-    assert tree.answers()
-    os.utime(tree.root / SOURCE, (0, 0))
-    (tree.root / SOURCE).write_bytes(b"// another\n" + (tree.root / SOURCE).read_bytes())
-    os.utime(tree.root / SOURCE, (0, 0))
-    assert tree.refuses(CANNOT)
+def test_what_was_built_here(tree: Tree) -> None:
+    built = tree.out / sum_of(script("packed")) / "built"
+    built.parent.mkdir(parents=True)
+    built.write_bytes(script("built"))
+    built.chmod(0o755)
+    assert tree.answers(b"built")
+    # one that was built before the tree got another program isn't run, and neither is what the toolchain put elsewhere
+    tree.put(script("renewed"))
+    elsewhere = tree.root / "crates" / "wdp" / "out" / "wdp"
+    elsewhere.parent.mkdir(parents=True)
+    shutil.copy(built, elsewhere)
+    assert tree.answers(b"renewed")
 
 
-def test_a_source_that_is_taken_away_and_one_more(tree):
-    assert tree.answers()
-    (tree.root / SOURCE).unlink()
-    assert tree.refuses(CANNOT)
-    tree.put_back()
-    new = tree.add("crates/auction_terms/src/new.rt")
-    assert tree.refuses(CANNOT)
-    new.unlink()
-    assert tree.answers()
+def test_a_program_that_is_not_the_recorded_one(tree: Tree) -> None:
+    tree.put(script("another"), sum_of(script("packed")))
+    assert tree.refuses(NOT_RECORDED)
+    (tree.root / "prebuilt" / "wdp.gz").write_bytes(gzip.compress(script("packed"))[:15])
+    assert tree.refuses(NOT_RECORDED)
+    (tree.root / "prebuilt" / "record").unlink()
+    assert tree.refuses(NOT_RECORDED)
+    assert not list(tree.out.glob("*/*")) and not list(tree.home.glob(".cache/wdp/*/*"))
 
 
-@pytest.mark.parametrize("name", ["crates.txt", "crates"])
-def test_without_what_names_the_sources(tree, name):
-    assert tree.answers()
-    (tree.root / name).rename(tree.root / "kept")
-    is_answered = tree.answers()
-    (tree.root / "kept").rename(tree.root / name)
-    assert not is_answered
+def test_a_program_that_does_not_run(tree: Tree) -> None:
+    tree.put(b"#!/none\n")
+    assert tree.refuses(NOT_HELD)
 
 
-def test_a_folder_of_sources_with_the_name_of_what_the_toolchain_makes(tree):
-    assert tree.answers()
-    tree.add("crates/auction_terms/src/out/new.rt")
-    assert tree.refuses(CANNOT)
+def test_a_tree_that_cannot_be_written(tree: Tree) -> None:
+    """The user's folder holds it, readable by all whatever the mask."""
+    tree.out.write_text("no folder")
+    assert tree.run("sh", "-c", "umask 077; ./wdp x; umask").stdout == b"packed x\n0077\n"
+    held = list(tree.home.glob(".cache/wdp/*/wdp"))
+    assert [path.stat().st_mode & 0o777 for path in held] == [0o755] and tree.answers(b"packed")
+    assert tree.answers(b"packed", XDG_CACHE_HOME=str(tree.root / "kept"))
+    assert tree.refuses(NOT_HELD, HOME="/dev/null")
 
 
-def test_a_link_to_a_source_has_its_text(tree):
-    named = tree.add("limits.rt", (ROOT / SOURCE).read_text())
-    (tree.root / SOURCE).unlink()
-    (tree.root / SOURCE).symlink_to(named)
-    assert tree.answers() and tree.answers()
-    with named.open("a") as text:
-        text.write("// new\n")
-    assert tree.refuses(CANNOT)
+def test_called_by_a_link_and_by_its_name(tree: Tree) -> None:
+    link = tree.home / "link"
+    link.symlink_to(tree.root / "wdp")
+    assert tree.run(link, "x").stdout == tree.run("sh", "wdp", "x").stdout == b"packed x\n"
 
 
-def test_an_edit_is_no_source(tree):
-    assert tree.answers()
-    tree.add("crates/auction_terms/must-fail/new.edit", "file: src/lib.rt\n")
-    assert tree.answers() and tree.checks()
+def test_two_at_once(tree: Tree) -> None:
+    started = [subprocess.Popen(["./wdp"], cwd=tree.root, env={"PATH": "/usr/bin:/bin"}, stdout=subprocess.PIPE) for _ in range(8)]
+    assert [run.communicate(timeout=60)[0] for run in started] == [b"packed\n"] * 8
+    assert [path.name for path in tree.out.glob("*/*")] == ["wdp"]
 
 
-# Times of files tell something else than when the sources were looked at.
+# What tools/prebuild says of a tree.
 
-def test_a_copy_of_a_tree_whose_source_was_changed(tree):
-    assert tree.answers()
-    tree.change()
-    assert tree.copy("a copy").refuses(CANNOT)
+def test_what_the_record_says_of(tmp_path: Path) -> None:
+    root = tmp_path / "a tree"
+    shutil.copytree(ROOT, root, ignore=shutil.ignore_patterns("out", ".git", "cases", "must-fail", "*_tests", "__pycache__", "python"))
 
+    def checks() -> bool:
+        return subprocess.run(["tools/prebuild", "--check"], cwd=root, capture_output=True, timeout=60).returncode == 0
 
-def test_a_name_may_end_in_a_line_break(tree):
-    assert tree.answers()
-    named = tree.copy("a line break\n")
-    assert named.answers() and named.answers()
-
-
-def test_a_source_that_changes_while_its_sum_is_taken(tree):
-    """It is changed behind the sum, before the answer; it is looked at again, and once more when it is as it was."""
-    assert tree.answers()
-    sha256sum = (tree.bin / "sha256sum").resolve()
-    (tree.bin / "sha256sum").unlink()
-    (tree.bin / "sha256sum").write_text("#!/bin/sh\n%s \"$@\"\ncase $1 in crates*) echo '// new' >> '%s' ;; esac\n" % (sha256sum, tree.root / SOURCE))
-    (tree.bin / "sha256sum").chmod(0o755)
-    (tree.root / SOURCE).touch()
-    tree.run("./wdp", "--version")
-    (tree.bin / "sha256sum").unlink()
-    (tree.bin / "sha256sum").symlink_to(sha256sum)
-    assert tree.refuses(CANNOT)
-    tree.put_back()
-    assert tree.answers()
-
-
-def test_what_was_built_here(tree):
-    """Programs in crates/wdp/out, where ./build and the toolchain put them."""
-    built = tree.root / BUILT
-    built.mkdir()
-    (built / "wdp").write_text("#!/bin/sh\necho built\n")
-    (built / "wdp").chmod(0o755)
-    sources = tree.run("tools/program_sources").stdout.decode().strip()
-    (built / "wdp.sources").write_text("%s %s\n" % (sources, hashlib.sha256((built / "wdp").read_bytes()).hexdigest()))
-    assert [tree.run("./wdp").stdout for _ in range(2)] == [b"built\n"] * 2
-    (built / "wdp").write_text("#!/bin/sh\necho another\n")
-    assert tree.answers()
-    # it isn't the recorded one; where another toolchain built it, that says nothing
-    assert not tree.compares(built / "wdp")
-    tree.stand_in("echo 'another toolchain'")
-    assert tree.compares(built / "wdp")
-    tree.stand_in("echo '%s'" % (tree.root / RECORD).read_text().splitlines()[2].partition(" ")[2])
-    assert not tree.compares(built / "wdp") and not tree.compares(built / "none") and tree.compares("prebuilt/out/wdp")
-
-
-# The packed program, the unpacked one, and the record.
-
-def test_a_changed_program(tree):
-    """The unpacked one is unpacked anew; once that is done, the packed one is looked at by the record alone."""
-    assert tree.answers()
-    tree.change("prebuilt/out/wdp")
-    assert tree.answers()
-    tree.change(PACKED)
-    assert tree.answers() and not tree.checks()
-    shutil.rmtree(tree.root / UNPACKED)
-    assert tree.refuses(NOT_RECORDED, CANNOT)
-    (tree.root / PACKED).write_bytes((ROOT / PACKED).read_bytes()[:1000])
-    assert tree.refuses(NOT_RECORDED, CANNOT)
-
-
-def test_another_record_and_none(tree):
-    record = tree.root / RECORD
-    record.write_text(record.read_text().replace("program ", "program 0"))
-    assert tree.refuses(NOT_RECORDED, CANNOT) and not tree.checks()
-    record.unlink()
-    assert tree.refuses(CANNOT) and not tree.checks()
-    tree.put_back(RECORD)
-    assert tree.answers()
-
-
-def test_a_tree_that_cannot_hold_it(tree):
-    """It is unpacked in the user's folder, and there alone; another tree with a changed source doesn't run it."""
-    shutil.rmtree(tree.root / UNPACKED, ignore_errors=True)
-    (tree.root / UNPACKED).write_text("no folder")
-    assert tree.answers() and tree.answers()
-    assert [path.name for path in (tree.home / ".cache" / "wdp").glob("*/*")].count("wdp") == 1
-    assert not tree.answers(HOME="/dev/null") and tree.answers()
-    other = tree.copy("another tree")
-    (other.root / UNPACKED).unlink()
-    other.change()
-    assert tree.answers() and other.refuses(CANNOT)
-
-
-def test_with_a_toolchain_it_says_that_it_proves_and_builds(tree):
-    tree.stand_in()
-    tree.change()
-    assert tree.refuses("proving and building", "crates proved", "isn't the one expected", "not built")
-    tree.put_back()
-    assert tree.answers()
+    sources = subprocess.run([root / "tools" / "program_sources"], capture_output=True, text=True, check=True).stdout.strip()
+    packed = gzip.decompress((root / "prebuilt" / "wdp.gz").read_bytes())
+    (root / "prebuilt" / "record").write_text(f"sources {sources}\nprogram {sum_of(packed)}\ntoolchain none\n")
+    assert checks()
+    # an edit that must fail is no source, a folder that has the name of the toolchain's is one
+    (root / "crates/auction_terms/must-fail").mkdir()
+    (root / "crates/auction_terms/must-fail/new.edit").write_text("file: src/lib.rt\n")
+    assert checks()
+    (root / "crates/auction_terms/src/out").mkdir()
+    (root / "crates/auction_terms/src/out/new.rt").write_text("// new\n")
+    assert not checks()
+    shutil.rmtree(root / "crates/auction_terms/src/out")
+    text = (root / SOURCE).read_bytes()
+    (root / SOURCE).write_bytes(text + b"// new\n")
+    os.utime(root / SOURCE, (0, 0))
+    assert not checks()
+    (root / SOURCE).write_bytes(text)
+    assert checks()
+    (root / "prebuilt" / "wdp.gz").write_bytes(gzip.compress(packed[:-1]))
+    assert not checks()

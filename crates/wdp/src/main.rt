@@ -1,28 +1,53 @@
-//! The winner determination compiler: the words and the standard streams, handed to `run`.
+//! The winner determination compiler: the words, the files and the standard streams, handed to `run`.
 #![tactic(auto)]
 
-use answers::run;
+ghost use Rattle.std.specs.Prelude.{◌≡◌};
+
+mod disk;
+mod noted;
+mod out;
+mod stack;
+mod terminal;
+
+use crate::disk::Disk;
+use crate::noted::Noted;
+use crate::out::Out;
+use crate::stack::{tell, touch};
+use crate::terminal::StandardInput;
+use answers::{run, tell_file};
 use auction_input::Source;
 use byte_sinks::{Sink, StdSink};
-use stack_room::{tell, touch};
-use std::env::Args;
-use std::io::Read;
+use std::env;
 use std::process::ExitCode;
 use std::sync::Wait;
 use std::thread::Threads;
-use std::{env, io};
+
+// The exit status, once the output has come to its end: that of the run, but 1 where a whole file can't take its place.
+fn ended<F: Sink>(out: Out<'_>, is_whole: bool, status: u8, faults: &mut F) -> u8
+    ensures { result ≡ 0 → status ≡ 0 }
+{
+    match out.end(is_whole) {
+        Ok(()) => status,
+        Err(unkept) => {
+            tell_file(unkept.name.as_bytes(), unkept.fault, b"", faults);
+            1
+        }
+    }
+}
 
 // Does what the words ask for, and gives the exit status. A call of its own, so that `main` has next to no stack before that
 // is looked at.
 #[inline(never)]
-fn work<R: Threads + Wait + Sync + AllocGlobal, I: Read, S: Sink, F: Sink>(
-    rt: &R,
-    words: io::Result<Args>,
-    input: &mut Source<I>,
-    out: &mut S,
-    faults: &mut F,
-) -> ExitCode {
-    ExitCode::from(run(rt, words, input, out, faults))
+fn work<R: Threads + Wait + Sync + AllocGlobal>(rt: &R, system: &HostRuntime) -> ExitCode {
+    let mut input = Source::new(StandardInput::new(system));
+    let mut out = Out::new(system);
+    let mut faults = Noted::new(StdSink::new(system.stderr()));
+    let words = env::args(system);
+    let disk = Disk::new(system);
+    let status = run(rt, words, &disk, &mut input, &mut out, &mut faults);
+    // `explain`, which printed faults, said nothing on standard error.
+    let is_whole = status == 0 || (status == 1 && !faults.is_used());
+    ExitCode::from(ended(out, is_whole, status, &mut faults))
 }
 
 fn main(rt: HostRuntime) -> ExitCode {
@@ -30,11 +55,5 @@ fn main(rt: HostRuntime) -> ExitCode {
         tell(&rt, lack);
         return ExitCode::from(1);
     }
-    work(
-        &rt,
-        env::args(&rt),
-        &mut Source::new(rt.stdin()),
-        &mut StdSink::new(rt.stdout()),
-        &mut StdSink::new(rt.stderr()),
-    )
+    work(&rt, &rt)
 }

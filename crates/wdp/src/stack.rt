@@ -3,8 +3,6 @@
 //! The system gives a stack page by page, and ends the program by a signal where it has to refuse a page. So the program asks
 //! for all that it will need while it can still say what is missing: it looks how much stack it may have, asks for as much
 //! memory, which may be refused, gives that back, and touches the stack then.
-#![tactic(auto)]
-
 use byte_sinks::{Sink, StdSink};
 use std::alloc::Global;
 use std::fs::File;
