@@ -12,7 +12,7 @@ from tree import EVIL, Case, content
 import wdp
 from test_verify import printed
 from wdp import example
-from wdp.answers import Asked, read_report
+from wdp.texts.answers import Asked, read_report
 
 REPORT = "group 1 -\\nAlpha 1 30\\ntotal 30\\ncost 0\\n"
 ONE = example.INPUT.split("%groups")[0] + "%groups\n-\n"
@@ -82,14 +82,14 @@ class Programs(Case):
         started = time.time()
         program = self.program("exec sleep 60\n")
         with self.assertRaisesRegex(wdp.Unclear, "gave no answer in 0.2 s, and was ended$"):
-            wdp.Auction.from_text(ONE, program=program, seconds=0.2).compile()
+            wdp.Auction.from_text(ONE, program=program, time_limit=0.2).compile()
         self.assertLess(time.time() - started, 10)
 
     def test_a_program_that_prints_without_an_end(self):
         for script, words in (("yes\n", "prints more than an answer to this can have, [0-9]+ bytes$"),
                               ("yes >&2\n", "prints more than 1000000 bytes on standard error$")):
             program = self.program("echo $$ > '%s'\n" % self.path("group") + script)
-            with mock.patch("wdp.running.MOST_OF_MESSAGES", 1_000_000), self.assertRaisesRegex(wdp.Unclear, words) as caught:
+            with mock.patch("wdp.program.MOST_OF_MESSAGES", 1_000_000), self.assertRaisesRegex(wdp.Unclear, words) as caught:
                 wdp.Auction.from_text(ONE, program=program).report([""])
             self.assert_one_line(caught.exception)
             self.assert_nothing_runs()
@@ -102,8 +102,8 @@ class Programs(Case):
                 raise KeyboardInterrupt
             return 0.0
 
-        with mock.patch("wdp.running.time", mock.Mock(monotonic=interrupted)), self.assertRaises(KeyboardInterrupt):
-            wdp.Auction.from_text(ONE, program=program, seconds=60).compile()
+        with mock.patch("wdp.program.time", mock.Mock(monotonic=interrupted)), self.assertRaises(KeyboardInterrupt):
+            wdp.Auction.from_text(ONE, program=program, time_limit=60).compile()
         self.assert_nothing_runs()
 
     def assert_nothing_runs(self):
@@ -131,7 +131,7 @@ class Programs(Case):
             wdp.Auction.from_text(ONE + "%form\n" + "x" * 50_000_000, program=program).compile()
 
     def test_a_disk_that_is_full(self):
-        with mock.patch("wdp.running.tempfile.TemporaryFile", lambda: open("/dev/full", "r+b", buffering=0)):
+        with mock.patch("wdp.program.tempfile.TemporaryFile", lambda: open("/dev/full", "r+b", buffering=0)):
             with self.assertRaisesRegex(wdp.Unclear, "can't be given its input, or its answer can't be read: No space left on device$"):
                 wdp.Auction.from_text(ONE).compile()
 
@@ -174,7 +174,7 @@ class Answers(Case):
 
     def assert_unclear_quickly(self, answer, call):
         """As above, without starting a program for each answer."""
-        with mock.patch("wdp.auction.answer", lambda *_: answer.encode()):
+        with mock.patch("wdp.api.answer", lambda *_: answer.encode()):
             with self.assertRaises(wdp.Unclear, msg=answer) as caught:
                 call(wdp.Auction.from_text(example.INPUT))
         self.assert_one_line(caught.exception)
@@ -272,10 +272,10 @@ class Found(Case):
         os.environ.pop("WDP", None)
         self.program(printing(REPORT.replace("30", "3")), "wdp")
         os.environ["PATH"] = self.folder + ":" + os.environ["PATH"]
-        with mock.patch("wdp.running.tree_of_package", lambda: None):
+        with mock.patch("wdp.program.tree_of_package", lambda: None):
             self.assertEqual(self.total(), 3)
             os.environ["PATH"] = self.path("nothing")
-            with self.assertRaisesRegex(wdp.NotFound, "^the program isn't found: wdp$"):
+            with self.assertRaisesRegex(wdp.NotFound, "^the program isn't found: wdp; make install"):
                 self.total()
 
     def test_programs_that_are_not_there(self):

@@ -9,11 +9,14 @@ import re
 import shutil
 import unittest
 
+import pytest
 from tree import Case, content
 
 import wdp
 
 BLOCK = re.compile(r"^```([a-z]*)(?: ([^\n]*))?\n(.*?)^```$", re.MULTILINE | re.DOTALL)
+# what needs libraries that may not be there, or begins when it is read
+MANY = ["wdp.__main__"] + ["wdp.certify." + name for name in ("branching", "layout", "leaf", "relaxation", "root_prices", "search")]
 HAS_CBC = shutil.which("cbc") is not None
 
 
@@ -31,13 +34,13 @@ def run_examples(text, name, names):
 class Docstrings(Case):
     def test_each_module(self):
         count = 0
-        for module in [wdp] + [importlib.import_module("wdp." + it.name) for it in pkgutil.iter_modules(wdp.__path__)]:
+        for module in [wdp] + [importlib.import_module(it.name) for it in pkgutil.walk_packages(wdp.__path__, "wdp.") if it.name not in MANY]:
             told = io.StringIO()
             with contextlib.redirect_stdout(told):
                 failed, tried = doctest.testmod(module)
             self.assertEqual(failed, 0, told.getvalue())
             count += tried
-        self.assertGreater(count, 25)
+        self.assertGreater(count, 20)
 
 
 class Page(Case):
@@ -55,6 +58,8 @@ class Page(Case):
 
     @unittest.skipUnless(HAS_CBC, "cbc isn't there")
     def test_the_page(self):
+        for name in ("scipy", "swiglpk"):
+            pytest.importorskip(name, reason=f"{name} isn't there")
         before = os.getcwd()
         self.addCleanup(os.chdir, before)
         os.chdir(self.folder)

@@ -22,7 +22,7 @@ def sections():
 def call_of(heading, old, new):
     """What the changed text of an example is given to."""
     base = content("examples", {"Rules of versions 2 and 3": "worked_pool.txt", "Solutions with values and pools": "worked_pool.txt",
-                                "Certificates": "verified.txt", "Claims of other outcomes": "verified.txt"}.get(heading, "worked.txt"))
+                                "Certificates": "verified.txt", "Claims of other outcomes": "verified.txt", "Prices": "prices.txt"}.get(heading, "worked.txt"))
     if heading == "Programs":
         base = content("fixtures", "solvers", "three.mps")
     if heading.startswith("Solutions"):
@@ -35,7 +35,7 @@ def call_of(heading, old, new):
         given, _, solution = text.partition("%solution\n")
         return lambda: wdp.Auction.from_text(given).map(solution, 1)
     auction = wdp.Auction.from_text(text)
-    return (lambda: auction.verify([], [])) if heading in ("Certificates", "Claims of other outcomes") else auction.compile
+    return (lambda: auction.verify([], [])) if heading in ("Certificates", "Claims of other outcomes", "Prices") else auction.compile
 
 
 def refusal_of(call):

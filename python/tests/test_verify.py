@@ -7,6 +7,7 @@ from tree import ROOT, Case, content
 import wdp
 from wdp import example
 
+CLAIMS = ("unique", "tie", "prices", "cover", "weights")
 CASES = sorted(name for name in os.listdir(os.path.join(ROOT, "cases")) if name.startswith("verify_"))
 
 
@@ -20,6 +21,9 @@ def printed(report):
     lines = []
     for group in report.groups:
         lines += ["group %d %s" % (group.number, "+".join(group.names) or "-"), *allocation_lines(group), "cost %d" % group.cost]
+    if report.prices:
+        lines += ["prices", *("%s %d" % price for price in report.prices.paid.items()), "sum %d" % report.prices.total]
+        lines += ["least"] if report.prices.is_least else []
     if isinstance(report.uniqueness, wdp.Tie):
         lines += ["tie", *allocation_lines(report.uniqueness)]
     return "".join(line + "\n" for line in lines) + ("unique\n" if report.uniqueness == "only" else "")
@@ -27,7 +31,7 @@ def printed(report):
 
 def parts_of(text):
     """The texts of the parts of an input, by their heads, and what has neither an answer nor a claim."""
-    parts, rest = {"solution": [], "certificate": [], "unique": [], "tie": []}, ""
+    parts, rest = {kind: [] for kind in ("solution", "certificate", *CLAIMS)}, ""
     for part in text.split("\n%"):
         head, _, body = (part[1:] if part.startswith("%") else part).partition("\n")
         if head in parts:
@@ -57,9 +61,9 @@ class Cases(Case):
     def call_of(self, name):
         """A case, its parts as arguments; as one text where it has more parts of a kind than there are arguments."""
         parts, rest = parts_of(content("cases", name, "stdin"))
-        if max(len(parts["unique"]), len(parts["tie"])) > 1:
+        if max(len(parts[kind]) for kind in CLAIMS) > 1:
             return lambda: wdp.Auction.from_text(content("cases", name, "stdin")).verify([], [])
-        claims = {kind: parts[kind][0] for kind in ("unique", "tie") if parts[kind]}
+        claims = {kind: parts[kind][0] for kind in CLAIMS if parts[kind]}
         return lambda: wdp.Auction.from_text(rest).verify(parts["solution"], parts["certificate"], **claims)
 
     def test_each_case(self):

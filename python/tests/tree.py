@@ -13,7 +13,7 @@ from typing import Any, Iterator
 
 HERE = os.path.dirname(os.path.realpath(__file__))
 ROOT = os.path.dirname(os.path.dirname(HERE))
-sys.path.insert(0, os.path.dirname(HERE))
+sys.path.insert(0, os.path.join(os.path.dirname(HERE), "src"))
 # a line break that begins a forged line, a terminal's escape, and marks that turn the direction
 EVIL = "x\ntotal 1\x1b[2K\r\u202e"
 

@@ -1,0 +1,98 @@
+"""Joins an auction's files into one input of wdp, and says what went into it.
+
+The folder has one file for each bidder, .csv, .tsv, .txt or .xlsx; its name has the bidder's name as a word, as in Heron.csv
+or form-heron-2.xlsx. Byte order marks, UTF-16, CR LF and CR, semicolons or tabs, empty rows, and empty fields at the end of
+rows are turned into the format, and the receipt says so. No value is changed: a number with a comma or a space in it is a
+fault. All faults of all files are printed in one run, and then nothing is written.
+
+The receipt, on standard error and with --receipt as a file, has for each bidder its file, bids and the file's SHA-256, the
+rules as they are understood, the bids that are in no program, and a table that is made to be read aloud to each bidder.
+Exit status: 0 the input is written; 1 something is wrong; 2 the words are wrong.
+"""
+from __future__ import annotations
+
+import argparse
+import os
+
+from wdp.texts.refusals import Refused, WrongWords
+from wdp.files import put, tell, write_all
+from wdp.office import choices
+from wdp.office.faults import all_counted, printed
+from wdp.office.reading import read_auction
+from wdp.office.receipt import receipt
+from wdp.program import found_program
+
+
+def output_path(text: str) -> str:
+    return "" if text == "-" else choices.path(text)
+
+
+def add_words(parser: argparse.ArgumentParser) -> None:
+    parser.add_argument("rules", metavar="RULES", help="the file of the rules")
+    parser.add_argument("forms", metavar="FORMS_DIR", help="the folder with the bidders' forms")
+    parser.add_argument("groups_file", metavar="GROUPS", nargs="?", help="the file of the groups")
+    parser.add_argument(
+        "--groups",
+        nargs="+",
+        metavar="RULE",
+        default=[],
+        help="in place of GROUPS: each (nobody, and each bidder alone), or winners FILE (nobody, and each "
+        "winner of a report's first group, or of what `wdp map` prints, alone)",
+    )
+    parser.add_argument(
+        "--output",
+        metavar="FILE",
+        type=output_path,
+        help="write the input to this file, whole or not at all",
+    )
+    parser.add_argument(
+        "--receipt", metavar="FILE", type=choices.path, help="write the receipt to this file too"
+    )
+    choices.add_words(parser)
+
+
+def check_words(given: argparse.Namespace) -> None:
+    rule = given.groups
+    if rule and (
+        rule[0] not in ("each", "winners") or len(rule) != {"each": 1, "winners": 2}[rule[0]]
+    ):
+        raise WrongWords("--groups takes each, or winners FILE")
+    if bool(rule) == bool(given.groups_file):
+        raise WrongWords("give GROUPS or --groups, one of them")
+    files = [
+        os.path.realpath(path)
+        for path in (given.rules, given.groups_file, given.expect, *rule[1:])
+        if path
+    ]
+    written = [path for path in (given.output, given.receipt) if path]
+    for path in written:
+        real = os.path.realpath(path)
+        if real in files or os.path.dirname(real) == os.path.realpath(given.forms):
+            raise WrongWords(
+                f"{path} is read, or would be a form in the next run; write somewhere else"
+            )
+    if len(set(map(os.path.realpath, written))) < len(written):
+        raise WrongWords("the input and the receipt need two files")
+
+
+def run(given: argparse.Namespace) -> int:
+    check_words(given)
+    words = given.groups or [given.groups_file]
+    auction = read_auction(
+        found_program(given.program), (given.rules, given.forms), words, choices.choices_of(given)
+    )
+    if auction.faults:
+        tell(printed(auction.faults))
+        old = (
+            f"; {given.output} is what it was before"
+            if given.output and os.path.exists(given.output)
+            else ""
+        )
+        raise Refused(f"{all_counted(auction.faults)}; nothing is written{old}")
+    said = receipt(auction)
+    written = {given.output: auction.text, given.receipt: said.encode()}
+    write_all({path: text for path, text in written.items() if path})
+    tell(said)
+    if not given.output:
+        put(auction.text)
+    return 0

@@ -1,0 +1,1 @@
+"""Each text of the program and its solvers, read and written once."""
