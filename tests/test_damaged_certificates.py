@@ -10,10 +10,10 @@ import os
 import subprocess
 
 import pytest
-from office.damage import damaged
-from office.program_text import read_program
-from office.solution import read_solution
-from office.verdict import Checker
+from damage import damaged
+from oracle import Checker
+from wdp.texts.solution import read_solution
+from wdp.texts.zero_one import read_program
 from trials.judging import KINDS, row, seen
 from trials.program import ROOT
 

@@ -11,8 +11,8 @@ import re
 from collections import Counter
 
 import pytest
-from office.tests.damaged_inputs import damaged
-from office.tests.inputs_of_tests import ACCEPTED
+from damaged_inputs import damaged
+from inputs_of_tests import ACCEPTED
 from trials import cases, details
 from trials.judging import row, seen
 from trials.left_out import Drawn
@@ -20,10 +20,10 @@ from trials.planted import BID_PLANTS, GROUP_PLANTS, MOST_LINES, RULES, Planted
 from trials.worked import ALPHA, auction, rules_and
 
 MIB = 1 << 20
-PART_NAMES = {b"%rules", b"%form", b"%groups", b"%solution", b"%certificate", b"%unique", b"%tie"}
+PART_NAMES = {b"%rules", b"%form", b"%groups", b"%solution", b"%certificate", b"%unique", b"%tie", b"%prices", b"%cover", b"%weights"}
 # what a case is refused for, by the head of its line; and how many cases of a kind there are at least
 CASE_KINDS = [("rules", "rules: "), ("forms", "form "), ("number of a group", "groups: (no group|group 1) "), ("groups", "groups: "),
-              ("parts", "input: "), ("solutions", "solution "), ("certificates", "certificate "), ("claims", "(unique|tie): ")]
+              ("parts", "input: "), ("solutions", "solution "), ("certificates", "certificate "), ("claims", "(unique|tie|prices|cover|weights): ")]
 LEAST = {"rules": 60, "forms": 15, "number of a group": 4, "groups": 6, "parts": 15, "solutions": 20, "certificates": 10, "claims": 10,
          "programs": 50, "accepted": 80, "help": 15, "words": 20, "explained": 1}
 # so many damages of each version are tried in one test, and so many of them are of these parts
@@ -34,7 +34,7 @@ AUCTIONS, LEAST_REASONS = 100, 100
 
 LINE = re.compile(r"(rules|form|groups)(?: ([0-9]+))?: ([0-9]+) [A-Za-z]+(?: at (?:record|line) ([0-9]+))?(?:, earlier bid [0-9]+|"
                   r"(?:, (?:field|name) ([0-9]+))?(?:: .*)?)")
-ALONE = re.compile(r"form [0-9]+: CallLimit|input: [a-z0-9 ]+")
+ALONE = re.compile(r"form [0-9]+: CallLimit|input: [a-z0-9 ]+(?:: .*)?")
 
 # rules made by hand, and what is told of them
 MEMBERS = ["category,A,x,1,1,0", "category,B,1,1,1,0", "pool,P,1,,", "pool,Q,1,,,",
@@ -121,9 +121,12 @@ HOSTILE = [
      + ["groups: 4 RepeatedBidder at line 2, name %d: 'Beta' stands in the line already" % name for name in range(3, 3_002)]),
     ("%groups", "%\x1b[2Jgroups", ["input: part 5 not known"]),
     ("%groups", "%groups\0", ["input: part 5 not known"]),
-    ("%groups\n", "%groups\n%groups\n", ["input: wrong number of groups"]),
-    ("%form\n", "%rules\n", ["input: wrong number of rules"]),
-    ("%rules", "\xef\xbb\xbf%rules", ["input: bytes before the first part"]),
+    ("%groups\n", "%groups\n%groups\n", ["input: wrong number of groups: 2 groups in place of 1 at most"]),
+    ("%form\n", "%rules\n", ["input: wrong number of rules: 2 rules in place of 1"]),
+    ("%rules\n", "", ["input: bytes before the first part: the text begins with 'rules,1,1,,' and has no %rules before it"]),
+    ("%rules\n", "\r\n%rules\n", ["input: bytes before the first part: the text begins with '' and has no %rules before it"]),
+    ("%rules\n", "%form\n", ["input: wrong number of rules: 0 rules in place of 1"]),
+    ("%rules", "\xef\xbb\xbf%rules", ["input: bytes before the first part: the text begins with '\\xef\\xbb\\xbf%rules' and has no %rules before it"]),
 ]
 
 
@@ -148,7 +151,8 @@ def fault_of_parts(text):
 def is_line_of(line, refusal):
     """Whether a line is what is told as this refusal, with what its kind of fault has behind it."""
     kind = re.match(r"(rules|form|groups)(?: [0-9]+)?: ([0-9]+) ", refusal)
-    return bool(re.fullmatch(re.escape(refusal) + (details.PARTS[kind[1]][int(kind[2])] if kind else ""), line))
+    behind = details.PARTS[kind[1]][int(kind[2])] if kind else details.INPUT.get(refusal.removeprefix("input: "), "")
+    return bool(re.fullmatch(re.escape(refusal) + behind, line))
 
 
 def refusal_of(program, text):

@@ -26,6 +26,7 @@ def examples():
         "Solutions": (["map", "--group", "1"], worked + "%solution\nX1_1 1\nX2_1 1\nX3_1 1\n"),
         "Certificates": (["verify"], verified),
         "Claims of other outcomes": (["verify"], verified),
+        "Prices": (["verify"], content("examples", "prices.txt")),
         "Solutions with values and pools": (["map", "--group", "1"], with_pool + "%solution\nX1_1 1\nX3_1 1\nK 1\n"),
     }
     for section in content("docs", "FAULTS.md").split("\n## ")[1:]:

@@ -9,14 +9,12 @@ list. The independent checker judges each certificate, and a wrong claim of each
 import random
 
 import pytest
-from office.clock import Limits
-from office.layout import Layout
-from office.only import OnlySearch, Tie
-from office.program_text import read_program
-from office.search import Search
-from office.solution import solution_text
-from office.tests import tied_auctions
-from office.verdict import Checker
+import tied_auctions
+from oracle import Checker
+from wdp.certify.layout import Layout
+from wdp.certify.search import Beaten, OnlySearch, Search
+from wdp.texts.solution import solution_text
+from wdp.texts.zero_one import read_program
 from trials.judging import KINDS, done, refused, row, seen
 
 # so many auctions are tried in one test
@@ -34,7 +32,7 @@ def programs_of(wdp, text):
 
 def point_of(program, allocation):
     """The point at which these bids win, or None where one of them has no column."""
-    places = [program.column_places.get(b"X%d_%d" % winner) for winner in allocation]
+    places = [program.column_places.get("X%d_%d" % winner) for winner in allocation]
     fixed = {place for place, column in enumerate(program.columns) if column.lower == 1}
     return None if None in places else fixed.union(places)
 
@@ -49,7 +47,7 @@ class Group:
         assert self.kept, "nothing of the greatest total has columns"
         self.won = draw.choice(self.kept)
         self.ones = point_of(program, self.won)
-        search = Search(Layout(program), self.ones, Limits(None, None), False, lambda text: None)
+        search = Search(Layout(program), self.ones)
         self.certificate = search.certificate()
         assert Checker(program).verdict(program.objective(self.ones), self.certificate) == (None, [])
 
@@ -86,10 +84,11 @@ class Trial:
     def claim(self):
         """Claims what the search among the other points comes to; what it is called here."""
         first = self.first
-        search = OnlySearch(first.program, first.ones, Limits(None, None), lambda text: None)
+        search = OnlySearch(first.program, first.ones, None, lambda text: None)
         try:
             only = search.certificate()
-        except Tie:
+        except Beaten as beaten:
+            assert beaten.gain == 0
             return self.claim_tie(search.ones)
         assert first.kept == [first.won]
         assert Checker(first.program).only_verdict(first.ones, only) == (None, [])
@@ -153,12 +152,13 @@ class Trial:
         """A solution that breaks the first row that it can, or the bound of the column K."""
         program = self.first.program
         ones = set(range(len(program.columns)))
-        if b"K" in program.column_places and self.draw.random() < 0.5:
+        if "K" in program.column_places and self.draw.random() < 0.5:
             self.expect_refused("tie: 7 BoundBroken at column K", b"%tie\n")
             return "tie that breaks K"
-        if program.broken_row(ones) is None:
+        broken = program.fault_of(ones)
+        if broken is None:
             return None
-        why = "tie: 8 RowBroken at row " + program.broken_row(ones).decode()
+        why = "tie: 8 RowBroken at row " + broken.split()[2]
         self.expect_refused(why, b"%tie\n" + solution_text(ones, program))
         return "tie that breaks a row"
 

@@ -30,6 +30,9 @@ FORM = {
     12: FIRST + " is below the reserve of " + NUMBER, 13: "", 14: ": more than 4000 bids",
 }
 GROUPS = {1: "", 2: "", 3: NAME + NO_BIDDER, 4: NAME + " stands in the line already", 5: ": more than 1024 groups"}
+INPUT = {"bytes before the first part": ": the text begins with %s and has no %%rules before it" % VALUE,
+         "wrong number of rules": ": (?:0|[2-9]|[1-9][0-9]+) rules in place of 1",
+         "wrong number of groups": ": (?:[2-9]|[1-9][0-9]+) groups in place of 1 at most"}
 PARTS = {"rules": RULES, "form": FORM, "groups": GROUPS}
 
 

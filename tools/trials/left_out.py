@@ -45,7 +45,12 @@ class Drawn:
         return next(("is dominated by bid %d" % number for number, other in enumerate(bids, 1) if self.does_dominate(other, bid)), "")
 
     def lines(self):
-        """A line for each bid in no program, of each bidder's last form, by the bidders' numbers."""
-        last = dict(self.forms)
-        reasons = [(name, number, self.why(last[name], bid)) for name in NAMES if name in last for number, bid in enumerate(last[name], 1)]
-        return ["%s: bid %d %s\n" % reason for reason in reasons if reason[2]]
+        """By the bidders' numbers: a line for each form but the last one, and for each bid of that in no program."""
+        return [line for name in NAMES for line in self.lines_of(name)]
+
+    def lines_of(self, name):
+        *replaced, last = [number for number, (bidder, _) in enumerate(self.forms, 1) if bidder == name] or [0]
+        yield from ("%s: form %d is replaced by form %d\n" % (name, number, last) for number in replaced)
+        bids = self.forms[last - 1][1] if last else []
+        reasons = [(name, number, self.why(bids, bid)) for number, bid in enumerate(bids, 1)]
+        yield from ("%s: bid %d %s\n" % reason for reason in reasons if reason[2])
