@@ -6,45 +6,45 @@ use Rattle.answers.specs.Exact.{Ends, IsUnwritten, MeetsLimit, Writes, by_refusa
 use Rattle.answers.specs.Sold.{HasSold}
 use Rattle.answers.specs.inside.Output.{IsBeyondLimit, IsWithoutOutput}
 use Rattle.answers.proofs.FaithfulFacts.{faithful-without}
-use Rattle.auction_input.specs.Auction.{Auction, auction_told}
+use Rattle.auction_input.specs.Auction.{Auction, parsed_auction}
 use Rattle.auction_input.specs.Settled.{RefusesAuction}
 use Rattle.auction_input.specs.Sold.{IsSold}
 use Rattle.auction_input.specs.declared.refusal.Refusal.{Refusal}
 use Rattle.auction_input.proofs.StageFacts.{refuses-as, stop}
 use Rattle.auction_terms.specs.Stages.{and_then}
-use Rattle.requests.specs.declared.request.Request.{Request}
-use Rattle.requests.specs.declared.request.Request.TheVariants as request
+use Rattle.auction_input.specs.declared.request.Request.{Request}
+use Rattle.auction_input.specs.declared.request.Request.TheVariants as request
 
 -- every command but `check` answers by the auction
-by-auction : (asked : Request) (input : Input) → asked ≢ request.Check → answer asked input ≡ and_then (auction_told asked input) (output_of asked)
+by-auction : (asked : Request) (input : Input) → asked ≢ request.Check → answer asked input ≡ and_then (parsed_auction asked input) (output_of asked)
 by-auction request.Check input some = absurd (some refl)
 by-auction asked input some = refl
 
-meets-limit : (asked : Request) (input : Input) (auction : Auction) (r : Refusal) → auction_told asked input ≡ Ok auction → IsBeyondLimit asked auction r → MeetsLimit asked input r
-meets-limit (request.Verify workers) input auction r told beyond = (auction, told, beyond)
-meets-limit asked input auction r told beyond = absurd beyond
+meets-limit : (asked : Request) (input : Input) (auction : Auction) (r : Refusal) → parsed_auction asked input ≡ Ok auction → IsBeyondLimit asked auction r → MeetsLimit asked input r
+meets-limit (request.Verify workers) input auction r parsed beyond = (auction, parsed, beyond)
+meets-limit asked input auction r parsed beyond = absurd beyond
 
 -- the auction that was read, with texts that are faithful to it
 pub has-sold : (asked : Request) (input : Input) (auction : Auction) → IsSold asked input auction → HasSold asked input
 has-sold request.Check input auction sold = tt
-has-sold asked input auction sold = (auction, sold, faithful-without asked input auction sold.told)
+has-sold asked input auction sold = (auction, sold, faithful-without asked input auction sold.parsed)
 
 module _ (asked : Request) (input : Input) (some : asked ≢ request.Check) where
   -- the auction isn't there
   pub no-auction : (taken : Option (List ℕ)) (failures : ℕ) (r : Refusal) → RefusesAuction asked input r → IsUnwritten asked input taken taken failures failures r
-  no-auction taken failures r (inl refused) = inl (by_refusal (refuses-as _ _ r (by-auction asked input some) (stop (auction_told asked input) (output_of asked) r refused)) refl)
+  no-auction taken failures r (inl refused) = inl (by_refusal (refuses-as _ _ r (by-auction asked input some) (stop (parsed_auction asked input) (output_of asked) r refused)) refl)
   no-auction taken failures r (inr unsettled) = inr (inl unsettled, refl)
 
-  -- it is, and what is told of it is what the input tells
-  module _ (auction : Auction) (told : auction_told asked input ≡ Ok auction) where
-    is-told : answer asked input ≡ output_of asked auction
-    is-told = by-auction asked input some ∙ ap (λ (t : Result Auction Refusal). and_then t (output_of asked)) told
+  -- it is, and what is reported of it is what the input tells
+  module _ (auction : Auction) (parsed : parsed_auction asked input ≡ Ok auction) where
+    is-parsed : answer asked input ≡ output_of asked auction
+    is-parsed = by-auction asked input some ∙ ap (λ (t : Result Auction Refusal). and_then t (output_of asked)) parsed
 
     pub written : {T E : Type 0} (result : Result T E) (taken taken' : Option (List ℕ)) → OnOk result (Writes (output_of asked auction) taken taken') → OnOk result (Writes (answer asked input) taken taken')
-    written result taken taken' writes = subst (λ x. OnOk result (Writes x taken taken')) (sym is-told) writes
+    written result taken taken' writes = subst (λ x. OnOk result (Writes x taken taken')) (sym is-parsed) writes
 
     pub unwritten : {T : Type 0} (result : Result T Refusal) (taken taken' : Option (List ℕ)) (failures failures' : ℕ) → IfErr result (IsWithoutOutput asked auction taken taken' failures failures')
         → IfErr result (IsUnwritten asked input taken taken' failures failures')
     unwritten (Ok x) taken taken' failures failures' ends = tt
-    unwritten (Err r) taken taken' failures failures' (inl ends) = inl (subst (λ x. Ends x taken taken' failures failures' r) (sym is-told) ends)
-    unwritten (Err r) taken taken' failures failures' (inr (beyond, same)) = inr (inr (meets-limit asked input auction r told beyond), same)
+    unwritten (Err r) taken taken' failures failures' (inl ends) = inl (subst (λ x. Ends x taken taken' failures failures' r) (sym is-parsed) ends)
+    unwritten (Err r) taken taken' failures failures' (inr (beyond, same)) = inr (inr (meets-limit asked input auction r parsed beyond), same)

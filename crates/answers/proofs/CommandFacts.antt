@@ -18,18 +18,18 @@ use Rattle.answers.specs.GroupTexts.{EndsIn, program_bytes, programs_bytes, prog
 use Rattle.answers.specs.Answer.{output_of}
 use Rattle.auction_input.specs.declared.refusal.Refusal.{Refusal}
 use Rattle.auction_terms.specs.Borrowed.{bytes_of}
-use Rattle.auction_input.specs.PartsTold.{only_text}
+use Rattle.auction_input.specs.ParsedParts.{only_text}
 use Rattle.auction_terms.specs.Stages.{and_then}
-use Rattle.group_winners.specs.SolutionWinners.{winners_by}
+use Rattle.answers.specs.SolutionWinners.{winners_by}
 use Rattle.auction_input.specs.declared.auction.Auction as declared
 use Rattle.auction_input.specs.declared.refusal.Refusal.TheVariants as refusal
-use Rattle.requests.specs.declared.request.Request.TheVariants as request
+use Rattle.auction_input.specs.declared.request.Request.TheVariants as request
 use Rattle.auction_input.proofs.StageFacts.{next, refuses-as, stop}
 
 -- a put failed
-pub cut-short : (told : Result (List ℕ) Refusal) (out : List ℕ) (taken taken' : Option (List ℕ)) (failures failures' : ℕ) (f : WriteFault) → told ≡ Ok out
-    → SentFront taken taken' out (written_of f) → HasFailed failures failures' → Ends told taken taken' failures failures' (refusal.Write f)
-cut-short told out taken taken' failures failures' (write.Sink written) whole sent failed = by_put out whole sent failed
+pub cut-short : (parsed : Result (List ℕ) Refusal) (out : List ℕ) (taken taken' : Option (List ℕ)) (failures failures' : ℕ) (f : WriteFault) → parsed ≡ Ok out
+    → SentFront taken taken' out (written_of f) → HasFailed failures failures' → Ends parsed taken taken' failures failures' (refusal.Write f)
+cut-short parsed out taken taken' failures failures' (write.Sink written) whole sent failed = by_put out whole sent failed
 
 -- the programs of groups are made of their groups
 pub of-groups : (book : Closing) (k : ℕ) (groups : List (List ℕ)) → in_turn (program_text (sale_of book)) k groups ≡ in_turn (program_bytes book) k (map (compiled book) groups)

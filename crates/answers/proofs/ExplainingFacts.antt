@@ -1,48 +1,89 @@
 -- What `explain` leaves.
-use Rattle.std.proofs.Common.{◌≡◌, ◌⊎◌, ◌∙◌, ℕ, Bool, true, false, List, [], Option, Result, Ok, Err, ap, inl, inr, refl, subst, sym, ◌↔◌, IfErr, IfOk, IsErr, IsOk, IsTrue, MatchBool, true≢false}
+use Rattle.std.specs.Prelude.{if◌then◌else◌}
+use Rattle.std.proofs.Common.{◌≡◌, ◌⊎◌, ◌∙◌, ℕ, Bool, true, false, List, [], Option, None, Some, Result, Ok, Err, ap, inl, inr, refl, subst, sym, ◌↔◌, IfErr, IfOk, IsErr, IsOk, IsTrue, MatchBool, true≢false}
 use Rattle.auction_input.specs.Input.{Input}
 use Rattle.std.specs.Io.KnownBytes.{Appends}
 use Rattle.answers.specs.Exact.{IsUnwritten, Writes}
-use Rattle.answers.specs.Answer.{answer}
+use Rattle.answers.specs.Answer.{answer, output_of}
 use Rattle.answers.specs.Runs.{AsksAnswer}
-use Rattle.auction_input.specs.Auction.{Auction, auction_told}
+use Rattle.auction_input.specs.Auction.{Auction, parsed_auction}
 use Rattle.auction_input.specs.declared.refusal.Refusal.{Refusal}
-use Rattle.auction_terms.specs.Stages.{and_then}
+use Rattle.auction_input.specs.Wanted.{numbers_of, refused_unless, parsed_taken, wanted, wants, with_wanted}
+use Rattle.auction_terms.specs.FirstFault.{first_failed}
+use Rattle.auction_terms.specs.Stages.{and_then, unless}
 use Rattle.input_faults.proofs.ExplainFacts.{nothing-explained}
 use Rattle.input_faults.specs.Explained.{IsCutShort}
 use Rattle.input_faults.specs.FaultLines.{explanation}
-use Rattle.requests.specs.declared.request.Request.{Request}
-use Rattle.requests.specs.declared.request.Request.TheVariants.{Explain}
+use Rattle.presolve.specs.Lines.{left_out_lines}
+use Rattle.presolve.specs.Reasons.{reasons_of}
+use Rattle.auction_input.specs.declared.request.Request.{Request}
+use Rattle.auction_input.specs.declared.request.Request.TheVariants.{Explain}
+use Rattle.auction_input.specs.declared.request.Target.{Target}
+
+abbrev no_lines : Result (List ℕ) Refusal
+no_lines = Ok []
+
+-- where an auction is parsed that has what is wanted, the answer is there
+found-answer : (command : Option Target) (parsed : Result Auction Refusal) (auction : Auction) → with_wanted command parsed ≡ Ok auction → and_then parsed (output_of (Explain false command)) ≡ Ok []
+found-answer None (Ok found) auction is = refl
+found-answer (Some command) (Ok found) auction is = by (first_failed (refused_unless (wants (Some command) (numbers_of found)))) is
+  where
+    by : (o : Option Refusal) → unless o (Ok found) ≡ Ok auction → and_then (unless o (Ok found)) (λ taken. no_lines) ≡ Ok []
+    by None e = refl
+    by (Some r) e = cc
+found-answer None (Err r) auction is = cc
+found-answer (Some command) (Err r) auction is = cc
 
 -- where nothing is wrong, and bids aren't asked for, nothing is written
-nothing-written : (text : Input) (told : Result Auction Refusal) (taken taken' : Option (List ℕ)) → auction_told (Explain false) text ≡ told → (IsErr told → IsTrue false) → Appends taken taken' (explanation (Explain false) text)
-    → Writes (answer (Explain false) text) taken taken'
-nothing-written text (Ok auction) taken taken' is sound written =
-    ([], ap (λ (r : Result Auction Refusal). and_then r (λ a. Ok [])) is, subst (Appends taken taken') (nothing-explained (Explain false) text auction is) written)
-nothing-written text (Err r) taken taken' is sound written = (let never = sound refl in cc)
+nothing-written : (command : Option Target) (text : Input) (parsed : Result Auction Refusal) (taken taken' : Option (List ℕ)) → parsed_taken (Explain false command) text ≡ parsed → (IsErr parsed → IsTrue false) → Appends taken taken' (explanation (Explain false command) text)
+    → Writes (answer (Explain false command) text) taken taken'
+nothing-written command text (Ok auction) taken taken' is sound written =
+    ([], found-answer command (parsed_auction (Explain false command) text) auction is, subst (Appends taken taken') (nothing-explained (Explain false command) text auction is) written)
+nothing-written command text (Err r) taken taken' is sound written = (let never = sound refl in cc)
 
-pub unasked : (bids faulty : Bool) (text : Input) (taken taken' : Option (List ℕ)) → bids ≡ false → faulty ≡ false → IsTrue faulty ↔ IsErr (auction_told (Explain bids) text) → Appends taken taken' (explanation (Explain bids) text)
-    → Writes (answer (Explain bids) text) taken taken'
-unasked true faulty text taken taken' off sound both written = absurd (true≢false off)
-unasked false faulty text taken taken' off sound both written = nothing-written text (auction_told (Explain false) text) taken taken' refl (λ wrong. sym sound ∙ both.1 wrong) written
+pub unasked : (bids faulty : Bool) (command : Option Target) (text : Input) (taken taken' : Option (List ℕ)) → bids ≡ false → faulty ≡ false → IsTrue faulty ↔ IsErr (parsed_taken (Explain bids command) text)
+    → Appends taken taken' (explanation (Explain bids command) text) → Writes (answer (Explain bids command) text) taken taken'
+unasked true faulty command text taken taken' off sound both written = absurd (true≢false off)
+unasked false faulty command text taken taken' off sound both written = nothing-written command text (parsed_taken (Explain false command) text) taken taken' refl (λ wrong. sym sound ∙ both.1 wrong) written
 
--- where no fault is found, an auction is told
-no-fault : {A E : Type 0} (told : Result A E) → (IsErr told → ⊥) → IsOk told
+-- where no fault is found, an auction is parsed
+no-fault : {A E : Type 0} (parsed : Result A E) → (IsErr parsed → ⊥) → IsOk parsed
 no-fault (Ok x) none = refl
 no-fault (Err r) none = absurd (none refl)
 
-pub asks-bids : (bids faulty : Bool) (text : Input) → bids ≡ true → faulty ≡ false → IsTrue faulty ↔ IsErr (auction_told (Explain bids) text) → AsksAnswer (Explain bids) text
-asks-bids bids faulty text asked sound both = (asked, no-fault (auction_told (Explain bids) text) (λ wrong. true≢false (sym (both.1 wrong) ∙ sound)))
+pub asks-bids : (bids faulty : Bool) (command : Option Target) (text : Input) → bids ≡ true → faulty ≡ false → IsTrue faulty ↔ IsErr (parsed_taken (Explain bids command) text) → AsksAnswer (Explain bids command) text
+asks-bids bids faulty command text asked sound both = (asked, no-fault (parsed_taken (Explain bids command) text) (λ wrong. true≢false (sym (both.1 wrong) ∙ sound)))
 
 -- where nothing was put before
-pub untold : (asked : Request) (text : Input) (before taken taken' : Option (List ℕ)) (failed failures failures' : ℕ) (r : Refusal) → before ≡ taken → failed ≡ failures → IsUnwritten asked text before taken' failed failures' r
+pub unreported : (asked : Request) (text : Input) (before taken taken' : Option (List ℕ)) (failed failures failures' : ℕ) (r : Refusal) → before ≡ taken → failed ≡ failures → IsUnwritten asked text before taken' failed failures' r
     → IsUnwritten asked text taken taken' failures failures' r
-untold asked text before taken taken' failed failures failures' r same quiet unwritten =
+unreported asked text before taken taken' failed failures failures' r same quiet unwritten =
     subst (λ (n : ℕ). IsUnwritten asked text taken taken' n failures' r) quiet (subst (λ (t : Option (List ℕ)). IsUnwritten asked text t taken' failed failures' r) same unwritten)
 
 -- what a text is explained by
-abbrev pub IsTextExplained : Bool → Input → Option (List ℕ) → Option (List ℕ) → Bool → Type 0
-IsTextExplained bids text taken taken' faulty = MatchBool faulty (IsErr (auction_told (Explain bids) text) × Appends taken taken' (explanation (Explain bids) text)) (Writes (answer (Explain bids) text) taken taken')
+abbrev pub IsTextExplained : Bool → Option Target → Input → Option (List ℕ) → Option (List ℕ) → Bool → Type 0
+IsTextExplained bids command text taken taken' faulty =
+    MatchBool faulty (IsErr (parsed_taken (Explain bids command) text) × Appends taken taken' (explanation (Explain bids command) text)) (Writes (answer (Explain bids command) text) taken taken')
 
-abbrev pub IsTextUnexplained : Bool → Input → Option (List ℕ) → Option (List ℕ) → ℕ → ℕ → Refusal → Type 0
-IsTextUnexplained bids text taken taken' failures failures' r = IsCutShort (explanation (Explain bids) text) taken taken' failures failures' r ⊎ (AsksAnswer (Explain bids) text × IsUnwritten (Explain bids) text taken taken' failures failures' r)
+abbrev pub IsTextUnexplained : Bool → Option Target → Input → Option (List ℕ) → Option (List ℕ) → ℕ → ℕ → Refusal → Type 0
+IsTextUnexplained bids command text taken taken' failures failures' r =
+    IsCutShort (explanation (Explain bids command) text) taken taken' failures failures' r ⊎ (AsksAnswer (Explain bids command) text × IsUnwritten (Explain bids command) text taken taken' failures failures' r)
+
+-- ---- what is written of an auction
+
+-- of one that has what is wanted, as where nothing is
+pub bids-as : (bids : Bool) (command : Option Target) (auction : Auction) → bids ≡ true → wanted command auction ≡ Ok auction → output_of (Explain bids command) auction ≡ output_of (Explain true None) auction
+bids-as bids command auction asked has =
+    ap (λ (parsed : Result Auction Refusal). and_then parsed (λ taken. Ok (if bids then left_out_lines auction.rules auction.form_bidders (reasons_of auction.sale.lots auction.sale.book) else []))) has
+    ∙ ap (λ (b : Bool). output_of (Explain b None) auction) asked
+
+-- of one that hasn't
+pub bids-refused : (bids : Bool) (command : Option Target) (auction : Auction) (r : Refusal) → wanted command auction ≡ Err r → output_of (Explain bids command) auction ≡ Err r
+bids-refused bids command auction r unmet =
+    ap (λ (parsed : Result Auction Refusal). and_then parsed (λ taken. Ok (if bids then left_out_lines auction.rules auction.form_bidders (reasons_of auction.sale.lots auction.sale.book) else []))) unmet
+
+-- where bids aren't asked for
+pub as-unasked : (bids : Bool) (command : Option Target) (auction : Auction) → bids ≡ false → wanted command auction ≡ Ok auction → output_of (Explain bids command) auction ≡ Ok []
+as-unasked bids command auction off has =
+    ap (λ (parsed : Result Auction Refusal). and_then parsed (λ taken. Ok (if bids then left_out_lines auction.rules auction.form_bidders (reasons_of auction.sale.lots auction.sale.book) else []))) has
+    ∙ ap (λ (b : Bool). output_of (Explain b None) auction) off

@@ -5,21 +5,21 @@ use Rattle.auction_terms.specs.Groups.{starts_empty}
 use Rattle.auction_terms.specs.Limits.{IsBook}
 use Rattle.auction_terms.specs.Stages.{each_in_turn}
 use Rattle.auction_terms.specs.declared.choices.Choice.{Choice}
-use Rattle.auction_input.specs.Auction.{auction_told}
-use Rattle.auction_input.specs.PartsTold.{only_text}
+use Rattle.auction_input.specs.Auction.{parsed_auction}
+use Rattle.auction_input.specs.ParsedParts.{only_text}
 use Rattle.auction_input.specs.declared.part_kind.PartKind.TheVariants as part
 use Rattle.auction_input.specs.declared.refusal.Refusal.TheVariants as refusal
-use Rattle.requests.specs.declared.request.Request.TheVariants as request
+use Rattle.auction_input.specs.declared.request.Request.TheVariants as request
 use Rattle.auction_input.proofs.AnswerFacts.{ok-behind, ok-is}
 use Rattle.auction_input.proofs.WithinFacts.{auction-within}
 use Rattle.outcome.specs.Report.{allocation_text, report_text}
 use Rattle.bid_desk.specs.Sale.{Sale}
 use Rattle.answers.specs.FeasibleAnswers.{IsFeasibleWithout, MappedIsFeasible, ReportedIsFeasible}
-use Rattle.group_winners.specs.SolutionWinners.{winners_of_groups}
-use Rattle.group_winners.specs.inside.SolutionWinners.{winners}
+use Rattle.answers.specs.SolutionWinners.{winners_of_groups}
+use Rattle.answers.specs.inside.SolutionWinners.{winners}
 use Rattle.answers.specs.Answer.{output_of}
-use Rattle.group_winners.proofs.CheckFacts.{when-both, when-counted}
-use Rattle.group_winners.proofs.WinnersFeasible.{feasible-of}
+use Rattle.answers.proofs.CheckFacts.{when-both, when-counted}
+use Rattle.answers.proofs.WinnersFeasible.{feasible-of}
 
 each-feasible : (sale : Sale) (n : ℕ) (groups texts : List (List ℕ)) (won : List (List Choice)) → IsBook sale.lots sale.book → length texts ≡ length groups
     → each_in_turn (winners sale) n (zip groups texts) ≡ Ok won → AllZip (IsFeasibleWithout sale) groups won
@@ -33,8 +33,8 @@ each-feasible sale n (group ∷ groups) (text ∷ texts) won within count wins =
     subst (λ (xs : List (List Choice)). AllZip (IsFeasibleWithout sale) (group ∷ groups) xs) is (feasible-of sale n group text a within a_is, tail)
 
 pub reported-is-feasible : ReportedIsFeasible
-reported-is-feasible workers input out told =
-    let (auction, auction_is, made) = ok-behind (auction_told (request.Report workers) input) (output_of (request.Report workers)) out told in
+reported-is-feasible workers input out parsed =
+    let (auction, auction_is, made) = ok-behind (parsed_auction (request.Report workers) input) (output_of (request.Report workers)) out parsed in
     let within = (auction-within (request.Report workers) input auction auction_is).1 in
     let (won, wins, written) = ok-behind (winners_of_groups auction) _ out made in
     let (starts, count, each) = when-both refusal.FirstGroupNotEmpty (refusal.PartCount part.Solution) (starts_empty auction.groups) (length auction.solutions == length auction.groups) _ won wins in
@@ -42,8 +42,8 @@ reported-is-feasible workers input out told =
     (auction, auction_is, record { won = won; text = sym text; feasible = each-feasible auction.sale 1 auction.groups auction.solutions won within (eqb-true _ _ count) each })
 
 pub mapped-is-feasible : MappedIsFeasible
-mapped-is-feasible k input out told =
-    let (auction, auction_is, made) = ok-behind (auction_told (request.Map k) input) (output_of (request.Map k)) out told in
+mapped-is-feasible k input out parsed =
+    let (auction, auction_is, made) = ok-behind (parsed_auction (request.Map k) input) (output_of (request.Map k)) out parsed in
     let within = (auction-within (request.Map k) input auction auction_is).1 in
     let group = slice_index_or auction.groups (k - 1) [] in
     let (known, written) = when-counted (nat_le k (length auction.groups)) _ (refusal.NoGroup k) out made in

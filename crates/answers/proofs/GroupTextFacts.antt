@@ -73,18 +73,18 @@ ends-within (Some o) (Some m) (Some u) done b later sent sent' gone count front 
     ends-known o m u done b later sent' gone more.0 (SentFront-from (Some o) (Some u) (done ++ b) sent' all counts)
 
 -- the same, of a writer that had sent what is done, to a sink that ends as x
-pub ends-told : {X : Type 0} {taken : X → Option (List ℕ)} {failures : X → ℕ} {s : MutBor X} {a b c : Writer X} {written : ℕ} (x : X) (done bytes later : List ℕ)
+pub ends-parsed : {X : Type 0} {taken : X → Option (List ℕ)} {failures : X → ℕ} {s : MutBor X} {a b c : Writer X} {written : ℕ} (x : X) (done bytes later : List ℕ)
     → IsNew s a → Adds taken failures a b done → IsSent b → Adds taken failures b c bytes → IsBroken c written → x ≡ c.sink.now
     → EndsWithin (taken s.now) (taken x) ((done ++ bytes) ++ later) done (done ++ bytes) written
-ends-told {X} {taken} {failures} {s} {a} {b} {c} {written} x done bytes later new before sent added broken end =
+ends-parsed {X} {taken} {failures} {s} {a} {b} {c} {written} x done bytes later new before sent added broken end =
     let ends = ends-within (taken s.now) (taken b.sink.now) (taken c.sink.now) done bytes later b.sent c.sent (sent-whole new before sent) (counts-new new before) (front-behind sent added broken) added.counted in
     subst (λ (y : X). EndsWithin (taken s.now) (taken y) ((done ++ bytes) ++ later) done (done ++ bytes) written) (sym end)
     (subst (λ (n : ℕ). EndsWithin (taken s.now) (taken c.sink.now) ((done ++ bytes) ++ later) done (done ++ bytes) n) (sym broken.1) ends)
 
 -- the sink counts the put that failed
-pub fails-told : {X : Type 0} {taken : X → Option (List ℕ)} {failures : X → ℕ} {s : MutBor X} {a b c : Writer X} {done bytes : List ℕ} {written : ℕ} (x : X)
+pub fails-parsed : {X : Type 0} {taken : X → Option (List ℕ)} {failures : X → ℕ} {s : MutBor X} {a b c : Writer X} {done bytes : List ℕ} {written : ℕ} (x : X)
     → IsNew s a → Adds taken failures a b done → Adds taken failures b c bytes → IsBroken c written → x ≡ c.sink.now → HasFailed (failures s.now) (failures x)
-fails-told {X} {taken} {failures} {s} x new before added broken end =
+fails-parsed {X} {taken} {failures} {s} x new before added broken end =
     subst (λ (y : X). HasFailed (failures s.now) (failures y)) (sym end) (fails-new new (Adds-then before added) broken)
 
 -- the same, of the programs of all groups

@@ -1,6 +1,19 @@
+mod WorkedWords
+pub mod CertifiedFacts
+pub mod CheckFacts
+pub mod ClaimedFacts
+pub mod CountFacts
+pub mod FaultFacts
+pub mod PricingFacts
+pub mod ReportFacts
+pub mod WinnersFeasible
+pub mod WinningFacts
+pub mod AskedFacts
+pub mod KindsFacts
 pub mod AnswerFacts
 pub mod CommandFacts
 pub mod EndFacts
+pub mod ExplainedForFacts
 pub mod ExplainingFacts
 pub mod FaithfulFacts
 pub mod FeasibleFacts

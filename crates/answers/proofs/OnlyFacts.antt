@@ -13,14 +13,14 @@ use Rattle.auction_terms.specs.Stages.{refused_as}
 use Rattle.auction_terms.specs.declared.choices.Choice.{Choice}
 use Rattle.auction_terms.proofs.OnlyLaws.{rivals_do_as_well}
 use Rattle.auction_input.specs.Auction.{Auction}
-use Rattle.group_winners.specs.Programs.{program_for}
+use Rattle.answers.specs.Programs.{program_for}
 use Rattle.auction_input.specs.declared.refusal.Refusal.TheVariants as refusal
 use Rattle.auction_input.proofs.AnswerFacts.{ok-behind, ok-is, ok-refused_as, unless-ok}
 use Rattle.auction_input.proofs.RecordFacts.{none-failed}
 use Rattle.optimality.proofs.OnlyLaws.{shown-is-only}
 use Rattle.optimality.proofs.VerdictLaws.{only-verdict}
 use Rattle.optimality.specs.Only.{only_fault}
-use Rattle.program_faults.specs.declared.certificate_fault.FaultKind.{FaultKind}
+use Rattle.program_rows.specs.declared.certificate_fault.CertificateFaultKind.{CertificateFaultKind}
 use Rattle.outcome.proofs.BackLaws.{back_bidders, same_sum, solutions_come_back}
 use Rattle.outcome.proofs.PointLaws.{solutions_are_points}
 use Rattle.outcome.proofs.TieLaws.{others_tie, only_first_settles_costs, rivals_tie}
@@ -34,11 +34,11 @@ use Rattle.program_rows.proofs.FaithfulLaws.{same_choice}
 use Rattle.program_rows.proofs.OnlyPointLaws.{as-often, only_least_is_only}
 use Rattle.program_rows.specs.Faithful.{IsGreatest, back}
 use Rattle.program_rows.specs.Program.{Table}
-use Rattle.group_winners.specs.Claimed.{claims_told, first_program, of_tie, only_or_rival, tie_told, tied}
-use Rattle.group_winners.specs.SolutionWinners.{solution_refused, winners_by}
+use Rattle.answers.specs.Claimed.{parsed_claims, first_program, of_tie, only_or_rival, parsed_tie, tied}
+use Rattle.answers.specs.SolutionWinners.{solution_refused, winners_by}
 use Rattle.answers.specs.Verified.{Holds, IsGreatestWithout, IsSettledCost}
-use Rattle.group_winners.proofs.WinnersFeasible.{feasible-of}
-use Rattle.group_winners.proofs.WinningFacts.{won-by}
+use Rattle.answers.proofs.WinnersFeasible.{feasible-of}
+use Rattle.answers.proofs.WinningFacts.{won-by}
 
 -- one bidder after the other, the bids whose columns are 1 are the same bids
 same-bids : (p : Table) (point : List Bool) → IsPermutation (back p.columns point) (allocation_of p point)
@@ -57,20 +57,20 @@ module _ (sale : Sale) (within : IsBook sale.lots sale.book) (first : List Choic
   -- winners that a certificate shows to be the only ones of kept bids, where no bid does as well in a winner's place
   only-one : (solved text : List ℕ) (point : List Bool) → solution program solved ≡ Ok point → allocation_of program point ≡ first → only_fault program point text ≡ None
       → first_rival sale.lots sale.book first ≡ None → IsOnly sale.lots sale.book (λ b. false) first
-  only-one solved text point told is faultless none =
+  only-one solved text point parsed is faultless none =
       let (certificate, tells, shows) = (only-verdict program point text).0 faultless in
-      let is_point = solutions_are_points program solved point told in
+      let is_point = solutions_are_points program solved point parsed in
       let least = shown-is-only program point certificate is_point shows in
       only_least_is_only sale.lots sale.book (λ b. false) point first within is_point least (subst (λ (a : List Choice). IsPermutation (back program.columns point) a) is (same-bids program point)) none
 
   only-or-rival : (solved text : List ℕ) (point : List Bool) → solution program solved ≡ Ok point → allocation_of program point ≡ first → only_fault program point text ≡ None
       → (found : Option Choice) → first_rival sale.lots sale.book first ≡ found → Holds sale first (option_map_or (λ rival. uniqueness.Tie (with_bid rival first)) found uniqueness.Only)
-  only-or-rival solved text point told is faultless None none = only-one solved text point told is faultless none
-  only-or-rival solved text point told is faultless (Some c) found = rivals_tie rivals_do_as_well sale.lots sale.book (λ b. false) first c best found
+  only-or-rival solved text point parsed is faultless None none = only-one solved text point parsed is faultless none
+  only-or-rival solved text point parsed is faultless (Some c) found = rivals_tie rivals_do_as_well sale.lots sale.book (λ b. false) first c best found
 
-pub no-fault : {F R : Type 0} (tell : F → R) (o : Option F) → option_map tell o ≡ None → o ≡ None
-no-fault tell None e = refl
-no-fault tell (Some f) e = cc
+pub no-fault : {F R : Type 0} (refuse : F → R) (o : Option F) → option_map refuse o ≡ None → o ≡ None
+no-fault refuse None e = refl
+no-fault refuse (Some f) e = cc
 
 module _ (auction : Auction) (within : IsBook auction.sale.lots auction.sale.book) (first : List Choice) (best : IsGreatest auction.sale.lots auction.sale.book (λ b. false) first)
     (won : winners_by (first_program auction) 1 (slice_index_or auction.solutions 0 []) ≡ Ok first) where
@@ -85,27 +85,27 @@ module _ (auction : Auction) (within : IsBook auction.sale.lots auction.sale.boo
 
   -- the point that the first solution tells wins this
   wins : (point : List Bool) → solution p solved ≡ Ok point → allocation_of p point ≡ first
-  wins point told = ok-is (winners_by p 1 solved) (allocation_of p point) first (won-by p 1 solved point _ (sym told) refl) won
+  wins point parsed = ok-is (winners_by p 1 solved) (allocation_of p point) first (won-by p 1 solved point _ (sym parsed) refl) won
 
-  only-holds : (text : List ℕ) (claim : Uniqueness) → claims_told auction first (text ∷ []) [] ≡ Ok claim → Holds sale first claim
-  only-holds text claim told =
-      let (point, point_is, judged) = ok-behind (refused_as (solution_refused p 1) (solution p solved)) _ claim told in
-      let point_told = ok-refused_as (solution_refused p 1) (solution p solved) point point_is in
-      let tell = λ (f : ℕ × FaultKind). refusal.Unique (record { line = f.0; kind = f.1 }) in
-      let (none, is) = unless-ok (option_map tell (only_fault p point text)) (only_or_rival sale first) claim judged in
-      let holds = only-or-rival sale within first best solved text point point_told (wins point point_told) (no-fault tell (only_fault p point text) none) (first_rival sale.lots sale.book first) refl in
+  only-holds : (text : List ℕ) (claim : Uniqueness) → parsed_claims auction first (text ∷ []) [] ≡ Ok claim → Holds sale first claim
+  only-holds text claim parsed =
+      let (point, point_is, judged) = ok-behind (refused_as (solution_refused p 1) (solution p solved)) _ claim parsed in
+      let parsed_point = ok-refused_as (solution_refused p 1) (solution p solved) point point_is in
+      let refuse = λ (f : ℕ × CertificateFaultKind). refusal.Unique (record { line = f.0; kind = f.1 }) in
+      let (none, is) = unless-ok (option_map refuse (only_fault p point text)) (only_or_rival sale first) claim judged in
+      let holds = only-or-rival sale within first best solved text point parsed_point (wins point parsed_point) (no-fault refuse (only_fault p point text) none) (first_rival sale.lots sale.book first) refl in
       subst (λ (c : Uniqueness). Holds sale first c) is holds
 
   rises : (text : List ℕ) (other : List Choice) → winners_by p 1 text ≡ Ok other → HasRisingBidders other
-  rises text other told =
-      let (point, point_is, is) = ok-behind (refused_as (solution_refused p 1) (solution p text)) _ other told in
-      let point_told = ok-refused_as (solution_refused p 1) (solution p text) point point_is in
+  rises text other parsed =
+      let (point, point_is, is) = ok-behind (refused_as (solution_refused p 1) (solution p text)) _ other parsed in
+      let parsed_point = ok-refused_as (solution_refused p 1) (solution p text) point point_is in
       let same : allocation_of p point ≡ other = ok-is _ (allocation_of p point) other refl is in
-      subst HasRisingBidders same (solutions_come_back sale.lots sale.book (has []) text point within point_told).rising
+      subst HasRisingBidders same (solutions_come_back sale.lots sale.book (has []) text point within parsed_point).rising
 
-  tie-holds : (text : List ℕ) (claim : Uniqueness) → tie_told auction first text ≡ Ok claim → Holds sale first claim
-  tie-holds text claim told =
-      let (other, other_is, ties) = ok-behind (refused_as of_tie (winners_by p 1 text)) (tied sale first) claim told in
+  tie-holds : (text : List ℕ) (claim : Uniqueness) → parsed_tie auction first text ≡ Ok claim → Holds sale first claim
+  tie-holds text claim parsed =
+      let (other, other_is, ties) = ok-behind (refused_as of_tie (winners_by p 1 text)) (tied sale first) claim parsed in
       let wins_too = ok-refused_as of_tie (winners_by p 1 text) other other_is in
       let checks = (nat_le (total sale.lots sale.book first) (total sale.lots sale.book other), refusal.LowerTie) ∷ (not (same_choices first other), refusal.SameTie) ∷ [] in
       let (none, is) = unless-ok (first_failed checks) (uniqueness.Tie other) claim ties in
@@ -115,8 +115,8 @@ module _ (auction : Auction) (within : IsBook auction.sale.lots auction.sale.boo
       subst (λ (c : Uniqueness). Holds sale first c) is tie
 
   -- whatever is claimed
-  pub claim-holds : (uniques ties : List (List ℕ)) (claim : Uniqueness) → claims_told auction first uniques ties ≡ Ok claim → Holds sale first claim
-  claim-holds [] [] claim told = subst (λ (c : Uniqueness). Holds sale first c) (ok-is _ uniqueness.Unasked claim refl told) tt
-  claim-holds (text ∷ []) [] claim told = only-holds text claim told
-  claim-holds [] (text ∷ []) claim told = tie-holds text claim told
-  claim-holds uniques ties claim told = cc
+  pub claim-holds : (uniques ties : List (List ℕ)) (claim : Uniqueness) → parsed_claims auction first uniques ties ≡ Ok claim → Holds sale first claim
+  claim-holds [] [] claim parsed = subst (λ (c : Uniqueness). Holds sale first c) (ok-is _ uniqueness.Unasked claim refl parsed) tt
+  claim-holds (text ∷ []) [] claim parsed = only-holds text claim parsed
+  claim-holds [] (text ∷ []) claim parsed = tie-holds text claim parsed
+  claim-holds uniques ties claim parsed = cc

@@ -11,15 +11,16 @@ use Rattle.auction_terms.specs.FirstFault.{first_failed}
 use Rattle.auction_terms.specs.Stages.{each_in_turn}
 use Rattle.auction_terms.specs.declared.choices.Choice.{Choice}
 use Rattle.auction_input.specs.Input.{Input}
-use Rattle.auction_input.specs.Auction.{Auction, auction_told}
-use Rattle.auction_input.specs.Parts.{parts_named}
-use Rattle.auction_input.specs.PartsTold.{only_text, parts_told}
-use Rattle.auction_input.specs.TextsTold.{form_told, groups_told, terms_told}
-use Rattle.requests.specs.declared.request.Request.{Request}
+use Rattle.auction_input.specs.Auction.{Auction, parsed_auction}
+use Rattle.auction_input.specs.FormTexts.{in_one_text}
+use Rattle.auction_input.specs.Parts.{parts_named, text_numbers}
+use Rattle.auction_input.specs.ParsedParts.{only_text, parsed_parts}
+use Rattle.auction_input.specs.ParsedTexts.{parsed_form, parsed_groups, parsed_terms}
+use Rattle.auction_input.specs.declared.request.Request.{Request}
 use Rattle.auction_input.specs.declared.refusal.Refusal.TheVariants as refusal
-use Rattle.auction_input.proofs.AnswerFacts.{ok-behind, ok-is, ok-refused_as, unless-ok, unless-told}
-use Rattle.group_winners.specs.Pricing.{cover_bound, cover_program, covered, least_told, parsed_prices, parsed_weights, priced, priced_by, pricing_counts, pricing_told}
-use Rattle.group_winners.proofs.PricingFacts.{parsed-hold}
+use Rattle.auction_input.proofs.AnswerFacts.{ok-behind, ok-is, ok-refused_as, unless-ok, unless-parsed}
+use Rattle.answers.specs.Pricing.{cover_bound, cover_program, covered, parsed_least, parsed_prices, parsed_weights, priced, priced_by, pricing_counts, parsed_pricing}
+use Rattle.answers.proofs.PricingFacts.{parsed-hold}
 use Rattle.optimality.proofs.VerdictLaws.{verdict}
 use Rattle.optimality.specs.Verdict.{certificate_fault}
 use Rattle.outcome.specs.Pricing.{Priced, price_in}
@@ -29,18 +30,19 @@ use Rattle.prices.proofs.WeightLaws.{shown_is_least_sum}
 use Rattle.prices.specs.Listed.{weighted}
 use Rattle.prices.specs.Prices.{ArePrices, CoversEveryGroup, IsLeastSum, reserves_in}
 use Rattle.prices.specs.Weights.{Weighted, shows_least_sum}
-use Rattle.program_faults.specs.declared.certificate_fault.FaultKind.{FaultKind}
+use Rattle.program_rows.specs.declared.certificate_fault.CertificateFaultKind.{CertificateFaultKind}
 use Rattle.program_rows.specs.Faithful.{IsGreatest}
 use Rattle.answers.specs.Verified.{AreTruePrices, IsGreatestWithout}
 use Rattle.answers.proofs.OnlyFacts.{no-fault}
 
 -- a book has a form of each bidder of the rules
-pub auction-sized : (asked : Request) (input : Input) (auction : Auction) → auction_told asked input ≡ Ok auction → length auction.sale.book ≡ length auction.rules.bidders
-auction-sized asked input auction told =
-    let (parts, parts_are, more) = ok-behind (parts_told asked input) _ auction told in
-    let (t, t_is, more_forms) = ok-behind (terms_told (only_text (parts_named (codes "%rules") parts))) _ auction more in
-    let (forms, forms_are, more_groups) = ok-behind (each_in_turn (form_told t) 1 (parts_named (codes "%form") parts)) _ auction more_forms in
-    let (groups, groups_are, more_calls) = ok-behind (groups_told t (only_text (parts_named (codes "%groups") parts))) _ auction more_groups in
+pub auction-sized : (asked : Request) (input : Input) (auction : Auction) → parsed_auction asked input ≡ Ok auction → length auction.sale.book ≡ length auction.rules.bidders
+auction-sized asked input auction parsed =
+    let (parts, parts_are, more) = ok-behind (parsed_parts asked input) _ auction parsed in
+    let (t, t_is, more_forms) = ok-behind (parsed_terms (only_text (parts_named (codes "%rules") parts))) _ auction more in
+    let (read, read_are, more_texts) = ok-behind (each_in_turn (parsed_form t) 1 (parts_named (codes "%form") parts)) _ auction more_forms in
+    let (forms, forms_are, more_groups) = ok-behind (in_one_text input.last_wins t (text_numbers (codes "%form") parts) read) _ auction more_texts in
+    let (groups, groups_are, more_calls) = ok-behind (parsed_groups t (only_text (parts_named (codes "%groups") parts))) _ auction more_groups in
     let (taken, is) = unless-ok _ _ auction (ok-refused_as refusal.CallLimit _ auction more_calls) in
     subst (λ (a : Auction). length a.sale.book ≡ length a.rules.bidders) is (length-map-range_with_len _ 1 (length t.bidders))
 
@@ -49,30 +51,30 @@ module _ (auction : Auction) (within : IsBook auction.sale.lots auction.sale.boo
     (greatest : AllZip (IsGreatestWithout auction.sale) auction.groups won) where
   -- a cover
   cover-holds : (prices text : List ℕ) (u : Unit {0}) → ArePrices auction.sale.book first (price_in prices) → covered auction first prices text ≡ Ok u → CoversEveryGroup auction.sale.lots auction.sale.book first (price_in prices)
-  cover-holds prices text u fine told =
-      let tell = λ (f : ℕ × FaultKind). refusal.Cover (record { line = f.0; kind = f.1 }) in
+  cover-holds prices text u fine parsed =
+      let refuse = λ (f : ℕ × CertificateFaultKind). refusal.Cover (record { line = f.0; kind = f.1 }) in
       let p = cover_program auction first prices in
       let bound = cover_bound auction first prices in
-      let none = (unless-ok (option_map tell (certificate_fault p bound text)) tt u told).0 in
-      let (certificate, tells, shows) = (verdict p bound text).0 (no-fault tell (certificate_fault p bound text) none) in
+      let none = (unless-ok (option_map refuse (certificate_fault p bound text)) tt u parsed).0 in
+      let (certificate, tells, shows) = (verdict p bound text).0 (no-fault refuse (certificate_fault p bound text) none) in
       shown_covers auction.sale.lots auction.sale.book first (price_in prices) certificate within best.feasible fine shows
 
   -- weights
-  least-holds : (prices : List ℕ) (is_least : Bool) (texts : List (List ℕ)) → least_told auction won first prices texts ≡ Ok is_least → is_least ≡ true
+  least-holds : (prices : List ℕ) (is_least : Bool) (texts : List (List ℕ)) → parsed_least auction won first prices texts ≡ Ok is_least → is_least ≡ true
       → IsLeastSum (reserves_in auction.rules) auction.sale.lots auction.sale.book first (price_in prices)
-  least-holds prices is_least [] told so = cc
-  least-holds prices is_least (text ∷ more) told so =
-      let (w, w_is, shown) = ok-behind (parsed_weights auction first text) _ is_least told in
+  least-holds prices is_least [] parsed so = cc
+  least-holds prices is_least (text ∷ more) parsed so =
+      let (w, w_is, shown) = ok-behind (parsed_weights auction first text) _ is_least parsed in
       let ws : List Weighted = weighted auction.groups won w.groups in
       let is = ok-is _ (shows_least_sum (reserves_in auction.rules) auction.sale.lots auction.sale.book first (price_in prices) w.scale ws (price_in w.own)) is_least refl shown in
       shown_is_least_sum (reserves_in auction.rules) auction.sale.lots auction.sale.book first (price_in prices) w.scale ws (price_in w.own)
       (All-from_recursion (λ (x : Weighted). IsGreatest auction.sale.lots auction.sale.book (has x.group) x.without) ws (all_greatest auction.sale.lots auction.sale.book auction.groups won w.groups greatest)) (is ∙ so)
 
   priced-holds : (text cover : List ℕ) (p : Priced) → priced auction won first text cover ≡ Ok p → AreTruePrices auction first p
-  priced-holds text cover p told =
-      let (prices, prices_are, more) = ok-behind (parsed_prices auction first text) _ p told in
+  priced-holds text cover p parsed =
+      let (prices, prices_are, more) = ok-behind (parsed_prices auction first text) _ p parsed in
       let (u, shown, rest) = ok-behind (covered auction first prices cover) _ p more in
-      let (is_least, least_is, written) = ok-behind (least_told auction won first prices auction.weights) _ p rest in
+      let (is_least, least_is, written) = ok-behind (parsed_least auction won first prices auction.weights) _ p rest in
       let is : record { prices = prices; is_least = is_least } ≡ p = ok-is _ (record { prices = prices; is_least = is_least }) p refl written in
       let (fine, met) = parsed-hold auction first text prices count best.feasible prices_are in
       subst (AreTruePrices auction first) is (record {
@@ -85,8 +87,8 @@ module _ (auction : Auction) (within : IsBook auction.sale.lots auction.sale.boo
 -- whatever comes of the texts
 pub pricing-holds : (auction : Auction) (within : IsBook auction.sale.lots auction.sale.book) (count : length auction.sale.book ≡ length auction.rules.bidders) (won : List (List Choice))
     (best : IsGreatest auction.sale.lots auction.sale.book (λ b. false) (slice_index_or won 0 [])) (greatest : AllZip (IsGreatestWithout auction.sale) auction.groups won) (pricing : Option Priced)
-    → pricing_told auction won ≡ Ok pricing → IfSome pricing (AreTruePrices auction (slice_index_or won 0 [])) × (pricing ≡ None → auction.prices ≡ [])
-pricing-holds auction within count won best greatest pricing told = by auction.prices (unless-told (first_failed (pricing_counts auction)) _ pricing told).1
+    → parsed_pricing auction won ≡ Ok pricing → IfSome pricing (AreTruePrices auction (slice_index_or won 0 [])) × (pricing ≡ None → auction.prices ≡ [])
+pricing-holds auction within count won best greatest pricing parsed = by auction.prices (unless-parsed (first_failed (pricing_counts auction)) _ pricing parsed).1
   where
     by : (texts : List (List ℕ)) → priced_by auction won texts auction.covers ≡ Ok pricing → IfSome pricing (AreTruePrices auction (slice_index_or won 0 [])) × (pricing ≡ None → texts ≡ [])
     by [] is = (let none : None ≡ pricing = ok-is _ None pricing refl is in (subst (λ (o : Option Priced). IfSome o (AreTruePrices auction (slice_index_or won 0 []))) none tt, λ e. refl))

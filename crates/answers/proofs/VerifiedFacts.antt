@@ -11,7 +11,7 @@ use Rattle.optimality.proofs.BoundLaws.{shown-is-bound}
 use Rattle.optimality.proofs.VerdictLaws.{verdict}
 use Rattle.optimality.specs.Laws.{IsBound}
 use Rattle.optimality.specs.Verdict.{certificate_fault}
-use Rattle.program_faults.specs.declared.certificate_fault.FaultKind.{FaultKind}
+use Rattle.program_rows.specs.declared.certificate_fault.CertificateFaultKind.{CertificateFaultKind}
 use Rattle.outcome.proofs.CostLaws.{costs_are_bounded, costs_are_own}
 use Rattle.outcome.specs.Pricing.{Priced, pricing_text}
 use Rattle.outcome.specs.Report.{report_text}
@@ -22,47 +22,47 @@ use Rattle.outcome.specs.declared.uniqueness.Uniqueness.TheVariants as uniquenes
 use Rattle.program_rows.proofs.FaithfulLaws.{presolved_is_faithful}
 use Rattle.program_rows.specs.Faithful.{IsGreatest}
 use Rattle.program_rows.specs.Program.{Table}
-use Rattle.auction_input.specs.Auction.{Auction, auction_told}
-use Rattle.group_winners.specs.Programs.{program_for}
-use Rattle.group_winners.specs.Certified.{bound_of, bounds_of, certified, shown}
+use Rattle.auction_input.specs.Auction.{Auction, parsed_auction}
+use Rattle.answers.specs.Programs.{program_for}
+use Rattle.answers.specs.Certified.{bound_of, bounds_of, certified, shown}
 use Rattle.answers.specs.Answer.{answer, output_of}
 use Rattle.auction_terms.specs.Stages.{and_then, each_in_turn}
 use Rattle.answers.specs.Exact.{Writes}
-use Rattle.group_winners.specs.Claimed.{claims_told}
-use Rattle.group_winners.specs.Pricing.{pricing_told}
+use Rattle.answers.specs.Claimed.{parsed_claims}
+use Rattle.answers.specs.Pricing.{parsed_pricing}
 use Rattle.answers.specs.Verified.{AreTruePrices, Holds, IsGreatestWithout, IsOnlyOutcome, IsOwnCost, IsPricedOutcome, IsTrueReport, PricesCover, UniqueIsOnly, VerifiedIsTrue, WritesTrueReport}
-use Rattle.group_winners.specs.SolutionWinners.{winners_of_groups}
-use Rattle.group_winners.specs.inside.SolutionWinners.{winners}
+use Rattle.answers.specs.SolutionWinners.{winners_of_groups}
+use Rattle.answers.specs.inside.SolutionWinners.{winners}
 use Rattle.auction_input.specs.declared.part_kind.PartKind.TheVariants as part
 use Rattle.auction_input.specs.declared.refusal.Refusal.TheVariants as refusal
-use Rattle.requests.specs.declared.request.Request.TheVariants as request
+use Rattle.auction_input.specs.declared.request.Request.TheVariants as request
 use Rattle.auction_input.proofs.AnswerFacts.{ok-behind, ok-is, unless-ok}
 use Rattle.auction_input.proofs.WithinFacts.{auction-within}
-use Rattle.group_winners.proofs.ClaimedFacts.{some-group, wins-first}
+use Rattle.answers.proofs.ClaimedFacts.{some-group, wins-first}
 use Rattle.answers.proofs.EndFacts.{no-pricing, no-report, no-tie}
 use Rattle.answers.proofs.PricedFacts.{auction-sized, pricing-holds}
-use Rattle.group_winners.proofs.CheckFacts.{when-both, when-counted}
-use Rattle.group_winners.proofs.WinnersFeasible.{feasible-of}
+use Rattle.answers.proofs.CheckFacts.{when-both, when-counted}
+use Rattle.answers.proofs.WinnersFeasible.{feasible-of}
 use Rattle.answers.proofs.OnlyFacts.{claim-holds, no-fault, settled-costs}
 
 -- ---- one group
 
 -- a bound that is shown is one
 shown-bound : (number : ℕ) (bound : Table × ℤ × List ℕ) (u : Unit {0}) → shown number bound ≡ Ok u → IsBound bound.0 bound.1
-shown-bound number bound u told =
-    let tell = λ (f : ℕ × FaultKind). refusal.Certificate number (record { line = f.0; kind = f.1 }) in
-    let none = (unless-ok (option_map tell (certificate_fault bound.0 bound.1 bound.2)) tt u told).0 in
-    let faultless : certificate_fault bound.0 bound.1 bound.2 ≡ None = no-fault tell (certificate_fault bound.0 bound.1 bound.2) none in
+shown-bound number bound u parsed =
+    let refuse = λ (f : ℕ × CertificateFaultKind). refusal.Certificate number (record { line = f.0; kind = f.1 }) in
+    let none = (unless-ok (option_map refuse (certificate_fault bound.0 bound.1 bound.2)) tt u parsed).0 in
+    let faultless : certificate_fault bound.0 bound.1 bound.2 ≡ None = no-fault refuse (certificate_fault bound.0 bound.1 bound.2) none in
     let (certificate, tells, shows) = (verdict bound.0 bound.1 bound.2).0 faultless in
     shown-is-bound bound.0 bound.1 certificate shows
 
 -- what is won without a group, of which a bound is shown, is of greatest total
 greatest-of : (sale : Sale) (number : ℕ) (group text certificate : List ℕ) (a : List Choice) (u : Unit {0}) → IsBook sale.lots sale.book
     → winners sale number (group, text) ≡ Ok a → shown number (bound_of sale ((group, a), certificate)) ≡ Ok u → IsGreatestWithout sale group a
-greatest-of sale number group text certificate a u within won told =
+greatest-of sale number group text certificate a u within won parsed =
     let p : Table = program_for sale group in
     let faithful = presolved_is_faithful sale.lots sale.book (has group) within in
-    let bound = shown-bound number (bound_of sale ((group, a), certificate)) u told in
+    let bound = shown-bound number (bound_of sale ((group, a), certificate)) u parsed in
     record {
       feasible = feasible-of sale number group text a within won;
       greatest = λ other f.
@@ -78,16 +78,16 @@ all-greatest : (sale : Sale) (n : ℕ) (groups texts certificates : List (List �
     → length texts ≡ length groups → length certificates ≡ length groups
     → each_in_turn (winners sale) n (zip groups texts) ≡ Ok won → each_in_turn shown n (map (bound_of sale) (zip (zip groups won) certificates)) ≡ Ok all
     → AllZip (IsGreatestWithout sale) groups won
-all-greatest sale n [] texts certificates won all within count counts wins told = (let none : [] ≡ won = ok-is _ [] won refl wins in subst (λ (xs : List (List Choice)). AllZip (IsGreatestWithout sale) [] xs) none tt)
-all-greatest sale n (group ∷ groups) [] certificates won all within count counts wins told = absurd (omega arith)
-all-greatest sale n (group ∷ groups) (text ∷ texts) [] won all within count counts wins told = absurd (omega arith)
-all-greatest sale n (group ∷ groups) (text ∷ texts) (certificate ∷ certificates) won all within count counts wins told =
+all-greatest sale n [] texts certificates won all within count counts wins parsed = (let none : [] ≡ won = ok-is _ [] won refl wins in subst (λ (xs : List (List Choice)). AllZip (IsGreatestWithout sale) [] xs) none tt)
+all-greatest sale n (group ∷ groups) [] certificates won all within count counts wins parsed = absurd (omega arith)
+all-greatest sale n (group ∷ groups) (text ∷ texts) [] won all within count counts wins parsed = absurd (omega arith)
+all-greatest sale n (group ∷ groups) (text ∷ texts) (certificate ∷ certificates) won all within count counts wins parsed =
     let (a, a_is, more_wins) = ok-behind (winners sale n (group, text)) _ won wins in
     let (more, more_are, are) = ok-behind (each_in_turn (winners sale) (n + 1) (zip groups texts)) _ won more_wins in
     let is : a ∷ more ≡ won = ok-is _ (a ∷ more) won refl are in
-    let told_now : each_in_turn shown n (map (bound_of sale) (zip (zip (group ∷ groups) (a ∷ more)) (certificate ∷ certificates))) ≡ Ok all = rw (← is) at told in
-    let (u, u_is, more_told) = ok-behind (shown n (bound_of sale ((group, a), certificate))) _ all told_now in
-    let (us, us_are, _) = ok-behind (each_in_turn shown (n + 1) (map (bound_of sale) (zip (zip groups more) certificates))) _ all more_told in
+    let parsed_now : each_in_turn shown n (map (bound_of sale) (zip (zip (group ∷ groups) (a ∷ more)) (certificate ∷ certificates))) ≡ Ok all = rw (← is) at parsed in
+    let (u, u_is, parsed_more) = ok-behind (shown n (bound_of sale ((group, a), certificate))) _ all parsed_now in
+    let (us, us_are, _) = ok-behind (each_in_turn shown (n + 1) (map (bound_of sale) (zip (zip groups more) certificates))) _ all parsed_more in
     let head = greatest-of sale n group text certificate a u within a_is u_is in
     let tail = all-greatest sale (n + 1) groups texts certificates more us within (omega arith) (omega arith) more_are us_are in
     subst (λ (xs : List (List Choice)). AllZip (IsGreatestWithout sale) (group ∷ groups) xs) is (head, tail)
@@ -114,15 +114,15 @@ first-greatest sale ((b ∷ group) ∷ groups) (a ∷ won) starts each = (let no
 pub certified-greatest : (auction : Auction) (won : List (List Choice)) → IsBook auction.sale.lots auction.sale.book → winners_of_groups auction ≡ Ok won → certified auction won ≡ Ok won → AllZip (IsGreatestWithout auction.sale) auction.groups won
 certified-greatest auction won within wins certifies =
     let (starts, count, each) = when-both refusal.FirstGroupNotEmpty (refusal.PartCount part.Solution) (starts_empty auction.groups) (length auction.solutions == length auction.groups) _ won wins in
-    let (counts, all_told) = when-counted (length auction.certificates == length auction.groups) _ (refusal.PartCount part.Certificate) won certifies in
-    let (all, shown_are, same) = ok-behind (each_in_turn shown 1 (bounds_of auction won)) _ won all_told in
+    let (counts, parsed_all) = when-counted (length auction.certificates == length auction.groups) _ (refusal.PartCount part.Certificate) won certifies in
+    let (all, shown_are, same) = ok-behind (each_in_turn shown 1 (bounds_of auction won)) _ won parsed_all in
     all-greatest auction.sale 1 auction.groups auction.solutions auction.certificates won all within (eqb-true _ _ count) (eqb-true _ _ counts) each shown_are
 
 -- what is certified is what is won
 as-won : (auction : Auction) (allocations won : List (List Choice)) → certified auction allocations ≡ Ok won → allocations ≡ won
 as-won auction allocations won certifies =
-    let (counts, all_told) = when-counted (length auction.certificates == length auction.groups) _ (refusal.PartCount part.Certificate) won certifies in
-    let (all, shown_are, same) = ok-behind (each_in_turn shown 1 (bounds_of auction allocations)) _ won all_told in
+    let (counts, parsed_all) = when-counted (length auction.certificates == length auction.groups) _ (refusal.PartCount part.Certificate) won certifies in
+    let (all, shown_are, same) = ok-behind (each_in_turn shown 1 (bounds_of auction allocations)) _ won parsed_all in
     ok-is _ allocations won refl same
 
 -- what `verify` goes by: these allocations, certified, and what comes of the claim and of the prices
@@ -132,15 +132,15 @@ record Verdicts (auction : Auction) (out : List ℕ) : Type 0 where
   pricing : Option Priced
   wins : winners_of_groups auction ≡ Ok won
   certifies : certified auction won ≡ Ok won
-  claims : claims_told auction (slice_index_or won 0 []) auction.uniques auction.ties ≡ Ok claim
-  prices : pricing_told auction won ≡ Ok pricing
+  claims : parsed_claims auction (slice_index_or won 0 []) auction.uniques auction.ties ≡ Ok claim
+  prices : parsed_pricing auction won ≡ Ok pricing
   text : out ≡ report_text auction.sale auction.groups won ++ (pricing_text auction.sale (slice_index_or won 0 []) pricing ++ uniqueness_text auction.sale claim)
 
 verdicts : (workers : ℕ) (auction : Auction) (out : List ℕ) → output_of (request.Verify workers) auction ≡ Ok out → Verdicts auction out
-verdicts workers auction out told =
-    let (won, won_is, behind) = ok-behind (and_then (winners_of_groups auction) (certified auction)) _ out told in
-    let (claim, claim_is, after) = ok-behind (claims_told auction (slice_index_or won 0 []) auction.uniques auction.ties) _ out behind in
-    let (pricing, pricing_is, written) = ok-behind (pricing_told auction won) _ out after in
+verdicts workers auction out parsed =
+    let (won, won_is, behind) = ok-behind (and_then (winners_of_groups auction) (certified auction)) _ out parsed in
+    let (claim, claim_is, after) = ok-behind (parsed_claims auction (slice_index_or won 0 []) auction.uniques auction.ties) _ out behind in
+    let (pricing, pricing_is, written) = ok-behind (parsed_pricing auction won) _ out after in
     let (allocations, wins, certifies) = ok-behind (winners_of_groups auction) (certified auction) won won_is in
     let is = as-won auction allocations won certifies in
     record {
@@ -193,13 +193,13 @@ module _ (auction : Auction) (out : List ℕ) (within : IsBook auction.sale.lots
 -- ---- an input
 
 pub verified-is-true : VerifiedIsTrue
-verified-is-true workers input out told =
-    let (auction, auction_is, text) = ok-behind (auction_told (request.Verify workers) input) (output_of (request.Verify workers)) out told in
+verified-is-true workers input out parsed =
+    let (auction, auction_is, text) = ok-behind (parsed_auction (request.Verify workers) input) (output_of (request.Verify workers)) out parsed in
     (auction, auction_is, true-report auction out (auction-within (request.Verify workers) input auction auction_is).1 (auction-sized (request.Verify workers) input auction auction_is) (verdicts workers auction out text))
 
 pub prices-cover : PricesCover
-prices-cover workers input out told =
-    let (auction, auction_is, text) = ok-behind (auction_told (request.Verify workers) input) (output_of (request.Verify workers)) out told in
+prices-cover workers input out parsed =
+    let (auction, auction_is, text) = ok-behind (parsed_auction (request.Verify workers) input) (output_of (request.Verify workers)) out parsed in
     (auction, auction_is, priced-outcome auction out (auction-within (request.Verify workers) input auction auction_is).1 (auction-sized (request.Verify workers) input auction auction_is) (verdicts workers auction out text))
 
 -- some group has a report
@@ -218,16 +218,16 @@ only-outcome auction before some won pricing uniqueness.Only is each holds = rec
 only-outcome auction before some won pricing (uniqueness.Tie other) is each holds = absurd (no-tie auction.sale (report_text auction.sale auction.groups won) (pricing_text auction.sale (slice_index_or won 0 []) pricing) other before is)
 
 pub unique-is-only : UniqueIsOnly
-unique-is-only workers input before told =
+unique-is-only workers input before parsed =
     let out = before ++ codes "unique\n" in
-    let (auction, auction_is, text) = ok-behind (auction_told (request.Verify workers) input) (output_of (request.Verify workers)) out told in
+    let (auction, auction_is, text) = ok-behind (parsed_auction (request.Verify workers) input) (output_of (request.Verify workers)) out parsed in
     let v = verdicts workers auction out text in
     let report = true-report auction out (auction-within (request.Verify workers) input auction auction_is).1 (auction-sized (request.Verify workers) input auction auction_is) v in
     (auction, auction_is, only-outcome auction before (some-group auction.groups (wins-first auction v.won v.wins).0) report.won report.pricing report.claim report.text report.greatest report.holds)
 
 -- what is written at Ok is a true report
 pub writes-true : {T E : Type 0} (workers : ℕ) (input : Input) (result : Result T E) (taken taken' : Option (List ℕ)) → OnOk result (Writes (answer (request.Verify workers) input) taken taken') → OnOk result (WritesTrueReport workers input taken taken')
-writes-true workers input (Ok x) taken taken' (out, told, sent) =
-    let (auction, auction_is, report) = verified-is-true workers input out told in
-    record { auction = auction; out = out; told = auction_is; is_true = report; sent = sent }
+writes-true workers input (Ok x) taken taken' (out, parsed, sent) =
+    let (auction, auction_is, report) = verified-is-true workers input out parsed in
+    record { auction = auction; out = out; parsed = auction_is; is_true = report; sent = sent }
 writes-true workers input (Err e) taken taken' written = tt

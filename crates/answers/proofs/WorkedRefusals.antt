@@ -10,7 +10,7 @@ use Rattle.auction_input.specs.declared.parts.PartFault.TheVariants as part_faul
 use Rattle.auction_input.specs.Input.{input_of}
 use Rattle.answers.specs.Answer.{answer}
 use Rattle.auction_input.specs.declared.refusal.Refusal.TheVariants as refusal
-use Rattle.requests.specs.declared.request.Request.TheVariants.{Text}
+use Rattle.auction_input.specs.declared.request.Request.TheVariants.{Text}
 
 two_rules : answer Text (input_of (codes "%rules\nrules,1,1,,\ncategory,A,2,10,1\ncategory,B,1,5,1\nbidder,Alpha,9,2,\nbidder,Beta,9,1,\nbidder,Gamma,9,1,\n%rules\nrules,1,1,,\ncategory,A,2,10,1\ncategory,B,1,5,1\nbidder,Alpha,9,2,\nbidder,Beta,9,1,\nbidder,Gamma,9,1,\n")) ≡ Err (refusal.PartCount part.Rules)
 unfolding first_fault

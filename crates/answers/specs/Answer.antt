@@ -1,13 +1,14 @@
 -- The program as one function: what goes to standard output, or the first refusal.
 use Rattle.std.specs.Prelude.{◌-◌, ◌++◌, ℕ, List, [], Result, Ok, Err, if◌then◌else◌, length, nat_le, slice_index_or}
 use Rattle.auction_input.specs.Input.{text_bytes, Input}
-use Rattle.auction_input.specs.Auction.{Auction, auction_told}
-use Rattle.group_winners.specs.Programs.{program_for}
-use Rattle.auction_input.specs.PartsTold.{only_text}
+use Rattle.auction_input.specs.Auction.{Auction, parsed_auction}
+use Rattle.answers.specs.Programs.{program_for}
+use Rattle.auction_input.specs.ParsedParts.{only_text}
+use Rattle.auction_input.specs.Wanted.{wanted}
 use Rattle.auction_input.specs.declared.refusal.Refusal.TheVariants as refusal
 use Rattle.auction_input.specs.declared.refusal.Refusal.{Refusal}
-use Rattle.requests.specs.declared.request.Request.TheVariants.{Check, Compile, Explain, Map, Report, Verify}
-use Rattle.requests.specs.declared.request.Request.{Request}
+use Rattle.auction_input.specs.declared.request.Request.TheVariants.{Check, Compile, Explain, Map, Report, Verify}
+use Rattle.auction_input.specs.declared.request.Request.{Request}
 use Rattle.auction_terms.specs.Stages.{and_then}
 use Rattle.mps_text.specs.Text.{text}
 use Rattle.presolve.specs.Lines.{left_out_lines}
@@ -15,12 +16,12 @@ use Rattle.presolve.specs.Reasons.{reasons_of}
 use Rattle.outcome.specs.Report.{allocation_text, in_turn, report_text}
 use Rattle.outcome.specs.Pricing.{pricing_text}
 use Rattle.outcome.specs.Uniqueness.{uniqueness_text}
-use Rattle.group_winners.specs.Certified.{certified}
-use Rattle.group_winners.specs.Claimed.{claims_told}
-use Rattle.group_winners.specs.Pricing.{pricing_told}
+use Rattle.answers.specs.Certified.{certified}
+use Rattle.answers.specs.Claimed.{parsed_claims}
+use Rattle.answers.specs.Pricing.{parsed_pricing}
 use Rattle.answers.specs.GroupTexts.{program_text}
-use Rattle.answers.specs.Sizes.{program_told, sizes_text}
-use Rattle.group_winners.specs.SolutionWinners.{winners_by, winners_of_groups}
+use Rattle.answers.specs.Sizes.{parsed_program, sizes_text}
+use Rattle.answers.specs.SolutionWinners.{winners_by, winners_of_groups}
 
 -- what a command writes of an auction; where none is named, it is `text`
 abbrev pub output_of : Request → Auction → Result (List ℕ) Refusal
@@ -38,15 +39,16 @@ output_of (Report workers) auction =
 -- the same where certificates show that no allocation has a higher total, and after it what the winners pay and what comes of the claim
 output_of (Verify workers) auction =
     and_then (and_then (winners_of_groups auction) (certified auction)) (λ won.
-    and_then (claims_told auction (slice_index_or won 0 []) auction.uniques auction.ties) (λ claim.
-    and_then (pricing_told auction won) (λ pricing.
+    and_then (parsed_claims auction (slice_index_or won 0 []) auction.uniques auction.ties) (λ claim.
+    and_then (parsed_pricing auction won) (λ pricing.
     Ok (report_text auction.sale auction.groups won ++ (pricing_text auction.sale (slice_index_or won 0 []) pricing ++ uniqueness_text auction.sale claim)))))
--- nothing is wrong, and so nothing is written, unless it is asked which bids no program has, and why
-output_of (Explain bids) auction = Ok (if bids then left_out_lines auction.rules auction.form_bidders (reasons_of auction.sale.lots auction.sale.book) else [])
+-- nothing is wrong, and so nothing is written, unless it is asked which bids no program has, and why; an auction that hasn't got what the command that is named wants is refused
+output_of (Explain bids command) auction =
+    and_then (wanted command auction) (λ taken. Ok (if bids then left_out_lines auction.rules auction.form_bidders (reasons_of auction.sale.lots auction.sale.book) else []))
 -- the program with nobody left out
 output_of asked auction = Ok (text (program_for auction.sale []))
 
 -- `check` writes the sizes of the program that its one text is; the others answer by the auction that theirs tells
 abbrev pub answer : Request → Input → Result (List ℕ) Refusal
-answer Check input = and_then (program_told (only_text (text_bytes input))) (λ program. Ok (sizes_text program))
-answer asked input = and_then (auction_told asked input) (output_of asked)
+answer Check input = and_then (parsed_program (only_text (text_bytes input))) (λ program. Ok (sizes_text program))
+answer asked input = and_then (parsed_auction asked input) (output_of asked)

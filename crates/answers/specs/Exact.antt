@@ -1,31 +1,31 @@
--- What a command leaves, by what is told: the whole output, or the first refusal.
+-- What a command leaves, by what is reported: the whole output, or the first refusal.
 use Rattle.std.specs.Prelude.{◌≡◌, ◌⊎◌, ℕ, List, Option, Result, Ok, length}
 use Rattle.auction_input.specs.Input.{Input}
 use Rattle.std.specs.Io.KnownBytes.{Appends}
-use Rattle.auction_input.specs.Auction.{Auction, auction_told}
+use Rattle.auction_input.specs.Auction.{Auction, parsed_auction}
 use Rattle.auction_input.specs.Refused.{Refuses}
 use Rattle.auction_input.specs.declared.refusal.Refusal.{Refusal}
 use Rattle.auction_input.specs.Settled.{IsUnsettled}
 use Rattle.auction_input.specs.declared.refusal.Refusal.TheVariants as refusal
-use Rattle.requests.specs.declared.request.Request.TheVariants as request
-use Rattle.requests.specs.declared.request.Request.{Request}
+use Rattle.auction_input.specs.declared.request.Request.TheVariants as request
+use Rattle.auction_input.specs.declared.request.Request.{Request}
 use Rattle.auction_terms.specs.declared.choices.Choice.{Choice}
 use Rattle.byte_sinks.specs.Sinks.{HasFailed, SentFront}
 use Rattle.byte_sinks.specs.declared.write_fault.WriteFault.TheVariants as write
 use Rattle.answers.specs.Answer.{answer}
-use Rattle.group_winners.specs.Certified.{IsTooWide, bounds_of, certified}
-use Rattle.group_winners.specs.Claimed.{IsTooWideClaim}
-use Rattle.group_winners.specs.Pricing.{IsTooWidePricing}
-use Rattle.group_winners.specs.SolutionWinners.{winners_of_groups}
+use Rattle.answers.specs.Certified.{IsTooWide, bounds_of, certified}
+use Rattle.answers.specs.Claimed.{IsTooWideClaim}
+use Rattle.answers.specs.Pricing.{IsTooWidePricing}
+use Rattle.answers.specs.SolutionWinners.{winners_of_groups}
 
--- the output that is told was written, and nothing else
+-- the output that is reported was written, and nothing else
 abbrev pub Writes : Result (List ℕ) Refusal → Option (List ℕ) → Option (List ℕ) → Type 0
-Writes told taken taken' = (out : List ℕ) × (told ≡ Ok out) × Appends taken taken' out
+Writes parsed taken taken' = (out : List ℕ) × (parsed ≡ Ok out) × Appends taken taken' out
 
 -- how a command ends without its output: it is refused; or a put failed, behind the first bytes of the output, as many as the refusal tells
-pub data Ends (told : Result (List ℕ) Refusal) (taken taken' : Option (List ℕ)) (failures failures' : ℕ) : Refusal → Type 0 where
-  by_refusal : {r : Refusal} → Refuses told r → taken' ≡ taken → Ends told taken taken' failures failures' r
-  by_put : {written : ℕ} → (out : List ℕ) → told ≡ Ok out → SentFront taken taken' out written → HasFailed failures failures' → Ends told taken taken' failures failures' (refusal.Write (write.Sink written))
+pub data Ends (parsed : Result (List ℕ) Refusal) (taken taken' : Option (List ℕ)) (failures failures' : ℕ) : Refusal → Type 0 where
+  by_refusal : {r : Refusal} → Refuses parsed r → taken' ≡ taken → Ends parsed taken taken' failures failures' r
+  by_put : {written : ℕ} → (out : List ℕ) → parsed ≡ Ok out → SentFront taken taken' out written → HasFailed failures failures' → Ends parsed taken taken' failures failures' (refusal.Write (write.Sink written))
 
 -- after solutions that are accepted it is a certificate of the groups; after all of these that of the claim; and after that the cover of prices
 abbrev pub IsBeyondSums : Auction → Refusal → Type 0
@@ -35,7 +35,7 @@ IsBeyondSums auction r =
 
 -- `verify` alone adds up in 128 bits
 abbrev pub MeetsLimit : Request → Input → Refusal → Type 0
-MeetsLimit (request.Verify workers) input r = (auction : Auction) × (auction_told (request.Verify workers) input ≡ Ok auction) × IsBeyondSums auction r
+MeetsLimit (request.Verify workers) input r = (auction : Auction) × (parsed_auction (request.Verify workers) input ≡ Ok auction) × IsBeyondSums auction r
 MeetsLimit asked input r = ⊥
 
 -- why a request is refused, or its output cut short; what the input doesn't settle is a wrong answer of the desk, and the limit of sums

@@ -2,9 +2,9 @@
 use Rattle.std.specs.Prelude.{◌≡◌, ℕ, false, List, Ok}
 use Rattle.auction_input.specs.Input.{Input}
 use Rattle.std.specs.List.{AllByRecursion}
-use Rattle.auction_input.specs.Auction.{Auction, auction_told}
-use Rattle.group_winners.specs.Programs.{program_for}
-use Rattle.requests.specs.declared.request.Request.TheVariants.{Compile, Text}
+use Rattle.auction_input.specs.Auction.{Auction, parsed_auction}
+use Rattle.answers.specs.Programs.{program_for}
+use Rattle.auction_input.specs.declared.request.Request.TheVariants.{Compile, Text}
 use Rattle.auction_terms.specs.Groups.{has}
 use Rattle.mps_text.specs.FaithfulText.{IsFaithfulText}
 use Rattle.mps_text.specs.Text.{text}
@@ -20,7 +20,7 @@ IsFaithfulToSale sale group = IsFaithfulText sale.lots sale.book (has group) (te
 -- what `text` answers of an input is a text that is faithful to the auction which the input tells, with nobody left out
 abbrev pub TextIsFaithful : Type 0
 TextIsFaithful = (input : Input) (out : List ℕ) → answer Text input ≡ Ok out
-    → (auction : Auction) × (auction_told Text input ≡ Ok auction) × IsFaithfulText auction.sale.lots auction.sale.book (λ b. false) out
+    → (auction : Auction) × (parsed_auction Text input ≡ Ok auction) × IsFaithfulText auction.sale.lots auction.sale.book (λ b. false) out
 
 -- the line and the text of each group in order, and each text faithful
 pub record AreFaithfulTexts (auction : Auction) (out : List ℕ) : Type 0 where
@@ -30,4 +30,4 @@ pub record AreFaithfulTexts (auction : Auction) (out : List ℕ) : Type 0 where
 -- what `compile` answers of an input is these of the auction which the input tells
 abbrev pub CompiledIsFaithful : Type 0
 CompiledIsFaithful = (workers : ℕ) (input : Input) (out : List ℕ) → answer (Compile workers) input ≡ Ok out
-    → (auction : Auction) × (auction_told (Compile workers) input ≡ Ok auction) × AreFaithfulTexts auction out
+    → (auction : Auction) × (parsed_auction (Compile workers) input ≡ Ok auction) × AreFaithfulTexts auction out

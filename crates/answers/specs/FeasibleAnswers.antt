@@ -2,8 +2,8 @@
 use Rattle.std.specs.Prelude.{◌≡◌, ◌-◌, ℕ, List, [], Ok, slice_index_or}
 use Rattle.auction_input.specs.Input.{Input}
 use Rattle.std.specs.List.{AllZip}
-use Rattle.auction_input.specs.Auction.{Auction, auction_told}
-use Rattle.requests.specs.declared.request.Request.TheVariants.{Map, Report}
+use Rattle.auction_input.specs.Auction.{Auction, parsed_auction}
+use Rattle.auction_input.specs.declared.request.Request.TheVariants.{Map, Report}
 use Rattle.auction_terms.specs.Allocations.{IsFeasible}
 use Rattle.auction_terms.specs.Groups.{has}
 use Rattle.auction_terms.specs.declared.choices.Choice.{Choice}
@@ -24,7 +24,7 @@ pub record AreFeasibleWinners (auction : Auction) (k : ℕ) (out : List ℕ) : T
 -- what `map` answers of an input is these of the auction which the input tells
 abbrev pub MappedIsFeasible : Type 0
 MappedIsFeasible = (k : ℕ) (input : Input) (out : List ℕ) → answer (Map k) input ≡ Ok out
-    → (auction : Auction) × (auction_told (Map k) input ≡ Ok auction) × AreFeasibleWinners auction k out
+    → (auction : Auction) × (parsed_auction (Map k) input ≡ Ok auction) × AreFeasibleWinners auction k out
 
 -- a report on a feasible allocation for each group
 pub record IsFeasibleReport (auction : Auction) (out : List ℕ) : Type 0 where
@@ -35,4 +35,4 @@ pub record IsFeasibleReport (auction : Auction) (out : List ℕ) : Type 0 where
 -- what `report` answers of an input is one on the auction which the input tells
 abbrev pub ReportedIsFeasible : Type 0
 ReportedIsFeasible = (workers : ℕ) (input : Input) (out : List ℕ) → answer (Report workers) input ≡ Ok out
-    → (auction : Auction) × (auction_told (Report workers) input ≡ Ok auction) × IsFeasibleReport auction out
+    → (auction : Auction) × (parsed_auction (Report workers) input ≡ Ok auction) × IsFeasibleReport auction out

@@ -12,7 +12,7 @@ use Rattle.auction_input.specs.declared.input.Unread.{Unread}
 use Rattle.auction_input.specs.declared.input.Unread.TheVariants as unread
 use Rattle.auction_input.specs.declared.refusal.Refusal.TheVariants as refusal
 use Rattle.input_faults.specs.FileNames.{shown_name}
-use Rattle.requests.specs.Asked.{CommandLine}
+use Rattle.answers.specs.Asked.{CommandLine}
 
 -- the name of a file of a command line
 abbrev pub name_at : CommandLine → FilePlace → List ℕ
@@ -29,7 +29,7 @@ abbrev pub words_with : FileFault → List ℕ → List ℕ
 words_with (fault.ReadAlready n) other = fault_words (fault.ReadAlready n) ++ shown_name other
 words_with f other = fault_words f
 
--- what is told of a file; where memory was short, just that
+-- what is reported of a file; where memory was short, just that
 abbrev pub file_text : List ℕ → FileFault → List ℕ → List ℕ
 file_text name fault.OutOfMemory other = codes "out of memory"
 file_text name f other = shown_name name ++ (codes ": " ++ words_with f other)

@@ -5,7 +5,7 @@ use Rattle.group_compiler.specs.Compiled.{GroupProgram}
 use Rattle.byte_sinks.specs.Sinks.{HasFailed}
 use Rattle.mps_text.specs.Text.{text}
 use Rattle.outcome.specs.Report.{heading, in_turn}
-use Rattle.group_winners.specs.Programs.{program_for}
+use Rattle.answers.specs.Programs.{program_for}
 use Rattle.bid_desk.specs.Sale.{Sale, sale_of}
 use Rattle.answers.specs.declared.run_fault.RunFault.TheVariants as fault
 use Rattle.answers.specs.declared.run_fault.RunFault.{RunFault}
@@ -24,7 +24,7 @@ program_bytes book k c =
 abbrev pub programs_bytes : Closing → List GroupProgram → List ℕ
 programs_bytes book programs = in_turn (program_bytes book) 1 programs
 
--- where a sink tells its bytes: what went out is the first bytes of the whole, as many as are told, and the next byte is one of the line or the text of that group
+-- where a sink reports its bytes: what went out is the first bytes of the whole, as many as are reported, and the next byte is one of the line or the text of that group
 abbrev pub EndsIn : Closing → List GroupProgram → ℕ → ℕ → Option (List ℕ) → Option (List ℕ) → Type 0
 EndsIn book programs group written None after = ⊤
 EndsIn book programs group written (Some before) None = ⊥
@@ -33,11 +33,11 @@ EndsIn book programs group written (Some before) (Some after) =
     × (length (programs_bytes book (take (group - 1) programs)) ≤ n) × (n < length (programs_bytes book (take group programs)))
 
 -- a fault after which the output ends as it tells
-abbrev pub StopsAsTold : Closing → List GroupProgram → Option (List ℕ) → Option (List ℕ) → RunFault → Type 0
-StopsAsTold book programs before after (fault.OutOfMemory written) = (written ≡ 0) × (after ≡ before)
-StopsAsTold book programs before after (fault.Sink group written) = (1 ≤ group) × (group ≤ length programs) × EndsIn book programs group written before after
+abbrev pub StopsAsReported : Closing → List GroupProgram → Option (List ℕ) → Option (List ℕ) → RunFault → Type 0
+StopsAsReported book programs before after (fault.OutOfMemory written) = (written ≡ 0) × (after ≡ before)
+StopsAsReported book programs before after (fault.Sink group written) = (1 ≤ group) × (group ≤ length programs) × EndsIn book programs group written before after
 
--- a put failed where that is told
-abbrev pub FailsAsTold : ℕ → ℕ → RunFault → Type 0
-FailsAsTold before after (fault.OutOfMemory written) = ⊤
-FailsAsTold before after (fault.Sink group written) = HasFailed before after
+-- a put failed where that is reported
+abbrev pub FailsAsReported : ℕ → ℕ → RunFault → Type 0
+FailsAsReported before after (fault.OutOfMemory written) = ⊤
+FailsAsReported before after (fault.Sink group written) = HasFailed before after

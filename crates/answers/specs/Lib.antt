@@ -1,5 +1,12 @@
+pub mod Programs
+pub mod SolutionWinners
+pub mod Certified
+pub mod Claimed
+pub mod Pricing
+pub mod Asked
 pub mod Answer
 pub mod Exact
+pub mod ExplainedFor
 pub mod FaithfulAnswers
 pub mod Sold
 pub mod FeasibleAnswers

@@ -3,8 +3,8 @@ use Rattle.std.specs.Prelude.{⊤, ℕ, List}
 use Rattle.auction_input.specs.Input.{Input}
 use Rattle.auction_input.specs.Auction.{Auction}
 use Rattle.auction_input.specs.Sold.{IsSold}
-use Rattle.requests.specs.declared.request.Request.TheVariants.{Check}
-use Rattle.requests.specs.declared.request.Request.{Request}
+use Rattle.auction_input.specs.declared.request.Request.TheVariants.{Check}
+use Rattle.auction_input.specs.declared.request.Request.{Request}
 use Rattle.answers.specs.FaithfulAnswers.{IsFaithfulToSale}
 
 -- the auction that a request reads; the text of its program without any group is faithful to it

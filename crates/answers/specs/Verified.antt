@@ -3,8 +3,8 @@ use Rattle.std.specs.Prelude.{◌≡◌, ◌≢◌, ◌++◌, ⊤, ℕ, false, t
 use Rattle.auction_input.specs.Input.{Input}
 use Rattle.std.specs.Io.KnownBytes.{Appends}
 use Rattle.std.specs.List.{AllZip}
-use Rattle.auction_input.specs.Auction.{Auction, auction_told}
-use Rattle.requests.specs.declared.request.Request.TheVariants.{Verify}
+use Rattle.auction_input.specs.Auction.{Auction, parsed_auction}
+use Rattle.auction_input.specs.declared.request.Request.TheVariants.{Verify}
 use Rattle.auction_terms.specs.Groups.{has}
 use Rattle.auction_terms.specs.Only.{IsOnly}
 use Rattle.auction_terms.specs.declared.choices.Choice.{Choice}
@@ -56,7 +56,7 @@ pub record IsTrueReport (auction : Auction) (out : List ℕ) : Type 0 where
 
 -- what `verify` answers of an input is a true report on the auction that the input tells
 abbrev pub VerifiedIsTrue : Type 0
-VerifiedIsTrue = (workers : ℕ) (input : Input) (out : List ℕ) → answer (Verify workers) input ≡ Ok out → (auction : Auction) × (auction_told (Verify workers) input ≡ Ok auction) × IsTrueReport auction out
+VerifiedIsTrue = (workers : ℕ) (input : Input) (out : List ℕ) → answer (Verify workers) input ≡ Ok out → (auction : Auction) × (parsed_auction (Verify workers) input ≡ Ok auction) × IsTrueReport auction out
 
 -- whichever allocations of greatest total are taken, the group's cost is the one that is written
 abbrev pub IsSettledCost : Sale → List Choice → List ℕ → List Choice → Type 0
@@ -82,17 +82,17 @@ pub record IsPricedOutcome (auction : Auction) (out : List ℕ) : Type 0 where
 -- what `verify` answers of an input with prices has them among its bytes, and they are true
 abbrev pub PricesCover : Type 0
 PricesCover = (workers : ℕ) (input : Input) (out : List ℕ) → answer (Verify workers) input ≡ Ok out
-    → (auction : Auction) × (auction_told (Verify workers) input ≡ Ok auction) × (auction.prices ≢ [] → IsPricedOutcome auction out)
+    → (auction : Auction) × (parsed_auction (Verify workers) input ≡ Ok auction) × (auction.prices ≢ [] → IsPricedOutcome auction out)
 
 -- where what `verify` answers of an input ends with the line `unique`, that is so
 abbrev pub UniqueIsOnly : Type 0
 UniqueIsOnly = (workers : ℕ) (input : Input) (before : List ℕ) → answer (Verify workers) input ≡ Ok (before ++ codes "unique\n")
-    → (auction : Auction) × (auction_told (Verify workers) input ≡ Ok auction) × IsOnlyOutcome auction (before ++ codes "unique\n")
+    → (auction : Auction) × (parsed_auction (Verify workers) input ≡ Ok auction) × IsOnlyOutcome auction (before ++ codes "unique\n")
 
 -- a true report on the auction that an input tells was written, and nothing else
 pub record WritesTrueReport (workers : ℕ) (input : Input) (taken taken' : Option (List ℕ)) : Type 0 where
   pub auction : Auction
   pub out : List ℕ
-  pub told : auction_told (Verify workers) input ≡ Ok auction
+  pub parsed : parsed_auction (Verify workers) input ≡ Ok auction
   pub is_true : IsTrueReport auction out
   pub sent : Appends taken taken' out

@@ -1,2 +1,5 @@
+pub mod Claiming
+pub mod Judging
 pub mod Output
 pub mod Runs
+pub mod SolutionWinners

@@ -1,10 +1,11 @@
 //! The commands: the auction that the input tells is read here, once for all of them; the one that is asked for writes of it.
 
-ghost use Rattle.std.specs.Prelude.{◌≡◌, ◌≢◌, Bool, IfErr, OnOk};
+ghost use Rattle.std.specs.Prelude.{◌≡◌, ◌≢◌, Bool, IfErr, OnOk, Option};
+ghost use Rattle.auction_input.specs.declared.request.Target.{Target};
 ghost use Rattle.answers.specs.Answer.{answer, output_of};
 ghost use Rattle.answers.specs.Exact.{IsUnwritten, Writes};
 ghost use Rattle.answers.specs.Runs.{AsksAnswer};
-ghost use Rattle.requests.specs.Requests.{IsRequestWithinLimits};
+ghost use Rattle.auction_input.specs.Requests.{IsRequestWithinLimits};
 ghost use Rattle.answers.specs.Sold.{HasSold};
 ghost use Rattle.answers.specs.inside.Output.{IsWithoutOutput};
 ghost use Rattle.auction_input.specs.Settled.{held};
@@ -24,10 +25,9 @@ use crate::commands::map::write_winners;
 use crate::commands::report::write_costs;
 use crate::commands::text::write_program_of_all;
 use crate::commands::verify::write_verified;
-use auction_input::{Auction, Input, Refusal, read_auction};
+use auction_input::{Auction, Input, Refusal, Request, read_auction};
 use byte_sinks::Sink;
 pub use explain::explain_input;
-use requests::Request;
 use std::sync::Wait;
 use std::thread::Threads;
 
@@ -39,7 +39,7 @@ pub fn answer<R: Threads + Wait + Sync + AllocGlobal, S: Sink>(
     out: &mut S,
 ) -> Result<(), Refusal>
     requires limits { IsRequestWithinLimits request }
-    requires answered { (bids : Bool) → request ≢ Request.Explain bids }
+    requires answered { (bids : Bool) (command : Option Target) → request ≢ Request.Explain bids command }
     ensures written { OnOk result (Writes (answer request input.now) (S.taken out.old)
         (S.taken out.new)) }
     ensures sold { OnOk result (HasSold request input.now) }
@@ -95,8 +95,7 @@ fn write_output<R: Threads + Wait + Sync + AllocGlobal, S: Sink>(
         Request::Map { group } => write_winners(rt, auction, group, out),
         Request::Report { workers } => write_costs(rt, auction, workers, out),
         Request::Verify { workers } => write_verified(rt, auction, workers, out),
-        Request::Explain { bids: true } => write_bids_of(rt, auction, out),
-        Request::Explain { bids: false } => Ok(()),
+        Request::Explain { bids, target } => write_bids_of(rt, auction, bids, target, out),
         Request::Check => unreachable!(),
     }
 }

@@ -9,8 +9,8 @@ ghost use Rattle.mps_text.specs.FaithfulText.{IsFaithfulText};
 ghost use Rattle.mps_text.specs.Text.{text};
 ghost use Rattle.group_compiler.specs.Compiled.{compiled, program_without};
 ghost use Rattle.group_compiler.specs.Gates.{AreAllPast};
-ghost use Rattle.auction_limits.specs.declared.limits.TheConstants.{MOST_WORKERS};
-ghost use Rattle.answers.specs.GroupTexts.{FailsAsTold, StopsAsTold, programs_bytes};
+ghost use Rattle.auction_terms.specs.declared.limits.TheConstants.{MOST_WORKERS};
+ghost use Rattle.answers.specs.GroupTexts.{FailsAsReported, StopsAsReported, programs_bytes};
 
 use crate::group_texts::write_programs;
 use crate::run_fault::RunFault;
@@ -44,9 +44,9 @@ pub fn run_compile<R: Threads + Wait + Sync, G: Gate + Sync, S: Sink>(
         (programs_bytes book.now (map (compiled book.now) groups.now))) }
     ensures faithful { All (λ group. IsFaithfulText (lots_in book.now.rules) (book_of book.now)
         (has group) (text (program_without book.now group))) groups.now }
-    ensures stopped { IfErr result (StopsAsTold book.now (map (compiled book.now) groups.now)
+    ensures stopped { IfErr result (StopsAsReported book.now (map (compiled book.now) groups.now)
         (S.taken out.old) (S.taken out.new)) }
-    ensures failed { IfErr result (FailsAsTold (S.failures out.old) (S.failures out.new)) }
+    ensures failed { IfErr result (FailsAsReported (S.failures out.old) (S.failures out.new)) }
     ensures succeeded { OnOk result (S.failures out.new ≡ S.failures out.old) }
     ensures past { OnOk result (AreAllPast (length groups.now) (G.is_past gate.now)) }
 {

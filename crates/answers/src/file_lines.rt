@@ -5,13 +5,13 @@ ghost use Rattle.auction_input.specs.FileWords.{fault_words};
 ghost use Rattle.auction_input.specs.Line.{Puts};
 ghost use Rattle.answers.specs.FileLines.{file_line, file_text, name_at, other_file, refusal_line, unread_line, words_with};
 ghost use Rattle.byte_sinks.specs.Adds.{Adds};
-ghost use Rattle.requests.specs.Asked.{command_line_of};
+ghost use Rattle.answers.specs.Asked.{command_line_of};
 
-use crate::telling::tell;
+use crate::command::Command;
+use crate::messages::print_refusal;
 use auction_input::{FileFault, FilePlace, FileRefusal, Refusal, Unread};
 use byte_sinks::{Sink, Writer};
 use input_faults::add_file_name;
-use requests::Command;
 
 // Adds the words on a file, without another one.
 fn add_words<S: Sink>(writer: &mut Writer<'_, S>, fault: FileFault)
@@ -33,7 +33,7 @@ fn add_words_with<S: Sink>(writer: &mut Writer<'_, S>, fault: FileFault, other: 
     }
 }
 
-// Adds what is told of a file.
+// Adds what is reported of a file.
 fn add_file<S: Sink>(writer: &mut Writer<'_, S>, name: &[u8], fault: FileFault, other: &[u8])
     ensures { Adds S.taken S.failures writer.old writer.new (file_text name.now fault other.now) }
 {
@@ -48,7 +48,7 @@ fn add_file<S: Sink>(writer: &mut Writer<'_, S>, name: &[u8], fault: FileFault, 
 }
 
 /// Puts the line on a file, which may tell the name of another one. It takes no memory.
-pub fn tell_file<F: Sink>(name: &[u8], fault: FileFault, other: &[u8], faults: &mut F)
+pub fn print_file_line<F: Sink>(name: &[u8], fault: FileFault, other: &[u8], faults: &mut F)
     ensures { Puts (file_line name.now fault other.now) (F.taken faults.old) (F.taken faults.new)
         (F.failures faults.old) (F.failures faults.new) }
 {
@@ -89,22 +89,22 @@ fn other_file(command: &Command, fault: FileFault) -> &[u8]
 }
 
 /// Puts the line on a file of a command line. It takes no memory.
-pub fn tell_refusal<F: Sink>(command: &Command, refusal: FileRefusal, faults: &mut F)
+pub fn print_file_refusal<F: Sink>(command: &Command, refusal: FileRefusal, faults: &mut F)
     ensures { Puts (refusal_line (command_line_of command.now) refusal) (F.taken faults.old)
         (F.taken faults.new) (F.failures faults.old) (F.failures faults.new) }
 {
     let name = name_of(command, refusal.file);
     let other = other_file(command, refusal.fault);
-    tell_file(name, refusal.fault, other, faults);
+    print_file_line(name, refusal.fault, other, faults);
 }
 
 /// Puts the line on what a command line reads. It takes no memory.
-pub fn tell_unread<F: Sink>(command: &Command, unread: Unread, faults: &mut F)
+pub fn print_unread<F: Sink>(command: &Command, unread: Unread, faults: &mut F)
     ensures { Puts (unread_line (command_line_of command.now) unread) (F.taken faults.old)
         (F.taken faults.new) (F.failures faults.old) (F.failures faults.new) }
 {
     match unread {
-        Unread::Input(fault) => tell(&[], &Refusal::Input(fault), faults),
-        Unread::File(refusal) => tell_refusal(command, refusal, faults),
+        Unread::Input(fault) => print_refusal(&[], &Refusal::Input(fault), faults),
+        Unread::File(refusal) => print_file_refusal(command, refusal, faults),
     }
 }

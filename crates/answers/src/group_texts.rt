@@ -13,7 +13,7 @@ ghost use Rattle.byte_sinks.specs.Written.{written_of};
 ghost use Rattle.outcome.specs.Report.{heading};
 ghost use Rattle.bid_desk.specs.Sale.{sale_of};
 ghost use Rattle.answers.specs.declared.run_fault.RunFault.TheVariants.{Sink as FaultOfSink};
-ghost use Rattle.answers.specs.GroupTexts.{FailsAsTold, StopsAsTold, program_bytes, programs_bytes};
+ghost use Rattle.answers.specs.GroupTexts.{FailsAsReported, StopsAsReported, program_bytes, programs_bytes};
 
 use crate::run_fault::RunFault;
 use auction_terms::{Group, Groups};
@@ -107,9 +107,9 @@ pub fn write_programs<S: Sink>(
     requires pages { pages.now ≡ pages_of (lots_in book.now.rules) (book_of book.now) }
     ensures ok { OnOk result (Appends (S.taken out.old) (S.taken out.new)
         (programs_bytes book.now (map (compiled book.now) groups.now))) }
-    ensures stopped { IfErr result (StopsAsTold book.now (map (compiled book.now) groups.now)
+    ensures stopped { IfErr result (StopsAsReported book.now (map (compiled book.now) groups.now)
         (S.taken out.old) (S.taken out.new)) }
-    ensures failed { IfErr result (FailsAsTold (S.failures out.old) (S.failures out.new)) }
+    ensures failed { IfErr result (FailsAsReported (S.failures out.old) (S.failures out.new)) }
     ensures succeeded { OnOk result (S.failures out.new ≡ S.failures out.old) }
 {
     let mut writer = Writer::new(out);

@@ -1,5 +1,8 @@
 //! Laws of what the program answers.
 
+ghost use Rattle.answers.specs.ExplainedFor.{ExplainsFor};
+ghost use Rattle.auction_input.specs.Input.{Input};
+ghost use Rattle.auction_input.specs.declared.request.Target.{Target};
 ghost use Rattle.answers.specs.FaithfulAnswers.{CompiledIsFaithful, TextIsFaithful};
 ghost use Rattle.answers.specs.FeasibleAnswers.{MappedIsFeasible, ReportedIsFeasible};
 ghost use Rattle.answers.specs.Verified.{PricesCover, UniqueIsOnly, VerifiedIsTrue};
@@ -37,4 +40,10 @@ pub fn printed_prices_cover_every_group()
 /// Where what `verify` answers of an input ends with the line `unique`, no other feasible allocation of the auction that the input tells has as great a total; and so the winners, and each group's cost, follow from the rules, the bids and the group alone.
 pub fn unique_winners_are_the_only_ones()
     ensures { UniqueIsOnly }
+{}
+
+/// What `explain` tells for a command is what the command does of the same input: it refuses it for the first fault that is reported, and
+/// where none is reported it doesn't refuse it for its parts. `verify` may meet a solution, certificate or text before that it refuses.
+pub fn what_is_explained_for_a_command_is_what_it_refuses()
+    ensures { (command : Target) (input : Input) → ExplainsFor command input }
 {}

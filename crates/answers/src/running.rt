@@ -1,28 +1,34 @@
 //! The program on its words, its input and two sinks.
 
-ghost use Rattle.std.specs.Prelude.{◌≡◌, ◌≢◌, ◌⊎◌, ◌<◌, ◌≤◌, IfErr, IfSome, IsSome, List, OnErr, Ok, codes, flat_map, length, ℕ};
+ghost use Rattle.std.specs.Prelude.{◌≡◌, ◌≢◌, ◌⊎◌, ◌<◌, ◌≤◌, IfErr, IfOk, IfSome, IsSome, List, OnErr, OnOk, Ok, codes, flat_map, length, ℕ};
 ghost use Rattle.std.specs.Io.KnownBytes.{Appends};
 ghost use Rattle.std.specs.IoError.{error_kind};
 ghost use Rattle.std.specs.declared.io.ErrorKind.TheVariants as io_kind;
 ghost use Rattle.clap.specs.Words.{kind_of};
 ghost use Rattle.auction_input.specs.Line.{Puts, line};
 ghost use Rattle.auction_input.specs.declared.refusal.Refusal.TheVariants as refusal;
-ghost use Rattle.requests.specs.Asked.{asked_of, by_fault, command_line_of, for_answer, for_nothing};
+ghost use Rattle.answers.specs.Asked.{asked_of, by_fault, command_line_of, for_answer, for_nothing};
 ghost use Rattle.answers.specs.Answer.{answer};
 ghost use Rattle.answers.specs.Exact.{Ends, Writes};
-ghost use Rattle.requests.specs.Requests.{IsRequestWithinLimits};
-ghost use Rattle.answers.specs.Runs.{HasExplained, IsAnswered, IsDone, IsRefused, IsUndone, NamesFiles};
-ghost use Rattle.answers.specs.inside.Runs.{HasExplainedInput, HasShown, IsToldSo, IsToldWhy, IsLeftUnanswered, IsUntold};
+ghost use Rattle.auction_input.specs.Requests.{IsRequestWithinLimits};
+ghost use Rattle.answers.specs.Runs.{HasExplained, IsAnswered, IsDone, IsRefused, IsUndone, NamesFiles, Reads};
+ghost use Rattle.auction_input.specs.FileTexts.{IsUnread};
+ghost use Rattle.answers.specs.inside.Runs.{HasExplainedInput, HasShown, IsReportedSo, IsReported, IsLeftUnanswered, IsUnreported};
 
+use crate::command::Command;
 use crate::commands::{answer, explain_input};
-use crate::file_lines::{tell_refusal, tell_unread};
+use crate::file_lines::{print_file_refusal, print_unread};
+use crate::messages::print_refusal;
+use crate::parser::VERSION;
 use crate::pieces::write_pieces;
-use crate::telling::tell;
-use auction_input::{FilePlace, FileRefusal, Files, Input, Output, Refusal, Source, read_inputs};
+use crate::words::command_of;
+use auction_input::{
+    FilePlace, FileRefusal, Files, Input, Output, Refusal, Request, Source, Target, Unread,
+    read_inputs,
+};
 use byte_sinks::Sink;
 use clap::Error;
 use clap::error::ErrorKind;
-use requests::{Command, Request, VERSION, command_of};
 use std::alloc::Global;
 use std::env::Args;
 use std::io;
@@ -48,10 +54,10 @@ pub fn run<R: Threads + Wait + Sync + AllocGlobal, D: Files, I: Read, S: Output,
         × (F.failures faults.new ≡ F.failures faults.old) }
     ensures succeeded { result ≢ 1 → (S.failures out.new ≡ S.failures out.old)
         × (input.new.failures ≡ input.old.failures) }
-    ensures refused { result ≡ 1 → ((told : List ℕ) × IsUndone (D.content files.now) (asked_of words)
+    ensures refused { result ≡ 1 → ((reported : List ℕ) × IsUndone (D.content files.now) (asked_of words)
         (I.remaining input.old.reader) (I.remaining input.new.reader) input.old.failures
         input.new.failures (S.taken out.old) (S.taken out.new) (S.failures out.old)
-        (S.failures out.new) told × Puts told (F.taken faults.old) (F.taken faults.new)
+        (S.failures out.new) reported × Puts reported (F.taken faults.old) (F.taken faults.new)
         (F.failures faults.old) (F.failures faults.new)) ⊎ HasExplained (D.content files.now) (asked_of words)
         (I.remaining input.old.reader) (I.remaining input.new.reader) input.old.failures
         input.new.failures (S.taken out.old) (S.taken out.new) (S.failures out.old)
@@ -60,7 +66,7 @@ pub fn run<R: Threads + Wait + Sync + AllocGlobal, D: Files, I: Read, S: Output,
     ensures unasked { result ≡ 2 → (asked_of words ≡ for_nothing)
         × (I.remaining input.new.reader ≡ I.remaining input.old.reader)
         × (S.taken out.new ≡ S.taken out.old) }
-    ensures told { result ≡ 2 → ((text : List ℕ) × (0 < length text) × Puts text
+    ensures reported { result ≡ 2 → ((text : List ℕ) × (0 < length text) × Puts text
         (F.taken faults.old) (F.taken faults.new) (F.failures faults.old) (F.failures faults.new)) }
     // Where std tells no words, memory was short, or one of them is no text.
     ensures wordless { IfErr words (λ e. (error_kind e ≡ io_kind.OutOfMemory → result ≡ 1)
@@ -74,7 +80,7 @@ pub fn run<R: Threads + Wait + Sync + AllocGlobal, D: Files, I: Read, S: Output,
     };
     match command_of(rt.alloc(), words) {
         Ok(command) => answer_command(rt, &command, files, input, out, faults),
-        Err(error) => tell_words(rt.alloc(), &error, out, faults),
+        Err(error) => print_help_or_fault(rt.alloc(), &error, out, faults),
     }
 }
 
@@ -86,20 +92,20 @@ fn without_words<F: Sink>(error: &io::Error, faults: &mut F) -> u8
     ensures status { result ≤ 2 }
     ensures refused { result ≡ 1 → Puts (line refusal.OutOfMemory) (F.taken faults.old)
         (F.taken faults.new) (F.failures faults.old) (F.failures faults.new) }
-    ensures told { result ≡ 2 → Puts (codes "wdp: a word is no text\n") (F.taken faults.old)
+    ensures reported { result ≡ 2 → Puts (codes "wdp: a word is no text\n") (F.taken faults.old)
         (F.taken faults.new) (F.failures faults.old) (F.failures faults.new) }
 {
     if error.kind() == io::ErrorKind::OutOfMemory {
-        tell(&[], &Refusal::OutOfMemory, faults);
+        print_refusal(&[], &Refusal::OutOfMemory, faults);
         return 1;
     }
     put_fault(b"wdp: a word is no text\n", faults)
 }
 
-// Puts what is told of words that ask for nothing.
+// Puts what is reported of words that ask for nothing.
 fn put_fault<F: Sink>(text: &[u8], faults: &mut F) -> u8
     ensures status { result ≡ 2 }
-    ensures told { Puts text.now (F.taken faults.old) (F.taken faults.new) (F.failures faults.old)
+    ensures reported { Puts text.now (F.taken faults.old) (F.taken faults.new) (F.failures faults.old)
         (F.failures faults.new) }
 {
     let pieces: [&[u8]; 1] = [text];
@@ -150,7 +156,7 @@ fn answer_command<R: Threads + Wait + Sync + AllocGlobal, D: Files, I: Read, S: 
         × (F.failures faults.new ≡ F.failures faults.old) }
     ensures succeeded { result ≡ 0 → (S.failures out.new ≡ S.failures out.old)
         × (input.new.failures ≡ input.old.failures) }
-    ensures refused { result ≡ 1 → IsToldSo (IsRefused (D.content files.now)
+    ensures refused { result ≡ 1 → IsReportedSo (IsRefused (D.content files.now)
         (command_line_of command.now) (I.remaining input.old.reader)
         (I.remaining input.new.reader) input.old.failures input.new.failures (S.taken out.old)
         (S.taken out.new) (S.failures out.old) (S.failures out.new)) (F.taken faults.old)
@@ -164,9 +170,29 @@ fn answer_command<R: Threads + Wait + Sync + AllocGlobal, D: Files, I: Read, S: 
     match prepare(files, command, out) {
         Ok(()) => answer_request(rt, command, files, input, out, faults),
         Err(refusal) => {
-            tell_refusal(command, refusal, faults);
+            print_file_refusal(command, refusal, faults);
             1
         }
+    }
+}
+
+// Reads the input of a command line.
+fn read_input<D: Files, I: Read>(
+    alloc: Global,
+    command: &Command,
+    files: &D,
+    input: &mut Source<I>,
+) -> Result<Input, Unread>
+    ensures read { IfOk result (Reads (D.content files.now) (command_line_of command.now)
+        (I.remaining input.old.reader) (I.remaining input.new.reader)) }
+    ensures unfailed { OnOk result (input.new.failures ≡ input.old.failures) }
+    ensures unread { IfErr result (λ f. IsUnread (command_line_of command.now).files f
+        (I.remaining input.old.reader) (I.remaining input.new.reader) input.old.failures
+        input.new.failures) }
+{
+    match read_inputs(alloc, files, command.files.as_slice(), input) {
+        Ok(given) => Ok(given.with_last_wins(command.last_wins)),
+        Err(unread) => Err(unread),
     }
 }
 
@@ -188,7 +214,7 @@ fn answer_request<R: Threads + Wait + Sync + AllocGlobal, D: Files, I: Read, S: 
         × (F.failures faults.new ≡ F.failures faults.old) }
     ensures succeeded { result ≡ 0 → (S.failures out.new ≡ S.failures out.old)
         × (input.new.failures ≡ input.old.failures) }
-    ensures refused { result ≡ 1 → IsToldSo (IsRefused (D.content files.now)
+    ensures refused { result ≡ 1 → IsReportedSo (IsRefused (D.content files.now)
         (command_line_of command.now) (I.remaining input.old.reader)
         (I.remaining input.new.reader) input.old.failures input.new.failures (S.taken out.old)
         (S.taken out.new) (S.failures out.old) (S.failures out.new)) (F.taken faults.old)
@@ -199,11 +225,10 @@ fn answer_request<R: Threads + Wait + Sync + AllocGlobal, D: Files, I: Read, S: 
         (S.failures out.new) (F.taken faults.old) (F.taken faults.new) (F.failures faults.old)
         (F.failures faults.new) }
 {
-    let names = command.files.as_slice();
-    match read_inputs(rt.alloc(), files, names, input) {
+    match read_input(rt.alloc(), command, files, input) {
         Ok(given) => answer_input(rt, command.request, &given, out, faults),
         Err(unread) => {
-            tell_unread(command, unread, faults);
+            print_unread(command, unread, faults);
             1
         }
     }
@@ -224,7 +249,7 @@ fn answer_input<R: Threads + Wait + Sync + AllocGlobal, S: Sink, F: Sink>(
     ensures quiet { result ≡ 0 → (F.taken faults.new ≡ F.taken faults.old)
         × (F.failures faults.new ≡ F.failures faults.old) }
     ensures succeeded { result ≡ 0 → S.failures out.new ≡ S.failures out.old }
-    ensures refused { result ≡ 1 → IsToldSo (IsLeftUnanswered request input.now (S.taken out.old)
+    ensures refused { result ≡ 1 → IsReportedSo (IsLeftUnanswered request input.now (S.taken out.old)
         (S.taken out.new) (S.failures out.old) (S.failures out.new)) (F.taken faults.old)
         (F.taken faults.new) (F.failures faults.old) (F.failures faults.new)
         ⊎ HasExplainedInput request input.now (S.taken out.old) (S.taken out.new)
@@ -232,11 +257,11 @@ fn answer_input<R: Threads + Wait + Sync + AllocGlobal, S: Sink, F: Sink>(
         (F.failures faults.old) (F.failures faults.new) }
 {
     match request {
-        Request::Explain { bids } => explain_request(rt, bids, input, out, faults),
+        Request::Explain { bids, target } => explain_request(rt, bids, target, input, out, faults),
         request => match answer(rt, request, input, out) {
             Ok(()) => 0,
             Err(refusal) => {
-                tell(input.texts(), &refusal, faults);
+                print_refusal(input.texts(), &refusal, faults);
                 1
             }
         },
@@ -247,28 +272,29 @@ fn answer_input<R: Threads + Wait + Sync + AllocGlobal, S: Sink, F: Sink>(
 fn explain_request<R: Threads + Wait + Sync + AllocGlobal, S: Sink, F: Sink>(
     rt: &R,
     bids: bool,
+    target: Option<Target>,
     input: &Input,
     out: &mut S,
     faults: &mut F,
 ) -> u8
     ensures status { result ≤ 1 }
-    ensures written { result ≡ 0 → Writes (answer (Request.Explain bids) input.now)
+    ensures written { result ≡ 0 → Writes (answer (Request.Explain bids target) input.now)
         (S.taken out.old) (S.taken out.new) }
     ensures quiet { result ≡ 0 → (F.taken faults.new ≡ F.taken faults.old)
         × (F.failures faults.new ≡ F.failures faults.old) }
     ensures succeeded { result ≡ 0 → S.failures out.new ≡ S.failures out.old }
-    ensures refused { result ≡ 1 → IsToldSo (IsLeftUnanswered (Request.Explain bids) input.now
+    ensures refused { result ≡ 1 → IsReportedSo (IsLeftUnanswered (Request.Explain bids target) input.now
         (S.taken out.old) (S.taken out.new) (S.failures out.old) (S.failures out.new))
         (F.taken faults.old) (F.taken faults.new) (F.failures faults.old) (F.failures faults.new)
-        ⊎ HasExplainedInput (Request.Explain bids) input.now (S.taken out.old) (S.taken out.new)
+        ⊎ HasExplainedInput (Request.Explain bids target) input.now (S.taken out.old) (S.taken out.new)
         (S.failures out.old) (S.failures out.new) (F.taken faults.old) (F.taken faults.new)
         (F.failures faults.old) (F.failures faults.new) }
 {
-    match explain_input(rt, bids, input, out) {
+    match explain_input(rt, bids, target, input, out) {
         Ok(false) => 0,
         Ok(true) => 1,
         Err(refusal) => {
-            tell(input.texts(), &refusal, faults);
+            print_refusal(input.texts(), &refusal, faults);
             1
         }
     }
@@ -287,19 +313,24 @@ fn text_of(alloc: Global, error: &Error) -> Option<String>
 }
 
 // Help and the version go to the output; a fault of the words to the faults.
-fn tell_words<S: Sink, F: Sink>(alloc: Global, error: &Error, out: &mut S, faults: &mut F) -> u8
+fn print_help_or_fault<S: Sink, F: Sink>(
+    alloc: Global,
+    error: &Error,
+    out: &mut S,
+    faults: &mut F,
+) -> u8
     ensures status { result ≤ 2 }
     ensures shown { result ≡ 0 → HasShown (by_fault (kind_of error.now)) (S.taken out.old)
         (S.taken out.new) }
     ensures quiet { result ≡ 0 → (F.taken faults.new ≡ F.taken faults.old)
         × (F.failures faults.new ≡ F.failures faults.old) }
     ensures succeeded { result ≢ 1 → S.failures out.new ≡ S.failures out.old }
-    ensures refused { result ≡ 1 → IsToldWhy (IsUntold (by_fault (kind_of error.now))
+    ensures refused { result ≡ 1 → IsReported (IsUnreported (by_fault (kind_of error.now))
         (S.taken out.old) (S.taken out.new) (S.failures out.old) (S.failures out.new))
         (F.taken faults.old) (F.taken faults.new) (F.failures faults.old) (F.failures faults.new) }
     ensures unasked { result ≡ 2 → (by_fault (kind_of error.now) ≡ for_nothing)
         × (kind_of error.now ≢ ErrorKind.OutOfMemory) × (S.taken out.new ≡ S.taken out.old) }
-    ensures told { result ≡ 2 → ((text : List ℕ) × (0 < length text) × Puts text
+    ensures reported { result ≡ 2 → ((text : List ℕ) × (0 < length text) × Puts text
         (F.taken faults.old) (F.taken faults.new) (F.failures faults.old) (F.failures faults.new)) }
 {
     if error.kind() == ErrorKind::DisplayVersion {
@@ -309,7 +340,7 @@ fn tell_words<S: Sink, F: Sink>(alloc: Global, error: &Error, out: &mut S, fault
         Some(text) if error.use_stderr() => put_fault(text.as_bytes(), faults),
         Some(text) => show(&[text.as_bytes()], out, faults),
         None => {
-            tell(&[], &Refusal::OutOfMemory, faults);
+            print_refusal(&[], &Refusal::OutOfMemory, faults);
             1
         }
     }
@@ -323,14 +354,14 @@ fn show<S: Sink, F: Sink>(pieces: &[&[u8]], out: &mut S, faults: &mut F) -> u8
     ensures quiet { result ≡ 0 → (F.taken faults.new ≡ F.taken faults.old)
         × (F.failures faults.new ≡ F.failures faults.old) }
     ensures succeeded { result ≡ 0 → S.failures out.new ≡ S.failures out.old }
-    ensures refused { result ≡ 1 → IsToldWhy (Ends (Ok (flat_map (λ p. p.now) pieces.now))
+    ensures refused { result ≡ 1 → IsReported (Ends (Ok (flat_map (λ p. p.now) pieces.now))
         (S.taken out.old) (S.taken out.new) (S.failures out.old) (S.failures out.new))
         (F.taken faults.old) (F.taken faults.new) (F.failures faults.old) (F.failures faults.new) }
 {
     match write_pieces(pieces, out) {
         Ok(()) => 0,
         Err(fault) => {
-            tell(&[], &Refusal::Write(fault), faults);
+            print_refusal(&[], &Refusal::Write(fault), faults);
             1
         }
     }

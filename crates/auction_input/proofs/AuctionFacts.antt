@@ -1,38 +1,40 @@
 -- What the stages of an auction tell.
-use Rattle.std.proofs.Common.{◌≡◌, ◌≤◌, ◌<◌, ◌+◌, ◌∷◌, ◌∙◌, [], ℕ, zero, suc, List, Option, None, Some, Result, Ok, Err, ap, ap₂, arith, length, map, refl, sym, inl, inr, ◌≢◌, Vec, codes, Global}
+use Rattle.std.proofs.Common.{◌≡◌, ◌≤◌, ◌<◌, ◌+◌, ◌∷◌, ◌∙◌, [], ℕ, Bool, zero, suc, List, Option, None, Some, Result, Ok, Err, ap, ap₂, arith, length, map, refl, sym, inl, inr, ◌≢◌, Vec, codes, Global}
 use Rattle.std.specs.List.{last_or, range_with_len}
 use Rattle.auction_terms.specs.Allocations.{Book}
 use Rattle.auction_terms.specs.Terms.{Terms, lots_in}
 use Rattle.bid_desk.specs.Closing.{Closing, bids_in, book_of, form_standing}
 use Rattle.bid_forms.specs.Offers.{Offers}
 use Rattle.bid_desk.specs.Sale.{Sale, sale_of}
-use Rattle.auction_input.specs.Auction.{Auction, auction_told}
+use Rattle.auction_input.specs.Auction.{Auction, parsed_auction}
 use Rattle.auction_input.specs.BookLeft.{sale_left}
 use Rattle.auction_input.specs.Calls.{one_too_many}
+use Rattle.auction_input.specs.FormTexts.{form_elsewhere, in_one_text}
 use Rattle.auction_input.specs.Input.{Input}
 use Rattle.auction_terms.specs.FirstFault.{first_fault}
 use Rattle.auction_input.specs.Refused.{Refuses}
 use Rattle.auction_input.specs.declared.refusal.Refusal.{Refusal}
 use Rattle.auction_input.specs.Settled.{RefusesAuction}
 use Rattle.auction_terms.specs.Borrowed.{bytes_of}
-use Rattle.auction_input.specs.Parts.{Part, TellsParts, parts_held, parts_named, input_parts}
-use Rattle.auction_input.specs.PartsTold.{only_text, parts_told}
+use Rattle.auction_input.specs.Parts.{Part, TellsParts, parts_held, parts_named, input_parts, text_numbers}
+use Rattle.auction_input.specs.ParsedParts.{only_text, parsed_parts}
 use Rattle.auction_input.specs.Plan.{miscounted}
 use Rattle.auction_input.specs.inside.Auctions.{HoldTexts, RefusesRun, Tell, bidders_of}
 use Rattle.auction_terms.specs.Stages.{and_then, each_in_turn, refused_as, unless}
 use Rattle.auction_input.specs.Submissions.{AreSubmitted, forms_of}
-use Rattle.auction_input.specs.TextsTold.{form_told, groups_told, terms_told}
+use Rattle.auction_input.specs.ParsedTexts.{parsed_form, parsed_groups, parsed_terms}
 use Rattle.auction_input.specs.declared.parts.PartFault.{PartFault}
 use Rattle.auction_input.specs.declared.parts.PartFault.TheVariants as fault
 use Rattle.auction_input.specs.declared.auction.Beside.{Beside}
+use Rattle.auction_input.specs.declared.form_texts.AnotherForm.{AnotherForm}
 use Rattle.auction_input.specs.declared.part_kind.PartKind.{PartKind}
 use Rattle.auction_input.specs.declared.parts.Part as declared
 use Rattle.auction_input.specs.declared.refusal.Refusal.TheVariants as refusal
-use Rattle.requests.specs.declared.request.Request.TheVariants as request
-use Rattle.requests.specs.declared.request.Request.{Request}
+use Rattle.auction_input.specs.declared.request.Request.TheVariants as request
+use Rattle.auction_input.specs.declared.request.Request.{Request}
 use Rattle.auction_input.specs.declared.round.RoundFault.{RoundFault}
 use Rattle.auction_input.specs.declared.round.RoundFault.TheVariants as round
-use Rattle.auction_input.proofs.StageFacts.{behind, next, stop}
+use Rattle.auction_input.proofs.StageFacts.{behind, next, refuses-as, stop}
 
 -- ---- parts
 
@@ -41,18 +43,18 @@ count-stage asked parts = refused_as refusal.PartCount (unless (miscounted asked
 
 module _ (asked : Request) (input : Input) (held : Vec declared.Part Global) where
   pub counted : (found : Option PartKind) → TellsParts asked (Ok held) input → miscounted asked (parts_held held.items) ≡ found
-      → parts_told asked input ≡ refused_as refusal.PartCount (unless found (Ok (parts_held held.items)))
-  counted found told is =
-      ap (λ (f : Option PartFault). and_then (refused_as refusal.Parts (unless f (Ok (input_parts input)))) (count-stage asked)) told.0
-      ∙ ap (count-stage asked) (sym told.1)
+      → parsed_parts asked input ≡ refused_as refusal.PartCount (unless found (Ok (parts_held held.items)))
+  counted found parsed is =
+      ap (λ (f : Option PartFault). and_then (refused_as refusal.Parts (unless f (Ok (input_parts input)))) (count-stage asked)) parsed.0
+      ∙ ap (count-stage asked) (sym parsed.1)
       ∙ ap (λ (f : Option PartKind). refused_as refusal.PartCount (unless f (Ok (parts_held held.items)))) is
 
 abbrev no_parts : PartFault → Result (Vec declared.Part Global) PartFault
 no_parts f = Err f
 
-pub parts-refused : (asked : Request) (input : Input) (f : PartFault) → TellsParts asked (no_parts f) input → Refuses (parts_told asked input) (refusal.Parts f)
-parts-refused asked input fault.OutOfMemory told = inr refl
-parts-refused asked input f told = inl (ap (λ (found : Option PartFault). and_then (refused_as refusal.Parts (unless found (Ok (input_parts input)))) (count-stage asked)) told)
+pub parts-refused : (asked : Request) (input : Input) (f : PartFault) → TellsParts asked (no_parts f) input → Refuses (parsed_parts asked input) (refusal.Parts f)
+parts-refused asked input fault.OutOfMemory parsed = inr refl
+parts-refused asked input f parsed = inl (ap (λ (found : Option PartFault). and_then (refused_as refusal.Parts (unless found (Ok (input_parts input)))) (count-stage asked)) parsed)
 
 -- ---- the stages behind the parts
 
@@ -79,47 +81,63 @@ rest-same beside parts hold = rw (hold.solutions, hold.certificates, hold.unique
 abbrev auction_of : Terms → List Offers → List (List ℕ) → Rest → Auction
 auction_of t forms groups rest = record { rules = t; sale = sale_left t forms; form_bidders = bidders_of forms; groups = groups; solutions = rest.solutions; certificates = rest.certificates; uniques = rest.uniques; ties = rest.ties; prices = rest.prices; covers = rest.covers; weights = rest.weights }
 
-module _ (asked : Request) (input : Input) (parts : List Part) (cut : parts_told asked input ≡ Ok parts) where
-  pub terms-refused : (r : Refusal) → Refuses (terms_told (only_text (parts_named (codes "%rules") parts))) r → Refuses (auction_told asked input) r
+module _ (asked : Request) (input : Input) (last_wins : Bool) (same : input.last_wins ≡ last_wins) (parts : List Part) (cut : parsed_parts asked input ≡ Ok parts) where
+  pub terms-refused : (r : Refusal) → Refuses (parsed_terms (only_text (parts_named (codes "%rules") parts))) r → Refuses (parsed_auction asked input) r
   terms-refused r refused = behind _ parts _ r cut (stop _ _ r refused)
 
-  module _ (t : Terms) (rules : terms_told (only_text (parts_named (codes "%rules") parts)) ≡ Ok t) where
-    pub forms-refused : (r : Refusal) → Refuses (each_in_turn (form_told t) 1 (parts_named (codes "%form") parts)) r → Refuses (auction_told asked input) r
+  module _ (t : Terms) (rules : parsed_terms (only_text (parts_named (codes "%rules") parts)) ≡ Ok t) where
+    pub forms-refused : (r : Refusal) → Refuses (each_in_turn (parsed_form t) 1 (parts_named (codes "%form") parts)) r → Refuses (parsed_auction asked input) r
     forms-refused r refused = behind _ parts _ r cut (behind _ t _ r rules (stop _ _ r refused))
 
-    module _ (forms : List Offers) (each : each_in_turn (form_told t) 1 (parts_named (codes "%form") parts) ≡ Ok forms) where
-      pub groups-refused : (r : Refusal) → Refuses (groups_told t (only_text (parts_named (codes "%groups") parts))) r → Refuses (auction_told asked input) r
-      groups-refused r refused = behind _ parts _ r cut (behind _ t _ r rules (behind _ forms _ r each (stop _ _ r refused)))
+    module _ (forms : List Offers) (each : each_in_turn (parsed_form t) 1 (parts_named (codes "%form") parts) ≡ Ok forms) where
+      abbrev in-one : Bool → Result (List Offers) Refusal
+      in-one b = in_one_text b t (text_numbers (codes "%form") parts) forms
 
-      module _ (groups : List (List ℕ)) (known : groups_told t (only_text (parts_named (codes "%groups") parts)) ≡ Ok groups) where
-        abbrev told-by : Option ℕ → Result Auction Refusal
-        told-by found = refused_as refusal.CallLimit (unless found (Ok (auction_of t forms groups (rest_in parts))))
+      in-one-same : in-one input.last_wins ≡ in-one last_wins
+      in-one-same = ap in-one same
 
-        abbrev no-auction : Refusal → Result Auction Refusal
-        no-auction r = Err r
+      pub texts-refused : (r : Refusal) → Refuses (in-one last_wins) r → Refuses (parsed_auction asked input) r
+      texts-refused r refused = behind _ parts _ r cut (behind _ t _ r rules (behind _ forms _ r each (stop _ _ r (refuses-as _ _ r in-one-same refused))))
 
-        pub calls-refused : (number : ℕ) (r : Refusal) → first_fault one_too_many [] forms ≡ Some number → r ≡ refusal.CallLimit number → Refuses (auction_told asked input) r
-        calls-refused number r found is =
-            let limit : told-by (first_fault one_too_many [] forms) ≡ Err r = ap told-by found ∙ ap no-auction (sym is) in
-            behind _ parts _ r cut (behind _ t _ r rules (behind _ forms _ r each (behind _ groups _ r known (inl limit))))
+      module _ (alone : form_elsewhere last_wins t (text_numbers (codes "%form") parts) forms ≡ None) where
+        abbrev checked-by : Option AnotherForm → Result (List Offers) Refusal
+        checked-by found = refused_as refusal.AnotherForm (unless found (Ok forms))
 
-        pub auction-is : first_fault one_too_many [] forms ≡ None → auction_told asked input ≡ Ok (auction_of t forms groups (rest_in parts))
-        auction-is accepted = next _ _ _ _ cut (next _ _ _ _ rules (next _ _ _ _ each (next _ _ _ _ known (ap told-by accepted))))
+        in-one-is : in-one input.last_wins ≡ Ok forms
+        in-one-is = in-one-same ∙ ap checked-by alone
+
+        pub groups-refused : (r : Refusal) → Refuses (parsed_groups t (only_text (parts_named (codes "%groups") parts))) r → Refuses (parsed_auction asked input) r
+        groups-refused r refused = behind _ parts _ r cut (behind _ t _ r rules (behind _ forms _ r each (behind _ forms _ r in-one-is (stop _ _ r refused))))
+
+        module _ (groups : List (List ℕ)) (known : parsed_groups t (only_text (parts_named (codes "%groups") parts)) ≡ Ok groups) where
+          abbrev parsed-by : Option ℕ → Result Auction Refusal
+          parsed-by found = refused_as refusal.CallLimit (unless found (Ok (auction_of t forms groups (rest_in parts))))
+
+          abbrev no-auction : Refusal → Result Auction Refusal
+          no-auction r = Err r
+
+          pub calls-refused : (number : ℕ) (r : Refusal) → first_fault one_too_many [] forms ≡ Some number → r ≡ refusal.CallLimit number → Refuses (parsed_auction asked input) r
+          calls-refused number r found is =
+              let limit : parsed-by (first_fault one_too_many [] forms) ≡ Err r = ap parsed-by found ∙ ap no-auction (sym is) in
+              behind _ parts _ r cut (behind _ t _ r rules (behind _ forms _ r each (behind _ forms _ r in-one-is (behind _ groups _ r known (inl limit)))))
+
+          pub auction-is : first_fault one_too_many [] forms ≡ None → parsed_auction asked input ≡ Ok (auction_of t forms groups (rest_in parts))
+          auction-is accepted = next _ _ _ _ cut (next _ _ _ _ rules (next _ _ _ _ each (next _ _ _ _ in-one-is (next _ _ _ _ known (ap parsed-by accepted)))))
 
   -- the auction that parts tell
-  pub told-is : (t : Terms) (forms : List Offers) (groups : List (List ℕ)) (told : Tell parts t forms groups) → auction_told asked input ≡ Ok (auction_of t forms groups (rest_in parts))
-  told-is t forms groups told = auction-is t told.rules forms told.each groups told.known told.accepted
+  pub parsed-is : (t : Terms) (forms : List Offers) (groups : List (List ℕ)) (parsed : Tell last_wins parts t forms groups) → parsed_auction asked input ≡ Ok (auction_of t forms groups (rest_in parts))
+  parsed-is t forms groups parsed = auction-is t parsed.rules forms parsed.each parsed.alone groups parsed.known parsed.accepted
 
   -- a round that leaves no book leaves no auction
-  pub run-refused : asked ≢ request.Check → (r : Refusal) → RefusesRun parts r → RefusesAuction asked input r
-  run-refused reads r (inl refused) = inl (refused asked input cut)
+  pub run-refused : asked ≢ request.Check → (r : Refusal) → RefusesRun last_wins parts r → RefusesAuction asked input r
+  run-refused reads r (inl refused) = inl (refused asked input same cut)
   run-refused reads r (inr unanswered) =
-      inr (reads, auction_of unanswered.t unanswered.forms unanswered.groups (rest_in parts), told-is unanswered.t unanswered.forms unanswered.groups unanswered.told, unanswered.is)
+      inr (reads, auction_of unanswered.t unanswered.forms unanswered.groups (rest_in parts), parsed-is unanswered.t unanswered.forms unanswered.groups unanswered.parsed, unanswered.is)
 
 -- what the round leaves is a matter of the desk, or of memory
-pub round-refused : (parts : List Part) (t : Terms) (forms : List Offers) (groups : List (List ℕ)) → Tell parts t forms groups → (f : RoundFault) → RefusesRun parts (refusal.Round f)
-round-refused parts t forms groups told round.OutOfMemory = inl (λ asked input cut. inr refl)
-round-refused parts t forms groups told round.WrongAnswer = inr (record { t = t; forms = forms; groups = groups; told = told; is = refl })
+pub round-refused : (last_wins : Bool) (parts : List Part) (t : Terms) (forms : List Offers) (groups : List (List ℕ)) → Tell last_wins parts t forms groups → (f : RoundFault) → RefusesRun last_wins parts (refusal.Round f)
+round-refused last_wins parts t forms groups parsed round.OutOfMemory = inl (λ asked input same cut. inr refl)
+round-refused last_wins parts t forms groups parsed round.WrongAnswer = inr (record { t = t; forms = forms; groups = groups; parsed = parsed; is = refl })
 
 -- ---- the book
 

@@ -42,7 +42,7 @@ no-call-left before form many = elim (leb_tells CALL_LIMIT (length (forms_of for
 
 -- ---- the first fault of one form more
 
-option_or-none : {F : Type 0} (a : Option F) → option_or a None ≡ a
+pub option_or-none : {F : Type 0} (a : Option F) → option_or a None ≡ a
 option_or-none None = refl
 option_or-none (Some fault) = refl
 
@@ -64,7 +64,7 @@ pub first-more : {R F : Type 0} (fault_of : List R → R → Option F) (items : 
 first-more fault_of items item = first-append fault_of [] items (item ∷ []) ∙ ap (option_or (first_fault fault_of [] items)) (one-fault fault_of items item)
 
 -- no item has a fault
-first-none : {R F : Type 0} (fault_of : List R → R → Option F) → first_fault fault_of [] [] ≡ None
+pub first-none : {R F : Type 0} (fault_of : List R → R → Option F) → first_fault fault_of [] [] ≡ None
 unfolding first_fault
 first-none fault_of = refl
 
@@ -74,11 +74,11 @@ pub no-call-counted : (calls : Calls) → calls.refused ≡ None → length call
 no-call-counted calls none long zeros = record { refused = none ∙ sym (first-none one_too_many); long = long; counts = λ _ b within. zeros b within }
 
 -- where one is refused it stays the first
-known-first : (o found next : Option ℕ) → is_some o ≡ true → o ≡ found → o ≡ option_or found next
+pub known-first : {F : Type 0} (o found next : Option F) → is_some o ≡ true → o ≡ found → o ≡ option_or found next
 known-first None found next some is = cc
 known-first (Some n) found next some is = rw (← is) refl
 
-pub none-refused : (o : Option ℕ) → is_some o ≡ false → o ≡ None
+pub none-refused : {F : Type 0} (o : Option F) → is_some o ≡ false → o ≡ None
 none-refused None is = refl
 none-refused (Some n) is = cc
 
@@ -89,9 +89,9 @@ refused-before calls forms form counts some = record {
   counts = λ none b within. (let no : is_some {T = ℕ} None ≡ true = rw none at some in absurd (cc));
 }
 
--- the first fault of one form more, where there was none
-next-first : (forms : List Offers) (form : Offers) (refused : Option ℕ) → refused ≡ None → refused ≡ first_fault one_too_many [] forms → first_fault one_too_many [] (forms ++ form ∷ []) ≡ one_too_many forms form
-next-first forms form refused none is = first-more one_too_many forms form ∙ ap (λ (o : Option ℕ). option_or o (one_too_many forms form)) (sym is ∙ none)
+-- the first fault of one item more, where there was none
+pub next-first : {R F : Type 0} (fault_of : List R → R → Option F) (items : List R) (item : R) (refused : Option F) → refused ≡ None → refused ≡ first_fault fault_of [] items → first_fault fault_of [] (items ++ item ∷ []) ≡ fault_of items item
+next-first fault_of items item refused none is = first-more fault_of items item ∙ ap (λ o. option_or o (fault_of items item)) (sym is ∙ none)
 
 pub refused-here : (calls : Calls) (forms : List Offers) (form : Offers) (n : ℕ) → CountsCalls calls forms → calls.refused ≡ None → n ≡ length forms + 1 → form.bidder < COUNTS_LEN → CALL_LIMIT ≤ slice_index_or calls.counts form.bidder 0
     → CountsCalls (record calls { refused = Some n }) (forms ++ form ∷ [])
@@ -99,7 +99,7 @@ refused-here calls forms form n counts none number small many =
     let counted = counts.counts none form.bidder small in
     let full : CALL_LIMIT ≤ length (forms_of form.bidder forms) = omega arith in
     record {
-      refused = ap (λ k. Some k) number ∙ sym (no-call-left forms form full) ∙ sym (next-first forms form calls.refused none counts.refused);
+      refused = ap (λ k. Some k) number ∙ sym (no-call-left forms form full) ∙ sym (next-first one_too_many forms form calls.refused none counts.refused);
       long = counts.long;
       counts = λ is b within. cc;
     }
@@ -111,7 +111,7 @@ one-more-counted calls forms form count counts none small few one =
     let left : length (forms_of form.bidder forms) < CALL_LIMIT = omega arith in
     let long = counts.long in
     record {
-      refused = none ∙ sym (call-left forms form left) ∙ sym (next-first forms form calls.refused none counts.refused);
+      refused = none ∙ sym (call-left forms form left) ∙ sym (next-first one_too_many forms form calls.refused none counts.refused);
       long = length-set calls.counts form.bidder count ∙ long;
       counts = λ _. counted-more calls.counts forms form count (omega arith) small (counts.counts none) one;
     }

@@ -1,9 +1,13 @@
+pub mod GivenNumbersFacts
+pub mod StepFacts
 pub mod AnswerFacts
 pub mod AuctionFacts
 mod CallFacts
+mod BidderNameFacts
 pub mod FaultFacts
 mod FileFacts
 pub mod FormStageFacts
+pub mod FormTextFacts
 pub mod InputTextFacts
 pub mod LimitFacts
 pub mod LotFacts
@@ -14,5 +18,6 @@ pub mod RecordFacts
 pub mod StageFacts
 pub mod StandingFacts
 pub mod SubmissionFacts
+pub mod WantedFacts
 pub mod WithinFacts
 mod WorkedLines

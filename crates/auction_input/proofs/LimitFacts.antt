@@ -13,20 +13,20 @@ use Rattle.auction_terms.specs.RulesText.{entries_of, entry_fault, of_kind, reco
 use Rattle.auction_terms.specs.inside.RulesText.{bidder_of}
 use Rattle.auction_terms.specs.Terms.{Terms, lots_in}
 use Rattle.auction_terms.specs.declared.bids.Bid.{Bid}
-use Rattle.auction_limits.specs.declared.limits.TheConstants.{GREATEST_QUANTITY, MOST_BIDDERS, MOST_BIDS}
+use Rattle.auction_terms.specs.declared.limits.TheConstants.{GREATEST_QUANTITY, MOST_BIDDERS, MOST_BIDS}
 use Rattle.auction_terms.specs.declared.record_kinds.RecordKind.TheVariants as kind
 use Rattle.auction_terms.specs.declared.record_kinds.Version.{Version}
 use Rattle.auction_terms.specs.declared.rules_text.RulesFault.TheVariants as rules_fault
 use Rattle.bid_desk.specs.Closing.{bids_in}
-use Rattle.bid_forms.specs.FormText.{bid_checks, bid_fault, bid_told, bidder_told, form_of_records}
+use Rattle.bid_forms.specs.FormText.{bid_checks, bid_fault, parsed_bid, parsed_bidder, form_of_records}
 use Rattle.bid_forms.specs.Offers.{Offers, eligibility_of}
 use Rattle.bid_forms.specs.declared.form_text.FormFault.TheVariants as form_fault
 use Rattle.auction_input.specs.BookLeft.{sale_left}
 use Rattle.auction_terms.specs.Stages.{each_in_turn}
 use Rattle.auction_input.specs.Submissions.{forms_of}
-use Rattle.auction_input.specs.TextsTold.{form_told, terms_told}
+use Rattle.auction_input.specs.ParsedTexts.{parsed_form, parsed_terms}
 use Rattle.auction_input.proofs.AnswerFacts.{ok-behind, ok-is, ok-refused_as, unless-ok}
-use Rattle.auction_input.proofs.RecordFacts.{few-of-kind, kind-checks-hold, neither, none-failed, rules-told}
+use Rattle.auction_input.proofs.RecordFacts.{few-of-kind, kind-checks-hold, neither, none-failed, rules-parsed}
 
 -- ---- rules
 
@@ -57,57 +57,57 @@ small (n ∷ quantities) are = (let parts = and_parts _ _ are in (leb-true n GRE
 
 -- a record without a fault tells a bid within the limits, and there is room for it
 bid-within : (t : Terms) (eligibility place : ℕ) (before : List Bid) (r : Record) → first_failed (bid_checks t eligibility place before r) ≡ None
-    → IsBid (lots_in t) (bid_told r) × (length before < MOST_BIDS)
+    → IsBid (lots_in t) (parsed_bid r) × (length before < MOST_BIDS)
 bid-within t eligibility place before r free =
     let checks = none-failed (bid_checks t eligibility place before r) free in
     let wide = eqb-true (length r) (length t.categories + 1) checks.0 in
     let fields : length (drop 1 r) ≡ length t.categories = (let cut = length-drop 1 r in omega arith) in
-    let sized : length (bid_told r).package ≡ length (lots_in t).supply = length-map (drop 1 r) _ ∙ fields ∙ sym (length-map t.categories _) in
+    let sized : length (parsed_bid r).package ≡ length (lots_in t).supply = length-map (drop 1 r) _ ∙ fields ∙ sym (length-map t.categories _) in
     let most = and_parts _ _ checks.1.1.0 in (
-      record { sized = sized; quantities = small (bid_told r).package checks.1.1.1.1.1.0; amount = leb-true _ _ most.1 },
+      record { sized = sized; quantities = small (parsed_bid r).package checks.1.1.1.1.1.0; amount = leb-true _ _ most.1 },
       ltb-true _ _ checks.1.1.1.1.1.1.1.1.1.1.0,
     )
 
 bids-within : (t : Terms) (eligibility : ℕ) (before more : List Record) → first_fault (bid_fault t eligibility) before more ≡ None → length before ≤ MOST_BIDS
-    → (length (before ++ more) ≤ MOST_BIDS) × AllByRecursion (IsBid (lots_in t)) (map bid_told more)
+    → (length (before ++ more) ≤ MOST_BIDS) × AllByRecursion (IsBid (lots_in t)) (map parsed_bid more)
 unfolding first_fault
 bids-within t eligibility before [] none few = (rw (append-nil before) few, tt)
 bids-within t eligibility before (r ∷ more) none few =
     let parts = neither (bid_fault t eligibility before r) (first_fault (bid_fault t eligibility) (before ++ r ∷ []) more) none in
-    let bid = bid-within t eligibility (length before + 2) (map bid_told before) r parts.0 in
+    let bid = bid-within t eligibility (length before + 2) (map parsed_bid before) r parts.0 in
     let room = bid.1 in
-    let count = length-map before bid_told in
+    let count = length-map before parsed_bid in
     let grown = length-append before (r ∷ []) in
     let rest = bids-within t eligibility (before ++ r ∷ []) more parts.1 (omega arith) in
     (subst (λ (rs : List Record). length rs ≤ MOST_BIDS) (append_assoc before (r ∷ []) more) rest.0, (bid.0, rest.1))
 
 form-within : (t : Terms) (records : List Record) (form : Offers) → form_of_records t records ≡ Ok form → IsWithin (lots_in t) form
-form-within t [] form told = cc
-form-within t (header ∷ more) form told =
-    let first = ok-behind (bidder_told t header) _ form told in
+form-within t [] form parsed = cc
+form-within t (header ∷ more) form parsed =
+    let first = ok-behind (parsed_bidder t header) _ form parsed in
     let eligibility = eligibility_of t first.0 in
-    let made : Offers = record { bidder = first.0; bids = map bid_told more } in
+    let made : Offers = record { bidder = first.0; bids = map parsed_bid more } in
     let second = unless-ok (first_fault (bid_fault t eligibility) [] more) made form first.2 in
     let within = bids-within t eligibility [] more second.0 (omega arith) in
-    let count = length-map more bid_told in
+    let count = length-map more parsed_bid in
     subst (λ (o : Offers). IsWithin (lots_in t) o) second.1 (omega arith, within.1)
 
 -- ---- what an input tells
 
 pub unless-large : {A F : Type 0} (large : Bool) (f : F) (r : Result A F) (x : A) → cond large (Err f) r ≡ Ok x → r ≡ Ok x
-unless-large true f r x told = cc
-unless-large false f r x told = told
+unless-large true f r x parsed = cc
+unless-large false f r x parsed = parsed
 
-pub terms-few : (text : List ℕ) (t : Terms) → terms_told text ≡ Ok t → length t.bidders ≤ MOST_BIDDERS
-terms-few text t told =
-    let inside = ok-refused_as _ _ t told in
-    rules-told (λ t. length t.bidders ≤ MOST_BIDDERS) few-bidders _ t (unless-large _ rules_fault.TooLarge _ t inside)
+pub terms-few : (text : List ℕ) (t : Terms) → parsed_terms text ≡ Ok t → length t.bidders ≤ MOST_BIDDERS
+terms-few text t parsed =
+    let inside = ok-refused_as _ _ t parsed in
+    rules-parsed (λ t. length t.bidders ≤ MOST_BIDDERS) few-bidders _ t (unless-large _ rules_fault.TooLarge _ t inside)
 
-pub forms-within : (t : Terms) (n : ℕ) (texts : List (List ℕ)) (forms : List Offers) → each_in_turn (form_told t) n texts ≡ Ok forms → AllByRecursion (IsWithin (lots_in t)) forms
-forms-within t n [] forms told = (let none : [] ≡ forms = ok-is _ [] forms refl told in subst (λ (fs : List Offers). AllByRecursion (IsWithin (lots_in t)) fs) none tt)
-forms-within t n (text ∷ texts) forms told =
-    let first = ok-behind (form_told t n text) _ forms told in
-    let second = ok-behind (each_in_turn (form_told t) (n + 1) texts) _ forms first.2 in
+pub forms-within : (t : Terms) (n : ℕ) (texts : List (List ℕ)) (forms : List Offers) → each_in_turn (parsed_form t) n texts ≡ Ok forms → AllByRecursion (IsWithin (lots_in t)) forms
+forms-within t n [] forms parsed = (let none : [] ≡ forms = ok-is _ [] forms refl parsed in subst (λ (fs : List Offers). AllByRecursion (IsWithin (lots_in t)) fs) none tt)
+forms-within t n (text ∷ texts) forms parsed =
+    let first = ok-behind (parsed_form t n text) _ forms parsed in
+    let second = ok-behind (each_in_turn (parsed_form t) (n + 1) texts) _ forms first.2 in
     let inside = ok-refused_as _ _ first.0 first.1 in
     let head = form-within t _ first.0 (unless-large _ form_fault.TooLarge _ first.0 inside) in
     let tail = forms-within t (n + 1) texts second.0 second.1 in

@@ -8,33 +8,33 @@ use Rattle.auction_terms.specs.Entries.{is_member_of, pool_with, terms_of}
 use Rattle.auction_terms.specs.FirstFault.{first_fault}
 use Rattle.auction_terms.specs.Limits.{IsLots, IsWeightedCap}
 use Rattle.auction_terms.specs.Records.{Record}
-use Rattle.auction_terms.specs.RulesText.{category_of, entries_of, entry_fault, field_number, is_between, number_told, entry_numbers, of_kind, record_kind, value_text}
+use Rattle.auction_terms.specs.RulesText.{category_of, entries_of, entry_fault, field_number, is_between, parsed_numeral, entry_numbers, of_kind, record_kind, value_text}
 use Rattle.auction_terms.specs.inside.RulesText.{member_of, pool_of}
 use Rattle.auction_terms.specs.Terms.{Terms, lots_in}
 use Rattle.auction_terms.specs.inside.Terms.{cap_of}
-use Rattle.auction_limits.specs.declared.limits.TheConstants.{GREATEST_AMOUNT, GREATEST_QUANTITY, GREATEST_VALUE, GREATEST_WEIGHT, MOST_CATEGORIES, MOST_POOLS}
+use Rattle.auction_terms.specs.declared.limits.TheConstants.{GREATEST_AMOUNT, GREATEST_QUANTITY, GREATEST_VALUE, GREATEST_WEIGHT, MOST_CATEGORIES, MOST_POOLS}
 use Rattle.auction_terms.specs.declared.record_kinds.RecordKind.TheVariants as kind
 use Rattle.auction_terms.specs.declared.record_kinds.Version.{Version}
 use Rattle.auction_terms.specs.declared.rules.Category.{Category}
 use Rattle.auction_terms.specs.declared.draft.Member.{Member}
 use Rattle.auction_terms.specs.declared.rules_text.RulesFault.TheVariants as rules_fault
-use Rattle.auction_input.specs.TextsTold.{terms_told}
+use Rattle.auction_input.specs.ParsedTexts.{parsed_terms}
 use Rattle.auction_input.proofs.AnswerFacts.{ok-refused_as}
 use Rattle.auction_input.proofs.LimitFacts.{unless-large}
-use Rattle.auction_input.proofs.RecordFacts.{each-of-kind, few-of-kind, kind-checks-hold, rules-told}
+use Rattle.auction_input.proofs.RecordFacts.{each-of-kind, few-of-kind, kind-checks-hold, rules-parsed}
 
 -- ---- a record without a fault
 
-in-range : (numbers : List (List ℕ × ℕ × ℕ)) → list_all (λ (n : List ℕ × ℕ × ℕ). is_between n.1 n.2 (number_told n.0)) numbers ≡ true → AllByRecursion (λ n. number_told n.0 ≤ n.2) numbers
+in-range : (numbers : List (List ℕ × ℕ × ℕ)) → list_all (λ (n : List ℕ × ℕ × ℕ). is_between n.1 n.2 (parsed_numeral n.0)) numbers ≡ true → AllByRecursion (λ n. parsed_numeral n.0 ≤ n.2) numbers
 in-range [] are = tt
 in-range (n ∷ numbers) are =
-    let parts = and_parts (is_between n.1 n.2 (number_told n.0)) (list_all (λ (n : List ℕ × ℕ × ℕ). is_between n.1 n.2 (number_told n.0)) numbers) are in
-    let here = and_parts (nat_le n.1 (number_told n.0)) (nat_le (number_told n.0) n.2) parts.0 in
-    (leb-true (number_told n.0) n.2 here.1, in-range numbers parts.1)
+    let parts = and_parts (is_between n.1 n.2 (parsed_numeral n.0)) (list_all (λ (n : List ℕ × ℕ × ℕ). is_between n.1 n.2 (parsed_numeral n.0)) numbers) are in
+    let here = and_parts (nat_le n.1 (parsed_numeral n.0)) (nat_le (parsed_numeral n.0) n.2) parts.0 in
+    (leb-true (parsed_numeral n.0) n.2 here.1, in-range numbers parts.1)
 
 record IsCategoryRecord (v : Version) (r : Record) : Type 0 where
   supply : field_number 3 r ≤ GREATEST_QUANTITY
-  value : number_told (value_text v r) ≤ GREATEST_VALUE
+  value : parsed_numeral (value_text v r) ≤ GREATEST_VALUE
 
 category-checks : (v : Version) (before : List Record) (r : Record) → record_kind v r ≡ Some kind.Category → entry_fault v before r ≡ None
     → IsCategoryRecord v r × (length (of_kind v kind.Category before) < MOST_CATEGORIES)
@@ -92,9 +92,9 @@ made-lots v more none step =
     let each = each-of-kind v kind.Category (IsCategoryRecord v) (λ before r is free. (category-checks v before r is free).0) [] more none in
     let caps = each-of-kind v kind.Pool (λ r. field_number 3 r ≤ GREATEST_AMOUNT) (λ before r is free. (pool-checks v before r is free).0) [] more none in
     let weights = each-made _ (λ (member : Member). member.weight ≤ GREATEST_WEIGHT) member_of (λ r h. h) _ (each-of-kind v kind.Member (λ r. field_number 4 r ≤ GREATEST_WEIGHT) (member-checks v) [] more none) in
-    let told = length-map categories (category_of v) in
+    let parsed = length-map categories (category_of v) in
     let count = length-map (map (category_of v) categories) (λ (category : Category). category.supply) in
-    let told_pools = length-map pools pool_of in
+    let parsed_pools = length-map pools pool_of in
     let named_pools = length-map (map pool_of pools) (pool_with (entries_of v more).categories (entries_of v more).members) in
     let pool_count = length-map (terms_of step (entries_of v more)).pools cap_of in
     record {
@@ -107,7 +107,7 @@ made-lots v more none step =
 
 -- ---- what an input tells
 
-pub lots-within : (text : List ℕ) (t : Terms) → terms_told text ≡ Ok t → IsLots (lots_in t)
-lots-within text t told =
-    let inside = ok-refused_as _ _ t told in
-    rules-told (λ u. IsLots (lots_in u)) made-lots _ t (unless-large _ rules_fault.TooLarge _ t inside)
+pub lots-within : (text : List ℕ) (t : Terms) → parsed_terms text ≡ Ok t → IsLots (lots_in t)
+lots-within text t parsed =
+    let inside = ok-refused_as _ _ t parsed in
+    rules-parsed (λ u. IsLots (lots_in u)) made-lots _ t (unless-large _ rules_fault.TooLarge _ t inside)

@@ -11,13 +11,15 @@ use Rattle.auction_terms.specs.Lines.{is_line_feed}
 use Rattle.std.proofs.lemmas.List.{append-nil, drop_more, length-map, length-take-le, map-append, nil_from_length}
 use Rattle.std.proofs.lemmas.List.Sums.{length-filter}
 use Rattle.auction_input.specs.declared.part_kind.PartKind.{PartKind}
-use Rattle.requests.specs.declared.request.Request.TheVariants as request
-use Rattle.requests.specs.declared.request.Request.{Request}
+use Rattle.auction_input.specs.Requests.{target_of}
+use Rattle.auction_input.specs.declared.request.Request.{Request}
+use Rattle.auction_input.specs.declared.request.Target.TheVariants as target
+use Rattle.auction_input.specs.declared.request.Target.{Target}
 use Rattle.memchr.specs.Find.{FindsNeedle, OccursAt}
-use Rattle.auction_input.specs.Parts.{Part, TellsParts, bytes_before, onto_first_line, cut_lines, has_bytes_before, heads_part, input_fault, name_of, part_fault, part_names, parts_from, parts_held, parts_in, parts_named, input_parts}
+use Rattle.auction_input.specs.Parts.{Part, TellsParts, bytes_before, onto_first_line, cut_lines, has_bytes_before, heads_part, input_fault, name_of, names_for, part_fault, part_names, parts_from, parts_held, parts_in, parts_named, input_parts, text_numbers}
 use Rattle.auction_input.specs.Input.{Given, Input}
-use Rattle.auction_input.specs.PartsTold.{only_text}
-use Rattle.auction_input.specs.inside.Parts.{HaveAdded, IsFaultBehind, is_held, kind_named, known_kinds, part}
+use Rattle.auction_input.specs.ParsedParts.{only_text}
+use Rattle.auction_input.specs.inside.Parts.{HaveAdded, IsFaultBehind, is_held, kind_named, kinds_for, known_kinds, part}
 use Rattle.auction_input.specs.declared.parts.Part as declared
 use Rattle.auction_terms.specs.Borrowed.{bytes_of}
 use Rattle.std.specs.Option.{option_map_or, option_or}
@@ -94,17 +96,20 @@ module _ (name : List ℕ) where
     | inr is ↦ rw is (behind (name_of k) (map name_of ks) (find is_named ks) is (named-in ks))
   ]
 
+  names-for : (command : Option Target) → names_for command ≡ map name_of (kinds_for command)
+  names-for (Some target.Verify) = refl
+  names-for None = refl
+  names-for (Some command) = refl
+
   names-known : (asked : Request) → part_names asked ≡ map name_of (known_kinds asked)
-  names-known (request.Verify workers) = refl
-  names-known (request.Explain bids) = refl
-  names-known asked = refl
+  names-known asked = names-for (target_of asked)
 
   pub named-so : (asked : Request) (found : Option PartKind) → kind_named asked name ≡ found → NamedIn (part_names asked) found
   named-so asked found is = rw (names-known asked) (subst (NamedIn (map name_of (known_kinds asked))) is (named-in (known_kinds asked)))
 
 -- ---- parts, by their names
 
--- a part of a kind that is told
+-- a part of a kind that is named
 pub known-part : (asked : Request) (before : List Part) (p : Part) (k : PartKind) → kind_named asked p.name ≡ Some k → part_fault asked before p ≡ None
 known-part asked before p k is = rw (named-so p.name asked (Some k) is).1 refl
 
@@ -121,9 +126,9 @@ so_named n bytes name = record { text = n; name = name; bytes = bytes }
 -- one part more is held
 pub held-more : (old new : List declared.Part) (asked : Request) (name : List ℕ) (part : declared.Part) → kind_named asked name ≡ Some part.kind → new ≡ old ++ part ∷ []
     → parts_held new ≡ parts_held old ++ so_named part.text part.bytes.now name ∷ []
-held-more old new asked name part told grown =
+held-more old new asked name part parsed grown =
     ap parts_held grown ∙ map-append held_part old (part ∷ [])
-    ∙ ap (λ (n : List ℕ). parts_held old ++ so_named part.text part.bytes.now n ∷ []) (sym (named-so name asked (Some part.kind) told).0)
+    ∙ ap (λ (n : List ℕ). parts_held old ++ so_named part.text part.bytes.now n ∷ []) (sym (named-so name asked (Some part.kind) parsed).0)
 
 -- where nothing is before the first part, the first fault is that of a part
 pub fault-of-parts : (asked : Request) (input : Input) → list_any has_bytes_before input.texts ≡ false → input_fault asked input ≡ first_fault (part_fault asked) [] (input_parts input)
@@ -147,18 +152,18 @@ pub behind-more : (asked : Request) (old all before ahead rest : List Part) (p :
     → CheckedBehind asked old all (before ++ p ∷ []) rest
 unfolding first_fault
 behind-more asked old all before ahead rest p so_far next none =
-    let told = rw (next, none) at so_far.fault_is in
+    let parsed = rw (next, none) at so_far.fault_is in
     record {
       all_is = so_far.all_is ∙ rw next (sym (append_assoc before (p ∷ []) rest));
-      fault_is = told;
+      fault_is = parsed;
     }
 
 pub behind-fault : (asked : Request) (old all before ahead rest : List Part) (p : Part) (f : PartFault) → CheckedBehind asked old all before ahead → ahead ≡ p ∷ rest → part_fault asked before p ≡ Some f
     → first_fault (part_fault asked) old all ≡ Some f
 unfolding first_fault
 behind-fault asked old all before ahead rest p f so_far next found =
-    let told = rw (next, found) at so_far.fault_is in
-    told
+    let parsed = rw (next, found) at so_far.fault_is in
+    parsed
 
 pub behind-all : (asked : Request) (old all before : List Part) → CheckedBehind asked old all before [] → HaveAdded asked old before all
 unfolding first_fault
@@ -201,6 +206,11 @@ before-is text n within is = rw (is, length-take-le n text within) (is-some n)
         let some : (suc k == 0) ≡ false = ne_eqb (suc k) 0 (λ is. absurd (omega arith)) in
         elim (leb_tells 1 (suc k)) [ inl (is, _) ↦ rw (some, is) refl | inr (_, above) ↦ absurd (omega arith) ]
 
+-- there are as many numbers of texts as texts
+pub as-many-numbers : (name : List ℕ) (parts : List Part) → length (text_numbers name parts) ≡ length (parts_named name parts)
+as-many-numbers name parts =
+    length-map (filter (λ (p : Part). bytes_eq p.name name) parts) (λ (p : Part). p.text) ∙ sym (length-map (filter (λ (p : Part). bytes_eq p.name name) parts) (λ (p : Part). p.bytes))
+
 module _ (k : PartKind) where
   abbrev held_named : List declared.Part → List (List ℕ)
   held_named held = parts_named (name_of k) (parts_held held)
@@ -214,6 +224,13 @@ module _ (k : PartKind) where
   texts_held (part ∷ held) = elim (cases_Bool (is_held k part)) [
     | inl is ↦ rw is (ap (λ (xs : List (List ℕ)). part.bytes.now ∷ xs) (texts_held held))
     | inr is ↦ rw is (texts_held held)
+  ]
+
+  pub numbers_held : (held : List declared.Part) → map (λ (part : declared.Part). part.text) (filter (is_held k) held) ≡ text_numbers (name_of k) (parts_held held)
+  numbers_held [] = refl
+  numbers_held (part ∷ held) = elim (cases_Bool (is_held k part)) [
+    | inl is ↦ rw is (ap (λ (ns : List ℕ). part.text ∷ ns) (numbers_held held))
+    | inr is ↦ rw is (numbers_held held)
   ]
 
   pub count_held : (held : List declared.Part) → count_by (is_held k) held ≡ length (held_named held)

@@ -15,7 +15,7 @@ use Rattle.auction_terms.specs.declared.record_kinds.RecordKind.TheVariants as k
 use Rattle.auction_terms.specs.declared.record_kinds.Version.{Version}
 use Rattle.auction_terms.specs.declared.rules_text.RulesFault.{RulesFault}
 use Rattle.auction_terms.specs.declared.rules_text.RulesFault.TheVariants as rules_fault
-use Rattle.auction_input.proofs.AnswerFacts.{ok-behind, unless-ok, unless-told}
+use Rattle.auction_input.proofs.AnswerFacts.{ok-behind, unless-ok, unless-parsed}
 
 -- ---- checks
 
@@ -74,16 +74,16 @@ module _ (v : Version) (k : RecordKind) where
       ] in
       subst (λ (rs : List Record). length (of_kind v k rs) ≤ most) (append_assoc before (r ∷ []) more) (few-of-kind most room (before ++ r ∷ []) more none_more grown)
 
--- ---- rules that are told
+-- ---- rules that are parsed
 
 -- what rules have that are made of records without a fault, rules have that records tell
 module _ (P : Terms → Type 0) (made : (v : Version) (more : List Record) → first_fault (entry_fault v) [] more ≡ None → (step : ℕ) → P (terms_of step (entries_of v more))) where
-  pub rules-told : (records : List Record) (t : Terms) → rules_of_records records ≡ Ok t → P t
-  rules-told [] t told = cc
-  rules-told (header ∷ more) t told =
-      let version = ok-behind (ok_or (version_of header) (rules_fault.Header 1)) _ t told in
+  pub rules-parsed : (records : List Record) (t : Terms) → rules_of_records records ≡ Ok t → P t
+  rules-parsed [] t parsed = cc
+  rules-parsed (header ∷ more) t parsed =
+      let version = ok-behind (ok_or (version_of header) (rules_fault.Header 1)) _ t parsed in
       let v = version.0 in
-      let first = unless-told (first_failed (header_checks v header)) _ t version.2 in
-      let second = unless-told (first_fault (entry_fault v) [] more) _ t first.1 in
+      let first = unless-parsed (first_failed (header_checks v header)) _ t version.2 in
+      let second = unless-parsed (first_fault (entry_fault v) [] more) _ t first.1 in
       let third = unless-ok (first_failed (end_checks (length more + 1) (entries_of v more))) (terms_of (field_number 3 header) (entries_of v more)) t second.1 in
       subst P third.1 (made v more second.0 (field_number 3 header))

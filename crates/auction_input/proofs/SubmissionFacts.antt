@@ -124,22 +124,22 @@ module _ {D E : Type 0} (session_of : D → SessionOwn) (ended_of : D → Result
 
   pub ended-more : (ended ended' : Result (Unit {0}) E) → OnOk ended' ((ended ≡ Ok tt) × (ended_of job ≡ Ok tt)) → (ended ≡ Ok tt → All (λ (d : D). ended_of d ≡ Ok tt) yielded) → ended' ≡ Ok tt
       → All (λ (d : D). ended_of d ≡ Ok tt) (yielded ++ job ∷ [])
-  ended-more ended ended' told before ok =
-      let both : (ended ≡ Ok tt) × (ended_of job ≡ Ok tt) = subst (λ (r : Result (Unit {0}) E). OnOk r ((ended ≡ Ok tt) × (ended_of job ≡ Ok tt))) ok told in
+  ended-more ended ended' parsed before ok =
+      let both : (ended ≡ Ok tt) × (ended_of job ≡ Ok tt) = subst (λ (r : Result (Unit {0}) E). OnOk r ((ended ≡ Ok tt) × (ended_of job ≡ Ok tt))) ok parsed in
       All-push (λ (d : D). ended_of d ≡ Ok tt) yielded job (before both.0) both.1
 
   -- a wrong answer is that of some job
   pub wrong-more : (ended ended' : Result (Unit {0}) E) (fault : E) → (ended' ≡ Err fault → (ended ≡ Err fault) ⊎ (ended_of job ≡ Err fault)) → (ended ≡ Err fault → Any (λ (d : D). ended_of d ≡ Err fault) yielded)
       → ended' ≡ Err fault → Any (λ (d : D). ended_of d ≡ Err fault) (yielded ++ job ∷ [])
-  wrong-more ended ended' fault told before wrong =
-      elim (told wrong) [ inl earlier ↦ Any-longer (λ (d : D). ended_of d ≡ Err fault) yielded job (before earlier) | inr own ↦ Any-push (λ (d : D). ended_of d ≡ Err fault) yielded job own ]
+  wrong-more ended ended' fault parsed before wrong =
+      elim (parsed wrong) [ inl earlier ↦ Any-longer (λ (d : D). ended_of d ≡ Err fault) yielded job (before earlier) | inr own ↦ Any-push (λ (d : D). ended_of d ≡ Err fault) yielded job own ]
 
 pub yielded-more : {X : Type 0} (yielded rest rest' all : List X) (x : X) → rest ≡ x ∷ rest' → yielded ++ rest ≡ all → (yielded ++ x ∷ []) ++ rest' ≡ all
 yielded-more yielded rest rest' all x taken are = append_assoc yielded (x ∷ []) rest' ∙ ap (λ xs. yielded ++ xs) (sym taken) ∙ are
 
 pub pushed : {X Y Z : Type 0} (result : Result X Y) (before after new : Z) → false ≡ is_err result → new ≡ (if is_ok result then after else before) → new ≡ after
-pushed (Ok x) before after new is told = told
-pushed (Err e) before after new is told = absurd (cc)
+pushed (Ok x) before after new is parsed = parsed
+pushed (Err e) before after new is parsed = absurd (cc)
 
 -- a list has gone on to fit another, place by place
 pub zip-from-places : {X Y : Type 0} (R : X → Y → Type 0) (xs : List X) (ys : List Y) → length ys ≡ length xs

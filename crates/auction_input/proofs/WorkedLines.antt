@@ -2,12 +2,12 @@
 use Rattle.std.specs.Prelude.{◌≡◌, refl, codes}
 use Rattle.std.specs.Fmt.{digits}
 use Rattle.bid_forms.specs.declared.form_text.FormFault.TheVariants as form
-use Rattle.mps_meaning.specs.declared.fault.FaultKind.TheVariants as kind
+use Rattle.program_rows.specs.declared.mps_fault_kind.MpsFaultKind.TheVariants as kind
 use Rattle.auction_input.specs.Line.{line}
 use Rattle.auction_input.specs.declared.part_kind.PartKind.TheVariants as part
 use Rattle.auction_input.specs.declared.refusal.Refusal.TheVariants as refusal
-use Rattle.price_texts.specs.declared.price_fault.PriceFault.TheVariants as price
-use Rattle.program_faults.specs.declared.certificate_fault.FaultKind.TheVariants as certificate
+use Rattle.auction_input.specs.declared.price_fault.PriceFault.TheVariants as price
+use Rattle.program_rows.specs.declared.certificate_fault.CertificateFaultKind.TheVariants as certificate
 
 below_reserve : line (refusal.Form 1 (form.BelowReserve 2)) ≡ codes "wdp: form 1: 12 BelowReserve at record 2\n"
 unfolding digits

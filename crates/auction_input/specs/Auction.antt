@@ -1,14 +1,15 @@
--- The auction that an input tells: its parts, rules, forms and groups, and the call limit, in this order.
+-- The auction that an input tells: its parts, rules and forms, whether each bidder's are in one text, groups, and the call limit, in this order.
 use Rattle.std.specs.Prelude.{ℕ, List, [], Result, Ok, codes, map}
 use Rattle.auction_input.specs.BookLeft.{sale_left}
 use Rattle.auction_input.specs.Calls.{one_too_many}
+use Rattle.auction_input.specs.FormTexts.{in_one_text}
 use Rattle.auction_input.specs.Input.{Input}
-use Rattle.auction_input.specs.Parts.{parts_named}
-use Rattle.auction_input.specs.PartsTold.{only_text, parts_told}
-use Rattle.auction_input.specs.TextsTold.{form_told, groups_told, terms_told}
+use Rattle.auction_input.specs.Parts.{parts_named, text_numbers}
+use Rattle.auction_input.specs.ParsedParts.{only_text, parsed_parts}
+use Rattle.auction_input.specs.ParsedTexts.{parsed_form, parsed_groups, parsed_terms}
 use Rattle.auction_input.specs.declared.refusal.Refusal.TheVariants as refusal
 use Rattle.auction_input.specs.declared.refusal.Refusal.{Refusal}
-use Rattle.requests.specs.declared.request.Request.{Request}
+use Rattle.auction_input.specs.declared.request.Request.{Request}
 use Rattle.auction_terms.specs.FirstFault.{first_fault}
 use Rattle.auction_terms.specs.Stages.{and_then, each_in_turn, refused_as, unless}
 use Rattle.auction_terms.specs.Terms.{Terms}
@@ -29,12 +30,13 @@ pub record Auction : Type 0 where
   pub covers : List (List ℕ)
   pub weights : List (List ℕ)
 
-abbrev pub auction_told : Request → Input → Result Auction Refusal
-auction_told asked input =
-    and_then (parts_told asked input) (λ parts.
-    and_then (terms_told (only_text (parts_named (codes "%rules") parts))) (λ t.
-    and_then (each_in_turn (form_told t) 1 (parts_named (codes "%form") parts)) (λ forms.
-    and_then (groups_told t (only_text (parts_named (codes "%groups") parts))) (λ groups.
+abbrev pub parsed_auction : Request → Input → Result Auction Refusal
+parsed_auction asked input =
+    and_then (parsed_parts asked input) (λ parts.
+    and_then (parsed_terms (only_text (parts_named (codes "%rules") parts))) (λ t.
+    and_then (each_in_turn (parsed_form t) 1 (parts_named (codes "%form") parts)) (λ read.
+    and_then (in_one_text input.last_wins t (text_numbers (codes "%form") parts) read) (λ forms.
+    and_then (parsed_groups t (only_text (parts_named (codes "%groups") parts))) (λ groups.
     refused_as refusal.CallLimit (unless (first_fault one_too_many [] forms) (Ok (record {
       rules = t;
       sale = sale_left t forms;
@@ -47,4 +49,4 @@ auction_told asked input =
       prices = parts_named (codes "%prices") parts;
       covers = parts_named (codes "%cover") parts;
       weights = parts_named (codes "%weights") parts;
-    })))))))
+    }))))))))

@@ -2,7 +2,7 @@
 use Rattle.std.specs.Prelude.{◌≡◌, ◌+◌, ◌<◌, ℕ, List, [], Option, None, Some, if◌then◌else◌, length, nat_le, slice_index_or}
 use Rattle.auction_input.specs.Submissions.{forms_of}
 use Rattle.auction_input.specs.declared.calls.Calls.{Calls}
-use Rattle.auction_limits.specs.declared.limits.TheConstants.{MOST_BIDDERS}
+use Rattle.auction_terms.specs.declared.limits.TheConstants.{MOST_BIDDERS}
 use Rattle.auction_terms.specs.FirstFault.{first_fault}
 use Rattle.bid_book.specs.History.{call_limit}
 use Rattle.bid_forms.specs.Offers.{Offers}

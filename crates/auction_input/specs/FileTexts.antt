@@ -3,7 +3,7 @@ use Rattle.std.specs.Prelude.{◌≡◌, ◌≤◌, ◌-◌, ◌||◌, ⊤, ℕ,
 use Rattle.std.specs.Bool.{MatchBool}
 use Rattle.std.specs.Io.KnownBytes.{Consumes, IsAtEnd}
 use Rattle.std.specs.Str.{bytes_eq}
-use Rattle.auction_input.specs.Input.{Given, Input, input_of}
+use Rattle.auction_input.specs.Input.{Given, unnamed}
 use Rattle.auction_input.specs.ReadInput.{IsUntaken, IsWhole}
 use Rattle.auction_input.specs.declared.input.Unread.{Unread}
 use Rattle.auction_input.specs.declared.input.Unread.TheVariants as unread
@@ -34,10 +34,10 @@ AreRead content [] left left' texts = (texts ≡ []) × (left' ≡ left)
 AreRead content (name ∷ names) left left' texts =
     (bytes : List ℕ) × (more : List Given) × (mid : Option (List ℕ)) × (texts ≡ record { name = name; bytes = bytes } ∷ more) × IsTextOf content name left mid bytes × AreRead content names mid left' more
 
--- what a command reads: without names standard input, as one text by itself; else the texts of the names, which have no more bytes together than an input may have
-abbrev pub IsInputRead : (List ℕ → Option (List ℕ)) → List (List ℕ) → Option (List ℕ) → Option (List ℕ) → Input → Type 0
-IsInputRead content [] left left' input = (bytes : List ℕ) × IsWhole left left' bytes × (input ≡ input_of bytes)
-IsInputRead content names left left' input = AreRead content names left left' input.texts × (sum_by (λ given. length given.bytes) input.texts ≤ INPUT_LIMIT)
+-- the texts that a command reads: without names standard input, as one text by itself; else the texts of the names, which have no more bytes together than an input may have
+abbrev pub IsInputRead : (List ℕ → Option (List ℕ)) → List (List ℕ) → Option (List ℕ) → Option (List ℕ) → List Given → Type 0
+IsInputRead content [] left left' texts = (bytes : List ℕ) × IsWhole left left' bytes × (texts ≡ unnamed bytes ∷ [])
+IsInputRead content names left left' texts = AreRead content names left left' texts × (sum_by (λ given. length given.bytes) texts ≤ INPUT_LIMIT)
 
 -- what is read of standard input where not all texts are
 abbrev pub IsReadInPart : Option (List ℕ) → Option (List ℕ) → Type 0

@@ -1,12 +1,16 @@
+pub mod GivenNumbers
+pub mod PriceFaultText
+pub mod Requests
 pub mod Auction
 pub mod BookLeft
 pub mod Calls
 pub mod FileTexts
 pub mod FileWords
+pub mod FormTexts
 pub mod Input
 pub mod Line
 pub mod Parts
-pub mod PartsTold
+pub mod ParsedParts
 pub mod Places
 pub mod Plan
 pub mod ReadInput
@@ -14,6 +18,7 @@ pub mod Refused
 pub mod Settled
 pub mod Sold
 pub mod Submissions
-pub mod TextsTold
-pub mod Told
+pub mod ParsedTexts
+pub mod Message
+pub mod Wanted
 pub mod inside

@@ -10,21 +10,21 @@ use Rattle.auction_input.specs.declared.round.RoundFault.TheVariants as round
 use Rattle.auction_terms.specs.GroupFaultText.{group_fault_text}
 use Rattle.auction_terms.specs.RulesFaultText.{rules_fault_text}
 use Rattle.bid_forms.specs.FormFaultText.{form_fault_text}
-use Rattle.program_faults.specs.MpsFaultText.{mps_fault_text}
+use Rattle.program_rows.specs.MpsFaultText.{mps_fault_text}
 use Rattle.byte_sinks.specs.Sinks.{HasFailed, SentFront}
 use Rattle.byte_sinks.specs.declared.write_fault.WriteFault.TheVariants as write
-use Rattle.program_faults.specs.CertificateFaultText.{certificate_fault_text}
-use Rattle.price_texts.specs.PriceFaultText.{price_fault_text}
-use Rattle.price_texts.specs.declared.price_fault.PriceFault.TheVariants as price
-use Rattle.program_faults.specs.SolutionFaultText.{solution_fault_text}
+use Rattle.program_rows.specs.CertificateFaultText.{certificate_fault_text}
+use Rattle.auction_input.specs.PriceFaultText.{price_fault_text}
+use Rattle.auction_input.specs.declared.price_fault.PriceFault.TheVariants as price
+use Rattle.program_rows.specs.SolutionFaultText.{solution_fault_text}
 use Rattle.auction_terms.specs.declared.groups_text.GroupFault.TheVariants as groups
 use Rattle.auction_terms.specs.declared.rules_text.RulesFault.TheVariants as rules
 use Rattle.bid_forms.specs.declared.form_text.FormFault.TheVariants as form
-use Rattle.program_faults.specs.declared.certificate_fault.FaultKind.TheVariants as certificate
-use Rattle.program_faults.specs.declared.solution_fault.SolutionFault.TheVariants as solution
-use Rattle.mps_meaning.specs.declared.fault.FaultKind.TheVariants as kind
+use Rattle.program_rows.specs.declared.certificate_fault.CertificateFaultKind.TheVariants as certificate
+use Rattle.program_rows.specs.declared.solution_fault.SolutionFault.TheVariants as solution
+use Rattle.program_rows.specs.declared.mps_fault_kind.MpsFaultKind.TheVariants as kind
 
--- what is told of a refusal: wherever memory was short, just that; of a fault the words of its part before it
+-- what is reported of a refusal: wherever memory was short, just that; of a fault the words of its part before it
 abbrev pub refusal_text : Refusal → List ℕ
 refusal_text (refusal.Input input.OutOfMemory) = codes "out of memory"
 refusal_text (refusal.Parts part.OutOfMemory) = codes "out of memory"
@@ -52,6 +52,7 @@ refusal_text (refusal.PartCount kind_of_part.Weights) = codes "input: wrong numb
 refusal_text (refusal.PartCount claimed) = codes "input: wrong number of unique and tie"
 refusal_text (refusal.Rules f) = codes "rules: " ++ rules_fault_text f
 refusal_text (refusal.Form n f) = (codes "form " ++ (decimal n ++ codes ": ")) ++ form_fault_text f
+refusal_text (refusal.AnotherForm f) = codes "another form of " ++ f.bidder
 refusal_text (refusal.Groups f) = codes "groups: " ++ group_fault_text f
 refusal_text (refusal.CallLimit n) = (codes "form " ++ (decimal n ++ codes ": ")) ++ codes "CallLimit"
 refusal_text (refusal.Round round.WrongAnswer) = codes "desk: wrong answer"

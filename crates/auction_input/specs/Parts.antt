@@ -10,8 +10,10 @@ use Rattle.auction_input.specs.declared.parts.PartFault.{PartFault}
 use Rattle.auction_input.specs.declared.part_kind.PartKind.TheVariants as kind
 use Rattle.auction_input.specs.declared.part_kind.PartKind.{PartKind}
 use Rattle.auction_input.specs.declared.parts.Part as declared
-use Rattle.requests.specs.declared.request.Request.TheVariants as request
-use Rattle.requests.specs.declared.request.Request.{Request}
+use Rattle.auction_input.specs.Requests.{target_of}
+use Rattle.auction_input.specs.declared.request.Request.{Request}
+use Rattle.auction_input.specs.declared.request.Target.TheVariants as target
+use Rattle.auction_input.specs.declared.request.Target.{Target}
 use Rattle.auction_terms.specs.FirstFault.{first_fault}
 use Rattle.auction_terms.specs.Lines.{is_line_feed, lines_of}
 
@@ -57,11 +59,14 @@ input_parts input = parts_from 0 input.texts
 abbrev pub has_bytes_before : Given → Bool
 has_bytes_before given = not (length (bytes_before (cut_lines given.bytes)) == 0)
 
--- the names that a part may have; certificates, what is claimed of other outcomes, and prices are for `verify`, and for `explain`, which ignores them
+-- the names that a part may have; certificates, what is claimed of other outcomes, and prices are for `verify`, and for `explain` where it names no command, which ignores them
+abbrev pub names_for : Option Target → List (List ℕ)
+names_for (Some target.Verify) = codes "%rules" ∷ codes "%form" ∷ codes "%groups" ∷ codes "%solution" ∷ codes "%certificate" ∷ codes "%unique" ∷ codes "%tie" ∷ codes "%prices" ∷ codes "%cover" ∷ codes "%weights" ∷ []
+names_for None = codes "%rules" ∷ codes "%form" ∷ codes "%groups" ∷ codes "%solution" ∷ codes "%certificate" ∷ codes "%unique" ∷ codes "%tie" ∷ codes "%prices" ∷ codes "%cover" ∷ codes "%weights" ∷ []
+names_for (Some command) = codes "%rules" ∷ codes "%form" ∷ codes "%groups" ∷ codes "%solution" ∷ []
+
 abbrev pub part_names : Request → List (List ℕ)
-part_names (request.Verify workers) = codes "%rules" ∷ codes "%form" ∷ codes "%groups" ∷ codes "%solution" ∷ codes "%certificate" ∷ codes "%unique" ∷ codes "%tie" ∷ codes "%prices" ∷ codes "%cover" ∷ codes "%weights" ∷ []
-part_names (request.Explain bids) = codes "%rules" ∷ codes "%form" ∷ codes "%groups" ∷ codes "%solution" ∷ codes "%certificate" ∷ codes "%unique" ∷ codes "%tie" ∷ codes "%prices" ∷ codes "%cover" ∷ codes "%weights" ∷ []
-part_names asked = codes "%rules" ∷ codes "%form" ∷ codes "%groups" ∷ codes "%solution" ∷ []
+part_names asked = names_for (target_of asked)
 
 -- a part of no such name, given the parts before it
 abbrev pub part_fault : Request → List Part → Part → Option PartFault
@@ -76,6 +81,10 @@ input_fault asked input =
 -- the bytes of the parts of a name, in the order of the input
 abbrev pub parts_named : List ℕ → List Part → List (List ℕ)
 parts_named name parts = map (λ p. p.bytes) (filter (λ (p : Part). bytes_eq p.name name) parts)
+
+-- and the numbers of their texts
+abbrev pub text_numbers : List ℕ → List Part → List ℕ
+text_numbers name parts = map (λ p. p.text) (filter (λ (p : Part). bytes_eq p.name name) parts)
 
 -- the name in the line that heads a part of a kind
 abbrev pub name_of : PartKind → List ℕ

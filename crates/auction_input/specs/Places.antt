@@ -13,8 +13,8 @@ use Rattle.auction_input.specs.declared.refusal.Refusal.TheVariants as refusal
 use Rattle.auction_terms.specs.declared.groups_text.GroupFault.TheVariants as groups
 use Rattle.auction_terms.specs.declared.rules_text.RulesFault.TheVariants as rules
 use Rattle.bid_forms.specs.declared.form_text.FormFault.TheVariants as form
-use Rattle.program_faults.specs.declared.certificate_fault.FaultKind.TheVariants as certificate
-use Rattle.program_faults.specs.declared.solution_fault.SolutionFault.TheVariants as solution
+use Rattle.program_rows.specs.declared.certificate_fault.CertificateFaultKind.TheVariants as certificate
+use Rattle.program_rows.specs.declared.solution_fault.SolutionFault.TheVariants as solution
 
 -- how many of these parts are of a kind; without a kind, how many there are
 abbrev pub parts_counted : Option PartKind → List Part → ℕ
@@ -45,6 +45,7 @@ counted_as (refusal.Parts part.BeforeFirst) = Some (counted.BytesBefore, 1)
 counted_as (refusal.Parts (part.PartName n)) = Some (counted.Parts, n)
 counted_as (refusal.Rules f) = Some (counted.Kind kind_of_part.Rules, 1)
 counted_as (refusal.Form n f) = Some (counted.Kind kind_of_part.Form, n)
+counted_as (refusal.AnotherForm f) = Some (counted.Kind kind_of_part.Form, f.form)
 counted_as (refusal.CallLimit n) = Some (counted.Kind kind_of_part.Form, n)
 counted_as (refusal.Groups f) = Some (counted.Kind kind_of_part.Groups, 1)
 counted_as (refusal.NoGroup k) = Some (counted.Kind kind_of_part.Groups, 1)

@@ -1,18 +1,18 @@
 -- What an input leaves: an auction that is settled, or the first refusal.
 use Rattle.std.specs.Prelude.{◌≡◌, ◌≢◌, ◌⊎◌, ℕ, List, Ok, codes}
-use Rattle.auction_input.specs.Auction.{Auction, auction_told}
+use Rattle.auction_input.specs.Auction.{Auction, parsed_auction}
 use Rattle.auction_terms.specs.Borrowed.{bytes_of}
 use Rattle.auction_input.specs.Input.{Input}
 use Rattle.auction_input.specs.Parts.{Part, parts_named}
-use Rattle.auction_input.specs.PartsTold.{only_text, parts_told}
+use Rattle.auction_input.specs.ParsedParts.{only_text, parsed_parts}
 use Rattle.auction_input.specs.Refused.{Refuses}
 use Rattle.auction_input.specs.Submissions.{AreSubmitted}
-use Rattle.auction_input.specs.TextsTold.{form_told, terms_told}
+use Rattle.auction_input.specs.ParsedTexts.{parsed_form, parsed_terms}
 use Rattle.auction_input.specs.declared.auction.Auction as declared
 use Rattle.auction_input.specs.declared.refusal.Refusal.TheVariants as refusal
 use Rattle.auction_input.specs.declared.refusal.Refusal.{Refusal}
-use Rattle.requests.specs.declared.request.Request.TheVariants as request
-use Rattle.requests.specs.declared.request.Request.{Request}
+use Rattle.auction_input.specs.declared.request.Request.TheVariants as request
+use Rattle.auction_input.specs.declared.request.Request.{Request}
 use Rattle.auction_input.specs.declared.round.RoundFault.TheVariants as round
 use Rattle.auction_terms.specs.Stages.{each_in_turn}
 use Rattle.bid_desk.specs.Closing.{Closing}
@@ -23,19 +23,19 @@ use Rattle.bid_desk.specs.Sale.{sale_of}
 abbrev pub held : declared.Auction → Auction
 held auction = record { rules = auction.book.rules; sale = sale_of auction.book; form_bidders = auction.form_bidders.items; groups = auction.groups; solutions = bytes_of auction.solutions.items; certificates = bytes_of auction.certificates.items; uniques = bytes_of auction.uniques.items; ties = bytes_of auction.ties.items; prices = bytes_of auction.prices.items; covers = bytes_of auction.covers.items; weights = bytes_of auction.weights.items }
 
--- the auction, which the request reads, is accepted, and yet a wrong answer of the desk is told: that it gave one isn't said, since nothing is known of what a lock gives
+-- the auction, which the request reads, is accepted, and yet a wrong answer of the desk is reported: that it gave one isn't said, since nothing is known of what a lock gives
 abbrev pub IsUnsettled : Request → Input → Refusal → Type 0
-IsUnsettled asked input r = (asked ≢ request.Check) × (auction : Auction) × (auction_told asked input ≡ Ok auction) × (r ≡ refusal.Round round.WrongAnswer)
+IsUnsettled asked input r = (asked ≢ request.Check) × (auction : Auction) × (parsed_auction asked input ≡ Ok auction) × (r ≡ refusal.Round round.WrongAnswer)
 
 -- why an input leaves no settled auction
 abbrev pub RefusesAuction : Request → Input → Refusal → Type 0
-RefusesAuction asked input r = Refuses (auction_told asked input) r ⊎ IsUnsettled asked input r
+RefusesAuction asked input r = Refuses (parsed_auction asked input) r ⊎ IsUnsettled asked input r
 
 -- a book holds the forms that the input tells, which were submitted in their order under the rules that it tells
 pub record HoldsForms (asked : Request) (input : Input) (book : Closing) : Type 0 where
   pub parts : List Part
   pub forms : List Offers
-  pub parts_are : parts_told asked input ≡ Ok parts
-  pub rules_are : terms_told (only_text (parts_named (codes "%rules") parts)) ≡ Ok book.rules
-  pub forms_are : each_in_turn (form_told book.rules) 1 (parts_named (codes "%form") parts) ≡ Ok forms
+  pub parts_are : parsed_parts asked input ≡ Ok parts
+  pub rules_are : parsed_terms (only_text (parts_named (codes "%rules") parts)) ≡ Ok book.rules
+  pub forms_are : each_in_turn (parsed_form book.rules) 1 (parts_named (codes "%form") parts) ≡ Ok forms
   pub submitted : AreSubmitted forms book

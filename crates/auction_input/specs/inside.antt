@@ -4,4 +4,4 @@ pub mod InputTexts
 pub mod Parts
 pub mod Places
 pub mod Submissions
-pub mod TextsTold
+pub mod ParsedTexts

@@ -1,27 +1,29 @@
 //! The auction that an input tells.
 
-ghost use Rattle.std.specs.Prelude.{◌≡◌, ◌≢◌, All, IfErr, IfOk, Ok, codes};
-ghost use Rattle.auction_input.specs.Auction.{auction_told};
+ghost use Rattle.std.specs.Prelude.{◌≡◌, ◌≢◌, All, IfErr, IfOk, None, Ok, OnOk, codes, length};
+ghost use Rattle.auction_input.specs.Auction.{parsed_auction};
 ghost use Rattle.auction_input.specs.Refused.{Refuses};
 ghost use Rattle.auction_input.specs.Settled.{HoldsForms, RefusesAuction, held};
-ghost use Rattle.auction_input.specs.Parts.{parts_held, parts_named};
-ghost use Rattle.auction_input.specs.PartsTold.{only_text, parts_told};
+ghost use Rattle.auction_input.specs.FormTexts.{form_elsewhere, in_one_text};
+ghost use Rattle.auction_input.specs.Parts.{parts_held, parts_named, text_numbers};
+ghost use Rattle.auction_input.specs.ParsedParts.{only_text, parsed_parts};
 ghost use Rattle.auction_input.specs.Sold.{IsSold};
 ghost use Rattle.auction_input.specs.inside.Auctions.{HasRun, HoldTexts, bidders_of, RefusesInputs, RefusesRun, Tell};
 ghost use Rattle.bid_forms.specs.Offers.{Meets};
-ghost use Rattle.auction_input.specs.TextsTold.{groups_told, terms_told};
+ghost use Rattle.auction_input.specs.ParsedTexts.{parsed_groups, parsed_terms};
 
 use crate::calls::check_calls;
+use crate::form_texts::form_elsewhere;
 use crate::given::Input;
 use crate::part_kind::PartKind;
-use crate::parts::{Part, split_parts, text_of, texts_of};
+use crate::parts::{Part, split_parts, text_numbers_of, text_of, texts_of};
 use crate::reading::{miscounted, read_forms};
 use crate::refusal::Refusal;
+use crate::request::Request;
 use crate::round::close_round;
 use auction_terms::{Groups, Rules, read_groups, read_rules};
 use bid_desk::ClosedBook;
 use bid_forms::Form;
-use requests::Request;
 use std::alloc::{AllocError, Global};
 use std::sync::Wait;
 use std::thread::Threads;
@@ -49,9 +51,9 @@ fn read_parts<'t>(
     request: &Request,
     input: &'t Input,
 ) -> Result<Vec<Part<'t>>, Refusal>
-    ensures told { IfOk result (λ held. parts_told request.now input.now
+    ensures parsed { IfOk result (λ held. parsed_parts request.now input.now
         ≡ Ok (parts_held held.items)) }
-    ensures refuses { IfErr result (Refuses (parts_told request.now input.now)) }
+    ensures refuses { IfErr result (Refuses (parsed_parts request.now input.now)) }
 {
     let parts = split_parts(alloc, request, input)?;
     match miscounted(request, parts.as_slice()) {
@@ -88,36 +90,63 @@ fn texts_beside<'t>(alloc: Global, parts: &[Part<'t>]) -> Result<Beside<'t>, All
 
 // The rules in a text, with a fault as a refusal.
 fn rules_in(alloc: Global, text: &[u8]) -> Result<Rules, Refusal>
-    ensures told { IfOk result (λ rules. terms_told text.now ≡ Ok rules) }
-    ensures refuses { IfErr result (Refuses (terms_told text.now)) }
+    ensures parsed { IfOk result (λ rules. parsed_terms text.now ≡ Ok rules) }
+    ensures refuses { IfErr result (Refuses (parsed_terms text.now)) }
 {
     Ok(read_rules(alloc, text)?)
 }
 
 // The groups in a text, with a fault as a refusal.
 fn groups_in(alloc: Global, text: &[u8], rules: &Rules) -> Result<Groups, Refusal>
-    ensures told { IfOk result (λ groups. groups_told rules.now text.now ≡ Ok groups) }
-    ensures refuses { IfErr result (Refuses (groups_told rules.now text.now)) }
+    ensures parsed { IfOk result (λ groups. parsed_groups rules.now text.now ≡ Ok groups) }
+    ensures refuses { IfErr result (Refuses (parsed_groups rules.now text.now)) }
 {
     Ok(read_groups(alloc, text, rules)?)
 }
 
-// The forms and the groups of these parts, if each form has a call of its bidder's left.
+// Tests that each bidder's forms are in one text, unless its last one counts in whichever text it is.
+fn check_texts(
+    alloc: Global,
+    parts: &[Part<'_>],
+    rules: &Rules,
+    forms: &[Form],
+    last_wins: bool,
+) -> Result<(), Refusal>
+    requires { length (parts_named (codes "%form") (parts_held parts.now)) ≡ length forms.now }
+    ensures accepted { OnOk result (form_elsewhere last_wins rules.now
+        (text_numbers (codes "%form") (parts_held parts.now)) forms.now ≡ None) }
+    ensures refuses { IfErr result (Refuses (in_one_text last_wins rules.now
+        (text_numbers (codes "%form") (parts_held parts.now)) forms.now)) }
+{
+    if last_wins {
+        return Ok(());
+    }
+    let numbers = text_numbers_of(alloc, parts, PartKind::Form)?;
+    match form_elsewhere(rules, forms, numbers.as_slice()) {
+        Some(another) => Err(Refusal::AnotherForm(another)),
+        None => Ok(()),
+    }
+}
+
+// The forms and the groups of these parts, if each bidder's forms are in one text, or its last one is to count, and each form has
+// a call of its bidder's left.
 fn read_offers(
     rt: &(impl Threads + Sync),
     alloc: Global,
     parts: &[Part<'_>],
     rules: &Rules,
+    last_wins: bool,
 ) -> Result<(Vec<Form>, Groups), Refusal>
-    requires rules { terms_told (only_text (parts_named (codes "%rules") (parts_held parts.now)))
+    requires rules { parsed_terms (only_text (parts_named (codes "%rules") (parts_held parts.now)))
         ≡ Ok rules.now }
-    ensures told { IfOk result (λ read. Tell (parts_held parts.now) rules.now read.0.items
-        read.1) }
+    ensures parsed { IfOk result (λ read. Tell last_wins (parts_held parts.now) rules.now
+        read.0.items read.1) }
     ensures meet { IfOk result (λ read. All (Meets rules.now) read.0.items) }
-    ensures refuses { IfErr result (RefusesInputs (parts_held parts.now)) }
+    ensures refuses { IfErr result (RefusesInputs last_wins (parts_held parts.now)) }
 {
     let texts = texts_of(alloc, parts, PartKind::Form)?;
     let forms = read_forms(rt, alloc, texts.as_slice(), rules)?;
+    check_texts(alloc, parts, rules, forms.as_slice(), last_wins)?;
     let groups = groups_in(alloc, text_of(parts, PartKind::Groups), rules)?;
     check_calls(forms.as_slice())?;
     Ok((forms, groups))
@@ -146,14 +175,15 @@ struct Run {
 fn close_auction<R: Threads + Wait + Sync + AllocGlobal>(
     rt: &R,
     parts: &[Part<'_>],
+    last_wins: bool,
 ) -> Result<Run, Refusal>
-    ensures told { IfOk result (λ run. HasRun (parts_held parts.now) run.book
+    ensures parsed { IfOk result (λ run. HasRun last_wins (parts_held parts.now) run.book
         run.form_bidders.items run.groups) }
-    ensures refuses { IfErr result (RefusesRun (parts_held parts.now)) }
+    ensures refuses { IfErr result (RefusesRun last_wins (parts_held parts.now)) }
 {
     let alloc: Global = rt.alloc();
     let rules = rules_in(alloc, text_of(parts, PartKind::Rules))?;
-    let (forms, groups) = read_offers(rt, alloc, parts, &rules)?;
+    let (forms, groups) = read_offers(rt, alloc, parts, &rules, last_wins)?;
     let form_bidders = bidders_of(alloc, forms.as_slice())?;
     let book = close_round(rt, rules, forms)?;
     Ok(Run {
@@ -170,7 +200,7 @@ pub fn read_auction<'t, R: Threads + Wait + Sync + AllocGlobal>(
     input: &'t Input,
 ) -> Result<Auction<'t>, Refusal>
     requires { request.now ≢ Request.Check }
-    ensures told { IfOk result (λ auction. auction_told request.now input.now ≡ Ok (held auction)) }
+    ensures parsed { IfOk result (λ auction. parsed_auction request.now input.now ≡ Ok (held auction)) }
     ensures submitted { IfOk result (λ auction. HoldsForms request.now input.now auction.book) }
     ensures sold { IfOk result (λ auction. IsSold request.now input.now (held auction)) }
     ensures refuses { IfErr result (RefusesAuction request.now input.now) }
@@ -181,7 +211,7 @@ pub fn read_auction<'t, R: Threads + Wait + Sync + AllocGlobal>(
         book,
         form_bidders,
         groups,
-    } = close_auction(rt, parts.as_slice())?;
+    } = close_auction(rt, parts.as_slice(), input.last_wins())?;
     // Its contract says that the book is closed.
     let _history = book.history();
     let Beside {

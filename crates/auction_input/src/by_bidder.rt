@@ -1,7 +1,7 @@
 //! The forms of the input, by bidder.
 
 ghost use Rattle.std.specs.Prelude.{◌≡◌, ◌+◌, ◌<◌, ◌≤◌, [], All, IfOk, OnOk, vec_len};
-ghost use Rattle.auction_limits.specs.declared.limits.TheConstants.{MOST_BIDDERS};
+ghost use Rattle.auction_terms.specs.declared.limits.TheConstants.{MOST_BIDDERS};
 ghost use Rattle.auction_input.specs.inside.Submissions.{AreByBidder, HaveOneMore, form_values, forms_in};
 
 use bid_forms::Form;

@@ -6,7 +6,7 @@ ghost use Rattle.auction_terms.specs.FirstFault.{first_fault};
 ghost use Rattle.bid_forms.specs.Offers.{Offers};
 
 use crate::refusal::Refusal;
-use auction_limits::MOST_BIDDERS;
+use auction_terms::MOST_BIDDERS;
 use bid_book::CALL_LIMIT;
 use bid_forms::Form;
 

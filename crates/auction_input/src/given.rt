@@ -1,8 +1,8 @@
 //! What a command reads.
 
-ghost use Rattle.std.specs.Prelude.{◌≡◌, IfOk};
+ghost use Rattle.std.specs.Prelude.{◌≡◌, IfOk, false};
 ghost use Rattle.auction_input.specs.Input.{text_bytes, input_of};
-ghost use Rattle.auction_input.specs.PartsTold.{only_text};
+ghost use Rattle.auction_input.specs.ParsedParts.{only_text};
 
 use std::alloc::{AllocError, Global};
 use std::marker::Model;
@@ -46,10 +46,12 @@ impl Given {
     }
 }
 
-/// What a command reads: texts in their order.
+/// What a command reads: texts in their order, and whether a bidder may have forms in several of them, of which the last
+/// one counts.
 #[derive(Drop)]
 pub struct Input {
     texts: Vec<Given>,
+    last_wins: bool,
 }
 
 impl Model for Input {
@@ -57,7 +59,7 @@ impl Model for Input {
 
     ghost Value = { Seen };
 
-    ghost view = { λ input. record { texts = input.texts.items } };
+    ghost view = { λ input. record { texts = input.texts.items; last_wins = input.last_wins } };
 }
 
 impl Input {
@@ -68,14 +70,35 @@ impl Input {
         let mut texts = Vec::new(alloc);
         let name = Vec::new(alloc);
         texts.push(Given { name, bytes })?;
-        Ok(Input { texts })
+        Ok(Input {
+            texts,
+            last_wins: false,
+        })
     }
 
-    /// These texts.
+    /// These texts, where a bidder may have forms in one of them alone.
     pub fn new(texts: Vec<Given>) -> Input
-        ensures { result.texts ≡ texts.items }
+        ensures { result ≡ record { texts = texts.items; last_wins = false } }
     {
-        Input { texts }
+        Input {
+            texts,
+            last_wins: false,
+        }
+    }
+
+    /// The same texts, where a bidder may have forms in several of them, or not.
+    pub fn with_last_wins(self, last_wins: bool) -> Input
+        ensures { result ≡ record { texts = self.texts; last_wins = last_wins } }
+    {
+        let Input { texts, .. } = self;
+        Input { texts, last_wins }
+    }
+
+    /// Whether a bidder may have forms in several texts, of which the last one counts.
+    pub fn last_wins(&self) -> bool
+        ensures { result ≡ self.now.last_wins }
+    {
+        self.last_wins
     }
 
     /// The texts.

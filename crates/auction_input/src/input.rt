@@ -253,8 +253,8 @@ pub fn read_inputs<D: Files, I: Read>(
     names: &[String],
     input: &mut Source<I>,
 ) -> Result<Input, Unread>
-    ensures read { IfOk result (IsInputRead (D.content files.now) (named_files names.now)
-        (I.remaining input.old.reader) (I.remaining input.new.reader)) }
+    ensures read { IfOk result (λ read. IsInputRead (D.content files.now) (named_files names.now)
+        (I.remaining input.old.reader) (I.remaining input.new.reader) read.texts) }
     ensures unfailed { OnOk result (input.new.failures ≡ input.old.failures) }
     ensures unread { IfErr result (λ f. IsUnread (named_files names.now) f
         (I.remaining input.old.reader) (I.remaining input.new.reader) input.old.failures

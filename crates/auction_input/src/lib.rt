@@ -3,34 +3,53 @@
 #![tactic(auto)]
 
 mod auction;
+mod bidder_name;
 mod by_bidder;
 mod calls;
 mod files;
+mod form_texts;
 mod given;
+mod given_numbers;
 mod input;
 mod job;
 pub mod laws;
+mod message;
 mod name;
 mod part_kind;
 mod parts;
 mod places;
+mod price_fault;
+mod price_line;
+mod price_names;
+mod price_reading;
 mod reading;
 mod refusal;
+mod request;
 mod round;
 mod source;
-mod told;
+mod wanted;
 
 pub use auction::{Auction, read_auction};
+pub use bidder_name::BidderName;
 pub use calls::Calls;
 pub use files::{FileFault, FileKind, FilePlace, FileRefusal, Files, Output};
+pub use form_texts::{AnotherForm, FormTexts};
 pub use given::{Given, Input};
+pub use given_numbers::{
+    GivenNumber, Subject, given_to, number_given, numbers_of_bidders, numbers_of_groups,
+};
 pub use input::{INPUT_LIMIT, InputFault, Unread, is_standard_input, read_inputs};
+pub use message::Message;
 pub use name::Name;
 pub use part_kind::PartKind;
-pub use parts::{Part, PartFault, count_of, split_parts, text_of, texts_of};
+pub use parts::{Part, PartFault, count_of, split_parts, text_numbers_of, text_of, texts_of};
 pub use places::{Counted, Places, Spot, spot_of};
+pub use price_fault::PriceFault;
+pub use price_names::Known;
+pub use price_reading::read_given;
 pub use reading::{miscounted, only_text};
 pub use refusal::Refusal;
+pub use request::{Request, Target};
 pub use round::RoundFault;
 pub use source::{ReadFailed, Source};
-pub use told::Told;
+pub use wanted::{Numbers, Unmet, check_wanted, proof_wants, solution_wants};

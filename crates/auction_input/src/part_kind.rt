@@ -4,7 +4,7 @@ ghost use Rattle.std.specs.Prelude.{◌≡◌};
 ghost use Rattle.auction_input.specs.Parts.{name_of};
 ghost use Rattle.auction_input.specs.inside.Parts.{kind_named, known_kinds};
 
-use requests::Request;
+use crate::request::{Request, Target};
 
 /// What a part of the input holds.
 #[derive(Clone, Copy, Debug, PartialEq, Eq)]
@@ -21,7 +21,7 @@ pub enum PartKind {
     Weights,
 }
 
-// What every request knows.
+// What every command knows.
 const OF_ALL: [PartKind; 4] = [
     PartKind::Rules,
     PartKind::Form,
@@ -63,13 +63,13 @@ impl PartKind {
     }
 }
 
-// The kinds that a request knows: `explain` those of `verify`, and lets them be.
+// The kinds that a request knows: `explain` that names no command those of `verify`, and lets them be.
 fn known_kinds(request: &Request) -> &'static [PartKind]
     ensures { result.now ≡ known_kinds request.now }
 {
-    match request {
-        Request::Verify { workers: _ } | Request::Explain { bids: _ } => OF_VERIFY.as_slice(),
-        _ => OF_ALL.as_slice(),
+    match request.target() {
+        Some(Target::Verify) | None => OF_VERIFY.as_slice(),
+        Some(_) => OF_ALL.as_slice(),
     }
 }
 

@@ -3,16 +3,16 @@
 ghost use Rattle.std.specs.Prelude.{◌≡◌, ◌≤◌, ◌<◌, ◌++◌, ◌∷◌, ◌⊎◌, ℕ, [], IfErr, IfOk, OnOk, drop, filter, find, length, map, take, true};
 ghost use Rattle.std.specs.List.{list_any};
 ghost use Rattle.std.specs.Option.{option_copied};
-ghost use Rattle.auction_input.specs.Parts.{TellsParts, heads_part, bytes_before, cut_lines, has_bytes_before, name_of, parts_held, parts_in, parts_named};
-ghost use Rattle.auction_input.specs.PartsTold.{only_text};
+ghost use Rattle.auction_input.specs.Parts.{TellsParts, heads_part, bytes_before, cut_lines, has_bytes_before, name_of, parts_held, parts_in, parts_named, text_numbers};
+ghost use Rattle.auction_input.specs.ParsedParts.{only_text};
 ghost use Rattle.auction_terms.specs.Borrowed.{bytes_of};
 ghost use Rattle.auction_input.specs.inside.Parts.{HaveAdded, IsFaultBehind, is_held, part, part_name};
 
 use crate::given::{Given, Input};
 use crate::part_kind::{PartKind, kind_named};
+use crate::request::Request;
 use auction_terms::LineReader;
 use memchr::memmem;
-use requests::Request;
 use std::alloc::{AllocError, Global};
 
 /// A part of the input: the number of its text, from 0, its kind, and the bytes behind the line that heads it.
@@ -233,6 +233,29 @@ pub fn texts_of<'t>(
         ≡ parts_named (name_of kind) (parts_held parts.now)) }
 {
     texts_held(alloc, parts, kind)
+}
+
+fn numbers_held(alloc: Global, parts: &[Part<'_>], kind: PartKind) -> Result<Vec<usize>, AllocError>
+    ensures { IfOk result (λ numbers. numbers.items
+        ≡ map (λ part. part.text) (filter (is_held kind) parts.now)) }
+{
+    parts
+        .iter()
+        .filter(|part| is_of(*part, kind))
+        .map(|part| part.text)
+        .collect(alloc)
+}
+
+/// The numbers of the texts that the parts of a kind are in, in the order of the input.
+pub fn text_numbers_of(
+    alloc: Global,
+    parts: &[Part<'_>],
+    kind: PartKind,
+) -> Result<Vec<usize>, AllocError>
+    ensures { IfOk result (λ numbers. numbers.items
+        ≡ text_numbers (name_of kind) (parts_held parts.now)) }
+{
+    numbers_held(alloc, parts, kind)
 }
 
 fn first_held<'p, 't>(parts: &'p [Part<'t>], kind: PartKind) -> Option<&'p Part<'t>>

@@ -7,32 +7,32 @@ ghost use Rattle.auction_input.specs.Refused.{Refuses};
 ghost use Rattle.auction_input.specs.inside.InputTexts.{AreAdded, IsAnswer, IsFirstErr};
 ghost use Rattle.auction_terms.specs.Borrowed.{bytes_of};
 ghost use Rattle.auction_input.specs.Parts.{parts_held};
-ghost use Rattle.auction_input.specs.PartsTold.{only_text};
+ghost use Rattle.auction_input.specs.ParsedParts.{only_text};
 ghost use Rattle.auction_input.specs.Plan.{miscounted, takes};
-ghost use Rattle.auction_input.specs.inside.TextsTold.{HaveMore, more_told};
-ghost use Rattle.auction_input.specs.TextsTold.{form_told};
+ghost use Rattle.auction_input.specs.inside.ParsedTexts.{HaveMore, parsed_more};
+ghost use Rattle.auction_input.specs.ParsedTexts.{parsed_form};
 ghost use Rattle.auction_terms.specs.Stages.{each_in_turn};
 
 use crate::part_kind::PartKind;
 use crate::parts::{Part, count_of};
 use crate::refusal::Refusal;
+use crate::request::{Request, Target};
 use auction_terms::Rules;
 use bid_forms::{Form, FormFault, read_form};
 use rayon::prelude::*;
-use requests::Request;
 use std::alloc::{AllocError, Global};
 use std::thread::{Threads, join};
 
 // Whether a command takes so many parts of groups, and so many of solutions. Whether there is a solution for each group is tested once these are read.
-fn takes(request: &Request, groups: usize, solutions: usize) -> (bool, bool)
-    ensures { result ≡ takes request.now groups solutions }
+fn takes(command: Option<Target>, groups: usize, solutions: usize) -> (bool, bool)
+    ensures { result ≡ takes command groups solutions }
 {
-    match request {
-        Request::Text => (groups == 0, solutions == 0),
-        Request::Map { group: _ } => (groups == 1, solutions == 1),
-        Request::Report { workers: _ } | Request::Verify { workers: _ } => (groups == 1, true),
-        Request::Explain { bids: _ } => (groups <= 1, true),
-        Request::Compile { workers: _ } | Request::Check => (groups == 1, solutions == 0),
+    match command {
+        Some(Target::Text) => (groups == 0, solutions == 0),
+        Some(Target::Compile) => (groups == 1, solutions == 0),
+        Some(Target::Map) => (groups == 1, solutions == 1),
+        Some(Target::Report | Target::Verify) => (groups == 1, true),
+        None => (groups <= 1, true),
     }
 }
 
@@ -42,7 +42,7 @@ pub fn miscounted(request: &Request, parts: &[Part<'_>]) -> Option<PartKind>
 {
     let groups = count_of(parts, PartKind::Groups);
     let solutions = count_of(parts, PartKind::Solution);
-    let (takes_groups, takes_solutions) = takes(request, groups, solutions);
+    let (takes_groups, takes_solutions) = takes(request.target(), groups, solutions);
     if count_of(parts, PartKind::Rules) != 1 {
         return Some(PartKind::Rules);
     }
@@ -65,7 +65,7 @@ pub fn only_text<'t>(texts: &[&'t [u8]]) -> &'t [u8]
     }
 }
 
-// How many forms are read side by side before the first fault among them is told: enough that the threads of a stage are
+// How many forms are read side by side before the first fault among them is reported: enough that the threads of a stage are
 // worth their start, and few enough that no more than a moment's work is done on forms behind a faulty one.
 const STAGE_LEN: usize = 4_096;
 
@@ -76,10 +76,10 @@ pub fn read_forms(
     texts: &[&[u8]],
     rules: &Rules,
 ) -> Result<Vec<Form>, Refusal>
-    ensures told { IfOk result (λ forms. each_in_turn (form_told rules.now) 1 (bytes_of texts.now)
+    ensures parsed { IfOk result (λ forms. each_in_turn (parsed_form rules.now) 1 (bytes_of texts.now)
         ≡ Ok forms.items) }
     ensures meet { IfOk result (λ forms. All (Meets rules.now) forms.items) }
-    ensures refuses { IfErr result (Refuses (each_in_turn (form_told rules.now) 1
+    ensures refuses { IfErr result (Refuses (each_in_turn (parsed_form rules.now) 1
         (bytes_of texts.now))) }
 {
     let mut forms = Vec::new(alloc);
@@ -100,9 +100,9 @@ fn read_more(
     texts: &[&[u8]],
     rules: &Rules,
 ) -> Result<(), Refusal>
-    ensures told { OnOk result (HaveMore rules.now (bytes_of texts.now) forms.old.items
+    ensures parsed { OnOk result (HaveMore rules.now (bytes_of texts.now) forms.old.items
         forms.new.items) }
-    ensures refuses { IfErr result (Refuses (more_told rules.now (length forms.old.items)
+    ensures refuses { IfErr result (Refuses (parsed_more rules.now (length forms.old.items)
         (bytes_of texts.now))) }
 {
     let answers = read_each(rt, alloc, texts, rules)?;

@@ -3,21 +3,21 @@
 ghost use Rattle.std.specs.Prelude.{◌≡◌};
 ghost use Rattle.auction_input.specs.Line.{refusal_text};
 ghost use Rattle.auction_input.specs.Places.{counted_as, with_number};
-ghost use Rattle.auction_input.specs.Told.{told_text};
+ghost use Rattle.auction_input.specs.Message.{message_text};
 
+use crate::form_texts::AnotherForm;
 use crate::input::InputFault;
+use crate::message::Message;
 use crate::name::Name;
 use crate::part_kind::PartKind;
 use crate::parts::PartFault;
 use crate::places::Counted;
+use crate::price_fault::PriceFault;
 use crate::round::RoundFault;
-use crate::told::Told;
 use auction_terms::{GroupFault, RulesFault, Wording};
 use bid_forms::FormFault;
 use byte_sinks::WriteFault;
-use mps_meaning::FaultKind;
-use price_texts::PriceFault;
-use program_faults::{CertificateFault, MpsFault, SolutionFault};
+use program_rows::{CertificateFault, MpsFault, MpsFaultKind, SolutionFault};
 use std::alloc::AllocError;
 
 const OUT_OF_MEMORY: &str = "out of memory";
@@ -34,6 +34,8 @@ pub enum Refusal {
         form: usize,
         fault: FormFault,
     },
+    /// The first form that is in another text than its bidder's first form.
+    AnotherForm(AnotherForm),
     Groups(GroupFault),
     /// The first form that its bidder had no call left for.
     CallLimit {
@@ -95,33 +97,33 @@ pub enum Refusal {
     OutOfMemory,
 }
 
-// What is told of an input that isn't taken.
-fn in_input(fault: InputFault) -> Told<'static>
-    ensures { told_text result ≡ refusal_text (Refusal.Input fault) }
+// What is reported of an input that isn't taken.
+fn in_input(fault: InputFault) -> Message<'static>
+    ensures { message_text result ≡ refusal_text (Refusal.Input fault) }
 {
-    Told::only(Wording::Words(match fault {
+    Message::only(Wording::Words(match fault {
         InputFault::ReadFailed => "input: read failed",
         InputFault::TooLarge => "input: too large",
         InputFault::OutOfMemory => OUT_OF_MEMORY,
     }))
 }
 
-// What is told of an input without parts.
-fn in_parts(fault: PartFault) -> Told<'static>
-    ensures { told_text result ≡ refusal_text (Refusal.Parts fault) }
+// What is reported of an input without parts.
+fn in_parts(fault: PartFault) -> Message<'static>
+    ensures { message_text result ≡ refusal_text (Refusal.Parts fault) }
 {
-    Told::only(match fault {
+    Message::only(match fault {
         PartFault::BeforeFirst => Wording::Words("input: bytes before the first part"),
         PartFault::PartName { part } => Wording::Between("input: part ", part as u64, " not known"),
         PartFault::OutOfMemory => Wording::Words(OUT_OF_MEMORY),
     })
 }
 
-// What is told of parts of which there are too few or too many. Forms are not counted.
-fn in_count(kind: PartKind) -> Told<'static>
-    ensures { told_text result ≡ refusal_text (Refusal.PartCount kind) }
+// What is reported of parts of which there are too few or too many. Forms are not counted.
+fn in_count(kind: PartKind) -> Message<'static>
+    ensures { message_text result ≡ refusal_text (Refusal.PartCount kind) }
 {
-    Told::only(Wording::Words(match kind {
+    Message::only(Wording::Words(match kind {
         PartKind::Rules => "input: wrong number of rules",
         PartKind::Form => "input: wrong number of forms",
         PartKind::Groups => "input: wrong number of groups",
@@ -135,11 +137,11 @@ fn in_count(kind: PartKind) -> Told<'static>
 }
 
 impl Refusal {
-    /// What is told of it. Wherever memory was short, just that is told.
-    pub fn told(&self) -> Told<'_>
-        ensures { told_text result ≡ refusal_text self.now }
+    /// What is reported of it. Wherever memory was short, just that is reported.
+    pub fn message(&self) -> Message<'_>
+        ensures { message_text result ≡ refusal_text self.now }
     {
-        self.told_as(self.number())
+        self.message_as(self.number())
     }
 
     // The number of its part; of a refusal without one any number serves.
@@ -157,9 +159,9 @@ impl Refusal {
         }
     }
 
-    /// What is told of it with another number of its part.
-    pub fn told_as(&self, number: usize) -> Told<'_>
-        ensures { told_text result ≡ refusal_text (with_number number self.now) }
+    /// What is reported of it with another number of its part.
+    pub fn message_as(&self, number: usize) -> Message<'_>
+        ensures { message_text result ≡ refusal_text (with_number number self.now) }
     {
         match self {
             Refusal::Rules(RulesFault::OutOfMemory)
@@ -171,7 +173,7 @@ impl Refusal {
             | Refusal::Round(RoundFault::OutOfMemory)
             | Refusal::Program(
                 MpsFault {
-                    kind: FaultKind::OutOfMemory,
+                    kind: MpsFaultKind::OutOfMemory,
                     ..
                 },
             )
@@ -181,14 +183,14 @@ impl Refusal {
             }
             | Refusal::Certificate {
                 fault: CertificateFault {
-                    kind: program_faults::FaultKind::OutOfMemory,
+                    kind: program_rows::CertificateFaultKind::OutOfMemory,
                     ..
                 },
                 ..
             }
             | Refusal::Unique(
                 CertificateFault {
-                    kind: program_faults::FaultKind::OutOfMemory,
+                    kind: program_rows::CertificateFaultKind::OutOfMemory,
                     ..
                 },
             )
@@ -196,85 +198,93 @@ impl Refusal {
             | Refusal::Prices(PriceFault::OutOfMemory)
             | Refusal::Cover(
                 CertificateFault {
-                    kind: program_faults::FaultKind::OutOfMemory,
+                    kind: program_rows::CertificateFaultKind::OutOfMemory,
                     ..
                 },
             )
             | Refusal::Weights(PriceFault::OutOfMemory)
-            | Refusal::OutOfMemory => Told::only(Wording::Words(OUT_OF_MEMORY)),
+            | Refusal::OutOfMemory => Message::only(Wording::Words(OUT_OF_MEMORY)),
             Refusal::Input(fault) => in_input(*fault),
             Refusal::Parts(PartFault::PartName { .. }) => {
                 in_parts(PartFault::PartName { part: number })
             }
             Refusal::Parts(fault) => in_parts(*fault),
             Refusal::PartCount(kind) => in_count(*kind),
-            Refusal::Rules(fault) => Told::in_part("rules: ", fault.wording()),
-            Refusal::Form { fault, .. } => Told::in_number("form ", number, fault.wording()),
-            Refusal::Groups(fault) => Told::in_part("groups: ", fault.wording()),
-            Refusal::CallLimit { .. } => Told::in_number(
+            Refusal::Rules(fault) => Message::in_part("rules: ", fault.wording()),
+            Refusal::Form { fault, .. } => Message::in_number("form ", number, fault.wording()),
+            Refusal::AnotherForm(another) => Message {
+                part: Wording::Words(""),
+                fault: Wording::Words("another form of "),
+                name: another.bidder.as_slice(),
+            },
+            Refusal::Groups(fault) => Message::in_part("groups: ", fault.wording()),
+            Refusal::CallLimit { .. } => Message::in_number(
                 "form ",
                 number,
                 Wording::Words("CallLimit"),
             ),
-            Refusal::Round(RoundFault::WrongAnswer) => Told::in_part(
+            Refusal::Round(RoundFault::WrongAnswer) => Message::in_part(
                 "desk: ",
                 Wording::Words("wrong answer"),
             ),
-            Refusal::NoGroup { group } => Told::in_part(
+            Refusal::NoGroup { group } => Message::in_part(
                 "groups: ",
                 Wording::Number("no group ", *group as u64),
             ),
-            Refusal::FirstGroupNotEmpty => Told::in_part(
+            Refusal::FirstGroupNotEmpty => Message::in_part(
                 "groups: ",
                 Wording::Words("group 1 is not empty"),
             ),
-            Refusal::Program(fault) => Told::in_part("program: ", fault.wording()),
-            Refusal::Solution { fault, .. } => Told::in_number(
+            Refusal::Program(fault) => Message::in_part("program: ", fault.wording()),
+            Refusal::Solution { fault, .. } => Message::in_number(
                 "solution ",
                 number,
                 fault.wording(),
             ),
-            Refusal::BoundBroken { column, .. } => Told {
+            Refusal::BoundBroken { column, .. } => Message {
                 part: Wording::Between("solution ", number as u64, ": "),
                 fault: Wording::Words("7 BoundBroken at column "),
                 name: column.as_slice(),
             },
-            Refusal::RowBroken { row, .. } => Told {
+            Refusal::RowBroken { row, .. } => Message {
                 part: Wording::Between("solution ", number as u64, ": "),
                 fault: Wording::Words("8 RowBroken at row "),
                 name: row.as_slice(),
             },
-            Refusal::Certificate { fault, .. } => Told::in_number(
+            Refusal::Certificate { fault, .. } => Message::in_number(
                 "certificate ",
                 number,
                 fault.wording(),
             ),
-            Refusal::Unique(fault) => Told::in_part("unique: ", fault.wording()),
-            Refusal::Tie(fault) => Told::in_part("tie: ", fault.wording()),
-            Refusal::TieBoundBroken { column } => Told {
+            Refusal::Unique(fault) => Message::in_part("unique: ", fault.wording()),
+            Refusal::Tie(fault) => Message::in_part("tie: ", fault.wording()),
+            Refusal::TieBoundBroken { column } => Message {
                 part: Wording::Words("tie: "),
                 fault: Wording::Words("7 BoundBroken at column "),
                 name: column.as_slice(),
             },
-            Refusal::TieRowBroken { row } => Told {
+            Refusal::TieRowBroken { row } => Message {
                 part: Wording::Words("tie: "),
                 fault: Wording::Words("8 RowBroken at row "),
                 name: row.as_slice(),
             },
-            Refusal::LowerTie => Told::in_part(
+            Refusal::LowerTie => Message::in_part(
                 "tie: ",
                 Wording::Words("total below that of group 1"),
             ),
-            Refusal::SameTie => Told::in_part("tie: ", Wording::Words("same winners as group 1")),
-            Refusal::Prices(fault) => Told::in_part("prices: ", fault.wording()),
-            Refusal::MissingPrice { bidder } => Told {
+            Refusal::SameTie => Message::in_part(
+                "tie: ",
+                Wording::Words("same winners as group 1"),
+            ),
+            Refusal::Prices(fault) => Message::in_part("prices: ", fault.wording()),
+            Refusal::MissingPrice { bidder } => Message {
                 part: Wording::Words("prices: "),
                 fault: Wording::Words("6 MissingWinner "),
                 name: bidder.as_slice(),
             },
-            Refusal::Cover(fault) => Told::in_part("cover: ", fault.wording()),
-            Refusal::Weights(fault) => Told::in_part("weights: ", fault.wording()),
-            Refusal::Write(WriteFault::Sink { written }) => Told::only(Wording::Between(
+            Refusal::Cover(fault) => Message::in_part("cover: ", fault.wording()),
+            Refusal::Weights(fault) => Message::in_part("weights: ", fault.wording()),
+            Refusal::Write(WriteFault::Sink { written }) => Message::only(Wording::Between(
                 "write failed after ",
                 *written,
                 " bytes",
@@ -300,14 +310,14 @@ impl Refusal {
             }
             | Refusal::Certificate {
                 fault: CertificateFault {
-                    kind: program_faults::FaultKind::OutOfMemory,
+                    kind: program_rows::CertificateFaultKind::OutOfMemory,
                     ..
                 },
                 ..
             }
             | Refusal::Unique(
                 CertificateFault {
-                    kind: program_faults::FaultKind::OutOfMemory,
+                    kind: program_rows::CertificateFaultKind::OutOfMemory,
                     ..
                 },
             )
@@ -316,6 +326,7 @@ impl Refusal {
             Refusal::Parts(PartFault::PartName { part }) => return Some((Counted::Parts, *part)),
             Refusal::Rules(_) => (PartKind::Rules, 1),
             Refusal::Form { form, .. } | Refusal::CallLimit { form } => (PartKind::Form, *form),
+            Refusal::AnotherForm(another) => (PartKind::Form, another.form),
             Refusal::Groups(_) | Refusal::NoGroup { .. } | Refusal::FirstGroupNotEmpty => {
                 (PartKind::Groups, 1)
             }

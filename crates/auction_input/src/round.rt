@@ -315,7 +315,7 @@ fn settle<L: Round>(
     }
 }
 
-// What a settlement that is refused is told by.
+// What a settlement that is refused is reported by.
 fn fault_of(cause: &Cause) -> RoundFault
     ensures memory { cause.now ≡ Cause.OutOfMemory → result ≡ RoundFault.OutOfMemory }
     ensures wrong { cause.now ≢ Cause.OutOfMemory → result ≡ RoundFault.WrongAnswer }

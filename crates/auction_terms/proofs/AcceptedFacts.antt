@@ -137,7 +137,7 @@ fail-alike {F} (check ∷ some) (other ∷ others) same none =
     by true false is more none = cc is
     by false b is more none = cc none
 
--- one fault is told just where a check fails
+-- one fault is reported just where a check fails
 pub one-none : {F : Type 0} (field : ℕ) (checks : List (Bool × F)) → one_failed field checks ≡ [] → first_failed checks ≡ None
 one-none {F} field checks none = by (first_failed checks) none
   where

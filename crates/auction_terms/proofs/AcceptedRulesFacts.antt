@@ -33,7 +33,7 @@ same-tests v m n before r = by (record_kind v r)
     by (Some kind.Pool) = refl
     by (Some kind.Member) = refl
 
--- nothing is told just where nothing fails
+-- nothing is reported just where nothing fails
 none-at_field : {F : Type 0} (field_of : F → ℕ) (o : Option F) → at_field field_of o ≡ [] → o ≡ None
 none-at_field field_of None none = refl
 none-at_field field_of (Some f) none = cc none

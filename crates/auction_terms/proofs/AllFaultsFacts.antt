@@ -8,7 +8,7 @@ use Rattle.auction_terms.specs.FirstFault.{first_failed, first_fault}
 use Rattle.auction_terms.specs.Stages.{unless}
 use Rattle.auction_terms.specs.declared.faults.Faults.{Faults}
 use Rattle.auction_terms.specs.declared.faults.Found.{Found}
-use Rattle.auction_limits.specs.declared.limits.TheConstants.{MOST_FAULTS}
+use Rattle.auction_terms.specs.declared.limits.TheConstants.{MOST_FAULTS}
 
 -- what is kept of a list, with one more element
 take-more : {X : Type 0} (most : ℕ) (xs : List X) (x : X) → length (take most xs) < most → take most (xs ++ x ∷ []) ≡ take most xs ++ x ∷ []
@@ -57,14 +57,14 @@ pub found-more : {R F : Type 0} (faults_of : ℕ → List R → R → List F) (w
     → whole ≡ (so_far ++ faults_of number accepted item) ++ all_faults faults_of (number + 1) (accepted_with (faults_of number accepted item) accepted item) rest
 unfolding all_faults
 found-more faults_of whole so_far number accepted ahead rest item is next =
-    let told = rw next at is in
-    told ∙ sym (append_assoc so_far (faults_of number accepted item) _)
+    let parsed = rw next at is in
+    parsed ∙ sym (append_assoc so_far (faults_of number accepted item) _)
 
 -- and where no item is left
 pub found-all : {R F : Type 0} (faults_of : ℕ → List R → R → List F) (whole so_far : List F) (number : ℕ) (accepted ahead : List R)
     → whole ≡ so_far ++ all_faults faults_of number accepted ahead → ahead ≡ [] → whole ≡ so_far
 unfolding all_faults
-found-all faults_of whole so_far number accepted ahead is none = (let told = rw none at is in told ∙ append-nil so_far)
+found-all faults_of whole so_far number accepted ahead is none = (let parsed = rw none at is in parsed ∙ append-nil so_far)
 
 -- none
 pub keeps-none : {F : Type 0} (held : Faults F) → KeepsMore held held []
@@ -125,10 +125,10 @@ begin-all_faults {R} {F} faults_of fault_of start each before (item ∷ more) = 
         rw none (rw next at later)
     by (Some fault) (field, rest, is) later = rw is (field, rest ++ _, refl)
 
--- what is told is the first fault, or a value
-pub begin-told : {A F : Type 0} (faults : List (Found F)) (first : Option F) (x : A) → BeginAs faults first → AreFaultsOf faults (unless first (Ok x))
-begin-told faults None x begins = begins
-begin-told faults (Some fault) x begins = begins
+-- what is reported is the first fault, or a value
+pub begin-parsed : {A F : Type 0} (faults : List (Found F)) (first : Option F) (x : A) → BeginAs faults first → AreFaultsOf faults (unless first (Ok x))
+begin-parsed faults None x begins = begins
+begin-parsed faults (Some fault) x begins = begins
 
 pub option_or-assoc : {F : Type 0} (a b c : Option F) → option_or (option_or a b) c ≡ option_or a (option_or b c)
 option_or-assoc None b c = refl

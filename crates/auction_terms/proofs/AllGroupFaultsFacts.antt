@@ -1,7 +1,7 @@
 -- All faults of a text of groups begin with the first one.
 use Rattle.std.proofs.Common.{◌+◌, List, ℕ, [], length, map}
 use Rattle.std.specs.Option.{option_or}
-use Rattle.auction_terms.proofs.AllFaultsFacts.{BeginAs, begin-all_failed, begin-all_faults, begin-both, begin-one_failed, begin-or_else, begin-told, option_or-assoc}
+use Rattle.auction_terms.proofs.AllFaultsFacts.{BeginAs, begin-all_failed, begin-all_faults, begin-both, begin-one_failed, begin-or_else, begin-parsed, option_or-assoc}
 use Rattle.auction_terms.specs.AllFaults.{AreFaultsOf, all_failed, or_else}
 use Rattle.auction_terms.specs.AllGroupFaults.{all_group_faults, all_line_faults, all_name_faults, fault_of_name}
 use Rattle.auction_terms.specs.FirstFault.{first_failed, first_fault}
@@ -24,5 +24,5 @@ begin-line bidders before line =
 
 pub begin-groups : (bidders : List Bidder) (text : List ℕ) → AreFaultsOf (all_group_faults bidders text) (groups_of bidders text)
 begin-groups bidders text =
-    begin-told (all_group_faults bidders text) (first_fault (group_line_fault bidders) [] (lines_of text)) (map (group_of bidders) (lines_of text))
+    begin-parsed (all_group_faults bidders text) (first_fault (group_line_fault bidders) [] (lines_of text)) (map (group_of bidders) (lines_of text))
     (begin-all_faults (λ place before line. all_line_faults bidders place line) (group_line_fault bidders) 1 (begin-line bidders) [] (lines_of text))

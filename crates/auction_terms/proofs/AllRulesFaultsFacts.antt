@@ -2,7 +2,7 @@
 use Rattle.std.proofs.Common.{◌≡◌, ◌+◌, ◌∷◌, ◌++◌, ◌∙◌, ℕ, List, [], length, refl, sym, ap, arith, length-append, append_assoc, append-nil}
 use Rattle.std.specs.Prelude.{Option, Some, None, Ok, ok_or}
 use Rattle.std.specs.Option.{option_map_or, option_or}
-use Rattle.auction_terms.proofs.AllFaultsFacts.{BeginAs, begin-all_faults, begin-both, begin-one_failed, begin-or_else, begin-told, found-all, found-more, unless-or}
+use Rattle.auction_terms.proofs.AllFaultsFacts.{BeginAs, begin-all_faults, begin-both, begin-one_failed, begin-or_else, begin-parsed, found-all, found-more, unless-or}
 use Rattle.auction_terms.specs.FirstFault.{first_failed, first_fault}
 use Rattle.auction_terms.specs.Stages.{and_then, unless}
 use Rattle.auction_terms.specs.declared.rules_text.RulesFault.TheVariants as fault
@@ -83,8 +83,8 @@ begin-version header more v =
     let front = begin-both (fault_of_header v header) (all_faults (fault_of_entry v) 2 [] more) of_header of_entries (begin-at_field header_field of_header) entries_begin in
     let whole = begin-or_else (fault_of_header v header ++ all_faults (fault_of_entry v) 2 [] more) (one_failed 0 (end_checks (length more + 1) (entries_of v more))) (option_or of_header of_entries) of_end
     front (λ none. begin-one_failed 0 (end_checks (length more + 1) (entries_of v more))) in
-    let told = begin-told (faults_of_version header more v) (option_or (option_or of_header of_entries) of_end) terms whole in
-    rw (unless-or (option_or of_header of_entries) of_end (Ok terms), unless-or of_header of_entries (unless of_end (Ok terms))) at told
+    let parsed = begin-parsed (faults_of_version header more v) (option_or (option_or of_header of_entries) of_end) terms whole in
+    rw (unless-or (option_or of_header of_entries) of_end (Ok terms), unless-or of_header of_entries (unless of_end (Ok terms))) at parsed
 
 pub begin-rules : (records : List Record) → AreFaultsOf (all_rules_faults records) (rules_of_records records)
 begin-rules [] = (0, [], refl)

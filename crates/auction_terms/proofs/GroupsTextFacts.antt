@@ -14,7 +14,7 @@ use Rattle.auction_terms.specs.inside.FirstFault.{Tells}
 use Rattle.auction_terms.specs.declared.rules.Bidder.{Bidder}
 use Rattle.auction_terms.specs.declared.groups_text.GroupFault.{GroupFault}
 use Rattle.auction_terms.specs.declared.groups_text.GroupFault.TheVariants as fault
-use Rattle.auction_limits.specs.declared.limits.TheConstants.{MOST_BIDDERS}
+use Rattle.auction_terms.specs.declared.limits.TheConstants.{MOST_BIDDERS}
 
 list_any-map : {X Y : Type 0} (f : X → Y) (p : Y → Bool) (xs : List X) → list_any p (map f xs) ≡ list_any (λ x. p (f x)) xs
 list_any-map f p [] = refl
@@ -45,8 +45,8 @@ pub numbers-more : (items : List ℕ) (place : ℕ) (bidders : List Bidder) (nam
     → (if found then items ++ (place + 1) ∷ [] else items) ++ numbers_from (place + 1 + 1) (drop (place + 1) bidders) names ≡ all
 numbers-more items place bidders names all bidder found small at test so_far =
     let next : drop place bidders ≡ bidder ∷ drop (place + 1) bidders = rw (add-one place) (drop-cons bidders place bidder small ∙ ap (λ b. b ∷ drop (suc place) bidders) (sym at)) in
-    let told = rw (next, numbers-next (place + 1) bidder (drop (place + 1) bidders) names, test) at so_far in
-    by found told
+    let parsed = rw (next, numbers-next (place + 1) bidder (drop (place + 1) bidders) names, test) at so_far in
+    by found parsed
   where
     by : (b : Bool) → items ++ (if b then (place + 1) ∷ numbers_from (place + 1 + 1) (drop (place + 1) bidders) names else numbers_from (place + 1 + 1) (drop (place + 1) bidders) names) ≡ all
         → (if b then items ++ (place + 1) ∷ [] else items) ++ numbers_from (place + 1 + 1) (drop (place + 1) bidders) names ≡ all

@@ -1,8 +1,13 @@
+pub mod Powers
+pub mod Folding
+pub mod TokenForm
+pub mod ShortNumbers
+pub mod FieldLaws
 pub mod FirstFaultFacts
 pub mod AllFaultsFacts
 pub mod AcceptedFacts
 pub mod RecordFacts
-pub mod PlainFacts
+pub mod FieldFacts
 pub mod TermsFacts
 pub mod RulesTextFacts
 pub mod AllRulesFaultsFacts

@@ -11,7 +11,7 @@ use Rattle.auction_terms.specs.Keeping.{Offer, offers_of_form, offers_from}
 use Rattle.auction_terms.specs.inside.Keeping.{is_kept_offer}
 use Rattle.auction_terms.specs.Limits.{IsBid, IsBook, IsBefore, AreOffers, KeptAreOffers}
 use Rattle.auction_terms.proofs.OfferLaws.{all_agree, all_append}
-use Rattle.auction_limits.specs.declared.limits.TheConstants.{MOST_BIDDERS, MOST_BIDS}
+use Rattle.auction_terms.specs.declared.limits.TheConstants.{MOST_BIDDERS, MOST_BIDS}
 
 module _ {X : Type 0} (P : X → Type 0) where
   pub all_left : (q : X → Bool) (xs : List X) → AllByRecursion P xs → AllByRecursion P (filter q xs)

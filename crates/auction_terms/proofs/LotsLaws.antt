@@ -2,7 +2,7 @@
 use Rattle.std.proofs.Common.{◌≤◌, arith}
 use Rattle.std.proofs.lemmas.List.{length-map}
 use Rattle.std.proofs.lemmas.List.Elements.{All-map, recursion_from_All}
-use Rattle.auction_limits.specs.declared.limits.TheConstants.{GREATEST_QUANTITY, GREATEST_VALUE, GREATEST_WEIGHT}
+use Rattle.auction_terms.specs.declared.limits.TheConstants.{GREATEST_QUANTITY, GREATEST_VALUE, GREATEST_WEIGHT}
 use Rattle.auction_terms.specs.declared.rules.Category.{Category}
 use Rattle.auction_terms.specs.Terms.{Terms, AreTerms, lots_in}
 use Rattle.auction_terms.specs.inside.Terms.{cap_of}

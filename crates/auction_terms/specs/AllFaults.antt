@@ -3,7 +3,7 @@ use Rattle.std.specs.Prelude.{◌≡◌, ◌+◌, ◌-◌, ◌^◌, ◌++◌, mi
 use Rattle.auction_terms.specs.FirstFault.{first_failed}
 use Rattle.auction_terms.specs.declared.faults.Faults.{Faults}
 use Rattle.auction_terms.specs.declared.faults.Found.{Found}
-use Rattle.auction_limits.specs.declared.limits.TheConstants.{MOST_FAULTS}
+use Rattle.auction_terms.specs.declared.limits.TheConstants.{MOST_FAULTS}
 
 -- a fault at a field, or of the whole record or line
 abbrev pub found : {F : Type 0} → ℕ → F → Found F
@@ -43,7 +43,7 @@ unfoldable pub all_faults : {R F : Type 0} → (ℕ → List R → R → List F)
 all_faults faults_of n accepted [] = []
 all_faults faults_of n accepted (item ∷ more) = faults_of n accepted item ++ all_faults faults_of (n + 1) (accepted_with (faults_of n accepted item) accepted item) more
 
--- these are the faults behind what is told: there is none where there is a value, and else the one that is told comes first
+-- these are the faults behind what is reported: there is none where there is a value, and else the one that is reported comes first
 abbrev pub AreFaultsOf : {A F : Type 0} → List (Found F) → Result A F → Type 0
 AreFaultsOf faults (Ok x) = faults ≡ []
 AreFaultsOf {A} {F} faults (Err fault) = (field : ℕ) × (more : List (Found F)) × (faults ≡ found field fault ∷ more)

@@ -2,7 +2,7 @@
 use Rattle.std.specs.Prelude.{◌≡◌, ◌≤◌, ◌<◌, ◌⊎◌, List, All, AllPairs}
 use Rattle.auction_terms.specs.Packages.{IsPackage}
 use Rattle.auction_terms.specs.declared.bids.KeptBid.{KeptBid}
-use Rattle.auction_limits.specs.declared.limits.TheConstants.{GREATEST_AMOUNT, MOST_BIDDERS, MOST_BIDS}
+use Rattle.auction_terms.specs.declared.limits.TheConstants.{GREATEST_AMOUNT, MOST_BIDDERS, MOST_BIDS}
 
 -- a bid with its numbers, within the limits
 pub record IsKeptBid (kept : KeptBid) : Type 0 where

@@ -1,7 +1,7 @@
 -- Groups of bidders, as lists of rising numbers.
 use Rattle.std.specs.Prelude.{◌≤◌, ◌<◌, ◌==◌, Bool, false, ℕ, List, [], ◌∷◌, length, All, AllPairs}
 use Rattle.std.specs.List.{list_any}
-use Rattle.auction_limits.specs.declared.limits.TheConstants.{MOST_BIDDERS, MOST_GROUPS}
+use Rattle.auction_terms.specs.declared.limits.TheConstants.{MOST_BIDDERS, MOST_GROUPS}
 
 -- the number of a bidder
 pub record IsBidderNumber (number : ℕ) : Type 0 where

@@ -1,3 +1,7 @@
+pub mod LineFields
+pub mod Scaling
+pub mod Decimals
+pub mod Tokens
 pub mod FirstFault
 pub mod AllFaults
 pub mod Accepted

@@ -1,7 +1,7 @@
 -- Packages as lists of quantities, their order, and what is for sale.
 use Rattle.std.specs.Prelude.{◌≡◌, ◌≤◌, ◌+◌, ◌*◌, ◌-◌, ℕ, Bool, true, ◌&&◌, nat_le, List, [], ◌∷◌, length, slice_index_or, All}
 use Rattle.std.specs.List.{list_all}
-use Rattle.auction_limits.specs.declared.limits.TheConstants.{GREATEST_QUANTITY, MOST_CATEGORIES}
+use Rattle.auction_terms.specs.declared.limits.TheConstants.{GREATEST_QUANTITY, MOST_CATEGORIES}
 
 -- a quantity for each category, within the limits
 pub record IsPackage (quantities : List ℕ) : Type 0 where

@@ -5,7 +5,7 @@ use Rattle.auction_terms.specs.Entries.{Entries}
 use Rattle.auction_terms.specs.Names.{is_name}
 use Rattle.auction_terms.specs.Numbers.{number_of}
 use Rattle.auction_terms.specs.Records.{Record}
-use Rattle.auction_terms.specs.RulesText.{entry_numbers, has_name, is_between, is_kind, number_told, record_field, record_kind}
+use Rattle.auction_terms.specs.RulesText.{entry_numbers, has_name, is_between, is_kind, parsed_numeral, record_field, record_kind}
 use Rattle.auction_terms.specs.declared.record_kinds.RecordKind.{RecordKind}
 use Rattle.auction_terms.specs.declared.record_kinds.RecordKind.TheVariants as kind
 use Rattle.auction_terms.specs.declared.record_kinds.Version.{Version}
@@ -29,7 +29,7 @@ number_missing v r k = first_failing (λ n. is_some (number_of n.0)) (first_numb
 
 -- the first one whose number is outside its limits
 abbrev pub number_outside : Version → Record → RecordKind → Option (ℕ × (List ℕ × ℕ × ℕ))
-number_outside v r k = first_failing (λ n. is_between n.1 n.2 (number_told n.0)) (first_number k) (entry_numbers v r k)
+number_outside v r k = first_failing (λ n. is_between n.1 n.2 (parsed_numeral n.0)) (first_number k) (entry_numbers v r k)
 
 -- and its limits
 abbrev pub limits_outside : Version → Record → RecordKind → Option NumberLimits

@@ -1,4 +1,4 @@
--- What is told of a fault: words, with two numbers among them at most.
+-- What is reported of a fault: words, with two numbers among them at most.
 use Rattle.std.specs.Prelude.{◌++◌, List, ℕ, decimal}
 use Rattle.auction_terms.specs.declared.wording.Wording.{Wording}
 use Rattle.auction_terms.specs.declared.wording.Wording.TheVariants.{Words, Number, Between, Numbers}

@@ -4,8 +4,6 @@ pub mod GroupNames
 pub mod GroupsText
 pub mod Keeping
 pub mod Packages
-pub mod PlainRecords
-pub mod Records
+pub mod RecordFields
 pub mod RulesText
-pub mod Sources
 pub mod Terms

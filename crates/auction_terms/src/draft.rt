@@ -4,7 +4,7 @@ ghost use Rattle.std.specs.Prelude.{◌≡◌, ◌≤◌, IfOk, find, length, ma
 ghost use Rattle.std.specs.Option.{option_copied};
 ghost use Rattle.auction_terms.specs.Entries.{is_member_of, pool_with};
 ghost use Rattle.auction_terms.specs.inside.Entries.{weight_in};
-ghost use Rattle.auction_limits.specs.declared.limits.TheConstants.{GREATEST_AMOUNT, MOST_BIDDERS, MOST_CATEGORIES, MOST_POOLS};
+ghost use Rattle.auction_terms.specs.declared.limits.TheConstants.{GREATEST_AMOUNT, MOST_BIDDERS, MOST_CATEGORIES, MOST_POOLS};
 
 use crate::names::Name;
 use crate::packages::Quantities;
@@ -29,7 +29,7 @@ pub struct Member {
     pub weight: u16,
 }
 
-// What the records after the header told. Contracts see the four lists.
+// What the records after the header say. Contracts see the four lists.
 #[derive(Drop)]
 pub(crate) struct Draft {
     categories: Vec<Category>,

@@ -3,7 +3,7 @@
 ghost use Rattle.std.specs.Prelude.{◌∷◌, [], IfOk, OnOk};
 ghost use Rattle.auction_terms.specs.AllFaults.{Keeps, KeepsMore, found};
 
-use auction_limits::MOST_FAULTS;
+use crate::limits::MOST_FAULTS;
 use std::alloc::{AllocError, Global};
 
 /// A fault of a text, and where in its record or line it stands.

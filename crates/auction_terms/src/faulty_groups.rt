@@ -10,9 +10,9 @@ ghost use Rattle.auction_terms.specs.declared.groups_text.GroupFault.TheVariants
 use crate::faults::Faults;
 use crate::group_names::NameReader;
 use crate::groups_text::{GroupFault, empty_fault, name_fault, room_fault};
+use crate::limits::TEXT_LIMIT;
 use crate::lines::LineReader;
 use crate::rules::{Bidder, Rules};
-use auction_limits::TEXT_LIMIT;
 use std::alloc::{AllocError, Global};
 
 // Adds a fault, if there is one.

@@ -11,17 +11,17 @@ ghost use Rattle.auction_terms.specs.declared.rules_text.RulesFault.TheVariants 
 
 use crate::draft::Draft;
 use crate::faults::Faults;
+use crate::limits::TEXT_LIMIT;
 use crate::record_kinds::{Version, version_of};
 use crate::records::RecordReader;
 use crate::rules_fields::{entry_field, header_field};
 use crate::rules_text::{RulesFault, add_entry, end_fault, read_step};
-use auction_limits::TEXT_LIMIT;
 use csv::ByteRecord;
 use std::alloc::{AllocError, Global};
 
 // Adds a fault. Where memory was refused, none is known.
 fn add(faults: &mut Faults<RulesFault>, field: usize, fault: RulesFault) -> Result<(), AllocError>
-    ensures told { OnOk result (is_rules_memory fault ≡ false) }
+    ensures parsed { OnOk result (is_rules_memory fault ≡ false) }
     ensures added { OnOk result (KeepsMore faults.old faults.new (found field fault ∷ [])) }
 {
     match fault {

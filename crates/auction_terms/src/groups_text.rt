@@ -12,7 +12,7 @@ ghost use Rattle.auction_terms.specs.inside.FirstFault.{Tells, TellsFault};
 ghost use Rattle.auction_terms.specs.GroupNames.{names_in};
 ghost use Rattle.auction_terms.specs.Groups.{IsGroup};
 ghost use Rattle.auction_terms.specs.Lines.{lines_of};
-ghost use Rattle.auction_limits.specs.declared.limits.TheConstants.{MOST_BIDDERS};
+ghost use Rattle.auction_terms.specs.declared.limits.TheConstants.{MOST_BIDDERS};
 ghost use Rattle.auction_terms.specs.FaultPlaces.{group_place};
 ghost use Rattle.auction_terms.specs.GroupFaultText.{group_fault_text};
 ghost use Rattle.auction_terms.specs.Wording.{wording_text};
@@ -21,10 +21,10 @@ ghost use Rattle.auction_terms.specs.declared.groups_text.GroupFault.TheVariants
 use crate::group_list::Groups;
 use crate::group_names::NameReader;
 use crate::groups::Group;
+use crate::limits::{MOST_GROUPS, TEXT_LIMIT};
 use crate::lines::LineReader;
 use crate::rules::{Bidder, Rules};
 use crate::wording::Wording;
-use auction_limits::{MOST_GROUPS, TEXT_LIMIT};
 use std::alloc::{AllocError, Global};
 use std::fmt;
 use thiserror::Error;
@@ -47,7 +47,7 @@ pub enum GroupFault {
 }
 
 impl GroupFault {
-    /// What is told of the fault: its number and name, and in which line it is.
+    /// What is reported of the fault: its number and name, and in which line it is.
     pub fn wording(self) -> Wording
         ensures { wording_text result ≡ group_fault_text self }
     {

@@ -46,7 +46,7 @@ pub fn all_faults_of_groups_begin_with_the_first()
         → AreFaultsOf (all_group_faults bidders text) (groups_of bidders text) }
 {}
 
-/// Each fault that is told of a list, whatever its items are checked for, is one that an item has by the accepted ones before it; these have none.
+/// Each fault that is reported of a list, whatever its items are checked for, is one that an item has by the accepted ones before it; these have none.
 pub fn faults_of_a_list_are_of_its_items<R, F>()
     ensures { (faults_of : ℕ → List R → R → List F) → StaysFaultless faults_of
         → AreOfItems faults_of }

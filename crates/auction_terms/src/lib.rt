@@ -3,6 +3,8 @@
 
 mod bids;
 mod choices;
+mod decimals;
+mod digits;
 mod draft;
 mod faults;
 mod faulty_groups;
@@ -12,22 +14,30 @@ mod group_names;
 mod groups;
 mod groups_text;
 pub mod laws;
+pub mod limit_laws;
+mod limits;
+mod line_fields;
 mod lines;
 mod names;
 mod numbers;
 mod packages;
-mod plain_records;
+mod record_fields;
 mod record_kinds;
 mod records;
 mod rules;
 mod rules_fields;
 mod rules_text;
+mod token;
+mod token_fault;
+mod token_parts;
 mod values;
 mod weights;
 mod wording;
 
 pub use bids::{Bid, Kept, KeptBid};
 pub use choices::Choice;
+pub use decimals::{NumberFault, read_number, scaled};
+pub use digits::digits_behind;
 pub use faults::{Faults, Found};
 pub use faulty_groups::group_faults;
 pub use faulty_rules::rules_faults;
@@ -35,6 +45,12 @@ pub use group_list::Groups;
 pub use group_names::NameReader;
 pub use groups::Group;
 pub use groups_text::{GroupFault, read_groups};
+pub use limits::{
+    GREATEST_AMOUNT, GREATEST_POINTS, GREATEST_QUANTITY, GREATEST_VALUE, GREATEST_WEIGHT,
+    MOST_BIDDERS, MOST_BIDS, MOST_CATEGORIES, MOST_FAULTS, MOST_GROUPS, MOST_POOLS, MOST_SESSIONS,
+    MOST_WORKERS, TEXT_LIMIT,
+};
+pub use line_fields::{Field, next_field};
 pub use lines::LineReader;
 pub use names::Name;
 pub use numbers::number;
@@ -44,5 +60,8 @@ pub use records::RecordReader;
 pub use rules::{Bidder, Category, Pool, Rules};
 pub use rules_fields::{NumberLimits, limits_outside};
 pub use rules_text::{RulesFault, field, read_rules};
+pub use token::{are_all_digits, behind, read_token};
+pub use token_fault::TokenFault;
+pub use token_parts::TokenParts;
 pub use weights::Weights;
 pub use wording::Wording;

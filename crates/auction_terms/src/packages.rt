@@ -1,8 +1,8 @@
 //! Packages of lots.
 
+use crate::limits::MOST_CATEGORIES;
 use crate::rules::{Category, Pool, Rules};
 use arrayvec::ArrayVec;
-use auction_limits::MOST_CATEGORIES;
 use std::marker::Model;
 
 /// Room for a quantity of each category, in two bytes each. It stands in the package itself, so that a bid

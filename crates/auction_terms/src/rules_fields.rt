@@ -6,18 +6,18 @@ ghost use Rattle.csv.specs.Records.{fields_of};
 ghost use Rattle.auction_terms.specs.Names.{is_name};
 ghost use Rattle.auction_terms.specs.Numbers.{number_of};
 ghost use Rattle.auction_terms.specs.RulesFields.{entry_field, field_in_kind, field_without_kind, header_field, limits_outside, number_missing};
-ghost use Rattle.auction_terms.specs.RulesText.{has_name, is_between, is_kind, number_told, record_field};
+ghost use Rattle.auction_terms.specs.RulesText.{has_name, is_between, is_kind, parsed_numeral, record_field};
 ghost use Rattle.auction_terms.specs.declared.record_kinds.RecordKind.TheVariants as kinds;
 
 use crate::draft::{Draft, NamedCap};
+use crate::limits::{
+    GREATEST_AMOUNT, GREATEST_POINTS, GREATEST_QUANTITY, GREATEST_VALUE, GREATEST_WEIGHT,
+    MOST_SESSIONS,
+};
 use crate::names::is_name;
 use crate::numbers::number;
 use crate::record_kinds::{RecordKind, Version, kind_of, value_text};
 use crate::rules_text::{RulesFault, field, has_pool};
-use auction_limits::{
-    GREATEST_AMOUNT, GREATEST_POINTS, GREATEST_QUANTITY, GREATEST_VALUE, GREATEST_WEIGHT,
-    MOST_SESSIONS,
-};
 use csv::ByteRecord;
 
 /// The field of a number, from 1, and from where to where the number is to be.
@@ -37,7 +37,7 @@ fn is_number(text: &[u8]) -> bool
 
 // Whether the number that a text tells, 0 where it tells none, is within these limits.
 fn is_within(text: &[u8], least: u64, greatest: u64) -> bool
-    ensures { result ≡ is_between least greatest (number_told text.now) }
+    ensures { result ≡ is_between least greatest (parsed_numeral text.now) }
 {
     match number(text) {
         Some(value) => least <= value && value <= greatest,

@@ -4,7 +4,7 @@ ghost use Rattle.std.specs.Prelude.{◌≡◌, ◌≤◌, ◌<◌, ◌*◌, ◌^
 ghost use Rattle.auction_terms.specs.Packages.{weighed};
 ghost use Rattle.auction_terms.specs.Terms.{IsCategory};
 ghost use Rattle.auction_terms.specs.inside.Terms.{has_values};
-ghost use Rattle.auction_limits.specs.declared.limits.TheConstants.{GREATEST_AMOUNT, GREATEST_VALUE, MOST_CATEGORIES};
+ghost use Rattle.auction_terms.specs.declared.limits.TheConstants.{GREATEST_AMOUNT, GREATEST_VALUE, MOST_CATEGORIES};
 
 use crate::bids::Bid;
 use crate::packages::{Package, weighed};

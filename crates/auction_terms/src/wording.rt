@@ -1,11 +1,11 @@
-//! What is told of a fault.
+//! What is reported of a fault.
 
 ghost use Rattle.std.specs.Prelude.{◌≡◌, ◌++◌, Some, decimal};
 ghost use Rattle.auction_terms.specs.Wording.{wording_text};
 
 use std::fmt;
 
-/// What is told of a fault, or of where in an input it is: words, with two numbers among them at most.
+/// What is reported of a fault, or of where in an input it is: words, with two numbers among them at most.
 #[derive(Clone, Copy)]
 pub enum Wording {
     Words(&'static str),

@@ -156,11 +156,11 @@ module _ {counts : ℕ → Counts} {standing : ℕ → Option (Standing Offers)}
       go false = refl
 
   -- the answer to a change
-  pub change_told : (b : ℕ) {k : Counts} {s : Option ℕ} {reply : Reply Offers} (over : Option ℕ) (done : ℕ → Reply Offers) → k ≡ counts b
+  pub change_reported : (b : ℕ) {k : Counts} {s : Option ℕ} {reply : Reply Offers} (over : Option ℕ) (done : ℕ → Reply Offers) → k ≡ counts b
       → reply ≡ change_answer o s over (done (k.changes + 1)) → s ≡ option_map (λ (s : Standing Offers). s.number) (standing b)
       → reply ≡ answer_to_change (entries_beside (Session b 0) h) (entries_beside Chair h) over (done (length (changes (entries_beside (Session b 0) h)) + 1))
-  change_told b {k} over done is told at =
-      told ∙ ap (λ s. change_answer o s over (done (k.changes + 1))) at ∙ change_answer-is b over (done (k.changes + 1))
+  change_reported b {k} over done is reported at =
+      reported ∙ ap (λ s. change_answer o s over (done (k.changes + 1))) at ∙ change_answer-is b over (done (k.changes + 1))
       ∙ ap (λ n. answer_to_change (entries_beside (Session b 0) h) (entries_beside Chair h) over (done (n + 1))) (ap (λ n. n.changes) is ∙ was.changes_are b)
 
   -- the limit, by what is counted
@@ -170,7 +170,7 @@ module _ {counts : ℕ → Counts} {standing : ℕ → Option (Standing Offers)}
   pub below_limit : (b s : ℕ) {k : Counts} → k ≡ counts b → k.entries < call_limit → length (entries_beside (Session b s) h) < call_limit
   below_limit b s {k} is l = let all : k.entries ≡ length (entries_beside (Session b s) h) = ap (λ n. n.entries) is ∙ was.entries_are b in omega (arith, all, l)
 
--- the same records, told in another way
+-- the same records, described in another way
 pub Summarizes-same : {counts counts' : ℕ → Counts} {standing standing' : ℕ → Option (Standing Offers)} {n n' : ℕ} {o o' : Bool} {h h' : List (Entry Offers)} → Summarizes counts standing n o h
     → ((b : ℕ) → counts' b ≡ counts b) → ((b : ℕ) → standing' b ≡ standing b) → n' ≡ n → o' ≡ o → h' ≡ h → Summarizes counts' standing' n' o' h'
 Summarizes-same {counts' = counts'} {standing' = standing'} {n' = n'} {o' = o'} was cs ss ns os hs =
@@ -239,7 +239,7 @@ pub answer-close : (h : List (Entry Offers)) (call : Call Offers) (o : Bool) →
 unfolding is_closed
 answer-close h call o l e opened = rw e (ap Closed opened)
 
--- what is shown is what stands
+-- what is shown is the standing form
 answer_to-shown : {F : Type 0} (own chair : List (Entry F)) (call : Call F) (x : Option (Standing F)) → answer_to own chair call ≡ Shown x → standing_after own ≡ x
 answer_to-shown own chair (Submit form over) x e = absurd (answer_to_change-other own chair over (Accepted (length (changes own) + 1)) (Shown x) (λ f. cc) (λ f. cc) (λ f. cc) e)
 answer_to-shown own chair (Withdraw over) x e = absurd (answer_to_change-other own chair (Some over) (Withdrawn (length (changes own) + 1)) (Shown x) (λ f. cc) (λ f. cc) (λ f. cc) e)
@@ -254,24 +254,24 @@ answer-shown h b s call x e =
       | inr l ↦ (let bad : CallLimit ≡ Shown x = sym (answer-limit h (Session b s) call l) ∙ e in cc)
     ]
 
--- the history after a call, by its answer, where there is a result
-pub recorded_told : {X Z E : Type 0} (result : Result (Reply (Arc X Z)) E) (h h' : List (Entry X)) (c : Caller) (call : Call X) → IfOk result (λ r. reply_value r ≡ reply_due h c call) → OnOk result (h' ≡ after h c call)
+-- the history after a call, by its answer, if there is a result
+pub recorded_reply : {X Z E : Type 0} (result : Result (Reply (Arc X Z)) E) (h h' : List (Entry X)) (c : Caller) (call : Call X) → IfOk result (λ r. reply_value r ≡ reply_due h c call) → OnOk result (h' ≡ after h c call)
     → IfOk result (λ r. reply_value r ≢ CallLimit → h' ≡ h ++ record { caller = c; call = call; reply = reply_value r } ∷ [])
-recorded_told {X} (Ok r) h h' c call told is =
+recorded_reply {X} (Ok r) h h' c call reported is =
     λ less. is ∙ elim (cases_lt (length (entries_beside c h)) call_limit) [
-      | inl l ↦ after-below h c call l ∙ ap (λ (r : Reply X). h ++ record { caller = c; call = call; reply = r } ∷ []) (sym told)
-      | inr l ↦ absurd (less (told ∙ answer-limit h c call l))
+      | inl l ↦ after-below h c call l ∙ ap (λ (r : Reply X). h ++ record { caller = c; call = call; reply = r } ∷ []) (sym reported)
+      | inr l ↦ absurd (less (reported ∙ answer-limit h c call l))
     ]
-recorded_told (Err e) h h' c call told is = tt
+recorded_reply (Err e) h h' c call reported is = tt
 
-pub unrecorded_told : {X Z E : Type 0} (result : Result (Reply (Arc X Z)) E) (h h' : List (Entry X)) (c : Caller) (call : Call X) → IfOk result (λ r. reply_value r ≡ reply_due h c call) → OnOk result (h' ≡ after h c call)
+pub unrecorded_reply : {X Z E : Type 0} (result : Result (Reply (Arc X Z)) E) (h h' : List (Entry X)) (c : Caller) (call : Call X) → IfOk result (λ r. reply_value r ≡ reply_due h c call) → OnOk result (h' ≡ after h c call)
     → IfOk result (λ r. reply_value r ≡ CallLimit → h' ≡ h)
-unrecorded_told (Ok r) h h' c call told is =
+unrecorded_reply (Ok r) h h' c call reported is =
     λ limit. is ∙ elim (cases_lt (length (entries_beside c h)) call_limit) [
-      | inl l ↦ absurd (answer-below_recorded h c call l (sym told ∙ limit))
+      | inl l ↦ absurd (answer-below_recorded h c call l (sym reported ∙ limit))
       | inr l ↦ after-limit h c call l
     ]
-unrecorded_told (Err e) h h' c call told is = tt
+unrecorded_reply (Err e) h h' c call reported is = tt
 
 pub answer-close_not_shown : {F : Type 0} (h : List (Entry F)) (x : Option (Standing F)) → reply_due h Chair Close ≢ Shown x
 answer-close_not_shown {F} h x e =

@@ -1,4 +1,4 @@
--- The history of a round: what a call is answered, which histories are legal, which form stands, and what one caller made of it.
+-- The history of a round: how a call is answered, which histories are legal, which form is standing, and what one caller made of it.
 -- A form is any value here. The entries of a `Book` hold shared forms, and `entry_value` takes the form out of the share.
 use Rattle.std.specs.Prelude.{ℕ, ◌+◌, ◌≡◌, ◌≢◌, ◌==◌, ◌&&◌, ◌∷◌, ◌++◌, [], List, Bool, true, false, not, Option, Some, None, if◌then◌else◌, nat_le, nat_eq, length, map, filter, slice_get, take, ⊤}
 use Rattle.std.specs.List.{last_or, list_any}
@@ -54,7 +54,7 @@ module _ {F : Type 0} where
   left_standing (Submit form over) (Accepted n) = Some (record { number = n; form = form })
   left_standing _ _ = None
 
-  -- what stands after these entries of one bidder: what the last change left
+  -- the standing form after these entries of one bidder: what the last change left
   abbrev pub standing_after : List (Entry F) → Option (Standing F)
   standing_after entries = option_and_then (λ (e : Entry F). left_standing e.call e.reply) (last_or None (changes entries))
 
@@ -65,7 +65,7 @@ module _ {F : Type 0} where
   abbrev pub has_close : List (Entry F) → Bool
   has_close entries = list_any (λ (e : Entry F). is_close e.call) entries
 
-  -- the answer to a change over what is taken to stand: refused after a close and over a number that does not stand
+  -- the answer to a change over a number: refused after a close, and if the number isn't the standing one
   abbrev pub answer_to_change : List (Entry F) → List (Entry F) → Option ℕ → Reply F → Reply F
   answer_to_change own chair over done =
       if has_close chair then RoundOver else if option_eq nat_eq over (standing_number own) then done else Stale (standing_number own)
@@ -99,7 +99,7 @@ module _ {F : Type 0} where
   unfoldable pub own_pairs : List (Entry F) → Caller → List (Call F × Reply F)
   own_pairs history caller = map (λ (e : Entry F). (e.call, e.reply)) (filter (λ (e : Entry F). is_same_caller caller e.caller) history)
 
-  -- what stands of a bidder after a history
+  -- the standing form of a bidder after a history
   unfoldable pub standing_of : List (Entry F) → ℕ → Option (Standing F)
   standing_of history bidder = standing_after (entries_beside (Session bidder 0) history)
 

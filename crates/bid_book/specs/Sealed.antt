@@ -1,4 +1,4 @@
--- A sealed round: what a bidder is told depends on its own calls and the chair's alone.
+-- A sealed round: the answers to a bidder depend on its own calls and the chair's alone.
 use Rattle.std.specs.Prelude.{ℕ, ◌≡◌, ◌==◌, List, Bool, true, filter}
 use Rattle.bid_forms.specs.Offers.{Offers}
 use Rattle.bid_book.specs.declared.caller.Caller.{Caller}

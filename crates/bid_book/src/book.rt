@@ -14,7 +14,7 @@ use indexmap::IndexMap;
 use std::alloc::Global;
 use std::marker::Model;
 
-/// The calls of a round with their answers, and what stands.
+/// The calls of a round with their answers, and the standing forms.
 #[derive(Drop)]
 pub struct Book {
     records: Records,
@@ -65,7 +65,7 @@ impl Book {
         self.records.is_open
     }
 
-    /// What stands of a bidder.
+    /// The standing form of a bidder.
     pub fn standing(&self, bidder: u16) -> Option<&Standing>
         ensures { option_map standing_value (option_copied result) ≡ standing_of self.now bidder }
     {

@@ -6,7 +6,7 @@ use bid_forms::Form;
 use std::alloc::{AllocError, Global};
 use std::sync::Arc;
 
-/// What a caller asks. A change is made over the number that stands; for a first submission, over none.
+/// What a caller asks. A change is made over the standing number; a first submission over none.
 #[derive(Drop)]
 pub enum Call<F = Arc<Form, Global>> {
     Submit { form: F, over: Option<u32> },

@@ -3,7 +3,7 @@ ghost use Rattle.std.specs.Prelude.{◌≡◌};
 ghost use Rattle.bid_book.specs.declared.records.TheConstants.{CALL_LIMIT};
 ghost use Rattle.bid_book.specs.Sealed.{IsSealed};
 
-/// What a bidder is told depends on its own calls and the chair's alone.
+/// The answers to a bidder depend on its own calls and the chair's alone.
 pub fn sealed()
     ensures { IsSealed }
 {}

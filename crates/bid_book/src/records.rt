@@ -71,7 +71,7 @@ pub(crate) fn write_counts(counts: &mut IndexMap<u16, Counts>, bidder: u16, now:
     let _ = counts.insert(bidder, now);
 }
 
-/// Writes what stands of a bidder, where that changes.
+/// Writes a bidder's standing form, if that changes.
 pub(crate) fn write_standing(
     standing: &mut IndexMap<u16, Standing>,
     bidder: u16,
@@ -143,7 +143,7 @@ pub(crate) fn reply_to(
     }
 }
 
-/// The number of the form that stands.
+/// The number of the standing form.
 fn number_standing(standing: &IndexMap<u16, Standing>, bidder: u16) -> Option<u32>
     ensures { result ≡ option_map (λ s. s.number) (standing_at standing.now bidder) }
 {
@@ -153,7 +153,7 @@ fn number_standing(standing: &IndexMap<u16, Standing>, bidder: u16) -> Option<u3
     }
 }
 
-/// What stands, with another owner of the form.
+/// The standing form, with another owner.
 fn share_standing(
     standing: &IndexMap<u16, Standing>,
     bidder: u16,
@@ -169,7 +169,7 @@ fn share_standing(
     }
 }
 
-/// The answer to a change: `done` in an open round and over the number that stands.
+/// The answer to a change: `done` in an open round and over the standing number.
 fn reply_to_change(is_open: bool, standing: Option<u32>, over: Option<u32>, done: Reply) -> Reply
     ensures { reply_value result ≡ change_answer is_open standing over (reply_value done) }
 {

@@ -22,10 +22,10 @@ pub enum StepError {
     OutOfMemory { call: Call },
 }
 
-/// The reply to a bidder's call, to tell and to store, and what it leaves standing.
+/// The reply to a bidder's call, to return and to store, and the form that it leaves standing.
 #[derive(Drop)]
 struct Prepared {
-    told: Reply,
+    reported: Reply,
     stored: Reply,
     left: Option<Standing>,
 }
@@ -43,22 +43,26 @@ fn prepare(
     ensures kept { AreOfBook records.new }
     ensures history { history_of records.new ≡ history_of records.old }
     ensures counts { counts ≡ counts_at records.new.counts bidder }
-    ensures told { IfOk result (λ p. reply_value p.told
+    ensures reported { IfOk result (λ p. reply_value p.reported
         ≡ answer_to (entries_beside (Caller.Session bidder 0) (history_of records.old))
         (entries_beside Caller.Chair (history_of records.old)) (call_value call.now)) }
-    ensures stored { IfOk result (λ p. reply_value p.stored ≡ reply_value p.told) }
+    ensures stored { IfOk result (λ p. reply_value p.stored ≡ reply_value p.reported) }
     ensures left { IfOk result (λ p. option_map standing_value p.left
-        ≡ left_standing (call_value call.now) (reply_value p.told)) }
+        ≡ left_standing (call_value call.now) (reply_value p.reported)) }
     ensures history_room { OnOk result (vec_len records.new.history
         < vec_capacity records.new.history) }
     ensures counts_room { OnOk result (IsSome (get nat_eq records.new.counts bidder)) }
     ensures standing_room { OnOk result (0 < spare records.new.standing) }
 {
-    let told = reply_to(records, bidder, counts, call)?;
-    let stored = told.share()?;
-    let left = standing_left(call, &told)?;
+    let reported = reply_to(records, bidder, counts, call)?;
+    let stored = reported.share()?;
+    let left = standing_left(call, &reported)?;
     make_room(records, bidder)?;
-    Ok(Prepared { told, stored, left })
+    Ok(Prepared {
+        reported,
+        stored,
+        left,
+    })
 }
 
 /// The counts with one entry more.
@@ -150,9 +154,13 @@ pub(crate) fn step_session(
     match prepare(records, bidder, counts, &call) {
         Err(_) => Err(StepError::OutOfMemory { call }),
         Ok(prepared) => {
-            let Prepared { told, stored, left } = prepared;
+            let Prepared {
+                reported,
+                stored,
+                left,
+            } = prepared;
             record_session(records, bidder, session, counts, left, call, stored);
-            Ok(told)
+            Ok(reported)
         }
     }
 }

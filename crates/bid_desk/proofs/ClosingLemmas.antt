@@ -13,7 +13,7 @@ use Rattle.auction_terms.specs.Limits.{IsBid, IsBook}
 use Rattle.auction_terms.specs.RulesText.{is_between}
 use Rattle.auction_terms.specs.declared.rules.Category.{Category}
 use Rattle.auction_terms.specs.declared.bids.Bid.{Bid}
-use Rattle.auction_limits.specs.declared.limits.TheConstants.{GREATEST_AMOUNT, GREATEST_QUANTITY, MOST_BIDS}
+use Rattle.auction_terms.specs.declared.limits.TheConstants.{GREATEST_AMOUNT, GREATEST_QUANTITY, MOST_BIDS}
 use Rattle.auction_terms.specs.Allocations.{form_of}
 use Rattle.bid_forms.specs.Offers.{Offers, Meets, eligibility_of, is_bid_under, points_of, reserve_of}
 use Rattle.bid_book.specs.declared.caller.Caller.{Caller}
@@ -42,7 +42,7 @@ last_left : (t : Terms) (o : Option (Entry Offers)) → IfSome o (IsEntryOf t) �
 last_left t None entry = tt
 last_left t (Some e) entry = left_standing-meets t e.call e.reply entry.form
 
--- what stands after entries of these rules meets the rules
+-- the form that is left standing by entries of these rules meets the rules
 pub standing_of-meets : (t : Terms) (h : List (Entry Offers)) → All (IsEntryOf t) h → (b : ℕ) → IfSome (standing_of h b) (λ s. Meets t s.form)
 unfolding standing_of
 standing_of-meets t h entries b =

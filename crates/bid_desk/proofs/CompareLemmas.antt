@@ -55,7 +55,7 @@ module _ {X : Type 0} (theirs own : List X) (x : X) where
       let long : length theirs ≡ pairs = ap length are ∙ length-take-le pairs own few in
       (first_here (theirs ++ x ∷ []) own pairs x [] (ap (λ w. w ++ x ∷ []) are) few other, omega (arith, length-append theirs (x ∷ [])))
 
--- where each session stands once, its slot leads to it
+-- if each session is there once, its slot leads to it
 module _ (t : Terms) (sessions : List SessionOwn) (slots : List Slot) (are : AreSlots t sessions (length sessions) slots) (once : StandOnce t sessions) (b s : ℕ) (known : IsSessionOf t b s) where
   slot-once : (slot_at slots b s).times ≡ 1
   slot-once = are.times_are b s known ∙ ap (times_session b s) (take_all (length sessions) sessions (omega arith)) ∙ once.each b s known

@@ -7,7 +7,7 @@ use Rattle.bid_book.specs.declared.call.Call.{Call}
 use Rattle.bid_book.specs.declared.reply.Reply.{Reply}
 use Rattle.bid_desk.specs.Holding.{pair_value}
 
--- a caller keeps one pair more, where there was room for it
+-- a caller keeps one pair more, if there was room for it
 pub one-pair-more : {X Z : Type 0} (own reserved own' : List (Call (Arc X Z) × Reply (Arc X Z))) (pair : Call (Arc X Z) × Reply (Arc X Z)) (value : Call X × Reply X) → reserved ≡ own → own' ≡ reserved ++ pair ∷ []
     → pair_value pair ≡ value → map (λ (p : Call (Arc X Z) × Reply (Arc X Z)). pair_value p) own' ≡ map (λ (p : Call (Arc X Z) × Reply (Arc X Z)). pair_value p) own ++ value ∷ []
 one-pair-more {X} {Z} own reserved own' pair value same pushed is =

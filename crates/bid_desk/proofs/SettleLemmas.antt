@@ -52,7 +52,7 @@ module _ {F : Type 0} (c : Caller) where
   unfolding own_pairs
   own_pairs_other h i e at is = ap (λ w. own_pairs w c) (take_next h i e at) ∙ own_pairs-append (take i h) (e ∷ []) ∙ ap (λ t. own_pairs (take i h) c ++ map (λ (x : Entry F). (x.call, x.reply)) (cond t (e ∷ []) [])) is ∙ append-nil (own_pairs (take i h) c)
 
--- a list agrees with the history where it agrees under the name of each of its sessions
+-- a list agrees with the history if it agrees under the name of each of its sessions
 pub own_from_agrees : (t : Terms) (history : List (Entry Offers)) (sessions : List SessionOwn) → All (λ (x : SessionOwn). IsSessionOf t x.bidder x.session) sessions
     → ((b s : ℕ) → IsSessionOf t b s → AgreesAt history sessions b s) → All (OwnIs history) sessions
 own_from_agrees t history sessions known agrees k d l =

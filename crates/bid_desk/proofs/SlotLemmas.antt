@@ -7,7 +7,7 @@ use Rattle.std.proofs.lemmas.List.{get_or-map, get_or-replicate, get_or-set_othe
 use Rattle.std.proofs.lemmas.List.Sums.{count_by_more_no, count_by_more_yes}
 use Rattle.auction_terms.specs.Terms.{AreTerms, IsBidder, Terms}
 use Rattle.auction_terms.specs.declared.rules.Bidder.{Bidder}
-use Rattle.auction_limits.specs.declared.limits.TheConstants.{MOST_SESSIONS}
+use Rattle.auction_terms.specs.declared.limits.TheConstants.{MOST_SESSIONS}
 use Rattle.bid_desk.specs.declared.slots.Slot.{Slot}
 use Rattle.bid_desk.specs.Holding.{SessionOwn}
 use Rattle.bid_desk.specs.Sessions.{IsSessionOf, session_limit}
@@ -168,7 +168,7 @@ module _ (t : Terms) (sessions : List SessionOwn) (n : ℕ) (slots : List Slot) 
         );
   }
 
--- where all were counted, each session stands as often as its slot says
+-- if all were counted, each session is there as often as its slot says
 module _ (t : Terms) (sessions : List SessionOwn) (slots : List Slot) (are : AreSlots t sessions (length sessions) slots) where
   times-all : (b s : ℕ) → IsSessionOf t b s → times_session b s sessions ≡ (slot_at slots b s).times
   times-all b s known = sym (are.times_are b s known ∙ ap (times_session b s) (take_all (length sessions) sessions (omega arith)))

@@ -18,7 +18,7 @@ pub record Closing : Type 0 where
 abbrev pub closing : Terms → List (Entry Offers) → Closing
 closing rules history = record { rules = rules; history = history }
 
--- the bids of a form, and none where there is no form
+-- the bids of a form, and none if there is no form
 abbrev pub bids_in : Option Offers → List Bid
 bids_in form = option_map_or (λ (o : Offers). o.bids) form []
 

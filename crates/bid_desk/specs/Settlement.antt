@@ -14,7 +14,7 @@ use Rattle.bid_desk.specs.Sessions.{IsSessionOf}
 abbrev pub is_named : ℕ → ℕ → SessionOwn → Bool
 is_named b s x = (x.bidder == b) && (x.session == s)
 
--- how often a session stands in a list
+-- how often a session is in a list
 abbrev pub times_session : ℕ → ℕ → List SessionOwn → ℕ
 times_session b s sessions = count_by (is_named b s) sessions
 
@@ -32,7 +32,7 @@ OwnIs history x = own_pairs history (Session x.bidder x.session) ≡ x.pairs
 abbrev pub ComesBefore : ℕ → ℕ → ℕ → ℕ → Type 0
 ComesBefore b s c t = (b < c) ⊎ ((b ≡ c) × (s < t))
 
--- the history is closed, each session of the rules stands once, and each caller made just its own calls
+-- the history is closed, each session of the rules is there once, and each caller made exactly its own calls
 pub record IsSettled (t : Terms) (history : List (Entry Offers)) (chair : ChairOwn) (sessions : List SessionOwn) : Type 0 where
   pub closed : is_closed history ≡ true
   pub once : (b s : ℕ) → IsSessionOf t b s → times_session b s sessions ≡ 1
@@ -40,17 +40,17 @@ pub record IsSettled (t : Terms) (history : List (Entry Offers)) (chair : ChairO
   pub chair_is : own_pairs history Chair ≡ chair.pairs
   pub callers : All (λ (e : Entry Offers). IsCallerOf t e.caller) history
 
--- the first session of the rules that does not stand just once
+-- the first session of the rules that isn't there exactly once
 pub record IsFirstMissing (t : Terms) (sessions : List SessionOwn) (bidder session : ℕ) : Type 0 where
   pub known : IsSessionOf t bidder session
   pub missing : times_session bidder session sessions ≢ 1
   pub first : (b s : ℕ) → IsSessionOf t b s → ComesBefore b s bidder session → times_session b s sessions ≡ 1
 
--- where this session stands in the list, its own pairs are those of the history
+-- at each place of the list that has this session, its own pairs are those of the history
 abbrev pub AgreesAt : List (Entry Offers) → List SessionOwn → ℕ → ℕ → Type 0
 AgreesAt history sessions b s = All (λ x. IsTrue (is_named b s x) → OwnIs history x) sessions
 
--- this session stands in the list, and its own pairs first differ from the history's at this place
+-- this session is in the list, and its own pairs first differ from the history's at this place
 abbrev pub DiffersAt : List (Entry Offers) → List SessionOwn → ℕ → ℕ → ℕ → Type 0
 DiffersAt history sessions b s place =
     Any (λ x. IsTrue (is_named b s x) × IsFirstDifference (own_pairs history (Session b s)) x.pairs place) sessions
@@ -61,7 +61,7 @@ pub record IsFirstDiffering (t : Terms) (history : List (Entry Offers)) (session
   pub differs : DiffersAt history sessions bidder session place
   pub first : (b s : ℕ) → IsSessionOf t b s → ComesBefore b s bidder session → AgreesAt history sessions b s
 
--- each session of the rules stands just once
+-- each session of the rules is there exactly once
 pub record StandOnce (t : Terms) (sessions : List SessionOwn) : Type 0 where
   pub each : (b s : ℕ) → IsSessionOf t b s → times_session b s sessions ≡ 1
 
@@ -74,7 +74,7 @@ abbrev pub IsFirstOfAll : Terms → List (Entry Offers) → ChairOwn → List Se
 IsFirstOfAll t history chair sessions (Session b s) place = IsFirstDiffering t history sessions b s place
 IsFirstOfAll t history chair sessions Chair place = AgreeAll t history sessions × IsFirstDifference (own_pairs history Chair) chair.pairs place
 
--- why a stopped desk is not settled; each cause only where those before it are none
+-- why a stopped desk is not settled; each cause only if those before it don't hold
 abbrev pub IsCause : Terms → List (Entry Offers) → ChairOwn → List SessionOwn → Cause → Type 0
 IsCause t history chair sessions StillOpen = is_closed history ≡ false
 IsCause t history chair sessions (Sessions b s) = (is_closed history ≡ true) × IsFirstMissing t sessions b s

@@ -39,7 +39,7 @@ impl ClosedBook {
         ClosedBook { rules, book }
     }
 
-    /// The rules. They, and the forms that stand, are within the limits of an auction.
+    /// The rules. They, and the standing forms, are within the limits of an auction.
     pub fn rules(&self) -> &Rules
         ensures rules { result.now ≡ self.now.rules }
         ensures lots { IsLots (lots_in self.now.rules) }

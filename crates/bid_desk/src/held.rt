@@ -73,7 +73,7 @@ impl<L: Round> Held<L> {
         ClosedBook::new(rules, book)
     }
 
-    /// Submits a form over the number that stands.
+    /// Submits a form over the standing number.
     pub fn submit(
         &mut self,
         session: &mut Session<L>,
@@ -98,7 +98,7 @@ impl<L: Round> Held<L> {
         self.make(session, Call::Submit { form, over })
     }
 
-    /// Withdraws the form over the number that stands.
+    /// Withdraws the form over the standing number.
     pub fn withdraw(&mut self, session: &mut Session<L>, over: u32) -> Result<Reply, DeskError>
         ensures answered { IfOk result (λ r. reply_value r
             ≡ reply_due self.old.history (caller_of session.old) (Call.Withdraw over)) }
@@ -114,7 +114,7 @@ impl<L: Round> Held<L> {
         self.make(session, Call::Withdraw { over })
     }
 
-    /// Shows what stands.
+    /// Shows the standing form.
     pub fn show(&mut self, session: &mut Session<L>) -> Result<Reply, DeskError>
         ensures answered { IfOk result (λ r. reply_value r
             ≡ reply_due self.old.history (caller_of session.old) Call.Show) }
@@ -145,7 +145,7 @@ impl<L: Round> Held<L> {
             return Ok(reply);
         }
         self.count.add(&mut chair.share, 1);
-        push_pair(&mut chair.own, Call::Close, told_again(&reply, None));
+        push_pair(&mut chair.own, Call::Close, same_reply(&reply, None));
         Ok(reply)
     }
 
@@ -165,7 +165,7 @@ impl<L: Round> Held<L> {
             × (session.new.session ≡ session.old.session) }
     {
         session.own.reserve(1)?;
-        let (told_call, standing) = shares(&self.book, session.bidder, &call)?;
+        let (shared_call, standing) = shares(&self.book, session.bidder, &call)?;
         let caller = Caller::Session {
             bidder: session.bidder,
             session: session.session,
@@ -175,28 +175,28 @@ impl<L: Round> Held<L> {
             return Ok(reply);
         }
         self.count.add(&mut session.share, 1);
-        push_pair(&mut session.own, told_call, told_again(&reply, standing));
+        push_pair(&mut session.own, shared_call, same_reply(&reply, standing));
         Ok(reply)
     }
 }
 
-/// Another owner of the call's form, and of the form that stands.
+/// Another owner of the call's form, and of the standing form.
 fn shares(book: &Book, bidder: u16, call: &Call) -> Result<(Call, Option<Standing>), AllocError>
     ensures { IfOk result (λ r. (call_value r.0 ≡ call_value call.now)
         × (option_map standing_value r.1 ≡ standing_of book.now bidder)) }
 {
-    let told = call.share()?;
+    let reported = call.share()?;
     match book.standing(bidder) {
-        None => Ok((told, None)),
+        None => Ok((reported, None)),
         Some(standing) => {
             let standing = standing.share()?;
-            Ok((told, Some(standing)))
+            Ok((reported, Some(standing)))
         }
     }
 }
 
 /// The same reply. If it shows a form, that is the form given.
-fn told_again(reply: &Reply, standing: Option<Standing>) -> Reply
+fn same_reply(reply: &Reply, standing: Option<Standing>) -> Reply
     requires { (s : Option (Standing Offers)) → reply_value reply.now ≡ Shown s
         → option_map standing_value standing ≡ s }
     ensures { reply_value result ≡ reply_value reply.now }

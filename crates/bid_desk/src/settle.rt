@@ -1,21 +1,21 @@
 //! A stopped desk is settled.
 //!
 //! Settling compares two records of one round that were kept apart: the history under the lock, and the list of calls and
-//! replies that each session, and the chair, kept of its own. Where they agree, each call of each caller stands in the history
-//! once, in that caller's order, and nothing else does; that is what a closed book rests on, and no sum of counts is taken.
+//! replies that each session, and the chair, kept of its own. If they agree, each call of each caller is in the history
+//! once, in that caller's order, and nothing else is; that is what a closed book rests on, and no sum of counts is taken.
 //!
-//! It goes in three steps, each of which may end it with a cause, and the causes are told in this order:
+//! It goes in three steps, each of which may end it with a cause, and the causes are reported in this order:
 //!
 //! 1. The chair has closed. This is tested before any memory is taken.
-//! 2. Each session of the rules stands just once among those handed in (`slots`: a slot for each session that a bidder may
+//! 2. Each session of the rules is exactly once among those handed in (`slots`: a slot for each session that a bidder may
 //!    have, with how often it came and where).
 //! 3. One pass over the history advances a comparison for each caller (`comparing`): how many pairs of its list have been
 //!    met, or the first place that differs. At the end a list that goes on, or has ended before, differs there too. The first
-//!    caller that differs is told, by bidder, then session, the chair last.
+//!    caller that differs is reported, by bidder, then session, the chair last.
 //!
 //! To mind when changing it: whatever ends it, the stopped desk, the chair and the sessions go back as they came, so nothing is
-//! taken out of them before the last step. A cause is told only where it holds, also when it is told late: 'differs' names a
-//! place at which the two really differ. Memory is the last cause, and may stand in the place of 2 and 3, never of 1.
+//! taken out of them before the last step. A cause is reported only if it holds, even when it is reported late: 'differs' names a
+//! place at which the two really differ. Memory is the last cause; it may come in place of 2 and 3, never of 1.
 ghost use Rattle.std.specs.Prelude.{◌≡◌, map, length, true, IfSome, IfNone, IfOk, IfErr, All};
 ghost use Rattle.auction_terms.specs.Terms.{AreTerms};
 ghost use Rattle.bid_book.specs.History.{entry_value, is_closed, own_pairs};
@@ -34,12 +34,12 @@ use auction_terms::Rules;
 use bid_book::{Caller, Entry};
 use std::alloc::{AllocError, Global};
 
-/// Why a stopped desk is not settled. Each cause is told only where those before it are none.
+/// Why a stopped desk is not settled. Each cause is reported only if those before it don't hold.
 #[derive(Clone, Copy, PartialEq, Eq, Debug)]
 pub enum Cause {
     /// The chair has not closed.
     StillOpen,
-    /// This session of the rules does not stand just once among those that were handed in.
+    /// This session of the rules isn't exactly once among those that were handed in.
     Sessions { bidder: u16, session: u8 },
     /// This caller's list and the history differ, first at this place of the list, from 1.
     Differs { caller: Caller, place: usize },

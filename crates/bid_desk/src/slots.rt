@@ -1,4 +1,4 @@
-//! Where each session stands in a list of sessions.
+//! The place of each session in a list of sessions.
 ghost use Rattle.std.specs.Prelude.{ℕ, ◌≡◌, ◌≢◌, ◌*◌, ◌<◌, ◌≤◌, length, IfOk, IfSome, IfNone};
 ghost use Rattle.auction_terms.specs.Terms.{AreTerms};
 ghost use Rattle.bid_desk.specs.Sessions.{IsSessionOf};
@@ -6,11 +6,10 @@ ghost use Rattle.bid_desk.specs.inside.Slots.{AllOnce, AreSlots, IsFirstWrong, s
 
 use crate::round::Round;
 use crate::session::Session;
-use auction_limits::MOST_SESSIONS;
-use auction_terms::Rules;
+use auction_terms::{MOST_SESSIONS, Rules};
 use std::alloc::{AllocError, Global};
 
-/// How often a session stands in a list, and where it stands last.
+/// How often a session is in a list, and its last place there.
 #[derive(Clone, Copy, Debug)]
 pub(crate) struct Slot {
     pub(crate) times: usize,
@@ -50,7 +49,7 @@ pub(crate) fn slots_of<L: Round>(
     Ok(slots)
 }
 
-/// The session whose slot is at a place, where the rules name one.
+/// The session whose slot is at a place, if the rules name one.
 pub(crate) fn session_at(rules: &Rules, place: usize) -> Option<(u16, u8)>
     requires { place < length rules.now.bidders * MOST_SESSIONS }
     ensures some { IfSome result (λ x. IsSessionOf rules.now x.0 x.1 × (slot_of x.0 x.1 ≡ place)) }
@@ -65,7 +64,7 @@ pub(crate) fn session_at(rules: &Rules, place: usize) -> Option<(u16, u8)>
     }
 }
 
-/// The first session of the rules that does not stand just once.
+/// The first session of the rules that isn't there exactly once.
 pub(crate) fn missing(rules: &Rules, slots: &[Slot]) -> Option<(u16, u8)>
     requires size { length slots.now ≡ length rules.now.bidders * MOST_SESSIONS }
     requires most { (b s : ℕ) → IsSessionOf rules.now b s → s ≤ MOST_SESSIONS }

@@ -5,10 +5,10 @@ use Rattle.std.proofs.lemmas.List.{length-drop, length-map}
 use Rattle.auction_terms.specs.FirstFault.{first_failed}
 use Rattle.auction_terms.specs.Numbers.{number_of}
 use Rattle.auction_terms.specs.Records.{Record}
-use Rattle.auction_terms.specs.RulesText.{field_number, is_between, number_told, record_field}
+use Rattle.auction_terms.specs.RulesText.{field_number, is_between, parsed_numeral, record_field}
 use Rattle.auction_terms.specs.Terms.{Terms}
-use Rattle.auction_limits.specs.declared.limits.TheConstants.{GREATEST_AMOUNT, GREATEST_QUANTITY}
-use Rattle.bid_forms.specs.FormText.{amount_checks, bid_told, count_checks, is_quantity, is_quantity_text, package_checks, quantity_checks, reserve_checks}
+use Rattle.auction_terms.specs.declared.limits.TheConstants.{GREATEST_AMOUNT, GREATEST_QUANTITY}
+use Rattle.bid_forms.specs.FormText.{amount_checks, parsed_bid, count_checks, is_quantity, is_quantity_text, package_checks, quantity_checks, reserve_checks}
 use Rattle.bid_forms.specs.declared.form_text.FormFault.TheVariants as fault
 use Rattle.bid_forms.specs.Offers.{is_bid_under, points_of, reserve_of}
 
@@ -18,10 +18,10 @@ passed true fault more none = (refl, none)
 passed false fault more none = cc none
 
 -- a record with a field for the amount and one for each category tells a quantity for each category
-one-for-each : (r : Record) (n : ℕ) → length r ≡ n + 1 → length (map number_told (drop 1 r)) ≡ n
-one-for-each r n e = length-map (drop 1 r) number_told ∙ (let cut = length-drop 1 r in omega (arith, e, cut))
+one-for-each : (r : Record) (n : ℕ) → length r ≡ n + 1 → length (map parsed_numeral (drop 1 r)) ≡ n
+one-for-each r n e = length-map (drop 1 r) parsed_numeral ∙ (let cut = length-drop 1 r in omega (arith, e, cut))
 
-pub bid-allowed : (t : Terms) (eligibility place : ℕ) (r : Record) (lots : List ℕ) (amount : ℕ) → amount ≡ field_number 1 r → lots ≡ (bid_told r).package
+pub bid-allowed : (t : Terms) (eligibility place : ℕ) (r : Record) (lots : List ℕ) (amount : ℕ) → amount ≡ field_number 1 r → lots ≡ (parsed_bid r).package
     → first_failed (count_checks t place r) ≡ None → first_failed (amount_checks t.step place r) ≡ None → first_failed (quantity_checks place r) ≡ None
     → first_failed (package_checks t.categories eligibility place lots) ≡ None → first_failed (reserve_checks t.categories place lots amount) ≡ None
     → is_bid_under t eligibility (record { «package» = lots; amount = amount }) ≡ true
@@ -31,7 +31,7 @@ bid-allowed t eligibility place r lots amount amount_is lots_are counts amounts 
     let range = passed (is_between 1 GREATEST_AMOUNT (field_number 1 r)) (fault.AmountRange place) _ text.1 in
     let step = passed (field_number 1 r % t.step == 0) (fault.AmountStep place) _ range.1 in
     let texts = passed (list_all is_quantity_text (drop 1 r)) (fault.QuantityText place) _ quantities in
-    let small = passed (list_all is_quantity (bid_told r).package) (fault.QuantityRange place) _ texts.1 in
+    let small = passed (list_all is_quantity (parsed_bid r).package) (fault.QuantityRange place) _ texts.1 in
     let some = passed (not (list_all (λ quantity. quantity == 0) lots)) (fault.EmptyPackage place) _ packages in
     let points = passed (nat_le (points_of t.categories lots) eligibility) (fault.OverEligibility place) _ some.1 in
     let reserve = passed (nat_le (reserve_of t.categories lots) amount) (fault.BelowReserve place) _ reserves in

@@ -7,10 +7,10 @@ use Rattle.std.proofs.lemmas.List.Elements.{All-push}
 use Rattle.auction_terms.specs.Numbers.{number_of}
 use Rattle.std.specs.Cmp.Lexicographic.{pointwise}
 use Rattle.csv.specs.Records.{field_at}
-use Rattle.auction_terms.specs.RulesText.{number_told, record_field}
+use Rattle.auction_terms.specs.RulesText.{parsed_numeral, record_field}
 use Rattle.auction_terms.specs.Records.{Record}
 use Rattle.auction_terms.specs.declared.rules.Category.{Category}
-use Rattle.auction_limits.specs.declared.limits.TheConstants.{GREATEST_QUANTITY}
+use Rattle.auction_terms.specs.declared.limits.TheConstants.{GREATEST_QUANTITY}
 
 -- lists of different length differ
 pub differ-lengths : (xs ys : List (List ℕ)) → (length xs ≡ length ys → ⊥) → pointwise bytes_eq xs ys ≡ false
@@ -52,7 +52,7 @@ when-not-false false e = cc e
 
 -- the quantities of the fields from a place on
 abbrev pub quantities_from : ℕ → Record → List ℕ
-quantities_from n r = map number_told (drop n r)
+quantities_from n r = map parsed_numeral (drop n r)
 
 -- what a loop over the quantities keeps
 abbrev pub QuantitiesSoFar : Record → ℕ → Bool → List ℕ → Type 0
@@ -67,8 +67,8 @@ QuantitiesSoFar r n within items =
 pub quantities-none : (r : Record) (n : ℕ) (within : Bool) (items : List ℕ) → QuantitiesSoFar r n within items → n < length r → None ≡ number_of (record_field (n + 1) r)
     → list_all (λ (text : List ℕ). is_some (number_of text)) (drop 1 r) ≡ false
 quantities-none r n within items (texts, limits, are, each, few) small none =
-    let told = rw (fields-more r n small, sym (ap is_some none)) at texts in
-    sym told
+    let parsed = rw (fields-more r n small, sym (ap is_some none)) at texts in
+    sym parsed
 
 -- the next field is a quantity
 pub quantities-small : (r : Record) (n : ℕ) (within : Bool) (items : List ℕ) (value : ℕ) → QuantitiesSoFar r n within items → n < length r
@@ -79,7 +79,7 @@ quantities-small r n within items value (texts, limits, are, each, fewer) small 
     let test : nat_le value GREATEST_QUANTITY ≡ true = le-leb value GREATEST_QUANTITY few in (
       rw (next, is_text) at texts,
       rw (next, ← some, test) at limits,
-      λ h. (let told = are h in let more = rw (next, ← some) at told in append_assoc items (value ∷ []) _ ∙ more),
+      λ h. (let parsed = are h in let more = rw (next, ← some) at parsed in append_assoc items (value ∷ []) _ ∙ more),
       All-push (λ quantity. quantity ≤ GREATEST_QUANTITY) items value each few,
       (let longer = length_push items value in omega arith),
     )
@@ -90,9 +90,9 @@ pub quantities-great : (r : Record) (n : ℕ) (within : Bool) (items : List ℕ)
 quantities-great r n within items value (texts, limits, are, each, fewer) small some great =
     let next = fields-more r n small in
     let is_text : is_some (number_of (record_field (n + 1) r)) ≡ true = sym (ap is_some some) in
-    let told = rw (next, ← some, great) at limits in (
+    let parsed = rw (next, ← some, great) at limits in (
       rw (next, is_text) at texts,
-      sym (and_right within false refl) ∙ told,
+      sym (and_right within false refl) ∙ parsed,
       λ h. cc h,
       each,
       omega arith,

@@ -7,7 +7,7 @@ use Rattle.auction_terms.specs.RulesText.{is_between}
 use Rattle.auction_terms.specs.Terms.{Terms}
 use Rattle.auction_terms.specs.declared.bids.Bid.{Bid}
 use Rattle.auction_terms.specs.declared.rules.Category.{Category}
-use Rattle.auction_limits.specs.declared.limits.TheConstants.{GREATEST_AMOUNT, GREATEST_QUANTITY, MOST_BIDDERS, MOST_BIDS}
+use Rattle.auction_terms.specs.declared.limits.TheConstants.{GREATEST_AMOUNT, GREATEST_QUANTITY, MOST_BIDDERS, MOST_BIDS}
 
 -- the number of a bidder, and its bids
 pub record Offers : Type 0 where

@@ -6,12 +6,12 @@ ghost use Rattle.csv.specs.Records.{fields_of};
 ghost use Rattle.auction_terms.specs.AllFaults.{Keeps, KeepsMore, accepted_with, each_failed, found, one_failed, or_else};
 ghost use Rattle.auction_terms.specs.FirstFault.{first_failed};
 ghost use Rattle.auction_terms.specs.Records.{Record, records_of};
-ghost use Rattle.auction_terms.specs.RulesText.{field_number, number_told};
+ghost use Rattle.auction_terms.specs.RulesText.{field_number, parsed_numeral};
 ghost use Rattle.auction_terms.specs.Terms.{IsCategory};
 ghost use Rattle.auction_terms.specs.declared.faults.Found.{Found};
-ghost use Rattle.auction_limits.specs.declared.limits.TheConstants.{MOST_CATEGORIES};
+ghost use Rattle.auction_terms.specs.declared.limits.TheConstants.{MOST_CATEGORIES};
 ghost use Rattle.bid_forms.specs.AllFormFaults.{all_bid_faults, all_bids_faults, all_form_faults, all_package_faults, all_quantity_faults, fault_of_amount, faults_of_bidder, is_unknown_bidder};
-ghost use Rattle.bid_forms.specs.FormText.{amount_checks, bid_told, bidder_told, is_form_memory, is_quantity, is_quantity_text, package_checks, repeat_checks, reserve_checks};
+ghost use Rattle.bid_forms.specs.FormText.{amount_checks, parsed_bid, parsed_bidder, is_form_memory, is_quantity, is_quantity_text, package_checks, repeat_checks, reserve_checks};
 ghost use Rattle.bid_forms.specs.declared.form_text.FormFault.{FormFault};
 ghost use Rattle.bid_forms.specs.declared.form_text.FormFault.TheVariants as fault;
 ghost use Rattle.bid_forms.specs.inside.Fingerprints.{AreSeen};
@@ -22,8 +22,10 @@ use crate::form_text::{
     repeat_fault, reserve_fault, room_fault,
 };
 use crate::seen::Seen;
-use auction_limits::{GREATEST_AMOUNT, GREATEST_QUANTITY, MOST_BIDS, TEXT_LIMIT};
-use auction_terms::{Bid, Category, Faults, Quantities, RecordReader, Rules, field, number};
+use auction_terms::{
+    Bid, Category, Faults, GREATEST_AMOUNT, GREATEST_QUANTITY, MOST_BIDS, Quantities, RecordReader,
+    Rules, TEXT_LIMIT, field, number,
+};
 use csv::ByteRecord;
 use std::alloc::{AllocError, Global};
 
@@ -48,7 +50,7 @@ fn add_refused(
     field: usize,
     fault: FormFault,
 ) -> Result<(), AllocError>
-    ensures told { OnOk result (is_form_memory fault ≡ false) }
+    ensures parsed { OnOk result (is_form_memory fault ≡ false) }
     ensures added { OnOk result (KeepsMore faults.old faults.new (found field fault ∷ [])) }
 {
     match fault {
@@ -105,7 +107,7 @@ fn text_fault(place: u32, text: &[u8]) -> Option<FormFault>
 // The fault of a number above the greatest quantity.
 fn range_fault(place: u32, text: &[u8]) -> Option<FormFault>
     ensures { result ≡ first_failed ((
-      is_quantity (number_told text.now),
+      is_quantity (parsed_numeral text.now),
       fault.QuantityRange place,
     ) ∷ []) }
 {
@@ -140,7 +142,7 @@ fn add_ranges(
 ) -> Result<(), AllocError>
     ensures { OnOk result (KeepsMore faults.old faults.new
         (each_failed is_quantity (fault.QuantityRange place) 2
-        (bid_told (fields_of row.now)).package)) }
+        (parsed_bid (fields_of row.now)).package)) }
 {
     for n in 1..row.len() {
         add(faults, n + 1, range_fault(place, field(row, n + 1)))?;
@@ -162,7 +164,7 @@ fn take_quantities(
         × (all_quantity_faults place (fields_of row.now) ≡ first ∷ more))
         (λ _. all_quantity_faults place (fields_of row.now) ≡ [])) }
     ensures quantities { IfOk result (λ quantities. MatchOption quantities ⊤
-        (λ quantities. (quantities.items ≡ (bid_told (fields_of row.now)).package)
+        (λ quantities. (quantities.items ≡ (parsed_bid (fields_of row.now)).package)
         × All (λ quantity. quantity ≤ GREATEST_QUANTITY) quantities.items)) }
 {
     match read_quantities(place, row) {
@@ -251,12 +253,12 @@ fn add_lots(
     ensures faults { OnOk result (KeepsMore faults.old faults.new
         (or_else (all_quantity_faults place (fields_of row.now))
         (one_failed 0 (package_checks rules.now.categories eligibility place
-        (bid_told (fields_of row.now)).package)
+        (parsed_bid (fields_of row.now)).package)
         ++ (option_to_list (option_map (found 1) (option_map_or (λ value. first_failed
-        (reserve_checks rules.now.categories place (bid_told (fields_of row.now)).package value))
+        (reserve_checks rules.now.categories place (parsed_bid (fields_of row.now)).package value))
         amount None))
         ++ one_failed 0 (repeat_checks place before.now
-        (bid_told (fields_of row.now)).package))))) }
+        (parsed_bid (fields_of row.now)).package))))) }
     ensures seen { OnOk result (AreSeen seen.new.multiplier seen.new.prints.keys before.now) }
 {
     let _categories = rules.categories();
@@ -320,8 +322,8 @@ fn take_bid(
     ensures faults { OnOk result (KeepsMore faults.old faults.new
         (all_bid_faults rules.now eligibility place bids.old.items (fields_of row.now))) }
     ensures bids { OnOk result ((accepted : List Record)
-        → bids.old.items ≡ map bid_told accepted
-        → bids.new.items ≡ map bid_told (accepted_with
+        → bids.old.items ≡ map parsed_bid accepted
+        → bids.new.items ≡ map parsed_bid (accepted_with
         (all_bid_faults rules.now eligibility place bids.old.items (fields_of row.now)) accepted
         (fields_of row.now))) }
     ensures few { OnOk result (length bids.new.items ≤ MOST_BIDS) }
@@ -395,7 +397,7 @@ fn add_behind(
     text: &[u8],
 ) -> Result<(), AllocError>
     requires few { length reader.old ≤ TEXT_LIMIT + 1 }
-    ensures told { OnOk result (is_form_memory fault ≡ false) }
+    ensures parsed { OnOk result (is_form_memory fault ≡ false) }
     ensures added { OnOk result (KeepsMore faults.old faults.new
         (faults_of_bidder rules.now reader.old (Err fault))) }
 {
@@ -418,7 +420,7 @@ fn add_all(
 ) -> Result<(), AllocError>
     requires few { length reader.old ≤ TEXT_LIMIT + 1 }
     ensures { OnOk result (KeepsMore faults.old faults.new (faults_of_bidder rules.now reader.old
-        (bidder_told rules.now (fields_of header.now)))) }
+        (parsed_bidder rules.now (fields_of header.now)))) }
 {
     match read_header(rules, header) {
         Ok(bidder) => {

@@ -1,8 +1,7 @@
 //! Forms.
 
 use crate::sums::{are_quantities, is_empty_package, points_of, reserve_of};
-use auction_limits::GREATEST_AMOUNT;
-use auction_terms::{Bid, Rules};
+use auction_terms::{Bid, GREATEST_AMOUNT, Rules};
 use std::marker::Model;
 
 /// A bidder's number and its bids, with distinct packages. Contracts see the number and the list of bids.
@@ -69,7 +68,7 @@ impl Form {
 
 ghost use Rattle.std.specs.Prelude.{◌≡◌, ◌≤◌, ◌↔◌, IsTrue, length};
 ghost use Rattle.std.specs.List.{list_all};
-ghost use Rattle.auction_limits.specs.declared.limits.TheConstants.{MOST_BIDDERS};
+ghost use Rattle.auction_terms.specs.declared.limits.TheConstants.{MOST_BIDDERS};
 ghost use Rattle.bid_forms.specs.Offers.{eligibility_of, is_bid_under};
 
 // The eligibility of a bidder.

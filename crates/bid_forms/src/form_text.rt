@@ -8,26 +8,26 @@ ghost use Rattle.auction_terms.specs.FirstFault.{first_failed, first_fault};
 ghost use Rattle.auction_terms.specs.RulesText.{field_number, record_field};
 ghost use Rattle.auction_terms.specs.Records.{records_of};
 ghost use Rattle.auction_terms.specs.Terms.{AreTerms, IsCategory};
-ghost use Rattle.auction_limits.specs.declared.limits.TheConstants.{MOST_CATEGORIES};
+ghost use Rattle.auction_terms.specs.declared.limits.TheConstants.{MOST_CATEGORIES};
 ghost use Rattle.bid_forms.specs.inside.Fingerprints.{AreSeen};
 ghost use Rattle.bid_forms.specs.Offers.{IsBidWithinLimits, Meets, PackagesDiffer, eligibility_of, is_bid_under, number_of_package};
 ghost use Rattle.auction_terms.specs.declared.bids.Bid.{Bid};
-ghost use Rattle.bid_forms.specs.FormText.{amount_checks, bid_fault, bid_told, bidder_told, count_checks, form_of_records, is_form_memory, package_checks, quantity_checks, repeat_checks, reserve_checks, form_room_checks};
+ghost use Rattle.bid_forms.specs.FormText.{amount_checks, bid_fault, parsed_bid, parsed_bidder, count_checks, form_of_records, is_form_memory, package_checks, quantity_checks, repeat_checks, reserve_checks, form_room_checks};
 ghost use Rattle.bid_forms.specs.inside.FormText.{fault_of_bid, fault_of_lots};
 ghost use Rattle.auction_terms.specs.Stages.{Answers};
 ghost use Rattle.auction_terms.specs.inside.FirstFault.{Tells, TellsFault};
 ghost use Rattle.auction_terms.specs.Wording.{wording_text};
 ghost use Rattle.bid_forms.specs.FormFaultText.{form_fault_text};
-ghost use Rattle.bid_forms.specs.ToldOfRecords.{form_place};
+ghost use Rattle.bid_forms.specs.RowNumbers.{form_place};
 ghost use Rattle.bid_forms.specs.declared.form_text.FormFault.TheVariants as fault;
 
 use crate::form::{Form, eligibility_of};
 use crate::seen::{Seen, earlier};
 use crate::sums::{is_empty_package, points_of, reserve_of};
 use arrayvec::ArrayVec;
-use auction_limits::{GREATEST_AMOUNT, GREATEST_QUANTITY, MOST_BIDS, TEXT_LIMIT};
 use auction_terms::{
-    Bid, Category, Package, Quantities, RecordReader, Rules, Wording, field, number,
+    Bid, Category, GREATEST_AMOUNT, GREATEST_QUANTITY, MOST_BIDS, Package, Quantities,
+    RecordReader, Rules, TEXT_LIMIT, Wording, field, number,
 };
 use csv::ByteRecord;
 use std::alloc::{AllocError, Global};
@@ -70,7 +70,7 @@ pub enum FormFault {
 }
 
 impl FormFault {
-    /// What is told of the fault: its number and name, in which record it is, and an earlier bid.
+    /// What is reported of the fault: its number and name, in which record it is, and an earlier bid.
     pub fn wording(self) -> Wording
         ensures { wording_text result ≡ form_fault_text self }
     {
@@ -189,7 +189,7 @@ fn is_header(categories: &[Category], row: &ByteRecord) -> bool
 
 // The bidder that the header names.
 pub(crate) fn read_header(rules: &Rules, row: &ByteRecord) -> Result<u16, FormFault>
-    ensures answer { Answers is_form_memory result (bidder_told rules.now (fields_of row.now)) }
+    ensures answer { Answers is_form_memory result (parsed_bidder rules.now (fields_of row.now)) }
     ensures some { IfOk result (λ bidder. 1 ≤ bidder) }
     ensures known { IfOk result (λ bidder. bidder ≤ length rules.now.bidders) }
 {
@@ -225,9 +225,9 @@ pub(crate) fn read_quantities(place: u32, row: &ByteRecord) -> Result<Quantities
     requires { length (fields_of row.now) ≤ MOST_CATEGORIES + 1 }
     ensures answer { TellsFault is_form_memory result
         (first_failed (quantity_checks place (fields_of row.now))) }
-    ensures told { IfErr result (λ f. is_form_memory f ≡ false) }
+    ensures parsed { IfErr result (λ f. is_form_memory f ≡ false) }
     ensures quantities { IfOk result (λ quantities. quantities.items
-        ≡ (bid_told (fields_of row.now)).package) }
+        ≡ (parsed_bid (fields_of row.now)).package) }
     ensures each { IfOk result (λ quantities. All (λ quantity. quantity ≤ GREATEST_QUANTITY)
         quantities.items) }
 {
@@ -383,7 +383,7 @@ pub(crate) fn read_bid(
     requires few { length before.now ≤ MOST_BIDS }
     ensures answer { Tells is_form_memory result
         (fault_of_bid rules.now eligibility place before.now (fields_of row.now))
-        (bid_told (fields_of row.now)) }
+        (parsed_bid (fields_of row.now)) }
     ensures limits { IfOk result IsBidWithinLimits }
     ensures allowed { IfOk result (λ bid. IsTrue (is_bid_under rules.now eligibility bid)) }
     ensures new { IfOk result (λ bid. number_of_package bid.package before.now ≡ None) }
@@ -416,7 +416,7 @@ fn take_bids(
     requires none { bids.old.items ≡ [] }
     ensures answer { TellsFault is_form_memory result
         (first_fault (bid_fault rules.now eligibility) [] reader.old) }
-    ensures bids { OnOk result (bids.new.items ≡ map bid_told reader.old) }
+    ensures bids { OnOk result (bids.new.items ≡ map parsed_bid reader.old) }
     ensures few { OnOk result (length bids.new.items ≤ MOST_BIDS) }
     ensures limits { OnOk result (All IsBidWithinLimits bids.new.items) }
     ensures allowed { OnOk result (All (λ bid. IsTrue (is_bid_under rules.now eligibility bid))
@@ -449,12 +449,14 @@ fn read_bids(
     requires few { length reader.old ≤ TEXT_LIMIT + 1 }
     ensures answer { Tells is_form_memory result
         (first_fault (bid_fault rules.now (eligibility_of rules.now bidder)) [] reader.old)
-        (record { bidder = bidder; bids = (map bid_told reader.old) }) }
+        (record { bidder = bidder; bids = (map parsed_bid reader.old) }) }
     ensures meets { IfOk result (Meets rules.now) }
 {
     let eligibility = eligibility_of(rules, bidder);
     let mut bids = Vec::new(alloc);
     take_bids(alloc, rules, eligibility, reader, text, &mut bids)?;
+    // The history keeps every form: room for further bids would be most of what a small one takes.
+    bids.shrink_to_fit();
     Ok(Form::new(bidder, bids))
 }
 

@@ -1,4 +1,4 @@
--- Adding to a writer, one piece behind another.
+-- Adding to a writer, one piece after another.
 use Rattle.std.proofs.Common.{◌≡◌, ◌∙◌, ℕ, Bool, true, false, List, [], ◌++◌, refl, sym, ap, subst, Option, Some, None, Result, Ok, Err}
 use Rattle.std.specs.Prelude.{IfErr, OnOk}
 use Rattle.std.specs.Io.KnownBytes.{Appends, append_known}
@@ -28,7 +28,7 @@ broken-then taken failures a b c xs ys false e p q before after =
       subst (λ (n : ℕ). HasFailed n (failures c.sink.now)) first.2 second.1,
     )
 
--- one piece behind another
+-- one piece after another
 pub Adds-then : {X : Type 0} {taken : X → Option (List ℕ)} {failures : X → ℕ} {a b c : Writer X} {xs ys : List ℕ} → Adds taken failures a b xs → Adds taken failures b c ys → Adds taken failures a c (xs ++ ys)
 Adds-then {X} {taken} {failures} {a} {b} {c} {xs} {ys} p q = record {
   same_sink = q.same_sink ∙ p.same_sink;
@@ -78,28 +78,28 @@ pub fails-new : {X : Type 0} {taken : X → Option (List ℕ)} {failures : X →
 fails-new {X} {taken} {failures} {s} {a} {b} new added broken =
     subst (λ (x : X). HasFailed (failures x) (failures b.sink.now)) new.untouched (added.broken new.whole broken.0).1
 
--- where a put failed behind what had gone out whole
+-- a put failed after what had gone out completely
 pub front-behind : {X : Type 0} {taken : X → Option (List ℕ)} {failures : X → ℕ} {a b : Writer X} {bytes : List ℕ} {written : ℕ} → IsSent a → Adds taken failures a b bytes → IsBroken b written → IsFront (taken b.sink.now) (append_known (taken a.sink.now) bytes)
 front-behind {X} {taken} {failures} {a} {b} {bytes} sent added broken =
     IsFront-empty (taken b.sink.now) (taken a.sink.now) bytes
     (subst (λ (o : Option (List ℕ)). IsFront (taken b.sink.now) (append_known o bytes)) (held-empty taken a a.sink.now refl sent.1) (added.broken sent.0 broken.0).0)
 
--- what a new writer has put where a put failed
+-- what a new writer has put when a put fails
 pub sent-front : {X : Type 0} {taken : X → Option (List ℕ)} {failures : X → ℕ} {s : MutBor X} {a b : Writer X} {bytes : List ℕ} {written : ℕ} → IsNew s a → Adds taken failures a b bytes → IsBroken b written → SentFront (taken s.now) (taken b.sink.now) bytes written
 sent-front {X} {taken} {failures} {s} {a} {b} {bytes} new added broken =
     let ahead = subst (λ (x : X). IsFront (taken b.sink.now) (append_known (taken x) bytes)) new.untouched (front-behind (new.whole, new.empty) added broken) in
     subst (λ (n : ℕ). SentFront (taken s.now) (taken b.sink.now) bytes n) (sym broken.1) (SentFront-from (taken s.now) (taken b.sink.now) bytes b.sent ahead (counts-new new added))
 
--- what a call promises that makes a writer to a sink, adds the bytes and flushes it, where the sink ends as x
+-- what a call promises that makes a writer to a sink, adds the bytes and flushes it, if the sink ends as x
 pub tells-front : {X : Type 0} {taken : X → Option (List ℕ)} {failures : X → ℕ} {s : MutBor X} {a b c : Writer X} {bytes : List ℕ} (x : X) (r : Result (Unit {0}) WriteFault)
     → IsNew s a → Adds taken failures a b bytes → Adds taken failures b c [] → IfErr r (λ e. IsBroken c (written_of e)) → x ≡ c.sink.now → IfErr r (λ e. SentFront (taken s.now) (taken x) bytes (written_of e))
-tells-front x (Ok y) new added flushed told end = tt
-tells-front {X} {taken} {failures} {s} {a} {b} {c} {bytes} x (Err e) new added flushed told end =
-    subst (λ (y : X). SentFront (taken s.now) (taken y) bytes (written_of e)) (sym end) (sent-front new (Adds-to (Adds-then added flushed) (append-nil bytes)) told)
+tells-front x (Ok y) new added flushed reported end = tt
+tells-front {X} {taken} {failures} {s} {a} {b} {c} {bytes} x (Err e) new added flushed reported end =
+    subst (λ (y : X). SentFront (taken s.now) (taken y) bytes (written_of e)) (sym end) (sent-front new (Adds-to (Adds-then added flushed) (append-nil bytes)) reported)
 
 -- and that its failures are then what they were
 pub tells-quiet : {X : Type 0} {taken : X → Option (List ℕ)} {failures : X → ℕ} {s : MutBor X} {a b c : Writer X} {bytes : List ℕ} (x : X) (r : Result (Unit {0}) WriteFault)
     → IsNew s a → Adds taken failures a b bytes → Adds taken failures b c [] → OnOk r (IsSent c) → x ≡ c.sink.now → OnOk r (failures x ≡ failures s.now)
-tells-quiet x (Err e) new added flushed told end = tt
-tells-quiet {X} {taken} {failures} {s} {a} {b} {c} {bytes} x (Ok y) new added flushed told end =
-    ap failures end ∙ sent-quiet new (Adds-then added flushed) told
+tells-quiet x (Err e) new added flushed reported end = tt
+tells-quiet {X} {taken} {failures} {s} {a} {b} {c} {bytes} x (Ok y) new added flushed reported end =
+    ap failures end ∙ sent-quiet new (Adds-then added flushed) reported

@@ -61,7 +61,7 @@ module _ (i n m : ℕ) (xs piece : List ℕ) (e : piece ≡ take (min (length (t
 longer : (xs ys : List ℕ) → 0 < length xs → 0 < length (xs ++ ys)
 longer xs ys h = omega (arith, length-append xs ys)
 
--- a front of what is held and of a piece behind it is a front of what will be held
+-- a front of what is held and of a piece after it is a front of what will be held
 pub IsFront-piece : (t h k : Option (List ℕ)) (front piece rest xs : List ℕ) → xs ≡ front ++ (piece ++ rest) → Appends h k front → IsFront t (append_known k piece) → IsFront t (append_known h xs)
 IsFront-piece None None k front piece rest xs e p q = tt
 IsFront-piece (Some ts) None k front piece rest xs e p q = tt
@@ -100,7 +100,7 @@ SentFront-from (Some ts) (Some us) xs sent p q =
     let front : us ≡ take (length us) (ts ++ xs) = rw p.2 (sym (take_at us p.0 (length us) refl)) in
     (n, omega arith, front ∙ front-past ts xs (length us) q.0, q.1 (omega arith) ∙ ap (λ (n : ℕ). min n (2 ^ 64 - 1)) (omega arith))
 
--- nothing behind what was taken
+-- nothing after what was taken
 pub IsFront-empty : (u t : Option (List ℕ)) (xs : List ℕ) → IsFront u (append_known (append_known t []) xs) → IsFront u (append_known t xs)
 IsFront-empty u None xs p = p
 IsFront-empty None (Some ts) xs p = p
@@ -112,7 +112,7 @@ IsFront-longer (Some fs) None xs ys q = tt
 IsFront-longer None (Some hs) xs ys q = absurd q
 IsFront-longer (Some fs) (Some hs) xs ys q = (q.0 ++ ys, longer q.0 ys q.1, rw (← append_assoc hs xs ys, q.2) (append_assoc fs q.0 ys))
 
--- the item of a loop behind those before it
+-- the item of a loop after those before it
 pub flat_map-next_or : {X : Type 0} (f : X → List ℕ) (xs : List X) (i : ℕ) (d : X) → i < length xs → flat_map f (take i xs) ++ f (get_or xs i d) ≡ flat_map f (take (i + 1) xs)
 flat_map-next_or f xs i d lt =
     rw (take_more xs i d lt, flat_map-append f (take i xs) (get_or xs i d ∷ []), append-nil (f (get_or xs i d))) refl
@@ -120,7 +120,7 @@ flat_map-next_or f xs i d lt =
 pub flat_map-next_item : {X : Type 0} (f : X → List ℕ) (xs : List X) (i : ℕ) (x : X) → x ≡ get_or xs i x → i < length xs → flat_map f (take i xs) ++ f x ≡ flat_map f (take (i + 1) xs)
 flat_map-next_item f xs i x e lt = ap (λ y. flat_map f (take i xs) ++ f y) e ∙ flat_map-next_or f xs i x lt
 
--- the item at a place behind those before it
+-- the item at a place after those before it
 pub flat_map-next : {X : Type 0} (f : X → List ℕ) (xs : List X) (i : ℕ) (x : X) → slice_get xs i ≡ Some x → flat_map f (take i xs) ++ f x ≡ flat_map f (take (suc i) xs)
 flat_map-next f [] i x e = cc
 flat_map-next f (y ∷ xs) zero x e = let same : y ≡ x = cc in sym (ap (λ w. f w ++ []) same ∙ append-nil (f x))

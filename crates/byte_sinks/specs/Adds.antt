@@ -13,7 +13,7 @@ pub record IsNew {X : Type 0} (sink : MutBor X) (writer : Writer X) : Type 0 whe
   pub unsent : writer.sent ≡ 0
   pub whole : writer.has_failed ≡ false
 
--- what the sink has taken, and behind it what waits
+-- what the sink has taken, followed by what waits
 abbrev pub bytes_given : {X : Type 0} → (X → Option (List ℕ)) → Writer X → Option (List ℕ)
 bytes_given taken writer = append_known (taken writer.sink.now) writer.waiting.items
 
@@ -21,11 +21,11 @@ bytes_given taken writer = append_known (taken writer.sink.now) writer.waiting.i
 pub record Adds {X : Type 0} (taken : X → Option (List ℕ)) (failures : X → ℕ) (old new : Writer X) (bytes : List ℕ) : Type 0 where
   pub same_sink : new.sink.ghost_name ≡ old.sink.ghost_name
   pub counted : Counts (taken old.sink.now) (taken new.sink.now) old.sent new.sent
-  -- unless a put failed, they stand behind those that were held
+  -- unless a put failed, they come after those that were held
   pub whole : new.has_failed ≡ false → (old.has_failed ≡ false) × Appends (bytes_given taken old) (bytes_given taken new) bytes × (failures new.sink.now ≡ failures old.sink.now)
-  -- where one failed meanwhile, what went out is a front
+  -- if one failed meanwhile, what went out is a front
   pub broken : old.has_failed ≡ false → new.has_failed ≡ true → IsFront (taken new.sink.now) (append_known (bytes_given taken old) bytes) × HasFailed (failures old.sink.now) (failures new.sink.now)
-  -- where one failed before, nothing is put
+  -- if one failed before, nothing is put
   pub silent : old.has_failed ≡ true → (new.has_failed ≡ true) × (new.sink.now ≡ old.sink.now) × (new.sent ≡ old.sent)
 
 -- nothing waits, and no put failed

@@ -1,4 +1,4 @@
--- How many bytes a fault tells.
+-- How many bytes a fault reports.
 use Rattle.std.specs.Prelude.{ℕ}
 use Rattle.byte_sinks.specs.declared.write_fault.WriteFault.{WriteFault}
 use Rattle.byte_sinks.specs.declared.write_fault.WriteFault.TheVariants.{Sink}

@@ -10,7 +10,7 @@ pub struct SinkFailed;
 
 /// What takes bytes.
 pub trait Sink {
-    /// The bytes that it has taken, where it tells them.
+    /// The bytes that it has taken, if it shows them.
     ghost taken: { Self → Option (List ℕ) };
 
     /// How many puts have failed, up to `u64::MAX`.

@@ -12,7 +12,7 @@ pub struct StdSink<W> {
 }
 
 impl<W: Write + Drop> StdSink<W> {
-    /// The sink that hands its bytes to this writer, and tells them where the writer does.
+    /// The sink that hands its bytes to this writer, and shows them if the writer does.
     pub fn new(writer: W) -> Self
         ensures taken { ⟦<StdSink<W> as Sink>⟧.taken result ≡ W.contents writer }
         ensures failures { ⟦<StdSink<W> as Sink>⟧.failures result ≡ 0 }

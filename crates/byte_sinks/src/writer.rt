@@ -13,7 +13,7 @@ pub const BLOCK_LEN: usize = 16_384;
 /// How long a piece is at most that a writer puts.
 pub const PIECE_LEN: usize = 65_536;
 
-/// A sink, and the bytes that wait for it. It remembers a failed put: nothing is put after it, and `flush` tells it.
+/// A sink, and the bytes that wait for it. It remembers a failed put: nothing is put after it, and `flush` reports it.
 #[derive(Drop)]
 pub struct Writer<'s, S> {
     sink: &'s mut S,
@@ -56,7 +56,7 @@ impl<'s, S: Sink> Writer<'s, S> {
         }
     }
 
-    /// Puts bytes where nothing waits.
+    /// Puts bytes if nothing waits.
     fn put(&mut self, bytes: &[u8])
         requires { self.old.has_failed ≡ false → self.old.waiting.items ≡ [] }
         ensures { Adds S.taken S.failures self.old self.new bytes.now }
@@ -66,7 +66,7 @@ impl<'s, S: Sink> Writer<'s, S> {
         }
     }
 
-    /// Adds bytes that find no room: behind what waits, which is sent, or to the sink itself where they are longer than a block.
+    /// Adds bytes that find no room: after what waits, which is sent, or to the sink itself if they are longer than a block.
     #[inline(never)]
     fn add_behind(&mut self, bytes: &[u8])
         ensures { Adds S.taken S.failures self.old self.new bytes.now }
@@ -78,7 +78,7 @@ impl<'s, S: Sink> Writer<'s, S> {
         self.put(bytes)
     }
 
-    /// Adds bytes at the end, and sends what waits where there is no room for them.
+    /// Adds bytes at the end, and first sends what waits if there is no room for them.
     #[inline(always)]
     pub fn add(&mut self, bytes: &[u8])
         ensures { Adds S.taken S.failures self.old self.new bytes.now }
@@ -98,7 +98,7 @@ impl<'s, S: Sink> Writer<'s, S> {
         }
     }
 
-    /// Sends what waits, and tells whether a put has failed, and how many bytes had gone out by then.
+    /// Sends what waits, and reports whether a put has failed, and how many bytes had gone out by then.
     pub fn flush(&mut self) -> Result<(), WriteFault>
         ensures adds { Adds S.taken S.failures self.old self.new [] }
         ensures ok { OnOk result (IsSent self.new) }

@@ -17,7 +17,7 @@ use Rattle.program_rows.specs.declared.subject.Subject.{Subject}
 use Rattle.program_rows.specs.declared.subject.Subject.TheVariants.{Bidder}
 use Rattle.program_rows.specs.Rows.{weight, subjects, row_of, entries_from, column_of, worth_column}
 use Rattle.program_rows.specs.Spelling.{bid_name}
-use Rattle.mps_meaning.specs.MpsLines.{Data}
+use Rattle.program_rows.specs.MpsLines.{Data}
 use Rattle.program_rows.proofs.LegalLaws.{Rises, dedup_rises, bidders_never_fall}
 use Rattle.mps_text.specs.Text.{written}
 use Rattle.mps_text.specs.Bytes.{entry_bytes, cost_bytes, column_bytes, bound_bytes}

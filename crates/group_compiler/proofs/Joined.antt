@@ -181,6 +181,6 @@ pub length_pages : (lots : Lots) (b : ℕ) (book : Book) → length (pages_from 
 length_pages lots b [] = refl
 length_pages lots b (form ∷ book) = ap (λ (n : ℕ). suc n) (length_pages lots (b + 1) book)
 
--- the text that is joined, where these are the pages of the book
+-- the text that is joined from the pages of the book
 pub joined_is : (lots : Lots) (book : Book) (group : ℕ → Bool) (pages : AllPages) → IsBook lots book → pages ≡ pages_of lots book → group_text group pages ≡ presolved_text lots book group
 joined_is lots book group pages limits p = ap (group_text group) p ∙ sym (text_is_joined lots book group limits)

@@ -54,7 +54,7 @@ module _ (section : Section) (group : ℕ → Bool) where
             ∙ ap (λ (w : List ℕ). w ++ (given (b + suc i) page ++ more.0)) (sym (one_page p (outside group (b + 1) (take i pages)) (group b))),
       )
 
--- a page among all, where this is whether its bidder is in the group
+-- a page among all, given whether its bidder is in the group
 module _ (section : Section) (group : ℕ → Bool) (at : ℕ) (pages : List PageText) (page : PageText) (is_out : Bool) (within : at < length pages) (is : page ≡ get_or pages at page) (member : is_out ≡ group (at + 1)) where
   here_given : cond is_out [] (section_lines section page) ≡ given section group (1 + at) page
   here_given = ap (λ t. cond t [] (section_lines section page)) (member ∙ ap group (let number : at + 1 ≡ 1 + at = omega arith in number))

@@ -2,7 +2,7 @@
 use Rattle.std.proofs.Common.{◌≡◌, ℕ, List, [], ◌∷◌, ◌++◌, refl, sym, ap, ap₂, ◌∙◌, append_assoc, append-nil}
 use Rattle.std.specs.Prelude.{codes, flat_map}
 use Rattle.program_rows.specs.Program.{Table, TableColumn}
-use Rattle.mps_meaning.specs.MpsLines.{Data}
+use Rattle.program_rows.specs.MpsLines.{Data}
 use Rattle.mps_text.specs.Text.{text, written}
 use Rattle.mps_text.specs.Bytes.{row_bytes, right_side_bytes, bound_bytes, column_bytes}
 use Rattle.mps_text.specs.inside.Bytes.{where_any}
@@ -10,11 +10,11 @@ use Rattle.group_compiler.specs.declared.section.Section.TheVariants.{Rows, Colu
 use Rattle.group_compiler.specs.Joining.{section_text}
 use Rattle.mps_text.proofs.TextBytes.{between_bytes, front_bytes, text-of_table}
 
--- the lines of columns between markers, where there are any
+-- the lines of columns between markers, if there are any
 abbrev between_markers : List ℕ → List ℕ
 between_markers lines = where_any lines (codes " M1 'MARKER' 'INTORG'\n" ++ (lines ++ codes " M2 'MARKER' 'INTEND'\n"))
 
--- the lines of bounds below their header, where there are any
+-- the lines of bounds below their header, if there are any
 abbrev below_bounds : List ℕ → List ℕ
 below_bounds lines = where_any lines (codes "BOUNDS\n" ++ lines)
 
@@ -27,32 +27,32 @@ bounds-any : (cs : List TableColumn) (bytes : List ℕ) → where_any cs bytes �
 bounds-any [] bytes = refl
 bounds-any (c ∷ cs) bytes = refl
 
--- six lists, one behind the other, from either side
+-- six lists, one after the other, from either side
 from_left : (a b c d e f : List ℕ) → (((((a ++ b) ++ c) ++ d) ++ e) ++ f) ≡ a ++ (b ++ (c ++ (d ++ (e ++ f))))
 from_left a b c d e f =
     append_assoc (((a ++ b) ++ c) ++ d) e f ∙ append_assoc ((a ++ b) ++ c) d (e ++ f) ∙ append_assoc (a ++ b) c (d ++ (e ++ f)) ∙ append_assoc a b (c ++ (d ++ (e ++ f)))
 
--- each section as it is told
-columns-told : (lines rest : List ℕ) → codes "COLUMNS\n" ++ (between_markers lines ++ rest) ≡ section_text Columns lines ++ rest
-columns-told [] rest = refl
-columns-told (x ∷ lines) rest = refl
+-- each section as it is defined
+columns-reported : (lines rest : List ℕ) → codes "COLUMNS\n" ++ (between_markers lines ++ rest) ≡ section_text Columns lines ++ rest
+columns-reported [] rest = refl
+columns-reported (x ∷ lines) rest = refl
 
-bounds-told : (lines : List ℕ) → below_bounds lines ++ codes "ENDATA\n" ≡ section_text Bounds lines
-bounds-told [] = refl
-bounds-told (x ∷ lines) = refl
+bounds-reported : (lines : List ℕ) → below_bounds lines ++ codes "ENDATA\n" ≡ section_text Bounds lines
+bounds-reported [] = refl
+bounds-reported (x ∷ lines) = refl
 
-plain-told : (front lines rest : List ℕ) → front ++ (lines ++ rest) ≡ (front ++ (lines ++ [])) ++ rest
-plain-told front lines rest = ap (λ (w : List ℕ). front ++ (w ++ rest)) (sym (append-nil lines)) ∙ sym (append_assoc front (lines ++ []) rest)
+plain-reported : (front lines rest : List ℕ) → front ++ (lines ++ rest) ≡ (front ++ (lines ++ [])) ++ rest
+plain-reported front lines rest = ap (λ (w : List ℕ). front ++ (w ++ rest)) (sym (append-nil lines)) ∙ sym (append_assoc front (lines ++ []) rest)
 
-all-told : (rows columns right_sides bounds : List ℕ)
+all-reported : (rows columns right_sides bounds : List ℕ)
     → codes "NAME wdp\nROWS\n N OBJ\n" ++ (rows ++ (codes "COLUMNS\n" ++ (between_markers columns ++ (codes "RHS\n" ++ (right_sides ++ (below_bounds bounds ++ codes "ENDATA\n"))))))
     ≡ section_text Rows rows ++ (section_text Columns columns ++ (section_text RightSides right_sides ++ section_text Bounds bounds))
-all-told rows columns right_sides bounds =
+all-reported rows columns right_sides bounds =
     ap (λ (w : List ℕ). codes "NAME wdp\nROWS\n N OBJ\n" ++ (rows ++ w))
     (ap (λ (w : List ℕ). codes "COLUMNS\n" ++ (between_markers columns ++ w))
-    (ap (λ (w : List ℕ). codes "RHS\n" ++ (right_sides ++ w)) (bounds-told bounds) ∙ plain-told (codes "RHS\n") right_sides (section_text Bounds bounds))
-    ∙ columns-told columns (section_text RightSides right_sides ++ section_text Bounds bounds))
-    ∙ plain-told (codes "NAME wdp\nROWS\n N OBJ\n") rows (section_text Columns columns ++ (section_text RightSides right_sides ++ section_text Bounds bounds))
+    (ap (λ (w : List ℕ). codes "RHS\n" ++ (right_sides ++ w)) (bounds-reported bounds) ∙ plain-reported (codes "RHS\n") right_sides (section_text Bounds bounds))
+    ∙ columns-reported columns (section_text RightSides right_sides ++ section_text Bounds bounds))
+    ∙ plain-reported (codes "NAME wdp\nROWS\n N OBJ\n") rows (section_text Columns columns ++ (section_text RightSides right_sides ++ section_text Bounds bounds))
 
 pub text-sections : (p : Table) → p.objective ≡ codes "OBJ"
     → text p ≡ section_text Rows (flat_map row_bytes p.rows) ++ (section_text Columns (flat_map (column_bytes p.objective p.rows) p.columns)
@@ -67,4 +67,4 @@ text-sections p o =
     ∙ ap (λ (name : List ℕ). codes "NAME wdp\nROWS\n" ++ written (Data (codes "N" ∷ name ∷ [])) ++ rows ++ (codes "COLUMNS\n" ++ (between_bytes p ++ (codes "RHS\n" ++ (sides ++ (where_any p.columns (codes "BOUNDS\n" ++ bounds) ++ codes "ENDATA\n")))))) o
     ∙ ap₂ (λ (between below : List ℕ). codes "NAME wdp\nROWS\n N OBJ\n" ++ (rows ++ (codes "COLUMNS\n" ++ (between ++ (codes "RHS\n" ++ (sides ++ (below ++ codes "ENDATA\n")))))))
     (columns-any p p.columns (codes " M1 'MARKER' 'INTORG'\n" ++ (columns ++ codes " M2 'MARKER' 'INTEND'\n"))) (bounds-any p.columns (codes "BOUNDS\n" ++ bounds))
-    ∙ all-told rows columns sides bounds
+    ∙ all-reported rows columns sides bounds

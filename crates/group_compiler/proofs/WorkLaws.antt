@@ -34,7 +34,7 @@ module _ {T : Type 0} where
       → map (λ (r : Numbered T). r.number) (rs ++ ss) ≡ filter (λ n. nat_lt n count) (xs ++ ys)
   numbers_append count rs ss xs ys a b = map-append (λ (r : Numbered T). r.number) rs ss ∙ ap₂ (λ (us vs : List ℕ). us ++ vs) a b ∙ sym (filter-append (λ n. nat_lt n count) xs ys)
 
--- how often a number stands in a list, and that it stands there
+-- how often a number comes in a list, and that it is in the list
 stands_once : (k : ℕ) (xs : List ℕ) → 0 < times_drawn k xs → Contains xs k
 stands_once k [] h = absurd (omega arith)
 stands_once k (x ∷ xs) h = ⊎_elim
@@ -75,7 +75,7 @@ below_some x n h = ⊎_elim
     (λ g. let z : once_below x n ≡ 0 = cond-false (nat_lt x n) 1 0 (le-ltb x n g) in absurd (omega arith))
     (cases_lt x n)
 
--- the workers are finished only where every number was drawn
+-- the workers are finished only once every number was drawn
 above_count : (count w : ℕ) (xs : List ℕ) → IsEachBelow w xs → length xs ≡ w → IsFinished count xs → count ≤ w
 above_count count w xs each long f = elim f [
   | inl more ↦ omega arith

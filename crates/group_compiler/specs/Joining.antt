@@ -12,14 +12,14 @@ abbrev pub has_any : List ℕ → Bool
 has_any [] = false
 has_any (byte ∷ bytes) = true
 
--- what stands before the lines of a section, where it has any and where it has none
+-- what comes before the lines of a section, whether it has any or not
 abbrev pub opening : Section → Bool → List ℕ
 opening Rows any = codes "NAME wdp\nROWS\n N OBJ\n"
 opening Columns any = cond any (codes "COLUMNS\n M1 'MARKER' 'INTORG'\n") (codes "COLUMNS\n")
 opening RightSides any = codes "RHS\n"
 opening Bounds any = cond any (codes "BOUNDS\n") []
 
--- what stands behind them
+-- what follows them
 abbrev pub section_end : Section → Bool → List ℕ
 section_end Rows any = []
 section_end Columns any = cond any (codes " M2 'MARKER' 'INTEND'\n") []

@@ -48,7 +48,7 @@ abbrev pub pages_from : Lots → ℕ → Book → List PageText
 pages_from lots b [] = []
 pages_from lots b (form ∷ book) = page_of_form lots b form ∷ pages_from lots (b + 1) book
 
--- the pages of the bidders outside a group, where the first is bidder b's
+-- the pages of the bidders outside a group; the first is bidder b's
 abbrev pub outside : (ℕ → Bool) → ℕ → List PageText → List PageText
 outside group b [] = []
 outside group b (page ∷ pages) = cond (group b) (outside group (b + 1) pages) (page ∷ outside group (b + 1) pages)

@@ -3,3 +3,4 @@ pub mod Claims
 pub mod Works
 pub mod Making
 pub mod Slots
+pub mod Sharing

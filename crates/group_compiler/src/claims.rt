@@ -6,17 +6,17 @@
 //!
 //! A claim is a seat of the table. What it has seen, its view, is the list of numbers that it has drawn, and its room: how many
 //! it may still draw. Every kind of step (`steps`) says how the view of the seat that steps changes, and that the rule holds
-//! again behind it:
+//! again after it:
 //!
 //! - opening makes the first seat, which has all the room and has drawn nothing;
 //! - a split gives the room of one worker to a new seat;
 //! - a draw appends the number that it found, and takes one off the room;
 //! - a join hands the other seat's list and room to the one that stays;
-//! - closing tells the word to whoever holds all room again, so that no other seat has drawn anything.
+//! - closing gives the word to whoever holds all room again, so that no other seat has drawn anything.
 //!
 //! The word and the rooms of all seats add up to the same number at all times. So the word never passes it, and no draw wraps.
 //!
-//! To mind when changing it: a draw must stay one step. A load with a store behind it lets two workers find the same number, and
+//! To mind when changing it: a draw must stay one step. A load and then a store let two workers find the same number, and
 //! the rule then has no proof. Room is given by splits alone: a seat that made its own could draw beyond the word's range. The
 //! numbers beyond the last group are drawn, too: each worker stops at its first one, which is how one knows that the others were.
 
@@ -104,7 +104,7 @@ impl Claims {
         self.table.shared.join_seat::<Cut>(&mut claim.seat, seat);
     }
 
-    /// How many numbers were drawn, where the claim has every draw: its list has the numbers below, each once and no other.
+    /// How many numbers were drawn, if the claim has every draw: its list has the numbers below, each once and no other.
     pub fn close(self, claim: Claim) -> u64
         requires same { IsOf self claim }
         requires whole { claim.room + length claim.drawn ≡ ALL_DRAWS }

@@ -3,7 +3,7 @@
 ghost use Rattle.std.specs.Prelude.{◌≡◌, ◌≤◌, ◌-◌, [], IfOk, length, slice_index_or};
 ghost use Rattle.auction_terms.specs.Groups.{has};
 ghost use Rattle.auction_terms.specs.Terms.{lots_in};
-ghost use Rattle.auction_limits.specs.declared.limits.TheConstants.{MOST_GROUPS};
+ghost use Rattle.auction_terms.specs.declared.limits.TheConstants.{MOST_GROUPS};
 ghost use Rattle.bid_desk.specs.Closing.{book_of};
 ghost use Rattle.mps_text.specs.FaithfulText.{IsFaithfulText};
 ghost use Rattle.mps_text.specs.Text.{text};
@@ -12,6 +12,7 @@ ghost use Rattle.program_rows.specs.Faithful.{IsFaithful};
 ghost use Rattle.group_compiler.specs.Compiled.{compiled, program_without};
 
 use crate::compiled::Compiled;
+use crate::group_programs::GroupPrograms;
 use crate::maker::Maker;
 use auction_terms::{Choice, Group, Groups};
 use bid_desk::ClosedBook;
@@ -144,6 +145,13 @@ impl<'b, 'g> Compiler<'b, 'g> {
         compile(alloc, self.book, &self.flags, group)
     }
 
+    /// The programs of all groups, whether they are these or other ones, by one program that is made here.
+    pub fn group_programs(&self, alloc: Global) -> Result<GroupPrograms<'b>, AllocError>
+        ensures { IfOk result (λ programs. programs ≡ self.now.book) }
+    {
+        GroupPrograms::new(alloc, self.book, &self.flags)
+    }
+
     /// Compiles group k, counted from 1, as `compile_one` does.
     pub fn compile(&self, alloc: Global, k: usize) -> Result<Compiled<'g>, AllocError>
         requires some { 1 ≤ k }
@@ -175,7 +183,7 @@ impl<'b, 'g> Maker for Compiler<'b, 'g> {
     }
 
     fn make(&self, alloc: Global, number: usize) -> Result<Compiled<'g>, AllocError> {
-        // Its contract says how many groups there may be, so that the number behind this one is none too great.
+        // Its contract says how many groups there may be, so that the number after this one isn't too great.
         let _few = Compiler::count(self);
         self.compile(alloc, number + 1)
     }

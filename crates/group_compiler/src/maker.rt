@@ -1,7 +1,7 @@
 //! What workers make, number by number.
 
 ghost use Rattle.std.specs.Prelude.{◌≡◌, ◌<◌, ◌≤◌, ℕ, ⊤, IfOk};
-ghost use Rattle.auction_limits.specs.declared.limits.TheConstants.{MOST_GROUPS};
+ghost use Rattle.auction_terms.specs.declared.limits.TheConstants.{MOST_GROUPS};
 
 use std::alloc::{AllocError, Global};
 

@@ -39,7 +39,7 @@ fn in_slots<M: Maker>(
     Ok(slots)
 }
 
-// What is made of each number, in order, where something is made of each.
+// What is made of each number, in order, if something is made of each.
 pub(crate) fn in_order<M: Maker>(
     alloc: Global,
     maker: &M,

@@ -48,7 +48,7 @@ impl Page {
         })
     }
 
-    /// The page of a bidder's form, where these are the flags of the book: the lines of the row of the bidder, if a bid of
+    /// The page of a bidder's form, given the flags of the book: the lines of the row of the bidder, if a bid of
     /// it is kept, and of the columns of its kept bids.
     pub fn of_form(
         alloc: Global,
@@ -71,7 +71,7 @@ impl Page {
     }
 
     /// The page of the lots: the lines of the rows of categories and pools, and of the column of what all lots are worth,
-    /// where that isn't 0.
+    /// if that isn't 0.
     pub fn of_lots(alloc: Global, rules: &Rules) -> Result<Page, AllocError>
         ensures { IfOk result (λ page. page ≡ page_of_lots (lots_in rules.now)) }
     {

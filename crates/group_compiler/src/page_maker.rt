@@ -2,7 +2,7 @@
 
 ghost use Rattle.std.specs.Prelude.{◌≡◌, ◌≤◌};
 ghost use Rattle.auction_terms.specs.Terms.{lots_in};
-ghost use Rattle.auction_limits.specs.declared.limits.TheConstants.{MOST_GROUPS};
+ghost use Rattle.auction_terms.specs.declared.limits.TheConstants.{MOST_GROUPS};
 ghost use Rattle.bid_desk.specs.Closing.{book_of};
 ghost use Rattle.presolve.specs.Flags.{flags_of};
 

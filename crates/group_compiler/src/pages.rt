@@ -28,20 +28,20 @@ impl Model for Pages {
 }
 
 ghost use Rattle.std.specs.Prelude.{◌≤◌, length};
-ghost use Rattle.auction_limits.specs.declared.limits.TheConstants.{MOST_BIDDERS};
+ghost use Rattle.auction_terms.specs.declared.limits.TheConstants.{MOST_BIDDERS};
 
 impl Pages {
     ghost use Rattle.std.specs.Prelude.{◌≡◌, ◌≤◌, IfOk, length};
     ghost use Rattle.auction_terms.specs.Terms.{lots_in};
     ghost use Rattle.bid_desk.specs.Closing.{book_of};
     ghost use Rattle.group_compiler.specs.Gates.{AreAllPast};
-    ghost use Rattle.auction_limits.specs.declared.limits.TheConstants.{MOST_WORKERS};
+    ghost use Rattle.auction_terms.specs.declared.limits.TheConstants.{MOST_WORKERS};
     ghost use Rattle.group_compiler.specs.Pages.{pages_of};
-    ghost use Rattle.auction_limits.specs.declared.limits.TheConstants.{MOST_BIDDERS, MOST_GROUPS};
+    ghost use Rattle.auction_terms.specs.declared.limits.TheConstants.{MOST_BIDDERS, MOST_GROUPS};
 
     /// The pages of a closed book, made by 1 to 64 workers, which draw numbers from one counter: a worker stops at the gate
     /// with the group that has the number, if there is one, and then makes the page of the bidder who has it. So each group has
-    /// come past once there are pages. Where memory or the start of a thread is refused, nothing is given.
+    /// come past once there are pages. If memory or the start of a thread is refused, nothing is given.
     pub fn of_book<R: Threads + Wait + Sync, G: Gate + Sync>(
         rt: &R,
         alloc: Global,

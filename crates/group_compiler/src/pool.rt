@@ -13,7 +13,7 @@ ghost use Rattle.group_compiler.specs.Compiled.{compiled};
 ghost use Rattle.group_compiler.specs.Gates.{AreAllPast, IsDueOncePast};
 ghost use Rattle.group_compiler.specs.inside.Works.{IsWork, draws};
 ghost use Rattle.group_compiler.specs.declared.limits.TheConstants.{WORKER_DRAWS};
-ghost use Rattle.auction_limits.specs.declared.limits.TheConstants.{MOST_WORKERS};
+ghost use Rattle.auction_terms.specs.declared.limits.TheConstants.{MOST_WORKERS};
 
 use crate::claim::Claim;
 use crate::claims::Claims;
@@ -159,9 +159,9 @@ fn run_workers<R: Threads + Wait + Sync, G: Gate + Sync, M: Maker + Sync>(
 }
 
 /// What is made of each number, in order, with 1 to 64 workers, which draw the numbers from one counter. No more than one
-/// thing a worker is being made at once. The groups' numbers are drawn, too: with each a worker stops at the gate, where it
+/// thing a worker is being made at once. The groups' numbers are drawn, too: with each a worker stops at the gate, at which it
 /// is counted from 1, and only then makes what is made of that number. So each group comes past, and nothing is made of a
-/// number before. Where memory or the start of a thread is refused, nothing is given.
+/// number before. If memory or the start of a thread is refused, nothing is given.
 pub fn make_all<R: Threads + Wait + Sync, G: Gate + Sync, M: Maker + Sync>(
     rt: &R,
     alloc: Global,
@@ -185,7 +185,7 @@ pub fn make_all<R: Threads + Wait + Sync, G: Gate + Sync, M: Maker + Sync>(
 
 /// Compiles all groups with 1 to 64 workers, which draw the groups' numbers from one counter, and gives in order what
 /// `compile_one` gives for each. A worker stops at the gate with the group's number that it drew, and then compiles that
-/// group. Where memory or the start of a thread is refused, nothing is given.
+/// group. If memory or the start of a thread is refused, nothing is given.
 pub fn compile_all<'g, R: Threads + Wait + Sync, G: Gate + Sync>(
     rt: &R,
     alloc: Global,

@@ -32,7 +32,7 @@ fn add_lines<S: Sink>(
 }
 
 /// The lines of a section: of some rows, or of columns with entries in all rows. A writer has a block of 16,384 bytes, so it
-/// stands in a call of its own: a page has one of them on the stack at a time, and none behind it.
+/// is in a call of its own: a page has one of them on the stack at a time, and none below it.
 #[inline(never)]
 pub(crate) fn rendered(
     alloc: Global,

@@ -1,7 +1,7 @@
 //! One worker: it draws numbers, stops at the gate with each that is a group's, and then makes what is to be made of it.
 
 ghost use Rattle.std.specs.Prelude.{◌≡◌, ◌+◌, ◌<◌, ◌≤◌, ◌++◌, ◌∷◌, [], All, cond, map, nat_lt, IfOk, OnOk};
-ghost use Rattle.auction_limits.specs.declared.limits.TheConstants.{MOST_GROUPS};
+ghost use Rattle.auction_terms.specs.declared.limits.TheConstants.{MOST_GROUPS};
 ghost use Rattle.group_compiler.specs.Claimed.{IsOf};
 ghost use Rattle.group_compiler.specs.Gates.{IsDueOncePast};
 ghost use Rattle.group_compiler.specs.inside.Works.{IsWork, draws};

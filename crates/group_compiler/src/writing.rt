@@ -2,7 +2,7 @@
 
 ghost use Rattle.std.specs.Prelude.{◌≡◌, ◌≤◌, ◌++◌, [], Bool, cond, length};
 ghost use Rattle.auction_terms.specs.Groups.{has};
-ghost use Rattle.auction_limits.specs.declared.limits.TheConstants.{MOST_BIDDERS};
+ghost use Rattle.auction_terms.specs.declared.limits.TheConstants.{MOST_BIDDERS};
 ghost use Rattle.byte_sinks.specs.Adds.{Adds};
 ghost use Rattle.group_compiler.specs.declared.section.Section.TheVariants.{Rows, Columns, RightSides, Bounds};
 ghost use Rattle.group_compiler.specs.Joining.{section_end, group_text, has_any, joined, opening, pages_for, section_text};
@@ -47,7 +47,7 @@ fn text_has_lines(pages: &Pages, group: &Group, section: Section) -> bool
     !pages.lots().lines(section).is_empty()
 }
 
-// What stands before the lines of a section, where it has any and where it has none.
+// What comes before the lines of a section, whether it has any or not.
 fn opening(section: Section, any: bool) -> &'static [u8]
     ensures { result.now ≡ opening section any }
 {
@@ -61,7 +61,7 @@ fn opening(section: Section, any: bool) -> &'static [u8]
     }
 }
 
-// What stands behind them.
+// What follows them.
 fn closing(section: Section, any: bool) -> &'static [u8]
     ensures { result.now ≡ section_end section any }
 {
@@ -116,7 +116,7 @@ fn add_section<S: Sink>(writer: &mut Writer<'_, S>, pages: &Pages, group: &Group
 }
 
 /// Adds the text of a group: the lines of the pages of bidders outside it, and of that of the lots,
-/// section by section. It takes no memory. Lines that a writer has no room for go out from where they stand.
+/// section by section. It takes no memory. Lines that a writer has no room for go out from their own place.
 pub fn add_group_text<S: Sink>(writer: &mut Writer<'_, S>, pages: &Pages, group: &Group)
     ensures { Adds S.taken S.failures writer.old writer.new (group_text (has group.now) pages.now) }
 {

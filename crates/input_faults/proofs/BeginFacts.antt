@@ -5,21 +5,21 @@ use Rattle.std.specs.Prelude.{Bool, true, false, if◌then◌else◌, nat_lt}
 use Rattle.auction_terms.specs.AllFaults.{AreFaultsOf, accepted_with, all_faults, found}
 use Rattle.auction_terms.specs.Stages.{and_then, each_in_turn, refused_as, unless}
 use Rattle.auction_terms.specs.declared.faults.Found.{Found}
-use Rattle.auction_limits.specs.declared.limits.TheConstants.{TEXT_LIMIT}
+use Rattle.auction_terms.specs.declared.limits.TheConstants.{TEXT_LIMIT}
 use Rattle.input_faults.specs.FaultsAs.{fault_as, faults_as, faults_of_sized}
 
--- where a value is told there is no fault
-pub none-told : {A F G : Type 0} (whole : F → G) (faults : List (Found F)) (told : Result A G) (x : A) → AreFaultsOf (faults_as whole faults) told → told ≡ Ok x → faults ≡ []
-none-told whole [] told x are is = refl
-none-told whole (at ∷ more) (Ok y) x are is = cc
-none-told whole (at ∷ more) (Err f) x are is = cc
+-- where a value is parsed there is no fault
+pub none-reported : {A F G : Type 0} (whole : F → G) (faults : List (Found F)) (reported : Result A G) (x : A) → AreFaultsOf (faults_as whole faults) reported → reported ≡ Ok x → faults ≡ []
+none-reported whole [] reported x are is = refl
+none-reported whole (at ∷ more) (Ok y) x are is = cc
+none-reported whole (at ∷ more) (Err f) x are is = cc
 
 -- a text and its size
-pub begin-sized : {A F : Type 0} (too_large : F) (text : List ℕ) (faults : List (Found F)) (told : Result A F) → AreFaultsOf faults told
-    → AreFaultsOf (faults_of_sized too_large text faults) (if nat_lt TEXT_LIMIT (length text) then Err too_large else told)
-begin-sized {A} {F} too_large text faults told are = by (nat_lt TEXT_LIMIT (length text))
+pub begin-sized : {A F : Type 0} (too_large : F) (text : List ℕ) (faults : List (Found F)) (reported : Result A F) → AreFaultsOf faults reported
+    → AreFaultsOf (faults_of_sized too_large text faults) (if nat_lt TEXT_LIMIT (length text) then Err too_large else reported)
+begin-sized {A} {F} too_large text faults reported are = by (nat_lt TEXT_LIMIT (length text))
   where
-    by : (b : Bool) → AreFaultsOf (if b then found 0 too_large ∷ [] else faults) (if b then Err too_large else told)
+    by : (b : Bool) → AreFaultsOf (if b then found 0 too_large ∷ [] else faults) (if b then Err too_large else reported)
     by true = (0, [], refl)
     by false = are
 
@@ -28,25 +28,25 @@ pub begin-fault : {A F G H : Type 0} (part : F → G) (whole : G → H) (fault :
 begin-fault part whole None x = refl
 begin-fault part whole (Some f) x = (0, [], refl)
 
--- a stage, and what is told behind it
-pub begin-next : {A B F G : Type 0} (whole : F → G) (some others : List (Found F)) (told : Result A G) (next : A → Result B G) → AreFaultsOf (faults_as whole some) told
-    → ((x : A) → told ≡ Ok x → AreFaultsOf (faults_as whole others) (next x)) → AreFaultsOf (faults_as whole (some ++ others)) (and_then told next)
+-- a stage, and what is reported behind it
+pub begin-next : {A B F G : Type 0} (whole : F → G) (some others : List (Found F)) (reported : Result A G) (next : A → Result B G) → AreFaultsOf (faults_as whole some) reported
+    → ((x : A) → reported ≡ Ok x → AreFaultsOf (faults_as whole others) (next x)) → AreFaultsOf (faults_as whole (some ++ others)) (and_then reported next)
 begin-next whole [] others (Ok x) next are behind = behind x refl
 begin-next whole (at ∷ some) others (Ok x) next are behind = cc
 begin-next whole some others (Err f) next (field, more, are) behind =
     (field, more ++ faults_as whole others, map-append (λ at. found at.field (whole at.fault)) some others ∙ ap (λ faults. faults ++ faults_as whole others) are)
 
--- the same faults, where more is made of what is told
-pub begin-more : {A B F : Type 0} (faults : List (Found F)) (told : Result A F) (make : A → B) → AreFaultsOf faults told → AreFaultsOf faults (and_then told (λ x. Ok (make x)))
+-- the same faults, where more is made of what is reported
+pub begin-more : {A B F : Type 0} (faults : List (Found F)) (reported : Result A F) (make : A → B) → AreFaultsOf faults reported → AreFaultsOf faults (and_then reported (λ x. Ok (make x)))
 begin-more faults (Ok x) make are = are
 begin-more faults (Err f) make are = are
 
 -- items one after the other
-pub begin-each : {X A F G : Type 0} (whole : F → G) (faults_of : ℕ → X → List (Found F)) (tell : ℕ → X → Result A G) → ((n : ℕ) (x : X) → AreFaultsOf (faults_as whole (faults_of n x)) (tell n x))
-    → (n : ℕ) (before items : List X) → AreFaultsOf (faults_as whole (all_faults (λ k accepted x. faults_of k x) n before items)) (each_in_turn tell n items)
+pub begin-each : {X A F G : Type 0} (whole : F → G) (faults_of : ℕ → X → List (Found F)) (parse : ℕ → X → Result A G) → ((n : ℕ) (x : X) → AreFaultsOf (faults_as whole (faults_of n x)) (parse n x))
+    → (n : ℕ) (before items : List X) → AreFaultsOf (faults_as whole (all_faults (λ k accepted x. faults_of k x) n before items)) (each_in_turn parse n items)
 unfolding all_faults
-begin-each whole faults_of tell each n before [] = refl
-begin-each {X} {A} {F} {G} whole faults_of tell each n before (x ∷ items) =
-    begin-next whole (faults_of n x) (all_faults (λ k accepted y. faults_of k y) (n + 1) (accepted_with (faults_of n x) before x) items) (tell n x)
-    (λ told. and_then (each_in_turn tell (n + 1) items) (λ more. Ok (told ∷ more))) (each n x)
-    (λ told is. begin-more _ (each_in_turn tell (n + 1) items) (λ more. told ∷ more) (begin-each whole faults_of tell each (n + 1) (accepted_with (faults_of n x) before x) items))
+begin-each whole faults_of parse each n before [] = refl
+begin-each {X} {A} {F} {G} whole faults_of parse each n before (x ∷ items) =
+    begin-next whole (faults_of n x) (all_faults (λ k accepted y. faults_of k y) (n + 1) (accepted_with (faults_of n x) before x) items) (parse n x)
+    (λ reported. and_then (each_in_turn parse (n + 1) items) (λ more. Ok (reported ∷ more))) (each n x)
+    (λ reported is. begin-more _ (each_in_turn parse (n + 1) items) (λ more. reported ∷ more) (begin-each whole faults_of parse each (n + 1) (accepted_with (faults_of n x) before x) items))

@@ -6,4 +6,6 @@ pub mod FormsFacts
 pub mod InputBegins
 pub mod MergeFacts
 pub mod PartsFacts
+pub mod PlaceFacts
 pub mod TextFacts
+pub mod UnmetFacts

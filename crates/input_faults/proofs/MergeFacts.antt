@@ -5,7 +5,7 @@ use Rattle.std.specs.Prelude.{◌^◌, min}
 use Rattle.auction_terms.specs.AllFaults.{Keeps, KeepsMore, found}
 use Rattle.auction_terms.specs.declared.faults.Faults.{Faults}
 use Rattle.auction_terms.specs.declared.faults.Found.{Found}
-use Rattle.auction_limits.specs.declared.limits.TheConstants.{MOST_FAULTS}
+use Rattle.auction_terms.specs.declared.limits.TheConstants.{MOST_FAULTS}
 use Rattle.input_faults.specs.FaultsAs.{faults_as}
 
 -- the front of a list and of the front of another

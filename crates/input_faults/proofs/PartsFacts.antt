@@ -3,26 +3,26 @@ use Rattle.std.proofs.Common.{◌≡◌, ◌∷◌, ◌∙◌, ℕ, List, [], Op
 use Rattle.std.specs.Prelude.{◌≢◌, codes}
 use Rattle.auction_input.specs.Input.{Input}
 use Rattle.auction_input.specs.Parts.{Part, TellsParts, input_fault, name_of, parts_named, input_parts}
-use Rattle.auction_input.specs.PartsTold.{only_text}
+use Rattle.auction_input.specs.ParsedParts.{only_text}
 use Rattle.auction_input.specs.Plan.{miscounted}
-use Rattle.auction_input.specs.TextsTold.{terms_told}
+use Rattle.auction_input.specs.ParsedTexts.{parsed_terms}
 use Rattle.auction_input.specs.declared.part_kind.PartKind.{PartKind}
 use Rattle.auction_input.specs.declared.parts.PartFault.{PartFault}
 use Rattle.auction_input.specs.declared.parts.PartFault.TheVariants as part_fault
 use Rattle.auction_terms.specs.AllFaults.{found}
-use Rattle.input_faults.specs.Details.{parts_count_told}
+use Rattle.input_faults.specs.Details.{parts_count_message}
 use Rattle.input_faults.specs.FaultsAs.{fault_as}
 use Rattle.input_faults.specs.InputFaults.{faults_of_parts}
 use Rattle.input_faults.specs.TextDetails.{detail, detail_in_input, detail_in_texts, detail_of_counted, detail_without_parts}
 use Rattle.input_faults.specs.declared.fault.Fault.{Fault}
 use Rattle.input_faults.specs.declared.fault.Fault.TheVariants as fault
-use Rattle.requests.specs.declared.request.Request.{Request}
+use Rattle.auction_input.specs.declared.request.Request.{Request}
 
 -- a fault of the parts that isn't want of memory
-pub part-told : (asked : Request) (input : Input) (f : PartFault) → TellsParts asked (Err f) input → f ≢ part_fault.OutOfMemory → input_fault asked input ≡ Some f
-part-told asked input part_fault.OutOfMemory told other = absurd (other refl)
-part-told asked input part_fault.BeforeFirst told other = told
-part-told asked input (part_fault.PartName n) told other = told
+pub part-reported : (asked : Request) (input : Input) (f : PartFault) → TellsParts asked (Err f) input → f ≢ part_fault.OutOfMemory → input_fault asked input ≡ Some f
+part-reported asked input part_fault.OutOfMemory reported other = absurd (other refl)
+part-reported asked input part_fault.BeforeFirst reported other = reported
+part-reported asked input (part_fault.PartName n) reported other = reported
 
 module _ (asked : Request) (input : Input) where
   pub parts-unknown : (f : PartFault) → input_fault asked input ≡ Some f → faults_of_parts asked input ≡ found 0 (fault.Parts f) ∷ []
@@ -34,12 +34,12 @@ module _ (asked : Request) (input : Input) where
 -- the details of parts, where each kind is counted right, are those of the texts in them
 pub parts-detail : (asked : Request) (parts : List Part) (rules : List ℕ) (forms : List (List ℕ)) (groups : List ℕ) → miscounted asked parts ≡ None
     → rules ≡ only_text (parts_named (codes "%rules") parts) → forms ≡ parts_named (codes "%form") parts → groups ≡ only_text (parts_named (codes "%groups") parts)
-    → detail_in_texts (terms_told rules) rules forms groups ≡ detail_of_counted asked (miscounted asked parts) parts
+    → detail_in_texts (parsed_terms rules) rules forms groups ≡ detail_of_counted asked (miscounted asked parts) parts
 parts-detail asked parts rules forms groups none is_rules is_forms is_groups = rw (none, is_rules, is_forms, is_groups) refl
 
 -- and where one isn't, they are its count
 pub count-detail : (asked : Request) (parts : List Part) (kind : PartKind) → miscounted asked parts ≡ Some kind
-    → (λ (n : ℕ) (f : Fault). parts_count_told asked kind (length (parts_named (name_of kind) parts))) ≡ detail_of_counted asked (miscounted asked parts) parts
+    → (λ (n : ℕ) (f : Fault). parts_count_message asked kind (length (parts_named (name_of kind) parts))) ≡ detail_of_counted asked (miscounted asked parts) parts
 count-detail asked parts kind is = rw is refl
 
 -- the details of an input are those of its parts

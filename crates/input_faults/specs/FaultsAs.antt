@@ -2,9 +2,9 @@
 use Rattle.std.specs.Prelude.{ℕ, List, [], ◌∷◌, Option, if◌then◌else◌, length, map, nat_lt, option_map, option_to_list}
 use Rattle.auction_terms.specs.AllFaults.{found}
 use Rattle.auction_terms.specs.declared.faults.Found.{Found}
-use Rattle.auction_limits.specs.declared.limits.TheConstants.{TEXT_LIMIT}
+use Rattle.auction_terms.specs.declared.limits.TheConstants.{TEXT_LIMIT}
 
--- each fault at its field, told as another
+-- each fault at its field, reported as another
 abbrev pub faults_as : {F G : Type 0} → (F → G) → List (Found F) → List (Found G)
 faults_as whole faults = map (λ at. found at.field (whole at.fault)) faults
 

@@ -2,10 +2,10 @@
 use Rattle.std.specs.Prelude.{ℕ, List, [], ◌∷◌, Option, None, Some, Result, Ok, Err, codes, if◌then◌else◌, length, nat_lt, slice_index_or}
 use Rattle.auction_input.specs.Input.{Given, Input}
 use Rattle.auction_input.specs.Parts.{Part, input_fault, name_of, parts_named, input_parts}
-use Rattle.auction_input.specs.PartsTold.{only_text}
+use Rattle.auction_input.specs.ParsedParts.{only_text}
 use Rattle.auction_input.specs.Places.{spot_of}
 use Rattle.auction_input.specs.Plan.{miscounted}
-use Rattle.auction_input.specs.TextsTold.{terms_told}
+use Rattle.auction_input.specs.ParsedTexts.{parsed_terms}
 use Rattle.auction_input.specs.declared.part_kind.PartKind.{PartKind}
 use Rattle.auction_input.specs.declared.parts.PartFault.TheVariants as part_fault
 use Rattle.auction_input.specs.declared.places.Spot.{Spot}
@@ -19,14 +19,14 @@ use Rattle.auction_terms.specs.Records.{Record, records_of}
 use Rattle.auction_terms.specs.RulesText.{version_of}
 use Rattle.auction_terms.specs.Terms.{Terms}
 use Rattle.auction_terms.specs.declared.groups_text.GroupFault.{GroupFault}
-use Rattle.auction_limits.specs.declared.limits.TheConstants.{TEXT_LIMIT}
+use Rattle.auction_terms.specs.declared.limits.TheConstants.{TEXT_LIMIT}
 use Rattle.auction_terms.specs.declared.rules_text.RulesFault.{RulesFault}
-use Rattle.bid_forms.specs.ToldOfRecords.{eligibility_told, form_place}
+use Rattle.bid_forms.specs.RowNumbers.{parsed_eligibility, form_place}
 use Rattle.bid_forms.specs.declared.form_text.FormFault.{FormFault}
-use Rattle.input_faults.specs.Details.{beginning_told, form_fault_told, group_told, parts_count_told, rules_told}
+use Rattle.input_faults.specs.Details.{beginning_message, form_fault_message, group_message, parts_count_message, rules_message, unmet_message}
 use Rattle.input_faults.specs.declared.fault.Fault.{Fault}
 use Rattle.input_faults.specs.declared.fault.Fault.TheVariants as fault
-use Rattle.requests.specs.declared.request.Request.{Request}
+use Rattle.auction_input.specs.declared.request.Request.{Request}
 
 -- the item of a number, counted from 1; where there is none, nothing
 abbrev pub numbered : {X : Type 0} → ℕ → List (List X) → List X
@@ -38,15 +38,15 @@ within_limit text = if nat_lt TEXT_LIMIT (length text) then [] else text
 
 -- a fault of the records of the rules
 abbrev pub detail_of_rules : List Record → ℕ → RulesFault → List ℕ
-detail_of_rules records n f = rules_told (version_of (numbered 1 records)) (numbered (rules_place f) records) n f
+detail_of_rules records n f = rules_message (version_of (numbered 1 records)) (numbered (rules_place f) records) n f
 
 -- a fault of the records of a form
 abbrev pub detail_of_form : Terms → List Record → ℕ → FormFault → List ℕ
-detail_of_form t records n f = form_fault_told t (eligibility_told t (numbered 1 records)) (numbered (form_place f) records) n f
+detail_of_form t records n f = form_fault_message t (parsed_eligibility t (numbered 1 records)) (numbered (form_place f) records) n f
 
 -- a fault of the lines of groups
 abbrev pub detail_of_groups : List (List ℕ) → ℕ → GroupFault → List ℕ
-detail_of_groups lines n f = group_told (numbered n (names_in (numbered (group_place f) lines))) n f
+detail_of_groups lines n f = group_message (numbered n (names_in (numbered (group_place f) lines))) n f
 
 -- a fault where the rules are refused
 abbrev pub detail_in_rules : List Record → ℕ → Fault → List ℕ
@@ -57,6 +57,7 @@ detail_in_rules records n f = []
 abbrev pub detail_under : Terms → List (List ℕ) → List ℕ → ℕ → Fault → List ℕ
 detail_under t forms groups n (fault.Form number f) = detail_of_form t (records_of (within_limit (numbered number forms))) n f
 detail_under t forms groups n (fault.Groups f) = detail_of_groups (lines_of (within_limit groups)) n f
+detail_under t forms groups n (fault.Unmet u) = unmet_message u
 detail_under t forms groups n f = []
 
 -- a fault of these texts
@@ -68,7 +69,7 @@ detail_in_texts (Err r) rules forms groups n f = detail_in_rules (records_of (wi
 abbrev pub detail_in_parts : List Part → ℕ → Fault → List ℕ
 detail_in_parts parts n f =
     let rules = only_text (parts_named (codes "%rules") parts) in
-    detail_in_texts (terms_told rules) rules (parts_named (codes "%form") parts) (only_text (parts_named (codes "%groups") parts)) n f
+    detail_in_texts (parsed_terms rules) rules (parts_named (codes "%form") parts) (only_text (parts_named (codes "%groups") parts)) n f
 
 -- the bytes of the text at a place, from 0
 abbrev pub bytes_at : List Given → ℕ → List ℕ
@@ -81,12 +82,12 @@ text_at texts (Some at) = bytes_at texts at.text
 
 -- the one fault of an input that isn't cut into parts
 abbrev pub detail_without_parts : PartFault → List Given → List ℕ
-detail_without_parts part_fault.BeforeFirst texts = beginning_told (numbered 1 (lines_of (text_at texts (spot_of texts (refusal.Parts part_fault.BeforeFirst)))))
+detail_without_parts part_fault.BeforeFirst texts = beginning_message (numbered 1 (lines_of (text_at texts (spot_of texts (refusal.Parts part_fault.BeforeFirst)))))
 detail_without_parts f texts = []
 
 -- a fault of parts, of which there are too few or too many of a kind, if there are
 abbrev pub detail_of_counted : Request → Option PartKind → List Part → ℕ → Fault → List ℕ
-detail_of_counted asked (Some kind) parts n f = parts_count_told asked kind (length (parts_named (name_of kind) parts))
+detail_of_counted asked (Some kind) parts n f = parts_count_message asked kind (length (parts_named (name_of kind) parts))
 detail_of_counted asked None parts n f = detail_in_parts parts n f
 
 -- a fault of an input

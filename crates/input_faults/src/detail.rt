@@ -4,7 +4,7 @@ ghost use Rattle.std.specs.Prelude.{◌≡◌, ◌++◌, codes, decimal};
 ghost use Rattle.csv.specs.Records.{fields_of};
 ghost use Rattle.auction_terms.specs.RulesText.{record_field};
 ghost use Rattle.auction_terms.specs.Wording.{wording_text};
-ghost use Rattle.input_faults.specs.Details.{beginning_told, field_told};
+ghost use Rattle.input_faults.specs.Details.{beginning_message, field_message};
 ghost use Rattle.input_faults.specs.Shown.{shown_text};
 ghost use Rattle.input_faults.specs.inside.DetailText.{detail_text};
 ghost use Rattle.byte_sinks.specs.Adds.{Adds};
@@ -23,6 +23,8 @@ pub enum Detail<'d> {
     Beginning(&'d [u8]),
     /// Words on the whole record or line.
     Whole(Wording),
+    /// Words with more than two numbers.
+    Both(Wording, Wording),
     /// The number of a field, what stands there, and what is wrong with it.
     Field(usize, &'d [u8], Wording),
     /// The number of a field, what stands there, and the name of the category that was wanted.
@@ -44,7 +46,7 @@ fn field_at(row: &ByteRecord, number: usize) -> &[u8]
 
 /// The detail of a field.
 pub fn of_field<'d>(row: &'d ByteRecord, number: usize, wrong: Wording) -> Detail<'d>
-    ensures { detail_text result ≡ field_told number (fields_of row.now) (wording_text wrong) }
+    ensures { detail_text result ≡ field_message number (fields_of row.now) (wording_text wrong) }
 {
     Detail::Field(number, field_at(row, number), wrong)
 }
@@ -80,7 +82,7 @@ fn add_column<S: Sink>(writer: &mut Writer<'_, S>, number: usize, value: &[u8], 
 
 // Adds the first line of a text, which heads no part.
 fn add_beginning<S: Sink>(writer: &mut Writer<'_, S>, line: &[u8])
-    ensures { Adds S.taken S.failures writer.old writer.new (beginning_told line.now) }
+    ensures { Adds S.taken S.failures writer.old writer.new (beginning_message line.now) }
 {
     writer.add(b": the text begins with ");
     add_shown(writer, line);
@@ -95,6 +97,10 @@ pub fn add_detail<S: Sink>(writer: &mut Writer<'_, S>, detail: &Detail<'_>)
         Detail::Nothing => writer.add(b""),
         Detail::Beginning(line) => add_beginning(writer, line),
         Detail::Whole(words) => add_wording(writer, words),
+        Detail::Both(words, more) => {
+            add_wording(writer, words);
+            add_wording(writer, more);
+        }
         Detail::Field(number, value, wrong) => add_value(writer, ", field ", number, value, wrong),
         Detail::Column(number, value, name) => add_column(writer, number, value, name),
         Detail::Name(number, value, wrong) => add_value(writer, ", name ", number, value, wrong),

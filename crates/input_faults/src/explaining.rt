@@ -2,15 +2,14 @@
 
 ghost use Rattle.std.specs.Prelude.{◌≡◌, ◌↔◌, IfErr, IfOk, IsErr, IsTrue, OnOk, false};
 ghost use Rattle.std.specs.Io.KnownBytes.{Appends};
-ghost use Rattle.auction_input.specs.Auction.{auction_told};
+ghost use Rattle.auction_input.specs.Wanted.{parsed_taken};
 ghost use Rattle.input_faults.specs.Explained.{IsCutShort};
 ghost use Rattle.input_faults.specs.FaultLines.{explanation};
 
 use crate::finding::input_faults;
 use crate::lines::{lines_of, put_lines};
-use auction_input::{Input, Refusal};
+use auction_input::{Input, Refusal, Request};
 use byte_sinks::Sink;
-use requests::Request;
 use std::alloc::Global;
 
 /// Writes a line for each fault of the input of a request, up to `MOST_FAULTS` lines, and how many more there are. Tells
@@ -24,7 +23,7 @@ pub fn explain<S: Sink>(
     ensures written { OnOk result (Appends (S.taken out.old) (S.taken out.new)
         (explanation request.now input.now)) }
     ensures faulty { IfOk result (λ faulty. IsTrue faulty
-        ↔ IsErr (auction_told request.now input.now)) }
+        ↔ IsErr (parsed_taken request.now input.now)) }
     ensures untouched { IfOk result (λ faulty. faulty ≡ false → out.new ≡ out.old) }
     ensures succeeded { OnOk result (S.failures out.new ≡ S.failures out.old) }
     ensures refused { IfErr result (IsCutShort (explanation request.now input.now)

@@ -1,19 +1,23 @@
 //! Finding all faults of an input.
 
-ghost use Rattle.std.specs.Prelude.{◌≡◌, ◌≢◌, ◌∷◌, [], IfOk, List, MatchOption, OnOk};
-ghost use Rattle.auction_input.specs.Parts.{parts_held, input_parts};
+ghost use Rattle.std.specs.Prelude.{◌≡◌, ◌≢◌, ◌∷◌, [], IfOk, List, MatchOption, Ok, OnOk, Some, codes};
+ghost use Rattle.auction_input.specs.Parts.{parts_held, parts_named, input_parts, text_numbers};
+ghost use Rattle.auction_input.specs.ParsedParts.{only_text};
+ghost use Rattle.auction_input.specs.ParsedTexts.{parsed_form};
 ghost use Rattle.auction_terms.specs.AllFaults.{Keeps, KeepsMore};
-ghost use Rattle.auction_terms.specs.Borrowed.{bytes_of};
+ghost use Rattle.auction_terms.specs.Stages.{each_in_turn};
 ghost use Rattle.auction_terms.specs.declared.faults.Found.{Found};
-ghost use Rattle.input_faults.specs.InputFaults.{faults_in_parts, faults_of_parts, faults_under, input_faults};
+ghost use Rattle.input_faults.specs.InputFaults.{call_fault, faults_in_parts, faults_of_forms, faults_of_parts, faults_under, input_faults, text_fault, unmet_faults, unmet_under};
 ghost use Rattle.input_faults.specs.declared.fault.Fault as declared;
 
 use crate::fault::Fault;
-use crate::merging::add_call;
-use crate::reading::{take_forms, take_groups, take_rules};
-use auction_input::{Input, Part, PartFault, PartKind, miscounted, split_parts, text_of, texts_of};
-use auction_terms::{Faults, Rules};
-use requests::Request;
+use crate::merging::{add_another, add_call, add_unmet};
+use crate::reading::{Together, groups_in, take_forms, take_groups, take_rules};
+use auction_input::{
+    Input, Numbers, Part, PartFault, PartKind, Request, Target, miscounted, proof_wants,
+    solution_wants, split_parts, text_numbers_of, text_of, texts_of,
+};
+use auction_terms::{Faults, Groups, Rules};
 use std::alloc::{AllocError, Global};
 
 /// Tests that a fault of parts isn't that memory was refused.
@@ -57,39 +61,129 @@ fn take_parts<'t>(
     }
 }
 
+// Adds the faults of all forms, and tells what is wrong with them together.
+fn take_form_parts(
+    alloc: Global,
+    faults: &mut Faults<Fault>,
+    parts: &[Part<'_>],
+    rules: &Rules,
+    last_wins: bool,
+) -> Result<Together, AllocError>
+    ensures faults { OnOk result (KeepsMore faults.old faults.new
+        (faults_of_forms rules.now (parts_named (codes "%form") (parts_held parts.now)))) }
+    ensures another { IfOk result (λ together. together.another
+        ≡ text_fault last_wins rules.now (text_numbers (codes "%form") (parts_held parts.now))
+        (each_in_turn (parsed_form rules.now) 1
+        (parts_named (codes "%form") (parts_held parts.now)))) }
+    ensures call { IfOk result (λ together. together.beyond_limit
+        ≡ call_fault (each_in_turn (parsed_form rules.now) 1
+        (parts_named (codes "%form") (parts_held parts.now)))) }
+{
+    let texts = texts_of(alloc, parts, PartKind::Form)?;
+    let numbers = text_numbers_of(alloc, parts, PartKind::Form)?;
+    let together = take_forms(
+        alloc,
+        faults,
+        texts.as_slice(),
+        numbers.as_slice(),
+        rules,
+        last_wins,
+    )?;
+    Ok(together)
+}
+
 // Adds the faults of forms and groups under the rules.
 fn take_under(
     alloc: Global,
     faults: &mut Faults<Fault>,
-    forms: &[&[u8]],
-    groups: &[u8],
+    parts: &[Part<'_>],
     rules: &Rules,
+    last_wins: bool,
 ) -> Result<(), AllocError>
     ensures { OnOk result (KeepsMore faults.old faults.new
-        (faults_under (bytes_of forms.now) groups.now rules.now)) }
+        (faults_under last_wins (text_numbers (codes "%form") (parts_held parts.now))
+        (parts_named (codes "%form") (parts_held parts.now))
+        (only_text (parts_named (codes "%groups") (parts_held parts.now))) rules.now)) }
 {
-    let refused = take_forms(alloc, faults, forms, rules)?;
-    take_groups(alloc, faults, groups, rules)?;
-    add_call(faults, refused)?;
+    let together = take_form_parts(alloc, faults, parts, rules, last_wins)?;
+    add_another(faults, together.another)?;
+    take_groups(alloc, faults, text_of(parts, PartKind::Groups), rules)?;
+    add_call(faults, together.beyond_limit)?;
     Ok(())
 }
 
-// Adds the faults of the texts of rules, forms and groups.
+// Adds what a command wants of parts with these groups, and they haven't got.
+fn add_wanted(
+    faults: &mut Faults<Fault>,
+    command: Target,
+    parts: &[Part<'_>],
+    groups: &Groups,
+) -> Result<(), AllocError>
+    ensures { OnOk result (KeepsMore faults.old faults.new
+        (unmet_faults (Some command) (parts_held parts.now) (Ok groups.now))) }
+{
+    let numbers = Numbers::of_parts(parts, groups);
+    match command {
+        Target::Report => add_unmet(faults, &solution_wants(&numbers)),
+        Target::Verify => {
+            add_unmet(faults, &solution_wants(&numbers))?;
+            add_unmet(faults, &proof_wants(&numbers))
+        }
+        Target::Text | Target::Compile | Target::Map => Ok(()),
+    }
+}
+
+// Adds what a command wants of these parts, and they haven't got, if their groups are read.
+fn take_wanted(
+    alloc: Global,
+    faults: &mut Faults<Fault>,
+    command: Target,
+    parts: &[Part<'_>],
+    rules: &Rules,
+) -> Result<(), AllocError>
+    ensures { OnOk result (KeepsMore faults.old faults.new
+        (unmet_under (Some command) (parts_held parts.now) rules.now)) }
+{
+    match groups_in(alloc, text_of(parts, PartKind::Groups), rules)? {
+        Some(groups) => add_wanted(faults, command, parts, &groups),
+        None => Ok(()),
+    }
+}
+
+// The same of a command, if one is named: else nothing is wanted.
+fn take_wanted_by(
+    alloc: Global,
+    faults: &mut Faults<Fault>,
+    command: Option<Target>,
+    parts: &[Part<'_>],
+    rules: &Rules,
+) -> Result<(), AllocError>
+    ensures { OnOk result (KeepsMore faults.old faults.new
+        (unmet_under command (parts_held parts.now) rules.now)) }
+{
+    match command {
+        Some(command) => take_wanted(alloc, faults, command, parts, rules),
+        None => Ok(()),
+    }
+}
+
+// Adds the faults of the texts of rules, forms and groups, and of what a command wants of the parts.
 fn take_texts(
     alloc: Global,
     faults: &mut Faults<Fault>,
+    command: Option<Target>,
     parts: &[Part<'_>],
+    last_wins: bool,
 ) -> Result<(), AllocError>
     ensures { OnOk result (KeepsMore faults.old faults.new
-        (faults_in_parts (parts_held parts.now))) }
+        (faults_in_parts command last_wins (parts_held parts.now))) }
 {
-    let forms = texts_of(alloc, parts, PartKind::Form)?;
     let rules = text_of(parts, PartKind::Rules);
     let Some(rules) = take_rules(alloc, faults, rules)? else {
         return Ok(());
     };
-    let groups = text_of(parts, PartKind::Groups);
-    take_under(alloc, faults, forms.as_slice(), groups, &rules)?;
+    take_under(alloc, faults, parts, &rules, last_wins)?;
+    take_wanted_by(alloc, faults, command, parts, &rules)?;
     Ok(())
 }
 
@@ -105,6 +199,13 @@ pub fn input_faults(
     let Some(parts) = take_parts(alloc, &mut faults, request, input)? else {
         return Ok(faults);
     };
-    take_texts(alloc, &mut faults, parts.as_slice())?;
+    let command = request.target();
+    take_texts(
+        alloc,
+        &mut faults,
+        command,
+        parts.as_slice(),
+        input.last_wins(),
+    )?;
     Ok(faults)
 }

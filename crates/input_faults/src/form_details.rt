@@ -3,20 +3,21 @@
 ghost use Rattle.std.specs.Prelude.{◌≡◌, [], codes, decimal, ◌++◌};
 ghost use Rattle.std.specs.Option.{option_map_or};
 ghost use Rattle.csv.specs.Records.{fields_of};
-ghost use Rattle.bid_forms.specs.ToldOfRecords.{points_told, reserve_told};
-ghost use Rattle.input_faults.specs.Details.{column_told, columns_told, field_told, form_fault_told, points_above};
+ghost use Rattle.bid_forms.specs.RowNumbers.{parsed_points, parsed_reserve};
+ghost use Rattle.input_faults.specs.Details.{column_message, columns_message, field_message, form_fault_message, points_above};
 ghost use Rattle.input_faults.specs.inside.DetailText.{detail_text};
 
 use crate::detail::{Detail, of_field};
 use crate::rules_details::count_wording;
-use auction_limits::{GREATEST_AMOUNT, GREATEST_QUANTITY, MOST_BIDS};
-use auction_terms::{Category, Rules, Wording, field};
-use bid_forms::{FormFault, points_told, reserve_told};
+use auction_terms::{
+    Category, GREATEST_AMOUNT, GREATEST_QUANTITY, MOST_BIDS, Rules, Wording, field,
+};
+use bid_forms::{FormFault, parsed_points, parsed_reserve};
 use csv::ByteRecord;
 
 // The first field that isn't the name of its category.
 fn column_detail<'d>(categories: &'d [Category], row: &'d ByteRecord) -> Detail<'d>
-    ensures { detail_text result ≡ column_told (fields_of row.now) 2 categories.now }
+    ensures { detail_text result ≡ column_message (fields_of row.now) 2 categories.now }
 {
     for place in 0..categories.len() {
         let name = categories[place].name.as_bytes();
@@ -30,7 +31,7 @@ fn column_detail<'d>(categories: &'d [Category], row: &'d ByteRecord) -> Detail<
 
 // A header with other columns than the rules have categories.
 fn columns_detail<'d>(rules: &'d Rules, row: &'d ByteRecord) -> Detail<'d>
-    ensures { detail_text result ≡ columns_told rules.now (fields_of row.now) }
+    ensures { detail_text result ≡ columns_message rules.now (fields_of row.now) }
 {
     let categories = rules.categories();
     if row.is_empty() {
@@ -59,11 +60,11 @@ fn points_detail<'d>(points: Option<u64>, most: Option<u64>) -> Detail<'d>
 
 // An amount below the reserve, where that is known.
 fn reserve_detail<'d>(rules: &Rules, row: &'d ByteRecord, number: usize) -> Detail<'d>
-    ensures { detail_text result ≡ option_map_or (λ least. field_told number (fields_of row.now)
+    ensures { detail_text result ≡ option_map_or (λ least. field_message number (fields_of row.now)
         (codes " is below the reserve of " ++ decimal least))
-        (reserve_told rules.now (fields_of row.now)) [] }
+        (parsed_reserve rules.now (fields_of row.now)) [] }
 {
-    match reserve_told(rules, row) {
+    match parsed_reserve(rules, row) {
         Some(least) => of_field(
             row,
             number,
@@ -81,7 +82,7 @@ pub fn form_detail<'d>(
     number: usize,
     fault: FormFault,
 ) -> Detail<'d>
-    ensures { detail_text result ≡ form_fault_told rules.now most (fields_of row.now) number fault }
+    ensures { detail_text result ≡ form_fault_message rules.now most (fields_of row.now) number fault }
 {
     match fault {
         FormFault::Header { .. } => columns_detail(rules, row),
@@ -115,7 +116,7 @@ pub fn form_detail<'d>(
             Wording::Numbers(" isn't between ", 0, " and ", GREATEST_QUANTITY),
         ),
         FormFault::EmptyPackage { .. } => Detail::Whole(Wording::Words(": each quantity is 0")),
-        FormFault::OverEligibility { .. } => points_detail(points_told(rules, row), most),
+        FormFault::OverEligibility { .. } => points_detail(parsed_points(rules, row), most),
         FormFault::BelowReserve { .. } => reserve_detail(rules, row, number),
         FormFault::TooManyBids { .. } => Detail::Whole(Wording::Between(
             ": more than ",

@@ -6,9 +6,8 @@ ghost use Rattle.input_faults.specs.TextDetails.{numbered, within_limit};
 ghost use Rattle.input_faults.specs.inside.Cursors.{ReadsForm, StandsAt};
 
 use crate::record_cursor::RecordCursor;
-use auction_limits::TEXT_LIMIT;
-use auction_terms::Rules;
-use bid_forms::eligibility_told;
+use auction_terms::{Rules, TEXT_LIMIT};
+use bid_forms::parsed_eligibility;
 use std::alloc::{AllocError, Global};
 
 /// A form by its number, from 1, a record of it, and the eligibility of its bidder.
@@ -53,7 +52,7 @@ impl<'t> FormReading<'t> {
     {
         let mut cursor = RecordCursor::new(alloc, within_limit(form_text(forms, number)));
         cursor.go_to(alloc, 1)?;
-        let eligibility = eligibility_told(rules, &cursor.row);
+        let eligibility = parsed_eligibility(rules, &cursor.row);
         Ok(FormReading {
             number,
             cursor,

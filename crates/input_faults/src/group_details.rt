@@ -1,16 +1,15 @@
 //! The details of faults of groups.
 
 ghost use Rattle.std.specs.Prelude.{◌≡◌};
-ghost use Rattle.input_faults.specs.Details.{group_told};
+ghost use Rattle.input_faults.specs.Details.{group_message};
 ghost use Rattle.input_faults.specs.inside.DetailText.{detail_text};
 
 use crate::detail::Detail;
-use auction_limits::MOST_GROUPS;
-use auction_terms::{GroupFault, Wording};
+use auction_terms::{GroupFault, MOST_GROUPS, Wording};
 
 /// The detail of a fault at a name of a line of groups.
 pub fn group_detail<'d>(name: &'d [u8], number: usize, fault: GroupFault) -> Detail<'d>
-    ensures { detail_text result ≡ group_told name.now number fault }
+    ensures { detail_text result ≡ group_message name.now number fault }
 {
     match fault {
         GroupFault::UnknownBidder { .. } => Detail::Name(

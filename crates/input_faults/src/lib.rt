@@ -1,4 +1,4 @@
-//! All faults of an input, in the order in which they are told, and their lines.
+//! All faults of an input, in the order in which they are reported, and their lines.
 #![tactic(auto)]
 
 mod detail;
@@ -23,5 +23,5 @@ mod wording;
 pub use explaining::explain;
 pub use fault::Fault;
 pub use finding::input_faults;
-pub use placed::{add_file_name, add_told};
+pub use placed::{add_file_name, add_message};
 pub use wording::add_wording;

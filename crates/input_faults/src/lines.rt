@@ -4,11 +4,11 @@ ghost use Rattle.std.specs.Prelude.{◌≡◌, ◌++◌, ◌∷◌, [], ℕ, Lis
 ghost use Rattle.std.specs.Io.KnownBytes.{Appends};
 ghost use Rattle.auction_input.specs.Parts.{parts_held};
 ghost use Rattle.auction_input.specs.Plan.{miscounted};
-ghost use Rattle.auction_input.specs.TextsTold.{terms_told};
+ghost use Rattle.auction_input.specs.ParsedTexts.{parsed_terms};
 ghost use Rattle.auction_terms.specs.Borrowed.{bytes_of};
 ghost use Rattle.auction_terms.specs.Records.{records_of};
 ghost use Rattle.auction_terms.specs.RulesText.{version_of};
-ghost use Rattle.input_faults.specs.FaultLines.{fault_line, more_line, told_of};
+ghost use Rattle.input_faults.specs.FaultLines.{fault_line, more_line, message_of};
 ghost use Rattle.input_faults.specs.TextDetails.{detail, detail_in_rules, detail_in_texts, detail_of_counted, detail_under, numbered, within_limit};
 ghost use Rattle.input_faults.specs.inside.Cursors.{ReadsForm, StandsAt, StandsAtName};
 ghost use Rattle.input_faults.specs.inside.DetailText.{detail_text};
@@ -24,18 +24,17 @@ use crate::form_details::form_detail;
 use crate::form_reading::{FormReading, within_limit};
 use crate::group_details::group_detail;
 use crate::name_cursor::NameCursor;
-use crate::part_details::{count_detail, part_detail};
-use crate::placed::add_told;
+use crate::part_details::{count_detail, part_detail, unmet_detail};
+use crate::placed::add_message;
 use crate::reading::rules_in;
 use crate::record_cursor::RecordCursor;
 use crate::rules_details::rules_detail;
 use crate::wording::add_wording;
 use auction_input::{
-    Input, Part, PartKind, Places, count_of, miscounted, split_parts, text_of, texts_of,
+    Input, Part, PartKind, Places, Request, count_of, miscounted, split_parts, text_of, texts_of,
 };
 use auction_terms::{Faults, Found, Rules, Version, Wording, version_of};
 use byte_sinks::{MemorySink, Sink, WriteFault, Writer};
-use requests::Request;
 use std::alloc::{AllocError, Global};
 
 // Adds the line of a fault.
@@ -46,10 +45,10 @@ fn add_line<S: Sink>(
     detail: &Detail<'_>,
 )
     ensures { Adds S.taken S.failures writer.old writer.new
-        (told_of places.now fault ++ (detail_text detail.now ++ 10 ∷ [])) }
+        (message_of places.now fault ++ (detail_text detail.now ++ 10 ∷ [])) }
 {
     let refusal = fault.refusal();
-    add_told(writer, places.texts(), places.spot_of(&refusal), &refusal);
+    add_message(writer, places.texts(), places.spot_of(&refusal), &refusal);
     add_detail(writer, detail);
     writer.add(b"\n");
 }
@@ -66,7 +65,7 @@ fn add_line_of_rules<S: Sink>(
     ensures added { (text : List ℕ) → StandsAt cursor.old text
         → version ≡ version_of (numbered 1 (records_of text))
         → OnOk result (Adds S.taken S.failures writer.old writer.new
-        (fault_line (told_of places.now) (detail_in_rules (records_of text)) at)) }
+        (fault_line (message_of places.now) (detail_in_rules (records_of text)) at)) }
     ensures stands { (text : List ℕ) → StandsAt cursor.old text
         → OnOk result (StandsAt cursor.new text) }
 {
@@ -93,7 +92,7 @@ fn add_lines_of_rules<S: Sink>(
     faults: &[Found<Fault>],
 ) -> Result<(), AllocError>
     ensures { OnOk result (Adds S.taken S.failures writer.old writer.new
-        (flat_map (fault_line (told_of places.now) (detail_in_rules (records_of text.now)))
+        (flat_map (fault_line (message_of places.now) (detail_in_rules (records_of text.now)))
         faults.now)) }
 {
     let mut cursor = RecordCursor::new(alloc, text);
@@ -125,7 +124,7 @@ fn add_line_under<'t, S: Sink>(
     requires { ReadsForm rules.now (bytes_of forms.now) form.old }
     ensures added { (groups : List ℕ) → StandsAtName names.old (within_limit groups)
         → OnOk result (Adds S.taken S.failures writer.old writer.new
-        (fault_line (told_of placed.entry.places.now)
+        (fault_line (message_of placed.entry.places.now)
         (detail_under rules.now (bytes_of forms.now) groups) placed.entry.at)) }
     ensures form { OnOk result (ReadsForm rules.now (bytes_of forms.now) form.new) }
     ensures names { (text : List ℕ) → StandsAtName names.old text
@@ -148,6 +147,10 @@ fn add_line_under<'t, S: Sink>(
             add_line(writer, places, at.fault, &detail);
             Ok(())
         }
+        Fault::Unmet(unmet) => {
+            add_line(writer, places, at.fault, &unmet_detail(unmet));
+            Ok(())
+        }
         _ => {
             add_line(writer, places, at.fault, &Detail::Nothing);
             Ok(())
@@ -166,7 +169,7 @@ fn add_lines_under<S: Sink>(
     faults: &[Found<Fault>],
 ) -> Result<(), AllocError>
     ensures { OnOk result (Adds S.taken S.failures writer.old writer.new
-        (flat_map (fault_line (told_of places.now)
+        (flat_map (fault_line (message_of places.now)
         (detail_under rules.now (bytes_of forms.now) groups.now)) faults.now)) }
 {
     let mut form = FormReading::begin(alloc, rules, forms, 0)?;
@@ -186,7 +189,7 @@ fn add_lines_alike<S: Sink>(
     detail: &Detail<'_>,
 )
     ensures { Adds S.taken S.failures writer.old writer.new
-        (flat_map (fault_line (told_of places.now) (λ field fault. detail_text detail.now))
+        (flat_map (fault_line (message_of places.now) (λ field fault. detail_text detail.now))
         faults.now) }
 {
     for at in faults {
@@ -205,7 +208,7 @@ fn add_lines_in<S: Sink>(
     faults: &[Found<Fault>],
 ) -> Result<(), AllocError>
     ensures { OnOk result (Adds S.taken S.failures writer.old writer.new
-        (flat_map (fault_line (told_of places.now) (detail_in_texts (terms_told rules.now) rules.now
+        (flat_map (fault_line (message_of places.now) (detail_in_texts (parsed_terms rules.now) rules.now
         (bytes_of forms.now) groups.now)) faults.now)) }
 {
     match rules_in(alloc, rules)? {
@@ -224,7 +227,7 @@ fn add_lines_of_parts<S: Sink>(
     faults: &[Found<Fault>],
 ) -> Result<(), AllocError>
     ensures { OnOk result (Adds S.taken S.failures writer.old writer.new
-        (flat_map (fault_line (told_of places.now) (detail_of_counted request.now
+        (flat_map (fault_line (message_of places.now) (detail_of_counted request.now
         (miscounted request.now (parts_held parts.now)) (parts_held parts.now))) faults.now)) }
 {
     if let Some(kind) = miscounted(request, parts) {
@@ -257,7 +260,7 @@ fn add_lines<S: Sink>(
     faults: &[Found<Fault>],
 ) -> Result<(), AllocError>
     ensures { OnOk result (Adds S.taken S.failures writer.old writer.new
-        (flat_map (fault_line (told_of places.now) (detail request.now input.now)) faults.now)) }
+        (flat_map (fault_line (message_of places.now) (detail request.now input.now)) faults.now)) }
 {
     match split_parts(alloc, request, input) {
         Ok(parts) => {
@@ -294,7 +297,7 @@ fn lines_at(
     faults: &Faults<Fault>,
 ) -> Result<Vec<u8>, AllocError>
     ensures { IfOk result (λ lines. lines.items
-        ≡ held_lines (told_of places.now) (detail request.now input.now) faults.now) }
+        ≡ held_lines (message_of places.now) (detail request.now input.now) faults.now) }
 {
     let mut sink = MemorySink::new(alloc);
     let mut writer = Writer::new(&mut sink);
@@ -321,7 +324,7 @@ pub fn lines_of(
     faults: &Faults<Fault>,
 ) -> Result<Vec<u8>, AllocError>
     ensures { IfOk result (λ lines. lines.items
-        ≡ held_lines (told_of input.now.texts) (detail request.now input.now) faults.now) }
+        ≡ held_lines (message_of input.now.texts) (detail request.now input.now) faults.now) }
 {
     let places = Places::of_texts(alloc, input.texts())?;
     lines_at(alloc, &places, request, input, faults)

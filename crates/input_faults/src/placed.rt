@@ -1,23 +1,23 @@
-//! What is told of a refusal, with the name of its file where there are several.
+//! What is reported of a refusal, with the name of its file where there are several.
 
-ghost use Rattle.std.specs.Prelude.{◌≡◌, ◌<◌, codes, flat_map, if◌then◌else◌};
-ghost use Rattle.auction_input.specs.Told.{told_text};
+ghost use Rattle.std.specs.Prelude.{◌≡◌, ◌<◌, [], codes, flat_map, if◌then◌else◌};
+ghost use Rattle.auction_input.specs.Message.{message_text};
 ghost use Rattle.byte_sinks.specs.Adds.{Adds};
 ghost use Rattle.input_faults.specs.FileNames.{name_byte, shown_name};
-ghost use Rattle.input_faults.specs.PlacedText.{file_name, told_at};
+ghost use Rattle.input_faults.specs.PlacedText.{file_name, message_at, with_other, words_at};
 
 use crate::shown::hex_digit;
 use crate::wording::add_wording;
-use auction_input::{Given, Refusal, Spot, Told};
+use auction_input::{Given, Message, Refusal, Spot};
 use byte_sinks::{Sink, Writer};
 
 // Adds words on a refusal.
-fn add_words<S: Sink>(writer: &mut Writer<'_, S>, told: &Told<'_>)
-    ensures { Adds S.taken S.failures writer.old writer.new (told_text told.now) }
+fn add_words<S: Sink>(writer: &mut Writer<'_, S>, reported: &Message<'_>)
+    ensures { Adds S.taken S.failures writer.old writer.new (message_text reported.now) }
 {
-    add_wording(writer, told.part);
-    add_wording(writer, told.fault);
-    writer.add(told.name);
+    add_wording(writer, reported.part);
+    add_wording(writer, reported.fault);
+    writer.add(reported.name);
 }
 
 // Adds a byte of the name of a file.
@@ -60,22 +60,51 @@ fn file_name(texts: &[Given], text: usize) -> &[u8]
     }
 }
 
-/// Adds what is told of a refusal, which is at that spot of these texts.
-pub fn add_told<S: Sink>(
+// Adds behind what is reported of a form, if it is in another text than its bidder's first form, the name of that text's file.
+fn add_other<S: Sink>(writer: &mut Writer<'_, S>, texts: &[Given], refusal: &Refusal)
+    ensures { Adds S.taken S.failures writer.old writer.new
+        (with_other texts.now refusal.now []) }
+{
+    match refusal {
+        Refusal::AnotherForm(another) => {
+            writer.add(b" is in ");
+            add_file_name(writer, file_name(texts, another.first_text));
+            writer.add(b"; say --last-wins where the later one counts");
+        }
+        _ => writer.add(b""),
+    }
+}
+
+// Adds what is reported of a refusal by itself, which is at that spot of these texts.
+fn add_words_at<S: Sink>(
     writer: &mut Writer<'_, S>,
     texts: &[Given],
     spot: Option<Spot>,
     refusal: &Refusal,
 )
     ensures { Adds S.taken S.failures writer.old writer.new
-        (told_at texts.now spot refusal.now) }
+        (words_at texts.now spot refusal.now) }
 {
     match spot {
         Some(spot) => {
             add_file_name(writer, file_name(texts, spot.text));
             writer.add(b": ");
-            add_words(writer, &refusal.told_as(spot.number));
+            add_words(writer, &refusal.message_as(spot.number));
         }
-        None => add_words(writer, &refusal.told()),
+        None => add_words(writer, &refusal.message()),
     }
+}
+
+/// Adds what is reported of a refusal, which is at that spot of these texts.
+pub fn add_message<S: Sink>(
+    writer: &mut Writer<'_, S>,
+    texts: &[Given],
+    spot: Option<Spot>,
+    refusal: &Refusal,
+)
+    ensures { Adds S.taken S.failures writer.old writer.new
+        (message_at texts.now spot refusal.now) }
+{
+    add_words_at(writer, texts, spot, refusal);
+    add_other(writer, texts, refusal);
 }

@@ -1,19 +1,23 @@
 //! Reading texts, with all faults of each that is refused.
 
-ghost use Rattle.std.specs.Prelude.{◌≡◌, Err, IfOk, MatchOption, Ok, OnOk, false};
-ghost use Rattle.auction_input.specs.TextsTold.{form_told, terms_told};
+ghost use Rattle.std.specs.Prelude.{◌≡◌, Err, IfOk, MatchOption, Ok, OnOk, false, length};
+ghost use Rattle.auction_input.specs.ParsedTexts.{parsed_form, parsed_groups, parsed_terms};
 ghost use Rattle.auction_input.specs.declared.refusal.Refusal.{Refusal};
 ghost use Rattle.auction_terms.specs.AllFaults.{KeepsMore};
 ghost use Rattle.auction_terms.specs.Borrowed.{bytes_of};
+ghost use Rattle.auction_terms.specs.GroupsText.{is_groups_memory};
 ghost use Rattle.auction_terms.specs.RulesText.{is_rules_memory};
 ghost use Rattle.auction_terms.specs.Stages.{each_in_turn};
 ghost use Rattle.bid_forms.specs.FormText.{is_form_memory};
-ghost use Rattle.input_faults.specs.InputFaults.{call_fault, faults_of_form, faults_of_forms, faults_of_groups, faults_of_rules};
+ghost use Rattle.input_faults.specs.InputFaults.{call_fault, faults_of_form, faults_of_forms, faults_of_groups, faults_of_rules, text_fault};
 
 use crate::fault::Fault;
 use crate::merging::{add_form, add_groups, add_rules};
-use auction_input::Calls;
-use auction_terms::{Faults, Rules, RulesFault, group_faults, read_rules, rules_faults};
+use auction_input::{AnotherForm, Calls, FormTexts};
+use auction_terms::{
+    Faults, GroupFault, Groups, Rules, RulesFault, group_faults, read_groups, read_rules,
+    rules_faults,
+};
 use bid_forms::{Form, FormFault, form_faults, read_form};
 use std::alloc::{AllocError, Global};
 
@@ -40,12 +44,37 @@ fn check_form_fault(fault: FormFault) -> Result<(), AllocError>
 /// The rules that a text tells; `None` where it has a fault.
 pub fn rules_in(alloc: Global, text: &[u8]) -> Result<Option<Rules>, AllocError>
     ensures { IfOk result (λ rules. MatchOption rules
-        ((r : Refusal) × (terms_told text.now ≡ Err r)) (λ t. terms_told text.now ≡ Ok t)) }
+        ((r : Refusal) × (parsed_terms text.now ≡ Err r)) (λ t. parsed_terms text.now ≡ Ok t)) }
 {
     match read_rules(alloc, text) {
         Ok(rules) => Ok(Some(rules)),
         Err(fault) => {
             check_rules_fault(fault)?;
+            Ok(None)
+        }
+    }
+}
+
+// Tests that a fault of groups isn't that memory was refused.
+fn check_groups_fault(fault: GroupFault) -> Result<(), AllocError>
+    ensures { OnOk result (is_groups_memory fault ≡ false) }
+{
+    match fault {
+        GroupFault::OutOfMemory => Err(AllocError),
+        _ => Ok(()),
+    }
+}
+
+/// The groups that a text tells under the rules; `None` where it has a fault.
+pub fn groups_in(alloc: Global, text: &[u8], rules: &Rules) -> Result<Option<Groups>, AllocError>
+    ensures { IfOk result (λ groups. MatchOption groups
+        ((r : Refusal) × (parsed_groups rules.now text.now ≡ Err r))
+        (λ lists. parsed_groups rules.now text.now ≡ Ok lists)) }
+{
+    match read_groups(alloc, text, rules) {
+        Ok(groups) => Ok(Some(groups)),
+        Err(fault) => {
+            check_groups_fault(fault)?;
             Ok(None)
         }
     }
@@ -59,7 +88,7 @@ pub fn take_rules(
 ) -> Result<Option<Rules>, AllocError>
     ensures faults { OnOk result (KeepsMore faults.old faults.new (faults_of_rules text.now)) }
     ensures rules { IfOk result (λ rules. MatchOption rules
-        ((r : Refusal) × (terms_told text.now ≡ Err r)) (λ t. terms_told text.now ≡ Ok t)) }
+        ((r : Refusal) × (parsed_terms text.now ≡ Err r)) (λ t. parsed_terms text.now ≡ Ok t)) }
 {
     match read_rules(alloc, text) {
         Ok(rules) => Ok(Some(rules)),
@@ -83,8 +112,8 @@ fn take_form(
     ensures faults { OnOk result (KeepsMore faults.old faults.new
         (faults_of_form rules.now number text.now)) }
     ensures form { IfOk result (λ form. MatchOption form
-        ((r : Refusal) × (form_told rules.now number text.now ≡ Err r))
-        (λ form. form_told rules.now number text.now ≡ Ok form)) }
+        ((r : Refusal) × (parsed_form rules.now number text.now ≡ Err r))
+        (λ form. parsed_form rules.now number text.now ≡ Ok form)) }
 {
     match read_form(alloc, text, rules) {
         Ok(form) => Ok(Some(form)),
@@ -97,30 +126,56 @@ fn take_form(
     }
 }
 
-/// Adds the faults of all forms, and tells the first one without a call, where each is read.
+/// What is wrong with forms together, where each is read.
+#[derive(Clone, Copy)]
+pub struct Together {
+    /// The first form that is in another text than its bidder's first form.
+    pub another: Option<AnotherForm>,
+    /// The number of the first form without a call.
+    pub beyond_limit: Option<usize>,
+}
+
+/// Adds the faults of all forms, each in the text of its number, and tells what is wrong with them together, where each is
+/// read.
 pub fn take_forms(
     alloc: Global,
     faults: &mut Faults<Fault>,
     texts: &[&[u8]],
+    numbers: &[usize],
     rules: &Rules,
-) -> Result<Option<usize>, AllocError>
+    last_wins: bool,
+) -> Result<Together, AllocError>
+    requires { length numbers.now ≡ length texts.now }
     ensures faults { OnOk result (KeepsMore faults.old faults.new
         (faults_of_forms rules.now (bytes_of texts.now))) }
-    ensures call { IfOk result (λ refused. refused
-        ≡ call_fault (each_in_turn (form_told rules.now) 1 (bytes_of texts.now))) }
+    ensures another { IfOk result (λ together. together.another
+        ≡ text_fault last_wins rules.now numbers.now
+        (each_in_turn (parsed_form rules.now) 1 (bytes_of texts.now))) }
+    ensures call { IfOk result (λ together. together.beyond_limit
+        ≡ call_fault (each_in_turn (parsed_form rules.now) 1 (bytes_of texts.now))) }
 {
     let mut calls = Calls::new();
+    let mut known = FormTexts::new();
     let mut all_read = true;
     for place in 0..texts.len() {
         match take_form(alloc, faults, place + 1, texts[place], rules)? {
-            Some(form) => calls.count(place + 1, &form),
+            Some(form) => {
+                calls.count(place + 1, &form);
+                known.add(rules, place + 1, &form, numbers[place]);
+            }
             None => all_read = false,
         }
     }
     if !all_read {
-        return Ok(None);
+        return Ok(Together {
+            another: None,
+            beyond_limit: None,
+        });
     }
-    Ok(calls.refused)
+    Ok(Together {
+        another: if last_wins { None } else { known.refused },
+        beyond_limit: calls.refused,
+    })
 }
 
 /// Adds the faults of a text of groups.

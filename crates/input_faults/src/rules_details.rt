@@ -7,19 +7,19 @@ ghost use Rattle.auction_terms.specs.RulesText.{is_kind, record_kind};
 ghost use Rattle.auction_terms.specs.Wording.{wording_text};
 ghost use Rattle.auction_terms.specs.declared.record_kinds.RecordKind.TheVariants as kinds;
 ghost use Rattle.auction_terms.specs.declared.rules_text.RulesFault.TheVariants as faults;
-ghost use Rattle.input_faults.specs.Details.{count_told, entry_told, header_told, limits_of, rules_told, too_many_told};
+ghost use Rattle.input_faults.specs.Details.{count_message, entry_message, header_message, limits_of, rules_message, too_many_message};
 ghost use Rattle.input_faults.specs.inside.DetailText.{detail_text};
 
 use crate::detail::{Detail, of_field};
-use auction_limits::{GREATEST_AMOUNT, MOST_BIDDERS, MOST_CATEGORIES, MOST_POOLS};
 use auction_terms::{
-    NumberLimits, RecordKind, RulesFault, Version, Wording, field, kind_of, limits_outside,
+    GREATEST_AMOUNT, MOST_BIDDERS, MOST_CATEGORIES, MOST_POOLS, NumberLimits, RecordKind,
+    RulesFault, Version, Wording, field, kind_of, limits_outside,
 };
 use csv::ByteRecord;
 
 // A header without a version.
 fn header_detail(row: &ByteRecord) -> Detail<'_>
-    ensures { detail_text result ≡ header_told (fields_of row.now) }
+    ensures { detail_text result ≡ header_message (fields_of row.now) }
 {
     if row.is_empty() {
         return Detail::Whole(Wording::Words(": there is no record"));
@@ -49,7 +49,7 @@ fn limits_of(version: Version, row: &ByteRecord) -> Option<NumberLimits>
 
 // A number outside its limits.
 fn range_detail(version: Version, row: &ByteRecord, number: usize) -> Detail<'_>
-    ensures { detail_text result ≡ entry_told (fields_of row.now) number
+    ensures { detail_text result ≡ entry_message (fields_of row.now) number
         (faults.NumberRange 0) version }
 {
     match limits_of(version, row) {
@@ -64,7 +64,7 @@ fn range_detail(version: Version, row: &ByteRecord, number: usize) -> Detail<'_>
 
 // A record more than there may be of its kind.
 fn too_many(kind: RecordKind) -> Wording
-    ensures { wording_text result ≡ too_many_told kind }
+    ensures { wording_text result ≡ too_many_message kind }
 {
     match kind {
         RecordKind::Category => Wording::Between(
@@ -80,7 +80,7 @@ fn too_many(kind: RecordKind) -> Wording
 
 // A record more than there may be of its kind, where the version knows it.
 fn too_many_detail<'d>(version: Version, row: &'d ByteRecord) -> Detail<'d>
-    ensures { detail_text result ≡ option_map_or too_many_told
+    ensures { detail_text result ≡ option_map_or too_many_message
         (record_kind version (fields_of row.now)) [] }
 {
     match kind_of(version, row) {
@@ -115,7 +115,7 @@ fn unknown(number: usize) -> Wording
 
 // Another number of fields than are wanted.
 pub(crate) fn count_wording(count: usize, wanted: usize) -> Wording
-    ensures { wording_text result ≡ count_told count wanted }
+    ensures { wording_text result ≡ count_message count wanted }
 {
     Wording::Numbers(": ", count as u64, " fields in place of ", wanted as u64)
 }
@@ -127,7 +127,7 @@ fn entry_detail<'d>(
     number: usize,
     fault: RulesFault,
 ) -> Detail<'d>
-    ensures { detail_text result ≡ entry_told (fields_of row.now) number fault version }
+    ensures { detail_text result ≡ entry_message (fields_of row.now) number fault version }
 {
     match fault {
         RulesFault::FieldCount { .. } => Detail::Whole(count_wording(
@@ -160,7 +160,7 @@ pub fn rules_detail<'d>(
     number: usize,
     fault: RulesFault,
 ) -> Detail<'d>
-    ensures { detail_text result ≡ rules_told version (fields_of row.now) number fault }
+    ensures { detail_text result ≡ rules_message version (fields_of row.now) number fault }
 {
     if let RulesFault::Header { .. } = fault {
         return header_detail(row);

@@ -1,10 +1,9 @@
 //! All faults of an input, as another crate asks for them.
 
 use crate::worked::input_of;
-use auction_input::{Input, Refusal};
+use auction_input::{Input, Refusal, Request};
 use byte_sinks::{LimitSink, MemorySink, WriteFault};
 use input_faults::{explain, input_faults};
-use requests::Request;
 use std::alloc::Global;
 use std::test::Fail;
 

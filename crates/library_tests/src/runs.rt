@@ -2,11 +2,10 @@
 
 use crate::worked::input_of;
 use answers::{RunFault, run, run_compile};
-use auction_input::{Auction, Source, read_auction};
+use auction_input::{Auction, Request, Source, read_auction};
 use byte_sinks::{LimitSink, MemorySink};
 use files::NO_FILES;
 use group_compiler::OpenGate;
-use requests::Request;
 use std::alloc::{AllocError, Global};
 use std::cell::Cell;
 use std::env::Args;
@@ -113,7 +112,7 @@ impl Read for Interrupted<'_> {
 }
 
 /// The words as std tells them.
-fn told(alloc: Global, words: &[&str]) -> io::Result<Args> {
+fn reported(alloc: Global, words: &[&str]) -> io::Result<Args> {
     let mut list = Vec::new(alloc);
     for word in words {
         list.push(String::from_str(alloc, word)?)?;
@@ -186,13 +185,13 @@ fn status_of<R: Threads + Wait + Sync + AllocGlobal>(
     faults: &mut MemorySink,
 ) -> u8 {
     let mut input = Source::new(row.input);
-    let words = told(rt.alloc(), row.words);
+    let words = reported(rt.alloc(), row.words);
     run(rt, words, &NO_FILES, &mut input, out, faults)
 }
 
 /// Whether such a run ends as it has to on a sink that takes so many bytes a put and has so much room: the output's front went
 /// out, and the line tells how many bytes of it.
-fn ends_as_told<R: Threads + Wait + Sync + AllocGlobal>(
+fn ends_as_reported<R: Threads + Wait + Sync + AllocGlobal>(
     rt: &R,
     row: &Run,
     room: usize,
@@ -223,8 +222,8 @@ fn is_end(
 
 /// Whether a line tells that a write failed after so many bytes.
 fn is_line_after(alloc: Global, line: &[u8], room: usize) -> Result<bool, AllocError> {
-    let told = format!(in alloc; "wdp: write failed after {room} bytes\n")?;
-    Ok(line == told.as_bytes())
+    let reported = format!(in alloc; "wdp: write failed after {room} bytes\n")?;
+    Ok(line == reported.as_bytes())
 }
 
 /// Whether a run on this input ends with status 1, this line, and nothing put.
@@ -236,7 +235,7 @@ fn is_refused<R: Threads + Wait + Sync + AllocGlobal, I: Read>(
     let alloc: Global = rt.alloc();
     let mut out = MemorySink::new(alloc);
     let mut faults = MemorySink::new(alloc);
-    let words = told(alloc, &["wdp"]);
+    let words = reported(alloc, &["wdp"]);
     let status = run(rt, words, &NO_FILES, input, &mut out, &mut faults);
     status == 1 && faults.bytes() == line && out.bytes().is_empty()
 }
@@ -275,28 +274,31 @@ fn an_input_without_an_end_is_refused(rt: HostRuntime) {
 }
 
 /// Whether such a run ends as it has to with room for each number of bytes, up to all of them.
-fn end_as_told<R: Threads + Wait + Sync + AllocGlobal>(rt: &R, row: &Run) -> Result<bool, Fail> {
+fn end_as_reported<R: Threads + Wait + Sync + AllocGlobal>(
+    rt: &R,
+    row: &Run,
+) -> Result<bool, Fail> {
     for room in 0..row.output.len() {
-        if !ends_as_told(rt, row, room, 7)? {
+        if !ends_as_reported(rt, row, room, 7)? {
             return Ok(false);
         }
     }
-    ends_as_told(rt, row, row.output.len(), 7)
+    ends_as_reported(rt, row, row.output.len(), 7)
 }
 
 #[test]
 fn outputs_fail_at_every_byte(rt: HostRuntime) -> Result<(), Fail> {
     for row in &RUNS {
         let command = row.words.get(1).unwrap_or(&"no command");
-        assert!(rt; end_as_told(&rt, row)?, "{command}");
+        assert!(rt; end_as_reported(&rt, row)?, "{command}");
     }
     Ok(())
 }
 
 #[test]
 fn a_text_fails_where_no_command_is_given(rt: HostRuntime) -> Result<(), Fail> {
-    assert!(rt; ends_as_told(&rt, &Run::without_a_command(&["wdp"]), 12, 3)?);
-    assert!(rt; ends_as_told(&rt, &Run::without_a_command(&[]), 190, 7)?);
+    assert!(rt; ends_as_reported(&rt, &Run::without_a_command(&["wdp"]), 12, 3)?);
+    assert!(rt; ends_as_reported(&rt, &Run::without_a_command(&[]), 190, 7)?);
     Ok(())
 }
 
@@ -318,11 +320,11 @@ fn fails_at<R: Threads + Wait + Sync>(
         &OpenGate,
         &mut out,
     );
-    Ok(is_told(ended.err(), room) && is_front(out.bytes(), room))
+    Ok(is_reported(ended.err(), room) && is_front(out.bytes(), room))
 }
 
 /// Whether a fault names the group whose program has the byte behind so many.
-fn is_told(fault: Option<RunFault>, room: usize) -> bool {
+fn is_reported(fault: Option<RunFault>, room: usize) -> bool {
     let group = if room < 90 { 1 } else { 2 };
     let written = room as u64;
     fault == Some(RunFault::Sink { group, written })
@@ -357,7 +359,7 @@ fn a_fault_names_the_group_of_the_next_byte(rt: HostRuntime) -> Result<(), Fail>
 }
 
 /// Whether a run on an empty input ends with this status and puts nothing, on a sink of faults that takes no more.
-fn ends_untold<R: Threads + Wait + Sync + AllocGlobal>(
+fn ends_unreported<R: Threads + Wait + Sync + AllocGlobal>(
     rt: &R,
     words: &[&str],
     faults: &mut LimitSink,
@@ -365,15 +367,15 @@ fn ends_untold<R: Threads + Wait + Sync + AllocGlobal>(
 ) -> bool {
     let mut out = MemorySink::new(rt.alloc());
     let mut input = Source::new(b"".as_slice());
-    let words = told(rt.alloc(), words);
+    let words = reported(rt.alloc(), words);
     run(rt, words, &NO_FILES, &mut input, &mut out, faults) == status && out.bytes().is_empty()
 }
 
 #[test]
 fn a_refused_line_changes_no_status(rt: HostRuntime) -> Result<(), Fail> {
     let mut faults = LimitSink::new(rt.alloc(), 5, 3)?;
-    assert!(rt; ends_untold(&rt, &["wdp"], &mut faults, 1));
+    assert!(rt; ends_unreported(&rt, &["wdp"], &mut faults, 1));
     assert!(rt; faults.bytes() == b"wdp: ".as_slice());
-    assert!(rt; ends_untold(&rt, &["wdp", "solve"], &mut faults, 2));
+    assert!(rt; ends_unreported(&rt, &["wdp", "solve"], &mut faults, 2));
     Ok(())
 }

@@ -14,11 +14,11 @@ use denote.Ref.{Bor}
 use Rattle.program_rows.specs.declared.bounds.Bounds.TheVariants.{ZeroOrOne}
 use Rattle.program_rows.specs.Program.{TableColumn}
 use Rattle.program_rows.specs.Parts.{AreEntries}
-use Rattle.line_words.specs.Lines.{LineFields}
-use Rattle.mps_meaning.specs.Described.{columns_named, column_pairs, number_beside}
+use Rattle.auction_terms.specs.LineFields.{LineFields}
+use Rattle.program_rows.specs.MpsProgram.{columns_named, column_pairs, number_beside}
 use Rattle.mps_reader.specs.inside.Columns.{same_place, ColumnsFit, AddsColumn, entries_at}
 use Rattle.mps_reader.specs.inside.Rows.{names_of}
-use Rattle.mps_reader.specs.inside.Tracking.{number_at_place, OpenTells, ColumnsTell, ColumnAdded, told_column, told_values, state_values}
+use Rattle.mps_reader.specs.inside.Tracking.{number_at_place, OpenTells, ColumnsTell, ColumnAdded, gathered_column, parsed_values, state_values}
 use Rattle.mps_reader.specs.declared.column_table.ColumnTable.{ColumnTable}
 use Rattle.mps_reader.proofs.NameFacts.{all-push}
 use Rattle.mps_reader.proofs.EntryFacts.{sorted-entries}
@@ -88,20 +88,20 @@ not-zero z h = false_from_ne_true _ (λ e. h ((Decides-int_eq z (pos 0)).0 e))
 more-rows : (a b : ℕ) (es : List (ℕ × ℤ)) → a ≡ b → AreEntries a es → AreEntries b es
 more-rows a b es e h = subst (λ n. AreEntries n es) e h
 
-pub entries-told : (k : ℕ) (f : List ℕ → ℤ) (rows : List (List ℕ)) (es : List (ℕ × ℤ)) → AllByRecursion (λ e. k ≤ e.0) es → AreEntries (k + length rows) es
+pub entries-parsed : (k : ℕ) (f : List ℕ → ℤ) (rows : List (List ℕ)) (es : List (ℕ × ℤ)) → AllByRecursion (λ e. k ≤ e.0) es → AreEntries (k + length rows) es
     → ((j : ℕ) (n : List ℕ) → slice_get rows j ≡ Some n → number_at_place (k + j) es ≡ f n) → entries_at k f rows ≡ es
-entries-told k f [] [] from legal h = refl
-entries-told k f [] (e ∷ es) from legal h = let a = legal.0 in let b = from.0 in absurd (omega arith)
-entries-told k f (n ∷ rows) [] from legal h =
+entries-parsed k f [] [] from legal h = refl
+entries-parsed k f [] (e ∷ es) from legal h = let a = legal.0 in let b = from.0 in absurd (omega arith)
+entries-parsed k f (n ∷ rows) [] from legal h =
     let none : f n ≡ pos 0 = sym (h 0 n refl) in
-    rw (zero-eq (f n) none) (entries-told (suc k) f rows [] tt tt (λ j m at. h (suc j) m at))
-entries-told k f (n ∷ rows) (e ∷ es) from legal h =
+    rw (zero-eq (f n) none) (entries-parsed (suc k) f rows [] tt tt (λ j m at. h (suc j) m at))
+entries-parsed k f (n ∷ rows) (e ∷ es) from legal h =
     by (eq-or-lt_of_le from.0)
-    (λ same. entries-told (suc k) f rows es (from-next k es (subst (λ q. AllByRecursion (λ e. q < e.0) es) (sym same) legal.2)) (more-rows _ _ es (omega arith) legal.3)
+    (λ same. entries-parsed (suc k) f rows es (from-next k es (subst (λ q. AllByRecursion (λ e. q < e.0) es) (sym same) legal.2)) (more-rows _ _ es (omega arith) legal.3)
     (λ j m at. let other : (e.0 == k + suc j) ≡ false = ne_eqb e.0 (k + suc j) (λ q. omega arith) in
     let there : number_at_place (k + suc j) es ≡ f m = let whole : number_at_place (k + suc j) (e ∷ es) ≡ number_at_place (k + suc j) es = rw other refl in sym whole ∙ h (suc j) m at in
     subst (λ q. number_at_place q es ≡ f m) (omega arith) there))
-    (λ lt. entries-told (suc k) f rows (e ∷ es) (omega arith, from-next k es (above k e.0 es (omega arith) legal.2)) (more-rows _ _ (e ∷ es) (omega arith) legal)
+    (λ lt. entries-parsed (suc k) f rows (e ∷ es) (omega arith, from-next k es (above k e.0 es (omega arith) legal.2)) (more-rows _ _ (e ∷ es) (omega arith) legal)
     (λ j m at. subst (λ q. number_at_place q (e ∷ es) ≡ f m) (omega arith) (h (suc j) m at)))
   where
     by : (k ≡ e.0) ⊎ (k < e.0) → (k ≡ e.0 → entries_at (suc k) f rows ≡ es) → (k < e.0 → entries_at (suc k) f rows ≡ e ∷ es) → entries_at k f (n ∷ rows) ≡ e ∷ es
@@ -135,7 +135,7 @@ closed-tells o rows lines bounds old new sorted name cost fit current spent move
   names = ap names_of names ∙ h.names;
   begun = begun ∙ h.begun;
   states = ap (λ s. map state_values s.items) states ∙ h.states;
-  done = subst (λ ks. AllByRecursion (λ (k : TableColumn). k ≡ told_column o rows lines k.name) ks) (sym done) (all-push (λ (k : TableColumn). k ≡ told_column o rows lines k.name) old.done last h.done told);
+  done = subst (λ ks. AllByRecursion (λ (k : TableColumn). k ≡ gathered_column o rows lines k.name) ks) (sym done) (all-push (λ (k : TableColumn). k ≡ gathered_column o rows lines k.name) old.done last h.done parsed);
   opened = subst (λ c. IfSome c (λ n. OpenTells o rows (number_beside (column_pairs lines n.now)) new.current_column)) (sym none) tt;
   closed = λ e. nothing;
 }
@@ -154,19 +154,19 @@ closed-tells o rows lines bounds old new sorted name cost fit current spent move
     from (e ∷ es) = (omega arith, from es)
 
     entries : sorted ≡ entries_at 0 (number_beside (column_pairs lines name.now)) rows
-    entries = sym (entries-told 0 (number_beside (column_pairs lines name.now)) rows sorted (from sorted) (more-rows _ _ sorted (omega arith) legal)
+    entries = sym (entries-parsed 0 (number_beside (column_pairs lines name.now)) rows sorted (from sorted) (more-rows _ _ sorted (omega arith) legal)
         (λ j n at. subst (λ q. number_at_place q sorted ≡ number_beside (column_pairs lines name.now) n) (omega arith) (worth-moved old.current_column.entries.items sorted j moved fit.opened.distinct (entries-distinct (length rows) sorted legal) ∙ current-tells.entries j n at)))
 
-    told : last ≡ told_column o rows lines name.now
-    told = ap (λ z. record { name = name.now; bounds = ZeroOrOne; cost = z; entries = sorted }) (spent ∙ current-tells.cost) ∙ ap (λ es. record { name = name.now; bounds = ZeroOrOne; cost = number_beside (column_pairs lines name.now) (unwrap_or o []); entries = es }) entries
+    parsed : last ≡ gathered_column o rows lines name.now
+    parsed = ap (λ z. record { name = name.now; bounds = ZeroOrOne; cost = z; entries = sorted }) (spent ∙ current-tells.cost) ∙ ap (λ es. record { name = name.now; bounds = ZeroOrOne; cost = number_beside (column_pairs lines name.now) (unwrap_or o []); entries = es }) entries
 
 pub added-tells : (o : Option (List ℕ)) (rows : List (List ℕ)) (lines : List LineFields) (old new : ColumnTable) (name : List ℕ) → ColumnsFit (length rows) old → is_some old.current ≡ false → AddsColumn name old new → ColumnsTell o rows lines [] old → ColumnAdded o rows lines name new
 added-tells o rows lines old new name fit none adds h = record {
   fresh = ap (list_any (bytes_eq name)) (sym h.names) ∙ adds.fresh;
   all = adds.names ∙ ap (λ ns. ns ++ name ∷ []) h.names;
   begun = adds.begun ∙ h.begun;
-  states = ap (map state_values) adds.states ∙ map_push state_values old.states.items _ ∙ ap (λ ss. ss ++ (old.is_begun, pos 0, None) ∷ []) h.states ∙ ap (λ b. map (told_values lines []) (columns_named lines) ++ (b, pos 0, None) ∷ []) h.begun;
-  done = subst (λ ks. AllByRecursion (λ (k : TableColumn). k ≡ told_column o rows lines k.name) ks) (sym adds.done) h.done;
+  states = ap (map state_values) adds.states ∙ map_push state_values old.states.items _ ∙ ap (λ ss. ss ++ (old.is_begun, pos 0, None) ∷ []) h.states ∙ ap (λ b. map (parsed_values lines []) (columns_named lines) ++ (b, pos 0, None) ∷ []) h.begun;
+  done = subst (λ ks. AllByRecursion (λ (k : TableColumn). k ≡ gathered_column o rows lines k.name) ks) (sym adds.done) h.done;
   cost = ap (λ c. c.cost) adds.opened ∙ h.closed none;
   entries = ap (λ c. c.entries.items) adds.opened ∙ fit.closed none;
 }

@@ -1,21 +1,21 @@
 -- A data line more.
 use Rattle.std.proofs.Common.{◌≡◌, ℕ, ◌+◌, false, List, [], ◌∷◌, ◌++◌, length, map, refl, sym, ap, subst, ◌∙◌, Option, Some, None}
 use Rattle.std.specs.Prelude.{◌==◌, not, is_some, codes, bytes_eq, flat_map}
-use Rattle.mps_meaning.specs.declared.fault.FaultKind.TheVariants.{Fields, RowType, RowRepeated}
+use Rattle.program_rows.specs.declared.mps_fault_kind.MpsFaultKind.TheVariants.{Fields, RowType, RowRepeated}
 use Rattle.std.specs.List.{list_any, AllByRecursion}
 use Rattle.std.specs.Option.{option_map_or, option_to_list}
 use denote.Ref.{Bor}
-use Rattle.line_words.specs.Lines.{LineFields, field}
-use Rattle.mps_meaning.specs.MpsLines.{Data}
-use Rattle.mps_meaning.specs.Sections.{Sections, with_line}
-use Rattle.mps_meaning.specs.Described.{is_one_of, first_free, number_beside, line_right_sides}
-use Rattle.mps_meaning.specs.Faults.{earliest_fault, is_declared, row_fault, column_fault, right_side_fault, bound_fault, fault}
+use Rattle.auction_terms.specs.LineFields.{LineFields, field}
+use Rattle.program_rows.specs.MpsLines.{Data}
+use Rattle.program_rows.specs.MpsSections.{Sections, with_line}
+use Rattle.program_rows.specs.MpsProgram.{is_one_of, first_free, number_beside, line_right_sides}
+use Rattle.program_rows.specs.MpsFaults.{earliest_fault, is_declared, row_fault, column_fault, right_side_fault, bound_fault, fault}
 use Rattle.program_rows.specs.Program.{TableColumn}
 use Rattle.mps_reader.specs.inside.Rows.{names_of, option_now, declared_row_names, StampsAre, bound_lines_of}
 use Rattle.mps_reader.specs.inside.Columns.{ColumnsFit}
 use Rattle.mps_reader.specs.inside.Agreeing.{ReadingFits, IsClosed}
 use Rattle.mps_reader.specs.inside.Sections.{word_of}
-use Rattle.mps_reader.specs.inside.Tracking.{SectionTells, InRows, InColumns, InRightSides, AreStampsUpTo, ReadingTells, RowsTell, ColumnsTell, told_column}
+use Rattle.mps_reader.specs.inside.Tracking.{SectionTells, InRows, InColumns, InRightSides, AreStampsUpTo, ReadingTells, RowsTell, ColumnsTell, gathered_column}
 use Rattle.mps_reader.specs.declared.sections.Section.TheVariants as sections
 use Rattle.mps_reader.specs.declared.row_table.Rows.{Rows}
 use Rattle.mps_reader.specs.declared.column_table.ColumnTable.{ColumnTable}
@@ -69,17 +69,17 @@ columns-unnamed o other rows more count lines bounds c none fit closed h =
       names = h.names;
       begun = h.begun;
       states = h.states;
-      done = subst (λ ks. AllByRecursion (λ (k : TableColumn). k ≡ told_column other more lines k.name) ks) (sym done) tt;
+      done = subst (λ ks. AllByRecursion (λ (k : TableColumn). k ≡ gathered_column other more lines k.name) ks) (sym done) tt;
       opened = no-column _ c.current closed;
       closed = h.closed;
     }
 
 pub row-step : (before : Sections) (f : LineFields) (r : Reading) (new : Rows) → r.section ≡ sections.Rows → ReadingFits r → ((lines : List LineFields) → RowsTell lines [] r.rows → RowsTell (f ∷ lines) [] new)
     → ((most : ℕ) → AreStampsUpTo most r.rows → AreStampsUpTo most new) → ReadingTells before r → ReadingTells (with_line before (Data f)) (record r { rows = new })
-row-step before f r new is fit told low h =
+row-step before f r new is fit parsed low h =
     let at : InRows before.columns before.right_sides before.bounds r.rows r.columns = subst (λ s. SectionTells s before.rows before.columns before.right_sides before.bounds r.rows r.columns) is h.lines.of_section in
     let closed : is_some r.columns.current ≡ false = subst (λ s. IsClosed s r.columns) is fit.closed in
-    let rows = told before.rows (subst (λ hs. RowsTell before.rows hs r.rows) at.no_rights h.lines.of_rows) in
+    let rows = parsed before.rows (subst (λ hs. RowsTell before.rows hs r.rows) at.no_rights h.lines.of_rows) in
     tells-rows before f (record r { rows = new }) (h.section ∙ ap word_of is) h.section (record {
       of_rows = subst (λ hs. RowsTell (f ∷ before.rows) hs new) (sym at.no_rights) rows;
       of_columns = columns-unnamed _ _ _ _ (length r.rows.rows.items) before.columns before.bounds r.columns at.no_lines fit.both.columns closed h.lines.of_columns;
@@ -104,13 +104,13 @@ at-right-sides before r is h = subst (λ s. SectionTells s before.rows before.co
 
 pub right-step : (before : Sections) (f : LineFields) (r : Reading) (new : Rows) → r.section ≡ sections.RightSides → new.names ≡ r.rows.names → new.objective ≡ r.rows.objective → RowsTell before.rows (f ∷ before.right_sides) new
     → StampsAre new.stamps.items (length (names_of r.columns.names) + 1) (names_of r.rows.names) (λ row. list_any (λ other. bytes_eq row other.0) (flat_map line_right_sides (f ∷ before.right_sides))) → ReadingTells before r → ReadingTells (with_line before (Data f)) (record r { rows = new })
-right-step before f r new is names objective told stamps h =
+right-step before f r new is names objective parsed stamps h =
     let at = at-right-sides before r is h in
     let same : declared_row_names new.rows.items ≡ declared_row_names r.rows.rows.items =
-    row-names-by new.rows.items (number_beside (flat_map line_right_sides (f ∷ before.right_sides))) (bound_lines_of before.rows) told.shown
+    row-names-by new.rows.items (number_beside (flat_map line_right_sides (f ∷ before.right_sides))) (bound_lines_of before.rows) parsed.shown
     ∙ sym (row-names-by r.rows.rows.items (number_beside (flat_map line_right_sides before.right_sides)) (bound_lines_of before.rows) h.lines.of_rows.shown) in
     tells-right-sides before f (record r { rows = new }) (h.section ∙ ap word_of is) h.section (record {
-      of_rows = told;
+      of_rows = parsed;
       of_columns = subst (λ o. ColumnsTell (option_now o) (declared_row_names new.rows.items) before.columns before.bounds r.columns) (sym objective)
           (subst (λ ns. ColumnsTell (option_now r.rows.objective) ns before.columns before.bounds r.columns) (sym same) h.lines.of_columns);
       of_section = subst (λ s. SectionTells s before.rows before.columns (f ∷ before.right_sides) before.bounds new r.columns) (sym is)
@@ -121,9 +121,9 @@ right-step before f r new is names objective told stamps h =
 
 pub bound-step : (before : Sections) (f : LineFields) (r : Reading) (columns : ColumnTable) → r.section ≡ sections.Bounds
     → ColumnsTell (option_now r.rows.objective) (declared_row_names r.rows.rows.items) before.columns (f ∷ before.bounds) columns → ReadingTells before r → ReadingTells (with_line before (Data f)) (record r { columns = columns })
-bound-step before f r columns is told h = tells-bounds before f (record r { columns = columns }) (h.section ∙ ap word_of is) h.section (record {
+bound-step before f r columns is parsed h = tells-bounds before f (record r { columns = columns }) (h.section ∙ ap word_of is) h.section (record {
   of_rows = h.lines.of_rows;
-  of_columns = told;
+  of_columns = parsed;
   of_section = subst (λ s. SectionTells s before.rows before.columns before.right_sides (f ∷ before.bounds) r.rows columns) (sym is) tt;
 })
 

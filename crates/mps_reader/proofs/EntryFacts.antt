@@ -32,7 +32,7 @@ are-entries count [] up apart inside = tt
 are-entries count (x ∷ xs) up apart inside =
     (inside.0.0, inside.0.1, later x xs (λ j d lt. up 0 (suc j) d (omega arith) (omega arith)) apart.0, are-entries count xs (λ i j d le lt. up (suc i) (suc j) d (omega arith) (omega arith)) apart.1 inside.1)
 
--- a sort keeps what holds of each entry, and that each place stands once
+-- a sort keeps what holds of each entry, and that each place comes once
 pub sorted-entries : (count : ℕ) (xs ys : List (ℕ × ℤ)) → IsPermutation xs ys → IsNonDecreasingBy (λ e. e.0) ys → AreDistinctEntries count xs → AreEntries count ys
 sorted-entries count xs ys moved up d =
     let inside = recursion_from_All (λ (e : ℕ × ℤ). (e.0 < count) × (e.1 ≢ pos 0)) ys (All-permutation (λ (e : ℕ × ℤ). (e.0 < count) × (e.1 ≢ pos 0)) xs ys moved (All-from_recursion (λ (e : ℕ × ℤ). (e.0 < count) × (e.1 ≢ pos 0)) xs d.inside)) in

@@ -8,8 +8,8 @@ use Rattle.std.proofs.lemmas.Bool.Decides.{nat_tests}
 use Rattle.std.proofs.lemmas.Grind.{common_steps}
 use Rattle.std.proofs.lemmas.List.{drop_all}
 use Rattle.std.proofs.lemmas.List.Sums.{position_or_len_is, passes_at_first, prefix_len-le-length}
-use Rattle.line_words.specs.Lines.{fields, is_space}
-use Rattle.line_words.proofs.FieldLaws.{skipped, first_field}
+use Rattle.auction_terms.specs.LineFields.{fields, is_space}
+use Rattle.auction_terms.proofs.FieldLaws.{skipped, first_field}
 use Rattle.program_rows.specs.Parts.{IsName}
 use Rattle.mps_reader.specs.inside.Reading.{is_other, is_text_byte}
 
@@ -67,7 +67,7 @@ pub fields_names : (bs : List ℕ) → list_all is_text_byte bs ≡ true → All
 unfolding fields
 fields_names bs h = take-all 6 (filter (λ part. not (length part == 0)) (slice_split is_space bs)) (filled-names (slice_split is_space bs) (parts-printable bs h))
 
--- white space behind a field is no part of the next
+-- white space after a field is no part of the next
 space-first : (b : ℕ) (bs : List ℕ) → is_space b ≡ true → fields (b ∷ bs) ≡ fields bs
 unfolding fields
 space-first b bs h = rw h refl

@@ -7,20 +7,20 @@ use Rattle.std.specs.Option.{option_map_or}
 use Rattle.std.proofs.lemmas.List.{length-drop, length-map, drop-map}
 use Rattle.std.proofs.Math.Seq.{take-length}
 use denote.Ref.{Bor}
-use Rattle.line_words.specs.Lines.{LineFields, field}
-use Rattle.mps_meaning.specs.MpsLines.{Header}
-use Rattle.mps_meaning.specs.Sections.{Sections, with_line}
-use Rattle.mps_meaning.specs.Described.{first_free, columns_named}
-use Rattle.mps_meaning.specs.Faults.{place_of, header_fault, is_binary}
-use Rattle.mps_meaning.specs.declared.fault.FaultKind.{FaultKind}
-use Rattle.mps_meaning.specs.declared.fault.FaultKind.TheVariants.{NotBinary}
+use Rattle.auction_terms.specs.LineFields.{LineFields, field}
+use Rattle.program_rows.specs.MpsLines.{Header}
+use Rattle.program_rows.specs.MpsSections.{Sections, with_line}
+use Rattle.program_rows.specs.MpsProgram.{first_free, columns_named}
+use Rattle.program_rows.specs.MpsFaults.{place_of, header_fault, is_binary}
+use Rattle.program_rows.specs.declared.mps_fault_kind.MpsFaultKind.{MpsFaultKind}
+use Rattle.program_rows.specs.declared.mps_fault_kind.MpsFaultKind.TheVariants.{NotBinary}
 use Rattle.auction_terms.specs.Borrowed.{bytes_of}
 use Rattle.mps_reader.specs.inside.Rows.{option_now, declared_row_names}
 use Rattle.mps_reader.specs.inside.Columns.{ColumnsFit}
 use Rattle.mps_reader.specs.inside.Agreeing.{ReadingFits}
 use Rattle.mps_reader.specs.inside.Sections.{word_of}
 use Rattle.mps_reader.specs.inside.States.{is_binary_state, below_or_equal}
-use Rattle.mps_reader.specs.inside.Tracking.{ReadingTells, ColumnsTell, state_values, told_values, bit}
+use Rattle.mps_reader.specs.inside.Tracking.{ReadingTells, ColumnsTell, state_values, parsed_values, bit}
 use Rattle.mps_reader.specs.declared.column_state.ColumnState.{ColumnState}
 use Rattle.mps_reader.specs.declared.sections.Section.{Section}
 use Rattle.mps_reader.specs.declared.column_table.ColumnTable.{ColumnTable}
@@ -54,12 +54,12 @@ state-binary s = ap (λ b. s.is_integer && b) (by s.upper s.lower)
     by (Some false) true = refl
     by _ _ = refl
 
-at-or-len : (before : Sections) (ss : List ColumnState) (ns : List (List ℕ)) → map state_values ss ≡ map (told_values before.columns before.bounds) ns
+at-or-len : (before : Sections) (ss : List ColumnState) (ns : List (List ℕ)) → map state_values ss ≡ map (parsed_values before.columns before.bounds) ns
     → position_or_len (λ s. not (is_binary_state s)) ss ≡ position_or_len (λ n. not (is_binary before n)) ns
 at-or-len before [] [] h = refl
 at-or-len before (s ∷ ss) (n ∷ ns) h =
-    let head : state_values s ≡ told_values before.columns before.bounds n = cc in
-    let rest : map state_values ss ≡ map (told_values before.columns before.bounds) ns = cc in
+    let head : state_values s ≡ parsed_values before.columns before.bounds n = cc in
+    let rest : map state_values ss ≡ map (parsed_values before.columns before.bounds) ns = cc in
     by (not (is_binary before n)) (ap not (state-binary s ∙ ap binary-values head)) (at-or-len before ss ns rest)
   where
     by : (b : Bool) → not (is_binary_state s) ≡ b → position_or_len (λ x. not (is_binary_state x)) ss ≡ position_or_len (λ x. not (is_binary before x)) ns
@@ -68,10 +68,10 @@ at-or-len before (s ∷ ss) (n ∷ ns) h =
     by false e more = rw e (ap (λ (k : ℕ). 1 + k) more)
 at-or-len before _ _ h = absurd cc
 
-pub first-open : (before : Sections) (states : List ColumnState) → map state_values states ≡ map (told_values before.columns before.bounds) (columns_named before.columns)
+pub first-open : (before : Sections) (states : List ColumnState) → map state_values states ≡ map (parsed_values before.columns before.bounds) (columns_named before.columns)
     → option_map NotBinary (position (λ s. not (is_binary_state s)) states) ≡ option_map NotBinary (position (λ column. not (is_binary before column)) (columns_named before.columns))
 first-open before states h =
-    let size : length states ≡ length (columns_named before.columns) = sym (length-map states state_values) ∙ ap length h ∙ length-map (columns_named before.columns) (told_values before.columns before.bounds) in
+    let size : length states ≡ length (columns_named before.columns) = sym (length-map states state_values) ∙ ap length h ∙ length-map (columns_named before.columns) (parsed_values before.columns before.bounds) in
     rw (at-or-len before states (columns_named before.columns) h, size) refl
 
 -- ---- a section opens
@@ -89,9 +89,9 @@ header-tells before word more r s columns up is names none closed fit h = record
 }
 
 -- what is left of a header's checks at the end
-pub end-fault : (before : Sections) (word : List ℕ) (fault last : Option FaultKind) → fault ≡ (if bytes_eq word (codes "ENDATA") then option_map NotBinary (position (λ column. not (is_binary before column)) (columns_named before.columns)) else None)
+pub end-fault : (before : Sections) (word : List ℕ) (fault last : Option MpsFaultKind) → fault ≡ (if bytes_eq word (codes "ENDATA") then option_map NotBinary (position (λ column. not (is_binary before column)) (columns_named before.columns)) else None)
     → bytes_eq word (codes "ENDATA") ≡ true → option_map NotBinary (position (λ column. not (is_binary before column)) (columns_named before.columns)) ≡ last → fault ≡ last
 end-fault before word fault last h is e = h ∙ rw is e
 
-pub other-fault : (word : List ℕ) (fault last : Option FaultKind) → fault ≡ (if bytes_eq word (codes "ENDATA") then last else None) → bytes_eq word (codes "ENDATA") ≡ false → fault ≡ None
+pub other-fault : (word : List ℕ) (fault last : Option MpsFaultKind) → fault ≡ (if bytes_eq word (codes "ENDATA") then last else None) → bytes_eq word (codes "ENDATA") ≡ false → fault ≡ None
 other-fault word fault last h is = h ∙ rw is refl

@@ -23,6 +23,6 @@ pub mod SectionTells
 pub mod DataTells
 pub mod HeaderTells
 pub mod LineAnswers
-pub mod ProgramTold
+pub mod ParsedProgram
 pub mod FitFacts
 pub mod EndFacts

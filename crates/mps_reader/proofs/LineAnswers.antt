@@ -1,13 +1,13 @@
 -- A line, whatever it is.
 use Rattle.std.proofs.Common.{◌≡◌, ℕ, ◌+◌, List, [], ◌∷◌, length, map, drop, refl, sym, ap, subst, ◌∙◌, arith, Some, None, true, false}
 use Rattle.std.specs.Prelude.{Ok}
-use Rattle.line_words.specs.Lines.{LineFields, field}
-use Rattle.mps_meaning.specs.MpsLines.{Line, Skipped, Unprintable, Header, Data, line_of}
-use Rattle.mps_meaning.specs.Sections.{Sections, no_lines, with_line, is_end}
-use Rattle.mps_meaning.specs.Described.{program}
-use Rattle.mps_meaning.specs.Faults.{fault, header_fault}
-use Rattle.mps_meaning.specs.Meaning.{meaning, meaning_behind}
-use Rattle.mps_meaning.specs.declared.fault.FaultKind.TheVariants.{NotText}
+use Rattle.auction_terms.specs.LineFields.{LineFields, field}
+use Rattle.program_rows.specs.MpsLines.{Line, Skipped, Unprintable, Header, Data, line_of}
+use Rattle.program_rows.specs.MpsSections.{Sections, no_lines, with_line, is_end}
+use Rattle.program_rows.specs.MpsProgram.{program}
+use Rattle.program_rows.specs.MpsFaults.{fault, header_fault}
+use Rattle.program_rows.specs.MpsMeaning.{meaning, meaning_behind}
+use Rattle.program_rows.specs.declared.mps_fault_kind.MpsFaultKind.TheVariants.{NotText}
 use Rattle.auction_terms.specs.Lines.{lines_of}
 use Rattle.mps_reader.specs.inside.Reading.{AreFirst}
 use Rattle.mps_reader.specs.inside.Tracking.{ReadingTells}

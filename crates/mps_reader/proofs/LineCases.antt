@@ -3,8 +3,8 @@ use Rattle.std.proofs.Common.{◌≡◌, ℕ, suc, ◌≤◌, true, false, List,
 use Rattle.std.specs.Prelude.{◌==◌, slice_index}
 use Rattle.std.specs.List.{list_all, AllByRecursion}
 use Rattle.std.proofs.lemmas.Bool.{eqb-true, eqb-false, ne_eqb}
-use Rattle.line_words.specs.Lines.{fields, is_space, field}
-use Rattle.mps_meaning.specs.MpsLines.{Skipped, Unprintable, Data, line_of, Header}
+use Rattle.auction_terms.specs.LineFields.{fields, is_space, field}
+use Rattle.program_rows.specs.MpsLines.{Skipped, Unprintable, Data, line_of, Header}
 use Rattle.program_rows.specs.Parts.{IsName}
 use Rattle.mps_reader.specs.inside.Reading.{AreFirst, is_text_byte}
 use Rattle.mps_reader.proofs.FieldFacts.{fields_names}

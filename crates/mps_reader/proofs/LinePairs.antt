@@ -1,11 +1,11 @@
--- The pairs of a line of RHS, and of one of COLUMNS behind the column.
+-- The pairs of a line of RHS, and of one of COLUMNS after the column.
 use Rattle.std.proofs.Common.{◌≡◌, ◌≢◌, ℕ, Bool, true, false, ◌||◌, List, [], ◌∷◌, ◌++◌, length, map, drop, refl, sym, ap, subst, ◌∙◌, arith, Option, Some, ℤ, pos, get_or}
 use Rattle.std.specs.Prelude.{◌==◌, bytes_eq, find, if◌then◌else◌}
 use Rattle.std.specs.Option.{option_map_or}
 use Rattle.std.proofs.lemmas.Bool.{both_ways, eqb-true}
 use denote.Ref.{Bor}
 use Rattle.auction_terms.specs.Borrowed.{bytes_of}
-use Rattle.mps_meaning.specs.Described.{pairs, value, number_beside}
+use Rattle.program_rows.specs.MpsProgram.{pairs, value, number_beside}
 use Rattle.mps_reader.specs.inside.Rows.{StampsAre}
 use Rattle.mps_reader.specs.inside.Tracking.{OpenTells}
 use Rattle.mps_reader.specs.declared.open_column.OpenColumn.{OpenColumn}
@@ -77,7 +77,7 @@ swap-or : (a b c : Bool) → (a || (b || c)) ≡ (b || (a || c))
 swap-or true true c = refl
 swap-or _ _ c = refl
 
--- where the rows differ, the order doesn't matter
+-- if the rows differ, the order doesn't matter
 number-two : (row number row2 number2 : List ℕ) (earlier : List (List ℕ × List ℕ)) → bytes_eq row2 row ≡ false → (n : List ℕ)
     → (if bytes_eq n row2 then value number2 else number_beside ((row, number) ∷ earlier) n) ≡ number_beside ((row, number) ∷ (row2, number2) ∷ earlier) n
 number-two row number row2 number2 earlier differ n = by (bytes_eq n row2) (bytes_eq n row) refl refl

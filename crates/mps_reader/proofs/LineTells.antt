@@ -12,15 +12,15 @@ use Rattle.std.proofs.Math.Bool.{and_comm}
 use denote.Ref.{Bor}
 use Rattle.program_rows.specs.declared.bounds.Bounds.TheVariants.{ZeroOrOne}
 use Rattle.program_rows.specs.Program.{TableColumn}
-use Rattle.line_words.specs.Lines.{LineFields, field}
-use Rattle.mps_meaning.specs.Sections.{Sections}
-use Rattle.mps_meaning.specs.Described.{pairs, is_marker, column_lines, columns_named, column_pairs, number_beside, is_column}
-use Rattle.mps_meaning.specs.Faults.{is_integer_open, stands_in_integers, is_split, column_fault, pairs_fault}
-use Rattle.mps_meaning.specs.declared.fault.FaultKind.{FaultKind}
-use Rattle.mps_meaning.specs.declared.fault.FaultKind.TheVariants.{ColumnSplit}
+use Rattle.auction_terms.specs.LineFields.{LineFields, field}
+use Rattle.program_rows.specs.MpsSections.{Sections}
+use Rattle.program_rows.specs.MpsProgram.{pairs, is_marker, column_lines, columns_named, column_pairs, number_beside, is_column}
+use Rattle.program_rows.specs.MpsFaults.{is_integer_open, stands_in_integers, is_split, column_fault, pairs_fault}
+use Rattle.program_rows.specs.declared.mps_fault_kind.MpsFaultKind.{MpsFaultKind}
+use Rattle.program_rows.specs.declared.mps_fault_kind.MpsFaultKind.TheVariants.{ColumnSplit}
 use Rattle.mps_reader.specs.inside.Columns.{ColumnsFit, entries_at, nearest_column}
 use Rattle.mps_reader.specs.inside.Rows.{names_of, option_now, declared_row_names, StampsAre, RowsFit}
-use Rattle.mps_reader.specs.inside.Tracking.{number_at_place, OpenTells, ColumnsTell, ColumnAdded, InColumns, AreStampsUpTo, told_column, told_values, state_values, is_current}
+use Rattle.mps_reader.specs.inside.Tracking.{number_at_place, OpenTells, ColumnsTell, ColumnAdded, InColumns, AreStampsUpTo, gathered_column, parsed_values, state_values, is_current}
 use Rattle.mps_reader.specs.declared.column_table.ColumnTable.{ColumnTable}
 use Rattle.mps_reader.specs.declared.open_column.OpenColumn.{OpenColumn}
 use Rattle.mps_reader.specs.declared.row_table.Rows.{Rows}
@@ -75,19 +75,19 @@ no-pairs name lines h = ap (flat_map (λ fields. pairs (drop 1 fields))) (none-n
 -- ---- whether columns are integers
 
 -- the values of the columns of a list, before any bound
-pub values-same : (f : LineFields) (lines : List LineFields) (ns : List (List ℕ)) → ((n : List ℕ) → list_any (bytes_eq n) ns ≡ true → stands_in_integers n (f ∷ lines) ≡ stands_in_integers n lines) → map (told_values (f ∷ lines) []) ns ≡ map (told_values lines []) ns
+pub values-same : (f : LineFields) (lines : List LineFields) (ns : List (List ℕ)) → ((n : List ℕ) → list_any (bytes_eq n) ns ≡ true → stands_in_integers n (f ∷ lines) ≡ stands_in_integers n lines) → map (parsed_values (f ∷ lines) []) ns ≡ map (parsed_values lines []) ns
 values-same f lines ns h = go ns (λ n k. k)
   where
     later : (a b : Bool) → b ≡ true → (a || b) ≡ true
     later true b e = refl
     later false b e = e
 
-    go : (ms : List (List ℕ)) → ((n : List ℕ) → list_any (bytes_eq n) ms ≡ true → list_any (bytes_eq n) ns ≡ true) → map (told_values (f ∷ lines) []) ms ≡ map (told_values lines []) ms
+    go : (ms : List (List ℕ)) → ((n : List ℕ) → list_any (bytes_eq n) ms ≡ true → list_any (bytes_eq n) ns ≡ true) → map (parsed_values (f ∷ lines) []) ms ≡ map (parsed_values lines []) ms
     go [] k = refl
     go (m ∷ ms) k =
         let own : list_any (bytes_eq m) (m ∷ ms) ≡ true = rw (own_name m) refl in
-        let first : told_values (f ∷ lines) [] m ≡ told_values lines [] m = ap (λ b. (b || false, pos 0, None)) (h m (k m own)) in
-        ap (λ v. v ∷ map (told_values (f ∷ lines) []) ms) first ∙ ap (λ vs. told_values lines [] m ∷ vs) (go ms (λ n e. k n (later (bytes_eq n m) (list_any (bytes_eq n) ms) e)))
+        let first : parsed_values (f ∷ lines) [] m ≡ parsed_values lines [] m = ap (λ b. (b || false, pos 0, None)) (h m (k m own)) in
+        ap (λ v. v ∷ map (parsed_values (f ∷ lines) []) ms) first ∙ ap (λ vs. parsed_values lines [] m ∷ vs) (go ms (λ n e. k n (later (bytes_eq n m) (list_any (bytes_eq n) ms) e)))
 
 other-stands : (f : LineFields) (lines : List LineFields) (n : List ℕ) → is_marker f ≡ false → bytes_eq n (field 0 f) ≡ false → stands_in_integers n (f ∷ lines) ≡ stands_in_integers n lines
 other-stands f lines n m h = rw (m, h) refl
@@ -95,7 +95,7 @@ other-stands f lines n m h = rw (m, h) refl
 own-stands : (f : LineFields) (lines : List LineFields) (n : List ℕ) → is_marker f ≡ false → bytes_eq n (field 0 f) ≡ true → stands_in_integers n (f ∷ lines) ≡ is_integer_open lines
 own-stands f lines n m h = rw (m, h) refl
 
--- the column of the nearest line stands where that line does
+-- the column of the nearest line is named where that line is
 nearest-stands : (f : LineFields) (lines : List LineFields) (n : List ℕ) → is_marker f ≡ false → nearest_column lines ≡ Some (field 0 f) → stands_in_integers n (f ∷ lines) ≡ stands_in_integers n lines
 nearest-stands f [] n m h = absurd cc
 nearest-stands f (g ∷ lines) n m h = by (is_marker g) refl h (bytes_eq n (field 0 f)) refl
@@ -117,20 +117,20 @@ nearest-stands f (g ∷ lines) n m h = by (is_marker g) refl h (bytes_eq n (fiel
 abbrev pairs_in : List LineFields → List ℕ → List (List ℕ × List ℕ)
 pairs_in ls name = flat_map (λ fields. pairs (drop 1 fields)) (filter (λ fields. bytes_eq name (field 0 fields)) ls)
 
-abbrev told-by : Option (List ℕ) → List (List ℕ) → List LineFields → List ℕ → TableColumn
-told-by o rows ls name = record { name = name; bounds = ZeroOrOne; cost = number_beside (pairs_in ls name) (unwrap_or o []); entries = entries_at 0 (number_beside (pairs_in ls name)) rows }
+abbrev parsed-by : Option (List ℕ) → List (List ℕ) → List LineFields → List ℕ → TableColumn
+parsed-by o rows ls name = record { name = name; bounds = ZeroOrOne; cost = number_beside (pairs_in ls name) (unwrap_or o []); entries = entries_at 0 (number_beside (pairs_in ls name)) rows }
 
 pub marker-tells : (f : LineFields) (o : Option (List ℕ)) (rows : List (List ℕ)) (lines : List LineFields) (old new : ColumnTable) → is_marker f ≡ true → new.names ≡ old.names → new.states ≡ old.states → new.done ≡ old.done → is_some new.current ≡ false
     → new.current_column.cost ≡ pos 0 → new.is_begun ≡ bytes_eq (field 2 f) (codes "'INTORG'") → ColumnsTell o rows lines [] old → ColumnsTell o rows (f ∷ lines) [] new
 marker-tells f o rows lines old new m names_both states done none nothing begun h =
     let same : column_lines (f ∷ lines) ≡ column_lines lines = rw m refl in
     let named : columns_named (f ∷ lines) ≡ columns_named lines = rw m refl in
-    let values : map (told_values (f ∷ lines) []) (columns_named lines) ≡ map (told_values lines []) (columns_named lines) = values-same f lines (columns_named lines) (λ n k. rw m refl) in
+    let values : map (parsed_values (f ∷ lines) []) (columns_named lines) ≡ map (parsed_values lines []) (columns_named lines) = values-same f lines (columns_named lines) (λ n k. rw m refl) in
     record {
       names = ap names_of names_both ∙ h.names ∙ sym named;
       begun = begun ∙ rw m refl;
-      states = ap (λ s. map state_values s.items) states ∙ h.states ∙ sym values ∙ ap (map (told_values (f ∷ lines) [])) (sym named);
-      done = subst (λ ls. AllByRecursion (λ (k : TableColumn). k ≡ told-by o rows ls k.name) new.done) (sym same) (subst (λ ks. AllByRecursion (λ (k : TableColumn). k ≡ told-by o rows (column_lines lines) k.name) ks) (sym done) h.done);
+      states = ap (λ s. map state_values s.items) states ∙ h.states ∙ sym values ∙ ap (map (parsed_values (f ∷ lines) [])) (sym named);
+      done = subst (λ ls. AllByRecursion (λ (k : TableColumn). k ≡ parsed-by o rows ls k.name) new.done) (sym same) (subst (λ ks. AllByRecursion (λ (k : TableColumn). k ≡ parsed-by o rows (column_lines lines) k.name) ks) (sym done) h.done);
       opened = no-column _ new.current none;
       closed = λ e. nothing;
     }
@@ -144,8 +144,8 @@ pub record IsReady (f : LineFields) (o : Option (List ℕ)) (rows : List (List �
   pub low : AreStampsUpTo (length (names_of c.names)) r
   pub all : names_of c.names ≡ columns_named (f ∷ lines)
   pub begun : c.is_begun ≡ is_integer_open lines
-  pub states : map state_values c.states.items ≡ map (told_values (f ∷ lines) []) (columns_named (f ∷ lines))
-  pub done : AllByRecursion (λ k. k ≡ told_column o rows lines k.name) c.done
+  pub states : map state_values c.states.items ≡ map (parsed_values (f ∷ lines) []) (columns_named (f ∷ lines))
+  pub done : AllByRecursion (λ k. k ≡ gathered_column o rows lines k.name) c.done
 
 names-known : (f : LineFields) (lines : List LineFields) → is_marker f ≡ false → list_any (bytes_eq (field 0 f)) (columns_named lines) ≡ true → columns_named (f ∷ lines) ≡ columns_named lines
 names-known f lines m h = let known = sym (columns-any (field 0 f) lines) ∙ h in rw (m, known) refl
@@ -168,7 +168,7 @@ ready-same f o rows lines r c m current fit h at =
       low = at.low;
       all = h.names ∙ sym same;
       begun = h.begun;
-      states = h.states ∙ sym (values-same f lines (columns_named lines) (λ n k. nearest-stands f lines n m (sym at.current ∙ current))) ∙ ap (map (told_values (f ∷ lines) [])) (sym same);
+      states = h.states ∙ sym (values-same f lines (columns_named lines) (λ n k. nearest-stands f lines n m (sym at.current ∙ current))) ∙ ap (map (parsed_values (f ∷ lines) [])) (sym same);
       done = h.done;
     }
 
@@ -201,8 +201,8 @@ ready-added f o rows lines r old c m stamped names-old low h =
       all = h.all ∙ sym fresh;
       begun = h.begun;
       states = h.states ∙ ap (λ vs. vs ++ (is_integer_open lines, pos 0, None) ∷ []) (sym (values-same f lines (columns_named lines) (λ n k. other-stands f lines n m (differs n (field 0 f) (columns_named lines) k h.fresh))))
-          ∙ ap (λ b. map (told_values (f ∷ lines) []) (columns_named lines) ++ (b, pos 0, None) ∷ []) (sym (own-integer (is_integer_open lines)) ∙ ap (λ b. b || false) (sym (own-stands f lines (field 0 f) m (own_name (field 0 f)))))
-          ∙ sym (map-append (told_values (f ∷ lines) []) (columns_named lines) (field 0 f ∷ [])) ∙ ap (map (told_values (f ∷ lines) [])) (sym fresh);
+          ∙ ap (λ b. map (parsed_values (f ∷ lines) []) (columns_named lines) ++ (b, pos 0, None) ∷ []) (sym (own-integer (is_integer_open lines)) ∙ ap (λ b. b || false) (sym (own-stands f lines (field 0 f) m (own_name (field 0 f)))))
+          ∙ sym (map-append (parsed_values (f ∷ lines) []) (columns_named lines) (field 0 f ∷ [])) ∙ ap (map (parsed_values (f ∷ lines) [])) (sym fresh);
       done = h.done;
     }
   where
@@ -220,7 +220,7 @@ all-last (k ∷ ks) name d = (last-of (map (λ (k : TableColumn). k.name) ks) d.
     last-of (n ∷ ns) h = last-of ns h.1
 
 done-more : (f : LineFields) (o : Option (List ℕ)) (rows : List (List ℕ)) (lines : List LineFields) (ks : List TableColumn) → is_marker f ≡ false → AllByRecursion (λ (k : TableColumn). bytes_eq k.name (field 0 f) ≡ false) ks
-    → AllByRecursion (λ (k : TableColumn). k ≡ told_column o rows lines k.name) ks → AllByRecursion (λ (k : TableColumn). k ≡ told_column o rows (f ∷ lines) k.name) ks
+    → AllByRecursion (λ (k : TableColumn). k ≡ gathered_column o rows lines k.name) ks → AllByRecursion (λ (k : TableColumn). k ≡ gathered_column o rows (f ∷ lines) k.name) ks
 done-more f o rows lines [] m d h = tt
 done-more f o rows lines (k ∷ ks) m d h =
     let same : (n : List ℕ) → number_beside (column_pairs lines k.name) n ≡ number_beside (column_pairs (f ∷ lines) k.name) n
@@ -302,7 +302,7 @@ ready-of f o lines r old mid name m named rows_fit same added fit h at = by (is_
     by false e = ready-added f o (declared_row_names r.rows.items) lines r old mid m (rows_fit.stamps ∙ sym (length-bytes r.names.keys)) h.names at.low
         (subst (λ n. ColumnAdded o (declared_row_names r.rows.items) lines n mid) (sym named) (added e o (declared_row_names r.rows.items) lines fits h))
 
-pub split-refused : (before : Sections) (f : LineFields) (c : ColumnTable) (name : List ℕ) (kind : FaultKind) → ((length f == 3) || (length f == 5)) ≡ true → is_marker f ≡ false → field 0 f ≡ name → option_now c.current ≡ nearest_column before.columns → names_of c.names ≡ columns_named before.columns
+pub split-refused : (before : Sections) (f : LineFields) (c : ColumnTable) (name : List ℕ) (kind : MpsFaultKind) → ((length f == 3) || (length f == 5)) ≡ true → is_marker f ≡ false → field 0 f ≡ name → option_now c.current ≡ nearest_column before.columns → names_of c.names ≡ columns_named before.columns
     → when (not (is_current c.current name) && list_any (bytes_eq name) (names_of c.names)) ColumnSplit ≡ Some kind → column_fault before f ≡ Some kind
 split-refused before f c name kind count m named current all h = by (not (is_current c.current name) && list_any (bytes_eq name) (names_of c.names)) refl h
   where

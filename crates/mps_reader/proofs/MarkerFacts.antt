@@ -2,9 +2,9 @@
 use Rattle.std.proofs.Common.{◌≡◌, Bool, true, false, not, ◌&&◌, List, length, refl, Some, ◌∙◌}
 use Rattle.std.specs.Prelude.{◌==◌, bytes_eq, codes}
 use Rattle.std.proofs.lemmas.Bool.{and_parts, not-true}
-use Rattle.line_words.specs.Lines.{LineFields, field}
-use Rattle.mps_meaning.specs.Faults.{is_integer_open, marker_fault}
-use Rattle.mps_meaning.specs.declared.fault.FaultKind.TheVariants.{Marker}
+use Rattle.auction_terms.specs.LineFields.{LineFields, field}
+use Rattle.program_rows.specs.MpsFaults.{is_integer_open, marker_fault}
+use Rattle.program_rows.specs.declared.mps_fault_kind.MpsFaultKind.TheVariants.{Marker}
 use Rattle.mps_reader.proofs.NameFacts.{same_name}
 use Rattle.std.specs.Bool.{then_some as when}
 

@@ -55,7 +55,7 @@ stamped-are stamp has (s ∷ stamps) (n ∷ ns) (suc i) row d e h =
 
 -- ---- the row that a pair names
 
--- a free row is none of the others
+-- a free row isn't one of the others
 pub free-apart : (p : ℕ) (ns : List (List ℕ)) (ps : List (Option ℕ)) (rows : List (List ℕ)) (i : ℕ) (row : List ℕ) → AreAt p ns ps rows → IsDistinct bytes_eq ns → slice_get ns i ≡ Some row → slice_get ps i ≡ Some None → AllByRecursion (λ r. bytes_eq row r ≡ false) rows
 unfolding IsDistinct
 free-apart p [] [] [] i row h d e f = absurd cc
@@ -66,7 +66,7 @@ free-apart p (m ∷ ns) (Some k ∷ ps) (r ∷ rows) (suc i) row h d e f =
     (subst (λ x. bytes_eq row x ≡ false) (sym h.1) (bytes_flip m row (all-at (λ y. bytes_eq m y ≡ false) ns i row e d.0)), free-apart (suc p) ns ps rows i row h.2 d.1 e f)
 free-apart p _ _ _ i row h d e f = absurd h
 
--- a row with a place stands there
+-- a row with a place is at that place
 pub row-at : (p : ℕ) (ns : List (List ℕ)) (ps : List (Option ℕ)) (rows : List (List ℕ)) (i k : ℕ) (row : List ℕ) → AreAt p ns ps rows → slice_get ns i ≡ Some row → slice_get ps i ≡ Some (Some (k + p)) → slice_get rows k ≡ Some row
 row-at p [] [] [] i k row h e f = absurd cc
 row-at p (m ∷ ns) (None ∷ ps) rows zero k row h e f = absurd cc

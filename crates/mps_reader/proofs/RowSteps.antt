@@ -7,7 +7,7 @@ use denote.Ref.{Bor}
 use Rattle.program_rows.specs.declared.row.Row.{Row}
 use Rattle.program_rows.specs.Program.{TableRow}
 use Rattle.program_rows.specs.Parts.{IsName, shown_row}
-use Rattle.line_words.specs.Lines.{field}
+use Rattle.auction_terms.specs.LineFields.{field}
 use Rattle.auction_terms.specs.Borrowed.{bytes_of}
 use Rattle.mps_reader.specs.inside.Rows.{names_of, option_now, declared_row_names, IsObjective, RowsFit, AddsFree, AddsBound}
 use Rattle.mps_reader.specs.declared.row_table.Rows.{Rows}

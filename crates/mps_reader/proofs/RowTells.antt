@@ -8,8 +8,8 @@ use Rattle.std.proofs.lemmas.List.Elements.{filter-append}
 use Rattle.std.proofs.lemmas.List.Folds.{find-append, list_any-append}
 use Rattle.program_rows.specs.Program.{TableRow}
 use Rattle.program_rows.specs.Parts.{shown_row}
-use Rattle.line_words.specs.Lines.{LineFields, field}
-use Rattle.mps_meaning.specs.Described.{is_free, row_kind_of, first_free, table_rows, number_beside, line_right_sides}
+use Rattle.auction_terms.specs.LineFields.{LineFields, field}
+use Rattle.program_rows.specs.MpsProgram.{is_free, row_kind_of, first_free, table_rows, number_beside, line_right_sides}
 use Rattle.mps_reader.specs.inside.Rows.{names_of, option_now, AddsFree, AddsBound, declared_names}
 use Rattle.mps_reader.specs.inside.Tracking.{RowsTell}
 use Rattle.mps_reader.specs.declared.row_table.Rows.{Rows}

@@ -5,13 +5,13 @@ use Rattle.std.specs.Prelude.{◌==◌, ◌⊎◌, nat_le, is_none, is_some, cod
 use Rattle.std.proofs.lemmas.List.{take_all, length-take-le}
 use Rattle.std.proofs.lemmas.Bool.{ne_eqb, lt-ltb, ltb-true, ltb-false, le-leb, leb-true, false_from_ne_true}
 use denote.Ref.{Bor}
-use Rattle.line_words.specs.Lines.{LineFields, field}
-use Rattle.mps_meaning.specs.MpsLines.{Skipped, Data}
-use Rattle.mps_meaning.specs.Sections.{Sections, with_line}
-use Rattle.mps_meaning.specs.Described.{is_one_of, is_binary_bound, bound_pair, is_column}
-use Rattle.mps_meaning.specs.Faults.{place_of, earliest_fault, header_fault, row_fault, column_fault, right_side_fault, bound_fault, fault, sense_fault}
-use Rattle.mps_meaning.specs.declared.fault.FaultKind.{FaultKind}
-use Rattle.mps_meaning.specs.declared.fault.FaultKind.TheVariants as kinds
+use Rattle.auction_terms.specs.LineFields.{LineFields, field}
+use Rattle.program_rows.specs.MpsLines.{Skipped, Data}
+use Rattle.program_rows.specs.MpsSections.{Sections, with_line}
+use Rattle.program_rows.specs.MpsProgram.{is_one_of, is_binary_bound, bound_pair, is_column}
+use Rattle.program_rows.specs.MpsFaults.{place_of, earliest_fault, header_fault, row_fault, column_fault, right_side_fault, bound_fault, fault, sense_fault}
+use Rattle.program_rows.specs.declared.mps_fault_kind.MpsFaultKind.{MpsFaultKind}
+use Rattle.program_rows.specs.declared.mps_fault_kind.MpsFaultKind.TheVariants as kinds
 use Rattle.mps_reader.specs.inside.Reading.{AreFirst, bit_fault}
 use Rattle.mps_reader.specs.inside.Rows.{names_of, option_now}
 use Rattle.mps_reader.specs.inside.Sections.{word_of}
@@ -70,11 +70,11 @@ section-opens _ new rows lines rights bounds r b c up same none size h = from-be
 pub skipped-tells : (before : Sections) (r : Reading) → ReadingTells before r → ReadingTells (with_line before Skipped) r
 skipped-tells before r h = record { section = h.section; lines = h.lines }
 
-pub no-objective : (o : Option (Bor (List ℕ))) (told : Option (List ℕ)) → option_now o ≡ told → is_none told ≡ not (is_some o)
-no-objective None told e = ap is_none (sym e)
-no-objective (Some x) told e = ap is_none (sym e)
+pub no-objective : (o : Option (Bor (List ℕ))) (parsed : Option (List ℕ)) → option_now o ≡ parsed → is_none parsed ≡ not (is_some o)
+no-objective None parsed e = ap is_none (sym e)
+no-objective (Some x) parsed e = ap is_none (sym e)
 
--- ---- six fields tell what a line is refused for
+-- ---- six fields show what a line is refused for
 
 long-more : (more : LineFields) → 6 ≤ length more → length (take 5 more) ≡ 5
 long-more more h = length-take-le 5 more (omega arith)
@@ -95,7 +95,7 @@ header-first before word more = by (nat_lt 5 (length more)) refl
         rw (a1, a2, b1, b2) refl
 
 -- the fault of a data line with more fields than any has
-abbrev many_fault : List ℕ → List ℕ → Option FaultKind
+abbrev many_fault : List ℕ → List ℕ → Option MpsFaultKind
 many_fault word first =
     if bytes_eq word (codes "OBJSENSE") then Some kinds.Fields
     else (if bytes_eq word (codes "ROWS") then Some kinds.Fields
@@ -133,7 +133,7 @@ bound-many before fields h =
     ap (λ b. earliest_fault (when (not (is_one_of (field 0 fields) (codes "UP" ∷ codes "LO" ∷ codes "FX" ∷ codes "BV" ∷ []))) kinds.BoundType ∷ when (not b) kinds.Fields ∷ behind)) none
     ∙ by (is_one_of (field 0 fields) (codes "UP" ∷ codes "LO" ∷ codes "FX" ∷ codes "BV" ∷ []))
   where
-    behind : List (Option FaultKind)
+    behind : List (Option MpsFaultKind)
     behind = when (not (is_column before.columns (field 0 (bound_pair fields)))) kinds.UnknownColumn ∷ (if is_binary_bound fields then None else bit_fault (field 1 (bound_pair fields))) ∷ []
 
     neither : (t a b : Bool) → (if t then a && false else b && false) ≡ false
@@ -144,7 +144,7 @@ bound-many before fields h =
     by true = refl
     by false = refl
 
-ifs : (a b c d e : Bool) (p q r s t p' q' r' s' t' : Option FaultKind) → p ≡ p' → q ≡ q' → r ≡ r' → s ≡ s' → t ≡ t'
+ifs : (a b c d e : Bool) (p q r s t p' q' r' s' t' : Option MpsFaultKind) → p ≡ p' → q ≡ q' → r ≡ r' → s ≡ s' → t ≡ t'
     → (if a then p else (if b then q else (if c then r else (if d then s else (if e then t else Some kinds.Section))))) ≡ (if a then p' else (if b then q' else (if c then r' else (if d then s' else (if e then t' else Some kinds.Section)))))
 ifs true b c d e p q r s t p' q' r' s' t' hp hq hr hs ht = hp
 ifs false true c d e p q r s t p' q' r' s' t' hp hq hr hs ht = hq
@@ -189,7 +189,7 @@ data-first before shown all a = by (few-or-many (length all))
         let six : length (take 6 all) ≡ 6 = length-take-le 6 all many in
         ap (λ fs. fault before (Data fs)) (a.front) ∙ many-fields before (take 6 all) (omega arith) ∙ ap (many_fault before.section) (first-of all) ∙ sym (many-fields before all many)
 
--- where they are no fault, they are all
+-- if they are no fault, they are all
 pub data-whole : (before : Sections) (shown all : LineFields) → AreFirst shown all → fault before (Data shown) ≡ None → shown ≡ all
 data-whole before shown all a none = by (few-or-many (length all))
   where

@@ -2,10 +2,10 @@
 use Rattle.std.proofs.Common.{◌≡◌, ℕ, ◌<◌, Bool, true, false, List, [], refl, sym, subst, arith}
 use Rattle.std.specs.Prelude.{codes, bytes_eq}
 use Rattle.std.proofs.lemmas.Slice.Eq.{bytes_eq-Decides}
-use Rattle.mps_meaning.specs.Faults.{place_of}
+use Rattle.program_rows.specs.MpsFaults.{place_of}
 use Rattle.mps_reader.specs.inside.Sections.{word_of, section_named}
 
--- a word has the place of the section that it names, and is its word where that has a place
+-- a word has the place of the section that it names, and is its word if that has a place
 pub record IsNamed (text : List ℕ) : Type 0 where
   pub place : place_of (word_of (section_named text)) ≡ place_of text
   pub word : 0 < place_of text → word_of (section_named text) ≡ text

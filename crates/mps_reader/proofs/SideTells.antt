@@ -7,12 +7,12 @@ use Rattle.std.specs.Option.{option_map_or}
 use Rattle.std.proofs.lemmas.List.{length-drop, drop-map}
 use Rattle.std.proofs.Math.Seq.{take-length}
 use denote.Ref.{Bor}
-use Rattle.line_words.specs.Lines.{LineFields, field}
-use Rattle.mps_meaning.specs.Sections.{Sections}
-use Rattle.mps_meaning.specs.Described.{pairs, row_kind_of, line_right_sides, first_free}
-use Rattle.mps_meaning.specs.Faults.{earliest_fault, pairs_fault, right_side_fault}
-use Rattle.mps_meaning.specs.declared.fault.FaultKind.{FaultKind}
-use Rattle.mps_meaning.specs.declared.fault.FaultKind.TheVariants.{UnknownRow, EntryRepeated}
+use Rattle.auction_terms.specs.LineFields.{LineFields, field}
+use Rattle.program_rows.specs.MpsSections.{Sections}
+use Rattle.program_rows.specs.MpsProgram.{pairs, row_kind_of, line_right_sides, first_free}
+use Rattle.program_rows.specs.MpsFaults.{earliest_fault, pairs_fault, right_side_fault}
+use Rattle.program_rows.specs.declared.mps_fault_kind.MpsFaultKind.{MpsFaultKind}
+use Rattle.program_rows.specs.declared.mps_fault_kind.MpsFaultKind.TheVariants.{UnknownRow, EntryRepeated}
 use Rattle.program_rows.specs.declared.row.Row.{Row}
 use Rattle.program_rows.specs.Program.{TableRow}
 use Rattle.program_rows.specs.Parts.{shown_row}
@@ -37,7 +37,7 @@ pub rows-same : (side other : List ℕ → ℤ) (lines : List LineFields) → ((
 rows-same side other [] e = refl
 rows-same side other (f ∷ lines) e = rw (e (field 1 f)) (ap (λ rs. record { name = field 1 f; kind = row_kind_of (field 0 f); right_side = other (field 1 f) } ∷ rs) (rows-same side other lines e))
 
--- a row that is none of these changes nothing
+-- a row that isn't one of these changes nothing
 pub none-by : (side : List ℕ → ℤ) (row : List ℕ) (v : ℤ) (lines : List LineFields) → AllByRecursion (λ n. bytes_eq row n ≡ false) (map (field 1) lines) → rows_by side lines ≡ rows_by (λ n. if bytes_eq n row then v else side n) lines
 none-by side row v [] h = refl
 none-by side row v (f ∷ lines) h = rw (bytes_flip row (field 1 f) h.0) (ap (λ rs. record { name = field 1 f; kind = row_kind_of (field 0 f); right_side = side (field 1 f) } ∷ rs) (none-by side row v lines h.1))
@@ -53,10 +53,10 @@ side-by side row v (suc place) (f ∷ lines) d e =
 
 -- ---- faults
 
-pub checks-are : (lines : List LineFields) (row number : List ℕ) (known repeated cost : Bool) (fault : Option FaultKind) → option_map_or (bytes_eq row) (first_free lines) false ≡ cost → side_fault known repeated cost number ≡ fault → pair_checks known repeated number (constant_check (first_free lines) row number) ≡ fault
+pub checks-are : (lines : List LineFields) (row number : List ℕ) (known repeated cost : Bool) (fault : Option MpsFaultKind) → option_map_or (bytes_eq row) (first_free lines) false ≡ cost → side_fault known repeated cost number ≡ fault → pair_checks known repeated number (constant_check (first_free lines) row number) ≡ fault
 checks-are lines row number known repeated cost fault o h = ap (λ c. side_fault known repeated c number) o ∙ h
 
-pub early-refused : (known r cost : Bool) (number : List ℕ) (kind : FaultKind) → earliest_fault (when (not known) UnknownRow ∷ when r EntryRepeated ∷ []) ≡ Some kind → side_fault known r cost number ≡ Some kind
+pub early-refused : (known r cost : Bool) (number : List ℕ) (kind : MpsFaultKind) → earliest_fault (when (not known) UnknownRow ∷ when r EntryRepeated ∷ []) ≡ Some kind → side_fault known r cost number ≡ Some kind
 early-refused true false cost number kind h = absurd cc
 early-refused _ _ cost number kind h = h
 
@@ -67,6 +67,6 @@ line-pairs fields =
     let whole : take (length fields - length fields % 2) (drop (length fields % 2) fields) ≡ drop (length fields % 2) fields = ap (λ n. take n (drop (length fields % 2) fields)) (sym (length-drop (length fields % 2) fields)) ∙ take-length (drop (length fields % 2) fields) in
     ap (λ n. pairs (drop (n % 2) (bytes_of fields))) (length-bytes fields) ∙ ap pairs (drop-map (λ f. f.now) (length fields % 2) fields) ∙ ap (λ fs. pairs (bytes_of fs)) (sym whole)
 
-pub line-fault : (before : Sections) (f : LineFields) (fault : Option FaultKind) → (nat_le 2 (length f) && nat_le (length f) 5) ≡ true
+pub line-fault : (before : Sections) (f : LineFields) (fault : Option MpsFaultKind) → (nat_le 2 (length f) && nat_le (length f) 5) ≡ true
     → pairs_fault before.rows (first_free before.rows) (flat_map line_right_sides before.right_sides) (line_right_sides f) ≡ fault → right_side_fault before f ≡ fault
 line-fault before f fault count h = rw count (last-one (pairs_fault before.rows (first_free before.rows) (flat_map line_right_sides before.right_sides) (line_right_sides f)) ∙ h)

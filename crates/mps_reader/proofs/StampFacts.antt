@@ -5,8 +5,8 @@ use Rattle.std.specs.Prelude.{◌==◌, slice_get, position, nat_lt, bytes_eq}
 use Rattle.std.specs.List.{list_any, position_or_len}
 use Rattle.std.proofs.lemmas.Bool.{ltb-true}
 use denote.Ref.{Bor}
-use Rattle.mps_meaning.specs.declared.fault.FaultKind.TheVariants.{UnknownRow, EntryRepeated}
-use Rattle.mps_meaning.specs.Faults.{earliest_fault}
+use Rattle.program_rows.specs.declared.mps_fault_kind.MpsFaultKind.TheVariants.{UnknownRow, EntryRepeated}
+use Rattle.program_rows.specs.MpsFaults.{earliest_fault}
 use Rattle.auction_terms.specs.Borrowed.{bytes_of}
 use Rattle.mps_reader.specs.inside.Rows.{StampsAre}
 use Rattle.mps_reader.proofs.NameFacts.{same_name}

@@ -7,7 +7,7 @@ use Rattle.std.proofs.lemmas.Bool.Decides.{nat_tests}
 use Rattle.std.proofs.lemmas.Grind.{common_steps}
 use Rattle.std.proofs.lemmas.List.{drop_all}
 use Rattle.std.proofs.lemmas.List.Sums.{passes_at_first}
-use Rattle.line_words.specs.Lines.{fields, is_space}
+use Rattle.auction_terms.specs.LineFields.{fields, is_space}
 use Rattle.mps_reader.specs.inside.Reading.{is_other, is_behind, is_text_byte}
 use Rattle.mps_reader.proofs.FieldFacts.{some-is, none-is, field-found, field-at-end}
 
@@ -75,7 +75,7 @@ blank-text bs h = text-behind is_other is_text_byte space-text bs ∙ rw (drop_a
 front-text : (bs text : List ℕ) (i : ℕ) → Some i ≡ position is_other bs → text ≡ drop i bs → list_all is_text_byte bs ≡ list_all is_text_byte text
 front-text bs text i h t = text-behind is_other is_text_byte space-text bs ∙ ap (λ (n : ℕ). list_all is_text_byte (drop n bs)) (is-at is_other bs i h).1 ∙ ap (list_all is_text_byte) (sym t)
 
--- the end of a field: what stands there, and the rest
+-- the end of a field: the byte there, and the rest
 end-text : (text : List ℕ) (j : ℕ) → Some j ≡ position is_behind text → list_all is_text_byte text ≡ (is_text_byte (get_or text j 0) && list_all is_text_byte (drop (j + 1) text))
 end-text text j h =
     let found = is-at is_behind text j h in

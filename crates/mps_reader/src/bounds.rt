@@ -1,11 +1,11 @@
 //! Lines of BOUNDS.
 
 ghost use Rattle.std.specs.Prelude.{◌≡◌, ◌≤◌, ◌<◌, ◌+◌, ◌∷◌, [], ◌&&◌, ◌==◌, ℕ, List, not, true, false, codes, bytes_eq, length, nat_le, if◌then◌else◌, Option, IfOk, OnOk};
-ghost use Rattle.mps_meaning.specs.declared.fault.FaultKind.TheVariants.{BoundType, Fields};
+ghost use Rattle.program_rows.specs.declared.mps_fault_kind.MpsFaultKind.TheVariants.{BoundType, Fields};
 ghost use Rattle.std.specs.List.{IsDistinct};
-ghost use Rattle.line_words.specs.Lines.{LineFields, field};
-ghost use Rattle.mps_meaning.specs.Described.{is_one_of, is_binary_bound, value, columns_named};
-ghost use Rattle.mps_meaning.specs.Faults.{earliest_fault, bound_fault};
+ghost use Rattle.auction_terms.specs.LineFields.{LineFields, field};
+ghost use Rattle.program_rows.specs.MpsProgram.{is_one_of, is_binary_bound, value, columns_named};
+ghost use Rattle.program_rows.specs.MpsFaults.{earliest_fault, bound_fault};
 ghost use Rattle.auction_terms.specs.Borrowed.{bytes_of};
 ghost use Rattle.mps_reader.specs.inside.Reading.{AnswersFault, bit_fault};
 ghost use Rattle.mps_reader.specs.inside.Columns.{BothFit};
@@ -19,8 +19,7 @@ use crate::column_table::ColumnTable;
 use crate::refusal::Refusal;
 use crate::values::take_bit;
 use crate::words::is_word;
-use mps_meaning::FaultKind;
-use program_rows::place_of;
+use program_rows::{MpsFaultKind, place_of};
 
 fn is_bound_type(word: &[u8]) -> bool
     ensures { result ≡ is_one_of word.now (codes "UP" ∷ codes "LO" ∷ codes "FX" ∷ codes "BV" ∷ []) }
@@ -69,7 +68,7 @@ fn take_bound_type(fields: &[&[u8]]) -> Result<bool, Refusal>
     Ok(is_binary)
 }
 
-/// Where the column of a bound stands: behind the name of the set, if there is one.
+/// The place of a bound's column: after the name of the set, if there is one.
 fn place_of_column(is_binary: bool, count: usize) -> usize
     requires range { ((if is_binary then 2 else 3) ≤ count) × (count ≤ 4) }
     ensures value { result ≡ (if count == (if is_binary then 2 else 3) then 1 else 2) }
@@ -127,7 +126,7 @@ pub fn take_bound<'t>(columns: &mut ColumnTable<'t>, fields: &[&[u8]]) -> Result
     let is_binary = take_bound_type(fields)?;
     let at = place_of_column(is_binary, fields.len());
     let Some(index) = place_of(&columns.names, &columns.next, fields[at]) else {
-        return Err(Refusal::Fault(FaultKind::UnknownColumn));
+        return Err(Refusal::Fault(MpsFaultKind::UnknownColumn));
     };
     if is_binary {
         columns.states[index] = ColumnState {

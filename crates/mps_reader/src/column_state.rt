@@ -1,4 +1,4 @@
-/// The values that a column may take, as far as the lines tell.
+/// The values that a column may take, by the lines so far.
 #[derive(Clone, Copy)]
 pub struct ColumnState {
     pub is_integer: bool,

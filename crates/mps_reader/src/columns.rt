@@ -3,8 +3,8 @@
 ghost use Rattle.std.specs.Prelude.{◌≡◌, ◌++◌, ◌∷◌, [], ℕ, List, Option, Some, None, length, not, true, false, ◌&&◌, bytes_eq, is_some, OnOk};
 ghost use Rattle.std.specs.List.{list_any};
 ghost use Rattle.std.specs.List.Sorted.{IsPermutation, IsNonDecreasingBy};
-ghost use Rattle.mps_meaning.specs.declared.fault.FaultKind.TheVariants.{ColumnSplit};
-ghost use Rattle.line_words.specs.Lines.{LineFields};
+ghost use Rattle.program_rows.specs.declared.mps_fault_kind.MpsFaultKind.TheVariants.{ColumnSplit};
+ghost use Rattle.auction_terms.specs.LineFields.{LineFields};
 ghost use Rattle.program_rows.specs.Parts.{IsName};
 ghost use Rattle.mps_reader.specs.inside.Reading.{AnswersFault};
 ghost use Rattle.mps_reader.specs.inside.Rows.{names_of, option_now};
@@ -17,8 +17,7 @@ use crate::column_table::ColumnTable;
 use crate::names::insert_name;
 use crate::refusal::Refusal;
 use crate::words::is_word;
-use mps_meaning::FaultKind;
-use program_rows::Bounds;
+use program_rows::{Bounds, MpsFaultKind};
 use std::alloc::AllocError;
 
 // Entries are stated by their places and not by their order, so the sort has a contract of its own.

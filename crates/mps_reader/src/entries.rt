@@ -3,11 +3,11 @@
 ghost use Rattle.std.specs.Prelude.{◌≡◌, ◌≤◌, ◌==◌, ◌||◌, ◌∷◌, [], ◌++◌, ℕ, ℤ, Bool, List, not, true, false, is_some, length, bytes_eq, drop, Option, None, OnOk, if◌then◌else◌};
 ghost use Rattle.std.specs.List.{AllByRecursion, list_any};
 ghost use Rattle.std.specs.Option.{option_map_or};
-ghost use Rattle.mps_meaning.specs.declared.fault.FaultKind.TheVariants.{UnknownRow, EntryRepeated};
-ghost use Rattle.line_words.specs.Lines.{field, LineFields};
-ghost use Rattle.mps_meaning.specs.Sections.{Sections};
-ghost use Rattle.mps_meaning.specs.Described.{value, pairs, is_marker, number_beside};
-ghost use Rattle.mps_meaning.specs.Faults.{earliest_fault, number_fault, is_declared, pairs_fault, is_integer_open, marker_fault, column_fault};
+ghost use Rattle.program_rows.specs.declared.mps_fault_kind.MpsFaultKind.TheVariants.{UnknownRow, EntryRepeated};
+ghost use Rattle.auction_terms.specs.LineFields.{field, LineFields};
+ghost use Rattle.program_rows.specs.MpsSections.{Sections};
+ghost use Rattle.program_rows.specs.MpsProgram.{value, pairs, is_marker, number_beside};
+ghost use Rattle.program_rows.specs.MpsFaults.{earliest_fault, number_fault, is_declared, pairs_fault, is_integer_open, marker_fault, column_fault};
 ghost use Rattle.program_rows.specs.Parts.{IsName};
 ghost use Rattle.auction_terms.specs.Borrowed.{bytes_of};
 ghost use Rattle.mps_reader.specs.inside.Reading.{AnswersFault};
@@ -15,7 +15,7 @@ ghost use Rattle.mps_reader.specs.inside.Rows.{RowsFit, StampsAre, names_of, dec
 ghost use Rattle.mps_reader.specs.inside.Tracking.{AreStampsUpTo, OpenTells, ColumnsTell, InColumns};
 ghost use Rattle.mps_reader.specs.declared.row_table.Rows as row_table;
 ghost use Rattle.mps_reader.specs.inside.Columns.{ColumnsFit, put_entries, PairsFit, BothFit};
-ghost use Rattle.line_words.specs.Numbers.{number};
+ghost use Rattle.auction_terms.specs.Decimals.{number};
 ghost use Rattle.std.specs.Bool.{then_some as when};
 
 use crate::column_table::ColumnTable;
@@ -26,7 +26,7 @@ use crate::refusal::Refusal;
 use crate::row_table::Rows;
 use crate::rows::{is_objective, stamp_row};
 use crate::values::take_number;
-use mps_meaning::FaultKind;
+use program_rows::MpsFaultKind;
 use std::alloc::AllocError;
 
 fn put(
@@ -53,7 +53,7 @@ fn put(
     Ok(())
 }
 
-// Whether a row is the objective. One with a place among the rows that aren't `N` is none: its name needn't be compared.
+// Whether a row is the objective. A row with a place among those that aren't `N` isn't: its name needn't be compared.
 fn is_cost(place: Option<usize>, objective: Option<&[u8]>, row: &[u8]) -> bool
     requires { is_some place ≡ true
         → option_map_or (λ name. bytes_eq row.now name.now) objective false ≡ false }

@@ -2,13 +2,13 @@
 
 ghost use Rattle.std.specs.Prelude.{◌≡◌, ◌≤◌, ◌<◌, ◌∷◌, [], true, false, take, drop, length, position, MatchOption, IfSome, IfOk, OnErr};
 ghost use Rattle.std.specs.List.{list_all};
-ghost use Rattle.line_words.specs.Lines.{fields, is_space};
+ghost use Rattle.auction_terms.specs.LineFields.{fields, is_space};
 ghost use Rattle.auction_terms.specs.Borrowed.{bytes_of};
 ghost use Rattle.mps_reader.specs.inside.Reading.{is_other, is_behind, is_text_byte};
 
 use arrayvec::ArrayVec;
 
-/// The first fields of a line. No line that is taken has more than five, so six tell all lines apart.
+/// The first fields of a line. No line that is accepted has more than five, so six tell all lines apart.
 pub type Fields<'t> = ArrayVec<&'t [u8], 6>;
 
 fn is_space_byte(b: u8) -> bool
@@ -36,7 +36,7 @@ fn is_behind_byte(b: u8) -> bool
     !(b'!' <= b && b <= b'~')
 }
 
-/// Where the first byte stands that isn't of a field: white space, or one that no text has.
+/// The place of the first byte that isn't of a field: white space, or a byte that no text has.
 fn field_end(text: &[u8]) -> Option<usize>
     ensures { result ≡ position is_behind text.now }
 {
@@ -58,11 +58,11 @@ fn behind(text: &[u8], start: usize) -> &[u8]
     &text[start..]
 }
 
-/// A byte stands among the fields that no text has.
+/// A byte that no text has is among the fields.
 #[derive(Clone, Copy)]
 pub struct NotText;
 
-/// The first field of a text, and what stands behind it.
+/// The first field of a text, and what follows it.
 fn next_field(rest: &[u8]) -> Result<Option<(&[u8], &[u8])>, NotText>
     ensures fields { IfOk result (λ found. MatchOption found (fields rest.now ≡ [])
         (λ found. fields rest.now ≡ found.0.now ∷ fields found.1.now)) }

@@ -1,9 +1,9 @@
 //! The program at the end of a text.
 
 ghost use Rattle.std.specs.Prelude.{◌≡◌, not, map, true, false, position, option_map, is_some, Some, IfOk};
-ghost use Rattle.mps_meaning.specs.Sections.{Sections};
-ghost use Rattle.mps_meaning.specs.Described.{program};
-ghost use Rattle.mps_meaning.specs.declared.fault.FaultKind.TheVariants.{NotBinary};
+ghost use Rattle.program_rows.specs.MpsSections.{Sections};
+ghost use Rattle.program_rows.specs.MpsProgram.{program};
+ghost use Rattle.program_rows.specs.declared.mps_fault_kind.MpsFaultKind.TheVariants.{NotBinary};
 ghost use Rattle.mps_reader.specs.inside.Reading.{AnswersFault};
 ghost use Rattle.mps_reader.specs.inside.Tracking.{ReadingTells};
 ghost use Rattle.mps_reader.specs.inside.Agreeing.{ReadingFits};
@@ -13,8 +13,7 @@ ghost use Rattle.mps_reader.specs.inside.States.{state_bounds, is_binary_state};
 use crate::column_state::ColumnState;
 use crate::reading_state::Reading;
 use crate::refusal::Refusal;
-use mps_meaning::FaultKind;
-use program_rows::{Bounds, Program, ProgramParts};
+use program_rows::{Bounds, MpsFaultKind, Program, ProgramParts};
 use std::alloc::{AllocError, Global};
 
 fn is_binary(state: ColumnState) -> bool
@@ -39,7 +38,7 @@ pub fn refuse_open(states: &[ColumnState]) -> Result<(), Refusal>
         (position (λ state. not (is_binary_state state)) states.now)) }
 {
     match first_open(states) {
-        Some(column) => Err(Refusal::Fault(FaultKind::NotBinary { column })),
+        Some(column) => Err(Refusal::Fault(MpsFaultKind::NotBinary { column })),
         None => Ok(()),
     }
 }

@@ -1,11 +1,11 @@
 //! Headers: the sections and their order.
 
 ghost use Rattle.std.specs.Prelude.{◌≡◌, ◌∷◌, [], ◌==◌, ◌<◌, ◌&&◌, not, codes, nat_lt, length, is_none, bytes_eq, true, IfOk, OnOk, None, if◌then◌else◌, position, option_map};
-ghost use Rattle.mps_meaning.specs.declared.fault.FaultKind.TheVariants.{SectionLeftOut, Section, Fields, NoObjective, NotBinary};
-ghost use Rattle.line_words.specs.Lines.{field};
-ghost use Rattle.mps_meaning.specs.Sections.{Sections};
-ghost use Rattle.mps_meaning.specs.Described.{is_one_of, first_free, columns_named};
-ghost use Rattle.mps_meaning.specs.Faults.{place_of, earliest_fault, sense_fault, header_fault, is_binary, sections_left_out};
+ghost use Rattle.program_rows.specs.declared.mps_fault_kind.MpsFaultKind.TheVariants.{SectionLeftOut, Section, Fields, NoObjective, NotBinary};
+ghost use Rattle.auction_terms.specs.LineFields.{field};
+ghost use Rattle.program_rows.specs.MpsSections.{Sections};
+ghost use Rattle.program_rows.specs.MpsProgram.{is_one_of, first_free, columns_named};
+ghost use Rattle.program_rows.specs.MpsFaults.{place_of, earliest_fault, sense_fault, header_fault, is_binary, sections_left_out};
 ghost use Rattle.auction_terms.specs.Borrowed.{bytes_of};
 ghost use Rattle.mps_reader.specs.inside.Reading.{AnswersFault, AnswersUpTo};
 ghost use Rattle.mps_reader.specs.inside.Sections.{word_of};
@@ -15,7 +15,7 @@ use crate::refusal::Refusal;
 use crate::sections::{Section, place, section_of};
 use crate::senses::take_sense_line;
 use crate::words::is_word;
-use mps_meaning::FaultKind;
+use program_rows::MpsFaultKind;
 
 fn is_left_out(word: &[u8]) -> bool
     ensures { result ≡ is_one_of word.now sections_left_out }

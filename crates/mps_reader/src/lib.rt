@@ -1,11 +1,11 @@
 //! Programs read from MPS text.
 #![tactic(auto)]
 
-/// Returns a fault where the test holds.
+/// Returns a fault if the test holds.
 macro_rules! refuse {
     ($test:expr, $kind:ident) => {
         if $test {
-            return Err(Refusal::Fault(FaultKind::$kind));
+            return Err(Refusal::Fault(MpsFaultKind::$kind));
         }
     };
 }

@@ -1,8 +1,8 @@
 //! What the lines of an MPS text are.
 
 ghost use Rattle.std.specs.Prelude.{◌≡◌, ◌≤◌, ◌==◌, length, slice_index};
-ghost use Rattle.line_words.specs.Lines.{is_space};
-ghost use Rattle.mps_meaning.specs.MpsLines.{line_of};
+ghost use Rattle.auction_terms.specs.LineFields.{is_space};
+ghost use Rattle.program_rows.specs.MpsLines.{line_of};
 ghost use Rattle.mps_reader.specs.inside.Reading.{IsLine};
 
 use crate::fields::{Fields, first_fields};

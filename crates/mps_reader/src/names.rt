@@ -7,7 +7,7 @@ ghost use Rattle.mps_reader.specs.inside.Rows.{names_of};
 use program_rows::NameSet;
 use std::alloc::AllocFailed;
 
-/// Adds a name, and tells whether it is new.
+/// Adds a name, and returns whether it is new.
 pub fn insert_name<'t>(
     names: &mut NameSet<'t>,
     name: &'t [u8],

@@ -4,17 +4,15 @@ ghost use Rattle.std.specs.Prelude.{◌≡◌, ◌≤◌, ◌<◌, length, Err, 
 ghost use Rattle.auction_terms.specs.Lines.{lines_of};
 ghost use Rattle.mps_reader.specs.Answer.{IsRead};
 ghost use Rattle.mps_reader.specs.inside.Answer.{IsRefusedLine};
-ghost use Rattle.mps_meaning.specs.Meaning.{meaning};
-ghost use Rattle.mps_meaning.specs.declared.fault.FaultKind.TheVariants.{TooLarge};
+ghost use Rattle.program_rows.specs.MpsMeaning.{meaning};
+ghost use Rattle.program_rows.specs.declared.mps_fault_kind.MpsFaultKind.TheVariants.{TooLarge};
 
 use crate::finishing::finished;
 use crate::limits::PROGRAM_LIMIT;
 use crate::reading::{start, take_line};
 use crate::refusal::Refusal;
 use auction_terms::LineReader;
-use mps_meaning::FaultKind;
-use program_faults::MpsFault;
-use program_rows::{Program, Seeded};
+use program_rows::{MpsFault, MpsFaultKind, Program, Seeded};
 use std::alloc::Global;
 
 fn refused(line: usize, refusal: Refusal) -> MpsFault
@@ -24,7 +22,7 @@ fn refused(line: usize, refusal: Refusal) -> MpsFault
     match refusal {
         Refusal::Memory => MpsFault {
             line: 0,
-            kind: FaultKind::OutOfMemory,
+            kind: MpsFaultKind::OutOfMemory,
         },
         Refusal::Fault(kind) => MpsFault { line, kind },
     }
@@ -53,7 +51,7 @@ fn read_lines(alloc: Global, text: &[u8]) -> Result<Program, MpsFault>
     }
     Err(MpsFault {
         line: place,
-        kind: FaultKind::NoEnd,
+        kind: MpsFaultKind::NoEnd,
     })
 }
 
@@ -67,7 +65,7 @@ pub fn read_program(alloc: Global, text: &[u8]) -> Result<Program, MpsFault>
     if text.len() > PROGRAM_LIMIT {
         return Err(MpsFault {
             line: 0,
-            kind: FaultKind::TooLarge,
+            kind: MpsFaultKind::TooLarge,
         });
     }
     read_lines(alloc, text)

@@ -9,21 +9,21 @@
 //! - *It tells* (`ReadingTells`): it holds what the lines so far describe, by the definitions of a text's meaning over its
 //!   gathered sections. A line more puts one in front of its section's list, so each step of a proof computes.
 //!
-//! A line's fault is that of the definition, `fault before line`, for any sections that the state tells. Nothing is kept
+//! A line's fault is that of the definition, `fault before line`, for any sections that the state describes. Nothing is kept
 //! beside the state to remember lines: a repeated entry is found by a stamp for each row (the number of the column that named
-//! it last; right sides have a stamp behind all columns), and a split column by the name of the open one.
+//! it last; right sides have a stamp after all columns), and a split column by the name of the open one.
 //!
-//! To mind when changing it: the order of the checks in a line is that of `Faults`, and the first that fails is told, so a
+//! To mind when changing it: the order of the checks in a line is that of `Faults`, and the first that fails is reported, so a
 //! check moved up or down is another reader. A column is closed by the first line that isn't its own, also by a header, and
-//! only then do its entries stand in the order of rows. What is added to the state needs a line in both records.
+//! only then are its entries in the order of rows. What is added to the state needs a line in both records.
 
 ghost use Rattle.std.specs.Prelude.{◌≡◌, ◌≢◌, ◌≤◌, length, drop, codes, bytes_eq, true, false, is_some, OnOk, IfOk};
 ghost use Rattle.std.specs.List.{AllByRecursion};
-ghost use Rattle.mps_meaning.specs.MpsLines as spec;
-ghost use Rattle.line_words.specs.Lines.{LineFields, field};
-ghost use Rattle.mps_meaning.specs.MpsLines.{Unprintable, line_of};
-ghost use Rattle.mps_meaning.specs.Sections.{Sections, no_lines, with_line, is_end};
-ghost use Rattle.mps_meaning.specs.Faults.{fault, header_fault};
+ghost use Rattle.program_rows.specs.MpsLines as spec;
+ghost use Rattle.auction_terms.specs.LineFields.{LineFields, field};
+ghost use Rattle.program_rows.specs.MpsLines.{Unprintable, line_of};
+ghost use Rattle.program_rows.specs.MpsSections.{Sections, no_lines, with_line, is_end};
+ghost use Rattle.program_rows.specs.MpsFaults.{fault, header_fault};
 ghost use Rattle.program_rows.specs.Parts.{IsName};
 ghost use Rattle.auction_terms.specs.Borrowed.{bytes_of};
 ghost use Rattle.mps_reader.specs.inside.Reading.{AnswersFault};
@@ -45,8 +45,7 @@ use crate::rows::take_row;
 use crate::sections::Section;
 use crate::senses::take_sense_line;
 use crate::words::is_word;
-use mps_meaning::FaultKind;
-use program_rows::Seeded;
+use program_rows::{MpsFaultKind, Seeded};
 use std::alloc::Global;
 
 /// Nothing, before the first line. The seed is that of the sets of names.
@@ -89,7 +88,7 @@ fn take_header_line<'t>(reading: &mut Reading<'t>, fields: &[&'t [u8]]) -> Resul
     Ok(false)
 }
 
-#[tactic(auto, unfolding(mps_meaning::specs::Faults::fault))]
+#[tactic(auto, unfolding(program_rows::specs::MpsFaults::fault))]
 fn take_data<'t>(reading: &mut Reading<'t>, fields: &[&'t [u8]]) -> Result<(), Refusal>
     requires fit { ReadingFits reading.old }
     requires some { 1 ≤ length fields.now }
@@ -118,11 +117,11 @@ fn take_data<'t>(reading: &mut Reading<'t>, fields: &[&'t [u8]]) -> Result<(), R
             take_bound(&mut reading.columns, fields)?;
             Ok(())
         }
-        _ => Err(Refusal::Fault(FaultKind::Section)),
+        _ => Err(Refusal::Fault(MpsFaultKind::Section)),
     }
 }
 
-/// Takes a line, and tells whether it is the end.
+/// Takes a line, and returns whether it is the end.
 pub fn take_line<'t>(reading: &mut Reading<'t>, line: &'t [u8]) -> Result<bool, Refusal>
     requires fit { ReadingFits reading.old }
     ensures end { IfOk result (λ end. end ≡ is_end (line_of line.now)) }
@@ -139,7 +138,7 @@ pub fn take_line<'t>(reading: &mut Reading<'t>, line: &'t [u8]) -> Result<bool, 
 {
     match read_line(line) {
         Line::Skipped => Ok(false),
-        Line::Unprintable => Err(Refusal::Fault(FaultKind::NotText)),
+        Line::Unprintable => Err(Refusal::Fault(MpsFaultKind::NotText)),
         Line::Header(fields) => {
             let is_end = take_header_line(reading, fields.as_slice())?;
             Ok(is_end)

@@ -3,14 +3,14 @@
 ghost use Rattle.std.specs.Prelude.{◌≡◌};
 ghost use Rattle.mps_reader.specs.declared.refusal.Refusal.TheVariants.{Memory};
 
-use mps_meaning::FaultKind;
+use program_rows::MpsFaultKind;
 use std::alloc::{AllocError, AllocFailed};
 
 /// Why a line is not taken.
 #[derive(Clone, Copy, Debug, PartialEq, Eq)]
 pub enum Refusal {
     Memory,
-    Fault(FaultKind),
+    Fault(MpsFaultKind),
 }
 
 impl From<AllocError> for Refusal {

@@ -3,10 +3,10 @@
 ghost use Rattle.std.specs.Prelude.{◌≡◌, ◌≤◌, ◌<◌, ◌==◌, ◌&&◌, ◌||◌, ◌∷◌, ◌++◌, ℕ, ℤ, Bool, List, not, true, false, length, map, bytes_eq, nat_le, pos, if◌then◌else◌, OnOk, flat_map};
 ghost use Rattle.std.specs.List.{list_any};
 ghost use Rattle.std.specs.Option.{option_map_or};
-ghost use Rattle.line_words.specs.Lines.{LineFields};
-ghost use Rattle.mps_meaning.specs.Sections.{Sections};
-ghost use Rattle.mps_meaning.specs.Described.{pairs, value, first_free, number_beside, line_right_sides};
-ghost use Rattle.mps_meaning.specs.Faults.{is_declared, pairs_fault, right_side_fault};
+ghost use Rattle.auction_terms.specs.LineFields.{LineFields};
+ghost use Rattle.program_rows.specs.MpsSections.{Sections};
+ghost use Rattle.program_rows.specs.MpsProgram.{pairs, value, first_free, number_beside, line_right_sides};
+ghost use Rattle.program_rows.specs.MpsFaults.{is_declared, pairs_fault, right_side_fault};
 ghost use Rattle.auction_terms.specs.Borrowed.{bytes_of};
 ghost use Rattle.mps_reader.specs.inside.Reading.{AnswersFault};
 ghost use Rattle.std.specs.Ordering.{int_eq};
@@ -18,8 +18,7 @@ use crate::refusal::Refusal;
 use crate::row_table::Rows;
 use crate::rows::{is_objective, stamp_row};
 use crate::values::take_number;
-use mps_meaning::FaultKind;
-use program_rows::Row;
+use program_rows::{MpsFaultKind, Row};
 
 fn is_constant(is_cost: bool, value: i64) -> bool
     ensures { result ≡ (is_cost && not (int_eq value (pos 0))) }

@@ -3,10 +3,10 @@
 ghost use Rattle.std.specs.Prelude.{◌≡◌, ◌≤◌, ◌∷◌, [], ◌++◌, ◌+◌, ◌==◌, ℕ, Bool, List, length, not, true, false, map, bytes_eq, codes, slice_get, Option, Some, None, IfOk, OnOk, is_none, if◌then◌else◌, pos};
 ghost use Rattle.std.specs.List.{list_any, slice_set, AllByRecursion};
 ghost use Rattle.std.specs.Option.{option_map, option_map_or};
-ghost use Rattle.mps_meaning.specs.declared.fault.FaultKind.TheVariants.{Fields, RowType, RowRepeated, UnknownRow, EntryRepeated};
-ghost use Rattle.line_words.specs.Lines.{field, LineFields};
-ghost use Rattle.mps_meaning.specs.Described.{is_one_of, row_kind_of};
-ghost use Rattle.mps_meaning.specs.Faults.{earliest_fault};
+ghost use Rattle.program_rows.specs.declared.mps_fault_kind.MpsFaultKind.TheVariants.{Fields, RowType, RowRepeated, UnknownRow, EntryRepeated};
+ghost use Rattle.auction_terms.specs.LineFields.{field, LineFields};
+ghost use Rattle.program_rows.specs.MpsProgram.{is_one_of, row_kind_of};
+ghost use Rattle.program_rows.specs.MpsFaults.{earliest_fault};
 ghost use Rattle.program_rows.specs.Parts.{shown_row, IsName};
 ghost use Rattle.auction_terms.specs.Borrowed.{bytes_of};
 ghost use Rattle.mps_reader.specs.inside.Reading.{AnswersFault};
@@ -18,8 +18,7 @@ use crate::names::insert_name;
 use crate::refusal::Refusal;
 use crate::row_table::Rows;
 use crate::words::is_word;
-use mps_meaning::FaultKind;
-use program_rows::{NameSet, Row, RowKind, place_of};
+use program_rows::{MpsFaultKind, NameSet, Row, RowKind, place_of};
 use std::alloc::{AllocError, Global};
 use std::cell::Cell;
 
@@ -114,7 +113,7 @@ pub fn stamp_row(
     ensures stamped { IfOk result (λ i. stamps.new.items ≡ slice_set stamps.old.items i stamp) }
 {
     let Some(index) = place_of(names, next, row) else {
-        return Err(Refusal::Fault(FaultKind::UnknownRow));
+        return Err(Refusal::Fault(MpsFaultKind::UnknownRow));
     };
     refuse!(stamps[index] == stamp, EntryRepeated);
     stamps[index] = stamp;

@@ -1,7 +1,7 @@
 //! The sections of a text.
 
 ghost use Rattle.std.specs.Prelude.{◌≡◌};
-ghost use Rattle.mps_meaning.specs.Faults.{place_of};
+ghost use Rattle.program_rows.specs.MpsFaults.{place_of};
 ghost use Rattle.mps_reader.specs.inside.Sections.{word_of, section_named};
 
 use crate::words::is_word;
@@ -35,7 +35,7 @@ pub fn place(section: Section) -> u8
     }
 }
 
-/// The section that a word heads; the start where it heads none.
+/// The section that a word heads; the start if it heads none.
 pub fn section_of(word: &[u8]) -> Section
     ensures { result ≡ section_named word.now }
 {

@@ -1,15 +1,15 @@
 //! Numbers of a line.
 
 ghost use Rattle.std.specs.Prelude.{◌≡◌, IfOk};
-ghost use Rattle.mps_meaning.specs.Described.{value};
-ghost use Rattle.mps_meaning.specs.Faults.{number_fault};
+ghost use Rattle.program_rows.specs.MpsProgram.{value};
+ghost use Rattle.program_rows.specs.MpsFaults.{number_fault};
 ghost use Rattle.mps_reader.specs.inside.Reading.{AnswersFault, bit_fault};
 ghost use Rattle.mps_reader.specs.inside.Tracking.{bit};
-ghost use Rattle.line_words.specs.Numbers.{number};
+ghost use Rattle.auction_terms.specs.Decimals.{number};
 
 use crate::refusal::Refusal;
-use line_words::{NumberFault, read_number};
-use mps_meaning::FaultKind;
+use auction_terms::{NumberFault, read_number};
+use program_rows::MpsFaultKind;
 
 /// A number.
 #[inline(always)]
@@ -19,9 +19,9 @@ pub fn take_number(token: &[u8]) -> Result<i64, Refusal>
 {
     match read_number(token) {
         Ok(value) => Ok(value),
-        Err(NumberFault::NumberText) => Err(Refusal::Fault(FaultKind::NumberText)),
-        Err(NumberFault::NumberRange) => Err(Refusal::Fault(FaultKind::NumberRange)),
-        Err(NumberFault::NotWhole) => Err(Refusal::Fault(FaultKind::NotWhole)),
+        Err(NumberFault::NumberText) => Err(Refusal::Fault(MpsFaultKind::NumberText)),
+        Err(NumberFault::NumberRange) => Err(Refusal::Fault(MpsFaultKind::NumberRange)),
+        Err(NumberFault::NotWhole) => Err(Refusal::Fault(MpsFaultKind::NotWhole)),
     }
 }
 

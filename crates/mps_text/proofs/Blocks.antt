@@ -1,19 +1,19 @@
 -- Reading line after line, and what the lines of a block leave.
 use Rattle.std.proofs.Common.{◌≡◌, ℕ, ◌+◌, false, List, [], ◌∷◌, ◌++◌, map, refl, None, Ok}
-use Rattle.line_words.specs.Lines.{LineFields}
-use Rattle.mps_meaning.specs.MpsLines.{Line, Data}
-use Rattle.mps_meaning.specs.Sections.{Sections, with_line, is_end}
-use Rattle.mps_meaning.specs.Faults.{fault}
-use Rattle.mps_meaning.specs.Described.{program}
-use Rattle.mps_meaning.specs.Meaning.{meaning_behind}
+use Rattle.auction_terms.specs.LineFields.{LineFields}
+use Rattle.program_rows.specs.MpsLines.{Line, Data}
+use Rattle.program_rows.specs.MpsSections.{Sections, with_line, is_end}
+use Rattle.program_rows.specs.MpsFaults.{fault}
+use Rattle.program_rows.specs.MpsProgram.{program}
+use Rattle.program_rows.specs.MpsMeaning.{meaning_behind}
 use Rattle.mps_text.proofs.Fields.{end_line}
 
--- the lines ls, read behind others
+-- the lines ls, read after others
 abbrev pub onto : List Line → Sections → Sections
 onto [] before = before
 onto (line ∷ ls) before = onto ls (with_line before line)
 
--- no line of these is faulty behind those before it, and none is the end
+-- no line of these is faulty after those before it, and none is the end
 abbrev pub AreRead : Sections → List Line → Type 0
 AreRead before [] = Unit {0}
 AreRead before (line ∷ ls) = (fault before line ≡ None) × (is_end line ≡ false) × AreRead (with_line before line) ls

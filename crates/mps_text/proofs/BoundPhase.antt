@@ -6,14 +6,14 @@ use Rattle.auction_terms.proofs.OfferLaws.{all_agree}
 use Rattle.program_rows.specs.declared.bounds.Bounds.{Bounds}
 use Rattle.program_rows.specs.declared.bounds.Bounds.TheVariants.{ZeroOrOne, Zero, One}
 use Rattle.program_rows.specs.Program.{TableColumn}
-use Rattle.mps_meaning.specs.MpsLines.{Data}
-use Rattle.mps_meaning.specs.Sections.{Sections, with_line}
-use Rattle.mps_meaning.specs.Faults.{fault}
-use Rattle.line_words.specs.Numbers.{number}
+use Rattle.program_rows.specs.MpsLines.{Data}
+use Rattle.program_rows.specs.MpsSections.{Sections, with_line}
+use Rattle.program_rows.specs.MpsFaults.{fault}
+use Rattle.auction_terms.specs.Decimals.{number}
 use Rattle.mps_text.specs.Text.{bound_words}
 use Rattle.mps_text.proofs.Blocks.{AreRead}
 use Rattle.mps_text.proofs.Fields.{bound_fields}
-use Rattle.mps_meaning.specs.Described.{is_column}
+use Rattle.program_rows.specs.MpsProgram.{is_column}
 
 bound-read : (before : Sections) (name : List ℕ) (b : Bounds) → before.section ≡ codes "BOUNDS" → is_column before.columns name ≡ true → fault before (Data ((bound_words b).0 ∷ codes "BND" ∷ name ∷ (bound_words b).1 ∷ [])) ≡ None
 unfolding fault number

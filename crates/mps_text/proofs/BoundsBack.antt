@@ -5,11 +5,11 @@ use Rattle.std.specs.List.{AllByRecursion, IsDistinct}
 use Rattle.program_rows.specs.declared.bounds.Bounds.{Bounds}
 use Rattle.program_rows.specs.declared.bounds.Bounds.TheVariants.{ZeroOrOne, Zero, One}
 use Rattle.program_rows.specs.Program.{TableColumn}
-use Rattle.line_words.specs.Lines.{LineFields, field}
-use Rattle.mps_meaning.specs.Sections.{Sections}
-use Rattle.mps_meaning.specs.Described.{is_one_of, lower, upper, bound_pair}
-use Rattle.mps_meaning.specs.Faults.{is_binary, stands_in_integers}
-use Rattle.line_words.specs.Numbers.{number}
+use Rattle.auction_terms.specs.LineFields.{LineFields, field}
+use Rattle.program_rows.specs.MpsSections.{Sections}
+use Rattle.program_rows.specs.MpsProgram.{is_one_of, lower, upper, bound_pair}
+use Rattle.program_rows.specs.MpsFaults.{is_binary, stands_in_integers}
+use Rattle.auction_terms.specs.Decimals.{number}
 use Rattle.mps_text.specs.Text.{bound_words}
 use Rattle.program_rows.proofs.NamedItems.{bytes_flip}
 use Rattle.program_rows.proofs.EachLaws.{each}

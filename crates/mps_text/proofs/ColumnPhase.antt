@@ -4,15 +4,15 @@ use Rattle.std.specs.Prelude.{bytes_eq, codes, flat_map}
 use Rattle.std.specs.List.{list_any, AllByRecursion, IsDistinct}
 use Rattle.std.proofs.lemmas.Slice.Eq.{bytes_eq-Decides}
 use Rattle.auction_terms.proofs.OfferLaws.{all_agree}
-use Rattle.line_words.specs.Lines.{LineFields}
-use Rattle.mps_meaning.specs.MpsLines.{Line, Data}
-use Rattle.mps_meaning.specs.Sections.{Sections, with_line}
-use Rattle.mps_meaning.specs.Faults.{fault, is_declared, is_split, number_fault}
+use Rattle.auction_terms.specs.LineFields.{LineFields}
+use Rattle.program_rows.specs.MpsLines.{Line, Data}
+use Rattle.program_rows.specs.MpsSections.{Sections, with_line}
+use Rattle.program_rows.specs.MpsFaults.{fault, is_declared, is_split, number_fault}
 use Rattle.mps_text.proofs.Blocks.{onto, AreRead, AreRead-append, section-onto}
 use Rattle.mps_text.proofs.RowPhase.{others_kept}
 use Rattle.program_rows.proofs.NamedItems.{bytes_flip}
-use Rattle.line_words.specs.Numbers.{number}
-use Rattle.mps_meaning.specs.Described.{column_pairs, is_column}
+use Rattle.auction_terms.specs.Decimals.{number}
+use Rattle.program_rows.specs.MpsProgram.{column_pairs, is_column}
 
 -- a row and a number of a column
 abbrev pub Pair : Type 0

@@ -4,9 +4,9 @@ use Rattle.std.specs.Prelude.{⊤, bytes_eq, filter, find, flat_map, drop, if◌
 use Rattle.std.proofs.lemmas.List.{append-nil}
 use Rattle.std.specs.List.{list_any, AllByRecursion, IsDistinct}
 use Rattle.std.proofs.lemmas.Slice.Eq.{bytes_eq-Decides}
-use Rattle.line_words.specs.Lines.{LineFields, field}
-use Rattle.mps_meaning.specs.Described.{is_marker, is_column, columns_named, column_lines, pairs}
-use Rattle.mps_meaning.specs.Faults.{is_integer_open, stands_in_integers}
+use Rattle.auction_terms.specs.LineFields.{LineFields, field}
+use Rattle.program_rows.specs.MpsProgram.{is_marker, is_column, columns_named, column_lines, pairs}
+use Rattle.program_rows.specs.MpsFaults.{is_integer_open, stands_in_integers}
 use Rattle.program_rows.proofs.NamedItems.{bytes_flip}
 use Rattle.mps_text.proofs.ColumnPhase.{ArePlain, Pair, pair_fields, same-name}
 use Rattle.mps_text.proofs.Pushed.{push, push-append}
@@ -133,7 +133,7 @@ other-rows : (row : List ℕ) (ps before : List Pair) → AllByRecursion (λ q. 
 other-rows row [] before d = refl
 other-rows row (pair ∷ ps) before d = other-rows row ps (pair ∷ before) d.1 ∙ rw (d.0) refl
 
--- where no two rows are the same, a pair is found from either end
+-- if no two rows are the same, a pair is found from either end
 pub looked : (row : List ℕ) (ps before : List Pair) → IsDistinct bytes_eq (map (λ pair. pair.0) ps) → look row before ≡ None → look row (push ps before) ≡ look row ps
 unfolding IsDistinct
 looked row [] before d h = h

@@ -5,7 +5,7 @@ use Rattle.auction_terms.proofs.LimitLaws.{kept_are_offers}
 use Rattle.program_rows.specs.Program.{Table}
 use Rattle.program_rows.specs.Faithful.{IsFaithful}
 use Rattle.program_rows.specs.Rows.{program_of}
-use Rattle.mps_meaning.specs.Meaning.{meaning}
+use Rattle.program_rows.specs.MpsMeaning.{meaning}
 use Rattle.program_rows.proofs.FaithfulLaws.{presolved_is_faithful, least_is_greatest}
 use Rattle.program_rows.proofs.LegalLaws.{built_is_legal}
 use Rattle.mps_text.proofs.RoundTrip.{text-is_read}

@@ -2,9 +2,9 @@
 use Rattle.std.specs.Prelude.{List, [], ◌∷◌, ◌++◌, codes, flat_map, map}
 use Rattle.std.specs.Fmt.{signed_decimal}
 use Rattle.program_rows.specs.Program.{Table, TableRow, TableColumn}
-use Rattle.line_words.specs.Lines.{LineFields}
+use Rattle.auction_terms.specs.LineFields.{LineFields}
 use Rattle.program_rows.specs.ProgramNames.{row_name}
-use Rattle.mps_meaning.specs.MpsLines.{Line, Header}
+use Rattle.program_rows.specs.MpsLines.{Line, Header}
 use Rattle.mps_text.specs.Text.{block, bound_words, if_any, kind_letter}
 
 abbrev pub row_fields : TableRow → LineFields

@@ -11,8 +11,8 @@ use Rattle.std.proofs.lemmas.List.Folds.{list_all-append}
 use Rattle.std.proofs.lemmas.List.Splits.{slice_split_at, slice_split_none}
 use Rattle.auction_terms.specs.Lines.{is_line_feed, lines_of}
 use Rattle.auction_terms.proofs.OfferLaws.{all_agree, all_append}
-use Rattle.line_words.specs.Lines.{fields, is_space}
-use Rattle.mps_meaning.specs.MpsLines.{Line, Skipped, Unprintable, Header, Data, line_of}
+use Rattle.auction_terms.specs.LineFields.{fields, is_space}
+use Rattle.program_rows.specs.MpsLines.{Line, Skipped, Unprintable, Header, Data, line_of}
 use Rattle.program_rows.proofs.NamedItems.{all_pass}
 use Rattle.mps_text.proofs.LineParts.{lines_of_parts, lines_are}
 use Rattle.mps_text.specs.Text.{written}
@@ -52,7 +52,7 @@ no_return (b ∷ bytes) (suc i) h = no_return bytes i h.1
 keeps : (bytes : List ℕ) → AllByRecursion Plain bytes → strip_carriage_return bytes ≡ bytes
 keeps bytes h = rw (no_return bytes (length bytes - 1) h) refl
 
--- the first line of a text that goes on behind it
+-- the first line of a text that goes on after it
 pub lines-line : (bytes rest : List ℕ) → AllByRecursion Plain bytes → lines_of (bytes ++ 10 ∷ rest) ≡ bytes ∷ lines_of rest
 lines-line bytes rest h =
     let more = split_some is_line_feed rest in

@@ -7,8 +7,8 @@ use Rattle.std.proofs.lemmas.List.{map-append}
 use Rattle.std.proofs.lemmas.Bool.{or_right}
 use Rattle.program_rows.specs.Program.{Table, TableRow, TableColumn}
 use Rattle.program_rows.specs.Parts.{AreEntries}
-use Rattle.line_words.specs.Lines.{LineFields, field}
-use Rattle.mps_meaning.specs.MpsLines.{Data}
+use Rattle.auction_terms.specs.LineFields.{LineFields, field}
+use Rattle.program_rows.specs.MpsLines.{Data}
 use Rattle.program_rows.proofs.EachLaws.{each, each_map}
 use Rattle.mps_text.proofs.ColumnPhase.{ArePlain, Pair, pair_fields, same-name, columns_lines}
 use Rattle.mps_text.proofs.Pushed.{push, push-append}
@@ -44,7 +44,7 @@ places-differ (r ∷ rows) d i zero lt len = absurd (omega arith)
 places-differ (r ∷ rows) d zero (suc j) lt len = at-name (λ name. bytes_eq r.name name ≡ false) rows j d.0 (omega arith)
 places-differ (r ∷ rows) d (suc i) (suc j) lt len = places-differ rows d.1 i j (omega arith) (omega arith)
 
--- each row stands at its place
+-- each row is at its place
 pub names-at : (all : List TableRow) (k : ℕ) (rows : List TableRow) → ((i : ℕ) → slice_get all (k + i) ≡ slice_get rows i) → AllByRecursion (λ r. row_name all r.0 ≡ r.1.name) (enumerate_from k rows)
 names-at all k [] h = tt
 names-at all k (r ∷ rows) h =

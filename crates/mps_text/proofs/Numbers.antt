@@ -11,7 +11,7 @@ use Rattle.std.proofs.lemmas.Bool.Decides.{nat_tests}
 use Rattle.std.proofs.lemmas.Grind.{common_steps}
 use Rattle.std.proofs.lemmas.Str.Parse.{digit_from_value}
 use Rattle.std.proofs.lemmas.Fmt.{decimal_is_IsNumeral, length-decimal-le}
-use Rattle.line_words.specs.Numbers.{number, is_exponent_mark, is_minus, without_sign, signed}
+use Rattle.auction_terms.specs.Decimals.{number, is_exponent_mark, is_minus, without_sign, signed}
 use Rattle.auction_terms.proofs.OfferLaws.{all_agree}
 pub use Rattle.program_rows.specs.Legal.{IsSmall}
 use Rattle.program_rows.proofs.NamedItems.{all_pass}
@@ -53,7 +53,7 @@ no_marks (d ∷ ds) h = rw (no_mark d h.0, no_marks ds h.1) refl
 whole_scale : (n : ℕ) → ((n * 1) % 1 == 0) ≡ true
 whole_scale n = eq-eqb _ _ (omega arith)
 
--- digits, behind a minus or not
+-- digits, after a minus or not
 pub number-digits : (token ds : List ℕ) → without_sign token ≡ ds → list_any is_exponent_mark token ≡ false → Digits ds → 0 < length ds → length ds ≤ 30 → digits_value 10 ds ≤ 10 ^ 18
     → number token ≡ Ok (signed (is_minus token) (digits_value 10 ds))
 unfolding number

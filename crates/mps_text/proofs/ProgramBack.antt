@@ -6,10 +6,10 @@ use Rattle.std.proofs.lemmas.List.{reverse-reverse}
 use Rattle.std.proofs.lemmas.Bool.{false_from_ne_true, ltb-true}
 use Rattle.program_rows.specs.Program.{Table, TableRow, TableColumn}
 use Rattle.program_rows.specs.Parts.{IsProgram, AreEntries}
-use Rattle.line_words.specs.Lines.{LineFields}
-use Rattle.mps_meaning.specs.Sections.{Sections}
-use Rattle.mps_meaning.specs.Described.{column_lines, first_free, columns_named, table_column, table_rows, program, lower, upper, column_pairs, number_beside, line_right_sides}
-use Rattle.mps_meaning.specs.Faults.{is_binary, stands_in_integers}
+use Rattle.auction_terms.specs.LineFields.{LineFields}
+use Rattle.program_rows.specs.MpsSections.{Sections}
+use Rattle.program_rows.specs.MpsProgram.{column_lines, first_free, columns_named, table_column, table_rows, program, lower, upper, column_pairs, number_beside, line_right_sides}
+use Rattle.program_rows.specs.MpsFaults.{is_binary, stands_in_integers}
 use Rattle.program_rows.specs.Legal.{IsWritable, IsSmall}
 use Rattle.program_rows.proofs.EachLaws.{each}
 use Rattle.mps_text.proofs.Small.{small_costs, small_entries}
@@ -23,7 +23,7 @@ use Rattle.mps_text.proofs.BoundsBack.{bounds-found, none-set, bounds-back, bina
 use Rattle.mps_text.proofs.EntriesBack.{worth, pair_of, entries-back}
 use Rattle.mps_text.proofs.Listing.{row_names, pairs_of, all_listed, places-differ, names-at, names-listed, all-filled, all-pairs-differ}
 use Rattle.program_rows.specs.ProgramNames.{row_name}
-use Rattle.mps_meaning.specs.declared.fault.FaultKind.TheVariants.{NotBinary}
+use Rattle.program_rows.specs.declared.mps_fault_kind.MpsFaultKind.TheVariants.{NotBinary}
 use Rattle.program_rows.specs.declared.bounds.Bounds.TheVariants.{One, Zero, ZeroOrOne}
 use Rattle.std.specs.Ordering.{int_eq}
 use Rattle.mps_text.proofs.Fields.{row_fields, right_side_fields, bound_fields}
@@ -49,8 +49,8 @@ objective-back before p h = rw (h, push-onto_none ((codes "N" ∷ p.objective �
 
 pub rows-listed : (before : Sections) (p : Table) → IsProgram p → IsWritable p → Lists before p → rows_in before ≡ p.rows
 unfolding IsDistinct
-rows-listed before p legal told h =
-    rows_back before (codes "N" ∷ p.objective ∷ []) p.rows refl (h.rows ∙ push-onto_none ((codes "N" ∷ p.objective ∷ []) ∷ map row_fields p.rows)) (h.sides ∙ push-onto_none (map right_side_fields p.rows)) legal.rows_differ.1 told.right_sides
+rows-listed before p legal parsed h =
+    rows_back before (codes "N" ∷ p.objective ∷ []) p.rows refl (h.rows ∙ push-onto_none ((codes "N" ∷ p.objective ∷ []) ∷ map row_fields p.rows)) (h.sides ∙ push-onto_none (map right_side_fields p.rows)) legal.rows_differ.1 parsed.right_sides
 
 -- ---- columns
 
@@ -122,10 +122,10 @@ columns-from before p (c ∷ cs) o same differ found low high legal cost small =
 
 pub program-back : (before : Sections) (p : Table) → IsProgram p → IsWritable p → Lists before p → program before ≡ p
 unfolding program
-program-back before p legal told h =
+program-back before p legal parsed h =
     let o : objective_in before ≡ p.objective = ap (λ (w : Option (List ℕ)). unwrap_or w []) (objective-back before p h.rows) in
-    let rs = rows-listed before p legal told h in
-    let cs = ap (map (table_column before)) (names-back before p legal h) ∙ columns-from before p p.columns o rs legal.rows_differ (all-found before p legal h) (all-set before p lower_types legal h) (all-set before p upper_types legal h) legal.entries (small_costs p.columns told.numbers) (small_entries p.columns told.numbers) in
+    let rs = rows-listed before p legal parsed h in
+    let cs = ap (map (table_column before)) (names-back before p legal h) ∙ columns-from before p p.columns o rs legal.rows_differ (all-found before p legal h) (all-set before p lower_types legal h) (all-set before p upper_types legal h) legal.entries (small_costs p.columns parsed.numbers) (small_entries p.columns parsed.numbers) in
     (λ i. record { objective = o i; rows = rs i; columns = cs i })
 
 -- ---- all columns are binary

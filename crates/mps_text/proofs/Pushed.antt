@@ -2,9 +2,9 @@
 use Rattle.std.proofs.Common.{◌≡◌, ℕ, List, [], ◌∷◌, ◌++◌, map, reverse, refl, sym, ◌∙◌, append_assoc}
 use Rattle.std.specs.Prelude.{codes}
 use Rattle.std.proofs.lemmas.List.{reverse-append, append-nil}
-use Rattle.line_words.specs.Lines.{LineFields}
-use Rattle.mps_meaning.specs.MpsLines.{Data}
-use Rattle.mps_meaning.specs.Sections.{Sections}
+use Rattle.auction_terms.specs.LineFields.{LineFields}
+use Rattle.program_rows.specs.MpsLines.{Data}
+use Rattle.program_rows.specs.MpsSections.{Sections}
 use Rattle.mps_text.proofs.Blocks.{onto}
 
 -- the elements xs, put in front of others one after the other

@@ -5,13 +5,13 @@ use Rattle.std.specs.List.{list_any, AllByRecursion, IsDistinct}
 use Rattle.auction_terms.proofs.OfferLaws.{all_agree}
 use Rattle.program_rows.specs.Program.{Table, TableRow, TableColumn}
 use Rattle.program_rows.specs.Parts.{IsProgram, AreEntries}
-use Rattle.line_words.specs.Lines.{LineFields, field}
-use Rattle.mps_meaning.specs.MpsLines.{Line, Header, Data}
-use Rattle.mps_meaning.specs.Sections.{Sections, no_lines}
-use Rattle.mps_meaning.specs.Described.{program, column_lines, first_free, columns_named, is_column}
-use Rattle.mps_meaning.specs.Faults.{fault, is_declared, is_integer_open, stands_in_integers, is_binary}
-use Rattle.mps_meaning.specs.Meaning.{meaning, meaning_behind}
-use Rattle.mps_meaning.specs.declared.fault.FaultKind.{FaultKind}
+use Rattle.auction_terms.specs.LineFields.{LineFields, field}
+use Rattle.program_rows.specs.MpsLines.{Line, Header, Data}
+use Rattle.program_rows.specs.MpsSections.{Sections, no_lines}
+use Rattle.program_rows.specs.MpsProgram.{program, column_lines, first_free, columns_named, is_column}
+use Rattle.program_rows.specs.MpsFaults.{fault, is_declared, is_integer_open, stands_in_integers, is_binary}
+use Rattle.program_rows.specs.MpsMeaning.{meaning, meaning_behind}
+use Rattle.program_rows.specs.declared.mps_fault_kind.MpsFaultKind.{MpsFaultKind}
 use Rattle.mps_text.specs.Text.{text, if_any}
 use Rattle.program_rows.specs.Legal.{IsWritable, IsSmall}
 use Rattle.mps_text.specs.RoundTrip.{TextIsRead}
@@ -33,7 +33,7 @@ use Rattle.mps_text.proofs.Listing.{row_names, all_listed, at-name, column-lines
 use Rattle.mps_text.proofs.WrittenLines.{all-written, text_lines}
 use Rattle.mps_text.proofs.ProgramBack.{Lists, objective-back, program-back, all-binary}
 use Rattle.program_rows.specs.ProgramNames.{row_name}
-use Rattle.mps_meaning.specs.declared.fault.FaultKind.TheVariants.{NotBinary}
+use Rattle.program_rows.specs.declared.mps_fault_kind.MpsFaultKind.TheVariants.{NotBinary}
 use Rattle.mps_text.proofs.Fields.{bound_fields, bounds_part, column_fields, columns_part, end_line, first_marker, last_marker, name_line, right_side_fields, row_fields, rows_part, sides_part}
 
 -- ---- names of rows
@@ -41,7 +41,7 @@ use Rattle.mps_text.proofs.Fields.{bound_fields, bounds_part, column_fields, col
 abbrev rows_of : Table → List LineFields
 rows_of p = push ((codes "N" ∷ p.objective ∷ []) ∷ map row_fields p.rows) []
 
--- the objective and each row is declared once the lines of ROWS stand
+-- the objective and each row is declared once the lines of ROWS are read
 objective-declared : (p : Table) → list_any (λ row. bytes_eq p.objective (field 1 row)) (rows_of p) ≡ true
 objective-declared p = any-keeps (λ row. bytes_eq p.objective (field 1 row)) (map row_fields p.rows) ((codes "N" ∷ p.objective ∷ []) ∷ []) (rw (same-name p.objective) refl)
 
@@ -136,12 +136,12 @@ end-behind_bounds before name s o b = rw (s, o, b) refl
 
 -- ---- the whole text
 
--- what stands before a line, and that all of it was read
+-- what comes before a line, and that all of it was read
 pub record IsBehind (ls : List Line) (word : List ℕ) (rs cs ss bs : List LineFields) : Type 0 where
   pub read : AreRead no_lines ls
   pub holds : onto ls no_lines ≡ held word rs cs ss bs
 
--- a block behind others
+-- a block after others
 behind-then : (ls more : List Line) (old word : List ℕ) (rs cs ss bs rs' cs' ss' bs' : List LineFields) → IsBehind ls old rs cs ss bs → AreRead (held old rs cs ss bs) more → onto more (held old rs cs ss bs) ≡ held word rs' cs' ss' bs' → IsBehind (ls ++ more) word rs' cs' ss' bs'
 behind-then ls more old word rs cs ss bs rs' cs' ss' bs' h read holds = record {
   read = AreRead-append no_lines ls more h.read (subst (λ s. AreRead s more) (sym h.holds) read);
@@ -180,7 +180,7 @@ unfolding fault
 last_marker-read before s o = rw (s, o) refl
 
 behind-columns : (p : Table) (ls : List Line) → IsProgram p → IsWritable p → IsBehind ls (codes "ROWS") (rows_of p) [] [] [] → IsBehind (ls ++ Header (codes "COLUMNS") [] ∷ map Data (marked p)) (codes "COLUMNS") (rows_of p) (all_columns p) [] []
-behind-columns p ls legal told h =
+behind-columns p ls legal parsed h =
     behind-then ls (Header (codes "COLUMNS") [] ∷ map Data (marked p)) (codes "ROWS") (codes "COLUMNS") (rows_of p) [] [] [] (rows_of p) (all_columns p) [] [] h (
       columns-header start p.objective refl (objective-back start p refl),
       refl,
@@ -205,20 +205,20 @@ behind-columns p ls legal told h =
     listed_lines = plain_lines (all_listed p p.columns)
 
     plain_pairs : AllByRecursion (λ c. ArePlain c.1) (all_listed p p.columns)
-    plain_pairs = all-plain p p.columns told.no_marker legal.entries
+    plain_pairs = all-plain p p.columns parsed.no_marker legal.entries
 
     lines_read : AreRead marked_start (map Data listed_lines)
     lines_read = subst (AreRead marked_start) (data-lines (all_listed p p.columns))
         (columns-read marked_start (all_listed p p.columns) refl (subst (IsDistinct bytes_eq) (sym (names-listed p p.columns)) legal.columns_differ)
-        (new-columns p marked_start p.columns refl refl told.no_marker legal.rows_differ legal.entries (small_costs p.columns told.numbers) (small_entries p.columns told.numbers)))
+        (new-columns p marked_start p.columns refl refl parsed.no_marker legal.rows_differ legal.entries (small_costs p.columns parsed.numbers) (small_entries p.columns parsed.numbers)))
 
 behind-sides : (p : Table) (ls : List Line) (cs : List LineFields) → IsProgram p → IsWritable p → IsBehind ls (codes "COLUMNS") (rows_of p) cs [] [] → IsBehind (ls ++ sides_part p) (codes "RHS") (rows_of p) cs (push (map right_side_fields p.rows) []) []
 unfolding IsDistinct
-behind-sides p ls cs legal told h =
+behind-sides p ls cs legal parsed h =
     behind-then ls (sides_part p) (codes "COLUMNS") (codes "RHS") (rows_of p) cs [] [] (rows_of p) cs (push (map right_side_fields p.rows) []) [] h (
       sides-header start p.objective refl (objective-back start p refl),
       refl,
-      right_sides-read opened p.rows refl legal.rows_differ.1 (ready-sides p opened p.rows refl refl (all-known p) legal.rows_differ.0 told.right_sides),
+      right_sides-read opened p.rows refl legal.rows_differ.1 (ready-sides p opened p.rows refl refl (all-known p) legal.rows_differ.0 parsed.right_sides),
     )
     (holds-sides (map right_side_fields p.rows) (rows_of p) cs [] [])
   where
@@ -233,14 +233,14 @@ between-markers : (p : Table) → AllByRecursion (λ c. ArePlain c.1) (all_liste
 between-markers p plain = keeps-lines (all_listed p p.columns) (first_marker ∷ []) plain
 
 all_plain_pairs : (p : Table) → IsProgram p → IsWritable p → AllByRecursion (λ c. ArePlain c.1) (all_listed p p.columns)
-all_plain_pairs p legal told = all-plain p p.columns told.no_marker legal.entries
+all_plain_pairs p legal parsed = all-plain p p.columns parsed.no_marker legal.entries
 
 behind-bounds : (p : Table) (ls : List Line) (ss : List LineFields) → IsProgram p → IsWritable p → IsBehind ls (codes "RHS") (rows_of p) (all_columns p) ss [] → IsBehind (ls ++ bounds_part p) (codes "BOUNDS") (rows_of p) (all_columns p) ss (push (map bound_fields p.columns) [])
-behind-bounds p ls ss legal told h =
+behind-bounds p ls ss legal parsed h =
     behind-then ls (bounds_part p) (codes "RHS") (codes "BOUNDS") (rows_of p) (all_columns p) ss [] (rows_of p) (all_columns p) ss (push (map bound_fields p.columns) []) h (
       bounds-header start p.objective refl (objective-back start p refl),
       refl,
-      bounds-read opened p.columns refl (known-columns p opened p.columns (push (plain_lines (all_listed p p.columns)) []) (between-markers p (all_plain_pairs p legal told)) (columns-named p p.columns [])),
+      bounds-read opened p.columns refl (known-columns p opened p.columns (push (plain_lines (all_listed p p.columns)) []) (between-markers p (all_plain_pairs p legal parsed)) (columns-named p p.columns [])),
     )
     (holds-bounds (map bound_fields p.columns) (rows_of p) (all_columns p) ss [])
   where
@@ -259,16 +259,16 @@ abbrev all_lines : Table → Sections
 all_lines p = held (codes "BOUNDS") (rows_of p) (all_columns p) (push (map right_side_fields p.rows) []) (push (map bound_fields p.columns) [])
 
 lists-columns : (p : Table) → IsProgram p → IsWritable p → Lists (all_lines p) p
-lists-columns p legal told = record {
+lists-columns p legal parsed = record {
   rows = refl;
-  columns = between-markers p (all_plain_pairs p legal told);
+  columns = between-markers p (all_plain_pairs p legal parsed);
   stand = skip-marker p p.columns (push (plain_lines (all_listed p p.columns)) (first_marker ∷ []))
-      (all-stand (all_listed p p.columns) (first_marker ∷ []) (subst (IsDistinct bytes_eq) (sym (names-listed p p.columns)) legal.columns_differ) (all-filled p p.columns) (all_plain_pairs p legal told) refl);
+      (all-stand (all_listed p p.columns) (first_marker ∷ []) (subst (IsDistinct bytes_eq) (sym (names-listed p p.columns)) legal.columns_differ) (all-filled p p.columns) (all_plain_pairs p legal parsed) refl);
   sides = refl;
   bounds = refl;
 }
 
-abbrev meaning_of_lines : List Line → Result Table (ℕ × FaultKind)
+abbrev meaning_of_lines : List Line → Result Table (ℕ × MpsFaultKind)
 meaning_of_lines ls = meaning_behind 0 no_lines ls
 
 -- the meaning of lines that are read, and then the end
@@ -277,8 +277,8 @@ meaning-end p ls word rs cs ss bs h f e =
     read-through 0 no_lines ls h.read (ap (λ s. fault s end_line) h.holds ∙ f) ∙ ap (λ s. Ok (program s)) h.holds ∙ ap (λ q. Ok q) e
 
 behind-columns_part : (p : Table) (c : TableColumn) (cs : List TableColumn) (ls : List Line) → IsProgram p → IsWritable p → p.columns ≡ c ∷ cs → IsBehind ls (codes "ROWS") (rows_of p) [] [] [] → IsBehind (ls ++ columns_part p) (codes "COLUMNS") (rows_of p) (all_columns p) [] []
-behind-columns_part p c cs ls legal told e h =
-    subst (λ (w : List LineFields). IsBehind (ls ++ Header (codes "COLUMNS") [] ∷ map Data w) (codes "COLUMNS") (rows_of p) (all_columns p) [] []) same (behind-columns p ls legal told h)
+behind-columns_part p c cs ls legal parsed e h =
+    subst (λ (w : List LineFields). IsBehind (ls ++ Header (codes "COLUMNS") [] ∷ map Data w) (codes "COLUMNS") (rows_of p) (all_columns p) [] []) same (behind-columns p ls legal parsed h)
   where
     same : marked p ≡ if_any p.columns (first_marker ∷ flat_map (column_fields p) p.columns ++ last_marker ∷ [])
     same = ap (λ (w : List LineFields). first_marker ∷ w ++ last_marker ∷ []) (sym (column-lines p p.columns)) ∙ if-some p.columns e
@@ -291,25 +291,25 @@ abbrev table : List ℕ → List TableRow → List TableColumn → Table
 table o rs cs = record { objective = o; rows = rs; columns = cs }
 
 meaning-lines : (o : List ℕ) (rs : List TableRow) (cs : List TableColumn) → IsProgram (table o rs cs) → IsWritable (table o rs cs) → meaning_of_lines (text_lines (table o rs cs)) ≡ Ok (table o rs cs)
-meaning-lines o rs [] legal told =
+meaning-lines o rs [] legal parsed =
     let p = table o rs [] in
     let two = behind-no_columns p (name_line ∷ rows_part p) (behind-rows p legal) in
-    let three = behind-sides p ((name_line ∷ rows_part p) ++ columns_part p) [] legal told two in
+    let three = behind-sides p ((name_line ∷ rows_part p) ++ columns_part p) [] legal parsed two in
     let ls = (name_line ∷ rows_part p) ++ columns_part p ++ sides_part p in
     let all = held (codes "RHS") (rows_of p) [] (push (map right_side_fields rs) []) [] in
     let lists : Lists all p = record { rows = refl; columns = refl; stand = tt; sides = refl; bounds = refl } in
     ap meaning_of_lines (ap (λ (w : List Line). w ++ end_line ∷ []) (append-nil ls))
-    ∙ meaning-end p ls (codes "RHS") (rows_of p) [] (push (map right_side_fields rs) []) [] three (end-behind_sides all o refl (objective-back all p refl) (all-binary all p legal lists)) (program-back all p legal told lists)
-meaning-lines o rs (c ∷ cs) legal told =
+    ∙ meaning-end p ls (codes "RHS") (rows_of p) [] (push (map right_side_fields rs) []) [] three (end-behind_sides all o refl (objective-back all p refl) (all-binary all p legal lists)) (program-back all p legal parsed lists)
+meaning-lines o rs (c ∷ cs) legal parsed =
     let p = table o rs (c ∷ cs) in
-    let two = behind-columns_part p c cs (name_line ∷ rows_part p) legal told refl (behind-rows p legal) in
-    let three = behind-sides p ((name_line ∷ rows_part p) ++ columns_part p) (all_columns p) legal told two in
-    let four = behind-bounds p ((name_line ∷ rows_part p) ++ columns_part p ++ sides_part p) (push (map right_side_fields p.rows) []) legal told three in
+    let two = behind-columns_part p c cs (name_line ∷ rows_part p) legal parsed refl (behind-rows p legal) in
+    let three = behind-sides p ((name_line ∷ rows_part p) ++ columns_part p) (all_columns p) legal parsed two in
+    let four = behind-bounds p ((name_line ∷ rows_part p) ++ columns_part p ++ sides_part p) (push (map right_side_fields p.rows) []) legal parsed three in
     let ls = (name_line ∷ rows_part p) ++ columns_part p ++ sides_part p ++ bounds_part p in
-    let lists = lists-columns p legal told in
+    let lists = lists-columns p legal parsed in
     meaning-end p ls (codes "BOUNDS") (rows_of p) (all_columns p) (push (map right_side_fields p.rows) []) (push (map bound_fields p.columns) []) four
-    (end-behind_bounds (all_lines p) o refl (objective-back (all_lines p) p refl) (all-binary (all_lines p) p legal lists)) (program-back (all_lines p) p legal told lists)
+    (end-behind_bounds (all_lines p) o refl (objective-back (all_lines p) p refl) (all-binary (all_lines p) p legal lists)) (program-back (all_lines p) p legal parsed lists)
 
 pub text-is_read : TextIsRead
 unfolding meaning text
-text-is_read p legal told = ap meaning_of_lines (read_again (text_lines p) (all-written p legal told)) ∙ meaning-lines p.objective p.rows p.columns legal told
+text-is_read p legal parsed = ap meaning_of_lines (read_again (text_lines p) (all-written p legal parsed)) ∙ meaning-lines p.objective p.rows p.columns legal parsed

@@ -5,10 +5,10 @@ use Rattle.std.specs.List.{AllByRecursion, IsDistinct}
 use Rattle.program_rows.specs.declared.row.RowKind.{RowKind}
 use Rattle.program_rows.specs.declared.row.RowKind.TheVariants.{AtMost, AtLeast, Equal}
 use Rattle.program_rows.specs.Program.{TableRow}
-use Rattle.mps_meaning.specs.MpsLines.{Data}
-use Rattle.mps_meaning.specs.Sections.{Sections, with_line}
-use Rattle.mps_meaning.specs.Described.{is_one_of, is_free, row_kind_of}
-use Rattle.mps_meaning.specs.Faults.{fault, is_declared}
+use Rattle.program_rows.specs.MpsLines.{Data}
+use Rattle.program_rows.specs.MpsSections.{Sections, with_line}
+use Rattle.program_rows.specs.MpsProgram.{is_one_of, is_free, row_kind_of}
+use Rattle.program_rows.specs.MpsFaults.{fault, is_declared}
 use Rattle.mps_text.specs.Text.{kind_letter}
 use Rattle.program_rows.proofs.NamedItems.{bytes_flip}
 use Rattle.mps_text.proofs.Blocks.{AreRead}

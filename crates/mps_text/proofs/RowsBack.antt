@@ -9,9 +9,9 @@ use Rattle.std.proofs.lemmas.List.Folds.{list_any-append}
 use Rattle.std.proofs.lemmas.Slice.Eq.{bytes_eq-Decides}
 use Rattle.auction_terms.proofs.OfferLaws.{all_agree}
 use Rattle.program_rows.specs.Program.{TableRow}
-use Rattle.line_words.specs.Lines.{LineFields, field}
-use Rattle.mps_meaning.specs.Sections.{Sections}
-use Rattle.mps_meaning.specs.Described.{row_kind_of, is_free, table_rows, line_right_sides, number_beside}
+use Rattle.auction_terms.specs.LineFields.{LineFields, field}
+use Rattle.program_rows.specs.MpsSections.{Sections}
+use Rattle.program_rows.specs.MpsProgram.{row_kind_of, is_free, table_rows, line_right_sides, number_beside}
 use Rattle.mps_text.proofs.Numbers.{IsSmall, number-signed_decimal}
 use Rattle.mps_text.proofs.RowPhase.{bound_rows, type_is}
 use Rattle.mps_text.proofs.RightSidePhase.{find-last, find-first}

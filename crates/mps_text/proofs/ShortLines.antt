@@ -8,7 +8,7 @@ use Rattle.std.proofs.lemmas.Grind.{take-set_at}
 use Rattle.std.specs.Prelude.{◌/◌, ◌%◌, decimal}
 use Rattle.std.proofs.lemmas.Fmt.{decimal_digit, decimal_step}
 
--- two bytes, one behind the other
+-- two bytes, one after the other
 two_written : (at next end : ℕ) (xs front : List ℕ) (a b : ℕ) → next ≡ at + 1 → end ≡ at + 2 → end ≤ length xs → take at xs ≡ front → take end (slice_set (slice_set xs at a) next b) ≡ front ++ a ∷ b ∷ []
 two_written at next end xs front a b e f room h =
     take-set_at (slice_set xs at a) next end b (omega arith) (omega (arith, length-set {A = ℕ}))
@@ -53,7 +53,7 @@ two_digits at xs n large small room =
     four_written (at + 3) at xs 32 (48 + n / 10) (48 + n % 10) 10 refl room
     ∙ ap (λ (digits : List ℕ). take at xs ++ (32 ∷ (digits ++ 10 ∷ []))) (sym (digits_of_two n large small))
 
--- the blank behind the name has room
+-- the blank after the name has room
 put_within : (line new name : List ℕ) → length name + 2 ≤ length line → new ≡ name → 1 + length name < length (put_mid 1 (1 + length name - 1) (slice_set line 0 32) new)
 put_within line new name room same =
     let begun : List ℕ = slice_set line 0 32 in

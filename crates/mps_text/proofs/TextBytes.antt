@@ -1,4 +1,4 @@
--- The bytes of the sections, one behind the other, are the text.
+-- The bytes of the sections, one after the other, are the text.
 use Rattle.std.proofs.Common.{◌≡◌, ℕ, List, [], ◌∷◌, ◌++◌, length, map, refl, sym, ap, ◌∙◌, append_assoc}
 use Rattle.std.specs.Prelude.{codes, flat_map, ℤ}
 use Rattle.std.proofs.lemmas.List.{map-append}
@@ -7,8 +7,8 @@ use Rattle.std.proofs.lemmas.Grind.{flat_map-append}
 use Rattle.program_rows.specs.declared.parts.ProgramParts.{ProgramParts}
 use Rattle.program_rows.specs.Program.{Table, TableColumn}
 use Rattle.program_rows.specs.Parts.{shown_row, table_of}
-use Rattle.line_words.specs.Lines.{LineFields}
-use Rattle.mps_meaning.specs.MpsLines.{Data}
+use Rattle.auction_terms.specs.LineFields.{LineFields}
+use Rattle.program_rows.specs.MpsLines.{Data}
 use Rattle.mps_text.specs.Text.{written, text, block, if_any}
 use Rattle.mps_text.specs.Bytes.{bound_bytes, column_bytes, cost_bytes, right_side_bytes, row_bytes}
 use Rattle.mps_text.specs.inside.Bytes.{parts_bytes, where_any}
@@ -74,5 +74,5 @@ text-of_table p = sym (
 
 pub text-of_parts : (q : ProgramParts) (p : Table) → table_of q ≡ p → parts_bytes q ≡ text p
 text-of_parts q p e =
-    let told : parts_bytes q ≡ text (table_of q) = rw (← flat_map-map row_bytes shown_row q.rows.items, ← flat_map-map right_side_bytes shown_row q.rows.items) (text-of_table (table_of q)) in
-    told ∙ ap text e
+    let parsed : parts_bytes q ≡ text (table_of q) = rw (← flat_map-map row_bytes shown_row q.rows.items, ← flat_map-map right_side_bytes shown_row q.rows.items) (text-of_table (table_of q)) in
+    parsed ∙ ap text e

@@ -10,12 +10,12 @@ use Rattle.program_rows.specs.Points.{broken_row}
 use Rattle.program_rows.specs.Rows.{program_of}
 use Rattle.program_rows.specs.Spelling.{column_bid}
 use Rattle.program_rows.specs.Faithful.{back}
-use Rattle.line_words.specs.Lines.{fields}
-use Rattle.mps_meaning.specs.MpsLines.{line_of}
-use Rattle.mps_meaning.specs.Described.{program}
-use Rattle.mps_meaning.specs.Faults.{fault}
-use Rattle.mps_meaning.specs.Meaning.{meaning}
-use Rattle.line_words.specs.Numbers.{number}
+use Rattle.auction_terms.specs.LineFields.{fields}
+use Rattle.program_rows.specs.MpsLines.{line_of}
+use Rattle.program_rows.specs.MpsProgram.{program}
+use Rattle.program_rows.specs.MpsFaults.{fault}
+use Rattle.program_rows.specs.MpsMeaning.{meaning}
+use Rattle.auction_terms.specs.Decimals.{number}
 use Rattle.mps_text.specs.Text.{text}
 use Rattle.mps_text.specs.FaithfulText.{presolved_text}
 
@@ -72,7 +72,7 @@ no_cost : presolved_text (valued 20) book nobody ≡ codes "NAME wdp\nROWS\n N O
 unfolding text digits
 no_cost = refl
 
--- the row of a pool stands behind those of the categories
+-- the row of a pool comes after those of the categories
 row_of_a_pool : presolved_text pooled book nobody ≡ codes "NAME wdp\nROWS\n N OBJ\n L B1\n L B2\n L B3\n L C1\n L C2\n L P1\nCOLUMNS\n M1 'MARKER' 'INTORG'\n X1_1 OBJ -30\n X1_1 B1 1\n X1_1 C1 1\n X1_1 P1 1\n X2_1 OBJ -20\n X2_1 B2 1\n X2_1 C1 1\n X2_1 P1 1\n X3_1 OBJ -12\n X3_1 B3 1\n X3_1 C2 1\n X3_1 P1 1\n M2 'MARKER' 'INTEND'\nRHS\n RHS B1 1\n RHS B2 1\n RHS B3 1\n RHS C1 2\n RHS C2 1\n RHS P1 2\nBOUNDS\n UP BND X1_1 1\n UP BND X2_1 1\n UP BND X3_1 1\nENDATA\n"
 unfolding text digits
 row_of_a_pool = refl

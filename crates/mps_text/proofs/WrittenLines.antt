@@ -9,8 +9,8 @@ use Rattle.program_rows.specs.declared.bounds.Bounds.{Bounds}
 use Rattle.program_rows.specs.declared.bounds.Bounds.TheVariants.{ZeroOrOne, Zero, One}
 use Rattle.program_rows.specs.Program.{Table, TableRow, TableColumn}
 use Rattle.program_rows.specs.Parts.{IsProgram, AreEntries, IsName}
-use Rattle.line_words.specs.Lines.{LineFields}
-use Rattle.mps_meaning.specs.MpsLines.{Line, Header, Data}
+use Rattle.auction_terms.specs.LineFields.{LineFields}
+use Rattle.program_rows.specs.MpsLines.{Line, Header, Data}
 use Rattle.mps_text.specs.Text.{block, if_any, kind_letter, bound_words}
 use Rattle.program_rows.specs.Legal.{IsWritable, IsSmall}
 use Rattle.auction_terms.proofs.OfferLaws.{all_agree, all_append}
@@ -28,7 +28,7 @@ printables : (bytes : List ℕ) → list_all (λ b. nat_le 33 b && nat_le b 126)
 printables bytes h = all_agree (λ b. (nat_le 33 b && nat_le b 126) ≡ true) Printable bytes (λ b e. let sides = and_parts (nat_le 33 b) (nat_le b 126) e in (leb-true 33 b sides.0, leb-true b 126 sides.1))
     (all_true (λ b. nat_le 33 b && nat_le b 126) bytes h)
 
--- known bytes are a field where they compute to be
+-- known bytes are a field if they compute to be
 known : (bytes : List ℕ) → nat_lt 0 (length bytes) ≡ true → list_all (λ b. nat_le 33 b && nat_le b 126) bytes ≡ true → IsField bytes
 known bytes some all = (ltb-true 0 (length bytes) some, printables bytes all)
 
@@ -100,11 +100,11 @@ abbrev pub text_lines : Table → List Line
 text_lines p = name_line ∷ rows_part p ++ columns_part p ++ sides_part p ++ if_any p.columns (bounds_part p) ++ end_line ∷ []
 
 pub all-written : (p : Table) → IsProgram p → IsWritable p → AllByRecursion IsWritten (text_lines p)
-all-written p legal told =
+all-written p legal parsed =
     let rest4 : AllByRecursion IsWritten (end_line ∷ []) = (header (codes "ENDATA") (λ e. absurd (omega (arith, e))) (known (codes "ENDATA") refl refl), tt) in
     let bounds = bound-part p.columns (bound-lines p.columns legal.column_names) in
-    let sides = headed (codes "RHS") (map right_side_fields p.rows) (λ e. absurd (omega (arith, e))) (known (codes "RHS") refl refl) (side-lines p.rows legal.row_names.1 told.right_sides) in
-    let columns = headed (codes "COLUMNS") (if_any p.columns (first_marker ∷ flat_map (column_fields p) p.columns ++ last_marker ∷ [])) (λ e. absurd (omega (arith, e))) (known (codes "COLUMNS") refl refl) (column-part p p.columns (column-lines p p.columns legal.row_names legal.column_names legal.entries (small_costs p.columns told.numbers) (small_entries p.columns told.numbers))) in
+    let sides = headed (codes "RHS") (map right_side_fields p.rows) (λ e. absurd (omega (arith, e))) (known (codes "RHS") refl refl) (side-lines p.rows legal.row_names.1 parsed.right_sides) in
+    let columns = headed (codes "COLUMNS") (if_any p.columns (first_marker ∷ flat_map (column_fields p) p.columns ++ last_marker ∷ [])) (λ e. absurd (omega (arith, e))) (known (codes "COLUMNS") refl refl) (column-part p p.columns (column-lines p p.columns legal.row_names legal.column_names legal.entries (small_costs p.columns parsed.numbers) (small_entries p.columns parsed.numbers))) in
     let rows = headed (codes "ROWS") ((codes "N" ∷ p.objective ∷ []) ∷ map row_fields p.rows) (λ e. absurd (omega (arith, e))) (known (codes "ROWS") refl refl) ((known (codes "N") refl refl, (legal.row_names.0, tt)), row-lines p.rows legal.row_names.1) in (
       ((λ e. absurd (omega (arith, e))), (known (codes "NAME") refl refl, (known (codes "wdp") refl refl, tt))),
       all_append IsWritten (rows_part p ++ columns_part p ++ sides_part p ++ if_any p.columns (bounds_part p)) (end_line ∷ []) (all_append IsWritten (rows_part p ++ columns_part p ++ sides_part p) (if_any p.columns (bounds_part p))

@@ -2,7 +2,7 @@
 use Rattle.std.specs.Prelude.{ℕ, List, [], ◌∷◌, ◌++◌, codes, flat_map, ℤ}
 use Rattle.std.specs.Fmt.{signed_decimal}
 use Rattle.program_rows.specs.Program.{TableRow, TableColumn}
-use Rattle.mps_meaning.specs.MpsLines.{Data}
+use Rattle.program_rows.specs.MpsLines.{Data}
 use Rattle.mps_text.specs.Text.{written, kind_letter, bound_words}
 use Rattle.program_rows.specs.ProgramNames.{row_name}
 

@@ -8,7 +8,7 @@ use Rattle.program_rows.specs.Program.{Table}
 use Rattle.program_rows.specs.Points.{IsPoint}
 use Rattle.program_rows.specs.Rows.{program_of}
 use Rattle.program_rows.specs.Faithful.{back, IsFaithful, IsLeast, IsGreatest}
-use Rattle.mps_meaning.specs.Meaning.{meaning}
+use Rattle.program_rows.specs.MpsMeaning.{meaning}
 use Rattle.mps_text.specs.Text.{text}
 
 -- the text has a meaning, and that program is faithful

@@ -3,7 +3,7 @@ use Rattle.std.specs.Prelude.{◌≡◌, Ok}
 use Rattle.program_rows.specs.Program.{Table}
 use Rattle.program_rows.specs.Parts.{IsProgram}
 use Rattle.program_rows.specs.Legal.{IsWritable}
-use Rattle.mps_meaning.specs.Meaning.{meaning}
+use Rattle.program_rows.specs.MpsMeaning.{meaning}
 use Rattle.mps_text.specs.Text.{text}
 
 -- the meaning of the text of a program is the program

@@ -7,8 +7,8 @@ use Rattle.program_rows.specs.declared.row.RowKind.TheVariants.{AtMost, AtLeast,
 use Rattle.program_rows.specs.declared.bounds.Bounds.{Bounds}
 use Rattle.program_rows.specs.declared.bounds.Bounds.TheVariants.{ZeroOrOne, Zero, One}
 use Rattle.program_rows.specs.Program.{Table, TableColumn}
-use Rattle.line_words.specs.Lines.{LineFields}
-use Rattle.mps_meaning.specs.MpsLines.{Line, Header, Data}
+use Rattle.auction_terms.specs.LineFields.{LineFields}
+use Rattle.program_rows.specs.MpsLines.{Line, Header, Data}
 use Rattle.program_rows.specs.ProgramNames.{row_name}
 
 -- A line as it is written: a space before data, a space between fields, a line feed at the end.
@@ -32,7 +32,7 @@ bound_words One = (codes "FX", codes "1")
 abbrev pub block : List ℕ → List LineFields → List Line
 block word lines = Header word [] ∷ map Data lines
 
--- nothing where there is no column
+-- nothing if there is no column
 abbrev pub if_any : {X : Type 0} → List TableColumn → List X → List X
 if_any [] lines = []
 if_any (c ∷ columns) lines = lines

@@ -1,8 +1,8 @@
-//! Short lines, put together one behind the other before they are added.
+//! Short lines, put together one after the other before they are added.
 
 ghost use Rattle.std.specs.Prelude.{◌≡◌, ◌≤◌, ◌<◌, ◌+◌, ◌∷◌, [], ◌++◌, decimal, length, take};
 
-/// How many bytes of lines stand together at most.
+/// The most bytes of lines that are put together.
 pub const LINES_LEN: usize = 1024;
 
 /// How long the front of a line is at most: a blank, a name and a blank.
@@ -29,7 +29,7 @@ fn write_name(line: &mut [u8], at: usize, name: &[u8])
     line[at + back + 1] = name[back + 1];
 }
 
-/// Writes a blank, a number below 100 and a line feed from a place on, and tells where they end.
+/// Writes a blank, a number below 100 and a line feed from a place on, and returns where they end.
 fn write_end(line: &mut [u8], at: usize, number: u8) -> usize
     requires small { number < 100 }
     requires room { at + 4 ≤ length line.old }
@@ -51,7 +51,7 @@ fn write_end(line: &mut [u8], at: usize, number: u8) -> usize
     at + 4
 }
 
-/// Writes the front of a line, the name of a row and a number from a place on, and tells where the line ends. The front is copied with all of its room, which takes no loop; what stands behind its end is written over.
+/// Writes the front of a line, the name of a row and a number from a place on, and returns where the line ends. The front is copied with all of its room, which takes no loop; what follows its end is written over.
 #[inline(always)]
 pub fn write_line(
     lines: &mut [u8],
@@ -77,7 +77,7 @@ pub fn write_line(
     write_end(lines, end + name.len(), number)
 }
 
-/// Writes a blank, a name and a blank, and tells where they end.
+/// Writes a blank, a name and a blank, and returns where they end.
 pub fn write_front(front: &mut [u8; FRONT_LEN], name: &[u8]) -> usize
     requires short { length name.now ≤ FRONT_NAME_LEN }
     ensures written { take result front.new ≡ 32 ∷ (name.now ++ 32 ∷ []) }

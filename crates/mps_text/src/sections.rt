@@ -2,7 +2,7 @@
 
 ghost use Rattle.std.specs.Prelude.{IfSome, ◌≡◌, ◌≤◌, ◌≤ℤ◌, ◌<ℤ◌, ◌∷◌, [], ◌++◌, codes, flat_map, length, map, pos, take, true};
 ghost use Rattle.std.specs.Fmt.{signed_decimal};
-ghost use Rattle.mps_meaning.specs.MpsLines.{Data};
+ghost use Rattle.program_rows.specs.MpsLines.{Data};
 ghost use Rattle.program_rows.specs.Parts.{shown_row, shown_column};
 ghost use Rattle.mps_text.specs.Text.{written, kind_letter, bound_words};
 ghost use Rattle.byte_sinks.specs.Adds.{Adds};
@@ -25,7 +25,7 @@ fn letter(kind: RowKind) -> &'static [u8]
     }
 }
 
-/// What stands before the name of a column in the line of its bounds.
+/// What comes before the name of a column in the line of its bounds.
 fn before_bound(bounds: Bounds) -> &'static [u8]
     ensures { result.now ≡ 32 ∷ ((bound_words bounds).0 ++ codes " BND ") }
 {
@@ -35,7 +35,7 @@ fn before_bound(bounds: Bounds) -> &'static [u8]
     }
 }
 
-/// What stands behind the name of a column in the line of its bounds.
+/// What follows the name of a column in the line of its bounds.
 fn behind_bound(bounds: Bounds) -> &'static [u8]
     ensures { result.now ≡ 32 ∷ ((bound_words bounds).1 ++ 10 ∷ []) }
 {
@@ -105,7 +105,7 @@ fn is_short(row: &[u8], number: i64) -> bool
     2 <= row.len() && row.len() <= 4 && 0 <= number && number < 100
 }
 
-/// Writes the line of an entry behind other lines, and tells where it ends, where it is short and has room.
+/// Writes the line of an entry after other lines, and returns where it ends, if it is short and has room.
 #[inline(always)]
 fn write_entry(
     lines: &mut [u8; LINES_LEN],
@@ -122,7 +122,7 @@ fn write_entry(
         ≡ take at lines.old ++ entry_bytes (map shown_row rows.now) name.now entry.now) }
     ensures within { IfSome result (λ end. end ≤ LINES_LEN) }
 {
-    // Contracts alone speak of the name: its bytes stand in the front already.
+    // Contracts alone speak of the name: its bytes are in the front already.
     let _of_the_front = name;
     let row = name_at(rows, entry.0);
     if at <= LINES_LEN - LINE_ROOM && is_short(row, entry.1) {
@@ -131,7 +131,7 @@ fn write_entry(
     None
 }
 
-/// Writes the lines of the entries of a column with a short name one behind the other, and tells where they end, where each is short and they have room.
+/// Writes the lines of the entries of a column with a short name one after the other, and returns where they end, if each is short and they have room.
 fn write_entries(
     lines: &mut [u8; LINES_LEN],
     rows: &[Row],
@@ -196,7 +196,7 @@ fn add_long_entries<S: Sink>(
     }
 }
 
-/// Adds the lines of the entries of a column, in one piece where they are short.
+/// Adds the lines of the entries of a column, in one piece if they are short.
 pub fn add_entries<S: Sink>(
     writer: &mut Writer<'_, S>,
     lines: &mut [u8; LINES_LEN],

@@ -11,15 +11,15 @@ use lib.IntN.{zero-*ℤ}
 use Rattle.auction_terms.specs.Stages.{and_then}
 use Rattle.program_rows.specs.Program.{Table}
 use Rattle.program_rows.specs.Points.{coefficient_at}
-use Rattle.line_words.specs.Lines.{fields, is_skipped}
-use Rattle.program_faults.specs.declared.certificate_fault.FaultKind.{FaultKind}
-use Rattle.program_faults.specs.declared.certificate_fault.FaultKind.TheVariants.{Beyond, NotShown}
+use Rattle.auction_terms.specs.LineFields.{fields, is_skipped}
+use Rattle.program_rows.specs.declared.certificate_fault.CertificateFaultKind.{CertificateFaultKind}
+use Rattle.program_rows.specs.declared.certificate_fault.CertificateFaultKind.TheVariants.{Beyond, NotShown}
 use Rattle.optimality.specs.Certificates.{Form, Cut, number_in, side, sum_of}
 use Rattle.optimality.specs.Reduced.{reduced, right_side_at}
 use Rattle.optimality.specs.Shows.{leaf_value}
-use Rattle.optimality.specs.LineMeaning.{Told, BoundLine, SplitLine, line_told}
+use Rattle.optimality.specs.LineMeaning.{ParsedLine, BoundLine, SplitLine, parsed_certificate_line}
 use Rattle.optimality.specs.Branches.{Branch, At, cuts_above, closed}
-use Rattle.optimality.specs.Sizes.{IsLargeFrom, IsLargeLine, IsLargeTold, cut_size, leaf_size, size_of}
+use Rattle.optimality.specs.Sizes.{IsLargeFrom, IsLargeLine, IsLargeParsed, cut_size, leaf_size, size_of}
 use Rattle.optimality.specs.inside.Sizes.{form_size}
 use Rattle.optimality.specs.Verdict.{behind as after_line, taken, fault_from}
 use Rattle.optimality.specs.declared.open_split.OpenSplit.{OpenSplit}
@@ -166,7 +166,7 @@ cuts-above-alike _ _ alike = absurd alike
 -- ---------- behind a line ----------
 
 abbrev Opened : Type 0
-Opened = Result (Option (List Branch)) FaultKind
+Opened = Result (Option (List Branch)) CertificateFaultKind
 
 abbrev OpenAlike : Opened → Opened → Type 0
 OpenAlike (Ok None) (Ok None) = Unit {0}
@@ -182,7 +182,7 @@ closed-alike (At true form most ∷ above) (At false other other_most ∷ others
 closed-alike (At false form most ∷ above) (At true other other_most ∷ others) alike = let apart = alike.0 in absurd cc
 closed-alike _ _ alike = absurd alike
 
-taken-alike : (p : Table) (least : ℤ) (branches others : List Branch) (told : Told) → BranchesAlike branches others → OpenAlike (taken p least branches told) (taken p least others told)
+taken-alike : (p : Table) (least : ℤ) (branches others : List Branch) (parsed : ParsedLine) → BranchesAlike branches others → OpenAlike (taken p least branches parsed) (taken p least others parsed)
 taken-alike p least branches others (SplitLine form most) alike = (refl, refl, λ _. refl, λ _. omega arith, alike)
 taken-alike p least branches others (BoundLine scale ys rows) alike =
     let same : leaf_value p (cuts_above branches) scale ys rows ≡ leaf_value p (cuts_above others) scale ys rows = value-alike p (cuts_above branches) (cuts_above others) scale ys rows (cuts-above-alike branches others alike) in
@@ -193,23 +193,23 @@ taken-alike p least branches others (BoundLine scale ys rows) alike =
     by true = closed-alike branches others alike
     by false = refl
 
-told-alike : (p : Table) (least : ℤ) (branches others : List Branch) (told : Result Told FaultKind) → BranchesAlike branches others → OpenAlike (and_then told (taken p least branches)) (and_then told (taken p least others))
-told-alike p least branches others (Ok told) alike = taken-alike p least branches others told alike
-told-alike p least branches others (Err kind) alike = refl
+parsed-alike : (p : Table) (least : ℤ) (branches others : List Branch) (parsed : Result ParsedLine CertificateFaultKind) → BranchesAlike branches others → OpenAlike (and_then parsed (taken p least branches)) (and_then parsed (taken p least others))
+parsed-alike p least branches others (Ok parsed) alike = taken-alike p least branches others parsed alike
+parsed-alike p least branches others (Err kind) alike = refl
 
 abbrev behind : Table → ℤ → List ℕ → Option (List Branch) → Opened
-behind p least line branches = and_then (ok_or branches Beyond) (λ above. and_then (line_told p (length above) (fields line)) (taken p least above))
+behind p least line branches = and_then (ok_or branches Beyond) (λ above. and_then (parsed_certificate_line p (length above) (fields line)) (taken p least above))
 
 behind-alike : (p : Table) (least : ℤ) (line : List ℕ) (branches others : Option (List Branch)) → OpenAlike (Ok branches) (Ok others) → OpenAlike (behind p least line branches) (behind p least line others)
 behind-alike p least line None None alike = refl
 behind-alike p least line (Some branches) (Some others) alike =
-    subst (λ (depth : ℕ). OpenAlike (and_then (line_told p (length branches) (fields line)) (taken p least branches)) (and_then (line_told p depth (fields line)) (taken p least others))) (lengths-alike branches others alike)
-    (told-alike p least branches others (line_told p (length branches) (fields line)) alike)
+    subst (λ (depth : ℕ). OpenAlike (and_then (parsed_certificate_line p (length branches) (fields line)) (taken p least branches)) (and_then (parsed_certificate_line p depth (fields line)) (taken p least others))) (lengths-alike branches others alike)
+    (parsed-alike p least branches others (parsed_certificate_line p (length branches) (fields line)) alike)
 behind-alike p least line _ _ alike = absurd alike
 
 -- the first fault is the same
-pub fault-alike : (p : Table) (least : ℤ) (place : ℕ) (lines : List (List ℕ)) (told other : Opened) → OpenAlike told other → fault_from p least told place lines ≡ fault_from p least other place lines
-fault-alike p least place lines (Err kind) (Err other) alike = ap (λ (k : FaultKind). Some (place, k)) alike
+pub fault-alike : (p : Table) (least : ℤ) (place : ℕ) (lines : List (List ℕ)) (parsed other : Opened) → OpenAlike parsed other → fault_from p least parsed place lines ≡ fault_from p least other place lines
+fault-alike p least place lines (Err kind) (Err other) alike = ap (λ (k : CertificateFaultKind). Some (place, k)) alike
 fault-alike p least place lines (Ok o) (Err kind) alike = absurd (by o alike)
   where
     by : (o : Option (List Branch)) → OpenAlike (Ok o) (Err kind) → ⊥
@@ -222,8 +222,8 @@ fault-alike p least place (line ∷ lines) (Ok branches) (Ok others) alike =
   where
     by : fault_from p least (Ok branches) (suc place) lines ≡ fault_from p least (Ok others) (suc place) lines → fault_from p least (behind p least line branches) (suc place) lines ≡ fault_from p least (behind p least line others) (suc place) lines
         → (b : Bool) → fault_from p least (if b then Ok branches else behind p least line branches) (suc place) lines ≡ fault_from p least (if b then Ok others else behind p least line others) (suc place) lines
-    by skipped told true = skipped
-    by skipped told false = told
+    by skipped parsed true = skipped
+    by skipped parsed false = parsed
 fault-alike p least place _ _ _ alike = absurd alike
 
 -- ---------- sizes ----------
@@ -262,17 +262,17 @@ cuts-above-size (At is_second form most ∷ above) (At other_second other other_
     larger-joined (cuts_above others) (cuts_above above) (side other_second other other_most ∷ []) (side is_second form most ∷ []) (cuts-above-size above others alike.4) (last, tt)
 cuts-above-size _ _ alike = absurd alike
 
-told-large : (p : Table) (least : ℤ) (branches others : List Branch) (told : Result Told FaultKind) → BranchesAlike branches others → IsLargeTold p least others told → IsLargeTold p least branches told
-told-large p least branches others (Ok (BoundLine scale ys rows)) alike h =
+parsed-large : (p : Table) (least : ℤ) (branches others : List Branch) (parsed : Result ParsedLine CertificateFaultKind) → BranchesAlike branches others → IsLargeParsed p least others parsed → IsLargeParsed p least branches parsed
+parsed-large p least branches others (Ok (BoundLine scale ys rows)) alike h =
     let large : 2 ^ 126 ≤ leaf_size p least (cuts_above others) scale ys rows = h in
     omega (arith, cuts-size ys (cuts_above others) (cuts_above branches) (cuts-above-size branches others alike))
-told-large p least branches others _ alike h = absurd h
+parsed-large p least branches others _ alike h = absurd h
 
 line-large : (p : Table) (least : ℤ) (line : List ℕ) (branches others : Option (List Branch)) → OpenAlike (Ok branches) (Ok others) → IsLargeLine p least others line → IsLargeLine p least branches line
 line-large p least line None None alike h = absurd h
 line-large p least line (Some branches) (Some others) alike h =
-    let moved : IsLargeTold p least others (line_told p (length branches) (fields line)) = subst (λ (depth : ℕ). IsLargeTold p least others (line_told p depth (fields line))) (sym (lengths-alike branches others alike)) h in
-    told-large p least branches others (line_told p (length branches) (fields line)) alike moved
+    let moved : IsLargeParsed p least others (parsed_certificate_line p (length branches) (fields line)) = subst (λ (depth : ℕ). IsLargeParsed p least others (parsed_certificate_line p depth (fields line))) (sym (lengths-alike branches others alike)) h in
+    parsed-large p least branches others (parsed_certificate_line p (length branches) (fields line)) alike moved
 line-large p least line _ _ alike h = absurd alike
 
 passed-alike : (p : Table) (least : ℤ) (line : List ℕ) (branches others : Option (List Branch)) → OpenAlike (Ok branches) (Ok others) → OpenAlike (after_line p least branches line) (after_line p least others line)
@@ -282,8 +282,8 @@ passed-alike p least line branches others alike = by (is_skipped line)
     by true = alike
     by false = behind-alike p least line branches others alike
 
--- a line that is large by the code's splits is so by the told ones
-pub large-alike : (p : Table) (least : ℤ) (place : ℕ) (lines : List (List ℕ)) (told other : Opened) (number : ℕ) → OpenAlike told other → IsLargeFrom p least other place lines number → IsLargeFrom p least told place lines number
+-- a line that is large by the code's splits is so by those of the definition
+pub large-alike : (p : Table) (least : ℤ) (place : ℕ) (lines : List (List ℕ)) (parsed other : Opened) (number : ℕ) → OpenAlike parsed other → IsLargeFrom p least other place lines number → IsLargeFrom p least parsed place lines number
 large-alike p least place lines (Err kind) (Err other) number alike h = absurd h
 large-alike p least place lines (Err kind) (Ok o) number alike h = absurd alike
 large-alike p least place lines (Ok o) (Err kind) number alike h = absurd h
@@ -292,14 +292,14 @@ large-alike p least place (line ∷ lines) (Ok branches) (Ok others) number alik
 large-alike p least place (line ∷ lines) (Ok branches) (Ok others) number alike (inr h) = inr (large-alike p least (suc place) lines (after_line p least branches line) (after_line p least others line) number (passed-alike p least line branches others alike) h)
 
 -- a split that is opened with another form than the line tells, which gives each column the same and is no larger
-pub split-opened : (p : Table) (least : ℤ) (branches after : List Branch) (told : Result Told FaultKind) (form : Form) (most : ℤ) (split : OpenSplit) → told ≡ Ok (SplitLine form most) → AreAlike split.form.items form → AreNoLarger split.form.items form → split.most ≡ most
-    → split.is_high ≡ false → after ≡ branch_of split ∷ branches → GoOnAlike p least (and_then told (taken p least branches)) (Ok (Some after))
-split-opened p least branches after told form most split t alike less m low a place lines = (
-  ap (λ (r : Result Told FaultKind). fault_from p least (and_then r (taken p least branches)) place lines) t
+pub split-opened : (p : Table) (least : ℤ) (branches after : List Branch) (parsed : Result ParsedLine CertificateFaultKind) (form : Form) (most : ℤ) (split : OpenSplit) → parsed ≡ Ok (SplitLine form most) → AreAlike split.form.items form → AreNoLarger split.form.items form → split.most ≡ most
+    → split.is_high ≡ false → after ≡ branch_of split ∷ branches → GoOnAlike p least (and_then parsed (taken p least branches)) (Ok (Some after))
+split-opened p least branches after parsed form most split t alike less m low a place lines = (
+  ap (λ (r : Result ParsedLine CertificateFaultKind). fault_from p least (and_then r (taken p least branches)) place lines) t
       ∙ fault-alike p least place lines (Ok (Some (At false form most ∷ branches))) (Ok (Some (branch_of split ∷ branches))) opened
       ∙ ap (λ (bs : List Branch). fault_from p least (Ok (Some bs)) place lines) (sym a),
   λ number h.
-      subst (λ (r : Result Told FaultKind). IsLargeFrom p least (and_then r (taken p least branches)) place lines number) (sym t)
+      subst (λ (r : Result ParsedLine CertificateFaultKind). IsLargeFrom p least (and_then r (taken p least branches)) place lines number) (sym t)
       (large-alike p least place lines (Ok (Some (At false form most ∷ branches))) (Ok (Some (branch_of split ∷ branches))) number opened (subst (λ (bs : List Branch). IsLargeFrom p least (Ok (Some bs)) place lines number) a h)),
 )
   where

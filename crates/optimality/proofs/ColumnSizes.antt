@@ -115,11 +115,11 @@ rows-both : (p : Table) (rows : Form) → size_of (λ t. unsigned_abs t.1 * coef
 rows-both p [] = refl
 rows-both p (t ∷ rows) = let later = rows-both p rows in omega arith
 
--- the parts of a leaf, whose rows are added up, are no larger than the leaf that is told
-pub leaf-parts : (p : Table) (least : ℤ) (cuts : List Cut) (scale : ℕ) (ys : List ℕ) (rows told : Form) → AreNoLarger rows told
-    → (scale * costs_size p.columns + given_size p.columns ys cuts rows) + right_size p.rows ys cuts rows ≤ leaf_size p least cuts scale ys told
-leaf-parts p least cuts scale ys rows told less =
-    let fewer : size_of (λ t. unsigned_abs t.1 * row_size p t.0) rows ≤ size_of (λ t. unsigned_abs t.1 * row_size p t.0) told = no-larger rows told (row_size p) less in
+-- the parts of a leaf, whose rows are added up, are no larger than the leaf that is named
+pub leaf-parts : (p : Table) (least : ℤ) (cuts : List Cut) (scale : ℕ) (ys : List ℕ) (rows parsed : Form) → AreNoLarger rows parsed
+    → (scale * costs_size p.columns + given_size p.columns ys cuts rows) + right_size p.rows ys cuts rows ≤ leaf_size p least cuts scale ys parsed
+leaf-parts p least cuts scale ys rows parsed less =
+    let fewer : size_of (λ t. unsigned_abs t.1 * row_size p t.0) rows ≤ size_of (λ t. unsigned_abs t.1 * row_size p t.0) parsed = no-larger rows parsed (row_size p) less in
     omega (arith, cuts-both (zip ys cuts), rows-both p rows)
 
 -- ---------- sums of costs ----------

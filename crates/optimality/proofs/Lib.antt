@@ -5,6 +5,8 @@ pub mod PlaceLaws
 pub mod Steps
 pub mod RowLaws
 pub mod LeafLaws
+pub mod ByColumnLaws
+pub mod NameLaws
 pub mod AlikeLaws
 pub mod TermLaws
 pub mod LineLaws

@@ -12,7 +12,7 @@ use Rattle.optimality.proofs.Products.{times-sum}
 
 -- ---------- a write ----------
 
-set-at : (numbers : List ℤ) (place q : ℕ) (n : ℤ) → place < length numbers → number_at (slice_set numbers place n) q ≡ cond (place == q) n (number_at numbers q)
+pub set-at : (numbers : List ℤ) (place q : ℕ) (n : ℤ) → place < length numbers → number_at (slice_set numbers place n) q ≡ cond (place == q) n (number_at numbers q)
 set-at numbers place q n h = by (place == q) refl
   where
     by : (b : Bool) → (place == q) ≡ b → number_at (slice_set numbers place n) q ≡ cond b n (number_at numbers q)

@@ -1,6 +1,6 @@
 -- The rows of a program as forms: what each gives a column is its coefficient there.
 use Rattle.std.proofs.Common.{◌≡◌, ℕ, zero, suc, ◌+◌, ◌<◌, ◌≤◌, Bool, true, false, cond, drop, List, [], ◌∷◌, ◌++◌, Some, length, slice_get, refl, subst, sym, ap, ◌∙◌, arith, get_or, get_or-set_other, length-set, ℤ, pos, ◌+ℤ◌, ◌≢◌}
-use Rattle.optimality.proofs.PlaceLaws.{number-last}
+use Rattle.optimality.proofs.PlaceLaws.{number-last, rest}
 use Rattle.std.specs.Prelude.{◌==◌, find, replicate, slice_set}
 use Rattle.std.specs.Option.{option_map, option_map_or}
 use Rattle.std.specs.List.{AllByRecursion}
@@ -8,6 +8,7 @@ use Rattle.std.specs.declared.vec.Vec.{Vec}
 use Rattle.std.specs.declared.alloc.Global.{Global}
 use Rattle.std.proofs.lemmas.List.{length-replicate, get_or-replicate, get_or_past, get_or-map, map-set}
 use Rattle.std.proofs.lemmas.Grind.{get_or-set_at}
+use Rattle.std.proofs.lemmas.Option.{get_or_from_slice_get, slice_get_within}
 use Rattle.std.proofs.lemmas.Int.{ints, by_lt_z}
 use Rattle.std.proofs.lemmas.Bool.Decides.{nat_tests}
 use Rattle.program_rows.specs.Program.{Table, TableColumn}
@@ -121,7 +122,7 @@ none-later row i (e ∷ es) p h =
     let other : (e.0 == row) ≡ false = grind (arith, nat_tests, h.0) in
     rw (other, none-later row i es p h.1) refl
 
-entry-is : (m row : ℕ) (es : List (ℕ × ℤ)) → AreEntries m es → number_in es row ≡ option_map_or (λ e. e.1) (find (λ e. e.0 == row) es) (pos 0)
+pub entry-is : (m row : ℕ) (es : List (ℕ × ℤ)) → AreEntries m es → number_in es row ≡ option_map_or (λ e. e.1) (find (λ e. e.0 == row) es) (pos 0)
 entry-is m row [] h = refl
 entry-is m row (e ∷ es) h = by (entry-is m row es h.3) (e.0 == row) refl
   where
@@ -138,7 +139,7 @@ none-behind m row (e ∷ es) h l =
     let other : (e.0 == row) ≡ false = grind (arith, nat_tests, h.0) in
     rw (other, none-behind m row es h.3 l) refl
 
-entries-of : (m : ℕ) (cs : List TableColumn) (i : ℕ) (c : TableColumn) → AllByRecursion (λ d. AreEntries m d.entries) cs → slice_get cs i ≡ Some c → AreEntries m c.entries
+pub entries-of : (m : ℕ) (cs : List TableColumn) (i : ℕ) (c : TableColumn) → AllByRecursion (λ d. AreEntries m d.entries) cs → slice_get cs i ≡ Some c → AreEntries m c.entries
 entries-of m [] i c h at = absurd cc
 entries-of m (d ∷ cs) zero c h at = let same : d ≡ c = cc in subst (λ (x : TableColumn). AreEntries m x.entries) same h.0
 entries-of m (d ∷ cs) (suc i) c h at = entries-of m cs i c h.1 at
@@ -161,3 +162,10 @@ row-form-at p h row i c at =
     let l : m ≤ row = omega (arith, ints) in
     let behind : length (row_forms p) ≤ row = omega (arith, length-columns 0 p.columns none, length-replicate {A = Form} m []) in
     ap (λ (form : Form). number_in form i) (get_or_past (row_forms p) row [] behind) ∙ sym (none-behind m row c.entries entries l) ∙ entry-is m row c.entries entries)
+
+-- the entry at a place, added before those after it
+pub entry-taken : (place : ℕ) (entries : Form) (i : ℕ) (e : ℕ × ℤ) (forms new whole : List Form) → slice_get entries i ≡ Some e → new ≡ with_term e.0 (place, e.1) forms
+    → with_entries place (drop i entries) forms ≡ whole → with_entries place (drop (i + 1) entries) new ≡ whole
+entry-taken place entries i e forms new whole there added so =
+    let front : drop i entries ≡ e ∷ drop (i + 1) entries = rest entries i e (slice_get_within entries i e there) ∙ ap (λ (x : ℕ × ℤ). x ∷ drop (i + 1) entries) (get_or_from_slice_get entries i e e there) in
+    ap (λ (fs : List Form). with_entries place (drop (i + 1) entries) fs) added ∙ sym (ap (λ (es : Form). with_entries place es forms) front) ∙ so

@@ -7,7 +7,7 @@ use Rattle.program_rows.specs.Points.{IsPoint, objective}
 use Rattle.program_rows.specs.Faithful.{IsFaithful, IsGreatest, IsLeast, back}
 use Rattle.optimality.specs.Certificates.{Certificate}
 use Rattle.optimality.specs.Shows.{Shows}
-use Rattle.optimality.specs.Telling.{IsShownBy}
+use Rattle.optimality.specs.CertificateText.{IsShownBy}
 use Rattle.optimality.specs.Verdict.{certificate_fault}
 
 -- no point has an objective below `least`

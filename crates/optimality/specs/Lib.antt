@@ -4,7 +4,7 @@ pub mod Shows
 pub mod Laws
 pub mod Lines
 pub mod LineMeaning
-pub mod Telling
+pub mod CertificateText
 pub mod Answers
 pub mod Branches
 pub mod Verdict

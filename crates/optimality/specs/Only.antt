@@ -8,12 +8,12 @@ use Rattle.program_rows.specs.Points.{IsPoint, objective}
 use Rattle.program_rows.specs.Program.{Table, TableColumn}
 use Rattle.optimality.specs.Branches.{Branch, At, cuts_above}
 use Rattle.optimality.specs.Certificates.{Certificate, Form}
-use Rattle.optimality.specs.Lines.{telling_lines}
+use Rattle.optimality.specs.Lines.{certificate_lines}
 use Rattle.optimality.specs.Shows.{ShowsWithin}
 use Rattle.optimality.specs.Sizes.{IsLargeFrom}
-use Rattle.optimality.specs.Telling.{TellsCertificate}
+use Rattle.optimality.specs.CertificateText.{TellsCertificate}
 use Rattle.optimality.specs.Verdict.{fault_from}
-use Rattle.program_faults.specs.declared.certificate_fault.FaultKind.{FaultKind}
+use Rattle.program_rows.specs.declared.certificate_fault.CertificateFaultKind.{CertificateFaultKind}
 
 -- a column that may be 0 or 1
 abbrev pub is_zero_or_one : Bounds → Bool
@@ -45,10 +45,10 @@ ShownIsOnly = (p : Table) (values : List Bool) (certificate : Certificate) → I
 
 -- the text tells a certificate that shows it
 abbrev pub IsShownOnlyBy : Table → List Bool → List ℕ → Type 0
-IsShownOnlyBy p values text = (certificate : Certificate) × TellsCertificate p 1 certificate (telling_lines (lines_of text)) [] × ShowsOnly p values certificate
+IsShownOnlyBy p values text = (certificate : Certificate) × TellsCertificate p 1 certificate (certificate_lines (lines_of text)) [] × ShowsOnly p values certificate
 
 -- the first fault of a text that is to show it
-abbrev pub only_fault : Table → List Bool → List ℕ → Option (ℕ × FaultKind)
+abbrev pub only_fault : Table → List Bool → List ℕ → Option (ℕ × CertificateFaultKind)
 only_fault p values text = fault_from p (objective p values +ℤ pos 1) (Ok (Some (all_others p values ∷ []))) 0 (lines_of text)
 
 -- the line of this number tells a leaf of size 2^126 or more, and no line before it has a fault

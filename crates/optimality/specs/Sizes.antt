@@ -2,13 +2,13 @@
 use Rattle.std.specs.Prelude.{◌≡◌, ◌⊎◌, ℕ, suc, ◌+◌, ◌*◌, ◌^◌, ◌≤◌, List, [], ◌∷◌, length, ℤ, pos, ◌-ℤ◌, Option, Some, None, Result, Ok, unsigned_abs}
 use Rattle.std.specs.List.{zip}
 use Rattle.auction_terms.specs.Lines.{lines_of}
-use Rattle.line_words.specs.Lines.{fields}
+use Rattle.auction_terms.specs.LineFields.{fields}
 use Rattle.program_rows.specs.Points.{coefficient_at}
 use Rattle.program_rows.specs.Program.{Table, TableColumn}
-use Rattle.program_faults.specs.declared.certificate_fault.FaultKind.{FaultKind}
+use Rattle.program_rows.specs.declared.certificate_fault.CertificateFaultKind.{CertificateFaultKind}
 use Rattle.optimality.specs.Branches.{Branch, cuts_above}
 use Rattle.optimality.specs.Certificates.{Form, Cut}
-use Rattle.optimality.specs.LineMeaning.{Told, BoundLine, line_told}
+use Rattle.optimality.specs.LineMeaning.{ParsedLine, BoundLine, parsed_certificate_line}
 use Rattle.optimality.specs.Reduced.{right_side_at}
 use Rattle.optimality.specs.Verdict.{behind}
 
@@ -40,18 +40,18 @@ leaf_size p least cuts scale ys rows =
 -- ---------- lines ----------
 
 -- what a line tells below these splits is a leaf of size 2^126 or more
-abbrev pub IsLargeTold : Table → ℤ → List Branch → Result Told FaultKind → Type 0
-IsLargeTold p least above (Ok (BoundLine scale ys rows)) = 2 ^ 126 ≤ leaf_size p least (cuts_above above) scale ys rows
-IsLargeTold p least above told = ⊥
+abbrev pub IsLargeParsed : Table → ℤ → List Branch → Result ParsedLine CertificateFaultKind → Type 0
+IsLargeParsed p least above (Ok (BoundLine scale ys rows)) = 2 ^ 126 ≤ leaf_size p least (cuts_above above) scale ys rows
+IsLargeParsed p least above parsed = ⊥
 
 abbrev pub IsLargeLine : Table → ℤ → Option (List Branch) → List ℕ → Type 0
 IsLargeLine p least None line = ⊥
-IsLargeLine p least (Some above) line = IsLargeTold p least above (line_told p (length above) (fields line))
+IsLargeLine p least (Some above) line = IsLargeParsed p least above (parsed_certificate_line p (length above) (fields line))
 
 -- the line of this number is such a leaf, and no line before it has a fault; `place` lines were before these
-abbrev pub IsLargeFrom : Table → ℤ → Result (Option (List Branch)) FaultKind → ℕ → List (List ℕ) → ℕ → Type 0
+abbrev pub IsLargeFrom : Table → ℤ → Result (Option (List Branch)) CertificateFaultKind → ℕ → List (List ℕ) → ℕ → Type 0
 IsLargeFrom p least (Ok branches) place (line ∷ lines) number = ((suc place ≡ number) × IsLargeLine p least branches line) ⊎ IsLargeFrom p least (behind p least branches line) (suc place) lines number
-IsLargeFrom p least told place lines number = ⊥
+IsLargeFrom p least parsed place lines number = ⊥
 
 -- the line of this number in a text that is to show `least`
 abbrev pub IsLargeAt : Table → ℤ → List ℕ → ℕ → Type 0

@@ -1,10 +1,12 @@
 pub mod Adding
 pub mod Answers
 pub mod Branches
+pub mod ByColumns
 pub mod Certificates
 pub mod Checking
 pub mod Holding
 pub mod LineMeaning
+pub mod Naming
 pub mod RowForms
 pub mod Sizes
 pub mod Stopping

@@ -1,5 +1,5 @@
-use crate::row_forms::Form;
-use program_rows::{NameSet, Program};
+use crate::row_forms::RowForms;
+use program_rows::{NameSet, Selection};
 use std::alloc::Global;
 use std::cell::Cell;
 
@@ -7,17 +7,15 @@ use std::cell::Cell;
 #[derive(Drop)]
 pub struct Checker<'p> {
     pub alloc: Global,
-    pub program: &'p Program,
-    /// The names of the program's columns, in order.
-    pub columns: NameSet<'p>,
+    pub program: &'p Selection<'p>,
     /// Where the next column is looked for first.
     pub next_column: Cell<usize>,
-    /// The names of its rows, in order.
+    /// The names of the program's rows, in order.
     pub rows: NameSet<'p>,
     /// Where the next row is looked for first.
     pub next_row: Cell<usize>,
-    /// Its rows, in order, each as a form over its columns: a leaf goes over the rows that it names alone.
-    pub row_forms: Vec<Form>,
+    /// Its rows as forms, but for a certificate of two lines or fewer, which has at most one leaf.
+    pub row_forms: Option<RowForms>,
     /// The least that the costs alone come to: what a leaf of scale 1 that names nothing is worth.
     pub alone: i128,
     /// The bound that the certificate is to show.

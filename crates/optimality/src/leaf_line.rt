@@ -2,7 +2,7 @@
 
 ghost use Rattle.std.specs.Prelude.{◌≡◌, IfOk, length};
 ghost use Rattle.std.specs.List.{list_all};
-ghost use Rattle.line_words.specs.Lines.{fields};
+ghost use Rattle.auction_terms.specs.LineFields.{fields};
 ghost use Rattle.optimality.specs.inside.Answers.{AnswersSeen};
 ghost use Rattle.optimality.specs.inside.Checking.{IsPrepared};
 ghost use Rattle.optimality.specs.Shows as shows;
@@ -14,13 +14,12 @@ use crate::leaf::Leaf;
 use crate::naturals::take_naturals;
 use crate::numbers::take_natural;
 use crate::refusal::Refusal;
-use crate::terms::take_row_terms;
-use line_words::next_field;
-use program_faults::FaultKind;
-use program_rows::{Program, RowKind};
+use crate::terms::{Named, take_terms};
+use auction_terms::next_field;
+use program_rows::{CertificateFaultKind, RowKind, Selection};
 
 /// Whether there is a row at this place that may have the multiplier.
-fn may_have(program: &Program, row: usize, multiplier: i64) -> bool
+fn may_have(program: &Selection<'_>, row: usize, multiplier: i64) -> bool
     ensures { result ≡ shows.may_have program.now.rows (row, multiplier) }
 {
     if row >= program.row_count() {
@@ -33,7 +32,7 @@ fn may_have(program: &Program, row: usize, multiplier: i64) -> bool
     }
 }
 
-fn are_signed(program: &Program, rows: &[(usize, i64)]) -> bool
+fn are_signed(program: &Selection<'_>, rows: &[(usize, i64)]) -> bool
     ensures { result ≡ list_all (shows.may_have program.now.rows) rows.now }
 {
     rows.iter().all(|t| may_have(program, t.0, t.1))
@@ -42,18 +41,18 @@ fn are_signed(program: &Program, rows: &[(usize, i64)]) -> bool
 /// The leaf that a text tells, below as many splits as `depth`.
 pub fn take_leaf(checker: &Checker, depth: usize, text: &[u8]) -> Result<Leaf, Refusal>
     requires { IsPrepared checker.now }
-    ensures told { AnswersSeen (λ leaf. BoundLine leaf.scale leaf.multipliers.items leaf.rows.items)
+    ensures parsed { AnswersSeen (λ leaf. BoundLine leaf.scale leaf.multipliers.items leaf.rows.items)
         result (bound_behind checker.now.program.now depth (fields text.now)) }
     ensures count { IfOk result (λ leaf. length leaf.multipliers.items ≡ depth) }
 {
     let Some(token) = next_field(text) else {
-        return Err(Refusal::Fault(FaultKind::Fields));
+        return Err(Refusal::Fault(CertificateFaultKind::Fields));
     };
     let scale = take_natural(token.text)?;
     let naturals = take_naturals(checker.alloc, depth, token.rest)?;
-    let rows = take_row_terms(checker, naturals.rest)?;
+    let rows = take_terms(checker, Named::Rows, naturals.rest)?;
     if !are_signed(checker.program, rows.as_slice()) {
-        return Err(Refusal::Fault(FaultKind::Sign));
+        return Err(Refusal::Fault(CertificateFaultKind::Sign));
     }
     Ok(Leaf {
         scale,

@@ -1,50 +1,84 @@
 //! What a leaf comes to.
 
-ghost use Rattle.std.specs.Prelude.{◌≡◌, ◌≤◌, ◌+◌, ◌*◌, ◌^◌, ◌-ℤ◌, ◌*ℤ◌, ◌+ℤ◌, ℕ, IfOk, OnOk, int_lt, length, pos, unsigned_abs};
+ghost use Rattle.std.specs.Prelude.{◌≡◌, ◌≤◌, ◌+◌, ◌*◌, ◌^◌, ◌-ℤ◌, ◌*ℤ◌, ◌+ℤ◌, ℕ, IfOk, IfSome, OnOk, int_lt, length, pos, unsigned_abs};
 ghost use Rattle.std.specs.List.{enumerate_from, zip};
-ghost use Rattle.optimality.specs.inside.Adding.{cuts_given, number_at, rows_given};
+ghost use Rattle.optimality.specs.inside.Adding.{AreAlike, AreNoLarger, cuts_given, number_at, rows_given};
 ghost use Rattle.optimality.specs.inside.Checking.{IsPrepared};
 ghost use Rattle.optimality.specs.inside.Holding.{cuts_of};
 ghost use Rattle.optimality.specs.Certificates.{sum_of};
 ghost use Rattle.optimality.specs.Reduced as reduced;
-ghost use Rattle.optimality.specs.inside.RowForms.{row_forms};
+ghost use Rattle.optimality.specs.inside.RowForms.{forms_held, row_forms as forms_of};
 ghost use Rattle.optimality.specs.inside.Stopping.{TooLargeOnly, given_size, right_size};
 ghost use Rattle.optimality.specs.Sizes.{costs_size, leaf_size};
 ghost use Rattle.optimality.specs.Shows as shows;
 
 use crate::added_up::added_up;
 use crate::arithmetic::{minus, plus, times};
+use crate::by_columns::{Multiples, least_by_columns, row_multipliers};
 use crate::checker::Checker;
 use crate::cuts::{add_cuts, cuts_right};
 use crate::leaf::Leaf;
 use crate::limit::Limit;
 use crate::open_split::OpenSplit;
 use crate::reduced::least_total;
+use crate::row_forms::{Form, row_forms};
 use crate::rows::{add_rows, rows_right};
 use crate::sums::Sums;
-use program_rows::Program;
+use program_rows::Selection;
 
 /// Adds up what cuts and rows give the columns.
 fn reduce(
-    checker: &Checker,
+    program: &Selection<'_>,
+    forms: &[Form],
     sums: &mut Sums,
     splits: &[OpenSplit],
     leaf: &Leaf,
     rows: &[(usize, i128)],
 ) -> Result<(), Limit>
-    requires prepared { IsPrepared checker.now }
+    requires forms { forms_held forms.now ≡ forms_of program.now }
     requires count { length leaf.now.multipliers.items ≡ length splits.now }
     ensures value { OnOk result ((q : ℕ) → number_at sums.new.numbers.items q
         ≡ cuts_given leaf.now.multipliers.items (cuts_of splits.now) q +ℤ rows_given rows.now
-        (row_forms checker.now.program.now) q) }
-    ensures too_large { TooLargeOnly (2 ^ 126 ≤ given_size checker.now.program.now.columns
+        (forms_of program.now) q) }
+    ensures too_large { TooLargeOnly (2 ^ 126 ≤ given_size program.now.columns
         leaf.now.multipliers.items (cuts_of splits.now) rows.now) result }
 {
     // The places of entries lie within the rows.
-    checker.program.well_formed();
+    program.well_formed();
     sums.clear();
     add_cuts(sums, leaf.multipliers.as_slice(), splits)?;
-    add_rows(sums, checker.row_forms.as_slice(), rows)
+    add_rows(sums, forms, rows)
+}
+
+/// The least that the reduced costs come to, by the forms of the rows.
+fn least_by_forms(
+    checker: &Checker,
+    forms: &[Form],
+    sums: &mut Sums,
+    splits: &[OpenSplit],
+    leaf: &Leaf,
+    rows: &[(usize, i128)],
+) -> Result<i128, Limit>
+    requires prepared { IsPrepared checker.now }
+    requires forms { forms_held forms.now ≡ forms_of checker.now.program.now }
+    requires count { length leaf.now.multipliers.items ≡ length splits.now }
+    ensures value { IfOk result (λ n. n ≡ sum_of (λ e. reduced.least_part e.1.bounds
+        (reduced.reduced leaf.now.scale leaf.now.multipliers.items (cuts_of splits.now) rows.now
+        e.0 e.1)) (enumerate_from 0 checker.now.program.now.columns)) }
+    ensures size { IfOk result (λ n. unsigned_abs n ≤ leaf.now.scale
+        * costs_size checker.now.program.now.columns
+        + given_size checker.now.program.now.columns leaf.now.multipliers.items (cuts_of splits.now)
+        rows.now) }
+    ensures too_large { TooLargeOnly (2 ^ 126 ≤ leaf.now.scale
+        * costs_size checker.now.program.now.columns
+        + given_size checker.now.program.now.columns leaf.now.multipliers.items (cuts_of splits.now)
+        rows.now) result }
+{
+    // The places of entries lie within the rows.
+    checker.program.well_formed();
+    let alone = times(i128::from(leaf.scale), checker.alone)?;
+    reduce(checker.program, forms, sums, splits, leaf, rows)?;
+    least_total(checker.program, leaf.scale, alone, sums)
 }
 
 /// The least that the reduced costs come to.
@@ -69,16 +103,18 @@ fn least_of(
         + given_size checker.now.program.now.columns leaf.now.multipliers.items (cuts_of splits.now)
         rows.now) result }
 {
-    // The places of entries lie within the rows.
-    checker.program.well_formed();
-    let alone = times(i128::from(leaf.scale), checker.alone)?;
-    reduce(checker, sums, splits, leaf, rows)?;
-    least_total(checker.program, leaf.scale, alone, sums)
+    match &checker.row_forms {
+        Some(all) => least_by_forms(checker, all.forms.as_slice(), sums, splits, leaf, rows),
+        None => {
+            let forms = row_forms(checker.alloc, checker.program)?;
+            least_by_forms(checker, forms.as_slice(), sums, splits, leaf, rows)
+        }
+    }
 }
 
 /// The right sides of cuts and rows, each times its multiplier.
 fn right_of(
-    program: &Program,
+    program: &Selection<'_>,
     splits: &[OpenSplit],
     leaf: &Leaf,
     rows: &[(usize, i128)],
@@ -93,6 +129,84 @@ fn right_of(
     let of_cuts = cuts_right(leaf.multipliers.as_slice(), splits)?;
     let of_rows = rows_right(program, rows)?;
     plus(of_cuts, of_rows)
+}
+
+/// The value of a leaf by rows of which each place comes once or more, by the forms of these rows.
+fn value_by_rows(
+    checker: &Checker,
+    sums: &mut Sums,
+    splits: &[OpenSplit],
+    leaf: &Leaf,
+    rows: &[(usize, i128)],
+) -> Result<i128, Limit>
+    requires prepared { IsPrepared checker.now }
+    requires count { length leaf.now.multipliers.items ≡ length splits.now }
+    requires alike { AreAlike rows.now leaf.now.rows.items }
+    requires size { AreNoLarger rows.now leaf.now.rows.items }
+    ensures value { IfOk result (λ n. n ≡ shows.leaf_value checker.now.program.now
+        (cuts_of splits.now) leaf.now.scale leaf.now.multipliers.items leaf.now.rows.items) }
+    ensures too_large { TooLargeOnly (2 ^ 126 ≤ leaf_size checker.now.program.now checker.now.least
+        (cuts_of splits.now) leaf.now.scale leaf.now.multipliers.items leaf.now.rows.items)
+        result }
+{
+    let bottom = least_of(checker, sums, splits, leaf, rows)?;
+    let right = right_of(checker.program, splits, leaf, rows)?;
+    minus(bottom, right)
+}
+
+/// The same column by column; nothing if a number is beyond what that takes, or if there is no memory for it.
+fn value_by_columns(
+    checker: &Checker,
+    sums: &mut Sums,
+    splits: &[OpenSplit],
+    leaf: &Leaf,
+    rows: &[(usize, i128)],
+) -> Option<i128>
+    requires count { length leaf.now.multipliers.items ≡ length splits.now }
+    requires alike { AreAlike rows.now leaf.now.rows.items }
+    ensures { IfSome result (λ n. n ≡ shows.leaf_value checker.now.program.now
+        (cuts_of splits.now) leaf.now.scale leaf.now.multipliers.items leaf.now.rows.items) }
+{
+    let program = checker.program;
+    // The places of entries lie within the rows.
+    program.well_formed();
+    sums.clear();
+    let Ok(()) = add_cuts(sums, leaf.multipliers.as_slice(), splits) else {
+        return None;
+    };
+    let multipliers = row_multipliers(checker.alloc, program.row_count(), rows)?;
+    let multiples = Multiples {
+        scale: leaf.scale,
+        cuts: sums.numbers.as_slice(),
+        rows: multipliers.as_slice(),
+    };
+    let bottom = least_by_columns(program, &multiples)?;
+    let Ok(right) = right_of(program, splits, leaf, rows) else {
+        return None;
+    };
+    match minus(bottom, right) {
+        Ok(value) => Some(value),
+        Err(_) => None,
+    }
+}
+
+/// How many entries the named rows have.
+fn named_entries(forms: &[Form], rows: &[(usize, i128)]) -> usize {
+    let mut count: usize = 0;
+    for (row, _) in rows {
+        if *row < forms.len() {
+            count = count.saturating_add(forms[*row].len());
+        }
+    }
+    count
+}
+
+/// Whether rows have so many of the entries that it takes less time to go over all columns.
+fn have_many_entries(checker: &Checker, rows: &[(usize, i128)]) -> bool {
+    match &checker.row_forms {
+        Some(all) => named_entries(all.forms.as_slice(), rows) >= all.many_entries,
+        None => true,
+    }
 }
 
 fn leaf_value(
@@ -110,9 +224,12 @@ fn leaf_value(
         result }
 {
     let rows = added_up(checker.alloc, sums, leaf.rows.as_slice())?;
-    let bottom = least_of(checker, sums, splits, leaf, rows.as_slice())?;
-    let right = right_of(checker.program, splits, leaf, rows.as_slice())?;
-    minus(bottom, right)
+    if have_many_entries(checker, rows.as_slice()) {
+        if let Some(value) = value_by_columns(checker, sums, splits, leaf, rows.as_slice()) {
+            return Ok(value);
+        }
+    }
+    value_by_rows(checker, sums, splits, leaf, rows.as_slice())
 }
 
 fn scaled_before(scale: u64, least: i128) -> Result<i128, Limit>

@@ -3,6 +3,7 @@
 
 mod added_up;
 mod arithmetic;
+mod by_columns;
 mod checker;
 mod closing;
 mod cuts;
@@ -31,4 +32,4 @@ mod terms;
 
 pub use only::check_only;
 pub use optimum::check_optimum;
-pub use reader::check_certificate;
+pub use reader::{check_certificate, check_selection};

@@ -1,17 +1,17 @@
 //! One line of a certificate.
 
 ghost use Rattle.std.specs.Prelude.{◌≡◌, ◌≤◌, ◌==◌, ◌^◌, ◌-ℤ◌, ◌*ℤ◌, IfOk, bytes_eq, int_lt, length, not, pos, slice_index};
-ghost use Rattle.line_words.specs.Lines.{fields, is_skipped};
+ghost use Rattle.auction_terms.specs.LineFields.{fields, is_skipped};
 ghost use Rattle.optimality.specs.inside.Answers.{AnswersClosed};
 ghost use Rattle.optimality.specs.inside.Branches.{AnswersAlike, branches_of, opened};
 ghost use Rattle.optimality.specs.Branches.{cuts_above};
 ghost use Rattle.optimality.specs.inside.Checking.{IsPrepared};
 ghost use Rattle.optimality.specs.inside.Stopping.{RefusedLargeOnly, TooLargeOnly};
 ghost use Rattle.auction_terms.specs.Stages.{and_then};
-ghost use Rattle.optimality.specs.LineMeaning.{line_told};
+ghost use Rattle.optimality.specs.LineMeaning.{parsed_certificate_line};
 ghost use Rattle.optimality.specs.inside.LineMeaning.{bound_behind, split_behind};
 ghost use Rattle.optimality.specs.Shows.{leaf_value};
-ghost use Rattle.optimality.specs.Sizes.{IsLargeLine, IsLargeTold, leaf_size};
+ghost use Rattle.optimality.specs.Sizes.{IsLargeLine, IsLargeParsed, leaf_size};
 ghost use Rattle.optimality.specs.Verdict.{behind, taken};
 
 use crate::checker::Checker;
@@ -24,8 +24,8 @@ use crate::open_split::OpenSplit;
 use crate::refusal::Refusal;
 use crate::split_line::{opened_split, take_split};
 use crate::sums::Sums;
-use line_words::next_field;
-use program_faults::FaultKind;
+use auction_terms::next_field;
+use program_rows::CertificateFaultKind;
 
 fn is_word(text: &[u8], word: &[u8]) -> bool
     ensures { result ≡ bytes_eq text.now word.now }
@@ -45,8 +45,8 @@ fn take_split_line(
         (taken checker.now.program.now checker.now.least (branches_of splits.old.items))) }
     ensures too_large { RefusedLargeOnly ⊥ result }
 {
-    let told = take_split(checker, text)?;
-    let split = opened_split(checker.alloc, sums, &told)?;
+    let parsed = take_split(checker, text)?;
+    let split = opened_split(checker.alloc, sums, &parsed)?;
     splits.push(split)?;
     Ok(false)
 }
@@ -80,13 +80,13 @@ fn take_leaf_line(
     ensures value { AnswersClosed (λ is_last. opened is_last splits.new.items) result
         (and_then (bound_behind checker.now.program.now (length splits.old.items) (fields text.now))
         (taken checker.now.program.now checker.now.least (branches_of splits.old.items))) }
-    ensures too_large { RefusedLargeOnly (IsLargeTold checker.now.program.now checker.now.least
+    ensures too_large { RefusedLargeOnly (IsLargeParsed checker.now.program.now checker.now.least
         (branches_of splits.old.items) (bound_behind checker.now.program.now
         (length splits.old.items) (fields text.now))) result }
 {
     let leaf = take_leaf(checker, splits.len(), text)?;
     if !leaf_shows(checker, sums, splits.as_slice(), &leaf)? {
-        return Err(Refusal::Fault(FaultKind::NotShown));
+        return Err(Refusal::Fault(CertificateFaultKind::NotShown));
     }
     close(splits)
 }
@@ -100,15 +100,15 @@ fn take_line(
 ) -> Result<bool, Refusal>
     requires { IsPrepared checker.now }
     ensures value { AnswersAlike checker.now.program.now checker.now.least splits.new.items result
-        (and_then (line_told checker.now.program.now (length (branches_of splits.old.items))
+        (and_then (parsed_certificate_line checker.now.program.now (length (branches_of splits.old.items))
         (fields line.now)) (taken checker.now.program.now checker.now.least
         (branches_of splits.old.items))) }
-    ensures too_large { RefusedLargeOnly (IsLargeTold checker.now.program.now checker.now.least
-        (branches_of splits.old.items) (line_told checker.now.program.now
+    ensures too_large { RefusedLargeOnly (IsLargeParsed checker.now.program.now checker.now.least
+        (branches_of splits.old.items) (parsed_certificate_line checker.now.program.now
         (length (branches_of splits.old.items)) (fields line.now))) result }
 {
     let Some(word) = next_field(line) else {
-        return Err(Refusal::Fault(FaultKind::Fields));
+        return Err(Refusal::Fault(CertificateFaultKind::Fields));
     };
     if is_word(word.text, b"split") {
         return take_split_line(checker, sums, splits, word.rest);
@@ -116,7 +116,7 @@ fn take_line(
     if is_word(word.text, b"bound") {
         return take_leaf_line(checker, sums, splits, word.rest);
     }
-    Err(Refusal::Fault(FaultKind::Fields))
+    Err(Refusal::Fault(CertificateFaultKind::Fields))
 }
 
 fn is_comment(line: &[u8]) -> bool
@@ -134,13 +134,13 @@ fn has_fields(line: &[u8]) -> bool
     next_field(line).is_some()
 }
 
-fn is_telling(line: &[u8]) -> bool
+fn is_certificate_of(line: &[u8]) -> bool
     ensures { result ≡ not (is_skipped line.now) }
 {
     !is_comment(line) && has_fields(line)
 }
 
-/// Takes a line. `is_last` says whether the certificate is told whole, before and after it; `sums` is room for a line.
+/// Takes a line. `is_last` says whether the certificate is complete, before and after it; `sums` is room for a line.
 pub fn take_any(
     checker: &Checker,
     sums: &mut Sums,
@@ -155,11 +155,11 @@ pub fn take_any(
     ensures too_large { RefusedLargeOnly (IsLargeLine checker.now.program.now checker.now.least
         (opened is_last splits.old.items) line.now) result }
 {
-    if !is_telling(line) {
+    if !is_certificate_of(line) {
         return Ok(is_last);
     }
     if is_last {
-        return Err(Refusal::Fault(FaultKind::Beyond));
+        return Err(Refusal::Fault(CertificateFaultKind::Beyond));
     }
     take_line(checker, sums, splits, line)
 }

@@ -6,7 +6,7 @@ ghost use Rattle.optimality.specs.Only as only;
 ghost use Rattle.optimality.specs.Only.{IsLargeOnlyAt, IsShownOnlyBy, all_others, free_ones, only_fault};
 ghost use Rattle.optimality.specs.inside.Branches.{branch_of, branches_of};
 ghost use Rattle.optimality.specs.inside.Checking.{IsPrepared};
-ghost use Rattle.program_faults.specs.declared.certificate_fault.FaultKind.TheVariants.{TooLarge};
+ghost use Rattle.program_rows.specs.declared.certificate_fault.CertificateFaultKind.TheVariants.{TooLarge};
 ghost use Rattle.program_rows.specs.Only.{IsOnlyLeast};
 ghost use Rattle.program_rows.specs.Points.{IsPoint, objective, sum_at_one};
 
@@ -16,8 +16,7 @@ use crate::limit::Limit;
 use crate::open_split::OpenSplit;
 use crate::reader::{check_lines, new_checker, refused};
 use crate::refusal::Refusal;
-use program_faults::CertificateFault;
-use program_rows::{Bounds, Point, Program};
+use program_rows::{Bounds, CertificateFault, Point, Program, Selection};
 use std::alloc::{AllocError, Global};
 
 fn is_zero_or_one(bounds: Bounds) -> bool
@@ -39,7 +38,7 @@ fn number_of(is_one: bool) -> i128
 /// Adds the term of a column, if it may be 0 or 1.
 fn add_term(
     form: &mut WideForm,
-    program: &Program,
+    program: &Selection<'_>,
     values: &Point,
     column: usize,
 ) -> Result<(), AllocError>
@@ -59,7 +58,7 @@ fn add_term(
 }
 
 /// The form of the split from a point.
-fn distance(alloc: Global, program: &Program, values: &Point) -> Result<WideForm, AllocError>
+fn distance(alloc: Global, program: &Selection<'_>, values: &Point) -> Result<WideForm, AllocError>
     requires { length values.now ≡ length program.now.columns }
     ensures { IfOk result (λ form. form.items ≡ only.distance 0 program.now.columns values.now) }
 {
@@ -71,7 +70,7 @@ fn distance(alloc: Global, program: &Program, values: &Point) -> Result<WideForm
 }
 
 /// 1 where the column may be 0 or 1 and is 1, else 0.
-fn free_one(program: &Program, values: &Point, column: usize) -> usize
+fn free_one(program: &Selection<'_>, values: &Point, column: usize) -> usize
     requires sized { length values.now ≡ length program.now.columns }
     requires within { column < length program.now.columns }
     ensures counted { free_ones (drop column program.now.columns) (drop column values.now)
@@ -88,7 +87,7 @@ fn free_one(program: &Program, values: &Point, column: usize) -> usize
 }
 
 /// How many of the columns that may be 0 or 1 are 1.
-fn free_ones(program: &Program, values: &Point) -> usize
+fn free_ones(program: &Selection<'_>, values: &Point) -> usize
     requires { length values.now ≡ length program.now.columns }
     ensures { result ≡ free_ones program.now.columns values.now }
 {
@@ -100,7 +99,11 @@ fn free_ones(program: &Program, values: &Point) -> usize
 }
 
 /// The split from a point, at the side of all others.
-fn all_others(alloc: Global, program: &Program, values: &Point) -> Result<OpenSplit, AllocError>
+fn all_others(
+    alloc: Global,
+    program: &Selection<'_>,
+    values: &Point,
+) -> Result<OpenSplit, AllocError>
     requires { length values.now ≡ length program.now.columns }
     ensures { IfOk result (λ split. branch_of split ≡ all_others program.now values.now) }
 {
@@ -116,7 +119,7 @@ fn all_others(alloc: Global, program: &Program, values: &Point) -> Result<OpenSp
 /// That split alone.
 fn open_splits(
     alloc: Global,
-    program: &Program,
+    program: &Selection<'_>,
     values: &Point,
 ) -> Result<Vec<OpenSplit>, AllocError>
     requires { length values.now ≡ length program.now.columns }
@@ -129,7 +132,7 @@ fn open_splits(
 }
 
 /// The cost of a column, if it is 1.
-fn cost_at(program: &Program, values: &Point, column: usize) -> i64
+fn cost_at(program: &Selection<'_>, values: &Point, column: usize) -> i64
     requires sized { length values.now ≡ length program.now.columns }
     requires within { column < length program.now.columns }
     ensures { sum_at_one (λ c. c.cost) (drop column program.now.columns) (drop column values.now)
@@ -142,7 +145,7 @@ fn cost_at(program: &Program, values: &Point, column: usize) -> i64
 }
 
 /// One more than the objective of the values. It is added up here from 1 on, which shows that there is room for it in 128 bits.
-fn one_above(program: &Program, values: &Point) -> i128
+fn one_above(program: &Selection<'_>, values: &Point) -> i128
     requires { length values.now ≡ length program.now.columns }
     ensures { result ≡ objective program.now values.now +ℤ pos 1 }
 {
@@ -162,7 +165,8 @@ struct BehindSplit<'p> {
 
 fn behind_split<'p>(
     alloc: Global,
-    program: &'p Program,
+    text: &[u8],
+    program: &'p Selection<'p>,
     values: &Point,
 ) -> Result<BehindSplit<'p>, AllocError>
     requires { length values.now ≡ length program.now.columns }
@@ -174,7 +178,7 @@ fn behind_split<'p>(
         ≡ all_others program.now values.now ∷ []) }
 {
     let splits = open_splits(alloc, program, values)?;
-    let checker = new_checker(alloc, program, one_above(program, values))?;
+    let checker = new_checker(alloc, text, program, one_above(program, values))?;
     Ok(BehindSplit { checker, splits })
 }
 
@@ -196,7 +200,8 @@ pub fn check_only(
     ensures too_large { IfErr result (λ fault. fault.kind ≡ TooLarge → IsLargeOnlyAt program.now
         values.now text.now fault.line) }
 {
-    match behind_split(alloc, program, values) {
+    let selection = Selection::whole(program);
+    match behind_split(alloc, text, &selection, values) {
         Ok(BehindSplit { checker, splits }) => check_lines(&checker, splits, text),
         Err(_) => Err(refused(0, Refusal::Stopped(Limit::Memory))),
     }

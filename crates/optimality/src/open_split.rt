@@ -1,6 +1,6 @@
 use crate::forms::WideForm;
 
-/// A split, one side of which is told.
+/// A split, one side of which is closed.
 #[derive(Drop)]
 pub struct OpenSplit {
     /// Columns with their numbers, each once.

@@ -1,31 +1,29 @@
 //! One pass over the lines of a certificate.
 
-ghost use Rattle.std.specs.Prelude.{◌≡◌, ◌⊎◌, IfErr, IfOk, Ok, OnOk, Some};
+ghost use Rattle.std.specs.Prelude.{◌≡◌, ◌⊎◌, IfErr, IfOk, IfSome, Ok, OnOk, Some};
 ghost use Rattle.optimality.specs.Answers.{IsLimit, IsVerdict};
 ghost use Rattle.optimality.specs.inside.Answers.{IsRefusedCertificate};
 ghost use Rattle.optimality.specs.inside.Checking.{IsPrepared};
 ghost use Rattle.optimality.specs.Laws.{IsBound};
 ghost use Rattle.optimality.specs.Sizes.{IsLargeAt, IsLargeFrom};
-ghost use Rattle.program_faults.specs.declared.certificate_fault.FaultKind.TheVariants.{TooLarge};
-ghost use Rattle.optimality.specs.Telling.{IsShownBy};
+ghost use Rattle.program_rows.specs.declared.certificate_fault.CertificateFaultKind.TheVariants.{TooLarge};
+ghost use Rattle.optimality.specs.CertificateText.{IsShownBy};
 ghost use Rattle.optimality.specs.Verdict.{certificate_fault, fault_from};
 ghost use Rattle.optimality.specs.inside.Branches.{branches_of};
-ghost use Rattle.auction_terms.specs.Borrowed.{bytes_of};
 ghost use Rattle.auction_terms.specs.Lines.{lines_of};
-ghost use Rattle.program_rows.specs.ProgramNames as of_program;
+ghost use Rattle.optimality.specs.inside.RowForms.{forms_held, row_forms as forms_of};
 
 use crate::checker::Checker;
 use crate::limit::Limit;
 use crate::lines::take_any;
-use crate::names::{column_names, row_names};
+use crate::names::row_names;
 use crate::open_split::OpenSplit;
 use crate::reduced::least_alone;
 use crate::refusal::Refusal;
-use crate::row_forms::row_forms;
+use crate::row_forms::{RowForms, entry_count, row_forms};
 use crate::sums::Sums;
 use auction_terms::LineReader;
-use program_faults::{CertificateFault, FaultKind};
-use program_rows::{NameSet, Program, Seeded};
+use program_rows::{CertificateFault, CertificateFaultKind, Program, Selection};
 use std::alloc::{AllocError, Global};
 use std::cell::Cell;
 
@@ -33,8 +31,8 @@ pub fn refused(line: usize, refusal: Refusal) -> CertificateFault
     ensures { IsRefusedCertificate line refusal result }
 {
     let kind = match refusal {
-        Refusal::Stopped(Limit::Memory) => FaultKind::OutOfMemory,
-        Refusal::Stopped(Limit::TooLarge) => FaultKind::TooLarge,
+        Refusal::Stopped(Limit::Memory) => CertificateFaultKind::OutOfMemory,
+        Refusal::Stopped(Limit::TooLarge) => CertificateFaultKind::TooLarge,
         Refusal::Fault(kind) => kind,
     };
     CertificateFault { line, kind }
@@ -70,33 +68,61 @@ pub fn check_lines(
     }
     Err(CertificateFault {
         line: place,
-        kind: FaultKind::NoEnd,
+        kind: CertificateFaultKind::NoEnd,
     })
 }
 
-/// The names of the columns, and those of the rows.
-fn all_names(alloc: Global, program: &Program) -> Result<(NameSet<'_>, NameSet<'_>), AllocError>
-    ensures columns { IfOk result (λ names. bytes_of names.0.keys
-        ≡ of_program.column_names program.now) }
-    ensures rows { IfOk result (λ names. bytes_of names.1.keys ≡ of_program.row_names program.now) }
-{
-    let seed = Seeded::by_names(program);
-    let columns = column_names(alloc, program, seed)?;
-    Ok((columns, row_names(alloc, program, seed)?))
+/// Whether a text has more than two lines, and so maybe leaves that name few entries.
+fn has_many_lines(text: &[u8]) -> bool {
+    let mut lines = LineReader::new(text);
+    lines.next();
+    lines.next();
+    lines.next().is_some()
 }
 
-pub fn new_checker(alloc: Global, program: &Program, least: i128) -> Result<Checker<'_>, AllocError>
+/// From how many entries on all columns are gone over: an entry by its row is taken to cost as much as two columns, or as six of
+/// their entries.
+fn many_entries(columns: usize, entries: usize) -> usize {
+    (columns / 2).saturating_add(entries / 6)
+}
+
+/// The forms of the rows, for a text of many lines.
+fn forms_for(
+    alloc: Global,
+    text: &[u8],
+    program: &Selection<'_>,
+) -> Result<Option<RowForms>, AllocError>
+    ensures { IfOk result (λ made. IfSome made (λ rows. forms_held rows.forms.items
+        ≡ forms_of program.now)) }
+{
+    if !has_many_lines(text) {
+        return Ok(None);
+    }
+    let forms = row_forms(alloc, program)?;
+    let many_entries = many_entries(program.column_count(), entry_count(forms.as_slice()));
+    Ok(Some(RowForms {
+        forms,
+        many_entries,
+    }))
+}
+
+/// What a text is checked against.
+pub fn new_checker<'p>(
+    alloc: Global,
+    text: &[u8],
+    program: &'p Selection<'p>,
+    least: i128,
+) -> Result<Checker<'p>, AllocError>
     ensures prepared { IfOk result (λ checker. IsPrepared checker) }
     ensures program { IfOk result (λ checker. checker.program.now ≡ program.now) }
     ensures least { IfOk result (λ checker. checker.least ≡ least) }
 {
-    let forms = row_forms(alloc, program)?;
-    let (columns, rows) = all_names(alloc, program)?;
+    let forms = forms_for(alloc, text, program)?;
+    let rows = row_names(alloc, program)?;
     let alone = least_alone(program);
     Ok(Checker {
         alloc,
         program,
-        columns,
         next_column: Cell::new(0),
         rows,
         next_row: Cell::new(0),
@@ -104,6 +130,28 @@ pub fn new_checker(alloc: Global, program: &Program, least: i128) -> Result<Chec
         alone,
         least,
     })
+}
+
+/// Checks that a text tells a certificate that no point of a program has an objective below `least`, where the program is a selection
+/// of another one.
+pub fn check_selection(
+    alloc: Global,
+    text: &[u8],
+    program: &Selection<'_>,
+    least: i128,
+) -> Result<(), CertificateFault>
+    ensures sound { OnOk result (IsBound program.now least) }
+    ensures shown { OnOk result (IsShownBy program.now least text.now) }
+    ensures refused { IfErr result (λ fault. IsLimit fault.kind
+        ⊎ ¬ IsShownBy program.now least text.now) }
+    ensures first { IsVerdict result (certificate_fault program.now least text.now) }
+    ensures too_large { IfErr result (λ fault. fault.kind ≡ TooLarge → IsLargeAt program.now least
+        text.now fault.line) }
+{
+    match new_checker(alloc, text, program, least) {
+        Ok(checker) => check_lines(&checker, Vec::new(alloc), text),
+        Err(_) => Err(refused(0, Refusal::Stopped(Limit::Memory))),
+    }
 }
 
 /// Checks that a text tells a certificate that no point of the program has an objective below `least`.
@@ -121,8 +169,6 @@ pub fn check_certificate(
     ensures too_large { IfErr result (λ fault. fault.kind ≡ TooLarge → IsLargeAt program.now least
         text.now fault.line) }
 {
-    match new_checker(alloc, program, least) {
-        Ok(checker) => check_lines(&checker, Vec::new(alloc), text),
-        Err(_) => Err(refused(0, Refusal::Stopped(Limit::Memory))),
-    }
+    let selection = Selection::whole(program);
+    check_selection(alloc, text, &selection, least)
 }

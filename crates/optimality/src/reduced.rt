@@ -11,9 +11,9 @@ ghost use Rattle.optimality.specs.Sizes.{costs_size};
 use crate::arithmetic::{minus, plus, scaled};
 use crate::limit::Limit;
 use crate::sums::Sums;
-use program_rows::{Bounds, Program};
+use program_rows::{Bounds, Selection};
 
-fn least_part(bounds: Bounds, number: i128) -> i128
+pub fn least_part(bounds: Bounds, number: i128) -> i128
     ensures { result ≡ reduced.least_part bounds number }
 {
     match bounds {
@@ -23,7 +23,7 @@ fn least_part(bounds: Bounds, number: i128) -> i128
     }
 }
 
-fn cost_part(program: &Program, column: usize) -> i128
+fn cost_part(program: &Selection<'_>, column: usize) -> i128
     requires { column < length program.now.columns }
     ensures part { option_map (λ c. reduced.least_part c.bounds c.cost)
         (slice_get program.now.columns column) ≡ Some result }
@@ -34,7 +34,7 @@ fn cost_part(program: &Program, column: usize) -> i128
 
 /// The least that the costs alone come to. A scale is a factor of it, so that it is added up once for all leaves. There is room in
 /// 128 bits for as many costs of 64 bits as there are places.
-pub fn least_alone(program: &Program) -> i128
+pub fn least_alone(program: &Selection<'_>) -> i128
     ensures { result ≡ adding.least_alone program.now.columns }
 {
     let mut sum: i128 = 0;
@@ -45,7 +45,7 @@ pub fn least_alone(program: &Program) -> i128
 }
 
 /// By how much a number changes what a column contributes at least.
-fn change(program: &Program, scale: u64, column: usize, number: i128) -> Result<i128, Limit>
+fn change(program: &Selection<'_>, scale: u64, column: usize, number: i128) -> Result<i128, Limit>
     ensures value { IfOk result (λ n. n ≡ change_at program.now.columns (pos scale) column number) }
     ensures too_large { TooLargeOnly ((column < length program.now.columns)
         × (2 ^ 126 ≤ scale * costs_size program.now.columns + unsigned_abs number)) result }
@@ -61,7 +61,7 @@ fn change(program: &Program, scale: u64, column: usize, number: i128) -> Result<
 
 fn with_change(
     sum: i128,
-    program: &Program,
+    program: &Selection<'_>,
     scale: u64,
     column: usize,
     number: i128,
@@ -79,7 +79,7 @@ fn with_change(
 /// The least that the columns contribute, given what their scaled costs alone come to. Takes the sums: a column that has none costs
 /// nothing.
 pub fn least_total(
-    program: &Program,
+    program: &Selection<'_>,
     scale: u64,
     alone: i128,
     sums: &mut Sums,

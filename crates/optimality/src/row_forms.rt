@@ -4,11 +4,19 @@ ghost use Rattle.std.specs.Prelude.{◌≡◌, [], IfOk, OnOk, replicate};
 ghost use Rattle.optimality.specs.inside.RowForms as rows;
 ghost use Rattle.optimality.specs.inside.RowForms.{forms_held, with_columns, with_entries, with_term};
 
-use program_rows::Program;
+use program_rows::{Entries, Selection};
 use std::alloc::{AllocError, Global};
 
 /// Places of columns, each with its number.
 pub type Form = Vec<(usize, i64)>;
+
+/// The rows of a program, in order, each as a form over its columns: a leaf that names rows with few entries goes over these alone.
+#[derive(Drop)]
+pub struct RowForms {
+    pub forms: Vec<Form>,
+    /// From so many entries on it takes less time to go over all columns.
+    pub many_entries: usize,
+}
 
 fn add_term(forms: &mut [Form], row: usize, term: (usize, i64)) -> Result<(), AllocError>
     ensures { OnOk result (forms_held forms.new ≡ with_term row term (forms_held forms.old)) }
@@ -20,12 +28,12 @@ fn add_term(forms: &mut [Form], row: usize, term: (usize, i64)) -> Result<(), Al
 }
 
 /// Adds the entries of a column, each to the form of its row.
-fn add_column(forms: &mut [Form], column: usize, entries: &[(usize, i64)]) -> Result<(), AllocError>
+fn add_column(forms: &mut [Form], column: usize, entries: &Entries<'_>) -> Result<(), AllocError>
     ensures { OnOk result (forms_held forms.new
         ≡ with_entries column entries.now (forms_held forms.old)) }
 {
     for i in 0..entries.len() {
-        let (row, coefficient) = entries[i];
+        let (row, coefficient) = entries.entry(i);
         add_term(forms, row, (column, coefficient))?;
     }
     Ok(())
@@ -42,21 +50,30 @@ fn empty_forms(alloc: Global, count: usize) -> Result<Vec<Form>, AllocError>
 }
 
 /// Adds the entries of all columns.
-fn add_columns(forms: &mut [Form], program: &Program) -> Result<(), AllocError>
+fn add_columns(forms: &mut [Form], program: &Selection<'_>) -> Result<(), AllocError>
     ensures { OnOk result (forms_held forms.new
         ≡ with_columns 0 program.now.columns (forms_held forms.old)) }
 {
     for column in 0..program.column_count() {
-        add_column(forms, column, program.entries(column))?;
+        add_column(forms, column, &program.entries(column))?;
     }
     Ok(())
 }
 
 /// The forms of the rows, in the order of the program.
-pub fn row_forms(alloc: Global, program: &Program) -> Result<Vec<Form>, AllocError>
+pub fn row_forms(alloc: Global, program: &Selection<'_>) -> Result<Vec<Form>, AllocError>
     ensures { IfOk result (λ forms. forms_held forms.items ≡ rows.row_forms program.now) }
 {
     let mut forms = empty_forms(alloc, program.row_count())?;
     add_columns(forms.as_mut_slice(), program)?;
     Ok(forms)
+}
+
+/// How many entries forms have.
+pub fn entry_count(forms: &[Form]) -> usize {
+    let mut count: usize = 0;
+    for form in forms {
+        count = count.saturating_add(form.len());
+    }
+    count
 }

@@ -14,7 +14,7 @@ use crate::forms::add_form;
 use crate::limit::Limit;
 use crate::row_forms::Form;
 use crate::sums::Sums;
-use program_rows::Program;
+use program_rows::Selection;
 
 fn add_row(sums: &mut Sums, forms: &[Form], row: usize, multiplier: i128) -> Result<(), Limit>
     ensures value { OnOk result (AreGivenMore (form_given multiplier
@@ -44,7 +44,7 @@ pub fn add_rows(sums: &mut Sums, forms: &[Form], rows: &[(usize, i128)]) -> Resu
 }
 
 /// The right side of the row at a place, 0 behind the last one.
-fn right_side_at(program: &Program, row: usize) -> i64
+fn right_side_at(program: &Selection<'_>, row: usize) -> i64
     ensures { result ≡ reduced.right_side_at program.now.rows row }
 {
     if row < program.row_count() {
@@ -54,7 +54,12 @@ fn right_side_at(program: &Program, row: usize) -> i64
     }
 }
 
-fn add_right_side(sum: i128, program: &Program, row: usize, multiplier: i128) -> Result<i128, Limit>
+fn add_right_side(
+    sum: i128,
+    program: &Selection<'_>,
+    row: usize,
+    multiplier: i128,
+) -> Result<i128, Limit>
     ensures value { IfOk result (λ n. n ≡ sum +ℤ multiplier
         *ℤ reduced.right_side_at program.now.rows row) }
     ensures too_large { TooLargeOnly (2 ^ 126 ≤ unsigned_abs sum + unsigned_abs multiplier
@@ -66,7 +71,7 @@ fn add_right_side(sum: i128, program: &Program, row: usize, multiplier: i128) ->
 }
 
 /// The sum of the right sides of rows, each times its multiplier.
-pub fn rows_right(program: &Program, rows: &[(usize, i128)]) -> Result<i128, Limit>
+pub fn rows_right(program: &Selection<'_>, rows: &[(usize, i128)]) -> Result<i128, Limit>
     ensures value { IfOk result (λ n. n ≡ sum_of (λ t. t.1
         *ℤ reduced.right_side_at program.now.rows t.0) rows.now) }
     ensures too_large { TooLargeOnly (2 ^ 126 ≤ size_of (λ t. unsigned_abs t.1 * unsigned_abs

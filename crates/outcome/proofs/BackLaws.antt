@@ -9,7 +9,7 @@ use Rattle.std.proofs.lemmas.List.{append-nil}
 use Rattle.std.proofs.lemmas.List.Sums.{sum_by-append, length-filter}
 use Rattle.std.proofs.lemmas.List.Elements.{recursion_from_All, All-from_recursion, filter_passes}
 use Rattle.auction_terms.specs.declared.choices.Choice.{Choice}
-use Rattle.auction_limits.specs.declared.limits.TheConstants.{MOST_BIDDERS, MOST_BIDS}
+use Rattle.auction_terms.specs.declared.limits.TheConstants.{MOST_BIDDERS, MOST_BIDS}
 use Rattle.auction_terms.specs.Allocations.{Book, amount_of, quantity_of, loads, is_eligible}
 use Rattle.auction_terms.proofs.OfferLaws.{sum_zero, sum_agree, sum_plus, sum_filter, all_agree, all_append, all_filter}
 use Rattle.program_rows.specs.Program.{Table, TableColumn}
@@ -17,7 +17,7 @@ use Rattle.program_rows.specs.Spelling.{column_bid, is_bid}
 use Rattle.auction_terms.specs.Packages.{Lots, fits, left, worth}
 use Rattle.auction_terms.specs.Keeping.{kept_of}
 use Rattle.program_rows.specs.Rows.{program_of}
-use Rattle.mps_meaning.specs.Meaning.{meaning}
+use Rattle.program_rows.specs.MpsMeaning.{meaning}
 use Rattle.program_rows.specs.Faithful.{back, IsFaithful}
 use Rattle.program_rows.proofs.FaithfulLaws.{presolved_is_faithful}
 use Rattle.mps_text.specs.FaithfulText.{presolved_text}
@@ -124,8 +124,8 @@ pub points_come_back : PointsComeBack
 points_come_back lots book group p values faithful point =
     let taken = back p.columns values in
     let inside = back_bidders p.columns values in
-    let told = faithful.maps_back values point in
-    let f = told.feasible in
+    let parsed = faithful.maps_back values point in
+    let f = parsed.feasible in
     let loaded = same_loads lots book taken inside in
     record {
       map = f.one_bid_each;
@@ -134,23 +134,23 @@ points_come_back lots book group p values faithful point =
         eligible = All-from_recursion _ (allocation_of p values) (all_by_bidder (λ c. is_eligible book group c ≡ true) (range_with_len 1 MOST_BIDDERS) taken (recursion_from_All _ taken f.eligible));
         fit = ap (fits lots) loaded ∙ f.fit;
       };
-      same_total = ap pos (ap₂ (λ (amounts : ℕ) (q : List ℕ). amounts + worth lots (left lots.supply q)) (same_sum (amount_of book) taken inside) loaded) ∙ told.same_total;
+      same_total = ap pos (ap₂ (λ (amounts : ℕ) (q : List ℕ). amounts + worth lots (left lots.supply q)) (same_sum (amount_of book) taken inside) loaded) ∙ parsed.same_total;
       rising = rises taken f.one_bid_each 1 MOST_BIDDERS;
     }
 
 pub solutions_come_back : SolutionsComeBack
-solutions_come_back lots book group solved values within told =
+solutions_come_back lots book group solved values within parsed =
     let p = program_of lots (kept_of lots book group) in
-    points_come_back lots book group p values (presolved_is_faithful lots book group within) (solutions_are_points p solved values told)
+    points_come_back lots book group p values (presolved_is_faithful lots book group within) (solutions_are_points p solved values parsed)
 
 same_program : (p q : Table) (bytes : List ℕ) → meaning bytes ≡ Ok p → meaning bytes ≡ Ok q → p ≡ q
 same_program p q bytes e f = cc
 
 pub answers_of_solvers_come_back : AnswersOfSolversComeBack
-answers_of_solvers_come_back lots book group p solved values limits within meant told =
+answers_of_solvers_come_back lots book group p solved values limits within meant parsed =
     let faithful = presolved_text_is_faithful lots book group limits within in
     let same : faithful.program ≡ p = same_program faithful.program p (presolved_text lots book group) faithful.meant meant in
-    points_come_back lots book group p values (subst (λ (q : Table). IsFaithful lots book group q) same faithful.faithful) (solutions_are_points p solved values told)
+    points_come_back lots book group p values (subst (λ (q : Table). IsFaithful lots book group q) same faithful.faithful) (solutions_are_points p solved values parsed)
 
 -- ---- one bidder more
 
@@ -169,7 +169,7 @@ rises_all choices map = rises choices map 1 MOST_BIDDERS
 
 -- ---- one column more
 
--- the bid of the column at a place, and then those behind it
+-- the bid of the column at a place, and then those after it
 pub back_at : (i : ℕ) (columns : List TableColumn) (values : List Bool) (v : Bool) (o : Option Choice) → slice_get values i ≡ Some v → option_map (λ c. column_bid c.name) (slice_get columns i) ≡ Some o
     → back (drop i columns) (drop i values) ≡ cond v (option_to_list o) [] ++ back (drop (suc i) columns) (drop (suc i) values)
 back_at zero [] values v o e f = cc f

@@ -3,7 +3,7 @@ use Rattle.std.proofs.Common.{arith}
 use Rattle.std.specs.Fmt.{digits}
 use Rattle.std.specs.Prelude.{◌≡◌, ℕ, List, [], ◌∷◌, map, true, false, negsuc, Ok, Err, codes}
 use Rattle.program_rows.specs.Points.{objective}
-use Rattle.line_words.specs.Lines.{fields}
+use Rattle.auction_terms.specs.LineFields.{fields}
 use Rattle.program_rows.specs.Spelling.{column_bid}
 use Rattle.auction_terms.specs.FirstFault.{first_fault}
 use Rattle.auction_terms.specs.declared.bids.Bid.{Bid}
@@ -14,7 +14,7 @@ use Rattle.auction_terms.specs.Keeping.{kept_of}
 use Rattle.program_rows.specs.Program.{Table}
 use Rattle.program_rows.specs.Rows.{program_of}
 use Rattle.outcome.specs.declared.value_fault.ValueFault.TheVariants as value
-use Rattle.program_faults.specs.declared.solution_fault.SolutionFault.TheVariants as fault
+use Rattle.program_rows.specs.declared.solution_fault.SolutionFault.TheVariants as fault
 use Rattle.outcome.specs.Values.{is_near}
 use Rattle.outcome.specs.inside.Values.{token_value}
 use Rattle.outcome.specs.Solution.{solution}

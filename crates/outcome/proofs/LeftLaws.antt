@@ -15,7 +15,7 @@ module _ (taken : ℕ → ℕ) where
   worth_is place [] = refl
   worth_is place (c ∷ categories) = ap (λ (n : ℕ). c.value * (c.supply - taken place) + n) (worth_is (place + 1) categories)
 
-  -- the category at a place, and then those behind it
+  -- the category at a place, and then those after it
   pub worth_at : (i j place : ℕ) (categories : List Category) → i < length categories → j ≡ i + 1
       → worth_from place (drop i categories) ≡ slice_index (map (λ c. c.value) categories) i * (slice_index (map (λ c. c.supply) categories) i - taken place) + worth_from (place + 1) (drop j categories)
   worth_at i j place [] h e = absurd (omega arith)
@@ -38,7 +38,7 @@ module _ (taken : ℕ → ℕ) where
       let place : worth_from j (drop j categories) ≡ worth_from (i + 1) (drop j categories) = ap (λ (k : ℕ). worth_from k (drop j categories)) e in
       omega arith
 
-  -- and behind the last one
+  -- and after the last one
   pub whole_sum : (i : ℕ) (categories : List Category) (sum : ℕ) → length categories ≤ i → sum + worth_from i (drop i categories) ≡ worth_from 0 categories
       → sum ≡ weighed (map (λ c. c.value) categories) (left (map (λ c. c.supply) categories) (map taken (range_with_len 0 (length (map (λ c. c.supply) categories)))))
   whole_sum i categories sum h so_far =

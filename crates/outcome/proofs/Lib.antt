@@ -1,6 +1,6 @@
 pub mod NearLaws
 pub mod SaidLaws
-pub mod ToldLaws
+pub mod ParsedLaws
 pub mod PointLaws
 pub mod SomeBidLaws
 pub mod BackLaws

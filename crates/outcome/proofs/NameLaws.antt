@@ -1,4 +1,4 @@
--- A point takes the bids whose names stand on columns at 1.
+-- A point takes the bids whose columns are at 1.
 use Rattle.std.proofs.Common.{◌≡◌, ℕ, ◌+◌, Bool, true, false, ◌&&◌, ◌==◌, cond, List, [], ◌∷◌, Option, Some, None, refl, sym, ap, ap₂, ◌∙◌, arith, eqb-true, eq-eqb, zero-add}
 use Rattle.std.specs.Prelude.{count_by, bytes_eq}
 use Rattle.std.specs.Option.{option_to_list}

@@ -4,7 +4,7 @@ use Rattle.std.specs.Prelude.{nat_le, All}
 use Rattle.std.specs.List.{AllByRecursion, list_all}
 use Rattle.std.proofs.lemmas.Bool.{and_parts, and_from, both_ways}
 use Rattle.std.proofs.lemmas.List.Elements.{recursion_from_All, All-from_recursion}
-use Rattle.auction_limits.specs.declared.limits.TheConstants.{GREATEST_QUANTITY}
+use Rattle.auction_terms.specs.declared.limits.TheConstants.{GREATEST_QUANTITY}
 use Rattle.auction_terms.specs.Packages.{IsPackage, Lots, fits, is_within, left}
 use Rattle.auction_terms.specs.inside.Packages.{is_within_cap}
 use Rattle.outcome.specs.inside.Rivals.{both_packages}

@@ -19,7 +19,7 @@ module _ (sale : Sale) (first : List Choice) where
       rw next (append_assoc (group_report sale first k (x, a)) (in_turn (group_report sale first) (k + 1) (zip (take i groups) (take i allocations))) (group_report sale first n (get_or groups i [], get_or allocations i []))
       ∙ ap (λ (w : List ℕ). group_report sale first k (x, a) ++ w) (report-more (k + 1) i n groups allocations (omega arith) (omega arith) (omega arith)))
 
-  -- one group more, with the allocation that stands there
+  -- one group more, with the allocation at its place
   pub more_at : (k i n : ℕ) (groups : List (List ℕ)) (allocations : List (List Choice)) (group : List ℕ) (a : List Choice) → length groups ≡ length allocations → i < length groups → n ≡ k + i → group ≡ get_or groups i [] → a ≡ get_or allocations i []
       → in_turn (group_report sale first) k (zip (take i groups) (take i allocations)) ++ group_report sale first n (group, a) ≡ in_turn (group_report sale first) k (zip (take (i + 1) groups) (take (i + 1) allocations))
   more_at k i n groups allocations group a e l f p q = rw (p, q) (report-more k i n groups allocations e l f)

@@ -157,7 +157,7 @@ module _ (lots : Lots) (book : Book) (sized : IsSized lots book) (a : List Choic
         (same_net (total lots book (with_bid c a)) (total lots book a) (sum_by (amount_of book) (with_bid c a)) (sum_by (amount_of book) a) (worths lots book (with_bid c a)) (worths lots book a) x.amount won.amount (worth lots x.package) (worth lots won.package) (worth_of_all lots)
         whole_with whole (eqb-true (total lots book (with_bid c a)) (total lots book a) e) amounts_swapped worths_swapped))
 
-  -- it suits exactly where it does as well
+  -- it suits if and only if it does as well
   suits_is : suits lots (net lots won) (left (loads lots book a) won.package) x ≡ does_as_well lots book a c
   suits_is = ap (λ (q : List ℕ). int_eq (net lots x) (net lots won) && fits lots q) loads_with ∙ by (fits lots (loads lots book (with_bid c a))) refl
     where

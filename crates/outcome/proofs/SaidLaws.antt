@@ -12,12 +12,12 @@ use Rattle.std.proofs.lemmas.Option.{slice_get-get_or, slice_get-map, slice_get_
 use Rattle.std.proofs.lemmas.Slice.Eq.{bytes_eq-Decides}
 use denote.Ref.{Bor}
 use Rattle.auction_terms.specs.FirstFault.{first_failed}
-use Rattle.line_words.specs.Lines.{field, fields, is_skipped}
+use Rattle.auction_terms.specs.LineFields.{field, fields, is_skipped}
 use Rattle.outcome.specs.Values.{is_near}
 use Rattle.outcome.specs.inside.Values.{token_value, value_fault}
 use Rattle.outcome.specs.declared.value_fault.ValueFault.{ValueFault}
-use Rattle.program_faults.specs.declared.solution_fault.SolutionFault.{SolutionFault}
-use Rattle.program_faults.specs.declared.solution_fault.SolutionFault.TheVariants as fault
+use Rattle.program_rows.specs.declared.solution_fault.SolutionFault.{SolutionFault}
+use Rattle.program_rows.specs.declared.solution_fault.SolutionFault.TheVariants as fault
 use Rattle.auction_terms.specs.Stages.{unless}
 use Rattle.outcome.specs.Solution.{names_column, is_one}
 use Rattle.auction_terms.specs.Borrowed.{bytes_of}
@@ -111,7 +111,7 @@ none_among name (k ∷ keys) h = ap₂ (λ a b. a || b) h.0 (none_among name key
 is_unknown : (keys : List (Bor (List ℕ))) (name : List ℕ) → position (λ k. bytes_eq name k.now) keys ≡ None → list_any (bytes_eq name) (bytes_of keys) ≡ false
 is_unknown keys name h = none_among name keys (none_passes (λ k. bytes_eq name k.now) keys h)
 
--- ---- what a name and a value tell
+-- ---- what a name and a value mean
 
 is_said : (text : List (List ℕ)) (name : List ℕ) → is_some (said_of text name) ≡ list_any (names_column name) text
 is_said text name = cond_both (list_any (names_column name) text) (Some (is_one text name)) None (λ (o : Option Bool). is_some o ≡ list_any (names_column name) text) sym sym
@@ -144,9 +144,9 @@ module _ (keys : List (Bor (List ℕ))) (before : List (List ℕ)) (place : ℕ)
   pub valued : (said : List (Option Bool)) (i : ℕ) (v : Bool) → said ≡ said_by (bytes_of keys) before → Some i ≡ position (λ k. bytes_eq name k.now) keys → is_some (get_or said i None) ≡ false → Ok v ≡ token_value token → Ok tt ≡ answer_is
   valued said i v is h none value = ap (λ (f : Option SolutionFault). unless {A = Unit {0}} f (Ok tt)) (sym (by_value said i is h none ∙ ap (value_fault place) (sym value)))
 
-  pub not_valued : (said : List (Option Bool)) (i : ℕ) (wrong : ValueFault) (told_it : SolutionFault) → said ≡ said_by (bytes_of keys) before → Some i ≡ position (λ k. bytes_eq name k.now) keys → is_some (get_or said i None) ≡ false
-      → Err wrong ≡ token_value token → Some told_it ≡ value_fault place (Err wrong) → Err told_it ≡ answer_is
-  not_valued said i wrong told_it is h none value is_told = ap (λ (f : Option SolutionFault). unless {A = Unit {0}} f (Ok tt)) (is_told ∙ sym (by_value said i is h none ∙ ap (value_fault place) (sym value)))
+  pub not_valued : (said : List (Option Bool)) (i : ℕ) (wrong : ValueFault) (reported_it : SolutionFault) → said ≡ said_by (bytes_of keys) before → Some i ≡ position (λ k. bytes_eq name k.now) keys → is_some (get_or said i None) ≡ false
+      → Err wrong ≡ token_value token → Some reported_it ≡ value_fault place (Err wrong) → Err reported_it ≡ answer_is
+  not_valued said i wrong reported_it is h none value is_reported = ap (λ (f : Option SolutionFault). unless {A = Unit {0}} f (Ok tt)) (is_reported ∙ sym (by_value said i is h none ∙ ap (value_fault place) (sym value)))
 
   -- the value of a column that wasn't named before is noted
   pub noted : (i : ℕ) (v : Bool) (said : List (Option Bool)) (line : List ℕ) → IsDistinct bytes_eq (bytes_of keys) → said ≡ said_by (bytes_of keys) before → is_skipped line ≡ false → fields line ≡ name ∷ token ∷ []

@@ -14,11 +14,11 @@ use Rattle.auction_terms.specs.Limits.{IsBook}
 use Rattle.auction_terms.specs.Lines.{lines_of}
 use Rattle.auction_terms.specs.Packages.{Lots}
 use Rattle.auction_terms.specs.declared.choices.Choice.{Choice}
-use Rattle.auction_limits.specs.declared.limits.TheConstants.{MOST_BIDDERS}
+use Rattle.auction_terms.specs.declared.limits.TheConstants.{MOST_BIDDERS}
 use Rattle.auction_terms.proofs.LimitLaws.{kept_are_offers}
 use Rattle.auction_terms.proofs.OfferLaws.{all_agree}
 use Rattle.program_rows.specs.Faithful.{back}
-use Rattle.line_words.specs.Lines.{field, fields, is_skipped}
+use Rattle.auction_terms.specs.LineFields.{field, fields, is_skipped}
 use Rattle.program_rows.specs.Points.{allows, meets, row_sum, AreAllowed, IsPoint}
 use Rattle.program_rows.specs.Program.{Table, TableColumn}
 use Rattle.program_rows.specs.ProgramNames.{column_names}
@@ -30,9 +30,9 @@ use Rattle.outcome.specs.Coming.{SomeBidsSuffice}
 use Rattle.outcome.specs.inside.Reading.{pair_checks}
 use Rattle.outcome.specs.inside.Winning.{by_bidder}
 use Rattle.outcome.specs.Solution.{is_one, names_column, point_fault, solution, solution_line_fault}
-use Rattle.program_faults.specs.declared.solution_fault.SolutionFault.TheVariants as fault
+use Rattle.program_rows.specs.declared.solution_fault.SolutionFault.TheVariants as fault
 use Rattle.outcome.specs.declared.limits.TheConstants.{SOLUTION_LIMIT}
-use Rattle.outcome.proofs.PointLaws.{both_none, solutions_are_points, told_parts}
+use Rattle.outcome.proofs.PointLaws.{both_none, solutions_are_points, parts_hold}
 use Rattle.outcome.proofs.SaidLaws.{none_one}
 
 -- ---- lines without a fault, by the names of columns
@@ -109,19 +109,19 @@ fine_point p values point =
     (no_position (λ e. allows e.0.bounds e.1) (zip p.columns values) (each_allowed p.columns values point.allowed))
     (no_position (λ r. meets r.1.kind (row_sum p values r.0) r.1.right_side) (enumerate_from 0 p.rows) point.met)
 
--- ---- what is told
+-- ---- what is described
 
 values_by_name : (p : Table) (lines : List (List ℕ)) → map (is_one lines) (column_names p) ≡ map (λ c. is_one lines c.name) p.columns
 values_by_name p lines = map-map (is_one lines) (λ (c : TableColumn). c.name) p.columns
 
--- what a text tells that is taken
+-- what an accepted text describes
 taken : (p : Table) (text : List ℕ) (values : List Bool) → solution p text ≡ Ok values
     → (nat_lt SOLUTION_LIMIT (length text) ≡ false) × (first_fault (solution_line_fault (column_names p)) [] (lines_of text) ≡ None) × (map (is_one (lines_of text)) (column_names p) ≡ values)
 unfolding solution
 taken p text values e =
     let short = false_from_ne_true (nat_lt SOLUTION_LIMIT (length text)) (λ t. let f = rw t at e in cc f) in
-    let told = told_parts p (first_fault (solution_line_fault (column_names p)) [] (lines_of text)) (map (is_one (lines_of text)) (column_names p)) values (rw short at e) in
-    (short, told.0, told.2)
+    let parsed = parts_hold p (first_fault (solution_line_fault (column_names p)) [] (lines_of text)) (map (is_one (lines_of text)) (column_names p)) values (rw short at e) in
+    (short, parsed.0, parsed.2)
 
 tells : (p : Table) (text : List ℕ) → nat_lt SOLUTION_LIMIT (length text) ≡ false → first_fault (solution_line_fault (column_names p)) [] (lines_of text) ≡ None → point_fault p (map (is_one (lines_of text)) (column_names p)) ≡ None
     → solution p text ≡ Ok (map (is_one (lines_of text)) (column_names p))
@@ -129,7 +129,7 @@ unfolding solution
 tells p text short fine point = rw (short, fine, point) refl
 
 module _ (lots : Lots) (book : Book) (group : ℕ → Bool) (is_among : ℕ → ℕ → Bool) (text : List ℕ) (values : List Bool) (within : IsBook lots book)
-    (told : solution (program_of lots (named_of lots is_among (kept_of lots book group))) text ≡ Ok values) where
+    (parsed : solution (program_of lots (named_of lots is_among (kept_of lots book group))) text ≡ Ok values) where
   abbrev kept : List Offer
   kept = kept_of lots book group
 
@@ -146,7 +146,7 @@ module _ (lots : Lots) (book : Book) (group : ℕ → Bool) (is_among : ℕ → 
   in_range = numbered lots kept (kept_are_offers lots book group within)
 
   line_faults : first_fault (solution_line_fault (column_names some)) [] (lines_of text) ≡ None
-  line_faults = (taken some text values told).1
+  line_faults = (taken some text values parsed).1
 
   silent : AllByRecursion (IsSilent lots is_among value) kept
   silent = all_agree IsNumbered (IsSilent lots is_among value) kept (λ o mine other.
@@ -154,17 +154,17 @@ module _ (lots : Lots) (book : Book) (group : ℕ → Bool) (is_among : ℕ → 
       none_one (lines_of text) name (lines_name_none (column_names some) (column_names whole) (names_among lots is_among kept) name [] (lines_of text) (unnamed lots is_among kept o.bidder o.number in_range mine other) line_faults)) in_range
 
   values_are : values ≡ map (λ c. value c.name) some.columns
-  values_are = sym (taken some text values told).2 ∙ values_by_name some (lines_of text)
+  values_are = sym (taken some text values parsed).2 ∙ values_by_name some (lines_of text)
 
   abbrev pub all_values : List Bool
   all_values = map (is_one (lines_of text)) (column_names whole)
 
   whole_point : IsPoint whole all_values
   whole_point =
-      rw (values_by_name whole (lines_of text)) (point_of_all lots is_among value kept silent (subst (IsPoint some) values_are (solutions_are_points some text values told)))
+      rw (values_by_name whole (lines_of text)) (point_of_all lots is_among value kept silent (subst (IsPoint some) values_are (solutions_are_points some text values parsed)))
 
-  pub whole_told : solution whole text ≡ Ok all_values
-  whole_told = tells whole text (taken some text values told).0
+  pub parsed_whole : solution whole text ≡ Ok all_values
+  parsed_whole = tells whole text (taken some text values parsed).0
       (lines_fine (column_names some) (column_names whole) (names_among lots is_among kept) [] (lines_of text) line_faults)
       (fine_point whole all_values whole_point)
 
@@ -172,8 +172,8 @@ module _ (lots : Lots) (book : Book) (group : ℕ → Bool) (is_among : ℕ → 
   whole_back = ap (back whole.columns) (values_by_name whole (lines_of text)) ∙ same_back lots is_among value kept in_range silent ∙ ap (back some.columns) (sym values_are)
 
 pub some_bids_suffice : SomeBidsSuffice
-some_bids_suffice lots book group is_among solved values within told = record {
-  others = all_values lots book group is_among solved values within told;
-  told = whole_told lots book group is_among solved values within told;
-  same_allocation = ap (λ (choices : List Choice). by_bidder (range_with_len 1 MOST_BIDDERS) choices) (whole_back lots book group is_among solved values within told);
+some_bids_suffice lots book group is_among solved values within parsed = record {
+  others = all_values lots book group is_among solved values within parsed;
+  parsed = parsed_whole lots book group is_among solved values within parsed;
+  same_allocation = ap (λ (choices : List Choice). by_bidder (range_with_len 1 MOST_BIDDERS) choices) (whole_back lots book group is_among solved values within parsed);
 }

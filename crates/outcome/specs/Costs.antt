@@ -22,7 +22,7 @@ CostsAreBounded = (lots : Lots) (book : Book) (group : List ℕ) (first a : List
 abbrev pub worth_of_group : Lots → Book → List ℕ → List Choice → ℕ
 worth_of_group lots book group a = sum_by (weighed_choice lots.values book) (filter (λ c. has group c.bidder) a)
 
--- and a group's cost is at least that: nobody has its lots for less than they are worth where they are left
+-- and a group's cost is at least that: nobody has its lots for less than they are worth unsold
 abbrev pub CostsCoverLots : Type 0
 CostsCoverLots = (lots : Lots) (book : Book) (group : List ℕ) (first a : List Choice) → IsSized lots book
     → IsGreatest lots book (λ b. false) first → IsGreatest lots book (has group) a → pos (worth_of_group lots book group first) ≤ℤ cost lots book first group a

@@ -16,7 +16,7 @@ winner_line sale c = bidder_name sale.names c.bidder ++ (32 ∷ (decimal c.bid +
 abbrev pub allocation_text : Sale → List Choice → List ℕ
 allocation_text sale a = flat_map (winner_line sale) a ++ (codes "total " ++ (decimal (total sale.lots sale.book a) ++ 10 ∷ []))
 
--- the first of the group's bidders by name, and each further one behind a plus sign; a dash for none
+-- the first of the group's bidders by name, and each further one after a plus sign; a dash if there is none
 abbrev pub group_names : List (List ℕ) → List ℕ → List ℕ
 group_names names [] = codes "-"
 group_names names (b ∷ more) = bidder_name names b ++ flat_map (λ further. 43 ∷ bidder_name names further) more

@@ -8,11 +8,11 @@ use Rattle.auction_terms.specs.Stages.{and_then, unless}
 use Rattle.program_rows.specs.Program.{Table}
 use Rattle.program_rows.specs.ProgramNames.{column_names}
 use Rattle.program_rows.specs.Points.{allows, broken_row}
-use Rattle.line_words.specs.Lines.{field, fields, is_skipped}
-use Rattle.line_words.specs.Numbers.{is_number_token, is_too_long}
+use Rattle.auction_terms.specs.LineFields.{field, fields, is_skipped}
+use Rattle.auction_terms.specs.Decimals.{is_number_token, is_too_long}
 use Rattle.outcome.specs.declared.limits.TheConstants.{SOLUTION_LIMIT}
-use Rattle.program_faults.specs.declared.solution_fault.SolutionFault.{SolutionFault}
-use Rattle.program_faults.specs.declared.solution_fault.SolutionFault.TheVariants as fault
+use Rattle.program_rows.specs.declared.solution_fault.SolutionFault.{SolutionFault}
+use Rattle.program_rows.specs.declared.solution_fault.SolutionFault.TheVariants as fault
 use Rattle.outcome.specs.Values.{is_near}
 
 -- ---- lines
@@ -21,7 +21,7 @@ use Rattle.outcome.specs.Values.{is_near}
 abbrev pub names_column : List ℕ → List ℕ → Bool
 names_column column line = not (is_skipped line) && bytes_eq column (field 0 (fields line))
 
--- the fault of a line behind these lines; the columns are given by their names
+-- the fault of a line after these lines; the columns are given by their names
 abbrev pub solution_line_fault : List (List ℕ) → List (List ℕ) → List ℕ → Option SolutionFault
 solution_line_fault columns before line =
     if is_skipped line then None else first_failed (
@@ -43,7 +43,7 @@ point_fault p values = option_or
     (option_map fault.BoundBroken (position (λ e. not (allows e.0.bounds e.1)) (zip p.columns values)))
     (option_map fault.RowBroken (broken_row p values))
 
--- ---- what a text tells
+-- ---- what a text describes
 
 -- the values that a text gives the columns of a program, or its first refusal
 unfoldable pub solution : Table → List ℕ → Result (List Bool) SolutionFault

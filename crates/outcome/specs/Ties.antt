@@ -1,4 +1,4 @@
--- Ties of allocations of greatest total, and what holds where one of them is the only one.
+-- Ties of allocations of greatest total, and what holds if one of them is the only one.
 use Rattle.std.specs.Prelude.{◌≡◌, ℕ, ◌≤◌, Bool, false, ◌&&◌, ◌==◌, List, Some, IsPermutation, ℤ}
 use Rattle.std.specs.Cmp.Lexicographic.{pointwise}
 use Rattle.auction_terms.specs.Groups.{has}
@@ -23,7 +23,7 @@ pub record IsTie (lots : Lots) (book : Book) (group : ℕ → Bool) (a other : L
 abbrev pub TheOnlyIsGreatest : Type 0
 TheOnlyIsGreatest = (lots : Lots) (book : Book) (group : ℕ → Bool) (a : List Choice) → IsOnly lots book group a → IsGreatest lots book group a
 
--- where the first allocation is the only one, every allocation of greatest total with nobody left out has its choices, and a group's cost doesn't depend on which allocations are taken
+-- if the first allocation is the only one, every allocation of greatest total with nobody left out has its choices, and a group's cost doesn't depend on which allocations are taken
 abbrev pub OnlyFirstSettlesCosts : Type 0
 OnlyFirstSettlesCosts = (lots : Lots) (book : Book) (group : List ℕ) (first first' a a' : List Choice)
     → IsOnly lots book (λ b. false) first → IsGreatest lots book (λ b. false) first' → IsGreatest lots book (has group) a → IsGreatest lots book (has group) a'
@@ -33,7 +33,7 @@ OnlyFirstSettlesCosts = (lots : Lots) (book : Book) (group : List ℕ) (first fi
 abbrev pub IsTheCost : Lots → Book → List ℕ → ℤ → Type 0
 IsTheCost lots book group amount = (first a : List Choice) → IsGreatest lots book (λ b. false) first → IsGreatest lots book (has group) a → cost lots book first group a ≡ amount
 
--- it is told by the two greatest totals, and by the amounts of the group's own bids in the only first allocation
+-- it follows from the two greatest totals, and the amounts of the group's own bids in the only first allocation
 abbrev pub OnlyFirstTellsCosts : Type 0
 OnlyFirstTellsCosts = (lots : Lots) (book : Book) (group : List ℕ) (first : List Choice) (of_all without : ℕ)
     → IsOnly lots book (λ b. false) first → IsGreatestTotal lots book (λ b. false) of_all → IsGreatestTotal lots book (has group) without

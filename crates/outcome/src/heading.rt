@@ -49,7 +49,7 @@ fn add_names<S: Sink>(writer: &mut Writer<'_, S>, book: &ClosedBook, group: &[u1
     }
 }
 
-/// Adds the names of a group by rising number, joined by plus signs, or a dash where nobody is in it, and ends the line.
+/// Adds the names of a group by rising number, joined by plus signs, or a dash if nobody is in it, and ends the line.
 pub fn add_names_line<S: Sink>(writer: &mut Writer<'_, S>, book: &ClosedBook, group: &[u16])
     ensures { Adds S.taken S.failures writer.old writer.new
         (group_names (sale_of book.now).names group.now ++ 10 ∷ []) }
@@ -58,7 +58,7 @@ pub fn add_names_line<S: Sink>(writer: &mut Writer<'_, S>, book: &ClosedBook, gr
     writer.add(b"\n");
 }
 
-/// Adds what stands before the names.
+/// Adds what comes before the names.
 fn add_number<S: Sink>(writer: &mut Writer<'_, S>, k: usize)
     ensures { Adds S.taken S.failures writer.old writer.new
         (codes "group " ++ (decimal k ++ 32 ∷ [])) }

@@ -14,7 +14,7 @@ pub fn lines_of_solutions_tell_their_first_fault()
     ensures { (columns : List (List ℕ)) → TellsTheFirst (solution_line_fault columns) }
 {}
 
-/// The values that a solution tells are a point of the program.
+/// The values that a solution describes are a point of the program.
 pub fn a_solution_is_a_point()
     ensures { SolutionsArePoints }
 {}
@@ -24,12 +24,12 @@ pub fn a_point_comes_back()
     ensures { PointsComeBack }
 {}
 
-/// So do the values that a solution tells against the program of a book's kept bids.
+/// So are the values that a solution describes against the program of a book's kept bids.
 pub fn a_solution_comes_back()
     ensures { SolutionsComeBack }
 {}
 
-/// And so do those that it tells against the program that is read from the program's text.
+/// And so are those that it describes against the program that is read from the program's text.
 pub fn an_answer_of_a_solver_comes_back()
     ensures { AnswersOfSolversComeBack }
 {}
@@ -44,7 +44,7 @@ pub fn a_point_takes_what_is_named()
     ensures { TakesWhatIsNamed }
 {}
 
-/// Where the allocations are of greatest total, the opportunity cost of a group is at least 0 and at most what the first allocation gives to its bidders, and the total without them isn't higher.
+/// If the allocations are of greatest total, the opportunity cost of a group is at least 0 and at most what the first allocation gives to its bidders, and the total without them isn't higher.
 pub fn a_cost_is_bounded()
     ensures { CostsAreBounded }
 {}
@@ -64,12 +64,12 @@ pub fn the_only_is_greatest()
     ensures { TheOnlyIsGreatest }
 {}
 
-/// Where one is the only one with nobody left out, all of greatest total have its choices, and costs don't depend on which allocations of greatest total are taken.
+/// If one is the only one with nobody left out, all of greatest total have its choices, and costs don't depend on which allocations of greatest total are taken.
 pub fn the_only_first_settles_costs()
     ensures { OnlyFirstSettlesCosts }
 {}
 
-/// A group's cost then follows from the lots, the book and the group: it is told by the greatest totals with the group and without it, and by the amounts of the group's own bids in the only first allocation.
+/// A group's cost then follows from the lots, the book and the group: from the greatest totals with the group and without it, and the amounts of the group's own bids in the only first allocation.
 pub fn the_only_first_tells_costs()
     ensures { OnlyFirstTellsCosts }
 {}

@@ -4,7 +4,7 @@ ghost use Rattle.std.specs.Prelude.{◌≡◌, ◌∷◌, ◌++◌, ◌<◌, ◌
 ghost use Rattle.std.specs.List.{IsDistinct};
 ghost use Rattle.auction_terms.specs.FirstFault.{first_failed, first_fault};
 ghost use Rattle.auction_terms.specs.Lines.{lines_of};
-ghost use Rattle.line_words.specs.Lines.{fields, is_skipped};
+ghost use Rattle.auction_terms.specs.LineFields.{fields, is_skipped};
 ghost use Rattle.outcome.specs.declared.limits.TheConstants.{SOLUTION_LIMIT};
 ghost use Rattle.auction_terms.specs.Stages.{unless};
 ghost use Rattle.outcome.specs.Solution.{solution_line_fault};
@@ -13,9 +13,8 @@ ghost use Rattle.outcome.specs.inside.Reading.{pair_checks, said_by};
 
 use crate::columns::ColumnFinder;
 use crate::values::{at_line, value_of};
-use auction_terms::LineReader;
-use line_words::next_field;
-use program_faults::SolutionFault;
+use auction_terms::{LineReader, next_field};
+use program_rows::SolutionFault;
 
 /// Notes the value that a line gives a column.
 fn take_pair(

@@ -6,8 +6,7 @@ ghost use Rattle.program_rows.specs.Points.{allows};
 ghost use Rattle.auction_terms.specs.Stages.{unless};
 ghost use Rattle.outcome.specs.Solution.{point_fault};
 
-use program_faults::SolutionFault;
-use program_rows::{Bounds, Point, Program};
+use program_rows::{Bounds, Point, Program, SolutionFault};
 
 /// Whether the bounds allow a value.
 fn allows(bounds: Bounds, value: bool) -> bool

@@ -6,7 +6,7 @@ ghost use Rattle.auction_terms.specs.FirstFault.{first_fault};
 ghost use Rattle.auction_terms.specs.Lines.{lines_of};
 ghost use Rattle.auction_terms.specs.Stages.{Answers, unless};
 ghost use Rattle.program_rows.specs.Points.{IsPoint};
-ghost use Rattle.program_faults.specs.declared.solution_fault.SolutionFault.TheVariants as fault;
+ghost use Rattle.program_rows.specs.declared.solution_fault.SolutionFault.TheVariants as fault;
 ghost use Rattle.outcome.specs.declared.limits.TheConstants.{SOLUTION_LIMIT};
 ghost use Rattle.program_rows.specs.ProgramNames.{column_names};
 ghost use Rattle.outcome.specs.inside.Reading.{said_by};
@@ -16,8 +16,7 @@ use crate::columns::finder_of;
 use crate::limits::SOLUTION_LIMIT;
 use crate::lines::take_lines;
 use crate::point::check_point;
-use program_faults::SolutionFault;
-use program_rows::{Point, Program};
+use program_rows::{Point, Program, SolutionFault};
 use std::alloc::{AllocError, Global};
 
 /// Nothing said of any column.
@@ -68,7 +67,7 @@ fn read_values(alloc: Global, bytes: &[u8], program: &Program) -> Result<Point, 
     Ok(Point::new(values_from(alloc, &said)?))
 }
 
-/// Reads a solution of a program: a line for a column that is named, its name and its value, where others are 0.
+/// Reads a solution of a program: each line names a column and gives its value; other columns are 0.
 pub fn read_solution(alloc: Global, bytes: &[u8], program: &Program) -> Result<Point, SolutionFault>
     ensures too_large { SOLUTION_LIMIT < length bytes.now → result ≡ Err fault.TooLarge }
     ensures answer { Answers is_solution_memory result (solution program.now bytes.now) }

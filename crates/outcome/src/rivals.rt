@@ -8,15 +8,14 @@ ghost use Rattle.auction_terms.specs.Limits.{IsBid, IsBook};
 ghost use Rattle.auction_terms.specs.Only.{first_rival, with_bid};
 ghost use Rattle.auction_terms.specs.Packages.{fits, left};
 ghost use Rattle.auction_terms.specs.Terms.{lots_in};
-ghost use Rattle.auction_limits.specs.declared.limits.TheConstants.{GREATEST_QUANTITY, MOST_BIDS};
+ghost use Rattle.auction_terms.specs.declared.limits.TheConstants.{GREATEST_QUANTITY, MOST_BIDS};
 ghost use Rattle.bid_desk.specs.Closing.{book_of};
 ghost use Rattle.outcome.specs.inside.Rivals.{both_packages, first_rival_number, first_suiting, rival_of, suits};
 
 use crate::allocation::Allocation;
 use crate::unsold::lots_taken;
 use arrayvec::ArrayVec;
-use auction_limits::GREATEST_QUANTITY;
-use auction_terms::{Bid, Choice, Package};
+use auction_terms::{Bid, Choice, GREATEST_QUANTITY, Package};
 use bid_desk::ClosedBook;
 use std::alloc::{AllocError, Global};
 
@@ -33,7 +32,7 @@ fn taken(book: &ClosedBook, choices: &[Choice]) -> Package
     Package::of(lots)
 }
 
-/// What the others take, where one of them has its own package.
+/// What the others take, if one of them has its own package.
 fn without(taken: &Package, own: &Package) -> Package
     requires { length taken.now ≡ length own.now }
     ensures { result ≡ left taken.now own.now }
@@ -47,7 +46,7 @@ fn without(taken: &Package, own: &Package) -> Package
     Package::of(others)
 }
 
-/// Both packages, where no category has more than a package may have.
+/// Both packages, if no category has more than a package may have.
 fn together(others: &Package, own: &Package) -> Option<Package>
     requires { length others.now ≡ length own.now }
     ensures { MatchOption result (list_all (λ quantity. nat_le quantity GREATEST_QUANTITY)
@@ -111,7 +110,7 @@ fn first_suiting(
     None
 }
 
-/// The number of the first bid that does as well as one's own, where so much is taken together with it.
+/// The number of the first bid that does as well as one's own, when it is taken together with these lots.
 fn first_rival_number(book: &ClosedBook, bids: &[Bid], own: u16, taken: &Package) -> Option<u16>
     requires few { length bids.now ≤ MOST_BIDS }
     requires bids { All (IsBid (lots_in book.now.rules)) bids.now }
@@ -126,7 +125,7 @@ fn first_rival_number(book: &ClosedBook, bids: &[Bid], own: u16, taken: &Package
     first_suiting(book, bids, own, book.rules().net(won), &others)
 }
 
-/// The first bid that does as well in this winner's place, where so much is taken together with it.
+/// The first bid that does as well in this winner's place, when it is taken together with these lots.
 fn rival_of(book: &ClosedBook, winner: Choice, taken: &Package) -> Option<Choice>
     requires { length taken.now ≡ length book.now.rules.categories }
     ensures { result ≡ rival_of (lots_in book.now.rules) (book_of book.now) taken.now winner }

@@ -1,7 +1,7 @@
 //! Numbers that count as 0 or 1.
 
 ghost use Rattle.std.specs.Prelude.{◌≡◌, ◌<◌, ◌≤◌, ◌^◌, ◌*◌, if◌then◌else◌, ℤ, pos};
-ghost use Rattle.line_words.specs.Numbers.{signed};
+ghost use Rattle.auction_terms.specs.Decimals.{signed};
 ghost use Rattle.outcome.specs.inside.Values.{near_of};
 
 use crate::limits::TOLERANCE_PARTS;
@@ -44,7 +44,7 @@ fn near_whole(minus: bool, digits: u128, places: u32) -> Result<bool, ValueFault
 /// The greatest power of ten that 128 bits hold.
 const GREATEST_POWER: u32 = 38;
 
-/// The same, with digits behind the point.
+/// The same, with digits after the point.
 fn near_part(minus: bool, digits: u128, places: u32) -> Result<bool, ValueFault>
     requires digits { digits < 10 ^ 30 }
     ensures { result ≡ near_of (signed minus digits) (10 ^ places) }

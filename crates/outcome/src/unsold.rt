@@ -3,7 +3,7 @@
 ghost use Rattle.std.specs.Prelude.{◌≡◌, ◌<◌, ◌≤◌, ◌*◌, ◌-◌, ◌^◌, length, map, slice_index, sum_by};
 ghost use Rattle.auction_terms.specs.Packages.{left, worth};
 ghost use Rattle.auction_terms.specs.Terms.{lots_in};
-ghost use Rattle.auction_limits.specs.declared.limits.TheConstants.{GREATEST_QUANTITY, GREATEST_VALUE, MOST_CATEGORIES};
+ghost use Rattle.auction_terms.specs.declared.limits.TheConstants.{GREATEST_QUANTITY, GREATEST_VALUE, MOST_CATEGORIES};
 ghost use Rattle.auction_terms.specs.Allocations.{loads, quantity_of};
 ghost use Rattle.bid_desk.specs.Closing.{book_of};
 

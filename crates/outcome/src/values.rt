@@ -5,8 +5,8 @@ ghost use Rattle.outcome.specs.inside.Values.{token_value, value_fault};
 
 use crate::tolerance::near;
 use crate::value_fault::ValueFault;
-use line_words::read_token;
-use program_faults::SolutionFault;
+use auction_terms::read_token;
+use program_rows::SolutionFault;
 
 /// What a token counts as: 0 or 1.
 #[tactic(auto, unfolding(crate::specs::inside::Values::token_value))]

@@ -2,14 +2,13 @@
 
 ghost use Rattle.std.specs.Prelude.{◌≡◌, ◌<◌, ◌+◌, ◌==◌, ◌++◌, drop, filter, length, IfOk, OnOk};
 ghost use Rattle.std.specs.List.{range_with_len};
-ghost use Rattle.auction_limits.specs.declared.limits.TheConstants.{MOST_BIDDERS};
+ghost use Rattle.auction_terms.specs.declared.limits.TheConstants.{MOST_BIDDERS};
 ghost use Rattle.program_rows.specs.Faithful.{back};
 ghost use Rattle.outcome.specs.PointAllocation.{allocation_of, IsMap};
 ghost use Rattle.outcome.specs.inside.Winning.{by_bidder};
 
 use crate::allocation::Allocation;
-use auction_limits::MOST_BIDDERS;
-use auction_terms::Choice;
+use auction_terms::{Choice, MOST_BIDDERS};
 use program_rows::{Point, Program};
 use std::alloc::{AllocError, Global};
 
@@ -73,7 +72,7 @@ fn bids_at_one(alloc: Global, program: &Program, point: &Point) -> Result<Vec<Ch
     Ok(bids)
 }
 
-/// The allocation that a point wins: bidder b gets bid j where the column `Xb_j` is 1.
+/// The allocation that a point wins: bidder b gets bid j if the column `Xb_j` is 1.
 pub fn map_back(alloc: Global, program: &Program, point: &Point) -> Result<Allocation, AllocError>
     requires sized { length point.now ≡ length program.now.columns }
     requires map { IsMap (back program.now.columns point.now) }

@@ -17,7 +17,7 @@ form = bid 30 (1 ∷ 0 ∷ []) ∷ bid 90 (3 ∷ 2 ∷ []) ∷ bid 35 (2 ∷ 0 �
 
 worked_reasons :
     (why_left_out lots form (bid 30 (1 ∷ 0 ∷ [])) ≡ None)
-    -- three lots of two: the first category is told, though there aren't two of the second either, and the pool's load is 70
+    -- three lots of two: the first category is reported, though there aren't two of the second either, and the pool's load is 70
     × (why_left_out lots form (bid 90 (3 ∷ 2 ∷ [])) ≡ Some (reason.OverSupply 0 3 2))
     × (why_left_out lots form (bid 90 (2 ∷ 2 ∷ [])) ≡ Some (reason.OverSupply 1 2 1))
     -- 2 * 10 + 1 * 20

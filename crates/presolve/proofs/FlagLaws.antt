@@ -19,15 +19,15 @@ abbrev beats_sized : Lots → Bid → Sized → Bool
 beats_sized lots x s = nat_lt s.size (size x.package) && (int_le (net lots x) (net lots s.bid) && is_within s.bid.package x.package)
 
 -- what bids tell of their sizes and nets is so
-beats_told : (lots : Lots) (x s : SizedBid) → TellsItsSize x → TellsItsNet lots x → TellsItsNet lots s → beats x s ≡ beats_sized lots x.bid.now (sized_of s)
-beats_told lots x s told mine its =
+beats_as_sized : (lots : Lots) (x s : SizedBid) → TellsItsSize x → TellsItsNet lots x → TellsItsNet lots s → beats x s ≡ beats_sized lots x.bid.now (sized_of s)
+beats_as_sized lots x s reported mine its =
     let within = is_within s.bid.now.package x.bid.now.package in
-    ap (λ (n : ℕ). nat_lt s.size n && (int_le x.net s.net && within)) told
+    ap (λ (n : ℕ). nat_lt s.size n && (int_le x.net s.net && within)) reported
     ∙ ap₂ (λ (a b : ℤ). nat_lt s.size (size x.bid.now.package) && (int_le a b && within)) mine its
 
 beats_each : (lots : Lots) (x : SizedBid) (rivals : List SizedBid) → TellsItsSize x → TellsItsNet lots x → AllByRecursion (TellsItsNet lots) rivals → list_any (beats x) rivals ≡ list_any (λ (s : SizedBid). beats_sized lots x.bid.now (sized_of s)) rivals
-beats_each lots x [] told mine nets = refl
-beats_each lots x (s ∷ rivals) told mine nets = ap₂ (λ (here rest : Bool). here || rest) (beats_told lots x s told mine nets.0) (beats_each lots x rivals told mine nets.1)
+beats_each lots x [] reported mine nets = refl
+beats_each lots x (s ∷ rivals) reported mine nets = ap₂ (λ (here rest : Bool). here || rest) (beats_as_sized lots x s reported mine nets.0) (beats_each lots x rivals reported mine nets.1)
 
 pub any_of_map : (test : Sized → Bool) (rivals : List SizedBid) → list_any (λ (s : SizedBid). test (sized_of s)) rivals ≡ list_any test (map sized_of rivals)
 any_of_map test [] = refl
@@ -47,8 +47,8 @@ same_test lots x y j =
 
 -- of bids that tell their sizes and nets, one beats another just where it dominates it
 pub beats_dominates : (lots : Lots) (x s : SizedBid) → TellsItsSize x → TellsItsSize s → TellsItsNet lots x → TellsItsNet lots s → beats x s ≡ dominates lots s.bid.now x.bid.now
-beats_dominates lots x s told its_size mine its_net =
-    beats_told lots x s told mine its_net
+beats_dominates lots x s reported its_size mine its_net =
+    beats_as_sized lots x s reported mine its_net
     ∙ ap (λ (n : ℕ). beats_sized lots x.bid.now (record { size = n; number = s.number; bid = s.bid.now })) its_size
     ∙ same_test lots x.bid.now s.bid.now s.number
 
@@ -71,9 +71,9 @@ fitting_suffice lots x j (y ∷ form) fit =
 
 -- a bid of a form is beaten where one of the form dominates it
 pub rivals_suffice : (lots : Lots) (form : List Bid) (rivals : List SizedBid) (x : SizedBid) → IsOrdered lots form rivals → TellsItsSize x → TellsItsNet lots x → fits lots x.bid.now.package ≡ true → list_any (beats x) rivals ≡ list_any (λ (z : Bid). dominates lots z x.bid.now) form
-rivals_suffice lots form rivals x o told mine fit =
+rivals_suffice lots form rivals x o reported mine fit =
     let test = beats_sized lots x.bid.now in
-    beats_each lots x rivals told mine (recursion_from_All (TellsItsNet lots) rivals o.nets)
+    beats_each lots x rivals reported mine (recursion_from_All (TellsItsNet lots) rivals o.nets)
     ∙ sym (list_any-IsPermutation (λ (s : SizedBid). test (sized_of s)) o.fitting rivals o.moved)
     ∙ any_of_map test o.fitting ∙ ap (λ (rs : List Sized). list_any test rs) o.same ∙ fitting_suffice lots x.bid.now 1 form fit
 

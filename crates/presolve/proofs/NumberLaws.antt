@@ -84,18 +84,18 @@ after_passing test i items at r flags all small is passed some within h = by (r.
     rest : Bool
     rest = list_any (passes test (1 + i)) (drop (at + 1) items)
 
-    told : (get_or flags i false || (((r.number == 1 + i) && test r.bid.now) || rest)) ≡ all
-    told = rw (next_passes test (1 + i) items at r small is) at h
+    reported : (get_or flags i false || (((r.number == 1 + i) && test r.bid.now) || rest)) ≡ all
+    reported = rw (next_passes test (1 + i) items at r small is) at h
 
     by : (b : Bool) → (r.number == 1 + i) ≡ b → (get_or (slice_set flags (r.number - 1) true) i false || rest) ≡ all
     by true e =
         let same : r.number ≡ 1 + i = eqb-true r.number (1 + i) e in
         let place : r.number - 1 ≡ i = omega arith in
         ap (λ (b : Bool). b || rest) (ap (λ (n : ℕ). get_or (slice_set flags n true) i false) place ∙ get_or-set_same flags i true false (omega arith))
-        ∙ sym (or-true (get_or flags i false)) ∙ (rw (e, passed) at told)
+        ∙ sym (or-true (get_or flags i false)) ∙ (rw (e, passed) at reported)
     by false e =
         let other : i ≢ r.number - 1 = (λ s. eqb-false r.number (1 + i) e (omega arith)) in
-        ap (λ (b : Bool). b || rest) (get_or-set_other flags (r.number - 1) i true false other) ∙ (rw e at told)
+        ap (λ (b : Bool). b || rest) (get_or-set_other flags (r.number - 1) i true false other) ∙ (rw e at reported)
 
 -- where none is left
 pub none_left_over : (test : Bid → Bool) (k : ℕ) (items : List SizedBid) (at : ℕ) (flag all : Bool) → length items ≤ at → (flag || list_any (passes test k) (drop at items)) ≡ all → flag ≡ all

@@ -51,17 +51,17 @@ first-later test n (x ∷ xs) = ap (λ (rest : Option ℕ). cond (test x) (Some 
 -- the first bid that beats another is the first that dominates it
 first-beats : (lots : Lots) (x : SizedBid) (n : ℕ) (rivals : List SizedBid) → TellsItsSize x → TellsItsNet lots x → AllByRecursion TellsItsSize rivals → AllByRecursion (TellsItsNet lots) rivals
     → position_from (beats x) n rivals ≡ position_from (λ (y : Bid). dominates lots y x.bid.now) n (map (λ (s : SizedBid). s.bid.now) rivals)
-first-beats lots x n [] told mine sizes nets = refl
-first-beats lots x n (s ∷ rivals) told mine sizes nets =
-    ap₂ (λ (b : Bool) (rest : Option ℕ). cond b (Some n) rest) (beats_dominates lots x s told sizes.0 mine nets.0) (first-beats lots x (n + 1) rivals told mine sizes.1 nets.1)
+first-beats lots x n [] reported mine sizes nets = refl
+first-beats lots x n (s ∷ rivals) reported mine sizes nets =
+    ap₂ (λ (b : Bool) (rest : Option ℕ). cond b (Some n) rest) (beats_dominates lots x s reported sizes.0 mine nets.0) (first-beats lots x (n + 1) rivals reported mine sizes.1 nets.1)
 
 -- by its number
 pub first-dominates : (lots : Lots) (form : List Bid) (rivals : List SizedBid) (x : SizedBid) → AreNumbered lots form rivals → TellsItsSize x → TellsItsNet lots x
     → position_from (λ (y : Bid). dominates lots y x.bid.now) 1 form ≡ option_map (λ place. place + 1) (position_from (beats x) 0 rivals)
-first-dominates lots form rivals x are told mine =
+first-dominates lots form rivals x are reported mine =
     first-later (λ (y : Bid). dominates lots y x.bid.now) 0 form
     ∙ ap (option_map (λ (place : ℕ). place + 1))
-    (sym (first-beats lots x 0 rivals told mine (recursion_from_All TellsItsSize rivals are.told) (recursion_from_All (TellsItsNet lots) rivals are.nets) ∙ ap (position_from (λ (y : Bid). dominates lots y x.bid.now) 0) are.same))
+    (sym (first-beats lots x 0 rivals reported mine (recursion_from_All TellsItsSize rivals are.reported) (recursion_from_All (TellsItsNet lots) rivals are.nets) ∙ ap (position_from (λ (y : Bid). dominates lots y x.bid.now) 0) are.same))
 
 -- a numbered bid is the bid of its form at that place
 pub numbered-at : (lots : Lots) (form : List Bid) (rivals : List SizedBid) (place : ℕ) (x : SizedBid) (bid : Bid) → AreNumbered lots form rivals → place < length rivals → slice_index_or form place bid ≡ (slice_index_or rivals place x).bid.now
@@ -79,10 +79,10 @@ pub why-first : (lots : Lots) (form : List Bid) (rivals : List SizedBid) (place 
     → option_map (λ first. reason.Dominated (first + 1)) (position_from (beats x) 0 rivals) ≡ why_left_out lots form (slice_index_or form place bid)
 why-first lots form rivals place x bid are within is fits worth =
     let mine : TellsItsNet lots x = subst (TellsItsNet lots) (sym is) (are.nets place x within) in
-    let told : TellsItsSize x = subst TellsItsSize (sym is) (are.told place x within) in
+    let reported : TellsItsSize x = subst TellsItsSize (sym is) (are.reported place x within) in
     let own : slice_index_or form place bid ≡ x.bid.now = numbered-at lots form rivals place x bid are within ∙ ap (λ (s : SizedBid). s.bid.now) (sym is) in
     let not_below : below_worth lots x.bid.now ≡ None = rw (sym mine, worth) refl in
-    mapped (position_from (beats x) 0 rivals) ∙ ap (option_map (λ number. reason.Dominated number)) (sym (first-dominates lots form rivals x are told mine))
+    mapped (position_from (beats x) 0 rivals) ∙ ap (option_map (λ number. reason.Dominated number)) (sym (first-dominates lots form rivals x are reported mine))
     ∙ sym (rw (own, not_below) (in-turn (over_supply lots x.bid.now.package) (over_cap lots x.bid.now.package) (dominated lots form x.bid.now) fits))
   where
     mapped : (o : Option ℕ) → option_map (λ first. reason.Dominated (first + 1)) o ≡ option_map (λ number. reason.Dominated number) (option_map (λ first. first + 1) o)

@@ -52,5 +52,5 @@ cap-found t quantities i load pool small at load_is above so_far =
     let passed : nat_lt pool.cap (weighed pool.weights quantities) ≡ true = grind (arith, nat_tests) in
     let found : position_from (is_over quantities) 0 (map cap_in t.pools) ≡ Some i = rw (caps-from t.pools i pool small at, passed) at so_far in
     let here : pool_at (lots_in t) i ≡ cap_in pool = get_or-map cap_in t.pools i pool (record { cap = 0; weights = [] }) small ∙ ap cap_in (sym at) in
-    let told : ℕ → Reason = λ place. reason.OverCap place (weighed (pool_at (lots_in t) place).weights quantities) (pool_at (lots_in t) place).cap in
-    sym (ap (λ (o : Option ℕ). option_map told o) found ∙ ap (λ (c : WeightedCap). Some (reason.OverCap i (weighed c.weights quantities) c.cap)) here ∙ ap (λ (n : ℕ). Some (reason.OverCap i n pool.cap)) (sym load_is))
+    let reported : ℕ → Reason = λ place. reason.OverCap place (weighed (pool_at (lots_in t) place).weights quantities) (pool_at (lots_in t) place).cap in
+    sym (ap (λ (o : Option ℕ). option_map reported o) found ∙ ap (λ (c : WeightedCap). Some (reason.OverCap i (weighed c.weights quantities) c.cap)) here ∙ ap (λ (n : ℕ). Some (reason.OverCap i n pool.cap)) (sym load_is))

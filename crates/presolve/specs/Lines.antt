@@ -14,7 +14,7 @@ category_name t place = option_map_or (λ category. category.name) (slice_get t.
 abbrev pub pool_name : Terms → ℕ → List ℕ
 pool_name t place = option_map_or (λ pool. pool.name) (slice_get t.pools place) []
 
--- what is told of a reason
+-- what is reported of a reason
 abbrev pub reason_text : Terms → Reason → List ℕ
 reason_text t (reason.OverSupply category asked supply) = codes " asks for " ++ (decimal asked ++ (codes " of " ++ (category_name t category ++ (codes ", where there are " ++ decimal supply))))
 reason_text t (reason.OverCap pool load cap) = codes " loads pool " ++ (pool_name t pool ++ (codes " with " ++ (decimal load ++ (codes ", above its cap of " ++ decimal cap))))

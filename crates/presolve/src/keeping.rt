@@ -9,7 +9,7 @@ ghost use Rattle.auction_terms.specs.Keeping.{kept_of, offers_of_form};
 ghost use Rattle.auction_terms.specs.inside.Keeping.{is_kept_offer};
 ghost use Rattle.auction_terms.specs.Offers.{offers};
 ghost use Rattle.auction_terms.specs.Terms.{lots_in};
-ghost use Rattle.auction_limits.specs.declared.limits.TheConstants.{MOST_BIDDERS, MOST_BIDS};
+ghost use Rattle.auction_terms.specs.declared.limits.TheConstants.{MOST_BIDDERS, MOST_BIDS};
 ghost use Rattle.bid_desk.specs.Closing.{book_of};
 ghost use Rattle.bid_forms.specs.Offers.{IsBidWithinLimits};
 ghost use Rattle.presolve.specs.Flags.{kept_in_form};

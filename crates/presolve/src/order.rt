@@ -5,7 +5,7 @@ ghost use Rattle.auction_terms.specs.Packages.{size};
 ghost use Rattle.auction_terms.specs.Terms.{lots_in};
 ghost use Rattle.presolve.specs.inside.Sizes.{AreNumbered, fitting_from, sized_of, IsOrdered, TellsItsNet, TellsItsSize};
 ghost use Rattle.presolve.specs.Sizes.{IsBySize};
-ghost use Rattle.auction_limits.specs.declared.limits.TheConstants.{GREATEST_AMOUNT, MOST_BIDS};
+ghost use Rattle.auction_terms.specs.declared.limits.TheConstants.{GREATEST_AMOUNT, MOST_BIDS};
 ghost use Rattle.bid_forms.specs.Offers.{IsBidWithinLimits};
 
 use auction_terms::{Bid, Rules};
@@ -31,7 +31,7 @@ fn sized<'b>(rules: &Rules, bid: &'b Bid, number: u16) -> SizedBid<'b>
       bid =
           bid.now;
     } }
-    ensures told { TellsItsSize result }
+    ensures reported { TellsItsSize result }
     ensures net { TellsItsNet (lots_in rules.now) result }
 {
     SizedBid {
@@ -70,7 +70,7 @@ fn fitting<'b>(
     requires limits { All IsBidWithinLimits bids.now }
     ensures same { IfOk result (λ fitting. map sized_of fitting.items
         ≡ fitting_from (lots_in rules.now) 1 bids.now) }
-    ensures told { IfOk result (λ fitting. All TellsItsSize fitting.items) }
+    ensures reported { IfOk result (λ fitting. All TellsItsSize fitting.items) }
     ensures nets { IfOk result (λ fitting. All (TellsItsNet (lots_in rules.now)) fitting.items) }
 {
     let mut fitting = Vec::with_capacity(alloc, bids.len())?;

@@ -7,7 +7,7 @@
 
 ghost use Rattle.std.specs.Prelude.{◌≡◌, ◌+◌, ◌^◌, ◌<◌, ◌≤◌, nat_lt, All, length, IfOk, IfSome};
 ghost use Rattle.std.specs.List.Sorted.{IsNonDecreasing};
-ghost use Rattle.auction_limits.specs.declared.limits.TheConstants.{MOST_BIDS};
+ghost use Rattle.auction_terms.specs.declared.limits.TheConstants.{MOST_BIDS};
 ghost use Rattle.presolve.specs.declared.ranks.TheConstants.{RANKS};
 ghost use Rattle.presolve.specs.inside.Sieves.{AreLower, AreRanked};
 

@@ -1,6 +1,6 @@
 //! Why a bid is in no program.
 
-/// The first reason for which no program has a bid. Categories and pools are told by their places, from 0.
+/// The first reason for which no program has a bid. Categories and pools are named by their places, from 0.
 #[derive(Clone, Copy, Debug, PartialEq, Eq)]
 pub enum Reason {
     /// It asks for more lots of a category than there are.

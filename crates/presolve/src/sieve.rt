@@ -23,14 +23,14 @@
 ghost use Rattle.std.specs.Prelude.{◌≡◌, ◌≢◌, ◌+◌, ◌/◌, ◌<◌, ◌≤◌, ℕ, List, false, slice_index, slice_index_or, unwrap_or, All, length, map, IfOk, IfSome};
 ghost use Rattle.std.specs.Int.{bit_at, div_ceil};
 ghost use Rattle.std.specs.List.{list_any, position_from};
-ghost use Rattle.auction_limits.specs.declared.limits.TheConstants.{MOST_BIDS, MOST_CATEGORIES};
+ghost use Rattle.auction_terms.specs.declared.limits.TheConstants.{MOST_BIDS, MOST_CATEGORIES};
 ghost use Rattle.presolve.specs.declared.order.SizedBid.{SizedBid};
 ghost use Rattle.presolve.specs.inside.Sieves.{AreLevels, AreSieved, BeatsAt, HasPlace, HasWords, IsMarked, IsSieve, Sifts, shortfall};
 ghost use Rattle.presolve.specs.inside.Sizes.{AreRivals, beats};
 
 use crate::order::SizedBid;
 use crate::ranks::ranks_of;
-use auction_limits::MOST_BIDS;
+use auction_terms::MOST_BIDS;
 use std::alloc::{AllocError, Global};
 
 /// The most words that hold a bit for each rival.

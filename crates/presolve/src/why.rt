@@ -4,7 +4,7 @@ ghost use Rattle.std.specs.Prelude.{◌≡◌, ◌≤◌, ◌<◌, ◌+◌, All,
 ghost use Rattle.std.specs.Option.{option_or};
 ghost use Rattle.auction_terms.specs.Terms.{lots_in};
 ghost use Rattle.auction_terms.specs.declared.bids.Bid.{Bid};
-ghost use Rattle.auction_limits.specs.declared.limits.TheConstants.{MOST_BIDS, MOST_CATEGORIES};
+ghost use Rattle.auction_terms.specs.declared.limits.TheConstants.{MOST_BIDS, MOST_CATEGORIES};
 ghost use Rattle.presolve.specs.Reasons.{over_cap, over_supply, why_left_out};
 ghost use Rattle.presolve.specs.inside.Sieves.{IsSieve};
 ghost use Rattle.presolve.specs.inside.Sizes.{AreNumbered};

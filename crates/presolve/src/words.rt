@@ -102,7 +102,7 @@ fn add_number<S: Sink>(writer: &mut Writer<'_, S>, before: &[u8], number: u64, b
     writer.add_pieces(&pieces);
 }
 
-// Adds what is told of a reason.
+// Adds what is reported of a reason.
 fn add_reason<S: Sink>(writer: &mut Writer<'_, S>, rules: &Rules, reason: Reason)
     ensures { Adds S.taken S.failures writer.old writer.new (reason_text rules.now reason) }
 {

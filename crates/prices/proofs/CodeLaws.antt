@@ -9,7 +9,7 @@ use mir.Syntax.{w128}
 use mir.Val.{to_z, of_z}
 use Rattle.std.proofs.lemmas.List.Sums.{sum_by-cons}
 use Rattle.std.proofs.lemmas.List.Elements.{All-more, recursion_from_All}
-use Rattle.auction_limits.specs.declared.limits.TheConstants.{GREATEST_AMOUNT}
+use Rattle.auction_terms.specs.declared.limits.TheConstants.{GREATEST_AMOUNT}
 use Rattle.auction_terms.specs.declared.bids.Bid.{Bid}
 use Rattle.auction_terms.specs.declared.choices.Choice.{Choice}
 use Rattle.auction_terms.specs.Packages.{Lots}
@@ -127,9 +127,9 @@ all_of P xs ys i e l all = subst (All P) (take_all i xs (subst (λ (zs : List _)
 -- the cost of one more column
 pub cost_pushed : (f : TableColumn → ℤ) (cs : List TableColumn) (i : ℕ) (costs new : List ℤ) (z : ℤ) → option_map f (slice_get cs i) ≡ Some z → i < length cs → new ≡ costs ++ z ∷ []
     → costs ++ map f (drop i cs) ≡ map f cs → new ++ map f (drop (i + 1) cs) ≡ map f cs
-cost_pushed f cs i costs new z told l e h =
+cost_pushed f cs i costs new z parsed l e h =
     let (x, at, next) = item_at cs i l in
-    let same : f x ≡ z = some_same (f x) z (sym (ap (option_map f) at) ∙ told) in
+    let same : f x ≡ z = some_same (f x) z (sym (ap (option_map f) at) ∙ parsed) in
     ap (λ (zs : List ℤ). zs ++ map f (drop (i + 1) cs)) e
     ∙ append_assoc costs (z ∷ []) (map f (drop (i + 1) cs))
     ∙ ap (λ (y : ℤ). costs ++ y ∷ map f (drop (i + 1) cs)) (sym same)

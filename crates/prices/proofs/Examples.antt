@@ -7,10 +7,10 @@ use Rattle.auction_terms.specs.declared.choices.Choice.{Choice}
 use Rattle.auction_terms.specs.Packages.{Lots}
 use Rattle.auction_terms.specs.Allocations.{Book, total}
 use Rattle.optimality.specs.Verdict.{certificate_fault}
-use Rattle.line_words.specs.Lines.{fields}
-use Rattle.line_words.specs.Numbers.{number}
+use Rattle.auction_terms.specs.LineFields.{fields}
+use Rattle.auction_terms.specs.Decimals.{number}
 use Rattle.outcome.specs.Report.{cost}
-use Rattle.program_faults.specs.declared.certificate_fault.FaultKind.TheVariants.{NotShown}
+use Rattle.program_rows.specs.declared.certificate_fault.CertificateFaultKind.TheVariants.{NotShown}
 use Rattle.program_rows.specs.Points.{objective}
 use Rattle.program_rows.specs.Spelling.{column_bid}
 use Rattle.outcome.specs.Pricing.{paid, price_in}

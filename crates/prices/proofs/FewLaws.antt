@@ -10,7 +10,7 @@ use Rattle.std.proofs.lemmas.List.Filters.{sum_by-filter_both}
 use Rattle.std.proofs.lemmas.List.Sums.{sum_by-cons}
 use Rattle.std.proofs.lemmas.List.Elements.{All-from_recursion, recursion_from_All}
 use native.Mathlib.Nat.{mul-le-mul_left}
-use Rattle.auction_limits.specs.declared.limits.TheConstants.{GREATEST_AMOUNT, MOST_BIDDERS}
+use Rattle.auction_terms.specs.declared.limits.TheConstants.{GREATEST_AMOUNT, MOST_BIDDERS}
 use Rattle.auction_terms.specs.declared.bids.Bid.{Bid}
 use Rattle.auction_terms.specs.declared.choices.Choice.{Choice}
 use Rattle.auction_terms.specs.Groups.{has}
@@ -247,8 +247,8 @@ both_true b c h g = rw (h, g) refl
 
 module _ (groups : List (List ℕ)) (won : List (List Choice)) (weights : List ℕ) (many : length won ≡ length groups) (own : ℕ → ℕ) (scale : ℕ) where
   -- whether the weights on the winners are within the scale, by the sums of the code
-  pub within_told : (a : List Choice) → All (λ c. weight_by groups weights c.bidder + own c.bidder ≤ scale) a → list_all (λ c. nat_le (weight_on (weighted groups won weights) c.bidder + own c.bidder) scale) a ≡ true
-  within_told a h = by a (recursion_from_All _ a h)
+  pub within_reported : (a : List Choice) → All (λ c. weight_by groups weights c.bidder + own c.bidder ≤ scale) a → list_all (λ c. nat_le (weight_on (weighted groups won weights) c.bidder + own c.bidder) scale) a ≡ true
+  within_reported a h = by a (recursion_from_All _ a h)
     where
       by : (xs : List Choice) → AllByRecursion (λ c. weight_by groups weights c.bidder + own c.bidder ≤ scale) xs → list_all (λ c. nat_le (weight_on (weighted groups won weights) c.bidder + own c.bidder) scale) xs ≡ true
       by [] h = refl

@@ -107,14 +107,14 @@ module _ (lots : Lots) (book : Book) (raise : ℕ → ℕ) (within : IsBook lots
       let least = bound v (point_up raise program v exact.0) in
       let more = raised_objective raise program v in
       let same = kept_raises a k f in
-      let told = exact.1 in
+      let parsed = exact.1 in
       omega (arith, ints)
 
   pub totals_bound : (r : ℕ) → ((a : List Choice) → IsFeasible lots book (λ b. false) a → total lots book a ≤ r + raises raise a) → IsBound (raised raise program) (neg_ℤ (pos r))
   totals_bound r h v is_point =
       let m = (presolved_is_faithful lots book (λ b. false) within).maps_back v (point_down raise program v is_point) in
       let most = h (back program.columns v) m.feasible in
-      let told = m.same_total in
+      let parsed = m.same_total in
       let more = raised_objective raise program v in
       omega (arith, ints)
 

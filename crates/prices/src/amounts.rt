@@ -1,7 +1,7 @@
 //! What winners offer.
 
 ghost use Rattle.std.specs.Prelude.{◌≡◌, ◌≤◌};
-ghost use Rattle.auction_limits.specs.declared.limits.TheConstants.{GREATEST_AMOUNT};
+ghost use Rattle.auction_terms.specs.declared.limits.TheConstants.{GREATEST_AMOUNT};
 ghost use Rattle.auction_terms.specs.Allocations.{amount_of};
 ghost use Rattle.bid_desk.specs.Closing.{book_of};
 

@@ -11,7 +11,7 @@ ghost use Rattle.optimality.specs.Verdict.{certificate_fault};
 ghost use Rattle.outcome.specs.Pricing.{price_in};
 ghost use Rattle.prices.specs.Prices.{ArePrices, CoversEveryGroup, revenue};
 ghost use Rattle.prices.specs.Raised.{raised_program};
-ghost use Rattle.program_faults.specs.declared.certificate_fault.FaultKind.TheVariants.{TooLarge};
+ghost use Rattle.program_rows.specs.declared.certificate_fault.CertificateFaultKind.TheVariants.{TooLarge};
 ghost use Rattle.program_rows.specs.Rows.{program_of};
 
 use crate::gains::revenue_of;
@@ -19,8 +19,7 @@ use crate::raised::raised;
 use bid_desk::ClosedBook;
 use optimality::check_certificate;
 use outcome::Allocation;
-use program_faults::{CertificateFault, FaultKind};
-use program_rows::Program;
+use program_rows::{CertificateFault, CertificateFaultKind, Program};
 use std::alloc::Global;
 
 /// Checks that a text is a certificate that the winners' prices cover every group of bidders: that no point of the program of the
@@ -56,7 +55,7 @@ pub fn check_cover(
     let Ok(program) = raised(alloc, program, book, first, prices) else {
         return Err(CertificateFault {
             line: 0,
-            kind: FaultKind::OutOfMemory,
+            kind: CertificateFaultKind::OutOfMemory,
         });
     };
     let least = -(revenue_of(book, first, prices) as i128);

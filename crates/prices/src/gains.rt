@@ -1,7 +1,7 @@
 //! The winners' surplus, which is their amounts less their prices, and the seller's revenue.
 
 ghost use Rattle.std.specs.Prelude.{◌≡◌, ◌≤◌, ◌-◌, ◌==◌, ◌^◌, count_by, length, sum_by};
-ghost use Rattle.auction_limits.specs.declared.limits.TheConstants.{GREATEST_AMOUNT};
+ghost use Rattle.auction_terms.specs.declared.limits.TheConstants.{GREATEST_AMOUNT};
 ghost use Rattle.auction_terms.specs.Allocations.{amount_of};
 ghost use Rattle.auction_terms.specs.Terms.{lots_in};
 ghost use Rattle.bid_desk.specs.Closing.{book_of};

@@ -2,7 +2,7 @@
 
 ghost use Rattle.std.specs.Prelude.{◌≡◌, ◌≤◌, ◌<◌, ◌*◌, ◌^◌, All, length, map, slice_index};
 ghost use Rattle.std.specs.Option.{option_map_or};
-ghost use Rattle.auction_limits.specs.declared.limits.TheConstants.{GREATEST_AMOUNT, MOST_CATEGORIES};
+ghost use Rattle.auction_terms.specs.declared.limits.TheConstants.{GREATEST_AMOUNT, MOST_CATEGORIES};
 ghost use Rattle.auction_terms.specs.Allocations.{bid_at, weighed_choice};
 ghost use Rattle.auction_terms.specs.Packages.{weighed};
 ghost use Rattle.auction_terms.specs.Terms.{IsCategory};

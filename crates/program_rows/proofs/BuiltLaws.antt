@@ -8,7 +8,7 @@ use Rattle.std.proofs.lemmas.List.Elements.{All-from_recursion}
 use Rattle.std.proofs.lemmas.Option.{same_Some}
 use Rattle.auction_terms.specs.declared.bids.KeptBid.{KeptBid}
 use Rattle.auction_terms.specs.declared.rules.Category as declared
-use Rattle.auction_limits.specs.declared.limits.TheConstants.{MOST_BIDDERS}
+use Rattle.auction_terms.specs.declared.limits.TheConstants.{MOST_BIDDERS}
 use Rattle.auction_terms.specs.Bids.{AreKept}
 use Rattle.auction_terms.specs.Packages.{Lots}
 use Rattle.auction_terms.specs.Terms.{Terms, lots_in}
@@ -26,12 +26,12 @@ use Rattle.program_rows.specs.inside.Building.{IsThere, built_column}
 use Rattle.program_rows.proofs.EachLaws.{at_place, item_at}
 use Rattle.program_rows.proofs.LegalLaws.{Rises, all_dedup, all_there, bidders_few, bidders_never_fall, dedup_rises}
 
-abbrev bidders : List Offer → List ℕ
+abbrev pub bidders : List Offer → List ℕ
 bidders offers = map (λ (o : Offer). o.bidder) offers
 
 -- ---------- the bidders ----------
 
--- each bidder that differs from the one before it, where the first comes behind `last`
+-- each bidder that differs from the one before it; the first comes after `last`
 abbrev pub next_bidders : ℕ → List Offer → List ℕ
 next_bidders last [] = []
 next_bidders last (o ∷ offers) = cond (o.bidder == last) (next_bidders last offers) (o.bidder ∷ next_bidders o.bidder offers)
@@ -42,7 +42,7 @@ same_next : (k x : ℕ) (xs : List ℕ) (offers : List Offer) (b : Bool) → (x 
 same_next k x xs offers true e same h g = h
 same_next k x xs offers false e same h g = ap (λ (ys : List ℕ). k ∷ ys) g
 
-from_last : (k : ℕ) (offers : List Offer) → dedup_from nat_eq k (bidders offers) ≡ k ∷ next_bidders k offers
+pub from_last : (k : ℕ) (offers : List Offer) → dedup_from nat_eq k (bidders offers) ≡ k ∷ next_bidders k offers
 from_last k [] = refl
 from_last k (o ∷ offers) = same_next k o.bidder (bidders offers) offers (o.bidder == k) refl refl (from_last k offers) (from_last o.bidder offers)
 

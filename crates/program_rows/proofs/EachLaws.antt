@@ -19,7 +19,7 @@ at_place P [] k x a e = cc
 at_place P (y ∷ xs) zero x a e = let same : y ≡ x = cc in subst P same a.0
 at_place P (y ∷ xs) (suc k) x a e = at_place P xs k x a.1 e
 
--- the item at a place, before those behind it
+-- the item at a place, before those after it
 pub item_at : {X : Type 0} (xs : List X) (k : ℕ) → k < length xs → (x : X) × (slice_get xs k ≡ Some x) × (drop k xs ≡ x ∷ drop (k + 1) xs)
 item_at [] k l = absurd (omega arith)
 item_at (x ∷ xs) zero l = (x, refl, refl)

@@ -26,7 +26,7 @@ use Rattle.program_rows.specs.declared.row.RowKind.TheVariants.{AtMost}
 use Rattle.program_rows.specs.Program.{Table, TableRow, TableColumn}
 use Rattle.program_rows.specs.Points.{sum_at_one, objective, coefficient_at, row_sum, meets, AreAllowed, IsPoint}
 use Rattle.program_rows.specs.Spelling.{is_bid, column_bid}
-use Rattle.auction_limits.specs.declared.limits.TheConstants.{MOST_BIDDERS, MOST_BIDS}
+use Rattle.auction_terms.specs.declared.limits.TheConstants.{MOST_BIDDERS, MOST_BIDS}
 use Rattle.program_rows.specs.declared.subject.Subject.{Subject}
 use Rattle.program_rows.specs.declared.subject.Subject.TheVariants.{Bidder, Category, Pool}
 use Rattle.program_rows.specs.Rows.{weight, subjects, row_of, entries_from, column_of, worth_column, program_of}
@@ -125,7 +125,7 @@ sum_is f g lots rows last (o ∷ kept) (true ∷ p) h z =
     ap (λ (n : ℤ). n +ℤ sum_at_one f (map (column_of lots rows) kept ++ last) p) (h o) ∙ ap (λ (n : ℤ). pos (g o) +ℤ n) (sum_is f g lots rows last kept p h z) ∙ ap (λ (n : ℕ). pos n) (sym (sum_by-cons g o (chosen kept p)))
 sum_is f g lots rows last (o ∷ kept) (false ∷ p) h z = sum_is f g lots rows last kept p h z
 
--- the column of what all lots are worth stands in no row
+-- the column of what all lots are worth has no entry in a row
 in_no_row : (lots : Lots) (row : ℕ) (b : Bool) (q : List Bool) → sum_at_one (coefficient_at row) (cond b [] (record { name = codes "K"; bounds = One; cost = neg_ℤ (pos (worth_of_all lots)); entries = [] } ∷ [])) q ≡ pos 0
 in_no_row lots row true q = refl
 in_no_row lots row false [] = refl
@@ -140,7 +140,7 @@ always_one lots false (true ∷ []) e a = let z : ℤ = neg_ℤ (pos (worth_of_a
 always_one lots false (true ∷ v ∷ q) e a = absurd a.1
 always_one lots false (false ∷ q) e a = absurd (both_ways false refl a.0)
 
--- what the offers are worth where their lots are left
+-- what the offers' lots are worth unsold
 abbrev pub worth_offered : Lots → Offer → ℕ
 worth_offered lots o = worth lots o.bid.package
 
@@ -270,7 +270,7 @@ module _ (lots : Lots) (offers : List Offer) where
         subst (λ (x : TableRow). meets x.kind (row_sum built p m) x.right_side ≡ true) (sym w.2) (row_meets lots w.0 (row_sum built p m) ∙ n));
   }
 
--- a point of the program of a list of offers is one of another's, where the same offers are at 1
+-- a point of the program of a list of offers is one of another's, if the same offers are at 1
 pub point_of_others : (lots : Lots) (offers others : List Offer) (p q : List Bool) → IsPoint (program_of lots offers) p → AreAllowed (program_of lots others).columns q → chosen others q ≡ chosen offers p → IsPoint (program_of lots others) q
 point_of_others lots offers others p q is_point allowed same = point_where lots others q allowed (λ s there. rw same (weighs_few lots offers p is_point s there))
 
@@ -352,7 +352,7 @@ chosen_marks : (q : Offer → Bool) (g : Offer → ℕ) (xs : List Offer) (vs : 
 chosen_marks q g [] vs = refl
 chosen_marks q g (o ∷ xs) vs = marked q g o xs vs (q o) (chosen_marks q g xs vs) ∙ sym (sum_by-cons (λ o. cond (q o) (g o) 0) o xs)
 
--- the value of the column of what all lots are worth, where there is one
+-- the value of the column of what all lots are worth, if there is one
 abbrev last_values : Lots → List Bool
 last_values lots = cond (worth_of_all lots == 0) [] (true ∷ [])
 

@@ -1,4 +1,4 @@
--- The program of some of the offers, and that of all of them, where no other offer is at 1.
+-- The program of some of the offers, and that of all of them, if no other offer is at 1.
 use Rattle.std.proofs.Common.{◌≡◌, ℕ, Bool, true, false, ◌||◌, ◌==◌, List, [], ◌∷◌, ◌++◌, map, sym, refl, ap, ap₂, ◌∙◌}
 use Rattle.std.specs.Prelude.{bytes_eq, filter}
 use Rattle.std.specs.List.{AllByRecursion, list_any}

@@ -1,4 +1,4 @@
--- Kept bids stand within the limits of offers.
+-- Kept bids are within the limits of offers.
 use Rattle.std.proofs.Common.{◌≡◌, zero, suc, List, [], ◌∷◌, length, arith, sym, ◌∙◌}
 use Rattle.std.specs.Prelude.{All, AllPairs}
 use Rattle.std.specs.List.{AllByRecursion}

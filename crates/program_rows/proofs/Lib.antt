@@ -1,3 +1,4 @@
+mod Examples
 pub mod EachLaws
 pub mod SpellingLaws
 mod ValueExamples
@@ -10,6 +11,8 @@ pub mod ColumnLemmas
 pub mod CostedLaws
 pub mod BuildLaws
 pub mod BuiltLaws
+pub mod SelectionLaws
+pub mod SeenLaws
 pub mod SumLaws
 pub mod OneLaws
 pub mod BrokenLaws

@@ -36,7 +36,7 @@ module _ {X : Type 0} (name_of : X → List ℕ) (name : List ℕ) where
   pub found_none : (xs : List X) (i n : ℕ) → length xs ≤ i → i ≤ n → n ≡ length xs → left xs ≡ i + left (drop i xs) → n ≡ left xs
   found_none xs i n l m e h = let p = at_drop_all left xs i l in omega arith
 
-  -- where names differ, the one item of this name is the first
+  -- if names differ, the one item of this name is the first
   earlier_differ : (y : X) (xs : List X) (i : ℕ) (n : List ℕ) → IsDistinct bytes_eq (map name_of (y ∷ xs)) → option_map name_of (slice_get xs i) ≡ Some n → bytes_eq name n ≡ true → bytes_eq name (name_of y) ≡ false
   unfolding IsDistinct
   earlier_differ y [] i n d e f = cc

@@ -24,7 +24,7 @@ module _ (name : List ℕ) where
   abbrev IsAt : List (Bor (List ℕ)) → ℕ → Type 0
   IsAt ks i = option_map_or is (slice_get ks i) false ≡ true
 
-  -- where names differ, a place that has the name is its place
+  -- if names differ, a place that has the name is its place
   pub is_place : (ks : List (Bor (List ℕ))) (i : ℕ) → IsDistinct (λ a b. bytes_eq a.now b.now) ks → IsAt ks i → (Some i ≡ position is ks) × (true ≡ list_any is ks) × (i < length ks)
   is_place ks i d h =
       let s = stands is (slice_get ks i) h in

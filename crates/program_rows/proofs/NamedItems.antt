@@ -72,7 +72,7 @@ bytes_flip xs ys h = false_from_ne_true (bytes_eq ys xs) (λ t. let same = (byte
 pub rows_equal : (r s : TableRow) → r.name ≡ s.name → r.kind ≡ s.kind → r.right_side ≡ s.right_side → r ≡ s
 rows_equal r s name kind side = λ i. record { name = name i; kind = kind i; right_side = side i }
 
--- an item is found by its own name where names differ
+-- an item is found by its own name if names differ
 module _ {X : Type 0} (name_of : X → List ℕ) where
   pub behind : (x : X) (xs ys : List X) → AllByRecursion (λ n. bytes_eq (name_of x) n ≡ false) (map name_of ys) → AllByRecursion (λ y. find (λ z. bytes_eq (name_of y) (name_of z)) xs ≡ Some y) ys
       → AllByRecursion (λ y. find (λ z. bytes_eq (name_of y) (name_of z)) (x ∷ xs) ≡ Some y) ys

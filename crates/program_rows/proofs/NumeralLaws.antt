@@ -12,8 +12,8 @@ use Rattle.std.proofs.lemmas.Str.Parse.{IsNumeralModel, digit_from_value}
 use Rattle.std.proofs.lemmas.Fmt.{decimal_is_IsNumeral, decimal-digits_value, first_decimal, length-decimal-le}
 use Rattle.auction_terms.specs.declared.choices.Choice.{Choice}
 use Rattle.program_rows.specs.Spelling.{bid_name, is_bid, column_bid}
-use Rattle.line_words.proofs.Powers.{pow_above}
-use Rattle.line_words.proofs.Folding.{ascii-range}
+use Rattle.auction_terms.proofs.Powers.{pow_above}
+use Rattle.auction_terms.proofs.Folding.{ascii-range}
 use Rattle.program_rows.proofs.SpellingLaws.{no_bar, bar_at, before_at, after_at, bidder_range, bid_range, bid_name-injective, reads_back, reads_names_alone}
 
 -- digits, in both words
@@ -83,7 +83,7 @@ no_name name h = sym (none_named name (λ b j i e. let l = ap (λ (xs : List ℕ
 pub other_letter : (name : List ℕ) → get_or name 0 0 ≢ 88 → None ≡ column_bid name
 other_letter name h = sym (none_named name (λ b j i e. h (ap (λ (xs : List ℕ). get_or xs 0 0) e)))
 
--- what stands behind the letter
+-- what follows the letter
 behind_letter : (name : List ℕ) (b j : ℕ) → name ≡ bid_name b j → drop 1 name ≡ decimal b ++ 95 ∷ decimal j
 behind_letter name b j e = ap (λ (xs : List ℕ). drop 1 xs) e
 

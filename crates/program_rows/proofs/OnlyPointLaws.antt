@@ -34,7 +34,7 @@ are-same c d e =
     let bid : c.bid ≡ d.bid = eqb-true c.bid d.bid parts.1 in
     ap₂ (λ (b j : ℕ). record { bidder = b; bid = j }) bidder bid
 
--- a choice, and the list before and behind it
+-- a choice, and the list before and after it
 record Stands (c : Choice) (xs : List Choice) : Type 0 where
   before : List Choice
   behind : List Choice
@@ -88,14 +88,14 @@ only_least_is_only lots book group values a within is_point only moved none =
     let p = program_of lots all in
     let fits = sized lots book within in
     let won = back p.columns values in
-    let told = (presolved_is_faithful lots book group within).maps_back values is_point in
-    only_among_all lots book group a fits (feasible_permuted lots book group won a moved told.feasible)
+    let parsed = (presolved_is_faithful lots book group within).maps_back values is_point in
+    only_among_all lots book group a fits (feasible_permuted lots book group won a moved parsed.feasible)
     (λ other feasible kept no_less.
     let k = recursion_from_All (λ c. is_kept_choice lots book group c ≡ true) other kept in
     let exact = exact_point lots book group fits other k feasible in
     let v = values_of lots book group fits other in
     let same_as_won : total lots book a ≡ total lots book won = total_permuted lots book won a moved in
-    let of_won : pos (total lots book won) ≡ neg_ℤ (objective p values) = told.same_total in
+    let of_won : pos (total lots book won) ≡ neg_ℤ (objective p values) = parsed.same_total in
     let of_other : pos (total lots book other) ≡ neg_ℤ (objective p v) = exact.1 in
     let lower : objective p v ≤ℤ objective p values = omega (arith, ints) in
     let same : v ≡ values = only v exact.0 lower in

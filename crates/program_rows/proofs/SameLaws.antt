@@ -1,4 +1,4 @@
--- Two programs are equal as maps exactly if each row and column of one stands in the other.
+-- Two programs are equal as maps if and only if each row and column of one is in the other.
 use Rattle.std.proofs.Common.{◌≡◌, ℕ, ◌<◌, Bool, true, false, ◌&&◌, nat_lt, lt-ltb, List, [], ◌∷◌, Option, Some, None, length, map, slice_get, refl, sym, ap, ap₂, ◌∙◌, arith, ℤ, pos, eq-eqb}
 use Rattle.std.specs.Prelude.{◌==◌, bytes_eq, find}
 use Rattle.std.specs.Option.{option_map, option_map_or}
@@ -21,7 +21,7 @@ use Rattle.program_rows.proofs.LookupLaws.{guessed}
 use Rattle.program_rows.proofs.NamedItems.{Place, all_pass, all_true, bounds_equal, bounds_itself, found_in, found_passes, in_no_row, in_row, is_row, kind_itself, kinds_equal, name_there, own, place_by, rows_equal, stands}
 use Rattle.program_rows.specs.ProgramNames.{row_name}
 
--- ---------- what stands in another program ----------
+-- ---------- what is in another program ----------
 
 row_over : (rows others : List TableRow) (name : List ℕ) (r : TableRow) → list_all (row_stands others) rows ≡ true → row_named rows name ≡ Some r → row_named others name ≡ Some r
 row_over rows others name r h e =
@@ -67,7 +67,7 @@ column_over rows others columns more name c h e =
 abbrev in_row_at : ℕ → ℕ × ℤ → Bool
 in_row_at place e = e.0 == place
 
--- an entry of one column tells the coefficient of the other
+-- an entry of one column gives the coefficient of the other
 entry_over : (rows others : List TableRow) (c d : TableColumn) (name : List ℕ) (i : ℕ) (r : TableRow) (e : ℕ × ℤ) → Place rows name i r → list_all (entry_stands rows others d) c.entries ≡ true → find (in_row_at i) c.entries ≡ Some e
     → coefficient_in others d name ≡ e.1
 entry_over rows others c d name i r e place h f =

@@ -11,7 +11,7 @@ use Rattle.std.proofs.lemmas.List.Splits.{slice_split_at, slice_split_none}
 use Rattle.std.proofs.lemmas.Option.{same_Some}
 use Rattle.std.proofs.lemmas.Slice.Eq.{bytes_eq-Decides}
 use Rattle.auction_terms.specs.declared.choices.Choice.{Choice}
-use Rattle.auction_limits.specs.declared.limits.TheConstants.{MOST_BIDDERS, MOST_BIDS}
+use Rattle.auction_terms.specs.declared.limits.TheConstants.{MOST_BIDDERS, MOST_BIDS}
 use Rattle.program_rows.specs.Named.{ReadsBack, ReadsNamesAlone, NamesDiffer}
 use Rattle.std.proofs.lemmas.Str.Parse.{digit_from_value}
 use Rattle.std.proofs.lemmas.Fmt.{decimal_is_IsNumeral, decimal_injective}
@@ -53,7 +53,7 @@ module _ (b j : ℕ) (h : is_bid b j ≡ true) where
 pub names_differ : NamesDiffer
 names_differ b j c k h i e = bid_name-injective b j c k (bidder_small b j h) (bid_small b j h) (bidder_small c k i) (bid_small c k i) e
 
--- what stands before and behind the bar
+-- what comes before and after the bar
 pub bar_at : (xs ys : List ℕ) → AllByRecursion (λ b. (b == 95) ≡ false) xs → position_or_len (λ (c : ℕ). c == 95) (xs ++ 95 ∷ ys) ≡ length xs
 bar_at [] ys h = refl
 bar_at (x ∷ xs) ys h = let r = bar_at xs ys h.1 in rw h.0 (omega arith)

@@ -32,11 +32,11 @@ book =
 abbrev nobody : ℕ → Bool
 nobody bidder = false
 
--- two lots of A and one of B, where a lot of A that is left is worth so much
+-- two lots of A and one of B; each unsold lot of A has this value
 abbrev valued : ℕ → Lots
 valued value = record { supply = 2 ∷ 1 ∷ []; values = value ∷ 0 ∷ []; pools = [] }
 
--- the same with one pool, where nothing that is left is worth anything
+-- the same with one pool, and no value of unsold lots
 abbrev pooled : ℕ → ℕ → Lots
 pooled cap weight = record { supply = 2 ∷ 1 ∷ []; values = 0 ∷ 0 ∷ []; pools = record { cap = cap; weights = weight ∷ 1 ∷ [] } ∷ [] }
 

@@ -1,3 +1,11 @@
+pub mod MpsLines
+pub mod MpsSections
+pub mod MpsProgram
+pub mod MpsFaults
+pub mod MpsMeaning
+pub mod CertificateFaultText
+pub mod MpsFaultText
+pub mod SolutionFaultText
 pub mod Program
 pub mod ProgramNames
 pub mod Parts
@@ -12,4 +20,5 @@ pub mod Bounded
 pub mod Costed
 pub mod Seeds
 pub mod Only
+pub mod Selections
 pub mod inside

@@ -15,7 +15,7 @@ use Rattle.program_rows.specs.Faithful.{back}
 abbrev pub IsOnlyLeast : Table → List Bool → Type 0
 IsOnlyLeast program values = (others : List Bool) → IsPoint program others → objective program others ≤ℤ objective program values → others ≡ values
 
--- such a point of the program of the kept bids wins, in whatever order, the only allocation of a book, where no bid does as well in a winner's place
+-- such a point of the program of the kept bids wins, in whatever order, the only allocation of a book, if no bid does as well in a winner's place
 abbrev pub OnlyLeastIsOnly : Type 0
 OnlyLeastIsOnly = (lots : Lots) (book : Book) (group : ℕ → Bool) (values : List Bool) (a : List Choice) → IsBook lots book
     → IsPoint (program_of lots (kept_of lots book group)) values → IsOnlyLeast (program_of lots (kept_of lots book group)) values

@@ -23,7 +23,7 @@ IsName name = (0 < length name) × AllByRecursion (λ b. (33 ≤ b) × (b ≤ 12
 abbrev pub AreDistinct : List (List ℕ) → Type 0
 AreDistinct names = IsDistinct bytes_eq names
 
--- entries stand in row order, and none is 0
+-- entries are in row order, and none is 0
 abbrev pub AreEntries : ℕ → List (ℕ × ℤ) → Type 0
 AreEntries rows [] = Unit {0}
 AreEntries rows (e ∷ entries) = (e.0 < rows) × (e.1 ≢ pos 0) × AllByRecursion (λ later. e.0 < later.0) entries × AreEntries rows entries

@@ -15,7 +15,7 @@ column_named columns name = find (λ c. bytes_eq name c.name) columns
 abbrev pub coefficient_in : List TableRow → TableColumn → List ℕ → ℤ
 coefficient_in rows c row = option_map_or (λ place. coefficient_at place c) (position (λ r. bytes_eq row r.name) rows) (pos 0)
 
--- the coefficient of these names, which is 0 where there is no such column or row
+-- the coefficient of these names; it is 0 if there is no such column or row
 abbrev pub coefficient_by_names : Table → List ℕ → List ℕ → ℤ
 coefficient_by_names p column row = option_map_or (λ c. coefficient_in p.rows c row) (column_named p.columns column) (pos 0)
 

@@ -11,7 +11,7 @@ use Rattle.program_rows.specs.Program.{Table}
 abbrev pub started : DefaultHasher → FoldHasher
 started hasher = folding.write folding.initial (le_bytes 8 (sip.finish hasher))
 
--- the seed of texts, one behind the other
+-- the seed of texts, one after the other
 abbrev pub seed : List (List ℕ) → FoldHasher
 seed texts = started (fold sip.write sip.initial texts)
 

@@ -1,7 +1,7 @@
 // The program of a list of kept bids.
 ghost use Rattle.std.specs.Prelude.{◌≡◌, ◌≤◌, ◌<◌, ◌+◌, ◌^◌, ◌++◌, ◌∷◌, [], ◌==◌, All, Some, codes, cond, length, map, neg_ℤ, slice_get, IfOk, OnOk};
 ghost use Rattle.std.specs.List.{range_with_len};
-ghost use Rattle.auction_limits.specs.declared.limits.TheConstants.{GREATEST_AMOUNT};
+ghost use Rattle.auction_terms.specs.declared.limits.TheConstants.{GREATEST_AMOUNT};
 ghost use Rattle.auction_terms.specs.Bids.{AreKept};
 ghost use Rattle.auction_terms.specs.Domination.{net};
 ghost use Rattle.auction_terms.specs.Offers.{offer_of, offers};
@@ -30,7 +30,7 @@ fn subject_at(subjects: &[Subject], row: usize) -> Subject
     subjects[row]
 }
 
-/// The place of the row of a bid's bidder: that of the last one, where the bid counts there, or the next.
+/// The place of the row of a bid's bidder: that of the last one, if the bid counts there, or the next.
 fn next_place(place: usize, last: Subject, rules: &Rules, bid: KeptBid<'_>) -> usize
     requires place { place + 1 < 2 ^ 64 }
     requires there { IsThere (lots_in rules.now) last }
@@ -79,7 +79,7 @@ fn add_column(
     )
 }
 
-/// Adds the column of what all lots are worth, where that isn't 0.
+/// Adds the column of what all lots are worth, if that isn't 0.
 fn add_worth(columns: &mut Columns, rules: &Rules) -> Result<(), AllocError>
     ensures { OnOk result (columns.new ≡ columns.old ++ worth_column (lots_in rules.now)) }
 {
@@ -90,7 +90,7 @@ fn add_worth(columns: &mut Columns, rules: &Rules) -> Result<(), AllocError>
     columns.push(b"K", Bounds::One, -(worth as i64), &[])
 }
 
-/// The columns of the kept bids, where the rows of bidders end at `first`.
+/// The columns of the kept bids, after the rows of bidders, which end at `first`.
 fn columns(
     alloc: Global,
     rules: &Rules,
@@ -127,7 +127,7 @@ fn columns(
 }
 
 /// Adds the categories and the pools to what there are rows for.
-fn add_lots(subjects: &mut Vec<Subject>, rules: &Rules) -> Result<(), AllocError>
+pub(crate) fn add_lots(subjects: &mut Vec<Subject>, rules: &Rules) -> Result<(), AllocError>
     ensures { OnOk result (subjects.new.items ≡ (subjects.old.items
         ++ map Category (range_with_len 0 (length rules.now.categories)))
         ++ map Pool (range_with_len 0 (length rules.now.pools))) }
@@ -136,7 +136,7 @@ fn add_lots(subjects: &mut Vec<Subject>, rules: &Rules) -> Result<(), AllocError
     add_pools(subjects, rules.pools().len() as u8)
 }
 
-/// What the program of the kept bids is made of, where the rows of bidders end at `first`.
+/// What the program of the kept bids is made of; the rows of bidders end at `first`.
 fn parts(
     alloc: Global,
     rules: &Rules,
@@ -165,7 +165,7 @@ fn parts(
     })
 }
 
-/// The rows and the columns of the program of the kept bids, without the column `K`: what `build` makes, where no lot has a value.
+/// The rows and the columns of the program of the kept bids, without the column `K`: what `build` makes if no lot has a value.
 pub fn build_bids(alloc: Global, rules: &Rules, kept: &Kept<'_>) -> Result<ProgramParts, AllocError>
     requires sized { All (λ k. length k.offer.now.package ≡ length rules.now.categories) kept.now }
     ensures objective { IfOk result (λ parts. parts.objective_name.items ≡ codes "OBJ") }
@@ -182,7 +182,7 @@ pub fn build_bids(alloc: Global, rules: &Rules, kept: &Kept<'_>) -> Result<Progr
     parts(alloc, rules, &subjects, first, kept)
 }
 
-/// The program of the kept bids: the objective `OBJ`, a row `Bb` for each bidder with a bid, a row `Cc` for each category and a row `Pp` for each pool, a column `Xb_j` for each bid, and a column `K` for what all lots are worth where that isn't 0.
+/// The program of the kept bids: the objective `OBJ`, a row `Bb` for each bidder with a bid, a row `Cc` for each category and a row `Pp` for each pool, a column `Xb_j` for each bid, and a column `K` for what all lots are worth if that isn't 0.
 pub fn build(alloc: Global, rules: &Rules, kept: &Kept<'_>) -> Result<Program, AllocError>
     requires sized { All (λ k. length k.offer.now.package ≡ length rules.now.categories) kept.now }
     ensures { IfOk result (λ program. program ≡ program_of (lots_in rules.now) (offers kept.now)) }

@@ -1,6 +1,6 @@
 use crate::bounds::Bounds;
 
-/// A column of a program, lent by the list that it stands in.
+/// A column of a program, lent by the list that holds it.
 #[derive(Clone, Copy)]
 pub struct Column<'c> {
     /// Printable ASCII without white space.

@@ -24,7 +24,7 @@ fn search_row(rows: &[Row], name: &[u8]) -> usize
     rows.len()
 }
 
-/// The place of the row of this name, or the number of rows where there is none. The guess is tried first.
+/// The place of the row of this name, or the number of rows if there is none. The guess is tried first.
 pub(crate) fn row_place(rows: &[Row], guess: usize, name: &[u8]) -> usize
     requires { IsDistinct bytes_eq (map (λ r. r.name) (map shown_row rows.now)) }
     ensures { result ≡ position_or_len (λ r. bytes_eq name.now r.name) (map shown_row rows.now) }
@@ -48,7 +48,7 @@ fn search_column(columns: &Columns, name: &[u8]) -> usize
     columns.len()
 }
 
-/// The place of the column of this name, or the number of columns where there is none. The guess is tried first.
+/// The place of the column of this name, or the number of columns if there is none. The guess is tried first.
 pub(crate) fn column_place(columns: &Columns, guess: usize, name: &[u8]) -> usize
     requires { IsDistinct bytes_eq (map (λ c. c.name) columns.now) }
     ensures { result ≡ position_or_len (λ c. bytes_eq name.now c.name) columns.now }

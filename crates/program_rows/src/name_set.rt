@@ -20,8 +20,8 @@ pub struct Seeded {
 /// Names, each once, in the order in which they came.
 pub type NameSet<'t> = IndexSet<&'t [u8], Seeded>;
 
-/// Names are hashed by a quick hasher, byte by byte, and where it starts is told by a thorough one, which can't be led to an
-/// answer that was chosen before.
+/// Names are hashed by a quick hasher, byte by byte. A thorough one, which can't be led to a value that was chosen before,
+/// gives the value that it starts from.
 fn started(hasher: DefaultHasher) -> Seeded
     ensures { result.start ≡ started hasher }
 {
@@ -122,8 +122,8 @@ fn place_beside(names: &NameSet, next: usize, name: &[u8]) -> Option<usize>
     place_by_hash(names, name)
 }
 
-/// The place of a name among the names, if it is one of them. It is looked for without a hash first: behind the name that was
-/// found last, where `next` stands; one place further, since a column names its rows in order and mostly leaves out one at a
+/// The place of a name among the names, if it is one of them. It is looked for without a hash first: after the name that was
+/// found last, at `next`; one place further, since a column names its rows in order and mostly leaves out one at a
 /// time; and before it, so that names in falling order are found at once, too.
 #[inline(always)]
 pub fn place_of(names: &NameSet, next: &Cell<usize>, name: &[u8]) -> Option<usize>

@@ -16,7 +16,7 @@ pub(crate) fn objective_name(alloc: Global) -> Result<Vec<u8>, AllocError>
     Ok(name.into_bytes())
 }
 
-/// Writes a letter and a number so that they end at `end`, and tells where they begin.
+/// Writes a letter and a number so that they end at `end`, and returns where they begin.
 fn write_numbered(name: &mut [u8], letter: u8, number: u16, end: usize) -> usize
     requires room { 6 ≤ end }
     requires within { end ≤ length name.old }
@@ -39,7 +39,7 @@ pub(crate) fn numbered(alloc: Global, letter: u8, number: u16) -> Result<Vec<u8>
     Vec::from_slice(alloc, &name[start..])
 }
 
-/// Writes the name of the column of a bid at the end of a block, and tells where it begins.
+/// Writes the name of the column of a bid at the end of a block, and returns where it begins.
 pub(crate) fn write_bid_name(name: &mut [u8; NAME_LEN], bidder: u16, bid: u16) -> usize
     ensures name { drop result name.new ≡ bid_name bidder bid }
     ensures within { result ≤ 12 }

@@ -1,4 +1,4 @@
-// The columns at 1, by their places, where they are few.
+// The columns at 1, by their places, if they are few.
 ghost use Rattle.std.specs.Prelude.{◌≡◌, ◌≤◌, ◌<◌, ◌∷◌, ◌++◌, [], cond, length, true, IfSome};
 ghost use Rattle.std.specs.List.{AllByRecursion};
 ghost use Rattle.program_rows.specs.Points.{coefficient_at};
@@ -15,7 +15,7 @@ pub(crate) const MOST_ONES: usize = 512;
 /// Places of columns, rising.
 pub(crate) type Ones = ArrayVec<usize, MOST_ONES>;
 
-/// Adds a place where the value there is 1, and tells whether there was room.
+/// Adds a place if the value there is 1, and returns whether there was room.
 fn add_one(ones: &mut Ones, place: usize, value: bool) -> bool
     ensures { result ≡ true → ones.new.items
         ≡ cond value (ones.old.items ++ place ∷ []) ones.old.items }
@@ -26,7 +26,7 @@ fn add_one(ones: &mut Ones, place: usize, value: bool) -> bool
     true
 }
 
-/// The places of the columns at 1, where they are few.
+/// The places of the columns at 1, if they are few.
 pub(crate) fn ones_of(values: &[bool]) -> Option<Ones>
     ensures { IfSome result (λ ones. ones.items ≡ ones_from 0 values.now) }
 {

@@ -35,7 +35,7 @@ impl Model for Program {
 }
 
 impl Program {
-    /// The program of these parts. Names of rows differ, and so do those of columns; entries stand in row order, and none is 0.
+    /// The program of these parts. Names of rows differ, and so do those of columns; entries are in row order, and none is 0.
     pub fn from_parts(parts: ProgramParts) -> Program
         requires { IsProgram (table_of parts) }
         ensures { result ≡ table_of parts }
@@ -63,7 +63,7 @@ impl Program {
         }
     }
 
-    /// What every program keeps: names are printable, those of rows differ, and so do those of columns; entries stand in row order, and none is 0.
+    /// What every program keeps: names are printable, those of rows differ, and so do those of columns; entries are in row order, and none is 0.
     pub fn well_formed(&self)
         ensures { IsProgram self.now }
     {
@@ -92,7 +92,7 @@ impl Program {
         name_at(self.parts.rows.as_slice(), row)
     }
 
-    /// How the sum of a row stands to its right side.
+    /// How the sum of a row compares with its right side.
     pub fn row_kind(&self, row: usize) -> RowKind
         requires { row < length self.now.rows }
         ensures { option_map (λ r. r.kind) (slice_get self.now.rows row) ≡ Some result }

@@ -1,4 +1,4 @@
-/// How the sum of a row stands to its right side.
+/// How the sum of a row compares with its right side.
 #[derive(Clone, Copy, Debug, PartialEq, Eq)]
 pub enum RowKind {
     AtMost,

@@ -4,11 +4,9 @@ ghost use Rattle.std.specs.Prelude.{◌≡◌, ◌≢◌, ℕ, ◌^◌, ◌<◌,
 ghost use Rattle.std.specs.List.{position_or_len};
 ghost use Rattle.program_rows.specs.Spelling.{column_bid, is_bid};
 
-use auction_limits::{MOST_BIDDERS, MOST_BIDS};
-use auction_terms::Choice;
-use line_words::{are_all_digits, behind, digits_behind};
+use auction_terms::{Choice, MOST_BIDDERS, MOST_BIDS, are_all_digits, behind, digits_behind};
 
-/// The number that is spelled by digits without a leading zero, where there are at most four.
+/// The number that is spelled by digits without a leading zero, if there are at most four.
 fn number_spelled(text: &[u8]) -> Option<u16>
     ensures { MatchOption result ((n : ℕ) → 1 ≤ n → n < 10 ^ 4 → decimal n ≢ text.now)
         (λ n. decimal n ≡ text.now) }
@@ -34,7 +32,7 @@ fn is_bar_byte(b: u8) -> bool
     b == b'_'
 }
 
-/// The place of the first bar, or the length where there is none.
+/// The place of the first bar, or the length if there is none.
 fn bar_in(bytes: &[u8]) -> usize
     ensures value { result ≡ position_or_len (λ b. b == 95) bytes.now }
     ensures within { result ≤ length bytes.now }
@@ -56,7 +54,7 @@ fn is_bid(bidder: u16, bid: u16) -> bool
         && (1 <= bid && usize::from(bid) <= MOST_BIDS)
 }
 
-/// What stands behind the letter that a name begins with.
+/// What follows the letter that a name begins with.
 fn behind_letter(name: &[u8]) -> &[u8]
     requires { 0 < length name.now }
     ensures { result.now ≡ drop 1 name.now }
@@ -64,7 +62,7 @@ fn behind_letter(name: &[u8]) -> &[u8]
     &name[1..]
 }
 
-/// What stands before a place.
+/// What comes before a place.
 fn front(place: usize, bytes: &[u8]) -> &[u8]
     requires { place ≤ length bytes.now }
     ensures { result.now ≡ take place bytes.now }

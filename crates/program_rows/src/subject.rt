@@ -2,7 +2,7 @@
 
 use crate::names::numbered;
 use crate::row::{Row, RowKind};
-use auction_terms::{KeptBid, Rules};
+use auction_terms::{Category, KeptBid, Package, Pool, Rules};
 use std::alloc::{AllocError, Global};
 
 /// What a row is about.
@@ -18,7 +18,7 @@ pub enum Subject {
 
 impl Subject {
     ghost use Rattle.std.specs.Prelude.{◌≡◌, ◌≤◌, ◌^◌, IfOk, length, pos};
-    ghost use Rattle.auction_limits.specs.declared.limits.TheConstants.{GREATEST_AMOUNT};
+    ghost use Rattle.auction_terms.specs.declared.limits.TheConstants.{GREATEST_AMOUNT};
     ghost use Rattle.auction_terms.specs.Offers.{offer_of};
     ghost use Rattle.auction_terms.specs.Packages.{Lots};
     ghost use Rattle.auction_terms.specs.Terms.{lots_in};
@@ -80,12 +80,10 @@ impl Subject {
 }
 
 ghost use Rattle.std.specs.Prelude.{◌≡◌, ◌≤◌, ◌<◌, ◌^◌, [], All, length, map, slice_index, slice_index_or};
-ghost use Rattle.auction_limits.specs.declared.limits.TheConstants.{GREATEST_AMOUNT, GREATEST_QUANTITY};
+ghost use Rattle.auction_terms.specs.declared.limits.TheConstants.{GREATEST_AMOUNT, GREATEST_QUANTITY};
 ghost use Rattle.auction_terms.specs.Packages.{IsPackage, weighed};
 ghost use Rattle.auction_terms.specs.Terms.{IsCategory, IsPool};
 ghost use Rattle.auction_terms.specs.inside.Terms.{cap_of};
-
-use auction_terms::{Category, Package, Pool};
 
 // What a row of a category may hold, in the words of lists, by which rows are stated.
 fn supply_at(categories: &[Category], place: usize) -> u64

@@ -1,6 +1,6 @@
 //! Certificates of an odd cycle, and what they show.
 
-use program_faults::FaultKind;
+use program_rows::CertificateFaultKind;
 
 mod refused;
 
@@ -19,14 +19,22 @@ const WITH_AN_EMPTY_SIDE: &[u8] =
     b"split 3 X1 1 X2 1 X3 1\nsplit 0 X1 1\nbound 1 0 2 B 2\nbound 1 0 2 A1 2 A2 2\nbound 0 1\n";
 
 /// Texts, each with a number that no point is to lie below, and the line and the kind of what is wrong, if anything is.
-const CERTIFICATES: [(&[u8], i128, Option<(usize, FaultKind)>); 9] = [
+const CERTIFICATES: [(&[u8], i128, Option<(usize, CertificateFaultKind)>); 9] = [
     (SHOWN, 2, None),
     (SHOWN, 3, None),
-    (SHOWN, 4, Some((4, FaultKind::NotShown))),
-    (SHOWN, i128::MIN, Some((4, FaultKind::TooLarge))),
+    (SHOWN, 4, Some((4, CertificateFaultKind::NotShown))),
+    (SHOWN, i128::MIN, Some((4, CertificateFaultKind::TooLarge))),
     (OF_FRACTIONS, 2, None),
-    (OF_FRACTIONS, 3, Some((1, FaultKind::NotShown))),
+    (OF_FRACTIONS, 3, Some((1, CertificateFaultKind::NotShown))),
     (WITH_AN_EMPTY_SIDE, 3, None),
-    (b"split 0 X1 1\nbound 1\n", 1, Some((2, FaultKind::Fields))),
-    (b"bound 1 A1 1 X1 1\n", 1, Some((1, FaultKind::UnknownRow))),
+    (
+        b"split 0 X1 1\nbound 1\n",
+        1,
+        Some((2, CertificateFaultKind::Fields)),
+    ),
+    (
+        b"bound 1 A1 1 X1 1\n",
+        1,
+        Some((1, CertificateFaultKind::UnknownRow)),
+    ),
 ];

@@ -25,7 +25,7 @@ fn has_the_column_of_values(program: &Program) -> bool {
         && program.cost(0) == -80
 }
 
-/// Whether this column stands at a place.
+/// Whether this column is at a place.
 fn is_column(
     columns: &Columns,
     place: usize,

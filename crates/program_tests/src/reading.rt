@@ -1,9 +1,8 @@
-//! Texts of programs, and what they tell.
+//! Texts of programs, and what they mean.
 
 use crate::worked::ONE_BID;
-use mps_meaning::FaultKind;
 use mps_reader::read_program;
-use program_faults::MpsFault;
+use program_rows::{MpsFault, MpsFaultKind};
 use std::alloc::Global;
 use std::test::Fail;
 
@@ -16,7 +15,7 @@ const FOREIGN: &[u8] =
 const TWO_COLUMNS: &[u8] =
     b"NAME wdp\nROWS\n N OBJ\n L B1\n G B2\n E C1\nCOLUMNS\n X1_1 OBJ -30\n X1_1 B1 1\n X1_1 C1 2\n X2_1 OBJ -20\n X2_1 B2 1\n X2_1 C1 1\nRHS\n RHS B1 1\n RHS C1 2\nBOUNDS\n BV BND X1_1\n BV BND X2_1\nENDATA\n";
 
-// The same program: its rows and its columns, and the lines of each, stand the other way round.
+// The same program: its rows and its columns, and the lines of each, are the other way round.
 const TWO_COLUMNS_TURNED: &[u8] =
     b"NAME other\nROWS\n E C1\n G B2\n L B1\n N OBJ\nCOLUMNS\n X2_1 C1 1 B2 1\n X2_1 OBJ -20\n X1_1 C1 2\n X1_1 B1 1\n X1_1 OBJ -30\nRHS\n RHS C1 2\n RHS B1 1\nBOUNDS\n BV BND X2_1\n BV BND X1_1\nENDATA\n";
 
@@ -24,7 +23,7 @@ const TWO_COLUMNS_TURNED: &[u8] =
 const OTHER_COLUMNS: &[u8] =
     b"NAME other\nROWS\n E C1\n G B2\n L B1\n N OBJ\nCOLUMNS\n X2_1 C1 2 B2 1\n X2_1 OBJ -20\n X1_1 C1 2\n X1_1 B1 1\n X1_1 OBJ -30\nRHS\n RHS C1 2\n RHS B1 1\nBOUNDS\n BV BND X2_1\n BV BND X1_1\nENDATA\n";
 
-/// Two texts, and whether they tell the same program.
+/// Two texts, and whether they mean the same program.
 const PAIRS: [(&[u8], &[u8], bool); 5] = [
     (FOREIGN, ONE_BID, true),
     (ONE_BID, FOREIGN, true),
@@ -34,24 +33,24 @@ const PAIRS: [(&[u8], &[u8], bool); 5] = [
 ];
 
 /// The front of `ONE_BID` of so many bytes is refused at this line for this fault.
-const FRONTS: [(usize, usize, FaultKind); 8] = [
-    (0, 0, FaultKind::NoEnd),
-    (3, 1, FaultKind::Section),
-    (4, 1, FaultKind::NoEnd),
-    (70, 9, FaultKind::NoEnd),
-    (181, 18, FaultKind::UnknownColumn),
-    (182, 18, FaultKind::NoEnd),
-    (184, 19, FaultKind::Section),
-    (188, 19, FaultKind::Section),
+const FRONTS: [(usize, usize, MpsFaultKind); 8] = [
+    (0, 0, MpsFaultKind::NoEnd),
+    (3, 1, MpsFaultKind::Section),
+    (4, 1, MpsFaultKind::NoEnd),
+    (70, 9, MpsFaultKind::NoEnd),
+    (181, 18, MpsFaultKind::UnknownColumn),
+    (182, 18, MpsFaultKind::NoEnd),
+    (184, 19, MpsFaultKind::Section),
+    (188, 19, MpsFaultKind::Section),
 ];
 
 fn is_too_large(alloc: Global) -> Result<bool, Fail> {
     let text = vec![in alloc; b'\n'; 67_108_865]?;
-    let told = MpsFault {
+    let reported = MpsFault {
         line: 0,
-        kind: FaultKind::TooLarge,
+        kind: MpsFaultKind::TooLarge,
     };
-    Ok(read_program(alloc, &text).err() == Some(told))
+    Ok(read_program(alloc, &text).err() == Some(reported))
 }
 
 #[test]

@@ -1,9 +1,8 @@
-//! Texts of solutions, and what they tell.
+//! Texts of solutions, and what they mean.
 
 use crate::worked::on_program;
 use outcome::read_solution;
-use program_faults::SolutionFault;
-use program_rows::Program;
+use program_rows::{Program, SolutionFault};
 use std::alloc::Global;
 use std::test::Fail;
 

@@ -1,4 +1,4 @@
-//! What sinks take of a text, and where they fail.
+//! What sinks take of a text, and when they fail.
 
 ghost use Rattle.std.specs.Prelude.{None};
 
@@ -46,30 +46,35 @@ impl Sink for Lengths {
 }
 
 /// Whether a sink with room for so many bytes, and so many at a time, takes just the first bytes of the text of a program, which
-/// is `ONE_BID`: where it has room for all of it, it is taken, and else the fault tells how much went out.
-fn ends_as_told(alloc: Global, program: &Program, room: usize, each: usize) -> Result<bool, Fail> {
+/// is `ONE_BID`: a sink with room for all of it takes it, and else the fault reports how much went out.
+fn ends_as_reported(
+    alloc: Global,
+    program: &Program,
+    room: usize,
+    each: usize,
+) -> Result<bool, Fail> {
     let mut sink = LimitSink::new(alloc, room, each)?;
-    let told = write_program(program, &mut sink);
+    let reported = write_program(program, &mut sink);
     if room >= ONE_BID.len() {
-        return Ok(told.is_ok() && sink.bytes() == ONE_BID);
+        return Ok(reported.is_ok() && sink.bytes() == ONE_BID);
     }
     let written = room as u64;
-    Ok(told == Err(WriteFault::Sink { written }) && sink.bytes() == &ONE_BID[..room])
+    Ok(reported == Err(WriteFault::Sink { written }) && sink.bytes() == &ONE_BID[..room])
 }
 
-fn end_as_told(alloc: Global, program: &Program) -> Result<bool, Fail> {
+fn end_as_reported(alloc: Global, program: &Program) -> Result<bool, Fail> {
     for room in 0..191 {
-        if !ends_as_told(alloc, program, room, 7)? {
+        if !ends_as_reported(alloc, program, room, 7)? {
             return Ok(false);
         }
     }
-    ends_as_told(alloc, program, 12, 3)
+    ends_as_reported(alloc, program, 12, 3)
 }
 
 #[test]
 fn a_sink_fails_after_each_number_of_bytes(rt: HostRuntime) -> Result<(), Fail> {
     assert_eq!(rt; ONE_BID.len(), 190);
-    assert!(rt; on_program(rt.alloc(), ONE_BID, end_as_told)?);
+    assert!(rt; on_program(rt.alloc(), ONE_BID, end_as_reported)?);
     Ok(())
 }
 

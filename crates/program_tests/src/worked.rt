@@ -10,8 +10,8 @@ use std::test::Fail;
 pub const ONE_BID: &[u8] =
     b"NAME wdp\nROWS\n N OBJ\n L B3\n L C1\n L C2\nCOLUMNS\n M1 'MARKER' 'INTORG'\n X3_1 OBJ -12\n X3_1 B3 1\n X3_1 C2 1\n M2 'MARKER' 'INTEND'\nRHS\n RHS B3 1\n RHS C1 2\n RHS C2 1\nBOUNDS\n UP BND X3_1 1\nENDATA\n";
 
-/// What a trial of a text's program tells. Where the program stands in a function of its own, what the test goes on with is
-/// proved without it (docs/DEVELOPING.md, "Add a test").
+/// The answer of a trial of a text's program. It is in a function of its own, so that what the test goes on with is
+/// proved without it (docs/CONTRIBUTING.md, "Add a test").
 pub fn on_program<F: FnOnce(Global, &Program) -> Result<bool, Fail> + Drop>(
     alloc: Global,
     text: &[u8],

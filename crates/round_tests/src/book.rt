@@ -9,11 +9,11 @@ use std::test::Fail;
 
 mod refused;
 
-/// Whether a book answers a session of Alpha that asks what stands so.
-fn shows(book: &mut Book, session: u8, told: Reply) -> bool {
+/// Whether a book answers so a session of Alpha that asks for the standing form.
+fn shows(book: &mut Book, session: u8, reported: Reply) -> bool {
     let caller = Caller::Session { bidder: 1, session };
     match book.step(caller, Call::Show) {
-        Ok(reply) => reply.is_same(&told),
+        Ok(reply) => reply.is_same(&reported),
         Err(_) => false,
     }
 }

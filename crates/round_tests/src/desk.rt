@@ -1,10 +1,10 @@
-//! Rounds that are played through a desk, by threads where sessions meet, and what their settled books hold.
+//! Rounds that are played through a desk, by threads that meet there, and what their settled books hold.
 
 ghost use Rattle.std.specs.Prelude.{◌≡◌, ◌+◌};
 ghost use Rattle.auction_terms.specs.Terms.{session_count};
 
 use crate::desk::settling::{opened, settled};
-use crate::worked::{ALPHA, Answer, GAMMA, are_told, blank, is_told, rules_and_form};
+use crate::worked::{ALPHA, Answer, GAMMA, are_reported, blank, is_reported, rules_and_form};
 use auction_terms::Rules;
 use bid_book::Reply;
 use bid_desk::{Chair, ClosedBook, Desk, Round, Session};
@@ -45,7 +45,7 @@ fn submit<L: Round, R: Wait>(
     }
 }
 
-/// Submits, and withdraws over 1 where the play is so.
+/// Submits, and withdraws over 1 if the play asks for it.
 fn submit_first<L: Round, R: Wait>(
     rt: &R,
     desk: &Desk<L>,
@@ -102,17 +102,17 @@ fn submit_against_close<L: Round + Send + Sync, R: Threads + Wait + Sync>(
     );
 }
 
-/// Asks what stands, whatever the answer.
+/// Asks for the standing form, whatever the answer.
 fn show<L: Round, R: Wait>(rt: &R, desk: &Desk<L>, session: &mut Session<L>) {
     let _ = desk.enter(rt).show(session);
 }
 
-/// Whether a session that asks what stands is told of the call limit.
+/// Whether a session that asks for the standing form gets the call limit.
 fn is_at_the_limit<L: Round, R: Wait>(rt: &R, desk: &Desk<L>, session: &mut Session<L>) -> bool {
     matches!(desk.enter(rt).show(session), Ok(Reply::CallLimit))
 }
 
-/// Shows 500 times by each of the first two sessions. Whether the call limit is told where the first one asks once more.
+/// Shows 500 times by each of the first two sessions. Whether the first one gets the call limit when it asks once more.
 fn shows_to_the_limit<L: Round, R: Wait>(
     rt: &R,
     desk: &Desk<L>,
@@ -140,7 +140,7 @@ fn all_submit<L: Round, R: Wait>(
     }
 }
 
-/// Plays, and closes. Whether the call limit is told where it has to be.
+/// Plays, and closes. Whether the call limit is reported when it has to be.
 fn is_played<L: Round + Send + Sync, R: Threads + Wait + Sync>(
     rt: &R,
     desk: &Desk<L>,
@@ -165,7 +165,7 @@ fn is_played<L: Round + Send + Sync, R: Threads + Wait + Sync>(
     true
 }
 
-/// The settled book of a round that is played so. None where it isn't, or isn't settled.
+/// The settled book of a round that is played so. None if it isn't, or isn't settled.
 fn settled_as_played<L: Round + Send + Sync, R: Threads + Wait + Sync>(
     rt: &R,
     alloc: Global,
@@ -186,7 +186,7 @@ fn settled_as_played<L: Round + Send + Sync, R: Threads + Wait + Sync>(
     settled(alloc, desk.stop(), chair, sessions)
 }
 
-/// Whether the form of the first bidder stands.
+/// Whether the form of the first bidder is standing.
 fn stands(closed: &ClosedBook, form: &Form) -> bool {
     match closed.form(1) {
         Some(standing) => standing.is_same(form),
@@ -194,14 +194,14 @@ fn stands(closed: &ClosedBook, form: &Form) -> bool {
     }
 }
 
-/// Whether one submission was accepted, which stands, and the other one told of it.
+/// Whether one submission was accepted, which is the standing one, and the other one got its number.
 fn is_one_of_both(closed: &ClosedBook, form: &Form) -> bool {
     let answers = [
         Answer::Accepted(1),
         Answer::Stale(Some(1)),
         Answer::Closed(true),
     ];
-    are_told(closed.history(), &answers, form) && stands(closed, form)
+    are_reported(closed.history(), &answers, form) && stands(closed, form)
 }
 
 const ONE_AFTER_THE_OTHER: [Answer; 5] = [
@@ -222,31 +222,32 @@ const BOTH_FIRST: [Answer; 5] = [
 
 /// Whether one session called twice and then the other one, or both submitted first.
 fn is_one_order(closed: &ClosedBook, form: &Form) -> bool {
-    are_told(closed.history(), &ONE_AFTER_THE_OTHER, form)
-        || are_told(closed.history(), &BOTH_FIRST, form)
+    are_reported(closed.history(), &ONE_AFTER_THE_OTHER, form)
+        || are_reported(closed.history(), &BOTH_FIRST, form)
 }
 
-/// Whether the form was accepted and stands, or came after the close and nothing stands.
+/// Whether the form was accepted and is standing, or came after the close and none is.
 fn is_one_or_the_other(closed: &ClosedBook, form: &Form) -> bool {
     if closed.form(1).is_some() {
         let first = [Answer::Accepted(1), Answer::Closed(true)];
-        stands(closed, form) && are_told(closed.history(), &first, form)
+        stands(closed, form) && are_reported(closed.history(), &first, form)
     } else {
         let second = [Answer::Closed(true), Answer::RoundOver];
-        are_told(closed.history(), &second, form)
+        are_reported(closed.history(), &second, form)
     }
 }
 
-/// Whether another bidder's form is accepted behind all calls of the first one, and the close follows.
+/// Whether another bidder's form is accepted after all calls of the first one, and the close follows.
 fn ends_at_the_limit(closed: &ClosedBook, form: &Form) -> bool {
     let history = closed.history();
     match history.get(1000) {
-        Some(entry) => history.len() == 1002 && is_told(&entry.reply, Answer::Accepted(1), form),
+        Some(entry) => history.len() == 1002
+            && is_reported(&entry.reply, Answer::Accepted(1), form),
         None => false,
     }
 }
 
-/// Whether a book is as it has to be where a form is played so.
+/// Whether a book is as it has to be when a form is played so.
 fn is_as_played(closed: &ClosedBook, form: &Form, play: Play) -> bool {
     match play {
         Play::BothSubmit => is_one_of_both(closed, form),

@@ -1,4 +1,4 @@
-//! Texts of forms under the worked rules, and what they tell.
+//! Texts of forms under the worked rules, and what they mean.
 
 use crate::worked::{ALPHA, BETA, GAMMA};
 use auction_terms::Bid;

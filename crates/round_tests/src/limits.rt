@@ -8,16 +8,16 @@ use std::fmt::Write;
 use std::test::Fail;
 
 /// Whether a text is refused as rules so.
-fn are_no_rules(alloc: Global, text: &[u8], told: RulesFault) -> bool {
-    read_rules(alloc, text).err() == Some(told)
+fn are_no_rules(alloc: Global, text: &[u8], reported: RulesFault) -> bool {
+    read_rules(alloc, text).err() == Some(reported)
 }
 
-fn are_no_groups(alloc: Global, rules: &Rules, text: &[u8], told: GroupFault) -> bool {
-    read_groups(alloc, text, rules).err() == Some(told)
+fn are_no_groups(alloc: Global, rules: &Rules, text: &[u8], reported: GroupFault) -> bool {
+    read_groups(alloc, text, rules).err() == Some(reported)
 }
 
-fn is_no_form(alloc: Global, rules: &Rules, text: &[u8], told: FormFault) -> bool {
-    read_form(alloc, text, rules).err() == Some(told)
+fn is_no_form(alloc: Global, rules: &Rules, text: &[u8], reported: FormFault) -> bool {
+    read_form(alloc, text, rules).err() == Some(reported)
 }
 
 /// Whether this text, and all of it but its first byte, are refused by size, and by what they hold.
@@ -70,8 +70,8 @@ fn reads_the_most_bids(alloc: Global, rules: &Rules) -> Result<bool, Fail> {
 
 fn refuses_one_more(alloc: Global, rules: &Rules) -> Result<bool, Fail> {
     let text = form_text(alloc, 4001)?;
-    let told = FormFault::TooManyBids { place: 4002 };
-    Ok(is_no_form(alloc, rules, text.as_bytes(), told))
+    let reported = FormFault::TooManyBids { place: 4002 };
+    Ok(is_no_form(alloc, rules, text.as_bytes(), reported))
 }
 
 #[test]

@@ -1,4 +1,4 @@
-//! The worked rules and groups, by what tells them apart from others.
+//! The worked rules and groups, by what distinguishes them from others.
 
 use auction_terms::{Bidder, Category, Groups, Rules};
 
@@ -15,7 +15,7 @@ fn is_category(category: &Category, name: &[u8], numbers: (u32, u64, u32, u64)) 
         ) == numbers
 }
 
-/// Whether these are the two worked categories, where a lot of the first one has this value.
+/// Whether these are the two worked categories, and a lot of the first one has this value.
 fn are_categories(categories: &[Category], value: u64) -> bool {
     match categories {
         [a, b] => is_category(a, b"A", (2, 10, 1, value)) && is_category(b, b"B", (1, 5, 1, 0)),

@@ -24,8 +24,8 @@ pub const BETA: &[u8] = b"Beta,A,B\n20,1,0\n45,3,0\n";
 
 pub const GAMMA: &[u8] = b"Gamma,A,B\n12,0,1\n";
 
-/// What a trial of a text's rules tells. Where the rules stand in a function of its own, what the test goes on with is
-/// proved without them (docs/DEVELOPING.md, "Add a test").
+/// The answer of a trial of a text's rules. They are in a function of their own, so that what the test goes on with is
+/// proved without them (docs/CONTRIBUTING.md, "Add a test").
 pub fn on_rules<F: FnOnce(Global, &Rules) -> Result<bool, Fail> + Drop>(
     alloc: Global,
     text: &[u8],
@@ -45,7 +45,7 @@ pub fn rules_and_form(alloc: Global, text: &[u8]) -> Result<(Rules, Arc<Form, Gl
     Ok((rules, form))
 }
 
-/// What a trial of a form under the worked rules tells.
+/// The answer of a trial of a form under the worked rules.
 pub fn on_form<F: FnOnce(Global, &Arc<Form, Global>) -> Result<bool, Fail> + Drop>(
     alloc: Global,
     text: &[u8],
@@ -76,12 +76,12 @@ pub enum Ask {
     Close,
 }
 
-/// What is answered, where one form is submitted again and again.
+/// The answers when one form is submitted again and again.
 #[derive(Clone, Copy)]
 pub enum Answer {
     Accepted(u32),
     Withdrawn(u32),
-    /// The form stands with this number.
+    /// The form is the standing one, with this number.
     Shown(u32),
     Stale(Option<u32>),
     Closed(bool),
@@ -115,8 +115,8 @@ pub const ANSWERED: [Answer; 9] = [
     Answer::Closed(false),
 ];
 
-/// Whether a reply is this answer, where this form is submitted.
-pub fn is_told(reply: &Reply, answer: Answer, form: &Form) -> bool {
+/// Whether a reply is this answer, when this form is submitted.
+pub fn is_reported(reply: &Reply, answer: Answer, form: &Form) -> bool {
     match (answer, reply) {
         (Answer::Accepted(wanted), Reply::Accepted { number }) => wanted == *number,
         (Answer::Withdrawn(wanted), Reply::Withdrawn { number }) => wanted == *number,
@@ -134,10 +134,10 @@ pub fn is_told(reply: &Reply, answer: Answer, form: &Form) -> bool {
 }
 
 /// Whether the replies of a history are these answers, in order.
-pub fn are_told(history: &[Entry], answers: &[Answer], form: &Form) -> bool {
+pub fn are_reported(history: &[Entry], answers: &[Answer], form: &Form) -> bool {
     history.len() == answers.len()
         && history
             .iter()
             .zip(answers.iter())
-            .all(|(entry, answer)| is_told(&entry.reply, *answer, form))
+            .all(|(entry, answer)| is_reported(&entry.reply, *answer, form))
 }

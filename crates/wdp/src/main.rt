@@ -12,9 +12,9 @@ mod terminal;
 use crate::disk::Disk;
 use crate::noted::Noted;
 use crate::out::Out;
-use crate::stack::{tell, touch};
+use crate::stack::{print_lack, touch};
 use crate::terminal::StandardInput;
-use answers::{run, tell_file};
+use answers::{print_file_line, run};
 use auction_input::Source;
 use byte_sinks::{Sink, StdSink};
 use std::env;
@@ -29,7 +29,7 @@ fn ended<F: Sink>(out: Out<'_>, is_whole: bool, status: u8, faults: &mut F) -> u
     match out.end(is_whole) {
         Ok(()) => status,
         Err(unkept) => {
-            tell_file(unkept.name.as_bytes(), unkept.fault, b"", faults);
+            print_file_line(unkept.name.as_bytes(), unkept.fault, b"", faults);
             1
         }
     }
@@ -52,7 +52,7 @@ fn work<R: Threads + Wait + Sync + AllocGlobal>(rt: &R, system: &HostRuntime) ->
 
 fn main(rt: HostRuntime) -> ExitCode {
     if let Err(lack) = touch(&rt) {
-        tell(&rt, lack);
+        print_lack(&rt, lack);
         return ExitCode::from(1);
     }
     work(&rt, &rt)

@@ -80,7 +80,7 @@ fn is_touched() -> bool {
     last_of(&block) == Some(&1)
 }
 
-/// Touches as much stack as any input needs. Where the system doesn't allow that, or has no memory for it, that is told, and
+/// Touches as much stack as any input needs. Where the system doesn't allow that, or has no memory for it, that is reported, and
 /// the stack isn't touched.
 pub fn touch(rt: &HostRuntime) -> Result<(), TooLittle> {
     if !is_allowed(rt) {
@@ -94,7 +94,7 @@ pub fn touch(rt: &HostRuntime) -> Result<(), TooLittle> {
 
 /// Tells what there is too little of, with next to no stack.
 #[inline(never)]
-pub fn tell(rt: &HostRuntime, lack: TooLittle) {
+pub fn print_lack(rt: &HostRuntime, lack: TooLittle) {
     let line: &[u8] = match lack {
         TooLittle::Stack => b"wdp: too little stack: ulimit -s 512 allows enough\n",
         TooLittle::Memory => b"wdp: out of memory\n",

@@ -2,8 +2,8 @@
 use Rattle.std.specs.Prelude.{◌≡◌, ◌⊎◌, ℕ, List, Option}
 use Rattle.auction_input.specs.Auction.{Auction}
 use Rattle.auction_input.specs.declared.refusal.Refusal.{Refusal}
-use Rattle.requests.specs.declared.request.Request.TheVariants.{Verify}
-use Rattle.requests.specs.declared.request.Request.{Request}
+use Rattle.auction_input.specs.declared.request.Request.TheVariants.{Verify}
+use Rattle.auction_input.specs.declared.request.Request.{Request}
 use Rattle.answers.specs.Answer.{output_of}
 use Rattle.answers.specs.Exact.{Ends, IsBeyondSums}
 

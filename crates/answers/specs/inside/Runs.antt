@@ -1,7 +1,7 @@
--- What a run leaves of its output where its words ask for no answer, and how its refusal is told.
+-- What a run leaves of its output where its words ask for no answer, and how its refusal is reported.
 use Rattle.std.specs.Prelude.{◌≡◌, ◌⊎◌, ℕ, Bool, IsErr, List, Option, Ok}
 use Rattle.std.specs.Io.KnownBytes.{Appends}
-use Rattle.auction_input.specs.Auction.{auction_told}
+use Rattle.auction_input.specs.Wanted.{parsed_taken}
 use Rattle.auction_input.specs.Input.{Input}
 use Rattle.auction_input.specs.Line.{Puts, line}
 use Rattle.auction_input.specs.declared.refusal.Refusal.{Refusal}
@@ -9,9 +9,10 @@ use Rattle.auction_input.specs.declared.refusal.Refusal.TheVariants as refusal
 use Rattle.input_faults.specs.Explained.{IsCutShort}
 use Rattle.input_faults.specs.FaultLines.{explanation}
 use Rattle.input_faults.specs.PlacedText.{placed_line}
-use Rattle.requests.specs.Asked.{Asked}
-use Rattle.requests.specs.declared.request.Request.{Request}
-use Rattle.requests.specs.declared.request.Request.TheVariants.{Explain}
+use Rattle.answers.specs.Asked.{Asked}
+use Rattle.auction_input.specs.declared.request.Request.{Request}
+use Rattle.auction_input.specs.declared.request.Target.{Target}
+use Rattle.auction_input.specs.declared.request.Request.TheVariants.{Explain}
 use Rattle.answers.specs.Exact.{Ends, IsUnwritten}
 use Rattle.answers.specs.Runs.{AsksAnswer, IsShown}
 
@@ -20,24 +21,24 @@ abbrev pub HasShown : Asked → Option (List ℕ) → Option (List ℕ) → Type
 HasShown asked taken taken' = (text : List ℕ) × IsShown asked text × Appends taken taken' text
 
 -- why they didn't: they could not be written, or memory was short
-abbrev pub IsUntold : Asked → Option (List ℕ) → Option (List ℕ) → ℕ → ℕ → Refusal → Type 0
-IsUntold asked taken taken' failures failures' r = ((text : List ℕ) × IsShown asked text × Ends (Ok text) taken taken' failures failures' r) ⊎ ((r ≡ refusal.OutOfMemory) × (taken' ≡ taken))
+abbrev pub IsUnreported : Asked → Option (List ℕ) → Option (List ℕ) → ℕ → ℕ → Refusal → Type 0
+IsUnreported asked taken taken' failures failures' r = ((text : List ℕ) × IsShown asked text × Ends (Ok text) taken taken' failures failures' r) ⊎ ((r ≡ refusal.OutOfMemory) × (taken' ≡ taken))
 
--- a refusal for this reason is told by its line
-abbrev pub IsToldWhy : (Refusal → Type 0) → Option (List ℕ) → Option (List ℕ) → ℕ → ℕ → Type 0
-IsToldWhy Why taken taken' failures failures' = (r : Refusal) × Why r × Puts (line r) taken taken' failures failures'
+-- a refusal for this reason is reported by its line
+abbrev pub IsReported : (Refusal → Type 0) → Option (List ℕ) → Option (List ℕ) → ℕ → ℕ → Type 0
+IsReported Why taken taken' failures failures' = (r : Refusal) × Why r × Puts (line r) taken taken' failures failures'
 
 -- the line that tells why
-abbrev pub IsToldSo : (List ℕ → Type 0) → Option (List ℕ) → Option (List ℕ) → ℕ → ℕ → Type 0
-IsToldSo Why taken taken' failures failures' = (told : List ℕ) × Why told × Puts told taken taken' failures failures'
+abbrev pub IsReportedSo : (List ℕ → Type 0) → Option (List ℕ) → Option (List ℕ) → ℕ → ℕ → Type 0
+IsReportedSo Why taken taken' failures failures' = (parsed : List ℕ) × Why parsed × Puts parsed taken taken' failures failures'
 
 -- why what is asked for of an input isn't written, or not all lines of its faults, by the line that tells it
 abbrev pub IsLeftUnanswered : Request → Input → Option (List ℕ) → Option (List ℕ) → ℕ → ℕ → List ℕ → Type 0
-IsLeftUnanswered asked input taken taken' failures failures' told =
-    (r : Refusal) × (told ≡ placed_line input.texts r)
-    × ((AsksAnswer asked input × IsUnwritten asked input taken taken' failures failures' r) ⊎ ((bids : Bool) × (asked ≡ Explain bids) × IsCutShort (explanation asked input) taken taken' failures failures' r))
+IsLeftUnanswered asked input taken taken' failures failures' parsed =
+    (r : Refusal) × (parsed ≡ placed_line input.texts r)
+    × ((AsksAnswer asked input × IsUnwritten asked input taken taken' failures failures' r) ⊎ ((bids : Bool) × (whose : Option Target) × (asked ≡ Explain bids whose) × IsCutShort (explanation asked input) taken taken' failures failures' r))
 
 -- `explain` is asked for, an input with faults is explained, no put fails, and no line of a refusal is put
 abbrev pub HasExplainedInput : Request → Input → Option (List ℕ) → Option (List ℕ) → ℕ → ℕ → Option (List ℕ) → Option (List ℕ) → ℕ → ℕ → Type 0
-HasExplainedInput asked input taken taken' failures failures' told told' untold untold' =
-    ((bids : Bool) × (asked ≡ Explain bids) × IsErr (auction_told asked input) × Appends taken taken' (explanation asked input)) × (failures' ≡ failures) × (told' ≡ told) × (untold' ≡ untold)
+HasExplainedInput asked input taken taken' failures failures' parsed parsed' unreported unreported' =
+    ((bids : Bool) × (whose : Option Target) × (asked ≡ Explain bids whose) × IsErr (parsed_taken asked input) × Appends taken taken' (explanation asked input)) × (failures' ≡ failures) × (parsed' ≡ parsed) × (unreported' ≡ unreported)

@@ -5,10 +5,9 @@ ghost use Rattle.answers.specs.Answer.{answer};
 ghost use Rattle.answers.specs.Exact.{IsUnwritten, Writes};
 
 use crate::sizes::write_sizes;
-use auction_input::{Input, Refusal};
+use auction_input::{Input, Refusal, Request};
 use byte_sinks::Sink;
 use mps_reader::read_program;
-use requests::Request;
 use std::alloc::Global;
 
 /// Writes the sizes of the program that the one text of the input is.

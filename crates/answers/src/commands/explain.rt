@@ -1,44 +1,45 @@
 //! The command `explain`: all faults of an input, or which bids are in no program.
 
-ghost use Rattle.std.specs.Prelude.{◌≡◌, ◌⊎◌, IfErr, IfOk, IsErr, MatchBool, OnOk, true};
+ghost use Rattle.std.specs.Prelude.{◌≡◌, ◌⊎◌, IfErr, IfOk, IsErr, MatchBool, None, OnOk, true};
 ghost use Rattle.std.specs.Io.KnownBytes.{Appends};
 ghost use Rattle.answers.specs.Answer.{answer, output_of};
 ghost use Rattle.answers.specs.Exact.{Ends, IsUnwritten, Writes};
 ghost use Rattle.answers.specs.Runs.{AsksAnswer};
-ghost use Rattle.auction_input.specs.Auction.{auction_told};
 ghost use Rattle.auction_input.specs.Settled.{held};
+ghost use Rattle.auction_input.specs.Wanted.{parsed_taken};
 ghost use Rattle.input_faults.specs.Explained.{IsCutShort};
 ghost use Rattle.input_faults.specs.FaultLines.{explanation};
 
 use crate::commands::answer_auction;
-use auction_input::{Auction, Input, Refusal};
+use auction_input::{Auction, Input, Refusal, Request, Target, check_wanted};
 use byte_sinks::Sink;
 use input_faults::explain;
 use presolve::{Reasons, write_left_out};
-use requests::Request;
 use std::sync::Wait;
 use std::thread::Threads;
 
-/// Writes a line for each fault of an input; where there is none, and bids are asked for, one for each bid that is in no
-/// program. Tells whether there is a fault.
+/// Writes a line for each fault of an input, as a command takes it if one is named; where there is none, and bids are asked for, one
+/// for each bid that is in no program. Tells whether there is a fault.
 pub fn explain_input<R: Threads + Wait + Sync + AllocGlobal, S: Sink>(
     rt: &R,
     bids: bool,
+    target: Option<Target>,
     input: &Input,
     out: &mut S,
 ) -> Result<bool, Refusal>
     ensures explained { IfOk result (λ faulty. MatchBool faulty
-        (IsErr (auction_told (Request.Explain bids) input.now) × Appends (S.taken out.old)
-        (S.taken out.new) (explanation (Request.Explain bids) input.now))
-        (Writes (answer (Request.Explain bids) input.now) (S.taken out.old) (S.taken out.new))) }
+        (IsErr (parsed_taken (Request.Explain bids target) input.now) × Appends (S.taken out.old)
+        (S.taken out.new) (explanation (Request.Explain bids target) input.now))
+        (Writes (answer (Request.Explain bids target) input.now) (S.taken out.old) (S.taken out.new))) }
     ensures succeeded { OnOk result (S.failures out.new ≡ S.failures out.old) }
-    ensures refused { IfErr result (λ r. IsCutShort (explanation (Request.Explain bids) input.now)
+    ensures refused { IfErr result (λ r. IsCutShort
+        (explanation (Request.Explain bids target) input.now)
         (S.taken out.old) (S.taken out.new) (S.failures out.old) (S.failures out.new) r
-        ⊎ (AsksAnswer (Request.Explain bids) input.now
-        × IsUnwritten (Request.Explain bids) input.now (S.taken out.old) (S.taken out.new)
+        ⊎ (AsksAnswer (Request.Explain bids target) input.now
+        × IsUnwritten (Request.Explain bids target) input.now (S.taken out.old) (S.taken out.new)
         (S.failures out.old) (S.failures out.new) r)) }
 {
-    let request = Request::Explain { bids };
+    let request = Request::Explain { bids, target };
     let faulty = explain(rt.alloc(), &request, input, out)?;
     if faulty {
         return Ok(true);
@@ -51,16 +52,16 @@ pub fn explain_input<R: Threads + Wait + Sync + AllocGlobal, S: Sink>(
     Ok(false)
 }
 
-/// Writes which bids of an auction are in no program, and which forms are replaced.
-pub fn write_bids_of<R: Threads + Sync + AllocGlobal, S: Sink>(
+// Writes which bids of an auction are in no program, and which forms are replaced.
+fn write_left_out_of<R: Threads + Sync + AllocGlobal, S: Sink>(
     rt: &R,
     auction: &Auction<'_>,
     out: &mut S,
 ) -> Result<(), Refusal>
-    ensures written { OnOk result (Writes (output_of (Request.Explain true) (held auction.now))
+    ensures written { OnOk result (Writes (output_of (Request.Explain true None) (held auction.now))
         (S.taken out.old) (S.taken out.new)) }
     ensures succeeded { OnOk result (S.failures out.new ≡ S.failures out.old) }
-    ensures refused { IfErr result (Ends (output_of (Request.Explain true) (held auction.now))
+    ensures refused { IfErr result (Ends (output_of (Request.Explain true None) (held auction.now))
         (S.taken out.old) (S.taken out.new) (S.failures out.old) (S.failures out.new)) }
 {
     let reasons = Reasons::new(rt, rt.alloc(), &auction.book)?;
@@ -70,5 +71,27 @@ pub fn write_bids_of<R: Threads + Sync + AllocGlobal, S: Sink>(
         &reasons,
         out,
     )?;
+    Ok(())
+}
+
+/// Writes, where it is asked for, which bids of an auction are in no program, and which forms are replaced, if the auction has what the
+/// command that is named wants.
+pub fn write_bids_of<R: Threads + Sync + AllocGlobal, S: Sink>(
+    rt: &R,
+    auction: &Auction<'_>,
+    bids: bool,
+    target: Option<Target>,
+    out: &mut S,
+) -> Result<(), Refusal>
+    ensures written { OnOk result (Writes (output_of (Request.Explain bids target) (held auction.now))
+        (S.taken out.old) (S.taken out.new)) }
+    ensures succeeded { OnOk result (S.failures out.new ≡ S.failures out.old) }
+    ensures refused { IfErr result (Ends (output_of (Request.Explain bids target) (held auction.now))
+        (S.taken out.old) (S.taken out.new) (S.failures out.old) (S.failures out.new)) }
+{
+    check_wanted(target, auction)?;
+    if bids {
+        return write_left_out_of(rt, auction, out);
+    }
     Ok(())
 }

@@ -2,7 +2,7 @@
 
 ghost use Rattle.std.specs.Prelude.{◌≡◌, ◌≤◌, ◌-◌, [], IfErr, IfOk, Ok, OnOk, false, length, slice_index_or};
 ghost use Rattle.answers.specs.Exact.{Ends, Writes};
-ghost use Rattle.group_winners.specs.SolutionWinners.{winners_by};
+ghost use Rattle.answers.specs.SolutionWinners.{winners_by};
 ghost use Rattle.answers.specs.Answer.{output_of};
 ghost use Rattle.auction_input.specs.Refused.{Refuses};
 ghost use Rattle.auction_input.specs.Settled.{held};
@@ -11,14 +11,13 @@ ghost use Rattle.auction_terms.specs.Terms.{lots_in};
 ghost use Rattle.bid_desk.specs.Closing.{book_of};
 ghost use Rattle.group_compiler.specs.Compiled.{program_without};
 
-use auction_input::{Auction, Refusal, only_text};
+use crate::winning::won_without;
+use auction_input::{Auction, Refusal, Request, only_text};
 use auction_terms::Groups;
 use bid_desk::ClosedBook;
 use byte_sinks::Sink;
 use group_compiler::Compiler;
-use group_winners::won_without;
 use outcome::{Allocation, write_allocation};
-use requests::Request;
 use std::alloc::Global;
 use std::sync::Wait;
 use std::thread::Threads;

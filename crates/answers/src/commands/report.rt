@@ -4,14 +4,13 @@ ghost use Rattle.std.specs.Prelude.{◌≡◌, ◌≤◌, IfErr, OnOk};
 ghost use Rattle.answers.specs.Exact.{Ends, Writes};
 ghost use Rattle.answers.specs.Answer.{output_of};
 ghost use Rattle.auction_input.specs.Settled.{held};
-ghost use Rattle.auction_limits.specs.declared.limits.TheConstants.{MOST_WORKERS};
+ghost use Rattle.auction_terms.specs.declared.limits.TheConstants.{MOST_WORKERS};
 
-use auction_input::{Auction, Refusal};
+use crate::report_run::{check_counts, won_by_groups};
+use auction_input::{Auction, Refusal, Request};
 use byte_sinks::Sink;
 use group_compiler::Compiler;
-use group_winners::{check_counts, won_by_groups};
 use outcome::report;
-use requests::Request;
 use std::sync::Wait;
 use std::thread::Threads;
 

@@ -1,7 +1,7 @@
 //! The command `verify`: a report of solutions that certificates show to be optimal, prices that are shown to cover every group, and what comes of a claim that the winners are the only ones.
 
 ghost use Rattle.std.specs.Prelude.{◌≡◌, ◌≤◌, IfErr, OnOk};
-ghost use Rattle.auction_limits.specs.declared.limits.TheConstants.{MOST_WORKERS};
+ghost use Rattle.auction_terms.specs.declared.limits.TheConstants.{MOST_WORKERS};
 ghost use Rattle.answers.specs.Answer.{answer, output_of};
 ghost use Rattle.auction_input.specs.Settled.{held};
 ghost use Rattle.answers.specs.Exact.{IsUnwritten, Writes};
@@ -9,13 +9,15 @@ ghost use Rattle.answers.specs.Sold.{HasSold};
 ghost use Rattle.answers.specs.Verified.{WritesTrueReport};
 ghost use Rattle.answers.specs.inside.Output.{IsWithoutOutput};
 
+use crate::certified::check_certificates;
+use crate::claimed::claim_of;
 use crate::commands::answer_auction;
-use auction_input::{Auction, Input, Refusal};
+use crate::pricing::pricing_of;
+use crate::report_run::{check_counts, won_by_groups};
+use auction_input::{Auction, Input, Refusal, Request};
 use byte_sinks::Sink;
 use group_compiler::Compiler;
-use group_winners::{check_certificates, check_counts, claim_of, pricing_of, won_by_groups};
 use outcome::report_with;
-use requests::Request;
 use std::alloc::Global;
 use std::sync::Wait;
 use std::thread::Threads;

@@ -8,7 +8,7 @@ use Rattle.bid_forms.specs.FormText.{is_form_memory}
 use Rattle.bid_forms.specs.Offers.{Meets, Offers}
 use Rattle.bid_forms.specs.declared.form_text.FormFault.{FormFault}
 use denote.Ref.{Bor}
-use Rattle.auction_input.specs.TextsTold.{form_in}
+use Rattle.auction_input.specs.ParsedTexts.{form_in}
 
 -- this is what a text tells, or memory was short
 pub record IsAnswer (t : Terms) (text : Bor (List ℕ)) (answer : Result Offers FormFault) : Type 0 where

@@ -4,8 +4,10 @@ use Rattle.std.specs.Str.{bytes_eq}
 use Rattle.auction_input.specs.declared.part_kind.PartKind.TheVariants as kind
 use Rattle.auction_input.specs.declared.part_kind.PartKind.{PartKind}
 use Rattle.auction_input.specs.declared.parts.Part as declared
-use Rattle.requests.specs.declared.request.Request.TheVariants as request
-use Rattle.requests.specs.declared.request.Request.{Request}
+use Rattle.auction_input.specs.Requests.{target_of}
+use Rattle.auction_input.specs.declared.request.Request.{Request}
+use Rattle.auction_input.specs.declared.request.Target.TheVariants as target
+use Rattle.auction_input.specs.declared.request.Target.{Target}
 use Rattle.auction_input.specs.Parts.{Part, name_of, part_fault}
 use Rattle.auction_input.specs.declared.parts.PartFault.TheVariants as fault
 use Rattle.auction_input.specs.declared.parts.PartFault.{PartFault}
@@ -25,10 +27,13 @@ abbrev pub is_held : PartKind → declared.Part → Bool
 is_held k part = bytes_eq (name_of part.kind) (name_of k)
 
 -- the kinds that a request knows
+abbrev pub kinds_for : Option Target → List PartKind
+kinds_for (Some target.Verify) = kind.Rules ∷ kind.Form ∷ kind.Groups ∷ kind.Solution ∷ kind.Certificate ∷ kind.Unique ∷ kind.Tie ∷ kind.Prices ∷ kind.Cover ∷ kind.Weights ∷ []
+kinds_for None = kind.Rules ∷ kind.Form ∷ kind.Groups ∷ kind.Solution ∷ kind.Certificate ∷ kind.Unique ∷ kind.Tie ∷ kind.Prices ∷ kind.Cover ∷ kind.Weights ∷ []
+kinds_for (Some command) = kind.Rules ∷ kind.Form ∷ kind.Groups ∷ kind.Solution ∷ []
+
 abbrev pub known_kinds : Request → List PartKind
-known_kinds (request.Verify workers) = kind.Rules ∷ kind.Form ∷ kind.Groups ∷ kind.Solution ∷ kind.Certificate ∷ kind.Unique ∷ kind.Tie ∷ kind.Prices ∷ kind.Cover ∷ kind.Weights ∷ []
-known_kinds (request.Explain bids) = kind.Rules ∷ kind.Form ∷ kind.Groups ∷ kind.Solution ∷ kind.Certificate ∷ kind.Unique ∷ kind.Tie ∷ kind.Prices ∷ kind.Cover ∷ kind.Weights ∷ []
-known_kinds asked = kind.Rules ∷ kind.Form ∷ kind.Groups ∷ kind.Solution ∷ []
+known_kinds asked = kinds_for (target_of asked)
 
 -- the kind that a name tells to a request
 abbrev pub kind_named : Request → List ℕ → Option PartKind

@@ -29,9 +29,9 @@ abbrev pub checks_in_every_version : ℕ → Entries → Record → RecordKind �
 checks_in_every_version place before r k = kind_checks version.Three place before r k
 
 -- the version and the step that the first record tells
-abbrev pub first_record_told : List Record → Result Header RulesFault
-first_record_told [] = Err (fault.Header 1)
-first_record_told (header ∷ more) = and_then (ok_or (version_of header) (fault.Header 1)) (λ v.
+abbrev pub parsed_first_record : List Record → Result Header RulesFault
+parsed_first_record [] = Err (fault.Header 1)
+parsed_first_record (header ∷ more) = and_then (ok_or (version_of header) (fault.Header 1)) (λ v.
     unless (first_failed (header_checks v header)) (Ok (record { version = v; step = field_number 3 header })))
 
 -- the rules, by what stands behind a first record that tells this

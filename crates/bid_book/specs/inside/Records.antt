@@ -39,7 +39,7 @@ AreOfBook r = Summarizes (counts_at r.counts) (standing_at r.standing) r.chair_e
 abbrev pub counts_after : Counts → Bool → Counts
 counts_after c is_change = record { entries = c.entries + 1; changes = c.changes + (if is_change then 1 else 0) }
 
--- the answer to a change in a round that is open or not, where this number stands
+-- the answer to a change in a round that is open or not, when this number is standing
 abbrev pub change_answer : {F : Type 0} → Bool → Option ℕ → Option ℕ → Reply F → Reply F
 change_answer is_open standing over done =
     if is_open then (if option_eq nat_eq over standing then done else Stale standing) else RoundOver

@@ -1,7 +1,7 @@
--- Where each session stands in a list of sessions.
+-- The place of each session in a list of sessions.
 use Rattle.std.specs.Prelude.{ℕ, ◌+◌, ◌-◌, ◌*◌, ◌≡◌, ◌≢◌, ◌<◌, ◌≤◌, List, length, take, slice_index_or, IsTrue}
 use Rattle.auction_terms.specs.Terms.{Terms}
-use Rattle.auction_limits.specs.declared.limits.TheConstants.{MOST_SESSIONS}
+use Rattle.auction_terms.specs.declared.limits.TheConstants.{MOST_SESSIONS}
 use Rattle.bid_desk.specs.declared.slots.Slot.{Slot}
 use Rattle.bid_desk.specs.Holding.{SessionOwn}
 use Rattle.bid_desk.specs.Sessions.{IsSessionOf}
@@ -17,7 +17,7 @@ empty_slot = record { times = 0; place = 0 }
 abbrev pub slot_at : List Slot → ℕ → ℕ → Slot
 slot_at slots b s = slice_index_or slots (slot_of b s) empty_slot
 
--- how often each session stands among the first n of a list, and where it stands last
+-- how often each session is among the first n of a list, and its last place there
 pub record AreSlots (t : Terms) (sessions : List SessionOwn) (n : ℕ) (slots : List Slot) : Type 0 where
   pub size : length slots ≡ length t.bidders * MOST_SESSIONS
   pub most : (b s : ℕ) → IsSessionOf t b s → s ≤ MOST_SESSIONS
@@ -29,7 +29,7 @@ pub record AreSlots (t : Terms) (sessions : List SessionOwn) (n : ℕ) (slots : 
   pub found : (k : ℕ) (d : SessionOwn) → k < n → (slot_at slots (slice_index_or sessions k d).bidder (slice_index_or sessions k d).session).times ≡ 1
       → (slot_at slots (slice_index_or sessions k d).bidder (slice_index_or sessions k d).session).place ≡ k
 
--- each session of the rules stands just once
+-- each session of the rules is there exactly once
 abbrev pub AllOnce : Terms → List Slot → Type 0
 AllOnce t slots = (b s : ℕ) → IsSessionOf t b s → (slot_at slots b s).times ≡ 1
 

@@ -1,11 +1,24 @@
 -- Fingerprints of packages, an aid of the search for a repeated package. What a form is and what refuses it doesn't speak of them.
-use Rattle.std.specs.Prelude.{◌+◌, ◌*◌, ◌%◌, ◌^◌, ℕ, List, All, IsTrue, fold, nat_eq}
-use Rattle.std.specs.List.{list_any}
+use Rattle.std.specs.Prelude.{◌+◌, ◌-◌, ◌*◌, ◌%◌, ◌^◌, ℕ, List, All, IsTrue, fold, length, nat_eq, slice_index}
+use Rattle.std.specs.Int.{div_ceil}
+use Rattle.std.specs.List.{list_any, range_with_len}
 use Rattle.auction_terms.specs.declared.bids.Bid.{Bid}
 
--- a number that two packages hardly ever share: the polynomial of the quantities at a multiplier, modulo 2 ^ 64
+-- a prime of 61 bits
+abbrev pub prime : ℕ
+prime = 2 ^ 61 - 1
+
+-- the quantities of four categories, from a place on, as one number; 0 past the last category
+abbrev pub four_from : List ℕ → ℕ → ℕ
+four_from lots place = ((slice_index lots place * 2 ^ 15 + slice_index lots (place + 1)) * 2 ^ 15 + slice_index lots (place + 2)) * 2 ^ 15 + slice_index lots (place + 3)
+
+-- the polynomial of these numbers so far, and of the next one, at a point
+abbrev pub next_sum : ℕ → List ℕ → ℕ → ℕ → ℕ
+next_sum point lots sum four = (sum * point + four_from lots (4 * four)) % prime
+
+-- a number that two packages hardly ever share: the polynomial of their quantities at a multiplier, modulo the prime
 abbrev pub fingerprint : ℕ → List ℕ → ℕ
-fingerprint multiplier lots = fold (λ sum quantity. (sum * multiplier % 2 ^ 64 + quantity) % 2 ^ 64) 0 lots
+fingerprint multiplier lots = fold (next_sum (multiplier % prime) lots) 0 (range_with_len 0 (div_ceil (length lots) 4))
 
 -- these fingerprints have those of the packages of all these bids among them
 abbrev pub AreSeen : ℕ → List ℕ → List Bid → Type 0

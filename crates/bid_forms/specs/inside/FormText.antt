@@ -7,7 +7,7 @@ use Rattle.auction_terms.specs.RulesText.{field_number}
 use Rattle.auction_terms.specs.Terms.{Terms}
 use Rattle.auction_terms.specs.declared.bids.Bid.{Bid}
 use Rattle.auction_terms.specs.declared.rules.Category.{Category}
-use Rattle.bid_forms.specs.FormText.{amount_checks, bid_told, count_checks, package_checks, quantity_checks, repeat_checks, reserve_checks, form_room_checks}
+use Rattle.bid_forms.specs.FormText.{amount_checks, parsed_bid, count_checks, package_checks, quantity_checks, repeat_checks, reserve_checks, form_room_checks}
 use Rattle.bid_forms.specs.declared.form_text.FormFault.{FormFault}
 
 -- the first fault of these quantities and this amount, by the bids before them
@@ -24,4 +24,4 @@ fault_of_bid t eligibility place before r =
     option_or (first_failed (count_checks t place r))
     (option_or (first_failed (amount_checks t.step place r))
     (option_or (first_failed (quantity_checks place r))
-    (fault_of_lots t.categories eligibility place before (bid_told r).package (field_number 1 r))))
+    (fault_of_lots t.categories eligibility place before (parsed_bid r).package (field_number 1 r))))

@@ -1,4 +1,4 @@
--- What contracts see of a counter and of a claim: of the counter what tells it from others, of the claim its counter and its draws.
+-- What contracts see of a counter and of a claim: of the counter what distinguishes it from others, of the claim its counter and its draws.
 use Rattle.std.specs.Prelude.{ℕ, List}
 use Rattle.atomic_table.specs.Seated.{TableId}
 use Rattle.group_compiler.specs.Claimed.{Claimed}

@@ -5,7 +5,7 @@ use Rattle.auction_terms.specs.GroupNames.{names_in}
 use Rattle.auction_terms.specs.Lines.{lines_of}
 use Rattle.auction_terms.specs.Records.{records_of}
 use Rattle.auction_terms.specs.Terms.{Terms}
-use Rattle.bid_forms.specs.ToldOfRecords.{eligibility_told}
+use Rattle.bid_forms.specs.RowNumbers.{parsed_eligibility}
 use Rattle.input_faults.specs.TextDetails.{numbered, within_limit}
 use Rattle.input_faults.specs.declared.form_reading.FormReading.{FormReading}
 use Rattle.input_faults.specs.declared.name_cursor.NameCursor.{NameCursor}
@@ -28,4 +28,4 @@ pub record StandsAtName (cursor : NameCursor) (text : List ℕ) : Type 0 where
 -- a form of these is read, and its bidder's eligibility is known
 pub record ReadsForm (t : Terms) (forms : List (List ℕ)) (reading : FormReading) : Type 0 where
   pub stands : StandsAt reading.cursor (within_limit (numbered reading.number forms))
-  pub eligibility : reading.eligibility ≡ eligibility_told t (numbered 1 (records_of (within_limit (numbered reading.number forms))))
+  pub eligibility : reading.eligibility ≡ parsed_eligibility t (numbered 1 (records_of (within_limit (numbered reading.number forms))))

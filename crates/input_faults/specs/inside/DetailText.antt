@@ -9,6 +9,7 @@ abbrev pub detail_text : Detail → List ℕ
 detail_text of.Nothing = []
 detail_text (of.Beginning line) = codes ": the text begins with " ++ (shown_text line.now ++ codes " and has no %rules before it")
 detail_text (of.Whole words) = wording_text words
+detail_text (of.Both words more) = wording_text words ++ wording_text more
 detail_text (of.Field n value wrong) = codes ", field " ++ (decimal n ++ (codes ": " ++ (shown_text value.now ++ wording_text wrong)))
 detail_text (of.Column n value name) = codes ", field " ++ (decimal n ++ (codes ": " ++ (shown_text value.now ++ (codes " in place of " ++ name.now))))
 detail_text (of.Name n value wrong) = codes ", name " ++ (decimal n ++ (codes ": " ++ (shown_text value.now ++ wording_text wrong)))

@@ -5,4 +5,4 @@ use Rattle.input_faults.specs.FaultLines.{fault_line, more_line}
 use Rattle.input_faults.specs.declared.fault.Fault.{Fault}
 
 abbrev pub held_lines : (Fault → List ℕ) → (ℕ → Fault → List ℕ) → Faults Fault → List ℕ
-held_lines told detail_of held = flat_map (fault_line told detail_of) held.kept.items ++ more_line held.more
+held_lines reported detail_of held = flat_map (fault_line reported detail_of) held.kept.items ++ more_line held.more

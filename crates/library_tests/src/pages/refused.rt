@@ -1,4 +1,4 @@
-//! Pages, where any one growth or start of a thread is refused (see tools/refuse_calls): they are made, or memory is wanting.
+//! Pages, where any one growth or start of a thread is refused (see tests/test_refused_calls.py): they are made, or memory is wanting.
 
 use super::{has_lines_of_beta, has_lines_of_lots};
 use crate::worked::books::on_book;

@@ -2,7 +2,7 @@
 
 ghost use Rattle.std.specs.Prelude.{None};
 
-use super::{LimitReader, ONE_FORM_TEXT, told};
+use super::{LimitReader, ONE_FORM_TEXT, reported};
 use answers::run;
 use auction_input::{FileFault, FilePlace, FileRefusal, Files, Source};
 use byte_sinks::MemorySink;
@@ -78,6 +78,7 @@ const FILES: MemoryFiles = MemoryFiles {
         ("note.txt", b"a note\n%form\nAlpha,A,B\n30,1,0\n"),
         ("other.txt", b"%form\nAlpha,A,B\n%price\n"),
         ("empty.txt", b""),
+        ("later.txt", b"%form\nGamma,A,B\n14,0,1\n"),
         ("a\nb.txt", b"%groups\nNobody\n"),
     ],
 };
@@ -112,7 +113,7 @@ struct Refused {
     line: &'static [u8],
 }
 
-const ROWS: [Row; 3] = [
+const ROWS: [Row; 5] = [
     Row {
         words: &["wdp", "text", "rules.txt", "gamma.txt"],
         input: b"",
@@ -128,6 +129,27 @@ const ROWS: [Row; 3] = [
         line: b"",
     },
     Row {
+        words: &[
+            "wdp",
+            "text",
+            "--last-wins",
+            "rules.txt",
+            "later.txt",
+            "gamma.txt",
+        ],
+        input: b"",
+        status: 0,
+        output: ONE_FORM_TEXT,
+        line: b"",
+    },
+    Row {
+        words: &["wdp", "explain", "rules.txt", "gamma.txt", "later.txt"],
+        input: b"",
+        status: 1,
+        output: b"later.txt: another form of Gamma is in gamma.txt; say --last-wins where the later one counts\n",
+        line: b"",
+    },
+    Row {
         words: &["wdp", "explain", "rules.txt", "gamma.txt", "two.txt"],
         input: b"",
         status: 1,
@@ -136,10 +158,14 @@ const ROWS: [Row; 3] = [
     },
 ];
 
-const REFUSED: [Refused; 12] = [
+const REFUSED: [Refused; 13] = [
     Refused {
         words: &["wdp", "text", "rules.txt", "gamma.txt", "two.txt"],
         line: b"wdp: two.txt: form 2: 8 QuantityText at record 2\n",
+    },
+    Refused {
+        words: &["wdp", "text", "rules.txt", "gamma.txt", "later.txt"],
+        line: b"wdp: later.txt: another form of Gamma is in gamma.txt; say --last-wins where the later one counts\n",
     },
     Refused {
         words: &["wdp", "text", "two.txt"],
@@ -193,7 +219,7 @@ fn ends_so<R: Threads + Wait + Sync + AllocGlobal>(rt: &R, row: &Row) -> bool {
     let mut out = MemorySink::new(alloc);
     let mut faults = MemorySink::new(alloc);
     let mut input = Source::new(row.input);
-    let words = told(alloc, row.words);
+    let words = reported(alloc, row.words);
     let status = run(rt, words, &FILES, &mut input, &mut out, &mut faults);
     status == row.status && out.bytes() == row.output && faults.bytes() == row.line
 }

@@ -1,19 +1,18 @@
-//! What the program's calls answer. Where any one growth or start of a thread is refused (see tools/refuse_calls), they
+//! What the program's calls answer. Where any one growth or start of a thread is refused (see tests/test_refused_calls.py), they
 //! tell that memory was short and have put nothing, or the same.
 
 ghost use Rattle.std.specs.Prelude.{ℕ, List, Option, None};
 
 use super::files::NO_FILES;
-use super::{RUNS, Run, TWO_GROUPS, TWO_PROGRAMS, told};
+use super::{RUNS, Run, TWO_GROUPS, TWO_PROGRAMS, reported};
 use crate::worked::input_of;
-use answers::{RunFault, run, run_compile, tell};
+use answers::{RunFault, print_refusal, run, run_compile};
 use auction_input::{
-    Auction, Output, Part, PartFault, PartKind, Refusal, Source, count_of, read_auction,
+    Auction, Output, Part, PartFault, PartKind, Refusal, Request, Source, count_of, read_auction,
     split_parts, text_of, texts_of,
 };
 use byte_sinks::{Sink, SinkFailed};
 use group_compiler::OpenGate;
-use requests::Request;
 use std::alloc::Global;
 use std::sync::Wait;
 use std::test::Fail;
@@ -68,7 +67,7 @@ impl Output for Expected {}
 /// Out of memory where the refusal tells it, and else another failure.
 fn failure(refusal: &Refusal) -> Fail {
     let mut faults = Expected::new(SHORT);
-    tell(&[], refusal, &mut faults);
+    print_refusal(&[], refusal, &mut faults);
     if faults.is_whole() {
         Fail::from("out of memory")
     } else {
@@ -80,7 +79,7 @@ fn failure(refusal: &Refusal) -> Fail {
 fn answers<R: Threads + Wait + Sync + AllocGlobal>(rt: &R, row: &Run) -> Result<(), Fail> {
     let mut out = Expected::new(row.output);
     let mut faults = Expected::new(SHORT);
-    let words = told(rt.alloc(), row.words);
+    let words = reported(rt.alloc(), row.words);
     match run(
         rt,
         words,

@@ -93,7 +93,7 @@ fn book_of<R: Wait>(
 }
 
 /// What a trial of a book of rules and forms tells. Where the book stands in a function of its own, what the test goes on
-/// with is proved without it (docs/DEVELOPING.md, "Add a test").
+/// with is proved without it (docs/CONTRIBUTING.md, "Add a test").
 pub fn on_book<R: Wait, F: FnOnce(&ClosedBook) -> Result<bool, Fail> + Drop>(
     rt: &R,
     alloc: Global,

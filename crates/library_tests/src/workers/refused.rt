@@ -1,5 +1,5 @@
 //! What is compiled, by the calls themselves. Where any one growth or start of a thread is refused (see
-//! tools/refuse_calls), they tell that memory was short, or the same.
+//! tests/test_refused_calls.py), they tell that memory was short, or the same.
 
 ghost use Rattle.auction_terms.specs.Groups.{has};
 ghost use Rattle.auction_terms.specs.Terms.{lots_in};

@@ -1,7 +1,7 @@
 -- What the reader answers.
 use Rattle.std.specs.Prelude.{◌≡◌, ℕ}
-use Rattle.mps_meaning.specs.declared.fault.FaultKind.TheVariants.{OutOfMemory}
-use Rattle.program_faults.specs.declared.mps_fault.MpsFault.{MpsFault}
+use Rattle.program_rows.specs.declared.mps_fault_kind.MpsFaultKind.TheVariants.{OutOfMemory}
+use Rattle.program_rows.specs.declared.mps_fault.MpsFault.{MpsFault}
 use Rattle.mps_reader.specs.declared.refusal.Refusal.{Refusal}
 use Rattle.mps_reader.specs.declared.refusal.Refusal.TheVariants.{Memory, Fault}
 

@@ -2,15 +2,15 @@
 use Rattle.std.specs.Prelude.{◌≡◌, ℕ, ◌≤◌, Bool, not, ◌||◌, ◌&&◌, nat_le, List, length, take, Option, Some, None, Result, Ok, Err, pos, drop, ◌==◌}
 use Rattle.std.specs.List.{AllByRecursion}
 use Rattle.std.specs.Ordering.{int_eq}
-use Rattle.mps_meaning.specs.MpsLines as spec
-use Rattle.line_words.specs.Lines.{field, fields, is_space}
-use Rattle.mps_meaning.specs.MpsLines.{line_of}
-use Rattle.line_words.specs.Numbers.{number}
-use Rattle.mps_meaning.specs.Described.{value}
-use Rattle.mps_meaning.specs.Faults.{number_fault}
+use Rattle.program_rows.specs.MpsLines as spec
+use Rattle.auction_terms.specs.LineFields.{field, fields, is_space}
+use Rattle.program_rows.specs.MpsLines.{line_of}
+use Rattle.auction_terms.specs.Decimals.{number}
+use Rattle.program_rows.specs.MpsProgram.{value}
+use Rattle.program_rows.specs.MpsFaults.{number_fault}
 use Rattle.program_rows.specs.Parts.{IsName}
-use Rattle.mps_meaning.specs.declared.fault.FaultKind.{FaultKind}
-use Rattle.mps_meaning.specs.declared.fault.FaultKind.TheVariants.{BoundValue}
+use Rattle.program_rows.specs.declared.mps_fault_kind.MpsFaultKind.{MpsFaultKind}
+use Rattle.program_rows.specs.declared.mps_fault_kind.MpsFaultKind.TheVariants.{BoundValue}
 use Rattle.mps_reader.specs.declared.lines.Line.{Line}
 use Rattle.mps_reader.specs.declared.lines.Line.TheVariants.{Skipped, Unprintable, Header, Data}
 use Rattle.mps_reader.specs.declared.refusal.Refusal.{Refusal}
@@ -44,18 +44,18 @@ IsLine Unprintable bytes = line_of bytes ≡ spec.Unprintable
 IsLine (Header first) bytes = (line_of bytes ≡ spec.Header (field 0 (fields bytes)) (drop 1 (fields bytes))) × AreFirst (bytes_of first.items) (fields bytes)
 IsLine (Data first) bytes = (line_of bytes ≡ spec.Data (fields bytes)) × AreFirst (bytes_of first.items) (fields bytes)
 
--- Ok where there is no fault, else the fault, unless memory ran out
-abbrev pub AnswersFault : {X : Type 0} → Result X Refusal → Option FaultKind → Type 0
+-- Ok if there is no fault, else the fault, unless memory ran out
+abbrev pub AnswersFault : {X : Type 0} → Result X Refusal → Option MpsFaultKind → Type 0
 AnswersFault (Ok x) fault = fault ≡ None
 AnswersFault (Err Memory) fault = Unit {0}
 AnswersFault (Err (Fault kind)) fault = fault ≡ Some kind
 
--- the same for checks that a last one follows: where they pass, the fault is that of the last
-abbrev pub AnswersUpTo : {X : Type 0} → Result X Refusal → Option FaultKind → Option FaultKind → Type 0
+-- the same for checks that a last one follows: if they pass, the fault is that of the last
+abbrev pub AnswersUpTo : {X : Type 0} → Result X Refusal → Option MpsFaultKind → Option MpsFaultKind → Type 0
 AnswersUpTo (Ok x) fault last = fault ≡ last
 AnswersUpTo (Err Memory) fault last = Unit {0}
 AnswersUpTo (Err (Fault kind)) fault last = fault ≡ Some kind
 
 -- a number that is 0 or 1
-abbrev pub bit_fault : List ℕ → Option FaultKind
+abbrev pub bit_fault : List ℕ → Option MpsFaultKind
 bit_fault token = option_or (number_fault (number token)) (when (not (int_eq (value token) (pos 0) || int_eq (value token) (pos 1))) BoundValue)

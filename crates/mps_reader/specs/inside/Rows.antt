@@ -9,14 +9,14 @@ use Rattle.program_rows.specs.declared.name_set.Seeded.{Seeded}
 use Rattle.program_rows.specs.declared.row.Row.{Row}
 use Rattle.program_rows.specs.Program.{TableRow}
 use Rattle.program_rows.specs.Parts.{IsName, shown_row}
-use Rattle.line_words.specs.Lines.{LineFields, field}
-use Rattle.mps_meaning.specs.Described.{is_free, row_kind_of, value}
-use Rattle.mps_meaning.specs.Faults.{earliest_fault, number_fault}
-use Rattle.mps_meaning.specs.declared.fault.FaultKind.{FaultKind}
-use Rattle.mps_meaning.specs.declared.fault.FaultKind.TheVariants.{UnknownRow, EntryRepeated, ObjectiveConstant}
+use Rattle.auction_terms.specs.LineFields.{LineFields, field}
+use Rattle.program_rows.specs.MpsProgram.{is_free, row_kind_of, value}
+use Rattle.program_rows.specs.MpsFaults.{earliest_fault, number_fault}
+use Rattle.program_rows.specs.declared.mps_fault_kind.MpsFaultKind.{MpsFaultKind}
+use Rattle.program_rows.specs.declared.mps_fault_kind.MpsFaultKind.TheVariants.{UnknownRow, EntryRepeated, ObjectiveConstant}
 use Rattle.auction_terms.specs.Borrowed.{bytes_of}
 use Rattle.mps_reader.specs.declared.row_table.Rows.{Rows}
-use Rattle.line_words.specs.Numbers.{number as token_number}
+use Rattle.auction_terms.specs.Decimals.{number as token_number}
 use Rattle.std.specs.Bool.{then_some as when}
 
 abbrev pub NameSet : Type 0
@@ -99,5 +99,5 @@ abbrev pub rows_by : (List ℕ → ℤ) → List LineFields → List TableRow
 rows_by side lines = map (λ fields. record { name = field 1 fields; kind = row_kind_of (field 0 fields); right_side = side (field 1 fields) }) lines
 
 -- the checks of a pair, whose row is known or not, repeated or not, and the objective or not
-abbrev pub side_fault : Bool → Bool → Bool → List ℕ → Option FaultKind
+abbrev pub side_fault : Bool → Bool → Bool → List ℕ → Option MpsFaultKind
 side_fault known repeated cost number = earliest_fault (when (not known) UnknownRow ∷ when repeated EntryRepeated ∷ number_fault (token_number number) ∷ when (cost && not (int_eq (value number) (pos 0))) ObjectiveConstant ∷ [])

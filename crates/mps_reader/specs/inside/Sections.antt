@@ -1,4 +1,4 @@
--- The sections that the code tells apart, by their words.
+-- The sections that the code distinguishes, by their words.
 use Rattle.std.specs.Prelude.{ℕ, List, [], codes, bytes_eq, if◌then◌else◌}
 use Rattle.mps_reader.specs.declared.sections.Section.{Section}
 use Rattle.mps_reader.specs.declared.sections.Section.TheVariants.{Start, Name, Sense, Rows, Columns, RightSides, Bounds, End}

@@ -3,10 +3,10 @@ use Rattle.std.specs.Prelude.{◌≡◌, ℕ, ◌+◌, ◌++◌, ◌≤◌, ◌=
 use Rattle.std.specs.List.{list_any, AllByRecursion}
 use Rattle.std.specs.Option.{option_map_or}
 use denote.Ref.{Bor}
-use Rattle.line_words.specs.Lines.{LineFields, field}
-use Rattle.mps_meaning.specs.Sections.{Sections}
-use Rattle.mps_meaning.specs.Described.{first_free, table_rows, columns_named, lower, upper, is_binary_bound, column_pairs, number_beside, line_right_sides, bound_pair}
-use Rattle.mps_meaning.specs.Faults.{is_integer_open, stands_in_integers}
+use Rattle.auction_terms.specs.LineFields.{LineFields, field}
+use Rattle.program_rows.specs.MpsSections.{Sections}
+use Rattle.program_rows.specs.MpsProgram.{first_free, table_rows, columns_named, lower, upper, is_binary_bound, column_pairs, number_beside, line_right_sides, bound_pair}
+use Rattle.program_rows.specs.MpsFaults.{is_integer_open, stands_in_integers}
 use Rattle.program_rows.specs.declared.bounds.Bounds.TheVariants.{ZeroOrOne}
 use Rattle.program_rows.specs.Program.{TableColumn}
 use Rattle.program_rows.specs.Parts.{shown_row}
@@ -30,7 +30,7 @@ pub record RowsTell (rows rights : List LineFields) (r : Rows) : Type 0 where
 abbrev pub AreStampsUpTo : ℕ → Rows → Type 0
 AreStampsUpTo most r = AllByRecursion (λ stamp. stamp ≤ most) r.stamps.items
 
--- the number at a place, 0 where no entry has it
+-- the number at a place, 0 if no entry has it
 abbrev pub number_at_place : ℕ → List (ℕ × ℤ) → ℤ
 number_at_place place [] = pos 0
 number_at_place place (e ∷ entries) = if e.0 == place then e.1 else number_at_place place entries
@@ -52,22 +52,22 @@ state_values s = (s.is_integer, bit s.lower, option_map bit s.upper)
 abbrev pub bounded_values : List ℕ → ℤ → Bool × ℤ × Option ℤ → Bool × ℤ × Option ℤ
 bounded_values word number v = (v.0, if bytes_eq word (codes "UP") then v.1 else number, if bytes_eq word (codes "LO") then v.2 else Some number)
 
-abbrev pub told_values : List LineFields → List LineFields → List ℕ → Bool × ℤ × Option ℤ
-told_values lines bounds column = (
+abbrev pub parsed_values : List LineFields → List LineFields → List ℕ → Bool × ℤ × Option ℤ
+parsed_values lines bounds column = (
   stands_in_integers column lines || list_any (λ fields. is_binary_bound fields && bytes_eq column (field 0 (bound_pair fields))) bounds,
   lower bounds column,
   upper bounds column,
 )
 
 -- a column whose lines are all read, but for its bounds
-abbrev pub told_column : Option (List ℕ) → List (List ℕ) → List LineFields → List ℕ → TableColumn
-told_column objective rows lines name = record { name = name; bounds = ZeroOrOne; cost = number_beside (column_pairs lines name) (unwrap_or objective []); entries = entries_at 0 (number_beside (column_pairs lines name)) rows }
+abbrev pub gathered_column : Option (List ℕ) → List (List ℕ) → List LineFields → List ℕ → TableColumn
+gathered_column objective rows lines name = record { name = name; bounds = ZeroOrOne; cost = number_beside (column_pairs lines name) (unwrap_or objective []); entries = entries_at 0 (number_beside (column_pairs lines name)) rows }
 
 pub record ColumnsTell (objective : Option (List ℕ)) (rows : List (List ℕ)) (lines bounds : List LineFields) (c : ColumnTable) : Type 0 where
   pub names : names_of c.names ≡ columns_named lines
   pub begun : c.is_begun ≡ is_integer_open lines
-  pub states : map state_values c.states.items ≡ map (told_values lines bounds) (columns_named lines)
-  pub done : AllByRecursion (λ k. k ≡ told_column objective rows lines k.name) c.done
+  pub states : map state_values c.states.items ≡ map (parsed_values lines bounds) (columns_named lines)
+  pub done : AllByRecursion (λ k. k ≡ gathered_column objective rows lines k.name) c.done
   pub opened : IfSome c.current (λ name. OpenTells objective rows (number_beside (column_pairs lines name.now)) c.current_column)
   pub closed : is_some c.current ≡ false → c.current_column.cost ≡ pos 0
 
@@ -80,8 +80,8 @@ pub record ColumnAdded (objective : Option (List ℕ)) (rows : List (List ℕ)) 
   pub fresh : list_any (bytes_eq name) (columns_named lines) ≡ false
   pub all : names_of c.names ≡ columns_named lines ++ name ∷ []
   pub begun : c.is_begun ≡ is_integer_open lines
-  pub states : map state_values c.states.items ≡ map (told_values lines []) (columns_named lines) ++ (is_integer_open lines, pos 0, None) ∷ []
-  pub done : AllByRecursion (λ k. k ≡ told_column objective rows lines k.name) c.done
+  pub states : map state_values c.states.items ≡ map (parsed_values lines []) (columns_named lines) ++ (is_integer_open lines, pos 0, None) ∷ []
+  pub done : AllByRecursion (λ k. k ≡ gathered_column objective rows lines k.name) c.done
   pub cost : c.current_column.cost ≡ pos 0
   pub entries : c.current_column.entries.items ≡ []
 

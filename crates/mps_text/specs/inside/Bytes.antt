@@ -2,11 +2,11 @@
 use Rattle.std.specs.Prelude.{ℕ, List, [], ◌∷◌, ◌++◌, map, flat_map, codes}
 use Rattle.program_rows.specs.declared.parts.ProgramParts.{ProgramParts}
 use Rattle.program_rows.specs.Parts.{shown_row}
-use Rattle.mps_meaning.specs.MpsLines.{Data}
+use Rattle.program_rows.specs.MpsLines.{Data}
 use Rattle.mps_text.specs.Text.{written}
 use Rattle.mps_text.specs.Bytes.{bound_bytes, column_bytes, right_side_bytes, row_bytes}
 
--- nothing where there is no item
+-- nothing if there is no item
 abbrev pub where_any : {X : Type 0} → List X → List ℕ → List ℕ
 where_any [] bytes = []
 where_any (x ∷ xs) bytes = bytes

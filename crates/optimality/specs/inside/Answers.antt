@@ -1,24 +1,24 @@
 -- What the code answers, as the definitions say it.
 use Rattle.std.specs.Prelude.{◌≡◌, ℕ, Result, Ok, Err}
-use Rattle.program_faults.specs.declared.certificate_fault.FaultKind.{FaultKind}
-use Rattle.program_faults.specs.declared.certificate_fault.FaultKind.TheVariants.{OutOfMemory, TooLarge}
-use Rattle.program_faults.specs.declared.certificate_fault.CertificateFault.{CertificateFault}
+use Rattle.program_rows.specs.declared.certificate_fault.CertificateFaultKind.{CertificateFaultKind}
+use Rattle.program_rows.specs.declared.certificate_fault.CertificateFaultKind.TheVariants.{OutOfMemory, TooLarge}
+use Rattle.program_rows.specs.declared.certificate_fault.CertificateFault.{CertificateFault}
 use Rattle.optimality.specs.declared.limit.Limit.TheVariants as limits
 use Rattle.optimality.specs.declared.refusal.Refusal.{Refusal}
 use Rattle.optimality.specs.declared.refusal.Refusal.TheVariants.{Stopped, Fault}
 
 -- the value, as it is seen, or the fault; where memory is short the code says nothing
-abbrev pub AnswersSeen : {X Y : Type 0} → (X → Y) → Result X Refusal → Result Y FaultKind → Type 0
-AnswersSeen view (Ok x) told = told ≡ Ok (view x)
-AnswersSeen view (Err (Stopped limits.Memory)) told = Unit {0}
-AnswersSeen view (Err (Stopped limits.TooLarge)) told = ⊥
-AnswersSeen view (Err (Fault kind)) told = told ≡ Err kind
+abbrev pub AnswersSeen : {X Y : Type 0} → (X → Y) → Result X Refusal → Result Y CertificateFaultKind → Type 0
+AnswersSeen view (Ok x) parsed = parsed ≡ Ok (view x)
+AnswersSeen view (Err (Stopped limits.Memory)) parsed = Unit {0}
+AnswersSeen view (Err (Stopped limits.TooLarge)) parsed = ⊥
+AnswersSeen view (Err (Fault kind)) parsed = parsed ≡ Err kind
 
 -- the same where a number may be too large
-abbrev pub AnswersClosed : {X Y : Type 0} → (X → Y) → Result X Refusal → Result Y FaultKind → Type 0
-AnswersClosed view (Ok x) told = told ≡ Ok (view x)
-AnswersClosed view (Err (Stopped limit)) told = Unit {0}
-AnswersClosed view (Err (Fault kind)) told = told ≡ Err kind
+abbrev pub AnswersClosed : {X Y : Type 0} → (X → Y) → Result X Refusal → Result Y CertificateFaultKind → Type 0
+AnswersClosed view (Ok x) parsed = parsed ≡ Ok (view x)
+AnswersClosed view (Err (Stopped limit)) parsed = Unit {0}
+AnswersClosed view (Err (Fault kind)) parsed = parsed ≡ Err kind
 
 abbrev pub IsStopped : Refusal → Type 0
 IsStopped (Stopped limits.Memory) = Unit {0}

@@ -1,13 +1,13 @@
 -- What the reader of a solution holds while it goes over the lines.
 use Rattle.std.specs.Prelude.{ℕ, Bool, not, ◌&&◌, ◌||◌, List, [], ◌∷◌, map, Option, None, Some, if◌then◌else◌, bytes_eq}
 use Rattle.std.specs.List.{list_any}
-use Rattle.line_words.specs.Numbers.{is_number_token, is_too_long}
-use Rattle.program_faults.specs.declared.solution_fault.SolutionFault.{SolutionFault}
-use Rattle.program_faults.specs.declared.solution_fault.SolutionFault.TheVariants as fault
+use Rattle.auction_terms.specs.Decimals.{is_number_token, is_too_long}
+use Rattle.program_rows.specs.declared.solution_fault.SolutionFault.{SolutionFault}
+use Rattle.program_rows.specs.declared.solution_fault.SolutionFault.TheVariants as fault
 use Rattle.outcome.specs.Solution.{names_column, is_one}
 use Rattle.outcome.specs.Values.{is_near}
 
--- the checks of a name and a value in the line at a place, behind these lines
+-- the checks of a name and a value in the line at a place, after these lines
 abbrev pub pair_checks : List (List ℕ) → List (List ℕ) → ℕ → List ℕ → List ℕ → List (Bool × SolutionFault)
 pair_checks columns before place name token =
     (list_any (bytes_eq name) columns, fault.UnknownColumn place) ∷

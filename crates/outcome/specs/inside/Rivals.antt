@@ -27,7 +27,7 @@ other_numbers own count = filter (λ number. not (number == own)) (range_with_le
 abbrev pub first_suiting : Lots → List Bid → ℕ → ℤ → List ℕ → Option ℕ
 first_suiting lots form number own others = find (λ other. option_map_or (suits lots own others) (bid_at form other) false) (other_numbers number (length form))
 
--- the same in the place of the bid of this number, where so much is taken together with it
+-- the same in the place of the bid of this number, when it is taken together with these lots
 abbrev pub first_rival_number : Lots → List Bid → List ℕ → ℕ → Option ℕ
 first_rival_number lots form taken number = option_map_or (λ x. first_suiting lots form number (net lots x) (left taken x.package)) (bid_at form number) None
 

@@ -1,9 +1,9 @@
 -- The value that a token gives a column: 0 or 1, or what is wrong with it.
 use Rattle.std.specs.Prelude.{ℕ, ◌*◌, Bool, true, false, not, ◌||◌, nat_le, List, if◌then◌else◌, ℤ, pos, ◌-ℤ◌, nat_abs, Option, None, Some, Result, Ok, Err}
 use Rattle.outcome.specs.declared.limits.TheConstants.{TOLERANCE_PARTS}
-use Rattle.line_words.specs.Numbers.{is_minus, is_number_token, is_too_long, scaled_up, scale, signed}
-use Rattle.program_faults.specs.declared.solution_fault.SolutionFault.{SolutionFault}
-use Rattle.program_faults.specs.declared.solution_fault.SolutionFault.TheVariants as fault
+use Rattle.auction_terms.specs.Decimals.{is_minus, is_number_token, is_too_long, scaled_up, scale, signed}
+use Rattle.program_rows.specs.declared.solution_fault.SolutionFault.{SolutionFault}
+use Rattle.program_rows.specs.declared.solution_fault.SolutionFault.TheVariants as fault
 use Rattle.outcome.specs.declared.value_fault.ValueFault.{ValueFault}
 use Rattle.outcome.specs.declared.value_fault.ValueFault.TheVariants.{ValueText, NotZeroOne}
 

@@ -37,13 +37,13 @@ pub record IsOrdered (lots : Lots) (form : List Bid) (bids : List SizedBid) : Ty
   pub same : map sized_of fitting ≡ fitting_from lots 1 form
   pub moved : IsPermutation fitting bids
   pub rising : AllPairs (λ s t. IsUpTo s.size s.number t.size t.number) bids
-  pub told : All TellsItsSize bids
+  pub reported : All TellsItsSize bids
   pub nets : All (TellsItsNet lots) bids
 
 -- all bids, in the order of their numbers
 pub record AreNumbered (lots : Lots) (form : List Bid) (bids : List SizedBid) : Type 0 where
   pub same : map (λ (s : SizedBid). s.bid.now) bids ≡ form
-  pub told : All TellsItsSize bids
+  pub reported : All TellsItsSize bids
   pub nets : All (TellsItsNet lots) bids
 
 -- bids with a quantity for each of n categories, by rising size

@@ -13,6 +13,6 @@ IsThere lots (Bidder b) = ⊤
 IsThere lots (Category c) = c < length lots.supply
 IsThere lots (Pool p) = p < length lots.pools
 
--- the column of an offer, whose bidder has its row at this place, where the rows of categories and pools begin at `first`
+-- the column of an offer; its bidder's row has this place, and the rows of categories and pools begin at `first`
 abbrev pub built_column : Lots → ℕ → ℕ → Offer → TableColumn
 built_column lots first place o = record (column_of lots [] o) { entries = (place, pos 1) ∷ entries_from lots first (subjects lots []) o }

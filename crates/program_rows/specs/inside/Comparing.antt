@@ -1,4 +1,4 @@
--- Comparing two programs name by name: each row and column of one stands in the other.
+-- Comparing two programs name by name: each row and column of one is in the other.
 use Rattle.std.specs.Prelude.{ℕ, Bool, true, false, ◌&&◌, List, ℤ, bytes_eq}
 use Rattle.std.specs.Option.{option_map_or}
 use Rattle.std.specs.List.{list_all}

@@ -1,33 +1,34 @@
-//! What is checked, by the calls themselves. Where any one growth is refused (see tools/refuse_calls), they tell that memory was
+//! What is checked, by the calls themselves. Where any one growth is refused (see tests/test_refused_calls.py), they tell that memory was
 //! short, or the same.
 
 use super::{CERTIFICATES, ODD_CYCLE, SHOWN};
 use crate::worked::on_program;
 use optimality::{check_certificate, check_only, check_optimum};
-use program_faults::{CertificateFault, FaultKind};
-use program_rows::{Point, Program};
+use program_rows::{CertificateFault, CertificateFaultKind, Point, Program};
 use std::alloc::Global;
 use std::test::Fail;
 
 /// Whether a certificate is answered so.
 fn is_answer(
     answer: Result<(), CertificateFault>,
-    told: Option<(usize, FaultKind)>,
+    reported: Option<(usize, CertificateFaultKind)>,
 ) -> Result<bool, Fail> {
     match answer {
-        Ok(()) => Ok(told.is_none()),
-        Err(fault) if fault.kind == FaultKind::OutOfMemory => Err(Fail::from("out of memory")),
-        Err(fault) => Ok(told == Some((fault.line, fault.kind))),
+        Ok(()) => Ok(reported.is_none()),
+        Err(fault) if fault.kind == CertificateFaultKind::OutOfMemory => Err(Fail::from(
+            "out of memory",
+        )),
+        Err(fault) => Ok(reported == Some((fault.line, fault.kind))),
     }
 }
 
 #[test]
 fn a_verdict_or_want_of_memory(rt: HostRuntime) -> Result<(), Fail> {
-    for (text, least, told) in CERTIFICATES {
-        let is_told = on_program(rt.alloc(), ODD_CYCLE, |alloc, program| {
-            is_answer(check_certificate(alloc, text, program, least), told)
+    for (text, least, reported) in CERTIFICATES {
+        let is_reported = on_program(rt.alloc(), ODD_CYCLE, |alloc, program| {
+            is_answer(check_certificate(alloc, text, program, least), reported)
         })?;
-        assert!(rt; is_told, "{least}");
+        assert!(rt; is_reported, "{least}");
     }
     Ok(())
 }
@@ -38,7 +39,7 @@ fn is_a_best_one(alloc: Global, program: &Program, point: &Point) -> Result<bool
         return Ok(false);
     }
     let text = b"split 0 X1 1\nbound 1 0 2 B 2\nbound 1 0 2 A1 2 A2 2\n";
-    let ties = Some((2, FaultKind::NotShown));
+    let ties = Some((2, CertificateFaultKind::NotShown));
     Ok(
         is_answer(check_optimum(alloc, SHOWN, program, point), None)?
             && is_answer(check_only(alloc, text, program, point), ties)?,

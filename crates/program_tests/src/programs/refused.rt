@@ -1,4 +1,4 @@
-//! What is built, by the calls themselves. Where any one growth is refused (see tools/refuse_calls), they tell that memory was
+//! What is built, by the calls themselves. Where any one growth is refused (see tests/test_refused_calls.py), they tell that memory was
 //! short, or the same. Programs with bids are built so by group_compiler's tests.
 
 use super::{begins_with_categories, has_the_column_of_values, is_column, is_row};
@@ -39,7 +39,7 @@ fn a_program_or_want_of_memory(rt: HostRuntime) -> Result<(), Fail> {
     Ok(())
 }
 
-/// Whether a column is appended behind the others, at once or once the call came back with all as it was.
+/// Whether a column is appended after the others, at once or once the call came back with all as it was.
 fn is_appended(columns: &mut Columns, name: &[u8], cost: i64, entries: &[(usize, i64)]) -> bool {
     let count = columns.len();
     if columns

@@ -1,11 +1,10 @@
-//! What is read, by the call itself. Where any one growth is refused (see tools/refuse_calls), it tells that memory was short, or
+//! What is read, by the call itself. Where any one growth is refused (see tests/test_refused_calls.py), it tells that memory was short, or
 //! the same.
 
 use super::{FIXED, REFUSED, SOLUTIONS, THREE_BIDDERS};
 use crate::worked::on_program;
 use outcome::read_solution;
-use program_faults::SolutionFault;
-use program_rows::Program;
+use program_rows::{Program, SolutionFault};
 use std::alloc::Global;
 use std::test::Fail;
 
@@ -40,11 +39,11 @@ fn is_refused(
     alloc: Global,
     program: &Program,
     text: &[u8],
-    told: SolutionFault,
+    reported: SolutionFault,
 ) -> Result<bool, Fail> {
     match read_solution(alloc, text, program).err() {
         Some(SolutionFault::OutOfMemory) => Err(Fail::from("out of memory")),
-        fault => Ok(fault == Some(told)),
+        fault => Ok(fault == Some(reported)),
     }
 }
 
@@ -59,11 +58,11 @@ fn leaves_out_the_fixed_column(alloc: Global, program: &Program) -> Result<bool,
 
 #[test]
 fn a_fault_or_want_of_memory(rt: HostRuntime) -> Result<(), Fail> {
-    for (text, told) in REFUSED {
-        let is_told = on_program(rt.alloc(), THREE_BIDDERS, |alloc, program| {
-            is_refused(alloc, program, text, told)
+    for (text, reported) in REFUSED {
+        let is_reported = on_program(rt.alloc(), THREE_BIDDERS, |alloc, program| {
+            is_refused(alloc, program, text, reported)
         })?;
-        assert!(rt; is_told, "{told}");
+        assert!(rt; is_reported, "{reported}");
     }
     assert!(rt; on_program(rt.alloc(), FIXED, leaves_out_the_fixed_column)?);
     Ok(())

@@ -27,7 +27,7 @@ fn long_named(alloc: Global, count: usize) -> Result<Program, AllocError>
     }))
 }
 
-/// Whether a text tells a program.
+/// Whether a text means a program.
 fn tells(alloc: Global, text: &[u8], program: &Program) -> Result<bool, Fail> {
     let again = read_program(alloc, text)?;
     Ok(same_program(program, &again))
@@ -48,7 +48,7 @@ fn is_read_again(alloc: Global, program: &Program, bytes: usize) -> Result<bool,
 #[test]
 fn a_name_of_70000_letters_is_read_again(rt: HostRuntime) -> Result<(), Fail> {
     let program = long_named(rt.alloc(), 70_000)?;
-    // The name stands in two lines, and 52 bytes beside it.
+    // The name comes in two lines, and 52 bytes beside it.
     assert!(rt; is_read_again(rt.alloc(), &program, 140_052)?);
     Ok(())
 }

@@ -1,4 +1,4 @@
-//! What is written where any one growth is refused (see tools/refuse_calls): the whole text, or a front of it of as many
+//! What is written where any one growth is refused (see tests/test_refused_calls.py): the whole text, or a front of it of as many
 //! bytes as the fault tells. Writing itself takes no memory.
 
 use crate::worked::{ONE_BID, on_program};

@@ -1,9 +1,9 @@
-//! What a book answers where any one growth is refused (see tools/refuse_calls): the call comes back, nothing is recorded,
+//! What a book answers where any one growth is refused (see tests/test_refused_calls.py): the call comes back, nothing is recorded,
 //! and the same call is then answered as with ample memory.
 
 ghost use Rattle.bid_book.specs.History.{MayMake, call_value};
 
-use crate::worked::{ALPHA, ANSWERED, ASKED, Answer, Ask, is_told, on_form};
+use crate::worked::{ALPHA, ANSWERED, ASKED, Answer, Ask, is_reported, on_form};
 use bid_book::{Book, Call, Caller, Reply, Standing, StepError};
 use bid_forms::Form;
 use std::alloc::Global;
@@ -62,7 +62,7 @@ fn is_answered(
     answer: Answer,
 ) -> Result<bool, Fail> {
     let reply = answer_of(book, form, ask)?;
-    Ok(reply.is_some_and(|reply| is_told(&reply, answer, form)))
+    Ok(reply.is_some_and(|reply| is_reported(&reply, answer, form)))
 }
 
 /// Whether an open and empty book answers the worked round, and ends with nine entries.

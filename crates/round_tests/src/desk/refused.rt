@@ -1,12 +1,14 @@
 //! The worked round of nine entries, and settlements that are refused. Each call that finds memory short leaves all as it
-//! was, and is made once more: so the same holds where any one growth is refused (see tools/refuse_calls).
+//! was, and is made once more: so the same holds where any one growth is refused (see tests/test_refused_calls.py).
 
 ghost use Rattle.std.specs.Prelude.{◌≡◌, ◌+◌};
 ghost use Rattle.auction_terms.specs.Terms.{session_count};
 
 use super::settling::{opened, settled};
 use super::stands;
-use crate::worked::{ALPHA, ANSWERED, ASKED, Ask, RULES, are_told, blank, is_told, rules_and_form};
+use crate::worked::{
+    ALPHA, ANSWERED, ASKED, Ask, RULES, are_reported, blank, is_reported, rules_and_form,
+};
 use auction_terms::{Rules, read_rules};
 use bid_book::{Entry, Reply};
 use bid_desk::{Cause, Chair, ClosedBook, Desk, Round, Session, Stopped, Unsettled};
@@ -17,7 +19,7 @@ use std::sync::ledger::Blank;
 use std::sync::{Arc, Wait};
 use std::test::Fail;
 
-/// Makes a call. None where memory is short.
+/// Makes a call. None if memory is short.
 fn made<L: Round, R: Wait>(
     rt: &R,
     desk: &Desk<L>,
@@ -41,7 +43,7 @@ fn made<L: Round, R: Wait>(
 
 /// Whether a history has the answers of the first so many calls of the round.
 fn has_front(history: &[Entry], form: &Form, count: usize) -> bool {
-    count <= 9 && are_told(history, &ANSWERED[..count], form)
+    count <= 9 && are_reported(history, &ANSWERED[..count], form)
 }
 
 /// Whether the call after so many of the round is answered as it has to be. Where memory is short nothing is recorded, and the
@@ -58,19 +60,19 @@ fn is_answered<L: Round, R: Wait>(
         return false;
     }
     match made(rt, desk, chair, session, form, ASKED[place]) {
-        Some(told) => is_told(&told, ANSWERED[place], form),
+        Some(reported) => is_reported(&reported, ANSWERED[place], form),
         None => {
             session.own().len().wrapping_add(chair.own().len()) == place
                 && has_front(desk.enter(rt).history(), form, place)
                 && match made(rt, desk, chair, session, form, ASKED[place]) {
-                    Some(told) => is_told(&told, ANSWERED[place], form),
+                    Some(reported) => is_reported(&reported, ANSWERED[place], form),
                     None => false,
                 }
         }
     }
 }
 
-/// The desk, stopped and resumed. The answers of so many calls stand in its history before, between and after.
+/// The desk, stopped and resumed. The answers of that many calls are in its history before, between and after.
 fn rested<L: Round, R: Wait>(rt: &R, desk: Desk<L>, form: &Form, count: usize) -> Option<Desk<L>> {
     let stopped = desk.stop();
     if !has_front(stopped.history(), form, count) {
@@ -110,7 +112,7 @@ fn round<L: Round, R: Wait>(
     settled(alloc, desk.stop(), chair, sessions)
 }
 
-/// Whether a book has the answers of the round, and the form stands in it.
+/// Whether a book has the answers of the round, and the form is standing in it.
 fn holds(closed: &ClosedBook, form: &Form) -> bool {
     has_front(closed.history(), form, 9) && stands(closed, form)
 }
@@ -166,7 +168,7 @@ fn refused<L: Round>(alloc: Global, parts: Parts<L>) -> Option<(Parts<L>, Cause)
     }
 }
 
-/// These parts, where they aren't settled for this cause, whatever is refused.
+/// These parts, if they aren't settled for this cause, whatever is refused.
 fn refused_at_once<L: Round>(alloc: Global, parts: Parts<L>, wanted: Cause) -> Option<Parts<L>> {
     match refused(alloc, parts) {
         Some((parts, cause)) if cause == wanted => Some(parts),
@@ -174,7 +176,7 @@ fn refused_at_once<L: Round>(alloc: Global, parts: Parts<L>, wanted: Cause) -> O
     }
 }
 
-/// These parts, where they aren't settled for this cause. Where memory is short all comes back, and is settled once more.
+/// These parts, if they aren't settled for this cause. If memory is short all comes back, and is settled once more.
 fn refused_for<L: Round>(alloc: Global, parts: Parts<L>, wanted: Cause) -> Option<Parts<L>> {
     match refused(alloc, parts) {
         Some((parts, Cause::OutOfMemory)) => refused_at_once(alloc, parts, wanted),
@@ -183,7 +185,7 @@ fn refused_for<L: Round>(alloc: Global, parts: Parts<L>, wanted: Cause) -> Optio
     }
 }
 
-/// These parts, where they aren't settled for this cause without the session at a place, which then comes last.
+/// These parts, if they aren't settled for this cause without the session at a place, which then comes last.
 fn refused_without<L: Round>(
     alloc: Global,
     parts: Parts<L>,
@@ -200,7 +202,7 @@ fn refused_without<L: Round>(
     Some(parts)
 }
 
-/// The same without the first session and the one at a place behind it.
+/// The same without the first session and the one at a place after it.
 fn refused_without_two<L: Round>(
     alloc: Global,
     parts: Parts<L>,

@@ -1,4 +1,4 @@
-//! How desks are opened and settled: where memory is short all comes back, and the call is made once more.
+//! How desks are opened and settled: if memory is short all comes back, and the call is made once more.
 
 ghost use Rattle.std.specs.Prelude.{◌≡◌, ◌+◌};
 ghost use Rattle.auction_terms.specs.Terms.{session_count};
@@ -27,7 +27,7 @@ pub fn opened<L: Round>(
     }
 }
 
-/// Settles. Where memory is short everything comes back, and settles after that.
+/// Settles. If memory is short everything comes back, and settles after that.
 pub fn settled<L: Round>(
     alloc: Global,
     stopped: Stopped<L>,

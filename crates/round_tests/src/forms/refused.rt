@@ -1,4 +1,4 @@
-//! What is read, by the call itself. Where any one growth is refused (see tools/refuse_calls), it tells that memory was short, or
+//! What is read, by the call itself. Where any one growth is refused (see tests/test_refused_calls.py), it tells that memory was short, or
 //! the same.
 
 use super::{FAULTY, FORMS, are_bids};
@@ -21,10 +21,15 @@ fn is_form(
 }
 
 /// Whether a text is refused so.
-fn is_refused(alloc: Global, rules: &Rules, text: &[u8], told: FormFault) -> Result<bool, Fail> {
+fn is_refused(
+    alloc: Global,
+    rules: &Rules,
+    text: &[u8],
+    reported: FormFault,
+) -> Result<bool, Fail> {
     match read_form(alloc, text, rules).err() {
         Some(FormFault::OutOfMemory) => Err(Fail::from("out of memory")),
-        fault => Ok(fault == Some(told)),
+        fault => Ok(fault == Some(reported)),
     }
 }
 
@@ -43,14 +48,14 @@ fn a_form_or_want_of_memory(rt: HostRuntime) -> Result<(), Fail> {
 
 #[test]
 fn a_fault_or_want_of_memory(rt: HostRuntime) -> Result<(), Fail> {
-    for (text, told) in FAULTY {
+    for (text, reported) in FAULTY {
         assert!(rt;
             on_rules(
                 rt.alloc(),
                 RULES,
-                |alloc, rules| is_refused(alloc, rules, text, told)
+                |alloc, rules| is_refused(alloc, rules, text, reported)
             )?,
-            "{told}"
+            "{reported}"
         );
     }
     Ok(())

@@ -1,4 +1,4 @@
-//! What the readers answer, by the calls themselves. Where any one growth is refused (see tools/refuse_calls), they tell that
+//! What the readers answer, by the calls themselves. Where any one growth is refused (see tests/test_refused_calls.py), they tell that
 //! memory was short, or the same.
 
 use super::{are_three_groups, are_worked, have_the_pool};
@@ -55,22 +55,22 @@ const FAULTY_RULES: [(&[u8], RulesFault); 5] = [
 ];
 
 /// Whether rules are refused so.
-fn are_refused(alloc: Global, text: &[u8], told: RulesFault) -> Result<bool, Fail> {
+fn are_refused(alloc: Global, text: &[u8], reported: RulesFault) -> Result<bool, Fail> {
     match read_rules(alloc, text).err() {
         Some(RulesFault::OutOfMemory) => Err(Fail::from("out of memory")),
-        fault => Ok(fault == Some(told)),
+        fault => Ok(fault == Some(reported)),
     }
 }
 
 #[test]
 fn a_fault_of_rules_or_want_of_memory(rt: HostRuntime) -> Result<(), Fail> {
-    for (text, told) in FAULTY_RULES {
-        assert!(rt; are_refused(rt.alloc(), text, told)?, "{told}");
+    for (text, reported) in FAULTY_RULES {
+        assert!(rt; are_refused(rt.alloc(), text, reported)?, "{reported}");
     }
     Ok(())
 }
 
-/// Whether the worked lines tell three groups, and a text of no bytes none.
+/// Whether the worked lines mean three groups, and a text of no bytes none.
 fn reads_groups(alloc: Global, rules: &Rules) -> Result<bool, Fail> {
     let none = read_groups(alloc, b"", rules)?;
     if none.count() != 0 {
@@ -100,18 +100,18 @@ const FAULTY_GROUPS: [(&[u8], GroupFault); 5] = [
 ];
 
 /// Whether groups of the worked bidders are refused so.
-fn are_no_groups(alloc: Global, lines: &[u8], told: GroupFault) -> Result<bool, Fail> {
+fn are_no_groups(alloc: Global, lines: &[u8], reported: GroupFault) -> Result<bool, Fail> {
     let rules = read_rules(alloc, RULES)?;
     match read_groups(alloc, lines, &rules).err() {
         Some(GroupFault::OutOfMemory) => Err(Fail::from("out of memory")),
-        fault => Ok(fault == Some(told)),
+        fault => Ok(fault == Some(reported)),
     }
 }
 
 #[test]
 fn a_fault_of_groups_or_want_of_memory(rt: HostRuntime) -> Result<(), Fail> {
-    for (lines, told) in FAULTY_GROUPS {
-        assert!(rt; are_no_groups(rt.alloc(), lines, told)?, "{told}");
+    for (lines, reported) in FAULTY_GROUPS {
+        assert!(rt; are_no_groups(rt.alloc(), lines, reported)?, "{reported}");
     }
     Ok(())
 }

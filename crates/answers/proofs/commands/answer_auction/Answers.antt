@@ -1,7 +1,7 @@
 use Rattle.auction_input.specs.Settled.{held}
 use Rattle.answers.specs.Exact.{IsUnwritten}
 use Rattle.answers.proofs.AnswerFacts.{has-sold, no-auction, unwritten, written}
-use Rattle.requests.proofs.StepFacts.{if-err-of, on-ok-given}
+use Rattle.auction_input.proofs.StepFacts.{if-err-of, on-ok-given}
 use Rattle.answers.proofs.commands.answer_auction.Goals as goal
 
 pub returns-in_err-auction-clause-refused : goal.returns-in_err-auction-clause-refused
@@ -15,11 +15,11 @@ returns-in_err-auction-clause-refused g c =
 
 pub returns-clause-written : goal.returns-clause-written
 returns-clause-written g c =
-    written c.args.request.now c.args.input.now c.requires.auction (held c.in_ok-auction.auction) c.in_ok-auction.ensures.told c.write_output.result (g.S.Sink.taken c.args.out.now) (g.S.Sink.taken c.write_output.new.out) c.write_output.ensures.written
+    written c.args.request.now c.args.input.now c.requires.auction (held c.in_ok-auction.auction) c.in_ok-auction.ensures.parsed c.write_output.result (g.S.Sink.taken c.args.out.now) (g.S.Sink.taken c.write_output.new.out) c.write_output.ensures.written
 
 pub returns-clause-refused : goal.returns-clause-refused
 returns-clause-refused g c =
-    unwritten c.args.request.now c.args.input.now c.requires.auction (held c.in_ok-auction.auction) c.in_ok-auction.ensures.told c.write_output.result (g.S.Sink.taken c.args.out.now) (g.S.Sink.taken c.write_output.new.out)
+    unwritten c.args.request.now c.args.input.now c.requires.auction (held c.in_ok-auction.auction) c.in_ok-auction.ensures.parsed c.write_output.result (g.S.Sink.taken c.args.out.now) (g.S.Sink.taken c.write_output.new.out)
     (g.S.Sink.failures c.args.out.now) (g.S.Sink.failures c.write_output.new.out) c.write_output.ensures.refused
 
 pub returns-clause-sold : goal.returns-clause-sold

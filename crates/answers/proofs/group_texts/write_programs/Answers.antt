@@ -4,7 +4,7 @@ use Rattle.group_compiler.specs.Compiled.{GroupProgram, compiled}
 use Rattle.byte_sinks.proofs.Adding.{Adds-then, Adds-to, sent-quiet}
 use Rattle.outcome.specs.Report.{in_turn}
 use Rattle.answers.specs.GroupTexts.{program_bytes}
-use Rattle.answers.proofs.GroupTextFacts.{ends-in, ends-told, fails-told, in_turn-rest, programs-more}
+use Rattle.answers.proofs.GroupTextFacts.{ends-in, ends-parsed, fails-parsed, in_turn-rest, programs-more}
 use Rattle.answers.proofs.group_texts.write_programs.Goals as goal
 
 pub loop-place-preserved : goal.loop-place-preserved
@@ -41,11 +41,11 @@ returns-in-Err-clause-stopped g c =
     let rest = in_turn-rest f 1 programs (place + 1) in
     let later = in_turn f (1 + length (take (place + 1) programs)) (drop (place + 1) programs) in
     let whole : in_turn f 1 programs ≡ (in_turn f 1 (take place programs) ++ f (place + 1) x) ++ later = rw bytes rest in
-    let ends = ends-told _ (in_turn f 1 (take place programs)) (f (place + 1) x) later c.new-writer.ensures i.added i.sent own c.in-Err.ensures.err (search rules) in
+    let ends = ends-parsed _ (in_turn f 1 (take place programs)) (f (place + 1) x) later c.new-writer.ensures i.added i.sent own c.in-Err.ensures.err (search rules) in
     rw c.fault_in.ensures (omega arith, omega arith, ends-in book programs place _ _ _ _ _ _ whole refl (sym bytes) ends)
 
 pub returns-in-Err-clause-failed : goal.returns-in-Err-clause-failed
-returns-in-Err-clause-failed g c = rw c.fault_in.ensures (fails-told _ c.new-writer.ensures c.loop-place.invariant.added (Adds-then c.add_group.ensures c.flush.ensures.adds) c.in-Err.ensures.err (search rules))
+returns-in-Err-clause-failed g c = rw c.fault_in.ensures (fails-parsed _ c.new-writer.ensures c.loop-place.invariant.added (Adds-then c.add_group.ensures c.flush.ensures.adds) c.in-Err.ensures.err (search rules))
 
 pub returns-clause-succeeded : goal.returns-clause-succeeded
 returns-clause-succeeded g c =

@@ -5,10 +5,10 @@ use Rattle.auction_input.specs.Settled.{RefusesAuction}
 use Rattle.auction_input.specs.declared.parts.Part as declared
 use Rattle.auction_input.specs.declared.refusal.Refusal.TheVariants as refusal
 use Rattle.auction_input.specs.inside.Auctions.{HasRun, HoldTexts, RefusesRun}
-use Rattle.auction_input.proofs.AuctionFacts.{auction-held, rest-same, rest_in, run-refused, sold, told-is}
+use Rattle.auction_input.proofs.AuctionFacts.{auction-held, rest-same, rest_in, run-refused, sold, parsed-is}
 use Rattle.auction_input.proofs.StageFacts.{stop}
 use Rattle.bid_desk.specs.Sale.{sale_of}
-use Rattle.requests.proofs.StepFacts.{if-err-of}
+use Rattle.auction_input.proofs.StepFacts.{if-err-of}
 use Rattle.auction_input.proofs.auction.read_auction.Goals as goal
 
 abbrev Parts : Type 0
@@ -30,19 +30,19 @@ returns-in_err-book-clause-refuses g c =
     let asked = c.args.request.now in
     let input = c.args.input.now in
     let r = c.in_err-book.field-0.0 in
-    let refused = subst (λ (xs : Parts). RefusesRun (parts_held xs) r) c.as_slice-2.ensures.value c.in_err-book.ensures.refuses in
+    let refused = subst (λ (xs : Parts). RefusesRun c.last_wins.result (parts_held xs) r) c.as_slice-2.ensures.value c.in_err-book.ensures.refuses in
     if-err-of (RefusesAuction asked input) c.from_residual-in_err-book.result r c.from_residual-in_err-book.ensures.1
-    (run-refused asked input (parts_held c.in_ok-parts.parts.items) c.in_ok-parts.ensures.told c.requires r refused)
+    (run-refused asked input _ (sym c.last_wins.ensures) (parts_held c.in_ok-parts.parts.items) c.in_ok-parts.ensures.parsed c.requires r refused)
 
-pub returns-clause-told : goal.returns-clause-told
-returns-clause-told g c =
+pub returns-clause-parsed : goal.returns-clause-parsed
+returns-clause-parsed g c =
     let book = c.in_ok-book.field-0.book in
     let bidders = c.in_ok-book.field-0.form_bidders.items in
     let groups = c.in_ok-book.field-0.groups in
     let parts = parts_held c.in_ok-parts.parts.items in
-    let run = subst (λ (xs : Parts). HasRun (parts_held xs) book bidders groups) c.as_slice-2.ensures.value c.in_ok-book.ensures.told in
+    let run = subst (λ (xs : Parts). HasRun c.last_wins.result (parts_held xs) book bidders groups) c.as_slice-2.ensures.value c.in_ok-book.ensures.parsed in
     let hold = subst (λ (xs : Parts). HoldTexts (parts_held xs) c.in_ok-beside.beside) c.as_slice.ensures.value c.in_ok-beside.ensures in
-    told-is c.args.request.now c.args.input.now parts c.in_ok-parts.ensures.told book.rules run.forms groups run.told
+    parsed-is c.args.request.now c.args.input.now _ (sym c.last_wins.ensures) parts c.in_ok-parts.ensures.parsed book.rules run.forms groups run.parsed
     ∙ ap (λ (a : Auction). Ok a) (auction-held book book.rules run.forms groups (rest_in parts) refl run.submitted
     ∙ ap (λ (xs : List ℕ). sold book.rules (sale_of book) xs groups (rest_in parts)) (sym run.bidders_are)
     ∙ ap (sold book.rules (sale_of book) bidders groups) (rest-same c.in_ok-beside.beside parts hold))
@@ -52,13 +52,13 @@ returns-clause-submitted g c =
     let book = c.in_ok-book.field-0.book in
     let bidders = c.in_ok-book.field-0.form_bidders.items in
     let groups = c.in_ok-book.field-0.groups in
-    let run = subst (λ (xs : Parts). HasRun (parts_held xs) book bidders groups) c.as_slice-2.ensures.value c.in_ok-book.ensures.told in
+    let run = subst (λ (xs : Parts). HasRun c.last_wins.result (parts_held xs) book bidders groups) c.as_slice-2.ensures.value c.in_ok-book.ensures.parsed in
     record {
       parts = parts_held c.in_ok-parts.parts.items;
       forms = run.forms;
-      parts_are = c.in_ok-parts.ensures.told;
-      rules_are = run.told.rules;
-      forms_are = run.told.each;
+      parts_are = c.in_ok-parts.ensures.parsed;
+      rules_are = run.parsed.rules;
+      forms_are = run.parsed.each;
       submitted = run.submitted;
     }
 
@@ -66,7 +66,7 @@ pub returns-clause-sold : goal.returns-clause-sold
 returns-clause-sold g c =
     let book = c.in_ok-book.field-0.book in
     record {
-      told = returns-clause-told g c;
+      parsed = returns-clause-parsed g c;
       book = book;
       closed = c.history-history.ensures.closing;
       holds = returns-clause-submitted g c;

@@ -3,7 +3,7 @@ use Rattle.std.proofs.lemmas.Grind.{common_steps}
 use Rattle.auction_input.specs.ReadInput.{IsUntakenOf}
 use Rattle.auction_input.specs.declared.input.InputFault.TheVariants as fault
 use Rattle.auction_input.proofs.ReadFacts.{Consumes-then}
-use Rattle.requests.proofs.StepFacts.{if-err-of}
+use Rattle.auction_input.proofs.StepFacts.{if-err-of}
 use Rattle.auction_input.proofs.input.read_bytes.Goals as goal
 
 pub returns-in_err-extend_from_slice-clause-untaken : goal.returns-in_err-extend_from_slice-clause-untaken

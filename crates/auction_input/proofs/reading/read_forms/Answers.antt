@@ -1,9 +1,9 @@
 use Rattle.std.proofs.Common.{◌≤◌, ◌+◌, arith, length}
 use Rattle.auction_input.specs.Refused.{Refuses}
 use Rattle.auction_terms.specs.Borrowed.{bytes_of}
-use Rattle.auction_input.specs.TextsTold.{form_told}
+use Rattle.auction_input.specs.ParsedTexts.{parsed_form}
 use Rattle.auction_terms.specs.Stages.{each_in_turn}
-use Rattle.requests.proofs.StepFacts.{if-err-of}
+use Rattle.auction_input.proofs.StepFacts.{if-err-of}
 use Rattle.auction_input.proofs.FormStageFacts.{all-read, none-read, stage-read, stage-refused}
 use Rattle.auction_input.proofs.reading.read_forms.Goals as goal
 
@@ -16,15 +16,15 @@ loop-start-preserved g c =
     let size = c.min.ensures in
     let order : i.start ≤ i.start + c.min.result = omega arith in
     let within : i.start + c.min.result ≤ length c.args.texts.now = omega arith in
-    stage-read c.args.rules.now c.args.texts.now i.start (i.start + c.min.result) i.forms.items c.read_more.new.forms.items order within i.invariant c.in_ok-read_more.ensures.told
+    stage-read c.args.rules.now c.args.texts.now i.start (i.start + c.min.result) i.forms.items c.read_more.new.forms.items order within i.invariant c.in_ok-read_more.ensures.parsed
 
 pub loop-start-smaller : goal.loop-start-smaller
 loop-start-smaller g c =
     let size = c.min.ensures in
     omega arith
 
-pub returns-clause-told : goal.returns-clause-told
-returns-clause-told g c =
+pub returns-clause-parsed : goal.returns-clause-parsed
+returns-clause-parsed g c =
     let all : length c.args.texts.now ≤ c.loop-start.start = omega arith in
     all-read c.args.rules.now c.args.texts.now c.loop-start.start c.loop-start.forms.items all c.loop-start.invariant
 
@@ -36,5 +36,5 @@ returns-in_err-read_more-clause-refuses g c =
     let i = c.loop-start in
     let order : i.start ≤ i.start + c.min.result = omega arith in
     let r = c.in_err-read_more.field-0.0 in
-    if-err-of (Refuses (each_in_turn (form_told c.args.rules.now) 1 (bytes_of c.args.texts.now))) c.from_residual.result r c.from_residual.ensures.1
+    if-err-of (Refuses (each_in_turn (parsed_form c.args.rules.now) 1 (bytes_of c.args.texts.now))) c.from_residual.result r c.from_residual.ensures.1
     (stage-refused c.args.rules.now c.args.texts.now i.start (i.start + c.min.result) i.forms.items r order i.invariant c.in_err-read_more.ensures.refuses)

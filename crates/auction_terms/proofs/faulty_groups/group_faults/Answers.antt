@@ -6,7 +6,7 @@ use Rattle.auction_terms.specs.AllGroupFaults.{all_line_faults}
 use Rattle.auction_terms.specs.declared.faults.Found.{Found}
 use Rattle.auction_terms.specs.declared.groups_text.GroupFault.{GroupFault}
 use Rattle.auction_terms.specs.declared.rules.Bidder.{Bidder}
-use Rattle.auction_limits.specs.declared.limits.TheConstants.{TEXT_LIMIT}
+use Rattle.auction_terms.specs.declared.limits.TheConstants.{TEXT_LIMIT}
 use Rattle.auction_terms.proofs.faulty_groups.group_faults.Goals as goal
 
 abbrev faults_by_line : List Bidder → ℕ → List (List ℕ) → List ℕ → List (Found GroupFault)
@@ -30,7 +30,7 @@ loop-line-preserved c =
       so_far ++ of_line place accepted line,
       accepted_with (of_line place accepted line) accepted line,
       found-more of_line _ so_far place accepted c.loop-line.lines c.next.new.self line found c.in-Some.ensures,
-      (let told = c.in_ok-add_line.ensures so_far keeps in rw c.bidders-bidders.ensures.value at told),
+      (let parsed = c.in_ok-add_line.ensures so_far keeps in rw c.bidders-bidders.ensures.value at parsed),
       omega arith,
       bidders,
     )

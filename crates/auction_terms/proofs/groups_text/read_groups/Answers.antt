@@ -23,13 +23,13 @@ loop-line-preserved c =
     let (before, so_far, count, few, groups, bidders, room, each) = c.loop-line.invariant in
     let line = c.in-Some.line.now in
     let is : group_line_fault c.args.rules.now.bidders before line ≡ fault_of_line c.bidders-bidders.result.now (c.loop-line.count + 1) line = rw (count, c.bidders-bidders.ensures.value) refl in
-    let told = c.in_ok-group.ensures.answer in
+    let parsed = c.in_ok-group.ensures.answer in
     let items : c.push.new.self.items ≡ c.loop-line.groups.items ++ c.in_ok-group.group ∷ [] = search rules in
-    let group : c.in_ok-group.group ≡ group_of c.args.rules.now.bidders line = told.1 ∙ rw c.bidders-bidders.ensures.value refl in
+    let group : c.in_ok-group.group ≡ group_of c.args.rules.now.bidders line = parsed.1 ∙ rw c.bidders-bidders.ensures.value refl in
     let n = length-append before (line ∷ []) in
     let limit = c.in_ok-group.ensures.room in (
       before ++ line ∷ [],
-      checked-more (group_line_fault c.args.rules.now.bidders) (lines_of c.args.bytes.now) before c.loop-line.lines c.next.new.self line so_far c.in-Some.ensures (is ∙ told.0),
+      checked-more (group_line_fault c.args.rules.now.bidders) (lines_of c.args.bytes.now) before c.loop-line.lines c.next.new.self line so_far c.in-Some.ensures (is ∙ parsed.0),
       omega arith,
       omega arith,
       rw (items, groups, group) (sym (map-append (group_of c.args.rules.now.bidders) before (line ∷ []))),

@@ -3,7 +3,7 @@ use Rattle.auction_terms.proofs.FirstFaultFacts.{answers-more}
 use Rattle.auction_terms.proofs.RulesTextFacts.{header-refused, header-taken}
 use Rattle.auction_terms.specs.Records.{records_of}
 use Rattle.auction_terms.specs.RulesText.{is_rules_memory, rules_of_records}
-use Rattle.auction_terms.specs.inside.RulesText.{first_record_told}
+use Rattle.auction_terms.specs.inside.RulesText.{parsed_first_record}
 use Rattle.auction_terms.proofs.rules_text.read_rules.Goals as goal
 
 pub returns-in_err-header-clause-answer : goal.returns-in_err-header-clause-answer
@@ -11,12 +11,12 @@ returns-in_err-header-clause-answer c = λ within.
     let f = c.in_err-header.field-0.0 in
     let records = records_of c.args.bytes.now in
     let same : c.from_residual.result ≡ Err f = search rules in
-    rw same (answers-more is_rules_memory f (first_record_told records) (rules_of_records records) (rw c.new-reader.ensures.all at c.in_err-header.ensures.answer) (header-refused records f))
+    rw same (answers-more is_rules_memory f (parsed_first_record records) (rules_of_records records) (rw c.new-reader.ensures.all at c.in_err-header.ensures.answer) (header-refused records f))
 
 pub returns-clause-answer : goal.returns-clause-answer
 returns-clause-answer c = λ within.
     let first = c.in_ok-header.header in
     let records = records_of c.args.bytes.now in
-    let told = rw c.new-reader.ensures.all at c.in_ok-header.ensures.answer in
+    let parsed = rw c.new-reader.ensures.all at c.in_ok-header.ensures.answer in
     let behind = rw c.new-reader.ensures.all at c.in_ok-header.ensures.behind in
-    rw (header-taken records first told, ← behind) c.read_behind.ensures
+    rw (header-taken records first parsed, ← behind) c.read_behind.ensures

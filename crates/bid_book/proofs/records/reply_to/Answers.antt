@@ -1,7 +1,7 @@
 use Rattle.std.proofs.Common.{ap, ◌∙◌, arith}
 use Rattle.bid_book.specs.declared.reply.Reply.TheVariants.{Accepted, Withdrawn, Shown, Closed}
 use Rattle.std.specs.Prelude.{Some}
-use Rattle.bid_book.proofs.HistoryLemmas.{changes_fit, change_told}
+use Rattle.bid_book.proofs.HistoryLemmas.{changes_fit, change_reported}
 use Rattle.bid_book.specs.History.{standing_of, is_closed}
 use Rattle.bid_book.proofs.records.reply_to.Goals as goal
 
@@ -13,11 +13,11 @@ overflow_add-number-in-Withdraw c = omega (arith, changes_fit c.requires.kept c.
 
 pub returns-in-Submit : goal.returns-in-Submit
 returns-in-Submit c =
-    rw c.in-Submit.is (change_told c.requires.kept c.args.bidder c.in-Submit.over (λ n. Accepted n) c.requires.counts c.reply_to_change.ensures c.number_standing-standing.ensures)
+    rw c.in-Submit.is (change_reported c.requires.kept c.args.bidder c.in-Submit.over (λ n. Accepted n) c.requires.counts c.reply_to_change.ensures c.number_standing-standing.ensures)
 
 pub returns-in-Withdraw : goal.returns-in-Withdraw
 returns-in-Withdraw c =
-    rw c.in-Withdraw.is (change_told c.requires.kept c.args.bidder (Some c.in-Withdraw.over) (λ n. Withdrawn n) c.requires.counts c.reply_to_change-in-Withdraw.ensures c.number_standing-standing-in-Withdraw.ensures)
+    rw c.in-Withdraw.is (change_reported c.requires.kept c.args.bidder (Some c.in-Withdraw.over) (λ n. Withdrawn n) c.requires.counts c.reply_to_change-in-Withdraw.ensures c.number_standing-standing-in-Withdraw.ensures)
 
 pub returns-in_ok-standing-in-Show : goal.returns-in_ok-standing-in-Show
 unfolding standing_of

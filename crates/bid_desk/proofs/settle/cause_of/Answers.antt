@@ -22,7 +22,7 @@ returns-in-Some-clause-some g c =
     let wrong = subst (λ (w : List Slot). IsFirstWrong t w c.in-Some.bidder c.in-Some.session) c.deref.ensures.value (subst (λ (t : Terms). IsFirstWrong t c.deref.result.now c.in-Some.bidder c.in-Some.session) c.stopped.invariant c.in-Some.ensures.some) in
     (c.requires, first-missing t c.args.sessions.now c.in_ok-slots.slots.items c.in_ok-slots.ensures.slots c.in-Some.bidder c.in-Some.session wrong)
 
--- each session stands once where each slot that was read says so
+-- each session is there once if each slot that was read says so
 stands-once : {t u : Terms} {sessions : List SessionOwn} {slots read : List Slot} → AreSlots t sessions (length sessions) slots → read ≡ slots → u ≡ t → AllOnce u read → StandOnce t sessions
 stands-once {t} {u} {sessions} {slots} {read} are same rules once =
     stand-once t sessions slots are (subst (λ (w : List Slot). AllOnce t w) same (subst (λ (r : Terms). AllOnce r read) rules once))

@@ -4,7 +4,7 @@ use Rattle.std.proofs.lemmas.List.{get_or_default, length-take-le}
 use Rattle.std.proofs.lemmas.List.Sums.{count_by-le-length}
 use Rattle.auction_terms.specs.Terms.{AreTerms, Terms}
 use Rattle.auction_terms.specs.declared.rules.Bidder.{Bidder}
-use Rattle.auction_limits.specs.declared.limits.TheConstants.{MOST_SESSIONS}
+use Rattle.auction_terms.specs.declared.limits.TheConstants.{MOST_SESSIONS}
 use Rattle.bid_desk.specs.declared.slots.Slot.{Slot}
 use Rattle.bid_desk.specs.Holding.{SessionOwn}
 use Rattle.bid_desk.specs.Sessions.{IsSessionOf}

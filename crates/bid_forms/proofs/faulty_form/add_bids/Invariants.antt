@@ -1,7 +1,7 @@
 use Rattle.std.proofs.Common.{List, length, ◌≤◌}
 use Rattle.auction_terms.specs.AllFaults.{KeepsMore}
 use Rattle.auction_terms.specs.declared.faults.Found.{Found}
-use Rattle.auction_limits.specs.declared.limits.TheConstants.{MOST_BIDS}
+use Rattle.auction_terms.specs.declared.limits.TheConstants.{MOST_BIDS}
 use Rattle.bid_forms.proofs.AllFormFaultsFacts.{BidsTaken}
 use Rattle.bid_forms.specs.declared.form_text.FormFault.{FormFault}
 use Rattle.bid_forms.specs.inside.Fingerprints.{AreSeen}

@@ -3,7 +3,7 @@ use Rattle.csv.specs.Records.{fields_of}
 use Rattle.auction_terms.proofs.AllFaultsFacts.{keeps-both}
 use Rattle.auction_terms.specs.AllFaults.{each_failed, found}
 use Rattle.auction_terms.specs.FirstFault.{first_failed}
-use Rattle.auction_terms.specs.RulesText.{number_told, record_field}
+use Rattle.auction_terms.specs.RulesText.{parsed_numeral, record_field}
 use Rattle.bid_forms.proofs.AllFormFaultsFacts.{each-next}
 use Rattle.bid_forms.proofs.RecordFacts.{fields-more}
 use Rattle.bid_forms.specs.FormText.{is_quantity}
@@ -18,8 +18,8 @@ loop-n-preserved c =
     let f = fault.QuantityRange c.args.place in
     let small : n < length r = (let s = c.loop-n-test.true in let e = c.len-n-end.ensures in omega arith) in
     let added = rw (c.range_fault.ensures, c.field.ensures) at c.in_ok-add.ensures in (
-      so_far ++ option_to_list (option_map (found (n + 1)) (first_failed ((is_quantity (number_told (record_field (n + 1) r)), f) ∷ []))),
-      each-next is_quantity f (n + 1) (number_told (record_field (n + 1) r)) (map number_told (drop n r)) (map number_told (drop (n + 1) r)) _ so_far is (ap (map number_told) (fields-more r n small)),
+      so_far ++ option_to_list (option_map (found (n + 1)) (first_failed ((is_quantity (parsed_numeral (record_field (n + 1) r)), f) ∷ []))),
+      each-next is_quantity f (n + 1) (parsed_numeral (record_field (n + 1) r)) (map parsed_numeral (drop n r)) (map parsed_numeral (drop (n + 1) r)) _ so_far is (ap (map parsed_numeral) (fields-more r n small)),
       keeps-both _ _ _ _ _ keeps added,
     )
 
@@ -30,5 +30,5 @@ returns c =
     let n = c.loop-n.n in
     let f = fault.QuantityRange c.args.place in
     let long : length r ≤ n = (let s = c.loop-n-test.false in let e = c.len-n-end.ensures in omega arith) in
-    let none : map number_told (drop n r) ≡ [] = ap (map number_told) (drop_of_length-le r (omega arith)) in
+    let none : map parsed_numeral (drop n r) ≡ [] = ap (map parsed_numeral) (drop_of_length-le r (omega arith)) in
     rw (is ∙ ap (λ xs. so_far ++ each_failed is_quantity f (n + 1) xs) none ∙ append-nil so_far) keeps

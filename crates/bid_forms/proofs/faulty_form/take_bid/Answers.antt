@@ -4,7 +4,7 @@ use Rattle.csv.specs.Records.{fields_of}
 use Rattle.auction_terms.proofs.AllFaultsFacts.{keeps-none}
 use Rattle.bid_forms.proofs.AllFormFaultsFacts.{begin-bid}
 use Rattle.bid_forms.specs.AllFormFaults.{all_bid_faults}
-use Rattle.bid_forms.specs.FormText.{bid_told}
+use Rattle.bid_forms.specs.FormText.{parsed_bid}
 use Rattle.bid_forms.specs.inside.FormText.{fault_of_bid}
 use Rattle.bid_forms.proofs.faulty_form.take_bid.Goals as goal
 
@@ -15,18 +15,18 @@ pub returns-else-is_err-clause-faults : goal.returns-else-is_err-clause-faults
 returns-else-is_err-clause-faults c =
     let r = fields_of c.args.row.now in
     let begins = begin-bid c.args.rules.now c.args.eligibility c.args.place c.args.bids.now.items r in
-    let told = rw c.deref.ensures.value at c.in-Ok.ensures.answer in
-    let none : all_bid_faults c.args.rules.now c.args.eligibility c.args.place c.args.bids.now.items r ≡ [] = rw told.0 at begins in
+    let parsed = rw c.deref.ensures.value at c.in-Ok.ensures.answer in
+    let none : all_bid_faults c.args.rules.now c.args.eligibility c.args.place c.args.bids.now.items r ≡ [] = rw parsed.0 at begins in
     rw none (keeps-none c.args.faults.now)
 
 pub returns-else-is_err-clause-bids : goal.returns-else-is_err-clause-bids
 returns-else-is_err-clause-bids c accepted is =
     let r = fields_of c.args.row.now in
     let begins = begin-bid c.args.rules.now c.args.eligibility c.args.place c.args.bids.now.items r in
-    let told = rw c.deref.ensures.value at c.in-Ok.ensures.answer in
-    let none : all_bid_faults c.args.rules.now c.args.eligibility c.args.place c.args.bids.now.items r ≡ [] = rw told.0 at begins in
+    let parsed = rw c.deref.ensures.value at c.in-Ok.ensures.answer in
+    let none : all_bid_faults c.args.rules.now c.args.eligibility c.args.place c.args.bids.now.items r ≡ [] = rw parsed.0 at begins in
     let pushed : c.push.new.self.items ≡ c.args.bids.now.items ++ c.in-Ok.bid ∷ [] = search rules in
-    rw none (pushed ∙ ap (λ bids. bids ++ c.in-Ok.bid ∷ []) is ∙ ap (λ bid. map bid_told accepted ++ bid ∷ []) told.1 ∙ sym (map-append bid_told accepted (r ∷ [])))
+    rw none (pushed ∙ ap (λ bids. bids ++ c.in-Ok.bid ∷ []) is ∙ ap (λ bid. map parsed_bid accepted ++ bid ∷ []) parsed.1 ∙ sym (map-append parsed_bid accepted (r ∷ [])))
 
 pub returns-else-is_err-clause-seen : goal.returns-else-is_err-clause-seen
 returns-else-is_err-clause-seen c =
@@ -38,8 +38,8 @@ returns-in_ok-add_bid_faults-in-Err-clause-bids c accepted is =
     let r = fields_of c.args.row.now in
     let t = c.args.rules.now in
     let begins = begin-bid t c.args.eligibility c.args.place c.args.bids.now.items r in
-    let told = rw c.deref.ensures.value at c.in-Err.ensures.answer in
-    let first : fault_of_bid t c.args.eligibility c.args.place c.args.bids.now.items r ≡ Some c.in-Err.fault = rw c.in_ok-check_refused-in-Err.ensures at told in
+    let parsed = rw c.deref.ensures.value at c.in-Err.ensures.answer in
+    let first : fault_of_bid t c.args.eligibility c.args.place c.args.bids.now.items r ≡ Some c.in-Err.fault = rw c.in_ok-check_refused-in-Err.ensures at parsed in
     let (field, more, all) = rw first at begins in
     rw all is
 

@@ -2,7 +2,7 @@ use Rattle.std.proofs.Common.{◌≡◌, ◌+◌, ◌<◌, Some, None, false, re
 use Rattle.csv.specs.Records.{fields_of}
 use Rattle.auction_terms.specs.RulesText.{record_field}
 use Rattle.auction_terms.specs.Numbers.{number_of}
-use Rattle.auction_limits.specs.declared.limits.TheConstants.{GREATEST_QUANTITY}
+use Rattle.auction_terms.specs.declared.limits.TheConstants.{GREATEST_QUANTITY}
 use Rattle.bid_forms.proofs.RecordFacts.{quantities-great, quantities-none, quantities-small}
 use Rattle.bid_forms.proofs.form_text.read_quantities.Goals.{else-value-le-GREATEST_QUANTITY, then-value-le-GREATEST_QUANTITY}
 use Rattle.bid_forms.proofs.form_text.read_quantities.Goals as goal

@@ -1,6 +1,7 @@
-use Rattle.std.proofs.Common.{◌≡◌, drop, ◌+◌, ◌*◌, ◌%◌, ◌^◌, fold}
-use Rattle.bid_forms.specs.inside.Fingerprints.{fingerprint}
+use Rattle.std.proofs.Common.{◌≡◌, ◌<◌, ◌-◌, ◌%◌, fold}
+use Rattle.std.specs.List.{range_with_len}
+use Rattle.bid_forms.specs.inside.Fingerprints.{fingerprint, next_sum, prime}
 use Rattle.bid_forms.proofs.seen.fingerprint.Given as goal
 
-abbrev pub invariant-loop-quantity : goal.invariant-loop-quantity
-invariant-loop-quantity l = fold (λ sum quantity. (sum * l.multiplier % 2 ^ 64 + quantity) % 2 ^ 64) l.sum (drop l.quantity-index l.quantities) ≡ fingerprint l.multiplier l.quantities
+abbrev pub invariant-loop-four : goal.invariant-loop-four
+invariant-loop-four l = (fold (next_sum (l.multiplier % prime) l.quantities) l.sum (range_with_len l.four (l.four-end - l.four)) ≡ fingerprint l.multiplier l.quantities) × (l.sum < prime)

@@ -3,9 +3,9 @@ use Rattle.std.proofs.lemmas.Bool.{false≢true, true≢false}
 use Rattle.auction_input.specs.declared.refusal.Refusal.TheVariants as refusal
 use Rattle.input_faults.proofs.ExplainFacts.{cut-short, held-lines, is-faulty, nothing-found}
 use Rattle.input_faults.specs.Explained.{IsCutShort, by_memory}
-use Rattle.input_faults.specs.FaultLines.{told_of}
+use Rattle.input_faults.specs.FaultLines.{message_of}
 use Rattle.input_faults.specs.TextDetails.{detail}
-use Rattle.requests.proofs.StepFacts.{if-err-of}
+use Rattle.auction_input.proofs.StepFacts.{if-err-of}
 use Rattle.input_faults.proofs.explaining.explain.Goals as goal
 
 pub returns-in_err-faults-clause-refused : goal.returns-in_err-faults-clause-refused
@@ -19,13 +19,13 @@ returns-in_err-lines-clause-refused g c =
 pub returns-in_err-put_lines-clause-refused : goal.returns-in_err-put_lines-clause-refused
 returns-in_err-put_lines-clause-refused g c =
     let f = c.in_err-put_lines.field-0.0 in
-    let lines = c.deref.ensures.value ∙ c.in_ok-lines.ensures ∙ held-lines (told_of c.args.input.now.texts) (detail c.args.request.now c.args.input.now) c.in_ok-faults.faults _ c.in_ok-faults.ensures in
+    let lines = c.deref.ensures.value ∙ c.in_ok-lines.ensures ∙ held-lines (message_of c.args.input.now.texts) (detail c.args.request.now c.args.input.now) c.in_ok-faults.faults _ c.in_ok-faults.ensures in
     if-err-of (IsCutShort _ _ _ _ _) c.from_residual-in_err-put_lines.result (refusal.Write f) c.from_residual-in_err-put_lines.ensures.1
     (cut-short _ _ _ _ _ f (rw lines at c.in_err-put_lines.ensures.err) c.in_err-put_lines.ensures.failed)
 
 pub returns-clause-written : goal.returns-clause-written
 returns-clause-written g c =
-    let lines = c.deref.ensures.value ∙ c.in_ok-lines.ensures ∙ held-lines (told_of c.args.input.now.texts) (detail c.args.request.now c.args.input.now) c.in_ok-faults.faults _ c.in_ok-faults.ensures in
+    let lines = c.deref.ensures.value ∙ c.in_ok-lines.ensures ∙ held-lines (message_of c.args.input.now.texts) (detail c.args.request.now c.args.input.now) c.in_ok-faults.faults _ c.in_ok-faults.ensures in
     rw lines at c.in_ok-put_lines.ensures.ok
 
 pub returns-then-is_empty-clause-written : goal.returns-then-is_empty-clause-written

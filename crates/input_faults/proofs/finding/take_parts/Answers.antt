@@ -3,7 +3,7 @@ use Rattle.auction_terms.proofs.AllFaultsFacts.{keeps-none}
 use Rattle.auction_input.specs.Parts.{parts_held}
 use Rattle.auction_terms.specs.AllFaults.{found}
 use Rattle.input_faults.specs.declared.fault.Fault.TheVariants as fault
-use Rattle.input_faults.proofs.PartsFacts.{part-told, parts-counted, parts-unknown}
+use Rattle.input_faults.proofs.PartsFacts.{part-reported, parts-counted, parts-unknown}
 use Rattle.input_faults.proofs.finding.take_parts.Goals as goal
 
 pub returns-in-Err : goal.returns-in-Err
@@ -11,7 +11,7 @@ returns-in-Err c =
     let asked = c.args.request.now in
     let input = c.args.input.now in
     let f = c.in-Err.fault in
-    let is = parts-unknown asked input f (part-told asked input f c.in-Err.ensures c.in_ok-check_part_fault-in-Err.ensures) in
+    let is = parts-unknown asked input f (part-reported asked input f c.in-Err.ensures c.in_ok-check_part_fault-in-Err.ensures) in
     record { faults = rw is c.in_ok-add-in-Err.ensures; parts = (found 0 (fault.Parts f), is) }
 
 pub returns-in-None : goal.returns-in-None

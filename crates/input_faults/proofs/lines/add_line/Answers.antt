@@ -1,6 +1,6 @@
 use Rattle.std.proofs.Common.{◌∙◌, ◌++◌, ◌∷◌, [], ap}
 use Rattle.byte_sinks.proofs.Adding.{Adds-then, Adds-to}
-use Rattle.input_faults.specs.PlacedText.{told_at, told_in}
+use Rattle.input_faults.specs.PlacedText.{message_at, message_in}
 use Rattle.input_faults.specs.inside.DetailText.{detail_text}
 use Rattle.input_faults.proofs.lines.add_line.Goals as goal
 
@@ -8,5 +8,5 @@ pub returns : goal.returns
 returns g c =
     let texts = c.args.places.now in
     let r = c.refusal-refusal.result in
-    let told = ap (λ xs. told_at xs c.spot_of.result r) c.texts.ensures ∙ ap (λ spot. told_at texts spot r) c.spot_of.ensures ∙ ap (told_in texts) c.refusal-refusal.ensures in
-    Adds-to (Adds-then c.add_told.ensures (Adds-then c.add_detail.ensures c.add.ensures)) (ap (λ bytes. bytes ++ (detail_text c.args.detail.now ++ 10 ∷ [])) told)
+    let reported = ap (λ xs. message_at xs c.spot_of.result r) c.texts.ensures ∙ ap (λ spot. message_at texts spot r) c.spot_of.ensures ∙ ap (message_in texts) c.refusal-refusal.ensures in
+    Adds-to (Adds-then c.add_message.ensures (Adds-then c.add_detail.ensures c.add.ensures)) (ap (λ bytes. bytes ++ (detail_text c.args.detail.now ++ 10 ∷ [])) reported)

@@ -5,8 +5,8 @@ use Rattle.auction_input.specs.Plan.{miscounted}
 use Rattle.auction_terms.specs.Borrowed.{bytes_of}
 use Rattle.byte_sinks.proofs.Adding.{Adds-to}
 use Rattle.input_faults.proofs.PartsFacts.{count-detail, parts-detail}
-use Rattle.input_faults.specs.Details.{parts_count_told}
-use Rattle.input_faults.specs.FaultLines.{fault_line, told_of}
+use Rattle.input_faults.specs.Details.{parts_count_message}
+use Rattle.input_faults.specs.FaultLines.{fault_line, message_of}
 use Rattle.input_faults.specs.declared.fault.Fault.{Fault}
 use Rattle.input_faults.proofs.lines.add_lines_of_parts.Goals as goal
 
@@ -15,10 +15,10 @@ returns-in-Some g c =
     let asked = c.args.request.now in
     let parts = parts_held c.args.parts.now in
     let kind = c.in-Some.kind in
-    let told = c.count_detail-detail.ensures ∙ ap (parts_count_told asked kind) c.count_of.ensures in
-    let alike : List ℕ → ℕ → Fault → List ℕ = λ told n f. told in
-    Adds-to c.add_lines_alike.ensures (ap (λ (d : ℕ → Fault → List ℕ). flat_map (fault_line (told_of c.args.places.now) d) c.args.faults.now)
-    (ap alike told ∙ count-detail asked parts kind (sym c.miscounted.ensures ∙ c.in-Some.is)))
+    let reported = c.count_detail-detail.ensures ∙ ap (parts_count_message asked kind) c.count_of.ensures in
+    let alike : List ℕ → ℕ → Fault → List ℕ = λ reported n f. reported in
+    Adds-to c.add_lines_alike.ensures (ap (λ (d : ℕ → Fault → List ℕ). flat_map (fault_line (message_of c.args.places.now) d) c.args.faults.now)
+    (ap alike reported ∙ count-detail asked parts kind (sym c.miscounted.ensures ∙ c.in-Some.is)))
 
 pub returns : goal.returns
 returns g c =
@@ -26,4 +26,4 @@ returns g c =
     let parts = parts_held c.args.parts.now in
     let none : miscounted asked parts ≡ None = sym c.miscounted.ensures ∙ search rules in
     let forms = ap bytes_of c.as_slice.ensures.value ∙ c.in_ok-forms.ensures in
-    Adds-to c.in_ok-add_lines_in.ensures (ap (λ (d : ℕ → Fault → List ℕ). flat_map (fault_line (told_of c.args.places.now) d) c.args.faults.now) (parts-detail asked parts _ _ _ none c.text_of-rules.ensures forms c.text_of-groups.ensures))
+    Adds-to c.in_ok-add_lines_in.ensures (ap (λ (d : ℕ → Fault → List ℕ). flat_map (fault_line (message_of c.args.places.now) d) c.args.faults.now) (parts-detail asked parts _ _ _ none c.text_of-rules.ensures forms c.text_of-groups.ensures))

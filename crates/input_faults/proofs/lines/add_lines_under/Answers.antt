@@ -1,8 +1,8 @@
 use Rattle.std.proofs.Common.{arith, rules}
 use Rattle.auction_terms.specs.Borrowed.{bytes_of}
 use Rattle.byte_sinks.proofs.Adding.{Adds-then, Adds-to}
-use Rattle.byte_sinks.proofs.Known.{flat_map-next_or}
-use Rattle.input_faults.specs.FaultLines.{fault_line, told_of}
+use Rattle.byte_sinks.proofs.Known.{flat_map-next_item}
+use Rattle.input_faults.specs.FaultLines.{fault_line, message_of}
 use Rattle.input_faults.specs.TextDetails.{detail_under}
 use Rattle.input_faults.proofs.lines.add_lines_under.Goals as goal
 
@@ -13,7 +13,7 @@ pub loop-at-preserved : goal.loop-at-preserved
 loop-at-preserved g c =
     let (added, reads, stands) = c.loop-at.invariant in
     let groups = c.args.groups.now in (
-      Adds-to (Adds-then added (c.in_ok-add_line_under.ensures.added groups stands)) (flat_map-next_or (fault_line (told_of c.args.places.now) (detail_under c.args.rules.now (bytes_of c.args.forms.now) groups)) c.args.faults.now c.loop-at.at-index _ (omega arith)),
+      Adds-to (Adds-then added (c.in_ok-add_line_under.ensures.added groups stands)) (flat_map-next_item (fault_line (message_of c.args.places.now) (detail_under c.args.rules.now (bytes_of c.args.forms.now) groups)) c.args.faults.now c.loop-at.at-index c.at-item.result c.at-item.is (omega arith)),
       c.in_ok-add_line_under.ensures.form,
       c.in_ok-add_line_under.ensures.names _ stands,
     )

@@ -7,8 +7,8 @@ use Rattle.input_faults.proofs.reading.take_form.Goals as goal
 pub returns-in-Ok : goal.returns-in-Ok
 returns-in-Ok c =
     let text = c.args.text.now in
-    let told = form-read c.args.rules.now c.args.number text c.in-Ok.form c.in-Ok.ensures.too_large c.in-Ok.ensures.answer in
-    record { faults = nothing-more c.args.faults.now _ _ _ (begin-one-form c.args.rules.now c.args.number text) told; form = told }
+    let reported = form-read c.args.rules.now c.args.number text c.in-Ok.form c.in-Ok.ensures.too_large c.in-Ok.ensures.answer in
+    record { faults = nothing-more c.args.faults.now _ _ _ (begin-one-form c.args.rules.now c.args.number text) reported; form = reported }
 
 pub returns-in_ok-add_form-in-Err : goal.returns-in_ok-add_form-in-Err
 returns-in_ok-add_form-in-Err c =

@@ -1,19 +1,26 @@
-use Rattle.std.proofs.Common.{◌≡◌, ◌≤◌, ◌+◌, ◌++◌, [], ℕ, List, ap, drop, drop_of_length-le, length, slice_index_or}
+use Rattle.std.proofs.Common.{◌≡◌, ◌≤◌, ◌+◌, ◌++◌, [], ℕ, List, ap, arith, drop, drop_of_length-le, length, refl, slice_index_or}
 use Rattle.std.proofs.lemmas.List.{drop_more}
 use Rattle.auction_input.proofs.InputTextFacts.{Text}
-use Rattle.auction_terms.proofs.AllFaultsFacts.{found-all, found-more, keeps-both}
+use Rattle.auction_input.proofs.StageFacts.{left-first}
+use Rattle.auction_input.specs.ParsedTexts.{parsed_form}
+use Rattle.auction_terms.proofs.AllFaultsFacts.{found-all, found-more, keeps-both, keeps-none}
 use Rattle.auction_terms.specs.AllFaults.{accepted_with, all_faults}
 use Rattle.auction_terms.specs.Borrowed.{bytes_of}
 use Rattle.auction_terms.specs.Terms.{Terms}
 use Rattle.auction_terms.specs.declared.faults.Found.{Found}
 use Rattle.input_faults.specs.InputFaults.{faults_of_form, faults_of_forms}
 use Rattle.input_faults.specs.declared.fault.Fault.{Fault}
-use Rattle.input_faults.proofs.FormsFacts.{calls-known, form-less, form-more}
+use Rattle.input_faults.proofs.FormsFacts.{Seen, calls-known, form-less, form-more, texts-known}
 use Rattle.input_faults.proofs.reading.take_forms.Goals.{in-Some, in-None}
 use Rattle.input_faults.proofs.reading.take_forms.Goals as goal
 
 abbrev faults_by_form : Terms → ℕ → List (List ℕ) → List ℕ → List (Found Fault)
 faults_by_form t = λ number before text. faults_of_form t number text
+
+pub loop-place-init : goal.loop-place-init
+loop-place-init c =
+    let t = c.args.rules.now in
+    ([], [], refl, keeps-none _, ([], refl, left-first (parsed_form t) (bytes_of c.args.texts.now), c.new-calls.ensures, c.new-known.ensures t))
 
 pub loop-place-preserved : goal.loop-place-preserved
 loop-place-preserved c =
@@ -21,7 +28,9 @@ loop-place-preserved c =
     let t = c.args.rules.now in
     let texts = c.args.texts.now in
     let place = c.loop-place.place in
-    let calls = c.loop-place.calls in
+    let seen : Seen = record { calls = c.loop-place.calls; known = c.loop-place.known } in
+    let as_many = c.requires in
+    let in_texts = c.loop-place-test.true in
     let none : Text = record { ref_ptr = (0, 0); now = [] } in
     let text = (slice_index_or texts place none).now in
     let next = ap bytes_of (drop_more texts place none c.loop-place-test.true) in
@@ -32,11 +41,11 @@ loop-place-preserved c =
       keeps-both _ _ _ _ _ keeps c.in_ok-form.ensures.faults,
       elim c.match-branch-2.branch [
         | in-Some w ↦ (
-            let told = rw w.in-Some.is at c.in_ok-form.ensures.form in
-            rw (w.all_read-is, w.calls-is) (form-more c.loop-place.all_read t texts place calls w.count.new.self text w.in-Some.form known next told w.count.ensures))
+            let reported = rw w.in-Some.is at c.in_ok-form.ensures.form in
+            rw (w.all_read-is, w.calls-is, w.known-is) (form-more c.loop-place.all_read t texts c.args.numbers.now place seen (record { calls = w.count.new.self; known = w.add.new.self }) text w.in-Some.form (omega arith) known next reported w.count.ensures w.add.ensures))
         | in-None w ↦ (
-            let (r, told) = rw w.in-None.is at c.in_ok-form.ensures.form in
-            rw w.all_read-is (form-less c.loop-place.all_read t texts place calls calls text r known next told))
+            let (r, reported) = rw w.in-None.is at c.in_ok-form.ensures.form in
+            rw w.all_read-is (form-less c.loop-place.all_read t texts c.args.numbers.now place seen seen text r known next reported))
       ],
     )
 
@@ -58,4 +67,4 @@ returns-clause-faults c =
 pub returns-clause-call : goal.returns-clause-call
 returns-clause-call c =
     let (so_far, accepted, found, keeps, known) = c.loop-place.invariant in
-    calls-known c.args.rules.now c.args.texts.now c.loop-place.place c.loop-place.calls c.loop-place-test.false (rw c.if-not-all_read.false at known)
+    calls-known c.args.rules.now c.args.texts.now c.args.numbers.now c.loop-place.place _ c.loop-place-test.false (rw c.if-not-all_read.false at known)

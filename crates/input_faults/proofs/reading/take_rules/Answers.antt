@@ -7,8 +7,8 @@ use Rattle.input_faults.proofs.reading.take_rules.Goals as goal
 pub returns-in-Ok : goal.returns-in-Ok
 returns-in-Ok c =
     let text = c.args.text.now in
-    let told = rules-read text c.in-Ok.rules c.in-Ok.ensures.too_large c.in-Ok.ensures.answer in
-    record { faults = nothing-more c.args.faults.now _ _ _ (begin-terms text) told; rules = told }
+    let reported = rules-read text c.in-Ok.rules c.in-Ok.ensures.too_large c.in-Ok.ensures.answer in
+    record { faults = nothing-more c.args.faults.now _ _ _ (begin-terms text) reported; rules = reported }
 
 pub returns-in_ok-add_rules-in-Err : goal.returns-in_ok-add_rules-in-Err
 returns-in_ok-add_rules-in-Err c =

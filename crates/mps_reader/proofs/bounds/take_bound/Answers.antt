@@ -2,18 +2,18 @@ use Rattle.std.proofs.Common.{rules, ◌≡◌, ◌+◌, ◌∙◌, ap, sym, ref
 use Rattle.mps_reader.proofs.PairFaults.{last-one}
 use Rattle.std.proofs.lemmas.Option.{slice_get_within, slice_get_read}
 use Rattle.std.specs.Prelude.{codes, slice_get}
-use Rattle.mps_meaning.specs.declared.fault.FaultKind.TheVariants.{UnknownColumn}
-use Rattle.line_words.specs.Lines.{field}
-use Rattle.mps_meaning.specs.Described.{value, bound_pair}
+use Rattle.program_rows.specs.declared.mps_fault_kind.MpsFaultKind.TheVariants.{UnknownColumn}
+use Rattle.auction_terms.specs.LineFields.{field}
+use Rattle.program_rows.specs.MpsProgram.{value, bound_pair}
 use Rattle.auction_terms.specs.Borrowed.{bytes_of}
 use Rattle.mps_reader.specs.inside.Rows.{names_of}
-use Rattle.mps_reader.specs.inside.Tracking.{state_values, told_values, bounded_values}
+use Rattle.mps_reader.specs.inside.Tracking.{state_values, parsed_values, bounded_values}
 use Rattle.mps_reader.proofs.NameFacts.{length-bytes, own_name, same_name}
 use Rattle.mps_reader.proofs.RowSteps.{no_name, field-at}
 use Rattle.mps_reader.proofs.StampFacts.{found-row}
 use Rattle.mps_reader.specs.declared.column_state.ColumnState.{ColumnState}
 use Rattle.mps_reader.proofs.AnswerFacts.{handed-on}
-use Rattle.mps_reader.proofs.BoundTells.{type-refused, type-taken, column-at, number-at, known-is, values-binary, values-of, told-at, bound-tells}
+use Rattle.mps_reader.proofs.BoundTells.{type-refused, type-taken, column-at, number-at, known-is, values-binary, values-of, parsed-at, bound-tells}
 use Rattle.mps_reader.specs.inside.Reading.{bit_fault}
 use Rattle.mps_reader.proofs.bounds.take_bound.Goals as goal
 
@@ -64,9 +64,9 @@ returns-clause-tells c = λ objective rows lines bounds distinct h.
     let size = length-bytes c.args.columns.now.names.keys in
     let low = slice_get_within (names_of c.args.columns.now.names) c.in-Some.index (field 0 (bound_pair fields)) at in
     let here : slice_get c.args.columns.now.states.items c.in-Some.index ≡ Some c.index.result.now = slice_get_read c.args.columns.now.states.items _ c.in-Some.index c.index.result.now refl (omega arith) c.index.ensures in
-    let before = told-at lines bounds c.args.columns.now.states.items (names_of c.args.columns.now.names) c.in-Some.index c.index.result.now (field 0 (bound_pair fields)) here at (h.states ∙ ap (map (told_values lines bounds)) (sym h.names)) in
+    let before = parsed-at lines bounds c.args.columns.now.states.items (names_of c.args.columns.now.names) c.in-Some.index c.index.result.now (field 0 (bound_pair fields)) here at (h.states ∙ ap (map (parsed_values lines bounds)) (sym h.names)) in
     let word : (get_or c.args.fields.now 0 no_name).now ≡ field 0 fields = sym (field-at c.args.fields.now 0 (omega (arith, c.requires.some))) in
-    let told = c.in_ok-state.ensures.values ∙ ap (λ w. bounded_values w (value (get_or c.args.fields.now (c.place_of_column-at.result + 1) no_name).now) (state_values c.index.result.now)) word
+    let parsed = c.in_ok-state.ensures.values ∙ ap (λ w. bounded_values w (value (get_or c.args.fields.now (c.place_of_column-at.result + 1) no_name).now) (state_values c.index.result.now)) word
     ∙ ap (λ n. bounded_values (field 0 fields) (value n) (state_values c.index.result.now)) (sym number) ∙ ap (bounded_values (field 0 fields) (value (field 1 (bound_pair fields)))) before
     ∙ sym (values-of fields lines bounds (field 0 (bound_pair fields)) (own_name (field 0 (bound_pair fields))) (c.in_ok-is_binary.ensures.number c.if-is_binary.false)) in
-    bound-tells fields objective rows lines bounds c.args.columns.now _ c.in-Some.index c.in_ok-state.state refl refl distinct at told h
+    bound-tells fields objective rows lines bounds c.args.columns.now _ c.in-Some.index c.in_ok-state.state refl refl distinct at parsed h

@@ -1,8 +1,8 @@
 use Rattle.std.proofs.Common.{rules, ◌≡◌, ◌==◌, ◌||◌, ◌∙◌, ap, sym, subst, arith, true, false, length, get_or, Some}
 use Rattle.std.specs.Prelude.{◌++◌, drop, bytes_eq}
 use Rattle.std.specs.List.{list_any}
-use Rattle.line_words.specs.Lines.{field}
-use Rattle.mps_meaning.specs.Described.{is_marker, column_pairs, pairs}
+use Rattle.auction_terms.specs.LineFields.{field}
+use Rattle.program_rows.specs.MpsProgram.{is_marker, column_pairs, pairs}
 use Rattle.auction_terms.specs.Borrowed.{bytes_of}
 use Rattle.mps_reader.specs.inside.Rows.{names_of, option_now, declared_row_names, StampsAre}
 use Rattle.mps_reader.specs.inside.Tracking.{AreStampsUpTo}

@@ -1,7 +1,7 @@
 use Rattle.std.proofs.Common.{rules, ◌≡◌, ◌∷◌, ◌∙◌, ap, sym, subst, List, ℕ, ℤ, Some, None}
 use Rattle.std.specs.Prelude.{bytes_eq, if◌then◌else◌}
 use Rattle.std.specs.List.{list_any}
-use Rattle.mps_meaning.specs.Described.{value, number_beside}
+use Rattle.program_rows.specs.MpsProgram.{value, number_beside}
 use Rattle.mps_reader.specs.inside.Rows.{names_of, option_now, declared_row_names}
 use Rattle.mps_reader.specs.inside.Tracking.{OpenTells}
 use Rattle.mps_reader.specs.declared.row_table.Rows.{Rows}

@@ -1,6 +1,6 @@
 use Rattle.std.proofs.Common.{rules, ◌≡◌, ◌∙◌, sym, length}
 use Rattle.std.proofs.lemmas.Bool.{eqb-true}
-use Rattle.line_words.specs.Lines.{fields}
+use Rattle.auction_terms.specs.LineFields.{fields}
 use Rattle.auction_terms.specs.Borrowed.{bytes_of}
 use Rattle.std.proofs.lemmas.List.{take_at}
 use Rattle.mps_reader.proofs.NameFacts.{length-bytes}

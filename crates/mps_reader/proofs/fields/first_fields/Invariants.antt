@@ -1,12 +1,12 @@
 use Rattle.std.proofs.Common.{◌≡◌, ◌++◌, ◌≤◌, length}
 use Rattle.std.specs.Prelude.{take}
 use Rattle.std.specs.List.{list_all}
-use Rattle.line_words.specs.Lines.{fields}
+use Rattle.auction_terms.specs.LineFields.{fields}
 use Rattle.auction_terms.specs.Borrowed.{bytes_of}
 use Rattle.mps_reader.specs.inside.Reading.{is_text_byte}
 use Rattle.mps_reader.proofs.fields.first_fields.Given as goal
 
--- the fields so far stand before those of the rest, up to the sixth, and the line is one of text if the rest is
+-- the fields so far come before those of the rest, up to the sixth, and the line is one of text if the rest is
 abbrev pub invariant-loop-field : goal.invariant-loop-field
 invariant-loop-field l = record {
   few : length l.fields.items ≤ 6;

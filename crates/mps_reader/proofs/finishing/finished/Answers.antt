@@ -3,7 +3,7 @@ use Rattle.std.proofs.lemmas.List.{length-map}
 use Rattle.program_rows.specs.Parts.{IsProgram, shown_row}
 use Rattle.mps_reader.specs.inside.States.{state_bounds}
 use Rattle.mps_reader.proofs.FitFacts.{done-length, program-fits}
-use Rattle.mps_reader.proofs.ProgramTold.{program-told}
+use Rattle.mps_reader.proofs.ParsedProgram.{program-parsed}
 use Rattle.mps_reader.proofs.finishing.finished.Goals as goal
 
 pub with_bounds-requires : goal.with_bounds-requires
@@ -18,5 +18,5 @@ from_parts-requires c =
 
 pub returns : goal.returns
 returns c = λ before h.
-    program-told before c.args.reading c.in_ok-objective_name.objective_name.items c.in_ok-bounds.bounds.items c.requires.fit c.requires.closed c.in_ok-objective_name.ensures (c.in_ok-bounds.ensures ∙ ap (map state_bounds) c.as_slice.ensures.value) h
+    program-parsed before c.args.reading c.in_ok-objective_name.objective_name.items c.in_ok-bounds.bounds.items c.requires.fit c.requires.closed c.in_ok-objective_name.ensures (c.in_ok-bounds.ensures ∙ ap (map state_bounds) c.as_slice.ensures.value) h
     ∙ ap (λ cs. record { objective = c.in_ok-objective_name.objective_name.items; rows = map shown_row c.args.reading.rows.rows.items; columns = cs }) (sym c.with_bounds.ensures) ∙ sym c.from_parts.ensures

@@ -1,8 +1,8 @@
 use Rattle.std.proofs.Common.{sym, ap, ◌∙◌, ◌≡◌, ◌&&◌, ◌∷◌, []}
 use Rattle.std.specs.Prelude.{codes}
 use Rattle.std.proofs.lemmas.Bool.{le-ltb, lt-ltb}
-use Rattle.mps_meaning.specs.Described.{is_one_of}
-use Rattle.mps_meaning.specs.Faults.{place_of}
+use Rattle.program_rows.specs.MpsProgram.{is_one_of}
+use Rattle.program_rows.specs.MpsFaults.{place_of}
 use Rattle.auction_terms.specs.Borrowed.{bytes_of}
 use Rattle.mps_reader.specs.inside.Sections.{word_of}
 use Rattle.mps_reader.proofs.SectionWords.{named}

@@ -3,10 +3,10 @@ use Rattle.auction_terms.specs.Lines.{lines_of}
 use Rattle.auction_terms.proofs.LineCount.{lines-within}
 use Rattle.mps_reader.proofs.EndFacts.{moved}
 use Rattle.std.specs.Prelude.{Ok}
-use Rattle.mps_meaning.specs.MpsLines.{line_of}
-use Rattle.mps_meaning.specs.Sections.{no_lines, with_line}
+use Rattle.program_rows.specs.MpsLines.{line_of}
+use Rattle.program_rows.specs.MpsSections.{no_lines, with_line}
 use Rattle.mps_reader.proofs.LineAnswers.{meaning-starts, meaning-goes-on, meaning-ends, program-ended}
-use Rattle.mps_meaning.specs.Meaning.{meaning_behind}
+use Rattle.program_rows.specs.MpsMeaning.{meaning_behind}
 use Rattle.mps_reader.proofs.reader.read_lines.Goals as goal
 
 pub overflow_add-place : goal.overflow_add-place

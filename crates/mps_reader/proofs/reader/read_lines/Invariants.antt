@@ -1,7 +1,7 @@
 use Rattle.std.proofs.Common.{◌≡◌, ℕ, List, ◌++◌, length, map}
-use Rattle.mps_meaning.specs.MpsLines.{line_of}
-use Rattle.mps_meaning.specs.Sections.{Sections}
-use Rattle.mps_meaning.specs.Meaning.{meaning, meaning_behind}
+use Rattle.program_rows.specs.MpsLines.{line_of}
+use Rattle.program_rows.specs.MpsSections.{Sections}
+use Rattle.program_rows.specs.MpsMeaning.{meaning, meaning_behind}
 use Rattle.mps_reader.specs.inside.Tracking.{ReadingTells}
 use Rattle.auction_terms.specs.Lines.{lines_of}
 use Rattle.mps_reader.specs.inside.Agreeing.{ReadingFits}

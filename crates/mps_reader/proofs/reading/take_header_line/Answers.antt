@@ -1,7 +1,7 @@
 use Rattle.std.proofs.Common.{rules, ◌≡◌, ◌∙◌, ap, sym, refl, arith, get_or, Some, None}
 use Rattle.std.specs.Prelude.{option_map, position, not}
-use Rattle.mps_meaning.specs.declared.fault.FaultKind.TheVariants.{NotBinary}
-use Rattle.line_words.specs.Lines.{field}
+use Rattle.program_rows.specs.declared.mps_fault_kind.MpsFaultKind.TheVariants.{NotBinary}
+use Rattle.auction_terms.specs.LineFields.{field}
 use Rattle.auction_terms.specs.Borrowed.{bytes_of}
 use Rattle.mps_reader.specs.inside.States.{is_binary_state}
 use Rattle.mps_reader.proofs.RowSteps.{no_name, field-at}

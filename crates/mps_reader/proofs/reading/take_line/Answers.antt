@@ -1,5 +1,5 @@
 use Rattle.std.proofs.Common.{rules, ◌∙◌, Bool}
-use Rattle.line_words.specs.Lines.{fields}
+use Rattle.auction_terms.specs.LineFields.{fields}
 use Rattle.auction_terms.specs.Borrowed.{bytes_of}
 use Rattle.mps_reader.proofs.AnswerFacts.{handed-on}
 use Rattle.mps_reader.proofs.LineAnswers.{skipped-fault, skipped-next, unprintable-fault, header-answer, header-next, data-answer, data-next}

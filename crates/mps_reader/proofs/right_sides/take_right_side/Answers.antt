@@ -9,8 +9,8 @@ use Rattle.std.specs.List.{list_any, IsDistinct, AllByRecursion}
 use Rattle.std.specs.Option.{option_map_or}
 use Rattle.std.proofs.lemmas.Int.{to_z-of_z}
 use mir.Val.{SFits, to_z, of_z}
-use Rattle.line_words.specs.Lines.{field}
-use Rattle.mps_meaning.specs.Described.{value}
+use Rattle.auction_terms.specs.LineFields.{field}
+use Rattle.program_rows.specs.MpsProgram.{value}
 use Rattle.mps_reader.proofs.AnswerFacts.{handed-on}
 use Rattle.mps_reader.proofs.PairTells.{stamped-are, row-at, free-apart}
 use Rattle.mps_reader.proofs.SideTells.{row-names-by, none-by, side-by, early-refused}

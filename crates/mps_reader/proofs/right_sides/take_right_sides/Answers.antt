@@ -2,7 +2,7 @@ use Rattle.std.proofs.Common.{rules, ◌≡◌, ◌∷◌, ◌∙◌, ap, sym, L
 use Rattle.std.specs.Prelude.{bytes_eq, if◌then◌else◌}
 use Rattle.std.specs.List.{list_any}
 use Rattle.std.specs.Option.{option_map_or}
-use Rattle.mps_meaning.specs.Described.{value, first_free, number_beside}
+use Rattle.program_rows.specs.MpsProgram.{value, first_free, number_beside}
 use Rattle.mps_reader.specs.inside.Rows.{names_of}
 use Rattle.mps_reader.proofs.NameFacts.{or-false}
 use Rattle.mps_reader.proofs.AnswerFacts.{handed-on}

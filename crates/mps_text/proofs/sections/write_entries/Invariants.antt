@@ -5,7 +5,7 @@ use Rattle.mps_text.specs.Bytes.{entry_bytes}
 use Rattle.mps_text.specs.declared.line.TheConstants.{FRONT_LEN, LINES_LEN}
 use Rattle.mps_text.proofs.sections.write_entries.Given as goal
 
--- the lines so far stand one behind the other
+-- the lines so far come one after the other
 abbrev pub invariant-loop-entry : goal.invariant-loop-entry
 invariant-loop-entry l = record {
   lines : take l.at l.lines ≡ flat_map (entry_bytes (map shown_row l.rows) l.name) (take l.entry-index l.entries);

@@ -5,7 +5,7 @@ use Rattle.std.proofs.lemmas.Result.{on_ok_weaker}
 use Rattle.optimality.specs.Certificates.{Form}
 use Rattle.optimality.specs.inside.Adding.{number_at, cuts_given, form_at, rows_given}
 use Rattle.optimality.specs.inside.Holding.{cuts_of}
-use Rattle.optimality.specs.inside.RowForms.{forms_held, row_forms}
+use Rattle.optimality.specs.inside.RowForms.{row_forms}
 use Rattle.optimality.specs.Sizes.{size_of}
 use Rattle.optimality.specs.inside.Sizes.{form_size}
 use Rattle.optimality.proofs.ColumnSizes.{given-reached}
@@ -22,20 +22,20 @@ from_none none cuts of_cuts a b = omega (arith, ints)
 pub returns-clause-value : goal.returns-clause-value
 returns-clause-value c =
     let leaf = c.args.leaf.now in
-    let forms = ap forms_held c.as_slice-2.ensures.value ∙ c.requires.prepared.forms in
+    let forms = c.requires.forms in
     let empty = c.clear.new.self.numbers.items in
     let with_cuts = c.add_cuts.new.sums.numbers.items in
     let with_rows = c.add_rows.new.sums.numbers.items in
     let cuts = cuts_of c.args.splits.now in
     on_ok_weaker c.add_rows.result (λ more q.
-    in_turn (number_at empty q) (number_at with_cuts q) (number_at with_rows q) (cuts_given leaf.multipliers.items cuts q) (rows_given c.args.rows.now (row_forms c.args.checker.now.program.now) q) (c.clear.ensures q)
+    in_turn (number_at empty q) (number_at with_cuts q) (number_at with_rows q) (cuts_given leaf.multipliers.items cuts q) (rows_given c.args.rows.now (row_forms c.args.program.now) q) (c.clear.ensures q)
     (c.in_ok-add_cuts.ensures.value q ∙ ap (λ (ys : List ℕ). number_at empty q +ℤ cuts_given ys cuts q) c.as_slice.ensures.value)
     (more q ∙ ap (λ (fs : List Form). number_at with_cuts q +ℤ rows_given c.args.rows.now fs q) forms)) c.add_rows.ensures.value
 
 pub returns-clause-too_large : goal.returns-clause-too_large
 returns-clause-too_large c =
     let leaf = c.args.leaf.now in
-    let forms = ap forms_held c.as_slice-2.ensures.value ∙ c.requires.prepared.forms in
+    let forms = c.requires.forms in
     let empty = c.clear.new.self.numbers.items in
     let with_cuts = c.add_cuts.new.sums.numbers.items in
     let cuts = cuts_of c.args.splits.now in
@@ -44,5 +44,5 @@ returns-clause-too_large c =
     let q = reached.0 in
     let given : number_at with_cuts q ≡ cuts_given leaf.multipliers.items cuts q =
     from_none (number_at empty q) (number_at with_cuts q) (cuts_given leaf.multipliers.items cuts q) (c.clear.ensures q) (c.in_ok-add_cuts.ensures.value q ∙ ap (λ (ys : List ℕ). number_at empty q +ℤ cuts_given ys cuts q) c.as_slice.ensures.value) in
-    given-reached c.args.checker.now.program.now c.well_formed-2.ensures leaf.multipliers.items cuts c.args.rows.now (number_at with_cuts q) q given
+    given-reached c.args.program.now c.well_formed-2.ensures leaf.multipliers.items cuts c.args.rows.now (number_at with_cuts q) q given
     (subst (λ (fs : List Form). 2 ^ 126 ≤ unsigned_abs (number_at with_cuts q) + size_of (λ t. unsigned_abs t.1 * form_size (form_at fs t.0)) c.args.rows.now) forms reached.1))

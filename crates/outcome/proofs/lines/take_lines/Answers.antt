@@ -4,7 +4,7 @@ use Rattle.auction_terms.proofs.LineCount.{lines-within}
 use Rattle.auction_terms.specs.Lines.{lines_of}
 use Rattle.outcome.specs.Solution.{solution_line_fault}
 use Rattle.auction_terms.specs.Borrowed.{bytes_of}
-use Rattle.outcome.proofs.ToldLaws.{told_fine, told_none, told_of, told_some}
+use Rattle.outcome.proofs.ParsedLaws.{unless_fine, fine_unless, message_of, parsed_some}
 use Rattle.outcome.proofs.lines.take_lines.Goals as goal
 
 pub overflow_add-place : goal.overflow_add-place
@@ -17,7 +17,7 @@ loop-line-preserved c =
     let (before, so_far, place, count, said) = c.loop-line.invariant in
     let line = c.in-Some.line.now in
     let columns = bytes_of c.args.columns.now.names.keys in
-    let none = told_none _ _ _ (c.in_ok-take_line.ensures.answer before said (omega (arith, place))) in
+    let none = fine_unless _ _ _ (c.in_ok-take_line.ensures.answer before said (omega (arith, place))) in
     let more = checked-more (solution_line_fault columns) (lines_of c.args.text.now) before c.loop-line.lines c.next.new.self line so_far c.in-Some.ensures none in
     let n = length-append before (line ∷ []) in
     let fewer = ap length c.in-Some.ensures in
@@ -29,15 +29,15 @@ returns-in_err-take_line-clause-answer c =
     let line = c.in-Some.line.now in
     let columns = bytes_of c.args.columns.now.names.keys in
     let same : c.from_residual.result ≡ Err c.in_err-take_line.field-0.0 = search rules in
-    let some = told_some _ _ _ (c.in_err-take_line.ensures.answer before said (omega (arith, place))) in
+    let some = parsed_some _ _ _ (c.in_err-take_line.ensures.answer before said (omega (arith, place))) in
     let first = checked-fault (solution_line_fault columns) (lines_of c.args.text.now) before c.loop-line.lines c.next.new.self line c.in_err-take_line.field-0.0 so_far c.in-Some.ensures some in
-    same ∙ told_of _ _ _ first
+    same ∙ message_of _ _ _ first
 
 pub returns-clause-answer : goal.returns-clause-answer
 returns-clause-answer c =
     let (before, so_far, place, count, said) = c.loop-line.invariant in
     let end = checked-all (solution_line_fault (bytes_of c.args.columns.now.names.keys)) (lines_of c.args.text.now) before (rw c.in_default.ensures.0 at so_far) in
-    told_fine _ _ end.0
+    unless_fine _ _ end.0
 
 pub returns-clause-said : goal.returns-clause-said
 returns-clause-said c =

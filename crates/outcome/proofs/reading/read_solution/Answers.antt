@@ -1,6 +1,6 @@
 use Rattle.std.proofs.Common.{◌≡◌, Err, sym, rules}
 use Rattle.outcome.proofs.PointLaws.{solutions_are_points}
-use Rattle.outcome.proofs.ToldLaws.{faulty_line, no_point, point_told, too_long}
+use Rattle.outcome.proofs.ParsedLaws.{faulty_line, no_point, parsed_point, too_long}
 use Rattle.outcome.proofs.reading.read_solution.Goals as goal
 
 pub returns-then-bytes-gt-SOLUTION_LIMIT-clause-answer : goal.returns-then-bytes-gt-SOLUTION_LIMIT-clause-answer
@@ -17,9 +17,9 @@ returns-in_err-check_point-clause-answer c =
     rw same (no_point c.args.program.now c.args.bytes.now c.in_err-check_point.field-0.0 c.in_ok-point.point c.if-bytes-gt-SOLUTION_LIMIT.false c.in_ok-point.ensures c.in_err-check_point.ensures)
 
 pub returns-clause-answer : goal.returns-clause-answer
-returns-clause-answer c = point_told c.args.program.now c.args.bytes.now c.in_ok-point.point c.if-bytes-gt-SOLUTION_LIMIT.false c.in_ok-point.ensures c.in_ok-check_point.ensures
+returns-clause-answer c = parsed_point c.args.program.now c.args.bytes.now c.in_ok-point.point c.if-bytes-gt-SOLUTION_LIMIT.false c.in_ok-point.ensures c.in_ok-check_point.ensures
 
 pub returns-clause-point : goal.returns-clause-point
 returns-clause-point c =
-    let told = point_told c.args.program.now c.args.bytes.now c.in_ok-point.point c.if-bytes-gt-SOLUTION_LIMIT.false c.in_ok-point.ensures c.in_ok-check_point.ensures in
-    solutions_are_points c.args.program.now c.args.bytes.now c.in_ok-point.point (sym told)
+    let parsed = parsed_point c.args.program.now c.args.bytes.now c.in_ok-point.point c.if-bytes-gt-SOLUTION_LIMIT.false c.in_ok-point.ensures c.in_ok-check_point.ensures in
+    solutions_are_points c.args.program.now c.args.bytes.now c.in_ok-point.point (sym parsed)

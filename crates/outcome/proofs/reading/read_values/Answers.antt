@@ -7,7 +7,7 @@ use Rattle.program_rows.specs.ProgramNames.{column_names}
 use Rattle.outcome.specs.Solution.{is_one, solution_line_fault}
 use Rattle.outcome.specs.inside.Reading.{said_by}
 use Rattle.outcome.proofs.SaidLaws.{nothing_said, read_off}
-use Rattle.outcome.proofs.ToldLaws.{told_fine, told_none}
+use Rattle.outcome.proofs.ParsedLaws.{unless_fine, fine_unless}
 use Rattle.outcome.proofs.reading.read_values.Goals as goal
 
 pub take_solution-requires-clause-nothing : goal.take_solution-requires-clause-nothing
@@ -20,9 +20,9 @@ pub returns : goal.returns
 returns c =
     let names = column_names c.args.program.now in
     let lines = lines_of c.args.bytes.now in
-    let fine : first_fault (solution_line_fault names) [] lines ≡ None = told_none _ _ _ c.in_ok-take_solution.ensures.answer in
+    let fine : first_fault (solution_line_fault names) [] lines ≡ None = fine_unless _ _ _ c.in_ok-take_solution.ensures.answer in
     let size : length c.take_solution.new.said ≡ c.in_ok-said.said.len = omega (arith, c.take_solution.auto.said, c.deref_mut.ensures.len) in
     let said : c.deref.result.now ≡ said_by names lines = c.deref.ensures.value ∙ take_at c.take_solution.new.said _ c.in_ok-said.said.len size ∙ c.in_ok-take_solution.ensures.said in
     let read : c.new.result ≡ map (is_one lines) names =
     c.new.ensures ∙ c.in_ok-values_from.ensures ∙ ap (map (λ (o : Option Bool). unwrap_or o false)) said ∙ read_off names lines in
-    ap (λ (vs : List Bool). Ok vs) read ∙ told_fine _ _ fine
+    ap (λ (vs : List Bool). Ok vs) read ∙ unless_fine _ _ fine

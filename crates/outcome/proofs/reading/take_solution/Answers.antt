@@ -4,7 +4,7 @@ use Rattle.std.specs.Prelude.{OnOk}
 use Rattle.auction_terms.specs.FirstFault.{first_fault}
 use Rattle.auction_terms.specs.Lines.{lines_of}
 use Rattle.auction_terms.specs.Stages.{unless}
-use Rattle.auction_terms.proofs.FirstFaultFacts.{answers-told}
+use Rattle.auction_terms.proofs.FirstFaultFacts.{answers-parsed}
 use Rattle.outcome.specs.Solution.{is_solution_memory, solution_line_fault}
 use Rattle.outcome.specs.inside.Reading.{said_by}
 use Rattle.outcome.proofs.reading.take_solution.Goals as goal
@@ -19,7 +19,7 @@ take_lines-requires-clause-nothing c = c.requires.nothing ∙ ap (λ (names : Li
 pub returns-clause-answer : goal.returns-clause-answer
 returns-clause-answer c =
     let lines = lines_of c.args.bytes.now in
-    answers-told is_solution_memory c.take_lines.result _ (c.take_lines.ensures.answer ∙ ap (λ (names : List (List ℕ)). unless (first_fault (solution_line_fault names) [] lines) (Ok tt)) c.in_ok-columns.ensures)
+    answers-parsed is_solution_memory c.take_lines.result _ (c.take_lines.ensures.answer ∙ ap (λ (names : List (List ℕ)). unless (first_fault (solution_line_fault names) [] lines) (Ok tt)) c.in_ok-columns.ensures)
 
 pub returns-clause-said : goal.returns-clause-said
 returns-clause-said c =

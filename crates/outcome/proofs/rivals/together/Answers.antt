@@ -4,7 +4,7 @@ use Rattle.std.proofs.lemmas.Bool.{and_from}
 use Rattle.std.proofs.lemmas.Bool.Decides.{nat_tests}
 use Rattle.std.proofs.lemmas.List.{take_more, take_all}
 use Rattle.std.proofs.lemmas.List.Folds.{list_all_at, list_all_more}
-use Rattle.auction_limits.specs.declared.limits.TheConstants.{GREATEST_QUANTITY}
+use Rattle.auction_terms.specs.declared.limits.TheConstants.{GREATEST_QUANTITY}
 use Rattle.auction_terms.specs.Packages.{IsPackage}
 use Rattle.outcome.specs.inside.Rivals.{both_packages}
 use Rattle.outcome.proofs.QuantityLaws.{are_small, both-at, both-length, package-both}

@@ -2,7 +2,7 @@ use Rattle.std.proofs.Common.{◌≡◌, ◌==◌, ◌++◌, ◌+◌, ℕ, List,
 use Rattle.std.specs.Prelude.{filter}
 use Rattle.std.specs.List.{range_with_len}
 use Rattle.auction_terms.specs.declared.choices.Choice.{Choice}
-use Rattle.auction_limits.specs.declared.limits.TheConstants.{MOST_BIDDERS}
+use Rattle.auction_terms.specs.declared.limits.TheConstants.{MOST_BIDDERS}
 use Rattle.outcome.specs.inside.Winning.{by_bidder}
 use Rattle.outcome.specs.PointAllocation.{HasRisingBidders}
 use Rattle.outcome.proofs.BackLaws.{by_bidder-more, rises_all}

@@ -61,9 +61,9 @@ stands_beside : (lots : Lots) (form : List Bid) (items : List SizedBid) (k : ℕ
     → (int_le (pos 0) x.net && not (list_any (beats x) items)) ≡ stands lots form x.bid.now
 stands_beside lots form items k x o within is =
     let mine : TellsItsNet lots x = subst (TellsItsNet lots) (sym is) (o.nets k x within) in
-    let told : TellsItsSize x = subst TellsItsSize (sym is) (o.told k x within) in
+    let reported : TellsItsSize x = subst TellsItsSize (sym is) (o.reported k x within) in
     let fit : fits lots x.bid.now.package ≡ true = subst (λ (s : SizedBid). fits lots s.bid.now.package ≡ true) (sym is) (all_fit lots form items o k x within) in
-    ap₂ (λ (z : ℤ) (b : Bool). int_le (pos 0) z && not b) mine (rivals_suffice lots form items x o told mine fit)
+    ap₂ (λ (z : ℤ) (b : Bool). int_le (pos 0) z && not b) mine (rivals_suffice lots form items x o reported mine fit)
 
 pub loop-place-preserved : goal.loop-place-preserved
 loop-place-preserved c =

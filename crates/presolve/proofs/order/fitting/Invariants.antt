@@ -7,6 +7,6 @@ use Rattle.presolve.proofs.order.fitting.Given as goal
 abbrev pub invariant-loop-place : goal.invariant-loop-place
 invariant-loop-place l = record {
   so_far : map sized_of l.fitting.items ++ fitting_from (lots_in l.rules) (1 + l.place) (drop l.place l.bids) ≡ fitting_from (lots_in l.rules) 1 l.bids;
-  told : All TellsItsSize l.fitting.items;
+  reported : All TellsItsSize l.fitting.items;
   nets : All (TellsItsNet (lots_in l.rules)) l.fitting.items;
 }

@@ -10,6 +10,6 @@ invariant-loop-place l = record {
   count : vec_len l.numbered ≡ l.place;
   room : length l.bids ≤ vec_capacity l.numbered;
   same : map (λ (s : SizedBid). s.bid.now) l.numbered.items ≡ take l.place l.bids;
-  told : All TellsItsSize l.numbered.items;
+  reported : All TellsItsSize l.numbered.items;
   nets : All (TellsItsNet (lots_in l.rules)) l.numbered.items;
 }

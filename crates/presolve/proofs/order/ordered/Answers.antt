@@ -18,6 +18,6 @@ returns c =
       moved = sort.permutation;
       rising = all_pairs (λ (s t : SizedBid). IsUpTo s.size s.number t.size t.number) (λ s t u h k. up_to_trans s.size s.number t.size t.number u.size u.number h k) c.sort_unstable_by_key.new.self.items
           (λ k d l. up_to _ _ _ _ (rising k d (omega arith) l));
-      told = All-permutation TellsItsSize c.in_ok-ordered.ordered.items c.sort_unstable_by_key.new.self.items sort.permutation c.in_ok-ordered.ensures.told;
+      reported = All-permutation TellsItsSize c.in_ok-ordered.ordered.items c.sort_unstable_by_key.new.self.items sort.permutation c.in_ok-ordered.ensures.reported;
       nets = All-permutation (TellsItsNet (lots_in c.args.rules.now)) c.in_ok-ordered.ordered.items c.sort_unstable_by_key.new.self.items sort.permutation c.in_ok-ordered.ensures.nets;
     }

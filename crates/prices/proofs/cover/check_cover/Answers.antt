@@ -9,7 +9,7 @@ use Rattle.bid_desk.specs.Closing.{book_of}
 use Rattle.optimality.specs.Answers.{IsVerdict}
 use Rattle.optimality.specs.Sizes.{IsLargeAt}
 use Rattle.optimality.specs.Verdict.{certificate_fault}
-use Rattle.program_faults.specs.declared.certificate_fault.FaultKind.TheVariants.{TooLarge}
+use Rattle.program_rows.specs.declared.certificate_fault.CertificateFaultKind.TheVariants.{TooLarge}
 use Rattle.program_rows.specs.Legal.{IsSmall}
 use Rattle.program_rows.specs.Program.{Table, TableColumn}
 use Rattle.outcome.specs.Pricing.{price_in}

@@ -6,7 +6,7 @@ use Rattle.std.proofs.lemmas.Int.{to_z-of_z}
 use Rattle.std.proofs.lemmas.List.Elements.{All-from_recursion}
 use mir.Syntax.{w128}
 use mir.Val.{SFits, to_z, of_z}
-use Rattle.auction_limits.specs.declared.limits.TheConstants.{GREATEST_AMOUNT}
+use Rattle.auction_terms.specs.declared.limits.TheConstants.{GREATEST_AMOUNT}
 use Rattle.auction_terms.specs.Allocations.{weighed_choice}
 use Rattle.auction_terms.specs.Terms.{lots_in}
 use Rattle.auction_terms.specs.declared.choices.Choice.{Choice}
@@ -18,7 +18,7 @@ use Rattle.prices.specs.Listed.{weighted}
 use Rattle.prices.specs.inside.Weighing.{weight_by}
 use Rattle.prices.specs.Prices.{reserves_in}
 use Rattle.prices.specs.Weights.{Weighted, scaled_below, shows_least_sum, weighted_costs, weighted_reserves}
-use Rattle.prices.proofs.FewLaws.{all_greatest, as_many_won, few_winners, is_shown, not_within, reserves_few, within_asked, within_told}
+use Rattle.prices.proofs.FewLaws.{all_greatest, as_many_won, few_winners, is_shown, not_within, reserves_few, within_asked, within_reported}
 use Rattle.prices.proofs.WeightLaws.{shown_is_least_sum}
 use Rattle.prices.proofs.least_sum.shows_least_sum.Goals as goal
 
@@ -63,7 +63,7 @@ module _ (c : goal.After-is_below) where
   within = subst (All (λ (x : Choice). weight_by c.args.groups.now c.args.weights.now.groups.now x.bidder + own x.bidder ≤ scale)) c.choices.ensures.choices (c.are_within.ensures.0 c.if-not-are_within.false)
 
   shown : c.is_below.result ≡ shows_least_sum (reserves_in c.args.book.now.rules) (lots_in c.args.book.now.rules) (book_of c.args.book.now) c.args.first.now (price_in c.args.prices.now) scale ws own
-  shown = is_shown _ _ _ _ (within_told c.args.groups.now c.args.won.now c.args.weights.now.groups.now many own scale c.args.first.now within) above refl
+  shown = is_shown _ _ _ _ (within_reported c.args.groups.now c.args.won.now c.args.weights.now.groups.now many own scale c.args.first.now within) above refl
 
 pub returns-clause-shows : goal.returns-clause-shows
 returns-clause-shows c = shown c

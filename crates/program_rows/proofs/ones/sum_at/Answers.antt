@@ -17,10 +17,10 @@ loop-k-preserved c =
     let sum = to_z w128 c.loop-k.sum-bits in
     let inside = place-within (λ i. i < length c.args.columns.now) c.args.places.now c.loop-k.k c.loop-k-test.true c.requires.within in
     let there = number_there (coefficient_at c.args.row) c.args.columns.now (slice_index_or c.args.places.now c.loop-k.k 0) inside in
-    let told = c.add_coefficient-sum.ensures in
-    let next : c.add_coefficient-sum.result ≡ sum +ℤ there.0 = told.added there.0 there.1 in
+    let parsed = c.add_coefficient-sum.ensures in
+    let next : c.add_coefficient-sum.result ≡ sum +ℤ there.0 = parsed.added there.0 there.1 in
     rw same (
-      near_low sum c.add_coefficient-sum.result c.loop-k.k c.loop-k.invariant.0 told.low,
-      near_high sum c.add_coefficient-sum.result c.loop-k.k c.loop-k.invariant.1 told.high,
+      near_low sum c.add_coefficient-sum.result c.loop-k.k c.loop-k.invariant.0 parsed.low,
+      near_high sum c.add_coefficient-sum.result c.loop-k.k c.loop-k.invariant.1 parsed.high,
       at-step (coefficient_at c.args.row) c.args.columns.now c.args.places.now c.loop-k.k there.0 sum c.add_coefficient-sum.result _ c.loop-k-test.true there.1 next c.loop-k.invariant.2,
     )

@@ -1,22 +1,22 @@
 use Rattle.std.proofs.Common.{◌≡◌, ℕ, Ok, Result, ap, inl, refl}
 use Rattle.program_rows.specs.Program.{Table}
-use Rattle.mps_meaning.specs.declared.fault.FaultKind.{FaultKind}
+use Rattle.program_rows.specs.declared.mps_fault_kind.MpsFaultKind.{MpsFaultKind}
 use Rattle.auction_input.specs.Input.{text_bytes}
-use Rattle.auction_input.specs.PartsTold.{only_text}
+use Rattle.auction_input.specs.ParsedParts.{only_text}
 use Rattle.answers.specs.Answer.{answer}
 use Rattle.answers.specs.Exact.{IsUnwritten, by_refusal}
 use Rattle.mps_reader.specs.declared.limits.TheConstants.{PROGRAM_LIMIT}
-use Rattle.mps_meaning.specs.Meaning.{meaning}
-use Rattle.mps_meaning.specs.declared.fault.FaultKind.TheVariants as kind
+use Rattle.program_rows.specs.MpsMeaning.{meaning}
+use Rattle.program_rows.specs.declared.mps_fault_kind.MpsFaultKind.TheVariants as kind
 use Rattle.answers.specs.Sizes.{sizes_text}
 use Rattle.auction_terms.specs.Stages.{and_then, refused_as}
 use Rattle.auction_input.specs.declared.refusal.Refusal.TheVariants as refusal
-use Rattle.requests.specs.declared.request.Request.TheVariants as request
+use Rattle.auction_input.specs.declared.request.Request.TheVariants as request
 use Rattle.answers.proofs.CommandFacts.{cut-short}
-use Rattle.group_winners.proofs.FaultFacts.{program-refuses, program_refused}
+use Rattle.answers.proofs.FaultFacts.{program-refuses, program_refused}
 use Rattle.auction_input.proofs.InputTextFacts.{sized}
-use Rattle.answers.proofs.ProgramTextFacts.{program-refused, program-told}
-use Rattle.requests.proofs.StepFacts.{if-err-of}
+use Rattle.answers.proofs.ProgramTextFacts.{program-refused, program-parsed}
+use Rattle.auction_input.proofs.StepFacts.{if-err-of}
 use Rattle.auction_input.proofs.StageFacts.{stop}
 use Rattle.answers.proofs.commands.check.check.Goals as goal
 
@@ -40,13 +40,13 @@ returns-in_err-write_sizes-clause-refused g c =
     let failures = g.S.Sink.failures c.args.out.now in
     let failures' = g.S.Sink.failures c.write_sizes.new.out in
     let f = c.in_err-write_sizes.field-0.0 in
-    let told = program-told text p (rw c.first_text.ensures at c.in_ok-program.ensures.too_large) (rw c.first_text.ensures at c.in_ok-program.ensures.meaning) in
-    let whole : answer request.Check input ≡ Ok (sizes_text p) = ap (λ (r : Result Table (ℕ × FaultKind)). and_then (refused_as program_refused r) (λ program. Ok (sizes_text program))) told in
+    let parsed = program-parsed text p (rw c.first_text.ensures at c.in_ok-program.ensures.too_large) (rw c.first_text.ensures at c.in_ok-program.ensures.meaning) in
+    let whole : answer request.Check input ≡ Ok (sizes_text p) = ap (λ (r : Result Table (ℕ × MpsFaultKind)). and_then (refused_as program_refused r) (λ program. Ok (sizes_text program))) parsed in
     if-err-of (IsUnwritten request.Check input taken taken' failures failures') c.from_residual-in_err-write_sizes.result (refusal.Write f) c.from_residual-in_err-write_sizes.ensures.1
     (inl (cut-short _ (sizes_text p) taken taken' failures failures' f whole c.in_err-write_sizes.ensures.err c.in_err-write_sizes.ensures.failed))
 
 pub returns-clause-written : goal.returns-clause-written
 returns-clause-written g c =
     let p = c.in_ok-program.program in
-    let told = program-told (only_text (text_bytes c.args.input.now)) p (rw c.first_text.ensures at c.in_ok-program.ensures.too_large) (rw c.first_text.ensures at c.in_ok-program.ensures.meaning) in
-    (sizes_text p, ap (λ (r : Result Table (ℕ × FaultKind)). and_then (refused_as program_refused r) (λ program. Ok (sizes_text program))) told, c.in_ok-write_sizes.ensures.ok)
+    let parsed = program-parsed (only_text (text_bytes c.args.input.now)) p (rw c.first_text.ensures at c.in_ok-program.ensures.too_large) (rw c.first_text.ensures at c.in_ok-program.ensures.meaning) in
+    (sizes_text p, ap (λ (r : Result Table (ℕ × MpsFaultKind)). and_then (refused_as program_refused r) (λ program. Ok (sizes_text program))) parsed, c.in_ok-write_sizes.ensures.ok)

@@ -5,10 +5,10 @@ use Rattle.auction_terms.specs.Terms.{lots_in}
 use Rattle.bid_desk.specs.Closing.{book_of}
 use Rattle.group_compiler.specs.Compiled.{Compiling, program_without}
 use Rattle.auction_input.specs.Refused.{Refuses}
-use Rattle.group_winners.specs.SolutionWinners.{winners_by}
+use Rattle.answers.specs.SolutionWinners.{winners_by}
 use Rattle.auction_input.specs.declared.refusal.Refusal.TheVariants as refusal
-use Rattle.requests.proofs.StepFacts.{if-err-of}
-use Rattle.group_winners.proofs.WinningFacts.{feasible-for_all, if-ok-weaker}
+use Rattle.auction_input.proofs.StepFacts.{if-err-of}
+use Rattle.answers.proofs.WinningFacts.{feasible-for_all, if-ok-weaker}
 use Rattle.answers.proofs.commands.map.won_by_group.Goals as goal
 
 pub returns : goal.returns

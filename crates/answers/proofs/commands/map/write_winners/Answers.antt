@@ -2,14 +2,14 @@ use Rattle.std.proofs.Common.{◌≤◌, ◌∙◌, Bor, ℕ, List, ap, length, 
 use Rattle.outcome.specs.Report.{allocation_text}
 use Rattle.bid_desk.specs.Sale.{sale_of}
 use Rattle.answers.specs.Answer.{output_of}
-use Rattle.requests.specs.declared.request.Request.TheVariants as request
+use Rattle.auction_input.specs.declared.request.Request.TheVariants as request
 use Rattle.auction_input.specs.Settled.{held}
 use Rattle.answers.specs.Exact.{Ends, by_refusal}
 use Rattle.auction_terms.specs.Borrowed.{bytes_of}
-use Rattle.auction_input.specs.PartsTold.{only_text}
+use Rattle.auction_input.specs.ParsedParts.{only_text}
 use Rattle.auction_input.specs.declared.refusal.Refusal.TheVariants as refusal
 use Rattle.answers.proofs.CommandFacts.{cut-short, no-group, winners-refused, winners-written}
-use Rattle.requests.proofs.StepFacts.{if-err-of}
+use Rattle.auction_input.proofs.StepFacts.{if-err-of}
 use Rattle.answers.proofs.commands.map.write_winners.Goals as goal
 
 pub returns-clause-written : goal.returns-clause-written

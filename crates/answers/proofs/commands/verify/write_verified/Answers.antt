@@ -4,13 +4,13 @@ use Rattle.outcome.specs.Pricing.{pricing_text}
 use Rattle.outcome.specs.Report.{report_text}
 use Rattle.bid_desk.specs.Sale.{sale_of}
 use Rattle.outcome.specs.Uniqueness.{uniqueness_text}
-use Rattle.requests.specs.declared.request.Request.TheVariants as request
+use Rattle.auction_input.specs.declared.request.Request.TheVariants as request
 use Rattle.auction_input.specs.Settled.{held}
 use Rattle.answers.specs.Exact.{by_refusal}
 use Rattle.answers.specs.inside.Output.{IsWithoutOutput}
 use Rattle.auction_input.specs.declared.refusal.Refusal.TheVariants as refusal
 use Rattle.answers.proofs.CommandFacts.{cut-short}
-use Rattle.requests.proofs.StepFacts.{if-err-of}
+use Rattle.auction_input.proofs.StepFacts.{if-err-of}
 use Rattle.auction_input.proofs.StageFacts.{next, stop}
 use Rattle.answers.proofs.VerifiedFacts.{certified-greatest}
 use Rattle.answers.proofs.VerifyFacts.{unclaimed, unpriced, unshown}
@@ -25,7 +25,7 @@ returns-clause-written g c =
     let pricing = c.in_ok-pricing.pricing in
     let sent = c.in_ok-report_with.ensures.ok in (
       report_text (sale_of auction.book) auction.groups all ++ (pricing_text (sale_of auction.book) (slice_index_or all 0 []) pricing ++ uniqueness_text (sale_of auction.book) claim),
-      next _ all _ _ (next _ all _ _ won c.in_ok-check_certificates.ensures.shown) (next _ claim _ _ c.in_ok-claim.ensures.told (next _ pricing _ _ c.in_ok-pricing.ensures.told refl)),
+      next _ all _ _ (next _ all _ _ won c.in_ok-check_certificates.ensures.shown) (next _ claim _ _ c.in_ok-claim.ensures.parsed (next _ pricing _ _ c.in_ok-pricing.ensures.parsed refl)),
       sent,
     )
 
@@ -83,7 +83,7 @@ returns-in_err-pricing-clause-refused g c =
     let r = c.in_err-pricing.field-0.0 in
     let won = c.in_ok-won.ensures.won ∙ ap (λ (xs : List (List Choice)). Ok xs) (sym c.as_slice-allocations.ensures.value) in
     if-err-of (IsWithoutOutput (request.Verify c.args.workers) auction taken taken failures failures) c.from_residual-in_err-pricing.result r c.from_residual-in_err-pricing.ensures.1
-    (unpriced c.args.workers auction c.as_slice-allocations.result.now c.in_ok-claim.claim taken failures r won c.in_ok-check_certificates.ensures.shown c.in_ok-claim.ensures.told c.in_err-pricing.ensures.refuses)
+    (unpriced c.args.workers auction c.as_slice-allocations.result.now c.in_ok-claim.claim taken failures r won c.in_ok-check_certificates.ensures.shown c.in_ok-claim.ensures.parsed c.in_err-pricing.ensures.refuses)
 
 pub pricing_of-requires-clause-without : goal.pricing_of-requires-clause-without
 pricing_of-requires-clause-without g c =
@@ -105,4 +105,4 @@ returns-in_err-report_with-clause-refused g c =
     let sent = c.in_err-report_with.ensures.err in
     if-err-of (IsWithoutOutput (request.Verify c.args.workers) (held auction) taken taken' failures failures') c.from_residual-in_err-report_with.result (refusal.Write f) c.from_residual-in_err-report_with.ensures.1
     (inl (cut-short _ (report_text (sale_of auction.book) auction.groups all ++ (pricing_text (sale_of auction.book) (slice_index_or all 0 []) pricing ++ uniqueness_text (sale_of auction.book) claim)) taken taken' failures failures' f
-    (next _ all _ _ (next _ all _ _ won c.in_ok-check_certificates.ensures.shown) (next _ claim _ _ c.in_ok-claim.ensures.told (next _ pricing _ _ c.in_ok-pricing.ensures.told refl))) sent c.in_err-report_with.ensures.failed))
+    (next _ all _ _ (next _ all _ _ won c.in_ok-check_certificates.ensures.shown) (next _ claim _ _ c.in_ok-claim.ensures.parsed (next _ pricing _ _ c.in_ok-pricing.ensures.parsed refl))) sent c.in_err-report_with.ensures.failed))

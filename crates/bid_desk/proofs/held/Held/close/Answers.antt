@@ -13,8 +13,8 @@ use Rattle.bid_desk.specs.Holding.{ChairOwn, Holding, IsEntryOf, IsRecordedByCha
 use Rattle.bid_desk.proofs.HeldLemmas.{one-pair-more, share-is}
 use Rattle.bid_desk.proofs.held.Held.close.Goals as goal
 
-pub told_again-requires : goal.told_again-requires
-told_again-requires g c s shown =
+pub same_reply-requires : goal.same_reply-requires
+same_reply-requires g c s shown =
     absurd (answer-close_not_shown c.self.inside.book s (sym c.in_ok-reply.ensures.answered ∙ shown))
 
 pub invariant_of-self-2 : goal.invariant_of-self-2
@@ -36,15 +36,15 @@ returns-clause-recorded g c = λ less.
     let recorded : IsRecordedByChair before after chair chair' Close reply = record {
       history = c.in_ok-reply.ensures.recorded less;
       count = c.add.ensures.total;
-      own_is = one-pair-more c.chair.inside.own.items c.reserve.new.self.items c.push_pair.new.own.items (Close, c.told_again.result) (Close, reply) c.in_ok-reserve.ensures.items c.push_pair.ensures
-          (ap (λ (r : Reply Offers). (Close, r)) c.told_again.ensures);
+      own_is = one-pair-more c.chair.inside.own.items c.reserve.new.self.items c.push_pair.new.own.items (Close, c.same_reply.result) (Close, reply) c.in_ok-reserve.ensures.items c.push_pair.ensures
+          (ap (λ (r : Reply Offers). (Close, r)) c.same_reply.ensures);
       share_is = c.add.ensures.amount;
     } in
     subst (λ (h : Holding). IsRecordedByChair h after c.args.chair.now chair' Close reply) c.self.view_is (subst (λ (k : ChairOwn). IsRecordedByChair before after k chair' Close reply) c.chair.view_is recorded)
 
 pub invariant_of-chair-2 : goal.invariant_of-chair-2
 invariant_of-chair-2 g c = (
-  share-is c.chair.inside.own c.reserve.new.self c.push_pair.new.own (Close, c.told_again.result) c.chair.inside.share.amount c.add.new.share.amount c.in_ok-reserve.ensures.items c.push_pair.ensures c.add.ensures.amount
+  share-is c.chair.inside.own c.reserve.new.self c.push_pair.new.own (Close, c.same_reply.result) c.chair.inside.share.amount c.add.new.share.amount c.in_ok-reserve.ensures.items c.push_pair.ensures c.add.ensures.amount
       c.chair.invariant.0,
   omega (arith, c.add.ensures.parts, c.chair.invariant.1),
 )

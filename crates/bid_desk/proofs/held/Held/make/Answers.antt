@@ -13,9 +13,9 @@ use Rattle.bid_desk.specs.Holding.{Holding, IsEntryOf, IsRecordedBy, SessionOwn,
 use Rattle.bid_desk.proofs.HeldLemmas.{one-pair-more, share-is}
 use Rattle.bid_desk.proofs.held.Held.make.Goals as goal
 
-pub told_again-requires : goal.told_again-requires
-told_again-requires g c s shown =
-    c.in_ok-told_call.ensures.1
+pub same_reply-requires : goal.same_reply-requires
+same_reply-requires g c s shown =
+    c.in_ok-shared_call.ensures.1
     ∙ answer-shown c.self.inside.book c.session.inside.bidder c.session.inside.session (call_value c.args.call) s (sym c.in_ok-reply.ensures.answered ∙ shown)
 
 pub invariant_of-self-2 : goal.invariant_of-self-2
@@ -39,8 +39,8 @@ returns-clause-recorded g c = λ less.
     let recorded : IsRecordedBy before after session session' call reply = record {
       history = c.in_ok-reply.ensures.recorded less;
       count = c.add.ensures.total;
-      own_is = one-pair-more s.own.items c.reserve.new.self.items c.push_pair.new.own.items (c.in_ok-told_call.told_call, c.told_again.result) (call, reply) c.in_ok-reserve.ensures.items c.push_pair.ensures
-          (ap₂ (λ (k : Call Offers) (r : Reply Offers). (k, r)) c.in_ok-told_call.ensures.0 c.told_again.ensures);
+      own_is = one-pair-more s.own.items c.reserve.new.self.items c.push_pair.new.own.items (c.in_ok-shared_call.shared_call, c.same_reply.result) (call, reply) c.in_ok-reserve.ensures.items c.push_pair.ensures
+          (ap₂ (λ (k : Call Offers) (r : Reply Offers). (k, r)) c.in_ok-shared_call.ensures.0 c.same_reply.ensures);
       share_is = c.add.ensures.amount;
     } in
     subst (λ (h : Holding). IsRecordedBy h after c.args.session.now session' call reply) c.self.view_is (subst (λ (k : SessionOwn). IsRecordedBy before after k session' call reply) c.session.view_is recorded)
@@ -55,7 +55,7 @@ returns-then-is_call_limit-clause-answered g c =
 
 pub invariant_of-session-2 : goal.invariant_of-session-2
 invariant_of-session-2 g c = (
-  share-is c.session.inside.own c.reserve.new.self c.push_pair.new.own (c.in_ok-told_call.told_call, c.told_again.result) c.session.inside.share.amount c.add.new.share.amount c.in_ok-reserve.ensures.items c.push_pair.ensures
+  share-is c.session.inside.own c.reserve.new.self c.push_pair.new.own (c.in_ok-shared_call.shared_call, c.same_reply.result) c.session.inside.share.amount c.add.new.share.amount c.in_ok-reserve.ensures.items c.push_pair.ensures
       c.add.ensures.amount c.session.invariant.0,
   omega (arith, c.add.ensures.parts, c.session.invariant.1),
   c.session.invariant.2,

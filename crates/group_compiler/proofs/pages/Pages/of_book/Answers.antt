@@ -1,6 +1,6 @@
 use Rattle.std.proofs.Common.{◌≤◌, ◌∙◌, ℕ, List, ap, ap₂, length, subst, sym}
 use Rattle.auction_terms.specs.Terms.{lots_in}
-use Rattle.auction_limits.specs.declared.limits.TheConstants.{MOST_BIDDERS}
+use Rattle.auction_terms.specs.declared.limits.TheConstants.{MOST_BIDDERS}
 use Rattle.bid_desk.specs.Closing.{book_of}
 use Rattle.group_compiler.specs.Pages.{PageText, all_pages, page_of_lots}
 use Rattle.group_compiler.proofs.InOrder.{pages_in_order}

@@ -1,7 +1,7 @@
 use Rattle.std.proofs.Common.{◌≡◌, ◌∙◌, ℕ, ap}
 use Rattle.auction_terms.specs.Borrowed.{bytes_of}
 use Rattle.auction_terms.specs.Records.{records_of}
-use Rattle.bid_forms.specs.ToldOfRecords.{eligibility_told}
+use Rattle.bid_forms.specs.RowNumbers.{parsed_eligibility}
 use Rattle.input_faults.specs.TextDetails.{numbered, within_limit}
 use Rattle.input_faults.specs.inside.Cursors.{StandsAt}
 use Rattle.input_faults.proofs.form_reading.FormReading.begin.Goals as goal
@@ -15,5 +15,5 @@ returns-clause-reads c =
     let stands = c.in_ok-go_to.ensures.stands text begun in
     record {
       stands = stands;
-      eligibility = c.eligibility_told-eligibility.ensures ∙ ap (eligibility_told t) (stands.held ∙ ap (λ (n : ℕ). numbered n (records_of text)) c.in_ok-go_to.ensures.place);
+      eligibility = c.parsed_eligibility-eligibility.ensures ∙ ap (parsed_eligibility t) (stands.held ∙ ap (λ (n : ℕ). numbered n (records_of text)) c.in_ok-go_to.ensures.place);
     }

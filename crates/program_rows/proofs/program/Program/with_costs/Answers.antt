@@ -1,5 +1,5 @@
-use Rattle.std.proofs.Common.{ap, sym, ◌∙◌, subst, length, arith}
-use Rattle.program_rows.specs.Parts.{IsProgram, table_of}
+use Rattle.std.proofs.Common.{ap, sym, ◌∙◌, length}
+use Rattle.program_rows.specs.Parts.{table_of}
 use Rattle.program_rows.specs.Program.{Table}
 use Rattle.program_rows.proofs.CostedLaws.{costed_is_program}
 use Rattle.program_rows.proofs.program.Program.with_costs.Goals as goal

@@ -1,0 +1,434 @@
+-- What commands refuse, and what `explain` tells for them.
+use Rattle.std.proofs.Common.{◌≡◌, ◌≤◌, ◌+◌, ◌-◌, ◌&&◌, ◌∷◌, ◌++◌, ◌∙◌, ℕ, Bool, true, false, List, [], Option, None, Some, Result, Ok, Err, ap, arith, inl, inr, length, map, refl, subst, sym, IfErr, IsErr, ◌⊎◌, true≢false}
+use Rattle.std.proofs.lemmas.Bool.{leb-true}
+use Rattle.std.specs.Prelude.{⊤, if◌then◌else◌, nat_le, not, slice_index_or}
+use Rattle.std.specs.List.{zip}
+use Rattle.std.specs.Option.{option_map, option_or}
+use Rattle.answers.specs.Answer.{answer, output_of}
+use Rattle.answers.specs.Exact.{Writes}
+use Rattle.answers.specs.ExplainedFor.{ExplainsFor, IsNamed, IsOfParts, IsRefusedBy, IsTakenBy, RefusesSo}
+use Rattle.answers.specs.Runs.{IsTakenFor}
+use Rattle.auction_input.proofs.WantedFacts.{failed-behind}
+use Rattle.auction_input.specs.Auction.{Auction, parsed_auction}
+use Rattle.auction_input.specs.Input.{Input}
+use Rattle.auction_input.specs.Wanted.{claims_once, has_certificates, numbers_of, pricing_wants, proof_wants, refused_unless, solution_wants, with_wanted, parsed_taken, wanted, wants}
+use Rattle.auction_input.specs.declared.part_kind.PartKind.TheVariants as part
+use Rattle.auction_input.specs.declared.refusal.Refusal.TheVariants as refusal
+use Rattle.auction_input.specs.declared.refusal.Refusal.{Refusal}
+use Rattle.auction_input.specs.declared.wanted.Numbers.{Numbers}
+use Rattle.auction_input.specs.declared.wanted.Unmet.{Unmet}
+use Rattle.auction_terms.specs.FirstFault.{first_failed}
+use Rattle.auction_terms.specs.Stages.{and_then, each_in_turn, refused_as, unless}
+use Rattle.auction_terms.specs.Terms.{Terms}
+use Rattle.bid_desk.specs.Sale.{Sale}
+use Rattle.auction_terms.specs.declared.choices.Choice.{Choice}
+use Rattle.answers.specs.Certified.{bounds_of, certified, shown}
+use Rattle.answers.specs.Claimed.{parsed_claims, first_program, of_tie, only_or_rival, parsed_tie, tied}
+use Rattle.answers.specs.Pricing.{covered, known_by_prices, known_by_weights, parsed_least, parsed_prices, parsed_weights, price_fault, priced, priced_by, pricing_counts, parsed_pricing, scaled, weights_of, winner_fault, winners_fault}
+use Rattle.answers.specs.Programs.{program_for}
+use Rattle.answers.specs.SolutionWinners.{solution_refused, winners_by, winners_of_groups}
+use Rattle.outcome.specs.Pricing.{Priced, pricing_text}
+use Rattle.outcome.specs.Report.{allocation_text, report_text}
+use Rattle.outcome.specs.Ties.{same_choices}
+use Rattle.outcome.specs.declared.uniqueness.Uniqueness.TheVariants as uniqueness
+use Rattle.outcome.specs.Solution.{solution}
+use Rattle.outcome.specs.Uniqueness.{uniqueness_text}
+use Rattle.outcome.specs.declared.uniqueness.Uniqueness.{Uniqueness}
+use Rattle.auction_input.specs.ParsedParts.{only_text}
+use Rattle.auction_terms.specs.Allocations.{amount_of, total, weighed_choice}
+use Rattle.presolve.specs.Lines.{left_out_lines}
+use Rattle.auction_input.specs.GivenNumbers.{given_to, numbers_of_bidders, parsed_given}
+use Rattle.auction_input.specs.declared.given_numbers.GivenNumber.{GivenNumber}
+use Rattle.auction_input.specs.declared.given_numbers.Subject.TheVariants as subject
+use Rattle.auction_input.specs.declared.price_fault.PriceFault.TheVariants as price
+use Rattle.prices.specs.Prices.{reserves_in}
+use Rattle.presolve.specs.Reasons.{reasons_of}
+use Rattle.program_rows.specs.declared.solution_fault.SolutionFault.TheVariants as fault
+use Rattle.program_rows.specs.declared.solution_fault.SolutionFault.{SolutionFault}
+use Rattle.program_rows.specs.Program.{Table}
+use Rattle.auction_input.specs.Requests.{target_of}
+use Rattle.auction_input.specs.declared.request.Request.TheVariants.{Check, Compile, Explain, Map, Report, Text, Verify}
+use Rattle.auction_input.specs.declared.request.Request.{Request}
+use Rattle.auction_input.specs.declared.request.Target.TheVariants as target
+use Rattle.auction_input.specs.declared.request.Target.{Target}
+
+-- ---- refusals that aren't for parts
+
+abbrev IsOther : Refusal → Type 0
+IsOther r = IsOfParts r → ⊥
+
+-- what is reported is no refusal for parts
+abbrev IsFree : {A : Type 0} → Result A Refusal → Type 0
+IsFree parsed = IfErr parsed IsOther
+
+free-then : {A B : Type 0} (parsed : Result A Refusal) (next : A → Result B Refusal) → IsFree parsed → ((x : A) → parsed ≡ Ok x → IsFree (next x)) → IsFree (and_then parsed next)
+free-then (Ok x) next free behind = behind x refl
+free-then (Err r) next free behind = free
+
+free-as : {A F : Type 0} (whole : F → Refusal) (parsed : Result A F) → ((f : F) → IsOther (whole f)) → IsFree (refused_as whole parsed)
+free-as whole (Ok x) other = tt
+free-as whole (Err f) other = other f
+
+free-unless : {A F : Type 0} (whole : F → Refusal) (found : Option F) (next : Result A Refusal) → ((f : F) → IsOther (whole f)) → IsFree next → IsFree (unless (option_map whole found) next)
+free-unless whole None next other free = free
+free-unless whole (Some f) next other free = other f
+
+free-each : {X A : Type 0} (refuse : ℕ → X → Result A Refusal) → ((n : ℕ) (x : X) → IsFree (refuse n x)) → (n : ℕ) (xs : List X) → IsFree (each_in_turn refuse n xs)
+free-each refuse each n [] = tt
+free-each refuse each n (x ∷ xs) = free-then (refuse n x) _ (each n x) (λ y is. free-then (each_in_turn refuse (n + 1) xs) _ (free-each refuse each (n + 1) xs) (λ ys is. tt))
+
+-- ---- solutions
+
+other-solution : (p : Table) (number : ℕ) (f : SolutionFault) → IsOther (solution_refused p number f)
+other-solution p number (fault.BoundBroken column) = λ never. never
+other-solution p number (fault.RowBroken row) = λ never. never
+other-solution p number f = λ never. never
+
+free-winners : (p : Table) (number : ℕ) (text : List ℕ) → IsFree (winners_by p number text)
+free-winners p number text = free-then (refused_as (solution_refused p number) (solution p text)) _ (free-as (solution_refused p number) (solution p text) (other-solution p number)) (λ point is. tt)
+
+free-groups : (auction : Auction) → IsFree (each_in_turn (λ number (item : List ℕ × List ℕ). winners_by (program_for auction.sale item.0) number item.1) 1 (zip auction.groups auction.solutions))
+free-groups auction =
+    free-each (λ number (item : List ℕ × List ℕ). winners_by (program_for auction.sale item.0) number item.1) (λ number item. free-winners (program_for auction.sale item.0) number item.1) 1 (zip auction.groups auction.solutions)
+
+-- ---- certificates
+
+free-shown : (auction : Auction) (won : List (List Choice)) → IsFree (each_in_turn shown 1 (bounds_of auction won))
+free-shown auction won = free-each shown (λ number bound. free-unless _ _ (Ok tt) (λ f never. never) tt) 1 (bounds_of auction won)
+
+-- ---- claims
+
+of-tie-other : (r : Refusal) → IsOther r → IsOther (of_tie r)
+of-tie-other (refusal.Solution number f) other = λ never. never
+of-tie-other (refusal.BoundBroken number name) other = λ never. never
+of-tie-other (refusal.RowBroken number name) other = λ never. never
+of-tie-other r other = other
+
+free-of-tie : {A : Type 0} (parsed : Result A Refusal) → IsFree parsed → IsFree (refused_as of_tie parsed)
+free-of-tie (Ok x) free = tt
+free-of-tie (Err r) free = of-tie-other r free
+
+free-checks : {A : Type 0} (a b : Bool) (r s : Refusal) (next : Result A Refusal) → IsOther r → IsOther s → IsFree next → IsFree (unless (first_failed ((a, r) ∷ (b, s) ∷ [])) next)
+free-checks false b r s next first second free = first
+free-checks true false r s next first second free = second
+free-checks true true r s next first second free = free
+
+free-tied : (sale : Sale) (first other : List Choice) → IsFree (tied sale first other)
+free-tied sale first other =
+    free-checks (nat_le (total sale.lots sale.book first) (total sale.lots sale.book other)) (not (same_choices first other)) refusal.LowerTie refusal.SameTie (Ok (uniqueness.Tie other)) (λ never. never) (λ never. never) tt
+
+free-tie : (auction : Auction) (first : List Choice) (text : List ℕ) → IsFree (parsed_tie auction first text)
+free-tie auction first text =
+    free-then (refused_as of_tie (winners_by (first_program auction) 1 text)) (tied auction.sale first) (free-of-tie (winners_by (first_program auction) 1 text) (free-winners (first_program auction) 1 text))
+    (λ other is. free-tied auction.sale first other)
+
+both-true : (a b : Bool) → a && b ≡ true → (a ≡ true) × (b ≡ true)
+both-true true b is = (refl, is)
+both-true false b is = cc
+
+free-claims : (auction : Auction) (first : List Choice) (uniques ties : List (List ℕ)) → length uniques ≤ 1 → length ties ≤ 1 - length uniques → IsFree (parsed_claims auction first uniques ties)
+free-claims auction first [] [] few rest = tt
+free-claims auction first (text ∷ []) [] few rest =
+    free-then (refused_as (solution_refused (first_program auction) 1) (solution (first_program auction) (slice_index_or auction.solutions 0 []))) _
+    (free-as (solution_refused (first_program auction) 1) (solution (first_program auction) (slice_index_or auction.solutions 0 [])) (other-solution (first_program auction) 1))
+    (λ point is. free-unless _ _ (Ok (only_or_rival auction.sale first)) (λ f never. never) tt)
+free-claims auction first [] (text ∷ []) few rest = free-tie auction first text
+free-claims auction first [] (text ∷ other ∷ more) few rest = absurd (omega arith)
+free-claims auction first (text ∷ []) (other ∷ more) few rest = absurd (omega arith)
+free-claims auction first (text ∷ other ∷ more) ties few rest = absurd (omega arith)
+
+-- ---- prices
+
+-- a fault, if there is one, is no refusal for parts
+abbrev IsFreeFault : Option Refusal → Type 0
+IsFreeFault None = ⊤
+IsFreeFault (Some r) = IsOther r
+
+free-found : {A : Type 0} (found : Option Refusal) (next : Result A Refusal) → IsFreeFault found → IsFree next → IsFree (unless found next)
+free-found None next found free = free
+free-found (Some r) next found free = found
+
+fault-or : (first second : Option Refusal) → IsFreeFault first → IsFreeFault second → IsFreeFault (option_or first second)
+fault-or None second one other = other
+fault-or (Some r) second one other = one
+
+two-checks : (a b : Bool) (r s : Refusal) → IsOther r → IsOther s → IsFreeFault (first_failed ((a, r) ∷ (b, s) ∷ []))
+two-checks false b r s first second = first
+two-checks true false r s first second = second
+two-checks true true r s first second = tt
+
+price-fault : (rules : Terms) (sale : Sale) (c : Choice) (given : Option GivenNumber) → IsFreeFault (price_fault rules sale c given)
+price-fault rules sale c None = λ never. never
+price-fault rules sale c (Some g) =
+    two-checks (nat_le g.number (amount_of sale.book c)) (nat_le (weighed_choice (reserves_in rules) sale.book c) g.number) (refusal.Prices (price.AboveAmount g.place)) (refusal.Prices (price.BelowReserve g.place)) (λ never. never) (λ never. never)
+
+winners-fault : (rules : Terms) (sale : Sale) (given : List GivenNumber) (won : List Choice) → IsFreeFault (winners_fault rules sale given won)
+winners-fault rules sale given [] = tt
+winners-fault rules sale given (c ∷ more) = fault-or (winner_fault rules sale given c) (winners_fault rules sale given more) (price-fault rules sale c (given_to given (subject.Bidder c.bidder))) (winners-fault rules sale given more)
+
+free-prices : (auction : Auction) (first : List Choice) (text : List ℕ) → IsFree (parsed_prices auction first text)
+free-prices auction first text =
+    free-then (refused_as refusal.Prices (parsed_given (known_by_prices auction.rules first) text)) _ (free-as refusal.Prices (parsed_given (known_by_prices auction.rules first) text) (λ f never. never))
+    (λ given is. free-found (winners_fault auction.rules auction.sale given first) (Ok (numbers_of_bidders given (length auction.rules.bidders))) (winners-fault auction.rules auction.sale given first) tt)
+
+free-scaled : (auction : Auction) (given : List GivenNumber) (scale : Option GivenNumber) → IsFree (scaled auction given scale)
+free-scaled auction given None = λ never. never
+free-scaled auction given (Some scale) = tt
+
+free-weights : (auction : Auction) (first : List Choice) (text : List ℕ) → IsFree (parsed_weights auction first text)
+free-weights auction first text =
+    free-then (refused_as refusal.Weights (parsed_given (known_by_weights auction first) text)) (weights_of auction) (free-as refusal.Weights (parsed_given (known_by_weights auction first) text) (λ f never. never))
+    (λ given is. free-scaled auction given (given_to given subject.Scale))
+
+free-least : (auction : Auction) (won : List (List Choice)) (first : List Choice) (prices : List ℕ) (texts : List (List ℕ)) → IsFree (parsed_least auction won first prices texts)
+free-least auction won first prices [] = tt
+free-least auction won first prices (text ∷ more) =
+    free-then (parsed_weights auction first text) _ (free-weights auction first text) (λ w is. tt)
+
+free-priced : (auction : Auction) (won : List (List Choice)) (first : List Choice) (text cover : List ℕ) → IsFree (priced auction won first text cover)
+free-priced auction won first text cover =
+    free-then (parsed_prices auction first text) _ (free-prices auction first text) (λ prices is.
+    free-then (covered auction first prices cover) _ (free-unless _ _ (Ok tt) (λ f never. never) tt) (λ shown is.
+    free-then (parsed_least auction won first prices auction.weights) _ (free-least auction won first prices auction.weights) (λ least is. tt)))
+
+free-priced-by : (auction : Auction) (won : List (List Choice)) (texts covers : List (List ℕ)) → IsFree (priced_by auction won texts covers)
+free-priced-by auction won [] covers = tt
+free-priced-by auction won (text ∷ more) covers =
+    free-then (priced auction won (slice_index_or won 0 []) text (slice_index_or covers 0 [])) _ (free-priced auction won (slice_index_or won 0 []) text (slice_index_or covers 0 [])) (λ p is. tt)
+
+-- ---- what isn't wanted by any test
+
+module _ {A : Type 0} (found : Option Refusal) (x : A) where
+  unless-err : (r : Refusal) → unless found (Ok x) ≡ Err r → found ≡ Some r
+  unless-err r is = by found is
+    where
+      by : (o : Option Refusal) → unless o (Ok x) ≡ Err r → o ≡ Some r
+      by None e = cc
+      by (Some s) e = cc
+
+-- ---- the first refusal
+
+abbrev no_auction : Refusal → Result Auction Refusal
+no_auction r = Err r
+
+err-is : (f r : Refusal) → no_auction f ≡ no_auction r → f ≡ r
+err-is f r is = cc
+
+some-is : {X : Type 0} (x y : X) → Some x ≡ Some y → x ≡ y
+some-is x y is = cc
+
+stopped : {B : Type 0} (next : Auction → Result B Refusal) (parsed : Result Auction Refusal) (r : Refusal) → parsed ≡ Err r → and_then parsed next ≡ Err r
+stopped next parsed r is = ap (λ (q : Result Auction Refusal). and_then q next) is
+
+-- where a command wants nothing
+onto-all : (parsed : Result Auction Refusal) → and_then parsed (λ auction. Ok auction) ≡ parsed
+onto-all (Ok auction) = refl
+onto-all (Err r) = refl
+
+-- what the solutions of groups win, whatever else there is
+abbrev each_won : Auction → Result (List (List Choice)) Refusal
+each_won auction = each_in_turn (λ number (item : List ℕ × List ℕ). winners_by (program_for auction.sale item.0) number item.1) 1 (zip auction.groups auction.solutions)
+
+report-so : (workers : ℕ) (parsed : Result Auction Refusal) (r : Refusal) → with_wanted (Some target.Report) parsed ≡ Err r → and_then parsed (output_of (Report workers)) ≡ Err r
+report-so workers (Err f) r is = ap (λ (e : Refusal). Err e) (err-is f r is)
+report-so workers (Ok auction) r is =
+    ap (λ (o : Option Refusal). and_then (unless o (each_won auction)) (λ won. Ok (report_text auction.sale auction.groups won)))
+    (unless-err (first_failed (refused_unless (solution_wants (numbers_of auction)))) auction r is)
+
+-- this refusal, or before it one that isn't for parts
+abbrev RefusesFirst : {A : Type 0} → Result A Refusal → Refusal → Type 0
+RefusesFirst parsed r = (first : Refusal) × (parsed ≡ Err first) × ((first ≡ r) ⊎ IsOther first)
+
+first-then : {A B : Type 0} (parsed : Result A Refusal) (next : A → Result B Refusal) (r : Refusal) → IsFree parsed → ((x : A) → parsed ≡ Ok x → RefusesFirst (next x) r) → RefusesFirst (and_then parsed next) r
+first-then (Ok x) next r free behind = behind x refl
+first-then (Err f) next r free behind = (f, refl, inr free)
+
+many-claims : (auction : Auction) (first : List Choice) (uniques ties : List (List ℕ)) → nat_le (length uniques) 1 && nat_le (length ties) (1 - length uniques) ≡ false → parsed_claims auction first uniques ties ≡ Err (refusal.PartCount part.Unique)
+many-claims auction first [] [] many = absurd (true≢false many)
+many-claims auction first (text ∷ []) [] many = absurd (true≢false many)
+many-claims auction first [] (text ∷ []) many = absurd (true≢false many)
+many-claims auction first [] (text ∷ other ∷ more) many = refl
+many-claims auction first (text ∷ []) (other ∷ more) many = refl
+many-claims auction first (text ∷ other ∷ more) [] many = refl
+many-claims auction first (text ∷ other ∷ more) (tie ∷ ties) many = refl
+
+-- what comes behind prices, claims and certificates
+abbrev behind_pricing : Auction → List (List Choice) → Uniqueness → Option Priced → Result (List ℕ) Refusal
+behind_pricing auction won claim pricing = Ok (report_text auction.sale auction.groups won ++ (pricing_text auction.sale (slice_index_or won 0 []) pricing ++ uniqueness_text auction.sale claim))
+
+abbrev behind_claims : Auction → List (List Choice) → Uniqueness → Result (List ℕ) Refusal
+behind_claims auction won claim = and_then (parsed_pricing auction won) (behind_pricing auction won claim)
+
+abbrev behind_certified : Auction → List (List Choice) → Result (List ℕ) Refusal
+behind_certified auction won = and_then (parsed_claims auction (slice_index_or won 0 []) auction.uniques auction.ties) (behind_claims auction won)
+
+module _ (auction : Auction) (r : Refusal) where
+  abbrev wanted_pricing : Option Refusal
+  wanted_pricing = first_failed (refused_unless (pricing_wants (numbers_of auction)))
+
+  claims-so : (won : List (List Choice)) (once : Bool) → claims_once (numbers_of auction) ≡ once → (if once then wanted_pricing else Some (refusal.PartCount part.Unique)) ≡ Some r → RefusesFirst (behind_certified auction won) r
+  claims-so won false many is = (refusal.PartCount part.Unique, ap (λ (t : Result Uniqueness Refusal). and_then t (behind_claims auction won)) (many-claims auction (slice_index_or won 0 []) auction.uniques auction.ties many), inl (some-is _ r is))
+  claims-so won true once is =
+      first-then (parsed_claims auction (slice_index_or won 0 []) auction.uniques auction.ties) (behind_claims auction won) r (free-claims auction (slice_index_or won 0 []) auction.uniques auction.ties (leb-true _ _ (both-true _ _ once).0) (leb-true _ _ (both-true _ _ once).1))
+      (λ claim parsed. (r, ap (λ (o : Option Refusal). and_then (unless o (priced_by auction won auction.prices auction.covers)) (behind_pricing auction won claim)) is, inl refl))
+
+  certified-so : (won : List (List Choice)) (has : Bool)
+      → (if has then (if claims_once (numbers_of auction) then wanted_pricing else Some (refusal.PartCount part.Unique)) else Some (refusal.PartCount part.Certificate)) ≡ Some r
+      → RefusesFirst (and_then (if has then and_then (each_in_turn shown 1 (bounds_of auction won)) (λ all. Ok won) else Err (refusal.PartCount part.Certificate)) (behind_certified auction)) r
+  certified-so won false is = (refusal.PartCount part.Certificate, refl, inl (some-is _ r is))
+  certified-so won true is =
+      first-then (and_then (each_in_turn shown 1 (bounds_of auction won)) (λ all. Ok won)) (behind_certified auction) r (free-then (each_in_turn shown 1 (bounds_of auction won)) _ (free-shown auction won) (λ all is. tt))
+      (λ again parsed. claims-so again (claims_once (numbers_of auction)) refl is)
+
+  won-so : (won : Result (List (List Choice)) Refusal) → IsFree won → first_failed (refused_unless (proof_wants (numbers_of auction))) ≡ Some r → RefusesFirst (and_then (and_then won (certified auction)) (behind_certified auction)) r
+  won-so (Err f) free is = (f, refl, inr free)
+  won-so (Ok won) free is = certified-so won (has_certificates (numbers_of auction)) is
+
+  solutions-so : (o : Option Refusal) → option_or o (first_failed (refused_unless (proof_wants (numbers_of auction)))) ≡ Some r → RefusesFirst (and_then (and_then (unless o (each_won auction)) (certified auction)) (behind_certified auction)) r
+  solutions-so (Some s) is = (s, refl, inl (some-is s r is))
+  solutions-so None is = won-so (each_won auction) (free-groups auction) is
+
+verify-so : (workers : ℕ) (parsed : Result Auction Refusal) (r : Refusal) → with_wanted (Some target.Verify) parsed ≡ Err r → RefusesFirst (and_then parsed (output_of (Verify workers))) r
+verify-so workers (Err f) r is = (f, refl, inl (err-is f r is))
+verify-so workers (Ok auction) r is =
+    solutions-so auction r (first_failed (refused_unless (solution_wants (numbers_of auction)))) (sym (failed-behind (solution_wants (numbers_of auction)) (proof_wants (numbers_of auction))) ∙ unless-err (first_failed (refused_unless (wants (Some target.Verify) (numbers_of auction)))) auction r is)
+
+-- the lines of bids, where they are asked for
+abbrev lines_of : Bool → Auction → Result (List ℕ) Refusal
+lines_of bids auction = Ok (if bids then left_out_lines auction.rules auction.form_bidders (reasons_of auction.sale.lots auction.sale.book) else [])
+
+explain-so : (bids : Bool) (command : Option Target) (parsed : Result Auction Refusal) (r : Refusal) → with_wanted command parsed ≡ Err r → and_then parsed (output_of (Explain bids command)) ≡ Err r
+explain-so bids None (Ok auction) r is = cc
+explain-so bids None (Err f) r is = ap (λ (e : Refusal). Err e) (err-is f r is)
+explain-so bids (Some command) (Err f) r is = ap (λ (e : Refusal). Err e) (err-is f r is)
+explain-so bids (Some command) (Ok auction) r is = stopped (λ found. lines_of bids auction) (wanted (Some command) auction) r is
+
+refuses-so : (asked : Request) (command : Target) (input : Input) (r : Refusal) → target_of asked ≡ Some command → parsed_taken asked input ≡ Err r → RefusesSo asked input r
+refuses-so Check command input r is parsed = cc
+refuses-so Text command input r is parsed = stopped (output_of Text) (parsed_auction Text input) r (sym (onto-all (parsed_auction Text input)) ∙ parsed)
+refuses-so (Compile workers) command input r is parsed = stopped (output_of (Compile workers)) (parsed_auction (Compile workers) input) r (sym (onto-all (parsed_auction (Compile workers) input)) ∙ parsed)
+refuses-so (Map group) command input r is parsed = stopped (output_of (Map group)) (parsed_auction (Map group) input) r (sym (onto-all (parsed_auction (Map group) input)) ∙ parsed)
+refuses-so (Report workers) command input r is parsed = report-so workers (parsed_auction (Report workers) input) r parsed
+refuses-so (Verify workers) command input r is parsed = verify-so workers (parsed_auction (Verify workers) input) r parsed
+refuses-so (Explain bids whose) command input r is parsed = explain-so bids whose (parsed_auction (Explain bids whose) input) r parsed
+
+-- ---- what is taken
+
+free-if : {A : Type 0} (b : Bool) (x y : Result A Refusal) → IsFree x → IsFree y → IsFree (if b then x else y)
+free-if true x y first second = first
+free-if false x y first second = second
+
+neither : {X : Type 0} (first second : Option X) → option_or first second ≡ None → (first ≡ None) × (second ≡ None)
+neither None second is = (refl, is)
+neither (Some x) second is = cc
+
+all-met : (has once : Bool) (pricing : Option Refusal) (r s : Refusal) → (if has then (if once then pricing else Some s) else Some r) ≡ None → (has ≡ true) × (once ≡ true) × (pricing ≡ None)
+all-met true true pricing r s is = (refl, refl, is)
+all-met true false pricing r s is = cc
+all-met false once pricing r s is = cc
+
+-- an auction that has what is wanted
+met-so : (found : Option Refusal) (x y : Auction) → unless found (Ok x) ≡ Ok y → found ≡ None
+met-so None x y is = refl
+met-so (Some r) x y is = cc
+
+report-taken : (auction : Auction) → first_failed (refused_unless (solution_wants (numbers_of auction))) ≡ None → IsFree (winners_of_groups auction)
+report-taken auction none = subst (λ (o : Option Refusal). IsFree (unless o (each_won auction))) (sym none) (free-groups auction)
+
+verify-taken : (workers : ℕ) (auction : Auction) → first_failed (refused_unless (wants (Some target.Verify) (numbers_of auction))) ≡ None → IsFree (output_of (Verify workers) auction)
+verify-taken workers auction none =
+    let (solved, proved) = neither (first_failed (refused_unless (solution_wants (numbers_of auction)))) (first_failed (refused_unless (proof_wants (numbers_of auction)))) (sym (failed-behind (solution_wants (numbers_of auction)) (proof_wants (numbers_of auction))) ∙ none) in
+    let (has, once, priced) = all-met (has_certificates (numbers_of auction)) (claims_once (numbers_of auction)) (first_failed (refused_unless (pricing_wants (numbers_of auction)))) (refusal.PartCount part.Certificate) (refusal.PartCount part.Unique) proved in
+    free-then (and_then (winners_of_groups auction) (certified auction)) (behind_certified auction)
+    (free-then (winners_of_groups auction) (certified auction) (report-taken auction solved) (λ won is.
+    subst (λ (b : Bool). IsFree (if b then and_then (each_in_turn shown 1 (bounds_of auction won)) (λ all. Ok won) else Err (refusal.PartCount part.Certificate))) (sym has)
+    (free-then (each_in_turn shown 1 (bounds_of auction won)) _ (free-shown auction won) (λ all is. tt))))
+    (λ won is. free-then (parsed_claims auction (slice_index_or won 0 []) auction.uniques auction.ties) (behind_claims auction won) (free-claims auction (slice_index_or won 0 []) auction.uniques auction.ties (leb-true _ _ (both-true _ _ once).0) (leb-true _ _ (both-true _ _ once).1))
+    (λ claim is. free-then (parsed_pricing auction won) (behind_pricing auction won claim)
+    (subst (λ (o : Option Refusal). IsFree (unless o (priced_by auction won auction.prices auction.covers))) (sym priced) (free-priced-by auction won auction.prices auction.covers)) (λ pricing is. tt)))
+
+taken-so : (asked : Request) (parsed : Result Auction Refusal) (auction : Auction) → with_wanted (target_of asked) parsed ≡ Ok auction → IsFree (and_then parsed (output_of asked))
+taken-so asked (Err r) auction is = absurd (by (target_of asked) is)
+  where
+    by : (command : Option Target) → with_wanted command (no_auction r) ≡ Ok auction → ⊥
+    by None e = cc
+    by (Some command) e = cc
+taken-so Check (Ok found) auction is = tt
+taken-so Text (Ok found) auction is = tt
+taken-so (Compile workers) (Ok found) auction is = tt
+taken-so (Map group) (Ok found) auction is =
+    let p = program_for found.sale (slice_index_or found.groups (group - 1) []) in
+    let text = only_text found.solutions in
+    free-if (nat_le group (length found.groups)) (and_then (winners_by p 1 text) (λ won. Ok (allocation_text found.sale won))) (Err (refusal.NoGroup group))
+    (free-then (winners_by p 1 text) (λ won. Ok (allocation_text found.sale won)) (free-winners p 1 text) (λ won is. tt)) (λ never. never)
+taken-so (Report workers) (Ok found) auction is = free-then (winners_of_groups found) _ (report-taken found (met-so (first_failed (refused_unless (solution_wants (numbers_of found)))) found auction is)) (λ won is. tt)
+taken-so (Verify workers) (Ok found) auction is = verify-taken workers found (met-so (first_failed (refused_unless (wants (Some target.Verify) (numbers_of found)))) found auction is)
+taken-so (Explain bids None) (Ok found) auction is = tt
+taken-so (Explain bids (Some command)) (Ok found) auction is =
+    subst (λ (o : Option Refusal). IsFree (and_then (unless o (Ok found)) (λ again. lines_of bids found))) (sym (met-so (first_failed (refused_unless (wants (Some command) (numbers_of found)))) found auction is)) tt
+
+-- ---- the law
+
+-- what a request for a command takes is what `explain` takes for it
+parsed-for : (bids : Bool) (asked : Request) (command : Target) (input : Input) → target_of asked ≡ Some command → parsed_taken asked input ≡ parsed_taken (Explain bids (Some command)) input
+parsed-for bids asked command input is = ap (λ (o : Option Target). parsed_taken (Explain bids o) input) is
+
+free-answer : (asked : Request) (command : Target) (input : Input) (auction : Auction) → target_of asked ≡ Some command → parsed_taken asked input ≡ Ok auction → IsFree (answer asked input)
+free-answer Check command input auction is parsed = cc
+free-answer asked command input auction is parsed = taken-so asked (parsed_auction asked input) auction parsed
+
+if-err-at : {A : Type 0} (parsed : Result A Refusal) (r : Refusal) → IsFree parsed → parsed ≡ Err r → IsOther r
+if-err-at parsed r free is = subst (λ (t : Result _ Refusal). IsFree t) is free
+
+pub explains-for : (command : Target) (input : Input) → ExplainsFor command input
+explains-for command input = record {
+  refused = λ bids r parsed asked is. refuses-so asked command input r is (parsed-for bids asked command input is ∙ parsed);
+  taken = λ bids auction parsed asked is r answered. if-err-at (answer asked input) r (free-answer asked command input auction is (parsed-for bids asked command input is ∙ parsed)) answered;
+}
+
+-- ---- what follows of an explanation
+
+is-err : {A : Type 0} (parsed : Result A Refusal) (r : Refusal) → parsed ≡ Err r → IsErr parsed
+is-err parsed r is = subst (λ (t : Result _ Refusal). IsErr t) (sym is) refl
+
+refused-so : (asked : Request) (input : Input) (r : Refusal) → RefusesSo asked input r → IsErr (answer asked input)
+refused-so (Verify workers) input r (first, is, other) = is-err _ first is
+refused-so Check input r is = is-err _ r is
+refused-so Text input r is = is-err _ r is
+refused-so (Compile workers) input r is = is-err _ r is
+refused-so (Map group) input r is = is-err _ r is
+refused-so (Report workers) input r is = is-err _ r is
+refused-so (Explain bids whose) input r is = is-err _ r is
+
+which-err : {A : Type 0} (parsed : Result A Refusal) → IsErr parsed → (r : Refusal) × (parsed ≡ Err r)
+which-err (Ok x) is = cc
+which-err (Err r) is = (r, refl)
+
+-- an input of which faults are reported is refused by the command
+pub refused-by : (bids : Bool) (command : Option Target) (input : Input) → IsErr (parsed_taken (Explain bids command) input) → IsRefusedBy command input
+refused-by bids None input wrong asked never = absurd never
+refused-by bids (Some command) input wrong asked is =
+    let (r, parsed) = which-err (parsed_taken (Explain bids (Some command)) input) wrong in
+    refused-so asked input r ((explains-for command input).refused bids r parsed asked is)
+
+-- where the answer is there, the auction has what is wanted
+has-taken : (bids : Bool) (command : Option Target) (parsed : Result Auction Refusal) (out : List ℕ) → and_then parsed (output_of (Explain bids command)) ≡ Ok out → (auction : Auction) × (with_wanted command parsed ≡ Ok auction)
+has-taken bids None (Ok auction) out is = (auction, refl)
+has-taken bids (Some command) (Ok auction) out is = by (first_failed (refused_unless (wants (Some command) (numbers_of auction)))) is
+  where
+    by : (o : Option Refusal) → and_then (unless o (Ok auction)) (λ taken. Ok (if bids then left_out_lines auction.rules auction.form_bidders (reasons_of auction.sale.lots auction.sale.book) else [])) ≡ Ok out → (x : Auction) × (unless o (Ok auction) ≡ Ok x)
+    by None e = (auction, refl)
+    by (Some r) e = cc
+has-taken bids command (Err r) out is = cc
+
+pub taken-for : (asked : Request) (input : Input) (before after : Option (List ℕ)) → Writes (answer asked input) before after → IsTakenFor asked input
+taken-for (Explain bids None) input before after (out, parsed, sent) = λ asked never r answered of. never
+taken-for (Explain bids (Some command)) input before after (out, parsed, sent) =
+    let (auction, has) = has-taken bids (Some command) (parsed_auction (Explain bids (Some command)) input) out parsed in
+    (explains-for command input).taken bids auction has
+taken-for Check input before after writes = tt
+taken-for Text input before after writes = tt
+taken-for (Compile workers) input before after writes = tt
+taken-for (Map group) input before after writes = tt
+taken-for (Report workers) input before after writes = tt
+taken-for (Verify workers) input before after writes = tt

@@ -1,0 +1,17 @@
+use Rattle.std.proofs.Common.{[], ap, map, refl}
+use Rattle.std.specs.Prelude.{codes}
+use Rattle.clap.specs.Words.{Rule, app_of, new_app, with_rule}
+use Rattle.answers.specs.Asked.{for_forms, for_text}
+use Rattle.answers.proofs.AskedFacts.{pushed, then-added}
+use Rattle.answers.proofs.parser.add_all.Goals as goal
+
+pub returns : goal.returns
+returns c =
+    let text = then-added _ _ [] _ (for_forms (new_app (codes "text"))) c.in_ok-add_plain.ensures (ap (map app_of) c.requires) refl in
+    let compile = then-added _ _ _ _ _ c.in_ok-add_with.ensures text (ap (λ (r : Rule). for_forms (with_rule (new_app (codes "compile")) r)) c.workers.ensures.rule) in
+    let check = then-added _ _ _ _ (for_text (new_app (codes "check"))) c.in_ok-add_for_text.ensures compile refl in
+    let map_back = then-added _ _ _ _ _ c.in_ok-add_with-2.ensures check (ap (λ (r : Rule). for_forms (with_rule (new_app (codes "map")) r)) c.group.ensures.rule) in
+    let report = then-added _ _ _ _ _ c.in_ok-add_with-3.ensures map_back (ap (λ (r : Rule). for_forms (with_rule (new_app (codes "report")) r)) c.workers-2.ensures.rule) in
+    let verify = then-added _ _ _ _ _ c.in_ok-add_with-4.ensures report (ap (λ (r : Rule). for_forms (with_rule (new_app (codes "verify")) r)) c.workers-3.ensures.rule) in
+    let explain = then-added _ _ _ _ _ c.in_ok-add_explain.ensures verify refl in
+    then-added _ _ _ _ _ (pushed _ _ c.help_command.result _ c.in_ok-add.ensures c.help_command.ensures) explain refl

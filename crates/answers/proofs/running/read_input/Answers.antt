@@ -1,0 +1,10 @@
+use Rattle.std.proofs.Common.{refl}
+use Rattle.answers.proofs.running.read_input.Goals as goal
+
+pub returns-in-Ok-clause-read : goal.returns-in-Ok-clause-read
+returns-in-Ok-clause-read g c =
+    let read = rw c.as_slice.ensures.value at c.in-Ok.ensures.read in
+    rw c.with_last_wins.ensures (read, refl)
+
+pub returns-in-Err-clause-unread : goal.returns-in-Err-clause-unread
+returns-in-Err-clause-unread g c = rw c.as_slice.ensures.value at c.in-Err.ensures.unread

@@ -1,0 +1,21 @@
+//! The line that tells why a run ended.
+
+ghost use Rattle.auction_input.specs.Line.{Puts};
+ghost use Rattle.input_faults.specs.PlacedText.{placed_line};
+
+use auction_input::{Given, Refusal, spot_of};
+use byte_sinks::{Sink, Writer};
+use input_faults::add_message;
+
+/// Puts the line of a refusal of these texts, with the name of its file where there are several. It takes no memory. What
+/// a sink of such lines doesn't take changes nothing.
+pub fn print_refusal<F: Sink>(texts: &[Given], refusal: &Refusal, faults: &mut F)
+    ensures { Puts (placed_line texts.now refusal.now) (F.taken faults.old) (F.taken faults.new)
+        (F.failures faults.old) (F.failures faults.new) }
+{
+    let mut writer = Writer::new(faults);
+    writer.add(b"wdp: ");
+    add_message(&mut writer, texts, spot_of(texts, refusal), refusal);
+    writer.add(b"\n");
+    let _ = writer.flush();
+}

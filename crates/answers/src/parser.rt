@@ -1,0 +1,195 @@
+//! The commands, and what the help says of each.
+
+ghost use Rattle.std.specs.Prelude.{◌≡◌, ◌++◌, ◌∷◌, [], IfOk, OnOk, codes, false, map, true};
+ghost use Rattle.clap.specs.Simple.{on_top};
+ghost use Rattle.clap.specs.Words.{app_of, new_app, rule_of, with_rule};
+ghost use Rattle.answers.specs.Asked as asked;
+
+use crate::options::{bids, explained_for, file, files, group, last_wins, output, workers};
+use clap::{Arg, Command};
+use std::alloc::{AllocError, Global};
+
+/// The program's version.
+pub const VERSION: &str = "1.1.0";
+
+// What the help says of a command: its name, what it does, and what stands below its options.
+#[derive(Clone, Copy)]
+struct Page {
+    name: &'static str,
+    about: &'static str,
+    below: &'static str,
+}
+
+const PROGRAM: Page = Page {
+    name: "wdp",
+    about: "Compiles the winner determination of a combinatorial clock auction",
+    below: "Example: wdp compile --workers 4 examples/worked.txt -o programs.mps\n\nThe manual: man docs/wdp.1; the formats and each refusal: docs/REFERENCE.md",
+};
+
+const TEXT: Page = Page {
+    name: "text",
+    about: "Prints the program of the empty group, as no command does too",
+    below: "Input: %rules, and a %form for each form\nOutput: the program of the empty group, in free MPS\nExample: wdp text examples/one_form.txt -o one_form.mps",
+};
+
+const CHECK: Page = Page {
+    name: "check",
+    about: "Prints the sizes of an MPS text",
+    below: "Input: the text of one program, in free MPS, without parts\nOutput: a line rows R columns C entries E\nExample: wdp text examples/one_form.txt | wdp check",
+};
+
+const COMPILE: Page = Page {
+    name: "compile",
+    about: "Prints the programs of all groups",
+    below: "Input: %rules, a %form for each form, and %groups\nOutput: for each group a line * program K NAMES, and its program in free MPS\nExample: wdp compile --workers 4 examples/worked.txt -o programs.mps",
+};
+
+const MAP: Page = Page {
+    name: "map",
+    about: "Prints what a solution wins",
+    below: "Input: %rules, a %form for each form, %groups, and one %solution\nOutput: a line NAME BID AMOUNT for each winner, and a line total N\nExample: wdp map --group 1 examples/worked.txt solution.txt",
+};
+
+const REPORT: Page = Page {
+    name: "report",
+    about: "Prints what the solutions of all groups win, and the groups' opportunity costs",
+    below: "Input: %rules, a %form for each form, %groups, and a %solution for each group\nOutput: for each group its winners, their total, and its opportunity cost\nExample: wdp report examples/worked.txt solutions.txt",
+};
+
+const VERIFY: Page = Page {
+    name: "verify",
+    about: "Prints the report of solutions that certificates show to be optimal",
+    below: "Input: as of report, and a %certificate for each group; perhaps %prices with %cover and %weights, and a %unique or a %tie\nOutput: as of report, then the prices, and what is shown of other outcomes\nExample: wdp verify examples/verified.txt",
+};
+
+const EXPLAIN: Page = Page {
+    name: "explain",
+    about: "Prints all faults of an input",
+    below: "Input: %rules, a %form for each form, perhaps %groups; other parts are ignored, or counted for a command\nOutput: a line for each fault, none if nothing is wrong; status 1 if there is one\nExample: wdp explain examples/worked.txt",
+};
+
+// The command of a page, without options.
+fn described<'a>(alloc: Global, page: Page) -> Command<'a>
+    ensures { app_of result ≡ new_app page.name.now }
+{
+    Command::new(alloc, page.name)
+        .about(page.about)
+        .after_help(page.below)
+}
+
+// The words of `help` are spelled otherwise before they are parsed: it stands here to be listed among the commands.
+fn help_command<'a>(alloc: Global) -> Command<'a>
+    ensures { app_of result ≡ new_app (codes "help") }
+{
+    Command::new(alloc, "help")
+        .about("Print this message or the help of the given subcommand(s)")
+        .override_usage("wdp help [COMMAND]")
+}
+
+fn plain_command<'a>(alloc: Global) -> Command<'a>
+    ensures { app_of result
+        ≡ on_top (λ s. record s { has_version = true; disable_help_subcommand = true })
+        (new_app (codes "wdp")) }
+{
+    described(alloc, PROGRAM)
+        .version(VERSION)
+        .disable_help_subcommand(true)
+}
+
+// Adds a command to those before it.
+fn add<'a>(list: &mut Vec<Command<'a>>, command: Command<'a>) -> Result<(), AllocError>
+    ensures { OnOk result (list.new.items ≡ list.old.items ++ command.entry ∷ []) }
+{
+    list.push(command)?;
+    Ok(())
+}
+
+// One that reads forms.
+fn for_forms<'a>(alloc: Global, command: Command<'a>) -> Result<Command<'a>, AllocError>
+    ensures { IfOk result (λ c. app_of c ≡ asked.for_forms (app_of command.entry)) }
+{
+    command
+        .arg(last_wins(alloc))?
+        .arg(output(alloc))?
+        .arg(files(alloc))
+}
+
+// One that reads one text.
+fn for_text<'a>(alloc: Global, command: Command<'a>) -> Result<Command<'a>, AllocError>
+    ensures { IfOk result (λ c. app_of c ≡ asked.for_text (app_of command.entry)) }
+{
+    command.arg(output(alloc))?.arg(file(alloc))
+}
+
+// Adds the command of a page that reads one text.
+fn add_for_text<'a>(
+    list: &mut Vec<Command<'a>>,
+    alloc: Global,
+    page: Page,
+) -> Result<(), AllocError>
+    ensures { OnOk result (map app_of list.new.items
+        ≡ map app_of list.old.items ++ asked.for_text (new_app page.name.now) ∷ []) }
+{
+    add(list, for_text(alloc, described(alloc, page))?)
+}
+
+// Adds the command of a page that reads forms, without an option of its own.
+fn add_plain<'a>(list: &mut Vec<Command<'a>>, alloc: Global, page: Page) -> Result<(), AllocError>
+    ensures { OnOk result (map app_of list.new.items
+        ≡ map app_of list.old.items ++ asked.for_forms (new_app page.name.now) ∷ []) }
+{
+    add(list, for_forms(alloc, described(alloc, page))?)
+}
+
+// Adds the command of a page that reads forms, with an option of its own.
+fn add_with<'a>(
+    list: &mut Vec<Command<'a>>,
+    alloc: Global,
+    page: Page,
+    option: Arg<'a>,
+) -> Result<(), AllocError>
+    requires local { option.global ≡ false }
+    ensures { OnOk result (map app_of list.new.items
+        ≡ map app_of list.old.items
+        ++ asked.for_forms (with_rule (new_app page.name.now) (rule_of option.entry)) ∷ []) }
+{
+    let command = described(alloc, page).arg(option)?;
+    add(list, for_forms(alloc, command)?)
+}
+
+// Adds `explain`.
+fn add_explain<'a>(list: &mut Vec<Command<'a>>, alloc: Global) -> Result<(), AllocError>
+    ensures { OnOk result (map app_of list.new.items
+        ≡ map app_of list.old.items ++ asked.for_forms (with_rule (with_rule
+        (new_app (codes "explain")) asked.bids) asked.explained_for) ∷ []) }
+{
+    let command = described(alloc, EXPLAIN)
+        .arg(bids(alloc))?
+        .arg(explained_for(alloc))?;
+    add(list, for_forms(alloc, command)?)
+}
+
+// Adds all commands, in the order in which the help lists them.
+fn add_all<'a>(list: &mut Vec<Command<'a>>, alloc: Global) -> Result<(), AllocError>
+    requires { list.old.items ≡ [] }
+    ensures { OnOk result (map app_of list.new.items ≡ asked.commands) }
+{
+    add_plain(list, alloc, TEXT)?;
+    add_with(list, alloc, COMPILE, workers(alloc))?;
+    add_for_text(list, alloc, CHECK)?;
+    add_with(list, alloc, MAP, group(alloc))?;
+    add_with(list, alloc, REPORT, workers(alloc))?;
+    add_with(list, alloc, VERIFY, workers(alloc))?;
+    add_explain(list, alloc)?;
+    add(list, help_command(alloc))?;
+    Ok(())
+}
+
+/// The program's command, with all commands below it.
+pub(crate) fn parser<'a>(alloc: Global) -> Result<Command<'a>, AllocError>
+    ensures { IfOk result (λ command. app_of command ≡ asked.wdp) }
+{
+    let mut list = Vec::new(alloc);
+    add_all(&mut list, alloc)?;
+    plain_command(alloc).subcommands(list)
+}

@@ -1,0 +1,36 @@
+-- The numbers that a request may have, and the command as which it takes parts.
+use Rattle.std.specs.Prelude.{◌≤◌, ⊤, ℕ, List, Option, None, Some, bytes_eq, codes, if◌then◌else◌}
+use Rattle.auction_input.specs.declared.request.Request.TheVariants.{Check, Compile, Explain, Map, Report, Text, Verify}
+use Rattle.auction_input.specs.declared.request.Request.{Request}
+use Rattle.auction_input.specs.declared.request.Target.TheVariants as target
+use Rattle.auction_input.specs.declared.request.Target.{Target}
+use Rattle.auction_terms.specs.declared.limits.TheConstants.{MOST_GROUPS}
+use Rattle.auction_terms.specs.declared.limits.TheConstants.{MOST_WORKERS}
+
+-- how many workers, and which group, from 1 on
+abbrev pub IsRequestWithinLimits : Request → Type 0
+IsRequestWithinLimits (Compile workers) = (1 ≤ workers) × (workers ≤ MOST_WORKERS)
+IsRequestWithinLimits (Map group) = (1 ≤ group) × (group ≤ MOST_GROUPS)
+IsRequestWithinLimits (Report workers) = (1 ≤ workers) × (workers ≤ MOST_WORKERS)
+IsRequestWithinLimits (Verify workers) = (1 ≤ workers) × (workers ≤ MOST_WORKERS)
+IsRequestWithinLimits _ = ⊤
+
+-- the command as which a request takes the parts of an input: itself, or the one that `explain` names
+abbrev pub target_of : Request → Option Target
+target_of Text = Some target.Text
+target_of Check = None
+target_of (Compile workers) = Some target.Compile
+target_of (Explain bids command) = command
+target_of (Map group) = Some target.Map
+target_of (Report workers) = Some target.Report
+target_of (Verify workers) = Some target.Verify
+
+-- the command of this name, among those that take parts
+abbrev pub target_named : List ℕ → Option Target
+target_named name =
+    if bytes_eq name (codes "text") then Some target.Text
+    else if bytes_eq name (codes "compile") then Some target.Compile
+    else if bytes_eq name (codes "map") then Some target.Map
+    else if bytes_eq name (codes "report") then Some target.Report
+    else if bytes_eq name (codes "verify") then Some target.Verify
+    else None

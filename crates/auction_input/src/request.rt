@@ -1,0 +1,68 @@
+//! What is asked of an input.
+
+ghost use Rattle.std.specs.Prelude.{◌≡◌};
+ghost use Rattle.auction_input.specs.Requests.{target_named, target_of};
+
+/// A command that takes the parts of an input.
+#[derive(Clone, Copy)]
+pub enum Target {
+    Text,
+    Compile,
+    Map,
+    Report,
+    Verify,
+}
+
+impl Target {
+    /// The command of this name.
+    pub fn named(name: &str) -> Option<Target>
+        ensures { result ≡ target_named name.now }
+    {
+        match name {
+            "text" => Some(Target::Text),
+            "compile" => Some(Target::Compile),
+            "map" => Some(Target::Map),
+            "report" => Some(Target::Report),
+            "verify" => Some(Target::Verify),
+            _ => None,
+        }
+    }
+}
+
+/// A command with its options.
+#[derive(Clone, Copy)]
+pub enum Request {
+    /// The program of the empty group.
+    Text,
+    /// The sizes of an MPS text.
+    Check,
+    /// The programs of all groups, by so many workers.
+    Compile { workers: usize },
+    /// All faults of an input, as a command takes it if one is named; where there is none, and this is asked for, which bids are in
+    /// no program.
+    Explain { bids: bool, target: Option<Target> },
+    /// What a solution wins without a group, which counts from 1.
+    Map { group: usize },
+    /// What the solutions of all groups win, and the groups' opportunity costs, by so many workers.
+    Report { workers: usize },
+    /// The same, where certificates show that nobody wins more, by so many workers.
+    Verify { workers: usize },
+}
+
+impl Request {
+    /// The command as which a request takes the parts of an input: itself, or the one that `explain` names; none where `explain`
+    /// names none, nor for `check`, whose input has no parts.
+    pub fn target(&self) -> Option<Target>
+        ensures { result ≡ target_of self.now }
+    {
+        match *self {
+            Request::Text => Some(Target::Text),
+            Request::Check => None,
+            Request::Compile { workers: _ } => Some(Target::Compile),
+            Request::Explain { bids: _, target } => target,
+            Request::Map { group: _ } => Some(Target::Map),
+            Request::Report { workers: _ } => Some(Target::Report),
+            Request::Verify { workers: _ } => Some(Target::Verify),
+        }
+    }
+}

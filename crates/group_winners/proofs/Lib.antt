@@ -1,9 +1,0 @@
-pub mod CertifiedFacts
-pub mod CheckFacts
-pub mod ClaimedFacts
-pub mod CountFacts
-pub mod FaultFacts
-pub mod PricingFacts
-pub mod ReportFacts
-pub mod WinnersFeasible
-pub mod WinningFacts

@@ -1,6 +1,0 @@
-pub mod Programs
-pub mod SolutionWinners
-pub mod Certified
-pub mod Claimed
-pub mod Pricing
-pub mod inside

@@ -1,3 +1,0 @@
-pub mod Claiming
-pub mod Judging
-pub mod SolutionWinners

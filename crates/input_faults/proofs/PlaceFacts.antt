@@ -1,0 +1,16 @@
+-- What stands behind what is reported of a refusal.
+use Rattle.std.proofs.Common.{◌≡◌, ◌++◌, ℕ, List, [], refl}
+use Rattle.std.proofs.lemmas.List.{append-nil}
+use Rattle.auction_input.specs.Input.{Given}
+use Rattle.auction_input.specs.declared.form_texts.AnotherForm.{AnotherForm}
+use Rattle.auction_input.specs.declared.refusal.Refusal.TheVariants as refusal
+use Rattle.auction_input.specs.declared.refusal.Refusal.{Refusal}
+use Rattle.input_faults.specs.PlacedText.{with_other}
+
+pub other-behind : (texts : List Given) (r : Refusal) (reported : List ℕ) → reported ++ with_other texts r [] ≡ with_other texts r reported
+other-behind texts (refusal.AnotherForm f) reported = refl
+other-behind texts r reported = append-nil reported
+
+pub no-other : (texts : List Given) (r : Refusal) → ((f : AnotherForm) → r ≡ refusal.AnotherForm f → ⊥) → [] ≡ with_other texts r []
+no-other texts (refusal.AnotherForm f) none = absurd (none f refl)
+no-other texts r none = refl

@@ -1,4 +1,0 @@
-pub mod Lines
-pub mod Scaling
-pub mod Numbers
-pub mod Tokens

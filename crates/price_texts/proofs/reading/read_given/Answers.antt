@@ -1,6 +1,0 @@
-use Rattle.std.proofs.Common.{ap, arith, length}
-use Rattle.auction_terms.proofs.LineCount.{lines-within}
-use Rattle.price_texts.proofs.reading.read_given.Goals as goal
-
-pub overflow_add-place : goal.overflow_add-place
-overflow_add-place c = omega (arith, c.loop-line.invariant.1, lines-within c.args.text.now, ap length c.in-Some.ensures)

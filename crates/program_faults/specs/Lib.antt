@@ -1,3 +1,0 @@
-pub mod CertificateFaultText
-pub mod MpsFaultText
-pub mod SolutionFaultText

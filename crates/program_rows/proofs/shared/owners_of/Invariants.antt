@@ -1,0 +1,7 @@
+use Rattle.std.proofs.Common.{◌≡◌, map, take}
+use Rattle.program_rows.specs.Selections.{owner_of}
+use Rattle.program_rows.proofs.shared.owners_of.Given as goal
+
+-- the owners so far
+abbrev pub invariant-loop-i : goal.invariant-loop-i
+invariant-loop-i l = l.owners.items ≡ map owner_of (take l.i l.subjects)

@@ -1,4 +1,0 @@
-pub mod AskedFacts
-pub mod KindsFacts
-pub mod StepFacts
-mod WorkedWords
