@@ -1,5 +1,35 @@
-"""Hides the libraries that WITHOUT_LIBRARIES names, as where they aren't there."""
+"""Hides the libraries that WITHOUT_LIBRARIES names, as if they weren't there, and makes folders for tests."""
 import os
 import sys
+import time
 
 sys.modules.update(dict.fromkeys(os.environ.get("WITHOUT_LIBRARIES", "").split()))
+
+import pytest  # noqa: E402
+
+from commands import Auction, Office  # noqa: E402
+
+
+@pytest.fixture
+def office(tmp_path):
+    return Office(tmp_path)
+
+
+@pytest.fixture
+def auction(tmp_path, wdp):
+    return Auction(tmp_path / "an auction's $(folder)", wdp)
+
+
+@pytest.fixture(scope="session")
+def whole(tmp_path_factory, wdp):
+    """What a whole run leaves."""
+    auction = Auction(tmp_path_factory.mktemp("whole") / "auction", wdp)
+    auction.said("--ties")
+    return auction
+
+
+@pytest.fixture
+def mark(monkeypatch):
+    """What the processes that a test starts have in their surroundings."""
+    monkeypatch.setenv("STARTED_BY", f"{os.getpid()}.{time.monotonic()}")
+    return f"STARTED_BY={os.environ['STARTED_BY']}"

@@ -1,142 +1,99 @@
-"""Damaged certificates: what a checker has to judge beside right ones. The same seed gives the same texts.
+"""Damaged certificates and inputs, to be judged beside right ones. The same text and seed give the same damages.
 
-Each kind of damage takes the lines of a certificate and gives others. Names are taken from the certificate itself, so
-most damaged lines can be read and are wrong in what they show; some still show the bound, as a multiplier that was
-raised a little may.
+Numbers are near to those of the text and words are what typing, copying and exporting make of them, so most damaged lines can be
+read and are wrong in what they say; some certificates still show the bound, as a multiplier that was raised may.
 """
 import random
 import re
 
-NUMBER = re.compile(rb"-?[0-9]{1,100}")
-WORDS = [b"bound", b"split", b"leaf", b"Bound", b"1", b"", b"#", b"\t"]
-TOKENS = [b"0", b"-1", b"-0", b"+5", b"1e3", b"10e-1", b"0.5", b"1.", b".", b"1e61", b"1e-61", b"e1", b"0x1", b"--1", b"one",
-          b"1000000000000000000", b"1000000000000000001", b"-1000000000000000000", b"\xff", b"1\r", b"7" * 40, b"-" + b"9" * 40,
-          b"0" * 31, b"000000000000000000000000000001"]
-LINES = [b"", b"# a comment", b" # not one", b"\t \t", b"bound 0", b"bound 1", b"split 0", b"\r", b"\x00"]
+BIDDERS = b"bidder,Alpha,9,2,\nbidder,Beta,9,1,\nbidder,Gamma,9,1,\n"
+WIDE = BIDDERS.replace(b",\n", b",,\n")
+POOL = b"pool,Low,2,,,\nmember,Low,A,1,,\nmember,Low,B,1,,\n" + WIDE
+FORMS = b"%form\nAlpha,A,B\n30,1,0\n50,2,1\n28,1,1\n%form\nBeta,A,B\n20,1,0\n45,3,0\n%form\nGamma,A,B\n12,0,1\n"
+GROUPS = b"%groups\n-\nBeta\nAlpha+Gamma\n"
+# accepted inputs of each version of the rules
+ACCEPTED = [
+    b"%rules\nrules,1,1,,\ncategory,A,2,10,1\ncategory,B,1,5,1\n" + BIDDERS + FORMS + GROUPS,
+    b"%rules\nrules,2,1,,,\ncategory,A,2,10,1,40\ncategory,B,1,5,1,0\n" + WIDE + FORMS + GROUPS,
+    b"%rules\nrules,3,1,,,\ncategory,A,2,10,1,0\ncategory,B,1,5,1,0\n" + POOL + FORMS + GROUPS,
+]
+# what may come in the place of a field of an input, of one of its bytes, and of a word and a line of a certificate
+FIELDS = b'|0|1|00| 1|1 |-1|+1|1,5|1.5|10000|10001|1000000|1000001|1000000000000|1000000000001|x|Alpha|Delta|A|C|"1"|"|\xef\xbb\xbf|-|+'
+FIELDS += b"|999999999999999999|1000000000000000000|rules|category|bidder|pool|member|lot|2|3|4|%form|Low|High|a1|1a"
+FIELDS = [*FIELDS.split(b"|"), b"ABCDEFGHIJKLMNOP", b"ABCDEFGHIJKLMNOPQ"]
+BYTES = [b"%c" % each for each in b',;\n\r"% +-019aAzZ\t\0\xff']
+WORDS = b"0 -1 -0 +5 1e3 10e-1 0.5 1. . 1e61 1e-61 e1 0x1 --1 one \xff 1\r X1_1 C1 B1 X0_0 OBJ x1_1 split leaf Bound # \t".split(
+    b" "
+)
+WORDS += [b"%d" % (sign * (10**18 + more)) for sign in (1, -1) for more in (0, 1)]
+WORDS += [b"7" * 40, b"-" + b"9" * 40, b"0" * 31, b"0" * 29 + b"1", b""]
+LINES = b"|# a comment| # not one|\t \t|bound 0|bound 1|split 0|end|\r|\0".split(b"|")
 
 
-def any_line(draw, lines):
-    return draw.randrange(len(lines))
+def changed(draw, pieces, others):
+    """One piece is another one, missing, doubled or new, or two have changed places."""
+    pieces, at, other = list(pieces), *draw.choices(range(len(pieces) or 1), k=2)
+    what, new = draw.randrange(5), draw.choice(others)
+    if what == 0 and pieces:
+        pieces[at], pieces[other] = pieces[other], pieces[at]
+    elif what < 3:
+        pieces[at : at + what] = [new]
+    else:
+        pieces[at : at + 1] = pieces[at : at + 1] * (2 * (what - 3))
+    return pieces
 
 
-def dropped(draw, lines):
-    at = any_line(draw, lines)
-    return lines[:at] + lines[at + 1:]
+def near(draw, text):
+    """One number is one more or one less, or of another size."""
+    found = draw.choice([*re.finditer(rb"-?[0-9]{1,100}", text)] or [None])
+    if not found:
+        return text
+    n = int(found[0])
+    others = [n + 1, n - 1, -n, n // 2, 2 * n, 10 * n, draw.randrange(100)]
+    return text[: found.start()] + b"%d" % draw.choice(others) + text[found.end() :]
 
 
-def doubled(draw, lines):
-    at = any_line(draw, lines)
-    return lines[:at] + [lines[at]] + lines[at:]
+def of_line(draw, text, separator, others):
+    """One piece of a line is changed."""
+    lines = text.split(b"\n")
+    at = draw.randrange(len(lines))
+    lines[at] = separator.join(changed(draw, lines[at].split(separator), others))
+    return b"\n".join(lines)
 
 
-def swapped(draw, lines):
-    one, other = any_line(draw, lines), any_line(draw, lines)
-    lines[one], lines[other] = lines[other], lines[one]
-    return lines
-
-
-def with_field(draw, lines, change, is_number=None):
-    """Changes a field of a line: any one, or a number, or a name."""
-    at = any_line(draw, lines)
-    words = lines[at].split(b" ")
-    places = [place for place, word in enumerate(words)
-              if place and (is_number is None or is_number == bool(NUMBER.fullmatch(word)))]
-    if places:
-        place = draw.choice(places)
-        words[place:place + 1] = change(words[place])
-        lines[at] = b" ".join(words)
-    return lines
-
-
-def number_near(draw, lines):
-    """One more or one less, or another size."""
-    def change(word):
-        number = int(word)
-        return [b"%d" % draw.choice([number + 1, number - 1, -number, number // 2, 2 * number, 10 * number, draw.randrange(100)])]
-    return with_field(draw, lines, change, True)
-
-
-def number_odd(draw, lines):
-    return with_field(draw, lines, lambda word: [draw.choice(TOKENS)], True)
-
-
-def multiplier_of_40_digits(draw, lines):
-    return with_field(draw, lines, lambda word: [b"%d" % draw.randrange(10 ** 39, 10 ** 40)], True)
-
-
-def name_changed(draw, lines):
-    """A name of another place of the text, of no place at all, or of another kind."""
-    names = [word for line in lines for word in line.split(b" ")[1:] if word[:1].isalpha()]
-    if not names:
-        return lines
-
-    def change(word):
-        return [draw.choice([draw.choice(names), draw.choice(names), b"X0_0", b"OBJ", word + b"1", word.lower()])]
-    return with_field(draw, lines, change, False)
-
-
-def field_dropped(draw, lines):
-    return with_field(draw, lines, lambda word: [])
-
-
-def field_doubled(draw, lines):
-    return with_field(draw, lines, lambda word: [word, word])
-
-
-def word_changed(draw, lines):
-    at = any_line(draw, lines)
-    lines[at] = draw.choice(WORDS) + lines[at][lines[at].find(b" "):]
-    return lines
-
-
-def sides_swapped(draw, lines):
-    """The first leaf and the last one change places."""
-    leaves = [at for at, line in enumerate(lines) if line.startswith(b"bound")]
-    if leaves:
-        lines[leaves[0]], lines[leaves[-1]] = lines[leaves[-1]], lines[leaves[0]]
-    return lines
-
-
-def line_inserted(draw, lines):
-    at = draw.randrange(len(lines) + 1)
-    return lines[:at] + [draw.choice(LINES)] + lines[at:]
-
-
-def text_behind(draw, lines):
-    return lines + [draw.choice([b"bound 1", b"split 0", b"end", lines[-1]])]
-
-
-def deep_splits(draw, lines):
-    """Splits without columns above all: below their first sides the leaves want as many multipliers more."""
-    return [draw.choice([b"split 0", b"split -1"])] * draw.choice([1, 2, 50, 5000]) + lines
-
-
-def spaces_changed(draw, lines):
-    at = any_line(draw, lines)
-    lines[at] = draw.choice([b" ", b"\t"]) + lines[at].replace(b" ", draw.choice([b"  ", b"\t", b" \t "])) + draw.choice([b" ", b"\r", b""])
-    return lines
-
-
-DAMAGES = [dropped, doubled, swapped, number_near, number_near, number_near, number_odd, multiplier_of_40_digits, name_changed,
-           field_dropped, field_doubled, word_changed, sides_swapped, line_inserted, text_behind, deep_splits, spaces_changed]
-
-
-def cut(draw, text):
-    return text[:draw.randrange(len(text) + 1)]
+# (below the first sides of deep splits leaves want as many multipliers more)
+OF_CERTIFICATE = {
+    "number": near,
+    "word": lambda draw, text: of_line(draw, text, b" ", WORDS),
+    "line": lambda draw, text: b"\n".join(changed(draw, text.split(b"\n"), LINES)),
+    "after": lambda draw, text: text + draw.choice(LINES) + b"\n",
+    "spaces": lambda draw, text: text.replace(b" ", draw.choice([b"  ", b"\t", b" \t "]), 3),
+    "deep": lambda draw, text: b"split 0\n" * draw.choice([1, 2, 50, 5000]) + text,
+    "cut": lambda draw, text: text[: draw.randrange(len(text) + 1)],
+}
 
 
 def damaged(text, seed, number):
-    """The damaged text of this number, and the names of its damages; the same for the same text, seed and number."""
-    draw = random.Random("%s %d" % (seed, number))
-    lines = text.split(b"\n")
-    if not lines[-1]:
-        lines.pop()
-    chosen = draw.choices(DAMAGES, k=draw.choice([1, 1, 1, 2, 3]))
-    for damage in chosen:
-        if lines:
-            lines = damage(draw, lines)
-    made = b"".join(line + b"\n" for line in lines)
-    names = [damage.__name__ for damage in chosen]
-    if draw.random() < 0.1:
-        made, names = cut(draw, made), names + ["cut"]
-    return made, names
+    """The damaged certificate of this number, and the names of its damages."""
+    draw = random.Random(f"{seed} {number}")
+    weights, count = (6, 6, 4, 1, 1, 1, 1), draw.choice([1, 1, 1, 2, 3])
+    names = draw.choices(list(OF_CERTIFICATE), weights, k=count)
+    for name in names:
+        text = OF_CERTIFICATE[name](draw, text)
+    return text, names
+
+
+def damaged_input(text, seed):
+    """An input with one to three damages: of its lines, of a line's fields, or of bytes; or it ends early."""
+    draw = random.Random(seed)
+    for _ in range(draw.randrange(1, 4)):
+        what, lines = draw.randrange(7), text.splitlines(keepends=True)
+        if what == 0:
+            text = b"".join(changed(draw, lines, lines or BYTES))
+        elif what < 6:
+            text = of_line(draw, text, b",", FIELDS)
+        else:
+            at = draw.randrange(len(text) + 1)
+            piece = b"".join(changed(draw, [text[at : at + 1]], BYTES))
+            text = text[:at] + (piece + text[at + 1 :] if draw.randrange(16) else b"")
+    return text

@@ -1,621 +1,387 @@
-"""The calls of the package on the worked example, from texts, files, records and data frames: README.md has its figures."""
-from __future__ import annotations
-
+"""The calls of the package on the worked example, from texts, files, records and data frames, beside what docs/PYTHON.md shows."""
 import csv
+import doctest
+import importlib
 import io
 import os
 import pickle
+import pkgutil
+import re
+import sys
 from decimal import Decimal
-from pathlib import Path
 
 import pytest
-from tree import ROOT, content, without
+from commands import content, is_in, rows
 
 import wdp
 from wdp import example
 
-RULES = [
-    ("rules", 1, 1),
-    ("category", "A", 2, 10, 1),
-    ("category", "B", 1, 5, 1),
-    ("bidder", "Alpha", 9, 2),
-    ("bidder", "Beta", 9, 1),
-    ("bidder", "Gamma", 9, 1),
-]
+RULES = [("rules", 1, 1), ("category", "A", 2, 10, 1), ("category", "B", 1, 5, 1)]
+RULES += [("bidder", "Alpha", 9, 2), ("bidder", "Beta", 9, 1), ("bidder", "Gamma", 9, 1)]
 FIELDS = {
-    "rules": ("version", "step"),
-    "category": ("name", "supply", "reserve", "points", "value"),
-    "bidder": ("name", "eligibility", "sessions"),
-    "pool": ("name", "cap"),
-    "member": ("pool", "category", "weight"),
+    "rules": "version step",
+    "category": "name supply reserve points value",
+    "pool": "name cap",
 }
-NAMED_RULES = [{"record": kind, **dict(zip(FIELDS[kind], values))} for kind, *values in RULES]
-FORMS = [
-    ("Alpha", [(30, 1, 0), (50, 2, 1), (28, 1, 1)]),
-    ("Beta", [(20, 1, 0), (45, 3, 0)]),
-    ("Gamma", [(12, 0, 1)]),
-]
+FIELDS |= {"bidder": "name eligibility sessions", "member": "pool category weight"}
+NAMED_RULES = [{"record": kind, **dict(zip(FIELDS[kind].split(), its))} for kind, *its in RULES]
+ALPHAS = [(30, 1, 0), (50, 2, 1), (28, 1, 1)]
+FORMS = [("Alpha", ALPHAS), ("Beta", [(20, 1, 0), (45, 3, 0)]), ("Gamma", [(12, 0, 1)])]
 TABLE = "bidder,amount,A,B\nAlpha,30,1,0\nBeta,20,1,0\nAlpha,50,2,1\nGamma,12,0,1\nAlpha,28,1,1\nBeta,45,3,0\n"
 ROWS = list(csv.DictReader(io.StringIO(TABLE)))
-GROUPS = ["-", "Alpha", ("Beta",), {"Gamma", "Beta"}]
-ALPHA, BETA, GAMMA, ALL = ("Alpha", 1, 30), ("Beta", 1, 20), ("Gamma", 1, 12), ("Alpha", 2, 50)
-EXPECTED = [
-    ((), [ALPHA, BETA, GAMMA], 62, 0),
-    (("Alpha",), [BETA, GAMMA], 32, 0),
-    (("Beta",), [ALL], 50, 8),
-    (("Beta", "Gamma"), [ALL], 50, 20),
+DROPPED = [{name: value for name, value in row.items() if name != "B"} for row in ROWS]
+MORE = [*ROWS, {"bidder": "Gamma", "amount": "11", "A": "many", "B": "1"}]
+# bids with names, of which some lack what counts as 0
+ALPHA_BIDS = [
+    {"amount": 30, "A": 1},
+    {"B": 1, "A": 2, "amount": 50},
+    {"amount": 28.0, "A": 1, "B": 1},
 ]
-# docs/FORMATS.md: cost -12 of bidder 3's bid, which is in the rows of its bidder and of the second category
-SMALLEST = "NAME wdp\n" + content("docs", "FORMATS.md").split("```\nNAME wdp\n")[1].split("```")[0]
+BETA_BIDS = [{"amount": "20", "A": "1"}, {"amount": 45, "A": 3}]
+LACKING = [{"bidder": "Alpha", "bids": ALPHA_BIDS}, ("Beta", BETA_BIDS), "Gamma,A,B\n12,0,1"]
+GROUPS, NAMES = ["-", "Alpha", ("Beta",), {"Gamma", "Beta"}], ["-", "Alpha", "Beta", "Beta+Gamma"]
+ALPHA, BETA, GAMMA, ALL = ("Alpha", 1, 30), ("Beta", 1, 20), ("Gamma", 1, 12), ("Alpha", 2, 50)
+EXPECTED = [((), [ALPHA, BETA, GAMMA], 62, 0), (("Alpha",), [BETA, GAMMA], 32, 0)]
+EXPECTED += [(("Beta",), [ALL], 50, 8), (("Beta", "Gamma"), [ALL], 50, 20)]
+# docs/REFERENCE.md: cost -12 of bidder 3's bid, which is in the rows of its bidder and of the second category
+SMALLEST = (
+    "NAME wdp\n" + content("docs", "REFERENCE.md").split("```\nNAME wdp\n")[1].split("```")[0]
+)
+SOLUTIONS, CERTIFICATES = example.SOLUTIONS, example.CERTIFICATES
+FORGED = "Alpha,A,B\n30,1,0\n%form\nBeta,A,B\n99,1,0\n"
+auction, from_files = wdp.Auction.from_text(example.INPUT), wdp.Auction.from_files
 
 
-@pytest.fixture
-def auction():
-    return wdp.Auction.from_text(example.INPUT)
+def made(**given):
+    return wdp.Auction(**{"rules": RULES, **given})
 
 
-def told(report):
-    """A report as plain values."""
-    return [
-        (
-            group.names,
-            [(each.bidder, each.bid, each.amount) for each in group.winners],
-            group.total,
-            group.cost,
-        )
-        for group in report
-    ]
+def amount(value):
+    """The input with one bid of this amount."""
+    return made(forms=[("Alpha", [(value, 1, 0)])]).input().split(b"\n")[-4]
+
+
+def of_bid(**bid):
+    return made(forms=[("Alpha", [bid])]).compile()
+
+
+def won(result):
+    return [(one.bidder, one.bid, one.amount) for one in result.winners], result.total
+
+
+def values_of(report):
+    return [(each.names, won(each)[0], each.total, each.cost) for each in report]
 
 
 def assert_worked(auction):
     assert auction.input().decode() == content("examples", "worked.txt")
-    assert told(auction.report(example.SOLUTIONS)) == EXPECTED
+    assert values_of(auction.report(SOLUTIONS)) == EXPECTED
 
 
-def one_line(error):
-    text = str(error)
+def refused(call, names="kind bidder row column"):
+    """These pieces of a refusal, a line that can be printed."""
+    with pytest.raises(wdp.Refused) as caught:
+        call()
+    text = str(caught.value)
     assert text and text.isprintable() and len(text) < 2_000
-    return text
+    return [getattr(caught.value, name) for name in names.split()]
 
 
-def wrong(call, *given, kind=wdp.WrongWords, **named):
-    with pytest.raises(kind) as caught:
-        call(*given, **named)
-    one_line(caught.value)
-    return caught.value
+def of_point(point):
+    return auction.report([point])
 
 
-def test_the_example_is_that_of_the_tree():
-    assert example.INPUT == content("examples", "worked.txt")
-    first, *parts = content("examples", "verified.txt").split("%certificate\n")
-    assert tuple(part[part.index("bound") :] for part in parts) == example.CERTIFICATES
-    assert tuple(first.split("%solution\n")[1:]) == example.SOLUTIONS
-    assert (
-        content("cases", "verify_worked_is_unique", "stdin").split("%unique\n")[1] == example.UNIQUE
-    )
+def limited(seconds):
+    return wdp.Auction.from_text(example.INPUT, time_limit=seconds)
 
 
-@pytest.mark.parametrize("text", [example.INPUT, example.INPUT.encode(), example.INPUT[:-1]])
-def test_from_text(text):
-    assert_worked(wdp.Auction.from_text(text))
+# what is called in a folder with files, several calls where they come to the same, and what it is: * is anything
+CALLS = r"""
+values_of(wdp.Auction.from_files("rules", ["form"]).report(["X1_2 1"])) | [((), [('Alpha', 2, 50)], 50, 0)]
+[(each.group, each.names) for each in auction.compile(workers=64)] | [(1, ()), (2, ('Alpha',)), (3, ('Beta',)), (4, ('Beta', 'Gamma'))]
+auction.compile()[0].text == content("fixtures", "solvers", "three.mps") | True
+auction.compile()[1] | <wdp.Program of group 2, Alpha left out, 257 bytes>
+made(forms=FORMS, groups=[]).compile() | []
+auction.check(SMALLEST) | Counts(rows=3, columns=1, entries=2)
+won(auction.map("X1_1 1\nX3_1 1\n", 3)) | ([('Alpha', 1, 30), ('Gamma', 1, 12)], 42)
+won(auction.map({})) | ([], 0)
+won(auction.map({"X1_1": 0.9999999, "X2_1": 1e-9})) | ([('Alpha', 1, 30)], 30)
+refused(lambda: auction.map({"X1_1": 0.5}), "kind line") | ['NotZeroOne', 1]
+refused(lambda: made(forms=MORE).compile()) | ['QuantityText', 'Gamma', 6, 'A']
+refused(lambda: made(forms=[*ROWS, {**MORE[6], "A": 2.5}])) | [None, 'Gamma', 6, 'A']
+refused(lambda: made(forms=[("Alpha", [(30, 1, 0), (5, 1, 0)])]).compile()) | ['BelowReserve', 'Alpha', 1, 'amount']
+refused(lambda: made(forms=["Alpha,A,B\n5,1,0\n"]).compile(), "record bidder row") | [2, None, None]
+refused(lambda: of_bid(amount=30, A=None, B=0)) | ['QuantityText', 'Alpha', 0, 'A']
+of_bid(amount=30, A="", B=0); of_bid(amount=30, A=float("nan"), B=0) | Refused: wdp: form 1: 8 QuantityText at record 2
+of_bid(amount=30, C=1) | WrongWords: form 1, bid 1: 'C' is no category of the rules
+of_bid(A=1, B=1) | WrongWords: form 1, bid 1: there is no 'amount'
+made(forms=[{"amount": 30, "A": 1, "B": 0}]) | WrongWords: forms, row 1: there is no 'bidder'
+made(forms=DROPPED) | WrongWords: form 1, bid 1: there is no 'B'; missing_as_zero=True has it count as 0
+made(forms=DROPPED, missing_as_zero=True).input() | *\n30,1,0\n50,2,0\n28,1,0\n*
+made(rules=[{"record": "rules", "supply": 3}]) | WrongWords: rules, record 1: a record rules has no field 'supply'
+made(rules=[{"record": "lot"}]) | WrongWords: rules, record 1: 'record' is to be rules, category, bidder, pool, member, and is 'lot'
+made(rules=[{"record": ["rules"]}]) | WrongWords: rules, record 1: 'record' is to be rules, category, bidder, pool, member, and is ['rules']
+amount(30); amount(30.0); amount(Decimal(30)); amount(Decimal("30.00")); amount("30") | b'30,1,0'
+amount(30.5); amount(float("inf")); amount(True); amount(10**30 + 0.0) | WrongWords: form 1, bid 1: * is no whole number
+amount([30]); amount(1j); amount(10**5000); amount(Decimal("30.5")); amount(Decimal("sNaN")) | WrongWords: form 1, bid 1: * is no whole number
+made(rules=[("rules", 1, 1.5)]) | WrongWords: rules, record 1: 1.5 is no whole number
+auction.map({"X1_1": True}); auction.map({"X1_1": 1j}); auction.map({"X1_1": [1]}) | Refused: wdp: solution 1: 5 ValueText at line 1
+auction.map({"X1_1": 10**5000}) | WrongWords: solution 1: the value of 'X1_1' is too large
+auction.map({"X1_1": 10**30 + 0.0}) | Refused: wdp: solution 1: 6 NotZeroOne at line 1
+auction.compile("5"); auction.compile(1.5); auction.compile(None); auction.compile(10**5000) | WrongWords: workers: * is no whole number of some digits
+auction.compile("2 --help"); auction.report([], None) | WrongWords: workers: * is no whole number of some digits
+auction.compile(0); auction.compile(65) | WrongWords: error: invalid value '*' for '--workers <N>': * is not in 1..=64
+auction.compile(-1) | WrongWords: error: invalid value '-1' for '--workers <N>': invalid digit found in string
+auction.map({}, "5"); auction.map({}, [5]); auction.map({}, 10**5000) | WrongWords: group: * is no whole number of some digits
+auction.map({}, 0); auction.map({}, 1025) | WrongWords: error: invalid value '*' for '--group <K>': * is not in 1..=1024
+limited("5"); limited([5]); limited(10**5000); limited(-1); limited(0) | WrongWords: time_limit: * is no number of seconds above 0
+auction.report("X1_1 1"); auction.report(None); auction.report({}); auction.report({"X1_1 1"}) | WrongWords: solutions: a list is asked for
+auction.report([7]) | WrongWords: solution 1: a text, or a dict of columns and values, is asked for
+of_point({"X1_1\nX2_1": 1}); of_point({"#X1_1": 1}); of_point({"X1_1": ""}) | WrongWords: solution 1: a column's name and a number are asked for*
+of_point({"X1_1": "1 1"}); of_point({7: 1}) | WrongWords: solution 1: a column's name and a number are asked for, and this is '*'
+made(rules=7); made(rules={}) | WrongWords: rules: a list of records is asked for, and this is of type *
+made(rules=[7]) | WrongWords: rules, record 1: a tuple, a list or a dict is asked for, and this is of type int
+made(rules=[()]) | WrongWords: rules, record 1: it is empty
+made(forms="Alpha,A\n") | WrongWords: forms: a list of forms is asked for, and this is one text
+made(forms=[7]) | WrongWords: form 1: a text, or a pair of a bidder's name and its bids, is asked for
+made(forms={}); made(forms=[("Alpha", 7)]) | WrongWords: form*: a list of records is asked for, and this is of type *
+made(forms=[("Alpha", [7])]) | WrongWords: form 1, bid 1: a tuple, a list or a dict is asked for, and this is of type int
+made(forms=[("Alpha", [()])]) | WrongWords: form 1, bid 1: it is empty
+made(forms=["\udcff"]) | WrongWords: form 1: the text has a sign that UTF-8 doesn't have
+made(groups=7); made(groups={"-", "Beta"}) | WrongWords: groups: a list of records is asked for, and this is of type *
+made(groups=[7]) | WrongWords: groups, line 1: a line or names of bidders are asked for
+made(groups=[("Beta+Gamma",)]); made(groups=[("",)]); made(groups=[{1, "B"}]) | WrongWords: groups, line 1: names of bidders are asked for
+made(groups=["-\nBeta"]); made(groups=[("Be\nta",)]) | WrongWords: groups, line 1: a name has a line break
+made(forms=["Alpha,A,B\n", FORGED]) | Refused: form 2: line 3 begins with %, as the head of a part does
+from_files("rules", ["forged"]) | Refused: form 1: line 3 begins with %, as the head of a part does
+made(groups="-\n%form\n") | Refused: groups: line 2 begins with %, as the head of a part does
+made(rules="%rules\n") | Refused: rules: line 1 begins with %, as the head of a part does
+auction.map("X1_1 1\n%solution\n") | Refused: solution 1: line 2 begins with %, as the head of a part does
+auction.verify(SOLUTIONS, ["bound 1", "%unique"]) | Refused: certificate 2: line 1 begins with %, as the head of a part does
+auction.verify(SOLUTIONS, CERTIFICATES, "bound 1\n%tie") | Refused: unique: line 2 begins with %, as the head of a part does
+auction.verify(SOLUTIONS, CERTIFICATES, tie="%") | Refused: tie: line 1 begins with %, as the head of a part does
+from_files("rules", ["cut"]) | Refused: form 1: cut: the last line has no end, as in a file that was cut off; say allow_unended=True*
+from_files("cut", []) | Refused: rules: cut: the last line has no end, as in a file that was cut off; say allow_unended=True*
+from_files("rules", [], "cut") | Refused: groups: cut: the last line has no end, as in a file that was cut off; say allow_unended=True*
+from_files("rules", ["cut"], allow_unended=True).input() | *%form\nAlpha,A,B\n%groups\n-\n'
+from_files("none", []) | NotFound: rules: none: No such file or directory
+from_files("rules", ["form", "."]) | Refused: form 2: .: it is a folder
+from_files("pipe", []) | Refused: rules: pipe: it is a pipe
+from_files("rules", ["form", "pipe"]) | Refused: form 2: pipe: it is a pipe
+refused(lambda: from_files("rules", ["form", "pipe"]), "part number") | ['form', 2]
+from_files("rules", ["form", "loop"]) | Refused: form 2: loop: Too many levels of symbolic links
+from_files("rules", ["form", "/dev/zero"]) | Refused: form 2: /dev/zero: it is a device
+from_files("rules", ["form", "a\0b"]) | Refused: form 2: a\x00b: embedded null byte
+from_files(0, []); from_files(True, []); from_files("rules", [0]) | WrongWords: *: a path is asked for, and this is of type *
+from_files("rules", 0) | WrongWords: forms: a list is asked for
+auction.solve("gurobi"); auction.solve(""); auction.solve("true {nothing}") | WrongWords: a solver is cbc, highs, or a command with {mps}*
+auction.solve("x\ny"); auction.solve(7) | WrongWords: a solver is cbc, highs, or a command with {mps} in it, on one line
+auction.solve("cbc", 0); auction.solve("cbc", "5") | WrongWords: time_limit: * is no number of seconds above 0
+auction.solve("no-such-solver {mps} {out}") | NotFound: the solver no-such-solver isn't installed
+auction.solve("false {mps}") | NotSolved: group 1 (- left out): false ended with status 1: it printed nothing
+refused(lambda: auction.solve("false {mps}"), "group status") | [1, 1]
+"""
 
 
-@pytest.mark.parametrize("rules", [RULES, [list(each) for each in RULES], NAMED_RULES])
-def test_from_records(rules):
-    assert_worked(wdp.Auction(rules=rules, forms=FORMS, groups=GROUPS))
+@pytest.mark.parametrize("calls, wanted", rows(CALLS))
+def test_calls(tmp_path, monkeypatch, calls, wanted):
+    monkeypatch.chdir(tmp_path)
+    parts = [part.partition("\n")[2] for part in example.INPUT.split("%")[1:3]]
+    for name, text in zip(("rules", "form", "forged", "cut"), (*parts, FORGED, "Alpha,A,B")):
+        (tmp_path / name).write_text(text)
+    os.mkfifo("pipe")
+    os.symlink("loop", "loop")
+    for call in calls.split("; "):
+        try:
+            found = repr(eval(call, {**globals(), "Decimal": Decimal}))
+        except wdp.Refused as error:
+            assert str(error).isprintable()
+            found = f"{type(error).__name__}: {error}"
+        assert is_in(f"^{wanted}$", f"^{found}$"), (call, found)
 
 
-def test_from_a_table_and_from_bids_with_names():
-    assert_worked(wdp.Auction(rules=RULES, forms=ROWS, groups=GROUPS))
-    first = {
-        "bidder": "Alpha",
-        "bids": [
-            {"amount": 30, "A": 1},
-            {"B": 1, "A": 2, "amount": 50},
-            {"amount": 28.0, "A": 1, "B": 1},
-        ],
-    }
-    forms = [
-        first,
-        ("Beta", [{"amount": "20", "A": "1"}, {"amount": 45, "A": 3}]),
-        "Gamma,A,B\n12,0,1",
-    ]
-    assert_worked(
-        wdp.Auction(
-            rules=RULES, forms=forms, groups="-\nAlpha\nBeta\nBeta+Gamma", missing_as_zero=True
-        )
-    )
+GIVEN = [
+    lambda: wdp.Auction.from_text(example.INPUT[:-1].encode()),
+    lambda: made(forms=FORMS, groups=GROUPS),
+    lambda: made(rules=[list(each) for each in RULES], forms=ROWS, groups=GROUPS),
+    lambda: made(rules=NAMED_RULES, forms=ROWS, groups=GROUPS),
+    lambda: made(forms=LACKING, missing_as_zero=True, groups="\n".join(NAMES)),
+]
 
 
-def test_from_files(tmp_path):
-    parts = content("examples", "worked.txt").split("%")
+def test_auctions_of_texts_records_and_files(tmp_path):
+    for call in GIVEN:
+        assert_worked(call())
+    parts = [part.partition("\n")[2] for part in example.INPUT.split("%")[1:]]
     paths = [tmp_path / f"part\n{number}.csv" for number in range(5)]
-    for path, part in zip(paths, parts[1:]):
-        path.write_text(part.partition("\n")[2])
+    for path, text in zip(paths, parts):
+        path.write_text(text)
     assert_worked(wdp.Auction.from_files(paths[0], paths[1:4], paths[4]))
-    alone = wdp.Auction.from_files(paths[0], paths[1])
-    assert told(alone.report(["X1_2 1"])) == [((), [ALL], 50, 0)]
-
-
-def test_files_that_were_cut_off_or_are_none(tmp_path):
-    parts = content("examples", "worked.txt").split("%")
-    texts = {
-        head: part.partition("\n")[2]
-        for head, part in zip(("rules", "form 1", "groups"), (parts[1], parts[2], parts[5]))
-    }
-    paths = [tmp_path / head for head in texts]
-    for cut in texts:
-        for path, (head, text) in zip(paths, texts.items()):
-            path.write_text(text[:-1] if head == cut else text)
-        refused = wrong(wdp.Auction.from_files, paths[0], [paths[1]], paths[2], kind=wdp.Refused)
-        assert str(refused).startswith(
-            f"{cut}: "
-        ) and "the last line has no end, as in a file that was cut off" in str(refused)
-        assert refused.part == cut.split()[0]
-        whole = (
-            wdp.Auction.from_files(paths[0], [paths[1]], paths[2], allow_unended=True)
-            .input()
-            .decode()
-        )
-        assert (
-            whole == f"%rules\n{texts['rules']}%form\n{texts['form 1']}%groups\n{texts['groups']}"
-        )
-    missing = wrong(wdp.Auction.from_files, tmp_path / "none", [], kind=FileNotFoundError)
-    assert isinstance(missing, wdp.NotFound)
-    os.mkfifo(tmp_path / "pipe")
-    for path in (tmp_path, tmp_path / "pipe", "/dev/zero", "a\0b"):
-        wrong(wdp.Auction.from_files, path, [], kind=wdp.Refused)
-
-
-def test_a_file_descriptor_of_the_caller_is_not_closed(tmp_path):
-    descriptor = os.open(tmp_path / "rules", os.O_CREAT | os.O_RDWR)
-    for rules, forms in (
-        (descriptor, []),
-        (True, []),
-        (tmp_path / "rules", [descriptor]),
-        (tmp_path / "rules", descriptor),
-    ):
-        wrong(wdp.Auction.from_files, rules, forms)
-    os.close(descriptor)
-
-
-def test_rules_with_values_and_a_pool():
     wanted = content("examples", "worked_pool.txt").split("%form")[0]
     rules = [{"record": "rules", "version": 3, "step": 1}]
     for kind, *values in (line.split(",") for line in wanted.splitlines()[2:]):
-        rules.append({"record": kind, "value": None, **dict(zip(FIELDS[kind], values))})
+        rules.append({"record": kind, "value": None, **dict(zip(FIELDS[kind].split(), values))})
     assert wdp.Auction(rules=rules).input().decode() == wanted + "%groups\n-\n"
+    # a comma, a quote and a line break in a name stay in its field
+    for name in ("Al,pha", 'Al"pha', "Al\npha", "Al\rpha", "", "\ufeffAlpha", "%form"):
+        strange = made(rules=[*RULES, ("bidder", name, 9, 2)]), made(forms=[(name, [])])
+        assert [refused(it.compile, "text kind record")[1:] for it in strange] == [
+            ["NameText", 7],
+            ["UnknownBidder", 1],
+        ]
 
 
-def test_compile(auction):
-    programs = auction.compile()
-    assert [(each.group, each.names) for each in programs] == [
-        (1, ()),
-        (2, ("Alpha",)),
-        (3, ("Beta",)),
-        (4, ("Beta", "Gamma")),
-    ]
-    assert programs[0].text == content("fixtures", "solvers", "three.mps")
-    assert (
-        repr(programs[1])
-        == f"<wdp.Program of group 2, Alpha left out, {len(programs[1].text)} bytes>"
-    )
-    assert auction.compile(workers=64) == programs
-    assert wdp.Auction(rules=RULES, forms=FORMS, groups=[]).compile() == []
+def test_docstrings_and_the_example_are_of_the_tree():
+    count = 0
+    for found in pkgutil.walk_packages(wdp.__path__, "wdp."):
+        # (what needs libraries that may not be there, or begins when it is read)
+        if not found.name.startswith(("wdp.__main__", "wdp.certify.")):
+            tried = doctest.testmod(importlib.import_module(found.name))
+            assert tried.failed == 0
+            count += tried.attempted
+    assert count > 10
+    assert example.INPUT == content("examples", "worked.txt")
+    first, *parts = content("examples", "verified.txt").split("%certificate\n")
+    assert tuple(part[part.index("bound") :] for part in parts) == CERTIFICATES
+    assert tuple(first.split("%solution\n")[1:]) == SOLUTIONS
+    unique = content("cases", "verify_worked_is_unique", "stdin").split("%unique\n")[1]
+    assert unique == example.UNIQUE
 
 
-def test_map_and_check(auction):
-    assert auction.map("X1_1 1\nX3_1 1\n", 3) == wdp.Allocation(
-        (wdp.Winner(*ALPHA), wdp.Winner(*GAMMA)), 42
-    )
-    assert auction.map({}) == wdp.Allocation((), 0)
-    assert auction.map({"X1_1": 0.9999999, "X2_1": 1e-9}).winners == (wdp.Winner(*ALPHA),)
-    refused = wrong(auction.map, {"X1_1": 0.5}, kind=wdp.Refused)
-    assert (refused.kind, refused.line) == ("NotZeroOne", 1)
-    assert auction.check(SMALLEST) == wdp.Counts(3, 1, 2)
-
-
-def test_a_report_is_a_sequence_with_lots_and_tables(auction):
-    report = auction.report(example.SOLUTIONS)
+def test_a_report_is_a_sequence_with_lots_and_tables():
+    report = auction.report(SOLUTIONS)
     assert (len(report), report[2], list(report)) == (4, report.groups[2], list(report.groups))
     assert [dict(winner.lots) for winner in report[0].winners] == [{"A": 1}, {"A": 1}, {"B": 1}]
-    assert dict(report[2].winners[0].lots) == {"A": 2, "B": 1}
-    assert "<td>Beta+Gamma</td><td>50</td><td>20</td>" in report._repr_html_()
-    assert (
-        "not certified" in report._repr_html_()
-        and "<td>Alpha</td><td>1</td><td>30</td>" in report[0]._repr_html_()
-    )
+    shown = report._repr_html_()
+    assert "<td>Beta+Gamma</td><td>50</td><td>20</td>" in shown and "not certified" in shown
+    assert "<td>Alpha</td><td>1</td><td>30</td>" in report[0]._repr_html_()
     assert pickle.loads(pickle.dumps(report)) == report
     for result, name in ((report, "groups"), (report[0], "total"), (report[0].winners[0], "bid")):
         with pytest.raises(AttributeError):
             setattr(result, name, None)
 
 
-# Answers that are certified.
-
-
-def test_certify_from_the_solutions_of_a_solver_and_from_nothing(auction):
+def test_certified_from_nothing_and_from_less_than_the_best():
     pytest.importorskip("swiglpk", reason="swiglpk isn't there")
-    for solutions in (example.SOLUTIONS, None):
-        made = auction.certify(solutions, unique=True, time_limit=60)
-        assert (
-            told(made.report) == EXPECTED
-            and made.report.is_certified
-            and made.report.uniqueness == "only"
-        )
-        assert wdp.Auction.from_text(made.audit).verify([], []) == made.report
-        assert auction.verify(made.solutions, made.certificates, made.unique) == made.report
-    worse = auction.certify(["X1_1 1\nX2_1 1\n", *example.SOLUTIONS[1:]])
-    assert told(worse.report) == EXPECTED and worse.report.uniqueness == "unasked"
-    wrong(auction.certify, example.SOLUTIONS[:2])
-    wrong(auction.certify, ["X9_9 1\n"] * 4, kind=wdp.Refused)
+    for solutions in (None, ["X1_1 1\nX2_1 1\n", *SOLUTIONS[1:]]):
+        found = auction.certify(solutions, unique=True, time_limit=60)
+        assert (values_of(found.report), found.report.uniqueness) == (EXPECTED, "only")
+        assert auction.verify(found.solutions, found.certificates, found.unique) == found.report
+    assert auction.certify(SOLUTIONS).report.uniqueness == "unasked"
+    refused(lambda: auction.certify(SOLUTIONS[:2]))
+    refused(lambda: auction.certify(["X9_9 1\n"] * 4))
+    # a tie has the other winners
+    forms = [("Alpha", [(20, 1)]), ("Beta", [(20, 2)])]
+    found = made(rules=RULES[:2] + RULES[3:5], forms=forms).certify(unique=True)
+    both = {found.report[0].winners[0], found.report.uniqueness.winners[0]}
+    assert both == {wdp.Winner("Alpha", 1, 20), wdp.Winner("Beta", 1, 20)} and found.unique is None
 
 
-def test_a_tie_is_certified_with_the_other_winners():
-    pytest.importorskip("swiglpk", reason="swiglpk isn't there")
-    auction = wdp.Auction(
-        rules=RULES[:2] + RULES[3:5], forms=[("Alpha", [(20, 1)]), ("Beta", [(20, 2)])]
-    )
-    made = auction.certify(unique=True)
-    both = {made.report[0].winners, made.report.uniqueness.winners}
-    assert (
-        both == {(wdp.Winner("Alpha", 1, 20),), (wdp.Winner("Beta", 1, 20),)}
-        and made.unique is None
-    )
-
-
-def test_an_audit_is_the_input_with_its_answers(auction):
-    audit = auction.input(example.SOLUTIONS, example.CERTIFICATES, unique=example.UNIQUE)
-    again = wdp.Auction.from_text(audit).verify([], [])
-    assert again == auction.verify(example.SOLUTIONS, example.CERTIFICATES, unique=example.UNIQUE)
-    assert again.uniqueness == "only"
-    refused = wrong(
-        auction.verify,
-        ["X1_1 1\nX2_1 1\n", *example.SOLUTIONS[1:]],
-        example.CERTIFICATES,
-        kind=wdp.Refused,
-    )
-    assert (refused.part, refused.number, refused.kind) == ("certificate", 1, "NotShown")
-
-
-@pytest.mark.parametrize("solver", ["cbc", "highs", None])
-def test_solvers(auction, solver):
+def test_the_matrix_of_a_program():
+    """No cut text of a program has one; docs/PYTHON.md shows what scipy makes of it."""
     pytest.importorskip("scipy", reason="scipy isn't there")
-    solutions = auction.solve(solver, time_limit=60)
-    assert (
-        told(auction.report(solutions)) == EXPECTED
-        and len(solutions) == 4
-        and solutions[2] == "X1_2 1\n"
-    )
-    assert told(auction.verify(solutions, example.CERTIFICATES)) == EXPECTED
-
-
-def test_solvers_that_are_not_there_or_known(auction):
-    for solver, limit in (
-        ("gurobi", None),
-        ("", None),
-        ("x\ny", None),
-        ("cbc", 0),
-        ("cbc", "5"),
-        (7, None),
-        ("true {nothing}", None),
-    ):
-        wrong(auction.solve, solver, limit)
-    wrong(auction.solve, "no-such-solver {mps} {out}", kind=wdp.NotFound)
-    failed = wrong(auction.solve, "false {mps}", kind=wdp.NotSolved)
-    assert (failed.group, failed.status) == (1, 1) and str(failed).startswith(
-        "group 1 (- left out): false ended with status 1"
-    )
-
-
-# Refusals.
-
-
-def test_explain_and_the_bids_that_are_in_no_program(auction):
-    found = auction.explain(bids=True)
-    assert found.findings == [] and found.left_out[0][0] == "Alpha" and len(found.left_out) == 2
-    faulty = wdp.Auction(rules=RULES, forms=[("Alpha", [(5, 1, 0), (30, "x", 0)])]).explain()
-    assert [(each.refused.kind, each.refused.record, each.field) for each in faulty.findings] == [
-        ("BelowReserve", 2, 1),
-        ("QuantityText", 3, 2),
-    ]
-
-
-def test_a_refusal_of_a_table_names_bidder_row_and_column():
-    rows = [*ROWS, {"bidder": "Gamma", "amount": "11", "A": "many", "B": "1"}]
-    refused = wrong(wdp.Auction(rules=RULES, forms=rows).compile, kind=wdp.Refused)
-    assert (refused.kind, refused.bidder, refused.row, refused.column) == (
-        "QuantityText",
-        "Gamma",
-        6,
-        "A",
-    )
-    rows[6]["A"] = 2.5
-    refused = wrong(wdp.Auction, rules=RULES, forms=rows)
-    assert (refused.bidder, refused.row, refused.column) == ("Gamma", 6, "A")
-    refused = wrong(
-        wdp.Auction(rules=RULES, forms=[("Alpha", [(30, 1, 0), (5, 1, 0)])]).compile,
-        kind=wdp.Refused,
-    )
-    assert (refused.bidder, refused.row) == ("Alpha", 1)
-    refused = wrong(
-        wdp.Auction(rules=RULES, forms=["Alpha,A,B\n5,1,0\n"]).compile, kind=wdp.Refused
-    )
-    assert (refused.record, refused.bidder, refused.row) == (2, None, None)
-
-
-def test_a_category_that_is_missing():
-    dropped = [{name: value for name, value in row.items() if name != "B"} for row in ROWS]
-    refused = wrong(wdp.Auction, rules=RULES, forms=dropped)
-    assert str(refused) == "form 1, bid 1: there is no 'B'; missing_as_zero=True has it count as 0"
-    assert b"\n50,2,0\n" in wdp.Auction(rules=RULES, forms=dropped, missing_as_zero=True).input()
-    wrong(
-        wdp.Auction, rules=RULES, forms=[{"bidder": "Alpha", "A": 1, "B": 1}], missing_as_zero=True
-    )
-
-
-@pytest.mark.parametrize(
-    "value",
-    [
-        30.5,
-        float("inf"),
-        True,
-        10**30 + 0.0,
-        [30],
-        object(),
-        1j,
-        Decimal("30.5"),
-        Decimal("sNaN"),
-        10**5000,
-    ],
-    ids=lambda value: type(value).__name__,
-)
-def test_numbers_are_never_rounded(value):
-    refused = wrong(wdp.Auction, rules=RULES, forms=[("Alpha", [(value, 1, 0)])])
-    assert str(refused).startswith("form 1, bid 1: ") and str(refused).endswith(
-        " is no whole number"
-    )
-    wrong(wdp.Auction, rules=[("rules", 1, value)])
-    if type(value) is not Decimal:
-        wrong(wdp.Auction.from_text(example.INPUT).map, {"X1_1": value}, kind=wdp.Refused)
-
-
-@pytest.mark.parametrize("value", [30, 30.0, Decimal(30), Decimal("30.00"), "30"])
-def test_whole_numbers_of_other_types(value):
-    assert b"\n30,1,0\n" in wdp.Auction(rules=RULES, forms=[("Alpha", [(value, 1, 0)])]).input()
-
-
-@pytest.mark.parametrize(
-    "given",
-    ["5", 1.5, None, [5], 10**5000, -(10**5000)],
-    ids=["text", "part", "none", "list", "huge", "low"],
-)
-def test_numbers_of_calls(auction, given):
-    for call in (
-        auction.compile,
-        lambda number: auction.map({}, number),
-        lambda number: auction.report([], number),
-    ):
-        wrong(call, given)
-    if given not in (1.5, None):
-        wrong(wdp.Auction.from_text, example.INPUT, time_limit=given)
-
-
-@pytest.mark.parametrize(
-    "given, why",
-    [
-        (
-            {"forms": [("Alpha", [{"amount": 30, "C": 1}])]},
-            "form 1, bid 1: 'C' is no category of the rules",
-        ),
-        ({"forms": [("Alpha", [{"A": 1, "B": 1}])]}, "form 1, bid 1: there is no 'amount'"),
-        ({"forms": [{"amount": 30, "A": 1, "B": 0}]}, "forms, row 1: there is no 'bidder'"),
-        (
-            {"rules": [{"record": "rules", "version": 1, "supply": 3}]},
-            "rules, record 1: a record rules has no field 'supply'",
-        ),
-        ({"rules": [{"record": "lot"}]}, "rules, record 1: 'record' is to be "),
-        ({"rules": [{"record": ["rules"]}]}, "rules, record 1: 'record' is to be "),
-    ],
-)
-def test_names_that_are_not_known(given, why):
-    assert str(wrong(wdp.Auction, **{"rules": RULES, **given})).startswith(why)
-
-
-@pytest.mark.parametrize(
-    "given",
-    [{"rules": each} for each in (7, {}, [7], [()])]
-    + [
-        {"forms": each}
-        for each in (
-            "Alpha,A,B\n",
-            [7],
-            {},
-            [("Alpha", 7)],
-            [("Alpha", [7])],
-            [("Alpha", [()])],
-            ["\udcff"],
-        )
-    ]
-    + [
-        {"groups": each}
-        for each in (
-            7,
-            [7],
-            [("Beta+Gamma",)],
-            [("",)],
-            {"-", "Beta"},
-            ["-\nBeta"],
-            [("Be\nta",)],
-            [{1, "Beta"}],
-        )
-    ],
-)
-def test_other_things_than_records(given):
-    wrong(wdp.Auction, **{"rules": RULES, **given})
-
-
-@pytest.mark.parametrize("blank", [None, "", float("nan")])
-def test_blank_cells_are_for_the_program(blank):
-    bids = [{"amount": 30, "A": 1, "B": 0}, {"amount": 31, "A": blank, "B": 0}]
-    refused = wrong(wdp.Auction(rules=RULES, forms=[("Alpha", bids)]).compile, kind=wdp.Refused)
-    assert (str(refused), refused.column) == ("wdp: form 1: 8 QuantityText at record 3", "A")
-
-
-@pytest.mark.parametrize(
-    "name", ["Al,pha", 'Al"pha', "Al\npha", "Al\rpha", "", "\ufeffAlpha", "%form"]
-)
-def test_a_field_stays_a_field(name):
-    # a comma, a quote and a line break in a name are the program's to refuse, at the record where they stand
-    refused = wrong(wdp.Auction(rules=[*RULES, ("bidder", name, 9, 2)]).compile, kind=wdp.Refused)
-    assert str(refused) == "wdp: rules: 5 NameText at record 7"
-    refused = wrong(wdp.Auction(rules=RULES, forms=[(name, [])]).compile, kind=wdp.Refused)
-    assert str(refused) == "wdp: form 1: 3 UnknownBidder at record 1"
-
-
-def test_no_text_heads_a_part(auction, tmp_path):
-    forged = tmp_path / "forged.csv"
-    forged.write_text("Alpha,A,B\n30,1,0\n%form\nBeta,A,B\n99,1,0\n")
-    for call in (
-        lambda: wdp.Auction(rules=RULES, forms=["Alpha,A,B\n", forged.read_text()]),
-        lambda: wdp.Auction.from_files(Path(ROOT, "examples/office/rules.csv"), [forged]),
-        lambda: auction.map("X1_1 1\n%solution\n"),
-        lambda: auction.verify(example.SOLUTIONS, ["bound 1", "%unique"]),
-        lambda: auction.verify(example.SOLUTIONS, example.CERTIFICATES, "bound 1\n%tie"),
-        lambda: auction.verify(example.SOLUTIONS, example.CERTIFICATES, tie="%"),
-        lambda: wdp.Auction(rules=RULES, groups="-\n%form\n"),
-        lambda: wdp.Auction(rules="%rules\n"),
-    ):
-        assert str(wrong(call, kind=wdp.Refused)).endswith(
-            " begins with %, as the head of a part does"
-        )
-
-
-@pytest.mark.parametrize(
-    "solutions",
-    [
-        "X1_1 1",
-        None,
-        {},
-        {"X1_1 1", "X2_1 1"},
-        [7],
-        [{"X1_1\nX2_1": 1}],
-        [{"#X1_1": 1}],
-        [{"X1_1": "1 1"}],
-        [{"X1_1": ""}],
-        [{7: 1}],
-    ],
-)
-def test_lists_of_answers(auction, solutions):
-    wrong(auction.report, solutions)
-
-
-# Libraries that may not be there.
-
-
-def test_the_matrix_of_a_program(auction):
-    pytest.importorskip("scipy", reason="scipy isn't there")
-    from scipy.optimize import Bounds, LinearConstraint, milp
-
     matrix = auction.compile()[1].matrix()
-    assert matrix.columns == ("X2_1", "X3_1")
-    assert (matrix.costs, matrix.lower, matrix.upper) == ((-20, -12), (0, 0), (1, 1))
-    assert (matrix.rows, matrix.senses, matrix.right_sides) == (
-        ("B2", "B3", "C1", "C2"),
-        ("L",) * 4,
-        (1, 1, 2, 1),
-    )
+    assert (matrix.columns, matrix.rows) == (("X2_1", "X3_1"), ("B2", "B3", "C1", "C2"))
     assert matrix.entries.toarray().tolist() == [[1, 0], [0, 1], [1, 0], [0, 1]]
-    totals = []
-    for each in (program.matrix() for program in auction.compile()):
-        rows = LinearConstraint(each.entries, ub=each.right_sides)
-        totals.append(
-            -milp(
-                each.costs, integrality=1, bounds=Bounds(each.lower, each.upper), constraints=rows
-            ).fun
-        )
-    assert totals == [62, 32, 50, 50]
-    empty = wdp.Auction(
-        rules=[("rules", 1, 1), ("category", "A", 0, 1, 1), ("bidder", "Alpha", 1, 1)]
-    )
-    assert empty.compile()[0].matrix().entries.shape == (1, 0)
-
-
-def test_each_cut_text_of_a_program_is_unclear():
-    pytest.importorskip("scipy", reason="scipy isn't there")
-    assert wdp.Program(1, (), SMALLEST).matrix().columns == ("X3_1",)
+    rules = [("rules", 1, 1), ("category", "A", 0, 1, 1), ("bidder", "Alpha", 1, 1)]
+    assert wdp.Auction(rules=rules).compile()[0].matrix().entries.shape == (1, 0)
+    assert wdp.Program(1, (), SMALLEST).matrix().senses == ("L",) * 3
     for end in range(len(SMALLEST) - 1):
-        wrong(wdp.Program(1, (), SMALLEST[:end]).matrix, kind=wdp.Unclear)
+        with pytest.raises(wdp.Unclear):
+            wdp.Program(1, (), SMALLEST[:end]).matrix()
 
 
-def test_all_but_frames_and_matrices_goes_without_libraries(auction):
-    report = auction.report(example.SOLUTIONS)
-    with without("pandas", "scipy", "numpy", "swiglpk"):
-        assert (
-            told(wdp.Auction(rules=RULES, forms=FORMS, groups=GROUPS).report(example.SOLUTIONS))
-            == EXPECTED
-        )
-        for call in (
-            report.to_frame,
-            report[0].to_frame,
-            auction.map({}).to_frame,
-            auction.compile()[0].matrix,
-            auction.certify,
-        ):
-            assert isinstance(wrong(call, kind=wdp.Missing), ImportError)
+def test_all_but_frames_and_matrices_goes_without_libraries(monkeypatch):
+    for name in ("pandas", "scipy", "numpy", "swiglpk", "scipy.sparse"):
+        monkeypatch.setitem(sys.modules, name, None)
+    report = made(forms=FORMS, groups=GROUPS).report(SOLUTIONS)
+    assert values_of(report) == EXPECTED
+    calls = [report.to_frame, report[0].to_frame, auction.map({}).to_frame]
+    for call in (*calls, auction.compile()[0].matrix, auction.certify):
+        with pytest.raises(wdp.Missing):
+            call()
 
 
 def test_frames():
     pandas = pytest.importorskip("pandas", reason="pandas isn't there")
     table = pandas.read_csv(io.StringIO(TABLE))
-    groups = pandas.DataFrame({"group": ["-", "Alpha", "Beta", "Beta+Gamma"]})
-    forms = [
-        (name, table[table["bidder"] == name].drop(columns="bidder"))
-        for name in ("Alpha", "Beta", "Gamma")
-    ]
-    for given in (table, forms):
-        auction = wdp.Auction(rules=pandas.DataFrame(NAMED_RULES), forms=given, groups=groups)
-        assert_worked(auction)
-    report = auction.report(example.SOLUTIONS)
-    columns = {
-        "group": [1, 2, 3, 4],
-        "left_out": ["-", "Alpha", "Beta", "Beta+Gamma"],
-        "total": [62, 32, 50, 50],
-        "cost": [0, 0, 8, 20],
-    }
-    assert report.to_frame().to_dict("list") == columns
-    winners = {
-        "bidder": ["Alpha", "Beta", "Gamma"],
-        "bid": [1, 1, 1],
-        "amount": [30, 20, 12],
-        "A": [1, 1, 0],
-        "B": [0, 0, 1],
-    }
-    assert (
-        report[0].to_frame().to_dict("list")
-        == wdp.Tie(report[0].winners, 62).to_frame().to_dict("list")
-        == winners
-    )
-    assert list(wdp.Allocation((), 0).to_frame().columns) == ["bidder", "bid", "amount"]
-
-
-def test_frames_that_are_refused():
-    pandas = pytest.importorskip("pandas", reason="pandas isn't there")
-    table = pandas.read_csv(io.StringIO(TABLE))
+    groups = pandas.DataFrame({"group": NAMES})
+    apart = [(name, rows.drop(columns="bidder")) for name, rows in table.groupby("bidder")]
+    for given in (table, apart):
+        assert_worked(wdp.Auction(rules=pandas.DataFrame(NAMED_RULES), forms=given, groups=groups))
+    report = auction.report(SOLUTIONS)
+    wanted = {"group": [1, 2, 3, 4], "left_out": NAMES, "total": [62, 32, 50, 50]}
+    assert report.to_frame().to_dict("list") == {**wanted, "cost": [0, 0, 8, 20]}
+    wanted = {"bidder": ["Alpha", "Beta", "Gamma"], "bid": [1, 1, 1], "amount": [30, 20, 12]}
+    for result in (report[0], wdp.Tie(report[0].winners, 62)):
+        assert result.to_frame().to_dict("list") == {**wanted, "A": [1, 1, 0], "B": [0, 0, 1]}
+    assert list(wdp.Allocation((), 0).to_frame().columns) == list(wanted)
+    # refused
     for given in (table.drop(columns="B"), [("Alpha", table.drop(columns=["B", "bidder"]))]):
-        for missing_as_zero in (False, True):
-            refused = wrong(wdp.Auction, rules=RULES, forms=given, missing_as_zero=missing_as_zero)
-            assert refused.column == "B" and str(refused).endswith(
-                ", B: the data frame has no such column"
-            )
+        for zero in (False, True):
+            column, text = refused(lambda: made(forms=given, missing_as_zero=zero), "column text")
+            assert column == "B" and text.endswith(", B: the data frame has no such column")
     table["A"] = table["A"].astype("Int64")
     table.loc[2, "A"] = pandas.NA
-    refused = wrong(wdp.Auction(rules=RULES, forms=table).compile, kind=wdp.Refused)
-    assert (refused.kind, refused.bidder, refused.row, refused.column) == (
-        "QuantityText",
-        "Alpha",
-        2,
-        "A",
-    )
-    twice = wrong(wdp.Auction, rules=RULES, forms=table.rename(columns={"B": "A"}))
-    assert "two columns of the data frame have the same name" in str(twice)
+    assert refused(made(forms=table).compile) == ["QuantityText", "Alpha", 2, "A"]
+    (text,) = refused(lambda: made(forms=table.rename(columns={"B": "A"})), "text")
+    assert "two columns of the data frame have the same name" in text
+
+
+# What refusals say, as docs/REFERENCE.md has it: part, number, kind and its number, record, line, and field.
+READ = """
+rules: 7 NumberRange at record 9 | rules None NumberRange 7 9 9 None None
+form 3: 13 RepeatedPackage at record 4, earlier bid 2 | form 3 RepeatedPackage 13 4 4 None 2
+solution 2: 8 RowBroken at row B1 | solution 2 RowBroken 8 B1 None None None
+certificate 4: 1 NoEnd at line 0 | certificate 4 NoEnd 1 0 None 0 None
+program: 9 ColumnText at line 3, column 5 | program None ColumnText 9 3 None 3 5
+form 1001: CallLimit | form 1001 CallLimit None None None None None
+input: part 5 not known | input 5 None None None None None None
+groups: no group 9 | groups 9 None None None None None None
+write failed after 17 bytes | output None None None None None None None
+desk: wrong answer | desk None None None None None None None
+"""
+NOT_READ = """
+what nobody knows
+form: 2 Header at record 1
+rules 1: 2 Header at record 1
+form 1: 2 Header at record 1 and more
+form 1: 2 header at record 1
+lots: 2 Header at record 1
+form 1: 2 Header at record one
+form \u0661: 2 Header at record 1
+input: part five not known
+"""
+PIECES = "part number kind kind_number at record line field".split()
+FAULTS_ROW = re.compile(r"\| ([0-9]+) ([A-Za-z]+) \|")
+PROMISED = re.compile(r"`([^`]+)` → `([^`]*)`: `(wdp: (\w+)(?: ([0-9]+))?: [^`]+)`")
+
+
+def test_the_pieces_of_a_refusal():
+    none = [*rows(NOT_READ), ["form 1: 2 Header at record " + "9" * 5000]]
+    for line, values in [*rows(READ), *((line, "None" + " None" * 7) for line, in none)]:
+        refused = wdp.Refused("wdp: " + line)
+        assert " ".join(str(getattr(refused, name)) for name in PIECES) == values
+    assert str(wdp.Refused("a\nb\x1b\u2028")) == "a\\nb\\x1b\\u2028"
+    assert len(str(wdp.Refused("x" * 50_000_000))) < 600
+    # tests/test_cases.py has the program print each line that the page promises
+    count = 0
+    for line in content("docs", "REFERENCE.md").split("\n"):
+        row = FAULTS_ROW.match(line)
+        for _, _, promised, part, number in PROMISED.findall(line):
+            refused = wdp.Refused(promised)
+            count += 1
+            assert (refused.text, refused.part) == (promised, part.replace("write", "output"))
+            assert number in ("", str(refused.number))
+            assert not row or (refused.kind_number, refused.kind) == (int(row[1]), row[2])
+    assert count > 80
+
+
+def test_refusals_can_be_sent_to_another_process():
+    line = "wdp: form 1: 13 RepeatedPackage at record 4, earlier bid 2"
+    for refused in (wdp.Refused(line), wdp.NotSolved("group 2: no", 4, 2), wdp.Missing("pandas")):
+        again = pickle.loads(pickle.dumps(refused))
+        assert (type(again), str(again)) == (type(refused), str(refused))
+        assert vars(again) == vars(refused)
+    kinds = (wdp.WrongWords, wdp.NotFound, wdp.Unclear, wdp.NotSolved, wdp.Missing)
+    assert all(issubclass(kind, wdp.Refused) and issubclass(kind, ValueError) for kind in kinds)

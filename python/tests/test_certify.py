@@ -1,22 +1,25 @@
-"""Certificates: what is optimal gets one that the oracle accepts, a better point is found, and so is a tie."""
-import os
+"""Certificates: what is optimal gets one that the oracle accepts, a better point is found, and so is a tie; and reading programs.
+
+tests/test_damaged_certificates.py holds the oracle beside the proved program.
+"""
 import random
-import re
-import subprocess
-import sys
-from pathlib import Path
 
 import auctions
 import pytest
-from damage import DAMAGES, damaged
+from commands import content, rows, run, without
+from damage import OF_CERTIFICATE, damaged
 from oracle import Checker
+
 from wdp import certify
 from wdp.certify.layout import Layout
-from wdp.certify.search import Beaten, LimitReached, OnlySearch, Search, others
+from wdp.certify.search import Beaten, LimitReached, OnlySearch, Search
 from wdp.texts.refusals import Refused
+from wdp.texts.solution import read_solution
 from wdp.texts.zero_one import AT_MOST, Row, ZeroOne, read_program
 
-ROOT = Path(__file__).resolve().parents[2]
+
+def read(text):
+    return read_program(text.encode("latin-1"), "p")
 
 
 def certified(program, ones, least):
@@ -44,8 +47,16 @@ def only(program, ones):
     return True
 
 
-def small_programs(seed, count, cost):
-    """Programs that have points, each with its points, the best first."""
+COSTS = {
+    "any": (1, 200, lambda draw, cost: cost),
+    "tied": (2, 200, lambda draw, cost: draw.choice([-2, -1, -1, 0])),
+    # sums beyond 64 bits
+    "wide": (7, 50, lambda draw, cost: cost * 10**16 + draw.randrange(2)),
+}
+
+
+@pytest.mark.parametrize("seed, count, cost", COSTS.values(), ids=COSTS)
+def test_small_programs_of_which_each_point_is_tried(seed, count, cost):
     draw = random.Random(seed)
     while count:
         program = auctions.small_program(draw)
@@ -54,24 +65,11 @@ def small_programs(seed, count, cost):
         points = sorted(auctions.points(program), key=program.objective)
         if points:
             count -= 1
-            yield program, points
-
-
-@pytest.mark.parametrize(
-    "seed, count, cost",
-    [
-        (1, 200, lambda draw, cost: cost),
-        (2, 200, lambda draw, cost: draw.choice([-2, -1, -1, 0])),  # so that many tie
-        (7, 50, lambda draw, cost: cost * 10**16 + draw.randrange(2)),  # sums beyond 64 bits
-    ],
-)
-def test_small_programs_of_which_each_point_is_tried(seed, count, cost):
-    for program, points in small_programs(seed, count, cost):
-        least = program.objective(points[0])
-        for ones in (points[0], points[-1]):
-            certified(program, ones, least)
-        ties = sum(program.objective(ones) == least for ones in points)
-        assert only(program, points[0]) == (ties == 1), auctions.program_text(program)
+            least = program.objective(points[0])
+            for ones in (points[0], points[-1]):
+                certified(program, ones, least)
+            ties = sum(program.objective(ones) == least for ones in points)
+            assert only(program, points[0]) == (ties == 1), vars(program)
 
 
 @pytest.mark.parametrize("lot_value", [10**7, 10**9, 10**11])
@@ -83,31 +81,17 @@ def test_near_tied_auctions(lot_value, supply):
     totals = auctions.best_winners(supply, bids, 4)
     best = auctions.ones_of(program, totals[0][1])
     worse = next(winners for total, winners in totals if total < totals[0][0])
-    certified(program, best, -totals[0][0])
-    certified(program, auctions.ones_of(program, worse), -totals[0][0])
+    for ones in (best, auctions.ones_of(program, worse)):
+        certified(program, ones, -totals[0][0])
     assert only(program, best) == (totals[1][0] < totals[0][0])
-
-
-def test_pools_and_the_value_of_all_lots():
-    draw = random.Random(3)
-    packages = [(0, 1), (1, 0), (1, 1), (2, 1), (1, 2)]
-    for _ in range(10):
-        bids = [
-            [(draw.randrange(1, 60) * (a + b), (a, b)) for a, b in draw.sample(packages, 3)]
-            for _ in range(4)
-        ]
-        program = auctions.auction((3, 3), bids, [(5, (1, 2)), (7, (3, 1))], 1000)
-        points = sorted(auctions.points(program), key=program.objective)
-        certified(program, points[-1], program.objective(points[0]))
 
 
 def test_programs_at_the_edge():
     assert certified(auctions.auction([2, 1], []), set(), 0) == b"bound 1\n"
-    fixed = [[], [auctions.column("K", -80, [], 1, 1)], [auctions.column("X", -80, [], 0, 0)]]
-    for columns in fixed:
-        for rows in ([], [Row("C", AT_MOST, 1)]):
-            program = ZeroOne(rows, columns)
-            ones = {at for at, column in enumerate(columns) if column.lower}
+    for columns in ([], [("K", -80, [], 1, 1)], [("X", -80, [], 0, 0)]):
+        for sides in ([], [Row("C", AT_MOST, 1)]):
+            program = ZeroOne(sides, [auctions.column(*each) for each in columns])
+            ones = {at for at, column in enumerate(program.columns) if column.lower}
             certified(program, ones, program.objective(ones))
             assert only(program, ones)
     # nobody wins; an offer of net 0 ties with that
@@ -115,7 +99,6 @@ def test_programs_at_the_edge():
     assert not only(auctions.auction([1], [[(0, (1,))]]), set())
     # the row of the others is X0 + X1 at most 1, which looks like that of a block
     program = ZeroOne([], [auctions.column("X0", -3, []), auctions.column("X1", -4, [])])
-    assert [row.right_side for row in others(program, {0, 1}).rows] == [1]
     assert only(program, {0, 1}) and not only(program, {0})
 
 
@@ -134,128 +117,135 @@ def test_limits():
         OnlySearch(program, best, 1e-9, lambda text: None).certificate()
 
 
-@pytest.mark.parametrize("name, count", [("worked", 4), ("spectrum", 10), ("twelve_bands", 2)])
-def test_examples_from_nothing_to_the_totals_of_their_reports(wdp, name, count):
-    with open(ROOT / "examples" / f"{name}.txt", "rb") as file:
-        programs = subprocess.run([wdp, "compile"], stdin=file, capture_output=True).stdout
-    report = (ROOT / "examples" / f"{name}.report.txt").read_text()
-    totals = [int(total) for total in re.findall(r"(?m)^total ([0-9]+)$", report)]
-    for text, total in list(zip(programs.split(b"* program ")[1:], totals))[:count]:
-        program = read_program(b"* " + text, "program")
-        certified(
-            program, {at for at, column in enumerate(program.columns) if column.lower}, -total
-        )
-
-
-class TestDamaged:
-    """Copies of a certificate: the same seed gives the same ones, and none shows more than is true."""
-
-    draw, supply = random.Random(5), (5, 5, 5)
-    bids = auctions.near_tied_bids(draw, supply, 10**7, 4, 12)
-    program = auctions.auction(supply, bids)
-    total, winners = auctions.best_winners(supply, bids, 1)[0]
-    text = Search(Layout(program), auctions.ones_of(program, winners)).certificate()
-
-    def test_each_kind_comes_up_and_none_shows_more(self):
-        checker, names, kinds = Checker(self.program), set(), set()
-        for number in range(1500):
-            text, damages = damaged(self.text, "kinds", number)
-            assert (text, damages) == damaged(self.text, "kinds", number)
-            names.update(damages)
-            fault = checker.verdict(-self.total, text).fault
-            kinds.add(fault.kind if fault else "shown")
-            assert checker.verdict(-self.total + 1, text).fault is not None, damages
-        assert names == {damage.__name__ for damage in DAMAGES} | {"cut"}
-        numbers = {"NumberText", "NumberRange", "UnknownColumn", "UnknownRow", "Sign"}
-        assert kinds == numbers | {"shown", "Fields", "NotShown", "NoEnd", "Beyond"}
-
-
-# The command.
-
-SMALL = auctions.program_text(
-    auctions.auction((2, 1), [[(30, (1, 0)), (50, (2, 1))], [(20, (1, 0))], [(12, (0, 1))]])
-)
+SMALL = content("fixtures", "solvers", "three.mps").encode()
 BEST, WORSE = b"X1_1 1\nX2_1 1\nX3_1 1\n", b"X1_2 1\n"
+CHECKER = Checker(read_program(SMALL, "p"))
 
 
 @pytest.fixture
-def command(tmp_path):
-    """Runs `wdp-office certify` in a folder with a program and two solutions; its status, output and messages."""
+def folder(tmp_path, monkeypatch):
+    """A folder with a program and two solutions, in which commands run."""
     for name, text in (("p.mps", SMALL), ("best", BEST), ("worse", WORSE)):
         (tmp_path / name).write_bytes(text)
-
-    def run(*words, **environment):
-        done = subprocess.run(
-            [sys.executable, "-m", "wdp", "certify", *words],
-            cwd=tmp_path,
-            capture_output=True,
-            env={**os.environ, "PYTHONPATH": str(ROOT / "python/src"), **environment},
-        )
-        assert b"Traceback" not in done.stderr
-        return done.returncode, done.stdout, done.stderr.decode()
-
-    return run
+    monkeypatch.chdir(tmp_path)
+    return tmp_path
 
 
-def test_the_command_certifies(command, tmp_path):
-    status, certificate, messages = command("p.mps", "best")
-    assert status == 0, messages
-    assert Checker(read_program(SMALL, "p")).verdict(-62, certificate).fault is None
-    status, certificate, messages = command("p.mps", "worse")
-    assert (status, certificate) == (3, b"") and "its objective is 12 above the least" in messages
+def test_the_command(folder):
+    seen = run("certify", "p.mps", "best")
+    assert (seen.status, CHECKER.verdict(-62, seen.out.encode()).fault) == (0, None)
     words = ["--solution-output", "better", "--output", "certificate", "p.mps", "worse"]
-    status, output, messages = command(*words)
-    assert (status, output) == (0, b""), messages
-    assert (tmp_path / "better").read_bytes() == BEST
-    assert (
-        Checker(read_program(SMALL, "p"))
-        .verdict(-62, (tmp_path / "certificate").read_bytes())
-        .fault
-        is None
-    )
+    assert run("certify", *words)[:2] == (0, "")
+    assert (folder / "better").read_bytes() == BEST
+    assert CHECKER.verdict(-62, (folder / "certificate").read_bytes()).fault is None
+    seen = run("certify", "--unique", "p.mps", "best")
+    assert (seen.status, CHECKER.only_verdict({0, 2, 3}, seen.out.encode()).fault) == (0, None)
+    (folder / "p.mps").write_bytes(SMALL.replace(b" X1_2 OBJ -50\n", b" X1_2 OBJ -62\n"))
+    seen = run("certify", "--unique", "p.mps", "best")
+    assert seen[:2] == (5, WORSE.decode()) and "a tie" in seen.err
 
 
-def test_the_command_shows_the_only_solution_or_a_tie(command, tmp_path):
-    status, certificate, messages = command("--unique", "p.mps", "best")
-    assert status == 0, messages
-    assert Checker(read_program(SMALL, "p")).only_verdict({0, 2, 3}, certificate).fault is None
-    assert command("--unique", "p.mps", "worse")[0] == 3
-    (tmp_path / "p.mps").write_bytes(SMALL.replace(b" X1_2 OBJ -50\n", b" X1_2 OBJ -62\n"))
-    status, other, messages = command("--unique", "p.mps", "best")
-    assert (status, other) == (5, WORSE) and "a tie" in messages
+REFUSED = """
+p.mps worse | 3 | its objective is 12 above the least
+--unique p.mps worse | 3 |
+none best | 1 | none: No such file or directory
+p.mps . | 1 | .: Is a directory
+best best | 1 | line 1: the section X1_1
+p.mps p.mps | 1 | line 1:
+--output /none/file p.mps best | 1 | /none/file: No such file
+--time-limit -1 p.mps best | 2 | --time-limit
+ | 2 | PROGRAM.mps
+"""
 
 
-@pytest.mark.parametrize(
-    "words, status, said",
-    [
-        (["none", "best"], 1, "none: No such file or directory"),
-        (["p.mps", "."], 1, ".: "),
-        (["best", "best"], 1, "best: line 1: data outside of a section|line 1: the section X1_1"),
-        (["p.mps", "p.mps"], 1, "line 1: "),
-        (["--output", "/no folder/file", "p.mps", "best"], 1, "/no folder/file: No such file"),
-        (["--time-limit", "-1", "p.mps", "best"], 2, "--time-limit"),
-        ([], 2, "PROGRAM.mps"),
-    ],
-)
-def test_what_the_command_refuses(command, words, status, said):
-    seen, output, messages = command(*words)
-    assert (seen, output) == (status, b"") and re.search(said, messages), messages
+@pytest.mark.parametrize("words, status, said", rows(REFUSED))
+def test_what_the_command_refuses(folder, words, status, said):
+    seen = run("certify", *words.split())
+    assert seen[:2] == (int(status), "") and said in seen.err, seen.err
 
 
-def test_a_missing_package(command, tmp_path):
-    (tmp_path / "swiglpk.py").write_text("raise ImportError\n")
-    path = os.pathsep.join([str(tmp_path), str(ROOT / "python/src")])
-    status, _, messages = command("p.mps", "best", PYTHONPATH=path)
-    assert status == 1 and "apt-get install -y python3-swiglpk" in messages
+def test_a_missing_package(folder):
+    seen = run("certify", "p.mps", "best", **without("swiglpk", folder))
+    assert seen.status == 1 and "apt-get install -y python3-swiglpk" in seen.err
 
 
-def test_calls(wdp):
+def test_calls():
     found = certify.certified(SMALL, WORSE)
     assert (found.solution, found.gain) == (BEST, 12)
     assert certify.certified(SMALL, BEST).gain == 0
-    assert certify.only(SMALL, BEST).part().startswith(b"%unique\nbound ")
-    with pytest.raises(certify.NotOptimal) as beaten:
-        certify.only(SMALL, WORSE)
-    assert beaten.value.better
+    only = certify.only(SMALL, BEST)
+    assert only.claim == "unique" and only.text.startswith(b"bound ")
+    assert certify.only(SMALL, WORSE) == certify.Only("tie", BEST, 12)
     with pytest.raises(Refused, match="the solution: the row B1 is broken"):
         certify.certified(SMALL, b"X1_1 1\nX1_2 1\n")
+
+
+# Three columns, any two of which exclude one another: halves of all three are the best fractions, at -3.
+ODD = "ROWS\n N OBJ\n L A1\n L A2\n L B\nCOLUMNS\n X1 OBJ -2 A1 1\n X1 A2 1\n X2 OBJ -2 A1 1\n X2 B 1\n X3 OBJ -2 A2 1\n X3 B 1\n"
+ODD += "RHS\n R A1 1 A2 1\n R B 1\nBOUNDS\n BV X1\n BV X2\n BV X3\nENDATA\n"
+SHOWN = b"# X1 is 0, or it is 1\nsplit 0 X1 1\n\nbound 1 2 B 2\nbound 1 2 A1 2 A2 2\n"
+KINDS = "NumberText NumberRange UnknownColumn UnknownRow Sign Fields NotShown NoEnd Beyond shown"
+
+
+def test_sizes_depth_and_damages():
+    checker, kinds = Checker(read(ODD)), set()
+    assert checker.verdict(-2, SHOWN) == (None, [])
+    assert checker.verdict(-1, SHOWN).fault == (4, "NotShown")
+    assert checker.verdict(-2, b"bound 1 A1 1 A2 1 B 1\n").fault == (1, "NotShown")
+    # the size of a leaf is all that it adds up: of the first one costs 6, the split 2 * (1 + 0), the row 2 * (2 + 1); of the
+    # second one 6, 2 * (1 + 1), and two rows
+    for bound, lines in ((14, [4, 5]), (15, [5]), (22, [5]), (23, [])):
+        assert checker.verdict(1 - (2**126 - bound), SHOWN) == (None, lines)
+    depth, many = 100_000, b"split 0\n" * 100_000
+    for zeros, kind in ((depth, "NotShown"), (depth - 1, "Fields")):
+        assert checker.verdict(-2, many + b"bound 1" + b" 0" * zeros).fault == (depth + 1, kind)
+    for number in range(1500):
+        text, names = damaged(SHOWN, "kinds", number)
+        fault = checker.verdict(-2, text).fault
+        kinds.update(names, [fault.kind if fault else "shown"])
+        assert checker.verdict(-1, text).fault is not None, names
+    assert kinds == {*OF_CERTIFICATE, *KINDS.split()}
+
+
+# Reading programs; test_solve.py has the solutions.
+OTHER_WAYS = """* made elsewhere \xff⏎NAME⏎OBJSENSE MIN⏎ROWS⏎\tN OBJ⏎ N SPARE⏎ N SPARE2⏎ L B3⏎ L C1⏎ G C2⏎⏎COLUMNS
+ X3_1 OBJ -1.2e1 SPARE 7⏎ X3_1 SPARE2 1 B3 1.0⏎ X3_1 C2 10e-1 C1 0⏎ M 'MARKER' 'INTORG'⏎ K OBJ -80
+RHS⏎ B3 1 C1 2.0⏎ RHS C2 1⏎BOUNDS⏎ BV X3_1⏎ FX BND K 1⏎ENDATA⏎not read⏎"""
+SMALLEST = "ROWS\n N OBJ\n L B1\nCOLUMNS\n X OBJ -1\n X B1 1\nBOUNDS\n BV X\nENDATA\n"
+PROGRAMS = """
+BV X⏎ | BV X⏎ UP BND X 2⏎ | line 9: a bound is neither 0 nor 1
+L B1 | L B1⏎ L B1 | line 4: the row B1 is there twice
+L B1 | R B1 | line 3: the type R of a row isn't known
+X B1 1 | X B2 1 | line 6: the row B2 isn't known
+X B1 1 | X B1 x | line 6: a number is refused: NumberText
+X B1 1 | X B1 0.5 | line 6: a number is refused: NotWhole
+X B1 1 | X B1 1⏎ X B1 1 | line 7: the entry of X in B1 is there twice
+X B1 1 | Y B1 1⏎ X B1 1 | line 7: the lines of the column X aren't together
+X B1 1 | X B1 \xff | line 6: bytes that aren't printable ASCII
+BOUNDS | RANGES | line 7: the section RANGES isn't read
+ROWS | OBJSENSE⏎ MAX⏎ROWS | line 2: the objective is to be minimised
+BOUNDS⏎ BV X⏎ | | line 7: the column X isn't 0-1
+N OBJ⏎ | | line 3: no objective
+BOUNDS | RHS⏎ OBJ 3⏎BOUNDS | line 8: the objective has a constant
+ENDATA⏎ | | line 8: the text ends without ENDATA
+"""
+
+
+@pytest.mark.parametrize("end", ["\n", "\r\n"])
+def test_other_ways_of_writing(end):
+    program = read(OTHER_WAYS.replace("⏎", "\n").replace("\n", end))
+    kinds = [(row.name, row.kind, row.right_side) for row in program.rows]
+    assert kinds == [("B3", "L", 1), ("C1", "L", 2), ("C2", "G", 1)]
+    columns = [(c.name, c.cost, c.entries, c.lower, c.upper) for c in program.columns]
+    assert columns == [("X3_1", -12, [(0, 1), (2, 1)], 0, 1), ("K", -80, [], 1, 1)]
+    assert read_solution(b"# all\nX3_1 0.999999\n\nK\t1", program, "s") == {0, 1}
+    with pytest.raises(Refused, match="^s: the bound of column K is broken$"):
+        read_solution(b"X3_1 1\n", program, "s")
+
+
+@pytest.mark.parametrize("old, new, why", rows(PROGRAMS))
+def test_programs_that_are_refused(old, new, why):
+    assert SMALLEST.count(old) == 1 and read(SMALLEST)
+    with pytest.raises(Refused) as stopped:
+        read(SMALLEST.replace(old, new))
+    assert str(stopped.value) == "p: " + why

@@ -1,106 +1,106 @@
-"""The office's commands as one tree, wdp-office."""
-from __future__ import annotations
-
+"""The office's commands as one tree, wdp-office, and what holds for the source: sizes, docstrings, and that it installs."""
+import ast
 import os
 import signal
 import subprocess
 import sys
-from pathlib import Path
 
-import pytest
-from offices import run
-from tree import ROOT
+from commands import ROOT, WORKED, content, ended, run, start
 
 import wdp
 from wdp import cli
 
-COMMANDS = list(cli.COMMANDS)
-TOOL = Path(ROOT, "wdp-office")
+TOOL, SOURCE = ROOT / "wdp-office", ROOT / "python/src/wdp"
+# the modules of which a user of the package reads the help
+PUBLIC = ["__init__", "api", "results", "texts/mps", "texts/refusals"]
+STRANGE = ["", "-", "--", "--versions", "a\nb", "\x1b[1mgather", "x" * 100_000]
 
 
-def seen(*words):
-    done = run(*words)
-    return done.returncode, done.stdout.decode(), done.stderr.decode()
-
-
-@pytest.mark.parametrize("word", ["gahter", "GATHER", "gather ", "gatherr"])
-def test_an_unknown_command_is_named_with_the_nearest_one(word):
-    why = f"wdp-office: there is no command '{word}'; the nearest one is gather\n"
-    assert seen(word, "--help") == (2, "", why)
-
-
-@pytest.mark.parametrize(
-    "word", ["", "-", "--", "--versions", "a\nb", "\x1b[1mgather", "x" * 100_000]
-)
-def test_strange_words_are_one_short_line(word):
-    status, output, messages = seen(word)
-    assert (status, output, messages.count("\n")) == (2, "", 1) and messages[:-1].isprintable()
-    assert len(messages) < 600
+def test_words_that_are_no_command_are_one_short_line():
+    for word in ("gahter", "GATHER", "gather ", "gatherr"):
+        why = f"wdp-office: there is no command '{word}'; the nearest one is gather\n"
+        assert run(word, "--help") == (2, "", why)
+    for word in STRANGE:
+        status, output, said = run(word)
+        assert (status, output, said.count("\n")) == (2, "", 1)
+        assert said[:-1].isprintable() and len(said) < 600
 
 
 def test_version_and_help():
-    assert seen("--version") == (0, f"wdp-office {wdp.__version__}\n", "")
-    status, whole, messages = seen("--help")
-    assert (status, messages) == (0, "") and all(f"\n    {name} " in whole for name in COMMANDS)
-    assert seen("help") == seen("-h") == (0, whole, "")
-    assert seen() == (2, "", whole)
+    assert run("--version") == (0, f"wdp-office {wdp.__version__}\n", "")
+    status, whole, said = run("--help")
+    assert (status, said, run("help"), run("-h")) == (0, "", *[(0, whole, "")] * 2)
+    assert run() == (2, "", whole) and cli.COMMANDS
+    for name in cli.COMMANDS:
+        assert f"\n    {name} " in whole and name in cli.tree().format_help()
+        status, text, said = run("help", name)
+        assert (status, said) == (0, "") and text.startswith(f"usage: wdp-office {name} ")
+        assert run(name, "--help") == (0, text, "")
+        status, output, said = run(name, "--no-such-word")
+        assert (status, output, said.count("\n")) == (2, "", 1)
+        assert said.startswith(f"wdp-office {name}: error: ")
 
 
-@pytest.mark.parametrize("name", COMMANDS)
-def test_help_of_a_command(name):
-    status, text, messages = seen("help", name)
-    assert (status, messages) == (0, "") and text.startswith(f"usage: wdp-office {name} ")
-    assert seen(name, "--help") == (0, text, "")
-    status, output, messages = seen(name, "--no-such-word")
-    assert (status, output) == (2, "") and messages.startswith(f"wdp-office {name}: error: ")
-    assert messages.count("\n") == 1
-
-
-def test_the_tree_of_all_commands_is_that_of_each():
-    whole = cli.tree()
-    for name in COMMANDS:
-        assert name in whole.format_help()
-
-
-def test_it_is_found_through_a_link_from_elsewhere(tmp_path):
-    (tmp_path / "a link").symlink_to(TOOL)
-    how = {
-        "cwd": tmp_path,
-        "env": {"PATH": "/usr/bin:/bin"},
-        "capture_output": True,
-        "timeout": 300,
-    }
-    done = subprocess.run([tmp_path / "a link", "--version"], **how)
-    assert (done.returncode, done.stdout) == (0, f"wdp-office {wdp.__version__}\n".encode())
-
-
-def test_a_tree_at_a_strange_path(tmp_path):
-    place = tmp_path / "a $(touch x) 'tree' {0}\n"
+def test_it_is_found_through_a_link_and_in_a_tree_at_a_strange_path(tmp_path):
+    link, place = tmp_path / "a link", tmp_path / "a $(touch x) 'tree' {0}\n"
+    link.symlink_to(TOOL)
+    how = {"cwd": tmp_path, "env": {"PATH": "/usr/bin:/bin"}}
+    assert ended(start([link, "--version"], **how)) == (0, f"wdp-office {wdp.__version__}\n", "")
+    link.unlink()
     place.symlink_to(ROOT)
-    done = subprocess.run([place / "wdp-office", "auction", "--solver", "highs"], input=Path(ROOT, "examples/worked.txt").read_bytes(),
-                          cwd=tmp_path, capture_output=True, timeout=300)  # fmt: skip
-    assert done.stdout == Path(ROOT, "examples/worked.report.txt").read_bytes(), done.stderr
+    how = {"cwd": tmp_path, "stdin": subprocess.PIPE, "env": dict(os.environ)}
+    seen = ended(start([place / "wdp-office", "auction", "--solver", "highs"], **how), WORKED)
+    assert seen.out == content("examples", "worked.report.txt"), seen.err
     assert os.listdir(tmp_path) == [place.name]
 
 
-@pytest.mark.parametrize("words", [["--help"], ["--version"], ["help", "gather"]])
-def test_standard_output_that_fails(words):
+def test_standard_output_that_fails_and_an_interrupt_are_one_line(office):
+    none = "standard output: No space left on device\n"
     with open("/dev/full", "wb") as full:
-        done = subprocess.run(
-            [sys.executable, TOOL, *words], stdout=full, stderr=subprocess.PIPE, timeout=300
-        )
-    assert (done.returncode, done.stderr) == (
-        1,
-        b"wdp-office: standard output: No space left on device\n",
-    )
+        for words in (["--help"], ["--version"], ["help", "gather"]):
+            assert run(*words, stdout=full) == (1, "", f"wdp-office: {none}")
+        for command in ("gather", "explain"):
+            seen = run(command, *office.files, stdout=full)
+            assert seen.status == 1 and seen.err.splitlines(True)[-1] == f"{command}: {none}"
+    os.mkfifo(office.folder / "never")
+    for words in (["explain"], ["gather", office.rules, office.forms]):
+        tool = start([TOOL, *words, office.folder / "never"])
+        with open(office.folder / "never", "wb"):  # the command reads now
+            tool.send_signal(signal.SIGINT)
+            assert ended(tool) == (130, "", f"{words[0]}: interrupted\n")
 
 
-def test_an_interrupt_is_one_line(tmp_path):
-    os.mkfifo(tmp_path / "input")
-    tool = subprocess.Popen(
-        [TOOL, "explain", tmp_path / "input"], stdout=subprocess.PIPE, stderr=subprocess.PIPE
-    )
-    with open(tmp_path / "input", "wb"):  # the command reads now
-        tool.send_signal(signal.SIGINT)
-        output, messages = tool.communicate(timeout=300)
-    assert (tool.returncode, output, messages) == (130, b"", b"explain: interrupted\n")
+def functions(path):
+    nodes = ast.walk(ast.parse(path.read_text()))
+    return [each for each in nodes if isinstance(each, ast.FunctionDef)]
+
+
+def test_functions_are_short_and_public_ones_have_docstrings():
+    """At most 40 lines, in a layout that breaks no line, and without its docstring."""
+    for path in SOURCE.rglob("*.py"):
+        for node in functions(path):
+            body = node.body[1:] if ast.get_docstring(node) else node.body
+            lines = sum(len(ast.unparse(statement).splitlines()) for statement in body)
+            assert lines <= 40, (path.name, node.name)
+    for node in [each for name in PUBLIC for each in functions(SOURCE / f"{name}.py")]:
+        assert node.name.startswith("_") or ast.get_docstring(node), node.name
+
+
+def files_of(folder):
+    names = {path.relative_to(folder) for path in folder.rglob("*") if path.is_file()}
+    return {name for name in names if "__pycache__" not in name.parts}
+
+
+def test_pip_installs_it_without_a_network(tmp_path):
+    subprocess.run(["cp", "-r", ROOT / "python", tmp_path / "python"], check=True)
+    words = "-m pip install -q --no-build-isolation --no-index --no-compile --target".split()
+    how = {"PATH": "/usr/bin:/bin", "PIP_DISABLE_PIP_VERSION_CHECK": "1", "HOME": str(tmp_path)}
+    made = start([sys.executable, *words, tmp_path / "to", tmp_path / "python"], env=how)
+    assert ended(made).status == 0
+    assert files_of(tmp_path / "to" / "wdp") == files_of(SOURCE)
+    text = "import wdp, wdp.program; print(wdp.__version__, wdp.program.tree_of_package())\n"
+    text += "wdp.Auction.from_text('').check('ENDATA')"
+    how = {"cwd": tmp_path, "env": {**os.environ, "PYTHONPATH": str(tmp_path / "to")}}
+    done = subprocess.run([sys.executable, "-B", "-c", text], capture_output=True, text=True, **how)
+    assert done.stdout == f"{wdp.__version__} None\n", done.stderr
+    assert done.stderr.endswith("wdp.Refused: wdp: program: 8 NoObjective at line 1\n"), done.stderr

@@ -1,41 +1,92 @@
-"""docs/OFFICE.md says word for word what its commands print, one after the other in a copy of the tree."""
-from __future__ import annotations
-
+"""The commands of the pages, each page's in its order in a fresh clone: they run as they are there, and print what the page shows."""
 import os
 import re
 import subprocess
-from pathlib import Path
-from typing import Iterator, Tuple
+import sys
 
-from tree import ROOT, content
+import pytest
+from commands import ROOT, content
 
-# what the copy needs of the tree
-LINKED = ["python", "examples", "wdp-office", "crates.txt"]
+BLOCK = re.compile(r"^```([a-z]*)(?: ([^\n]*))?\n(.*?)^```$", re.MULTILINE | re.DOTALL)
+A_COMMAND = re.compile(r"(\./|sed |mkdir |PATH=|apt-get |pip )")
+# what needs a network or another machine, names no file of the tree (`DIR`, `rules.csv`), or runs all tests: test_command.py
+# installs by pip, test_auction.py has Slurm's profile
+NOT_RUN = re.compile(r"apt-get |pip |\./test |\./wdp-office explain rules\.csv |.* DIR ")
+# the reports that the commands of OFFICE leave, of examples
+LEFT = {
+    "report.txt": "spectrum",
+    "worked/report.txt": "worked",
+    "cluster/report.txt": "worked",
+}
 
 
-def steps(document: str) -> Iterator[Tuple[str, str]]:
-    """The commands of a document with what it shows under each."""
-    for block in re.findall(
-        r"^```\n(\$ .*?)^```$", content("docs", document), re.DOTALL | re.MULTILINE
+@pytest.fixture
+def clone(tmp_path, wdp):
+    """What git has of the tree, with the program that is tried; how a command ends there, and what it prints."""
+    listed = subprocess.check_output(["git", "ls-files", "-z"], cwd=ROOT).split(b"\0")
+    names = [name for name in listed if name and not name.startswith(b"crates/")]
+    names = [name for name in names if os.path.lexists(os.path.join(bytes(ROOT), name))]
+    copy = ["xargs", "-0", "cp", "--parents", "-P", "-t", tmp_path]
+    subprocess.run(copy, cwd=ROOT, input=b"\0".join(names), check=True)
+    (tmp_path / "wdp").unlink()
+    (tmp_path / "wdp").symlink_to(wdp)
+    how = {"cwd": tmp_path, "stdin": subprocess.DEVNULL, "stdout": subprocess.PIPE}
+    how.update(stderr=subprocess.STDOUT, env={**os.environ, "LC_ALL": "C.UTF-8", "WDP": wdp})
+
+    def run(command):
+        done = subprocess.run(["sh", "-c", command], **how)
+        return done.returncode, done.stdout.decode()
+
+    return tmp_path, run
+
+
+def steps(page):
+    """The commands of a page, each with what is shown of its output, if that is; and the pieces of files that it shows."""
+    commands, pieces = [], []
+    for kind, _, text in BLOCK.findall(content(*page.split("/"))):
+        if text.startswith("$ "):
+            shown = re.split(r"^\$ ", text, flags=re.MULTILINE)[1:]
+            commands += [step.partition("\n")[::2] for step in shown]
+        elif kind in ("", "sh") and A_COMMAND.match(text):
+            commands += [(line, None) for line in text.splitlines() if not NOT_RUN.match(line)]
+        elif kind == "":
+            pieces.append(text)
+    return commands, pieces
+
+
+@pytest.mark.parametrize("page, least", [("README.md", 3), ("docs/OFFICE.md", 30)])
+def test_the_commands_of_a_page(clone, page, least):
+    folder, run = clone
+    commands, pieces = steps(page)
+    texts = []
+    for command, wanted in commands:
+        status, output = run(command)
+        texts.append(output)
+        assert "Traceback" not in output, output
+        assert output == wanted if wanted is not None else status == 0, (command, output)
+    assert len(commands) >= least
+    for name, example in LEFT.items() if page == "docs/OFFICE.md" else ():
+        assert (folder / name).read_text() == content("examples", f"{example}.report.txt")
+    # (of one example OFFICE shows pieces without a command)
+    run("./wdp-office auction pool --input examples/worked_pool.txt")
+    for path in (
+        it for name in ("worked", "pool", "examples") for it in folder.glob(f"{name}/**/*")
     ):
-        for step in re.split(r"^\$ ", block, flags=re.MULTILINE)[1:]:
-            command, _, wanted = step.partition("\n")
-            yield command, wanted
+        texts += [path.read_text(errors="replace")] if path.suffix in (".txt", ".mps") else []
+    shown = pieces if page == "docs/OFFICE.md" else []
+    assert not [piece for piece in shown if not any(piece in text for text in texts)]
 
 
-def test_its_commands_print_what_it_shows(tmp_path: Path, wdp: str) -> None:
-    for name in LINKED:
-        os.symlink(os.path.join(ROOT, name), tmp_path / name)
-    os.symlink(wdp, tmp_path / "wdp")
-    count = 0
-    for count, (command, wanted) in enumerate(steps("OFFICE.md"), 1):
-        seen = subprocess.run(
-            ["sh", "-c", command],
-            cwd=tmp_path,
-            stdin=subprocess.DEVNULL,
-            stdout=subprocess.PIPE,
-            stderr=subprocess.STDOUT,
-            env={**os.environ, "LC_ALL": "C.UTF-8", "WDP": wdp},
-        )
-        assert seen.stdout.decode() == wanted, command
-    assert count > 15
+def test_python(clone):
+    """Each block of Python, one after the other, with the files that the page shows."""
+    for name in ("numpy", "pandas", "scipy", "swiglpk"):
+        pytest.importorskip(name, reason=f"{name} isn't there")
+    folder, run = clone
+    blocks = BLOCK.findall(content("docs", "PYTHON.md"))
+    assert {kind for kind, _, _ in blocks} == {"csv", "python", "sh"}
+    texts = [text for kind, _, text in blocks if kind == "python"]
+    for name, text in ((name, text) for kind, name, text in blocks if kind == "csv"):
+        (folder / name).write_text(text)
+    assert all(text.startswith(">>> ") for text in texts) and str(texts).count(">>> ") > 20
+    (folder / "page.txt").write_text("\n".join(texts))
+    assert run(f"PYTHONPATH=python/src {sys.executable} -m doctest page.txt") == (0, "")

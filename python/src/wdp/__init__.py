@@ -1,21 +1,8 @@
 """The proved winner determination compiler `wdp` for bidders' advisers: auctions from files, records or data frames.
 
-    >>> import wdp
-    >>> from wdp import example
-    >>> auction = wdp.Auction.from_text(example.INPUT)
-    >>> report = auction.verify(example.SOLUTIONS, example.CERTIFICATES, unique=example.UNIQUE)
-    >>> for group in report:
-    ...     print(group.names, group.total, group.cost)
-    () 62 0
-    ('Alpha',) 32 0
-    ('Beta',) 50 8
-    ('Beta', 'Gamma') 50 20
-    >>> report.uniqueness
-    'only'
-
-The package starts the program, and reads its answers as docs/FORMATS.md and docs/FAULTS.md have them. It proves nothing itself.
-Amounts, totals and costs are whole pounds. docs/PYTHON.md leads through an adviser's day. The command wdp-office has an
-auction's office round it.
+The package starts the program, and reads its answers as docs/REFERENCE.md has them. It proves nothing itself.
+Amounts, totals and costs are whole pounds. docs/PYTHON.md leads through an adviser's day, and `wdp.example` has an auction.
+The command wdp-office has an auction's office round it.
 """
 from wdp.api import Auction
 from wdp.office.judge import Explained, Finding
@@ -23,7 +10,7 @@ from wdp.results import Allocation, Certified, Counts, Group, Prices, Report, So
 from wdp.texts.mps import Matrix, Program
 from wdp.texts.refusals import Missing, NotFound, NotSolved, Refused, Unclear, WrongWords
 
-__version__ = "1.0.0"
+__version__ = "1.1.0"
 __all__ = [
     "Allocation",
     "Auction",

@@ -3,36 +3,40 @@ from __future__ import annotations
 
 import math
 import os
-import stat
-from dataclasses import dataclass
-from typing import Any, Iterable, List, Mapping, Optional, Sequence, Union
+from collections.abc import Iterable, Mapping
+from numbers import Real
+from typing import Any
 
-from wdp import certify, solve
+from wdp import certify, files, solve
+from wdp import prices as pricing
 from wdp.office.judge import Explained, explained
 from wdp.program import Limits, Path, answer, found_program
 from wdp.results import Allocation, Certified, Counts, Report, Solutions, joined
 from wdp.texts import answers, records
 from wdp.texts.mps import Program
-from wdp.texts.refusals import NotFound, NotSolved, Refused, WrongWords, escaped
+from wdp.texts.refusals import NotFound, NotSolved, Refused, WrongWords
 
 MOST_OF_A_FILE = 134_217_728  # bytes that the program reads in all
+UNENDED = "the last line has no end, as in a file that was cut off; say allow_unended=True if it is complete"
+
+Claims = tuple[str | None, str | None]  # what is proved of other winners: `unique`, or `tie`
 
 
 class Auction:
     """The rules of an auction, its bidders' forms, and the groups of bidders that are left out in turn.
 
-    `rules`: a text as docs/FORMATS.md has it, a list of records (tuples, or dicts with `record`), or a data frame of these.
+    `rules`: a text as in docs/REFERENCE.md, a list of records (tuples, or dicts with `record`), or a data frame of these.
     `forms`: a list of texts or of pairs of a bidder's name and its bids (tuples, dicts with `amount` and the categories, a data
     frame); or one table of all bids, a list of dicts or a data frame with `bidder`, `amount` and the categories. A data frame
-    has to have a column for each category, and so has a dict an entry unless `missing_as_zero` is true.
-    `groups`: a text, or a list of lines or of tuples of names; where it is left out, the one group that leaves nobody out.
+    must have a column for each category, and a dict an entry unless `missing_as_zero` is true.
+    `groups`: a text, or a list of lines or of tuples of names; by default the one group that leaves nobody out.
     Amounts are whole pounds, quantities lots. Nothing is rounded.
 
-    `program` is the path of the proved program, and `time_limit` how many seconds a call of it may take; there is no limit
-    where that is left out.
+    `program` is the path of the proved program, `time_limit` how many seconds each call of it may take; by default there is
+    no limit.
 
-    Raises WrongWords where this can't be written as an input, and NotFound where there is no program. Every call raises
-    Refused where the program refuses, and Unclear where it gives no answer that docs/FORMATS.md knows.
+    Raises WrongWords if this can't be written as an input, and NotFound if there is no program. Every call raises Refused if
+    the program refuses, and Unclear if its answer isn't one of docs/REFERENCE.md.
 
     >>> auction = Auction(rules=[("rules", 1, 1), ("category", "A", 2, 10, 1), ("bidder", "Alpha", 9, 2), ("bidder", "Beta", 9, 1)],
     ...                   forms=[("Alpha", [(30, 1), (50, 2)]), ("Beta", [(45, 2)])], groups=["-", "Alpha"])
@@ -50,78 +54,53 @@ class Auction:
         forms: Any = (),
         groups: Any = None,
         missing_as_zero: bool = False,
-        program: Optional[Path] = None,
-        time_limit: Optional[float] = None,
+        program: Path | None = None,
+        time_limit: float | None = None,
     ) -> None:
         rules = records.rules_text(rules)
-        made = records.forms_of(forms, rules, missing_as_zero)
+        self._forms = records.forms_of(forms, rules, missing_as_zero)
         parts = [records.part("rules", rules)]
-        parts += [records.part("form", form.text, number) for number, form in enumerate(made, 1)]
+        parts += [records.part("form", form.text, n) for n, form in enumerate(self._forms, 1)]
         parts.append(records.part("groups", records.groups_text(groups)))
-        self._begin(b"".join(parts), program, time_limit, made)
-
-    def _begin(
-        self,
-        given: bytes,
-        program: Optional[Path],
-        time_limit: Optional[float],
-        forms: Sequence[records.Form] = (),
-    ) -> None:
-        self._given, self._forms = given, forms
+        self._given = b"".join(parts)
         self._program = found_program(program)
-        self._time_limit = None if time_limit is None else seconds_of(time_limit)
+        self._time_limit = seconds_of(time_limit)
 
     @classmethod
     def from_text(
         cls,
-        input_text: Union[str, bytes],
+        input_text: records.Text,
         *,
-        program: Optional[Path] = None,
-        time_limit: Optional[float] = None,
+        program: Path | None = None,
+        time_limit: float | None = None,
     ) -> Auction:
-        """The auction of an input with its parts, as the program takes it. Raises what Auction(..) does.
-
-        >>> from wdp import example
-        >>> len(Auction.from_text(example.INPUT).compile())
-        4
-        """
-        given = records.encoded(input_text, "input")
-        auction = cls.__new__(cls)
-        is_ended = given.endswith(b"\n") or not given
-        auction._begin(given + (b"" if is_ended else b"\n"), program, time_limit)
+        """The auction of an input with its parts, as the program reads it. Raises what Auction(..) does."""
+        auction = cls(rules="", program=program, time_limit=time_limit)
+        auction._given = records.ended(records.encoded(input_text, "input"))
         return auction
 
     @classmethod
     def from_files(
         cls,
         rules: Path,
-        forms: Union[Path, Iterable[Path]],
-        groups: Optional[Path] = None,
+        forms: Path | Iterable[Path],
+        groups: Path | None = None,
         *,
         allow_unended: bool = False,
-        program: Optional[Path] = None,
-        time_limit: Optional[float] = None,
+        program: Path | None = None,
+        time_limit: float | None = None,
     ) -> Auction:
         """The auction of a file of rules, a file for each form, and a file of groups; nobody is left out without one.
 
-        Of several forms of a bidder the last one counts. Raises Refused where a file can't be read, NotFound where there is
-        none, and Refused where its last line has no end, as in a file that was cut off: `allow_unended` says that such files
-        are whole. Raises what Auction(..) does.
+        Of several forms of a bidder the last one counts. Raises NotFound if a file isn't there, and Refused if it can't be
+        read, or if its last line has no end, as in a file that was cut off: `allow_unended` says that such files are
+        complete. Raises what Auction(..) does.
         """
         paths = [forms] if isinstance(forms, (str, bytes, os.PathLike)) else listed(forms, "forms")
-        read = [content(rules, "rules")]
-        read += [content(path, "form", number) for number, path in enumerate(paths, 1)]
-        read += [] if groups is None else [content(groups, "groups")]
-        unended = [file for file in read if file.is_unended()]
-        if unended and not allow_unended:
-            raise unended[0].refused(
-                "the last line has no end, as in a file that was cut off; say allow_unended=True where it is whole"
-            )
-        texts = [file.data for file in read]
         return cls(
-            rules=texts[0],
-            forms=texts[1 : len(paths) + 1],
-            groups=texts[-1] if groups is not None else None,
+            rules=content(rules, allow_unended, "rules"),
+            forms=[content(path, allow_unended, "form", n) for n, path in enumerate(paths, 1)],
+            groups=None if groups is None else content(groups, allow_unended, "groups"),
             program=program,
             time_limit=time_limit,
         )
@@ -134,32 +113,26 @@ class Auction:
         self,
         solutions: Iterable[Any] = (),
         certificates: Iterable[Any] = (),
-        unique: Optional[records.Text] = None,
+        unique: records.Text | None = None,
         tie: Any = None,
-        prices: Optional[records.Text] = None,
-        cover: Optional[records.Text] = None,
-        weights: Optional[records.Text] = None,
+        prices: records.Text | None = None,
+        cover: records.Text | None = None,
+        weights: records.Text | None = None,
     ) -> bytes:
-        """The input with these parts behind it, as the program reads it: with certificates it is an audit, which `wdp verify`
-        judges wherever it is. Raises WrongWords or Refused where a text would be more than its part.
-
-        >>> from wdp import example
-        >>> Auction.from_text("%rules\\n").input(solutions=["X1_1 1"])
-        b'%rules\\n%solution\\nX1_1 1\\n'
+        """The input followed by these parts, as the program reads it: with certificates it is an audit, which `wdp verify`
+        judges anywhere. Raises WrongWords or Refused if a text would be more than its part.
         """
         parts = [self._given]
-        for number, solution in enumerate(listed(solutions, "solutions"), 1):
-            text = records.solution_text(solution, f"solution {number}")
+        for number, text in enumerate(solution_texts(solutions), 1):
             parts.append(records.part("solution", text, number))
         for number, text in enumerate(listed(certificates, "certificates"), 1):
             parts.append(records.part("certificate", text, number))
-        parts += [] if unique is None else [records.part("unique", unique)]
-        parts += [] if tie is None else [records.part("tie", records.solution_text(tie, "tie"))]
-        priced = (("prices", prices), ("cover", cover), ("weights", weights))
-        parts += [records.part(head, text) for head, text in priced if text is not None]
+        tie = None if tie is None else records.solution_text(tie, "tie")
+        others = dict(unique=unique, tie=tie, prices=prices, cover=cover, weights=weights)
+        parts += [records.part(head, text) for head, text in others.items() if text is not None]
         return b"".join(parts)
 
-    def _answer(self, words: List[str], given: bytes, most: int = answers.MOST_OF_GROUP) -> bytes:
+    def _answer(self, words: list[str], given: bytes, most: int = answers.MOST_OF_GROUP) -> bytes:
         try:
             return answer(self._program, words, given, Limits(most, self._time_limit))
         except Refused as refused:
@@ -167,7 +140,7 @@ class Auction:
             raise
 
     def _place(self, refused: Refused) -> None:
-        """Has the refusal of a form say which bid it means, in terms of what was given."""
+        """Adds to the refusal of a form which bid it is about, as it was given."""
         if refused.part != "form" or not refused.number or refused.number > len(self._forms):
             return
         form = self._forms[refused.number - 1]
@@ -180,160 +153,168 @@ class Auction:
             if fields and fields[0] is not None and fields[0] <= len(form.columns):
                 refused.column = form.columns[fields[0] - 1]
 
-    def _report(self, words: List[str], given: bytes, is_certified: bool) -> Report:
+    def _report(self, command: str, given: bytes, workers: int) -> Report:
         asked = answers.Asked(given)
-        return answers.read_report(
-            self._answer(words, given, asked.most_of_report), asked, is_certified
-        )
+        output = self._answer([command, *workers_of(workers)], given, asked.most_of_report)
+        return answers.read_report(output, asked, command == "verify")
 
     def explain(self, bids: bool = False) -> Explained:
-        """Everything that is wrong with the input: each finding has the refusal, the field and the cause. With `bids`, where
+        """Everything that is wrong with the input: each finding has the refusal, the field and the cause. With `bids`, if
         nothing is wrong, the bids that are in no program, each with the bidder's name and why.
-
-        >>> Auction(rules=[("rules", 1, 1), ("category", "A", 2, 10, 1), ("bidder", "Alpha", 9, 2)],
-        ...         forms=[("Alpha", [(5, 1)])]).explain().findings[0].words
-        "'5' is below the reserve of 10"
         """
         return explained(self._program, self._given, bids)
 
-    def compile(self, workers: int = 1) -> List[Program]:
-        """The program of each group, in the order of the groups, written by so many workers, 1 to 64.
+    def compile(self, workers: int = 1) -> list[Program]:
+        """The program of each group, in the order of the groups, written by 1 to 64 `workers`.
 
-        Raises Refused where the rules, a form or a group has a fault, and WrongWords for other numbers of workers.
-
-        >>> from wdp import example
-        >>> [program.names for program in Auction.from_text(example.INPUT).compile()]
-        [(), ('Alpha',), ('Beta',), ('Beta', 'Gamma')]
+        Raises Refused if the rules, a form or a group has a fault, and WrongWords for other numbers of workers.
         """
-        asked = answers.Asked(self._given)
-        words = ["compile", *workers_of(workers)]
-        return answers.read_programs(
-            self._answer(words, self._given, asked.most_of_programs), asked
-        )
+        asked, words = answers.Asked(self._given), ["compile", *workers_of(workers)]
+        output = self._answer(words, self._given, asked.most_of_programs)
+        return answers.read_programs(output, asked)
 
     def solve(
-        self, solver: Optional[str] = None, time_limit: Optional[int] = None, workers: int = 1
+        self, solver: str | None = None, time_limit: int | None = None, workers: int = 1
     ) -> Solutions:
-        """A point of each program: of `cbc`, of `highs` as scipy has it, or of a command as docs/SOLVERS.md tells; where none is
-        named, of cbc if it is there. That it is the best one is the solver's word. `time_limit` is in whole seconds, for each
-        program.
+        """A point of each program: from `cbc`, from `highs` as scipy has it, or from a command as docs/OFFICE.md describes;
+        by default from cbc if it is installed. That it is the best one is the solver's word. `time_limit` is in whole
+        seconds, for each program.
 
-        Raises NotFound where the solver isn't there, NotSolved where it gives no point, and WrongWords where it isn't known.
+        Raises NotFound if the solver isn't there, NotSolved if it gives no point, and WrongWords if it isn't known.
         """
-        name = solve.usual() if solver is None else solver
-        if not isinstance(name, str) or not name.isprintable():
+        name, seconds = self._solver(solver), whole_seconds(time_limit)
+        points = (point_of(program, name, seconds) for program in self.compile(workers))
+        return Solutions(tuple(points), name)
+
+    def _solver(self, solver: str | None) -> str:
+        is_word = isinstance(solver, str) and solver and solver.isprintable()
+        if solver is not None and not is_word:
             raise WrongWords("a solver is cbc, highs, or a command with {mps} in it, on one line")
-        solve.check_solver(name)
-        seconds = None if time_limit is None else math.ceil(seconds_of(time_limit))
-        texts = [point_of(program, name, seconds) for program in self.compile(workers)]
-        return Solutions(tuple(texts), name)
+        return solve.checked_solver(solver)
 
     def certify(
         self,
-        solutions: Optional[Iterable[Any]] = None,
+        solutions: Iterable[Any] | None = None,
         unique: bool = False,
-        time_limit: Optional[float] = None,
+        time_limit: float | None = None,
     ) -> Certified:
-        """Certifies each group's solution, and verifies that: a solution that isn't optimal gives way to one that is. Without
-        solutions the search begins from nothing, which may take long. With `unique` it is proved of group 1 too that nobody else
-        can win with its total, or shown who can. `time_limit` is in seconds, for each search.
+        """Certifies each group's solution, and verifies that: a better solution replaces one that isn't optimal. Without
+        solutions the search begins from nothing, which may take long. With `unique` it is also proved that nobody else can
+        win with group 1's total, or shown who can. `time_limit` is in seconds, for each search.
 
-        Raises Refused where `report` does or a limit is reached, and Missing without numpy, scipy and swiglpk.
+        Raises Refused if `report` does or a limit is reached, and Missing without numpy, scipy and swiglpk.
         """
-        programs = self.compile()
-        texts = [b""] * len(programs) if solutions is None else self._texts(solutions, programs)
-        seconds = None if time_limit is None else seconds_of(time_limit)
-        found = []
-        for program, text in zip(programs, texts):
-            mps = program.text.encode()
-            found.append(certify.certified(mps, text if solutions else solve.nothing(mps), seconds))
-        only = (
-            certify.only(programs[0].text.encode(), found[0].solution, seconds)
-            if unique and found
-            else certify.Only()
-        )
-        certificates = tuple(each.certificate.decode() for each in found)
+        programs = [program.text.encode() for program in self.compile()]
+        seconds = seconds_of(time_limit)
+        if solutions is None:
+            begun = [solve.nothing(program) for program in programs]
+        else:
+            begun = [records.encoded(text, "solution") for text in solution_texts(solutions)]
+        if len(begun) != len(programs):
+            raise WrongWords(f"solutions: {len(begun)} are given, for {len(programs)} groups")
+        found = [certify.certified(mps, text, seconds) for mps, text in zip(programs, begun)]
+        claims: dict[str, str] = {}
+        if unique and found:
+            only = certify.only(programs[0], found[0].solution, seconds)
+            claims[only.claim] = only.text.decode()
         made = Solutions(tuple(each.solution.decode() for each in found), "certify")
-        claim = None if only.certificate is None else only.certificate.decode()
-        tie = None if only.tied is None else only.tied.decode()
-        audit = self.input(made, certificates, claim, tie)
-        report = self._report(["verify"], audit, True)
-        return Certified(report, made, certificates, claim, tie, audit)
+        certificates = [each.certificate for each in found]
+        return self._certified(made, certificates, (claims.get("unique"), claims.get("tie")))
 
-    def _texts(self, solutions: Iterable[Any], programs: Sequence[Program]) -> List[bytes]:
-        given = listed(solutions, "solutions")
-        if len(given) != len(programs):
-            raise WrongWords(f"solutions: {len(given)} are given, for {len(programs)} groups")
-        return [
-            records.encoded(records.solution_text(solution, f"solution {number}"), "solution")
-            for number, solution in enumerate(given, 1)
-        ]
+    def _certified(
+        self, made: Solutions, certificates: list[bytes], claims: Claims, parts: bytes = b""
+    ) -> Certified:
+        """What `wdp verify` says of solutions with what shows it."""
+        shown = tuple(text.decode() for text in certificates)
+        audit = parts + self.input(made, shown, *claims)
+        return Certified(self._report("verify", audit, 1), made, shown, *claims, audit)
+
+    def prices(
+        self,
+        certified: Certified,
+        solver: str | None = None,
+        time_limit: int | None = None,
+    ) -> Certified:
+        """What is certified, with prices: whole ones of the least sum that cover every group of bidders, and of these the nearest
+        to what each winner costs alone. Its report has them, and after the groups of the auction those that show them: each
+        winner alone, and what binds the sum. `time_limit` is in whole seconds, for each solver's run and each certificate.
+
+        Raises what `solve` and `certify` do.
+        """
+        name, seconds = self._solver(solver), whole_seconds(time_limit)
+        texts = list(certified.solutions)
+        certificates = [text.encode() for text in certified.certificates]
+        programs = self.compile()
+        listed = [joined(program.names) for program in programs]
+        more = [win.bidder for win in certified.report[0].winners if win.bidder not in listed]
+        grown, parts = self, b""
+        while more or not parts:
+            listed += more
+            text = pricing.with_groups(self._given, listed[len(programs) :])
+            grown = Auction.from_text(text, program=self._program, time_limit=self._time_limit)
+            for program in grown.compile()[len(texts) :]:
+                begin = point_of(program, name, seconds).encode()
+                found = certify.certified(program.text.encode(), begin, seconds)
+                texts.append(found.solution.decode())
+                certificates.append(found.certificate)
+            more = []
+            if not parts:
+                award = pricing.Award(self._given, programs[0].text.encode(), texts[0].encode())
+                for solution, names in zip(texts, listed):
+                    award.learn(solution.encode(), names)
+                more, parts = pricing.parts(award, listed, pricing.found(award, name, seconds))
+        made = Solutions(tuple(texts), name)
+        return grown._certified(made, certificates, (certified.unique, certified.tie), parts)
 
     def report(self, solutions: Iterable[Any], workers: int = 1) -> Report:
-        """Winners, total and opportunity cost of each group in pounds, of a solution for each: texts, or dicts of columns and
-        values. The solutions are tested exactly; whether they are the best ones isn't.
+        """Winners, total and opportunity cost of each group in pounds, from a solution for each: texts, or dicts of columns
+        and values. That the solutions are feasible is tested exactly; that they are the best ones isn't.
 
-        Raises Refused where one isn't a solution of its group's program, or there isn't one for each group.
+        Raises Refused if one isn't a solution of its group's program, or there isn't one for each group.
         """
-        return self._report(["report", *workers_of(workers)], self.input(solutions), False)
+        return self._report("report", self.input(solutions), workers)
 
     def verify(
         self,
         solutions: Iterable[Any],
         certificates: Iterable[records.Text],
-        unique: Optional[records.Text] = None,
+        unique: records.Text | None = None,
         tie: Any = None,
         workers: int = 1,
         *,
-        prices: Optional[records.Text] = None,
-        cover: Optional[records.Text] = None,
-        weights: Optional[records.Text] = None,
+        prices: records.Text | None = None,
+        cover: records.Text | None = None,
+        weights: records.Text | None = None,
     ) -> Report:
-        """What `report` tells, where a certificate for each group shows that nobody wins more. With `unique`, a certificate
-        that the solution of group 1 is the only optimal one, or `tie`, another solution of so great a total, the report's
-        `uniqueness` tells what comes of it. With `prices`, a line `NAME PRICE` for each winner of group 1, and `cover`, a
+        """The same as `report`, proved: a certificate for each group shows that no total is greater. With `unique`, a
+        certificate that the solution of group 1 is the only optimal one, or `tie`, another solution with the same total, the
+        report's `uniqueness` is what that shows. With `prices`, a line `NAME PRICE` for each winner of group 1, and `cover`, a
         certificate that they cover every group, perhaps with `weights` that show their sum to be the least one, the report has
-        `prices`; docs/FORMATS.md has these texts.
+        `prices`; docs/REFERENCE.md has these texts.
 
-        Raises Refused where `report` does, where a certificate doesn't show what it is to show, and where a claim doesn't hold.
-
-        >>> from wdp import example
-        >>> auction = Auction.from_text(example.INPUT)
-        >>> auction.verify(example.SOLUTIONS, ["bound 1 B1 99"] * 4)
-        Traceback (most recent call last):
-        wdp.Refused: wdp: certificate 1: 9 NotShown at line 1
+        Raises Refused if `report` does, if a certificate doesn't show its bound, and if a claim doesn't hold.
         """
         given = self.input(solutions, certificates, unique, tie, prices, cover, weights)
-        return self._report(["verify", *workers_of(workers)], given, True)
+        return self._report("verify", given, workers)
 
     def map(self, solution: Any, group: int = 1) -> Allocation:
-        """Winners and total in pounds of a solution of one group, by its number from 1.
+        """Winners and total in pounds of a solution of one group, by the group's number from 1.
 
-        Raises Refused where it isn't one or there is no such group, and WrongWords for numbers that no group has.
-
-        >>> from wdp import example
-        >>> Auction.from_text(example.INPUT).map({"X1_2": 1}, group=3).total
-        50
+        Raises Refused if it isn't a solution or there is no such group, and WrongWords for numbers that no group has.
         """
         words = ["map", f"--group={records.whole(group, 'group')}"]
-        return answers.read_map(
-            self._answer(words, self.input([solution])), answers.Asked(self._given)
-        )
+        output = self._answer(words, self.input([solution]))
+        return answers.read_map(output, answers.Asked(self._given))
 
-    def check(self, mps_text: Union[records.Text, Program]) -> Counts:
-        """How many rows, columns and entries a 0-1 program in MPS has, from wherever it is. Raises Refused where the text isn't
-        of the profile that docs/FORMATS.md describes.
-
-        >>> from wdp import example
-        >>> auction = Auction.from_text(example.INPUT)
-        >>> auction.check(auction.compile()[0])
-        Counts(rows=5, columns=4, entries=9)
+    def check(self, mps_text: records.Text | Program) -> Counts:
+        """How many rows, columns and entries a 0-1 program in MPS has, whoever wrote it. Raises Refused if the text isn't of
+        the profile that docs/REFERENCE.md describes.
         """
         text = mps_text.text if isinstance(mps_text, Program) else mps_text
         return answers.read_counts(self._answer(["check"], records.encoded(text, "program")))
 
 
-def point_of(program: Program, solver: str, seconds: Optional[int]) -> str:
+def point_of(program: Program, solver: str, seconds: int | None) -> str:
     """A solver's point of a group's program; a NotSolved says of which group."""
     try:
         return solve.point_of(program.text.encode(), solver, seconds).decode()
@@ -342,71 +323,53 @@ def point_of(program: Program, solver: str, seconds: Optional[int]) -> str:
         raise NotSolved(text, failed.status, program.group) from None
 
 
-def listed(given: Iterable[Any], what: str) -> List[Any]:
-    """A list of texts; WrongWords where it is one text or none at all."""
-    if records.is_text(given) or isinstance(given, (Mapping, set, frozenset)):
-        raise WrongWords(f"{what}: a list is asked for")
-    if not isinstance(given, Iterable):
-        raise WrongWords(f"{what}: a list is asked for")
-    return list(given)
-
-
-def workers_of(workers: int) -> List[str]:
-    """The words for so many workers."""
+def workers_of(workers: int) -> list[str]:
+    """The words for that many workers."""
     number = records.whole(workers, "workers")
     return [] if number == 1 else [f"--workers={number}"]
 
 
-def seconds_of(time_limit: float) -> float:
-    """A time limit in seconds; WrongWords where it is no number above 0."""
-    try:
-        if isinstance(time_limit, (str, bytes, bool)):
-            raise TypeError
-        seconds = float(time_limit)
-        if not 0 < seconds < 1e8:
-            raise ValueError
-    except (TypeError, ValueError, OverflowError):
+def solution_texts(solutions: Iterable[Any]) -> list[records.Text]:
+    """Solutions as texts."""
+    given = enumerate(listed(solutions, "solutions"), 1)
+    return [records.solution_text(each, f"solution {number}") for number, each in given]
+
+
+def listed(given: Iterable[Any], what: str) -> list[Any]:
+    """A list of texts; WrongWords if it is one text or no list."""
+    is_one = records.is_text(given) or isinstance(given, (Mapping, set, frozenset))
+    if is_one or not isinstance(given, Iterable):
+        raise WrongWords(f"{what}: a list is asked for")
+    return list(given)
+
+
+def whole_seconds(time_limit: float | None) -> int | None:
+    """A time limit that a solver takes, rounded up."""
+    seconds = seconds_of(time_limit)
+    return None if seconds is None else math.ceil(seconds)
+
+
+def seconds_of(time_limit: float | None) -> float | None:
+    """A time limit in seconds, or None; WrongWords if it is no number above 0."""
+    if time_limit is None:
+        return None
+    is_number = isinstance(time_limit, Real) and not isinstance(time_limit, bool)
+    if not is_number or not 0 < time_limit < 1e8:
         shown = records.shown(time_limit)
-        raise WrongWords(f"time_limit: {shown} is no number of seconds above 0") from None
-    return seconds
+        raise WrongWords(f"time_limit: {shown} is no number of seconds above 0")
+    return float(time_limit)
 
 
-@dataclass(frozen=True)
-class File:
-    """A file that becomes a part of the input: the part's head, its number where there are several, the path, and the bytes."""
-
-    head: str
-    number: Optional[int]
-    path: Path
-    data: bytes = b""
-
-    def refused(self, why: str, is_missing: bool = False) -> Refused:
-        """The fault of the file."""
-        where = self.head if self.number is None else f"{self.head} {self.number}"
-        kind = NotFound if is_missing else Refused
-        return kind(f"{where}: {escaped(os.fsdecode(self.path))}: {why}", self.head, self.number)
-
-    def is_unended(self) -> bool:
-        """Whether the last line of the file has no end."""
-        return not self.data.endswith((b"\n", b"\r")) and self.data != b""
-
-
-def content(path: Path, head: str, number: Optional[int] = None) -> File:
-    """A file with its bytes; Refused where there is none, it is no plain file, or it has more than the program reads."""
+def content(path: Path, allow_unended: bool, head: str, number: int | None = None) -> bytes:
+    """The bytes of a file that becomes a part of the input, with the part's number if there are several."""
+    name = head if number is None else f"{head} {number}"
     if not isinstance(path, (str, bytes, os.PathLike)):
-        raise WrongWords(f"{head}: a path is asked for, and this is of type {type(path).__name__}")
-    file = File(head, number, path)
+        raise WrongWords(f"{name}: a path is asked for, and this is of type {type(path).__name__}")
     try:
-        if not stat.S_ISREG(os.stat(path).st_mode):
-            raise file.refused("it isn't a file")
-        # (what has taken its place since may be a pipe that nobody writes to, which this doesn't wait for)
-        with open(os.open(path, os.O_RDONLY | os.O_NONBLOCK), "rb") as opened:
-            data = opened.read(MOST_OF_A_FILE + 1)
-    except (OSError, ValueError) as error:
-        if isinstance(error, Refused):
-            raise
-        missing = isinstance(error, FileNotFoundError)
-        raise file.refused(getattr(error, "strerror", None) or str(error), missing) from None
-    if len(data) > MOST_OF_A_FILE:
-        raise file.refused(f"more than {MOST_OF_A_FILE} bytes")
-    return File(head, number, path, data)
+        data = files.read(os.fsdecode(path), MOST_OF_A_FILE, regular=True)
+        if data and not data.endswith((b"\n", b"\r")) and not allow_unended:
+            raise files.Unreadable(os.fsdecode(path), UNENDED)
+        return data
+    except files.Unreadable as error:
+        kind = NotFound if isinstance(error.__cause__, FileNotFoundError) else Refused
+        raise kind(f"{name}: {error.text}", head, number) from None

@@ -1,49 +1,46 @@
 """The tools of an auction's office as one command: from sealed bids to a certified result that can be published."""
-from __future__ import annotations
-
 import argparse
 import difflib
 import importlib
 import signal
 import sys
-from typing import List, NoReturn, Optional
+from functools import partial
+from typing import NoReturn
 
 from wdp import files
-from wdp.texts.refusals import Refused, escaped
+from wdp.steps import INTERRUPTED, reported
+from wdp.texts.refusals import escaped
 
 NAME = "wdp-office"
-# each command with its module below this package, and what it is for
+# each command with its module in this package, and what it is for
 COMMANDS = {
     "gather": ("office.gather", "joins an auction's files into one input of wdp"),
     "explain": (
         "office.explain",
-        "prints everything that is wrong with an input, with file, line and column",
+        "prints all that is wrong with an input, by file, line and column",
     ),
     "form": ("office.form", "writes a blank form for each bidder"),
     "solve": ("solve", "solves a program by a solver"),
-    "certify": (
-        "certify.command",
-        "certifies that a solution is optimal, or the only optimal one",
-    ),
+    "certify": ("certify.command", "certifies a solution as optimal, or as the only optimal one"),
     "auction": ("auction", "goes from the input to winners, opportunity costs and a page"),
+    "prices": ("prices", "finds what the winners of an award pay"),
     "results": ("publish.command", "makes tables and a page of a report"),
 }
-MOST_OF_A_COMMAND = 40  # of a word that is none, so many signs are looked at
+LONGEST = 40  # signs of an unknown command that are looked at
 WRONG_WORDS = 2
 
 
 class Parser(argparse.ArgumentParser):
-    """A parser whose help has its text as it stands, and whose errors are one line."""
+    """A parser whose help has its text unchanged, and whose errors are one line."""
 
     def __init__(self, **how: object) -> None:
-        super().__init__(
-            formatter_class=argparse.RawDescriptionHelpFormatter, allow_abbrev=False, **how  # type: ignore[arg-type]
-        )
+        raw = argparse.RawDescriptionHelpFormatter
+        super().__init__(formatter_class=raw, allow_abbrev=False, **how)  # type: ignore[arg-type]
 
     def error(self, message: str) -> NoReturn:
         self.exit(WRONG_WORDS, escaped(f"{self.prog}: error: {message}") + "\n")
 
-    def _print_message(self, message: Optional[str], file: object = None) -> None:
+    def _print_message(self, message: str | None, file: object = None) -> None:
         """Help that can't be printed isn't printed with status 0."""
         if file is sys.stdout:
             files.put((message or "").encode())
@@ -51,8 +48,8 @@ class Parser(argparse.ArgumentParser):
             files.tell(message or "")
 
 
-def tree(only: Optional[str] = None) -> Parser:
-    """The parser of all commands. The words of each are known, or those of one alone, whose module is then the only one read."""
+def tree(only: str | None = None) -> Parser:
+    """The parser of all commands, with the words of each, or of one alone, whose module is then the only one read."""
     from wdp import __version__
 
     parser = Parser(prog=NAME, description=__doc__)
@@ -73,23 +70,18 @@ def tree(only: Optional[str] = None) -> Parser:
 
 def nearest(word: str) -> str:
     """Why a word is no command."""
-    near = difflib.get_close_matches(word[:MOST_OF_A_COMMAND].lower(), COMMANDS, 1, 0)[0]
-    shown = word if len(word) <= MOST_OF_A_COMMAND else word[:MOST_OF_A_COMMAND] + ".."
+    near = difflib.get_close_matches(word[:LONGEST].lower(), COMMANDS, 1, 0)[0]
+    shown = word if len(word) <= LONGEST else word[:LONGEST] + ".."
     return f"there is no command '{shown}'; the nearest one is {near}"
 
 
-def say(tool: str, text: str) -> None:
-    """A line on standard error."""
-    files.tell(escaped(f"{tool}: {text}") + "\n")
-
-
-def parsed(words: List[str]) -> argparse.Namespace:
-    """What the words ask for; a SystemExit where they are wrong, or help was asked for."""
+def parsed(words: list[str]) -> argparse.Namespace:
+    """What the words ask for; a SystemExit if they are wrong, or ask for help."""
     if words[:1] == ["help"]:
         words = [*words[1:2], "--help"]
     first = words[0] if words else ""
     if words and not first.startswith("-") and first not in COMMANDS:
-        say(NAME, nearest(first))
+        files.say(NAME, nearest(first))
         raise SystemExit(WRONG_WORDS)
     parser = tree(first if first in COMMANDS else "")
     if not words:
@@ -102,24 +94,19 @@ def parsed(words: List[str]) -> argparse.Namespace:
     return given
 
 
-def main(words: Optional[List[str]] = None) -> int:
+def main(words: list[str] | None = None) -> int:
     """Does what the words ask for, and gives the status; whatever goes wrong is one line on standard error."""
-    words = sys.argv[1:] if words is None else words
-    tool = words[0] if words and words[0] in COMMANDS else NAME
-    try:
-        given = parsed(words)
+    asked = sys.argv[1:] if words is None else words
+    say = partial(files.say, asked[0] if asked and asked[0] in COMMANDS else NAME)
+
+    def called() -> int:
+        given = parsed(asked)
         if signal.getsignal(signal.SIGINT) is signal.SIG_DFL:
             signal.signal(signal.SIGINT, signal.default_int_handler)
         return int(given.run(given) or 0)
-    except Refused as refused:
-        say(tool, refused.text)
-        return refused.status
-    except MemoryError:
-        say(tool, "out of memory")
-    except OSError as error:
-        named = [str(error.filename)] if error.filename else []
-        say(tool, ": ".join([*named, error.strerror or str(error)]))
+
+    try:
+        return reported(say, "", called)
     except KeyboardInterrupt:
-        say(tool, "interrupted")
-        return 130
-    return 1
+        say("interrupted")
+        return INTERRUPTED

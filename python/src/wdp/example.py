@@ -3,7 +3,6 @@
 `INPUT` is its input, `SOLUTIONS` has a solution for each group, `CERTIFICATES` one that shows each of them optimal, and
 `UNIQUE` one that shows the winners of group 1 to be the only ones.
 """
-from typing import Tuple
 
 INPUT = """\
 %rules
@@ -32,14 +31,14 @@ Beta
 Beta+Gamma
 """
 
-SOLUTIONS: Tuple[str, ...] = (
+SOLUTIONS: tuple[str, ...] = (
     "X1_1 1\nX2_1 1\nX3_1 1\n",
     "X2_1 1\nX3_1 1\n",
     "X1_2 1\n",
     "X1_2 1\n",
 )
 
-CERTIFICATES: Tuple[str, ...] = (
+CERTIFICATES: tuple[str, ...] = (
     "bound 1 B1 10 C1 20 C2 12\n",
     "bound 1 B2 20 B3 12\n",
     "bound 1 B1 38 C2 12\n",

@@ -1,15 +1,15 @@
-"""Files: read no further than a limit, and written whole or not at all."""
-from __future__ import annotations
-
+"""Files: read up to a limit, and written completely or not at all."""
 import contextlib
 import os
 import secrets
 import shutil
 import stat
 import sys
-from typing import BinaryIO, Mapping, Optional
+from collections.abc import Iterable, Iterator, Mapping
+from pathlib import Path
+from typing import BinaryIO
 
-from wdp.texts.refusals import Refused
+from wdp.texts.refusals import Refused, escaped
 
 KINDS = {
     stat.S_IFDIR: "a folder",
@@ -18,8 +18,7 @@ KINDS = {
     stat.S_IFCHR: "a device",
     stat.S_IFBLK: "a device",
 }
-# what is being written, until it is whole
-WRITING = ".writing-"
+WRITING = ".writing-"  # what is being written, until it is complete
 
 
 class Unreadable(Refused):
@@ -34,13 +33,24 @@ def of_system(path: str, error: Exception) -> Unreadable:
     return Unreadable(path, getattr(error, "strerror", None) or str(error))
 
 
-def read(path: str, most: int, regular: bool = False) -> bytes:
-    """The bytes of a file, of which there may be so many; `-` is standard input.
-
-    Pipes are read too, but where nothing but a regular file will do. Raises Unreadable.
-    """
+@contextlib.contextmanager
+def at(path: str) -> Iterator[None]:
+    """What the system refuses within is Unreadable, with the path."""
     try:
-        if path == "-":
+        yield
+    except Refused:
+        raise
+    except (OSError, ValueError) as error:
+        raise of_system(path, error) from error
+
+
+def read(path: str, most: int, regular: bool = False) -> bytes:
+    """The bytes of a file, at most that many; `-` is standard input.
+
+    With `regular` nothing but a regular file is read, else pipes are too. Raises Unreadable.
+    """
+    with at(path):
+        if path == "-" and not regular:
             if sys.stdin is None:
                 raise Unreadable(path, "standard input is closed")
             return up_to(sys.stdin.buffer, path, most)
@@ -52,10 +62,6 @@ def read(path: str, most: int, regular: bool = False) -> bytes:
             if regular:
                 check_kind(path, os.fstat(file.fileno()))
             return up_to(file, path, most)
-    except Unreadable:
-        raise
-    except (OSError, ValueError) as error:
-        raise of_system(path, error) from error
 
 
 def check_kind(path: str, status: os.stat_result) -> None:
@@ -65,7 +71,7 @@ def check_kind(path: str, status: os.stat_result) -> None:
 
 
 def up_to(file: BinaryIO, path: str, most: int) -> bytes:
-    """What is left of a file. One whose size says that it has too much isn't read."""
+    """The rest of a file. One that has too much by its size isn't read."""
     before = os.fstat(file.fileno())
     data = file.read(most + 1) if before.st_size <= most else None
     if data is None or len(data) > most:
@@ -77,72 +83,51 @@ def up_to(file: BinaryIO, path: str, most: int) -> bytes:
 
 
 def write_all(texts: Mapping[str, bytes]) -> None:
-    """Writes files, all of them or none. None takes the place of what isn't a file, as a device."""
-    with contextlib.ExitStack() as undone:
-        written = [(path, beside(path, text, undone)) for path, text in texts.items()]
-        for path, temporary in written:
-            try:
+    """Writes files, all of them or none. None replaces what isn't a file, as a device."""
+    written: dict[str, str] = {}
+    try:
+        for path, text in texts.items():
+            with at(path):
+                if os.path.exists(path) and not os.path.isfile(path):
+                    raise Unreadable(path, "it isn't a file")
+                written[path] = hidden_beside(path)
+                Path(written[path]).write_bytes(text)
+        for path, temporary in written.items():
+            with at(path):
                 os.replace(temporary, os.path.realpath(path))
-            except OSError as error:
-                raise of_system(path, error) from error
-        undone.pop_all()
+    finally:
+        for temporary in written.values():
+            with contextlib.suppress(OSError):
+                os.unlink(temporary)
 
 
 def hidden_beside(path: str) -> str:
-    """A name that nobody has yet, beside the place that a path leads to."""
+    """A name that nobody has yet, in the folder of what a path leads to."""
     return os.path.join(os.path.dirname(os.path.realpath(path)), WRITING + secrets.token_hex(8))
 
 
-def beside(path: str, text: bytes, undone: contextlib.ExitStack) -> str:
-    """Writes a file beside its place, and leaves word of how it is taken away."""
-    try:
-        if os.path.exists(path) and not os.path.isfile(path):
-            raise Unreadable(path, "it isn't a file")
-        temporary = hidden_beside(path)
-        undone.callback(remove, temporary)
-        with open(temporary, "xb") as file:
-            file.write(text)
-        return temporary
-    except OSError as error:
-        raise of_system(path, error) from error
-
-
-def remove(path: str) -> None:
-    with contextlib.suppress(FileNotFoundError):
-        os.unlink(path)
-
-
 def write_folder(
-    folder: str, texts: Mapping[str, bytes], ours: Optional[Mapping[str, object]] = None
+    folder: str, texts: Mapping[str, bytes], ours: Iterable[str] | None = None
 ) -> None:
-    """Writes a folder with these files, all of them or none, in the place of one that has no others.
-
-    `ours` has the names that such a folder may have.
-    """
-    known = set(ours or texts)
-    try:
-        others = sorted(set(os.listdir(folder)) - known) if os.path.lexists(folder) else []
+    """Writes a folder with these files, all of them or none, in the place of one that has no others than `ours`, by default
+    these."""
+    with at(folder):
+        there = os.listdir(folder) if os.path.lexists(folder) else []
+        others = sorted(set(there).difference(ours or texts))
         if others:
             raise Unreadable(folder, f"it has other files, as {others[0]}; name a new folder")
-        replace_folder(folder, texts)
-    except OSError as error:
-        raise of_system(folder, error) from error
-
-
-def replace_folder(folder: str, texts: Mapping[str, bytes]) -> None:
-    place, made, old = os.path.realpath(folder), hidden_beside(folder), hidden_beside(folder)
-    os.makedirs(os.path.dirname(place), exist_ok=True)
-    os.mkdir(made)
-    try:
-        for name, text in texts.items():
-            with open(os.path.join(made, name), "xb") as file:
-                file.write(text)
-        if os.path.lexists(place):
-            os.rename(place, old)
-        os.rename(made, place)
-    finally:
-        shutil.rmtree(made, ignore_errors=True)
-        shutil.rmtree(old, ignore_errors=True)
+        place, made, old = os.path.realpath(folder), hidden_beside(folder), hidden_beside(folder)
+        os.makedirs(os.path.dirname(place), exist_ok=True)
+        os.mkdir(made)
+        try:
+            for name, text in texts.items():
+                Path(made, name).write_bytes(text)
+            if os.path.lexists(place):
+                os.rename(place, old)
+            os.rename(made, place)
+        finally:
+            shutil.rmtree(made, ignore_errors=True)
+            shutil.rmtree(old, ignore_errors=True)
 
 
 def put(data: bytes) -> None:
@@ -161,8 +146,13 @@ def put(data: bytes) -> None:
 
 
 def tell(text: str) -> None:
-    """Puts a text on standard error. Where nobody reads it, the work goes on."""
-    # Python prints to standard output where standard error is closed
+    """Prints a text on standard error. If nobody reads it, the work goes on."""
+    # Python prints to standard output if standard error is closed
     if sys.stderr is not None:
         with contextlib.suppress(OSError):
             print(text, end="", file=sys.stderr, flush=True)
+
+
+def say(tool: str, text: str) -> None:
+    """Prints what a tool says, as one line on standard error."""
+    tell(escaped(f"{tool}: {text}") + "\n")

@@ -7,7 +7,7 @@ import hashlib
 import os
 import shutil
 import time
-from collections.abc import Iterator, Mapping
+from collections.abc import Iterator
 from pathlib import Path
 
 from wdp import files
@@ -27,19 +27,18 @@ class Folder:
     def path(self, name: str) -> Path:
         return self.where / name
 
+    def sum_path(self, name: str) -> Path:
+        return self.path(f"sums/{name}.sha256")
+
     def has(self, name: str) -> bool:
         """Whether a step has left this."""
         return os.path.lexists(self.path(name)) and os.path.lexists(self.sum_path(name))
 
-    def sum_path(self, name: str) -> Path:
-        return self.path(f"sums/{name}.sha256")
-
     def read(self, name: str) -> bytes:
-        """The bytes that a step left; Refused where they are others, or it isn't a file."""
+        """The bytes that a step left; Refused if they are others, or it isn't a file."""
         path = str(self.path(name))
         data = files.read(path, MOST, regular=True)
-        told = files.read(str(self.sum_path(name)), 10_000, regular=True)
-        if told != sum_line(name, data):
+        if files.read(str(self.sum_path(name)), 10_000, regular=True) != sum_line(name, data):
             again = "take another folder" if name == INPUT else "delete it to have it made again"
             raise Refused(f"{path} isn't what was left there: put that back, or {again}")
         return data
@@ -47,18 +46,11 @@ class Folder:
     def leave(self, name: str, data: bytes) -> None:
         """Writes what a step leaves. Its sum goes first: what was ended between them is done again."""
         for path, text in ((self.sum_path(name), sum_line(name, data)), (self.path(name), data)):
-            try:
+            with files.at(str(path.parent)):
                 path.parent.mkdir(parents=True, exist_ok=True)
-            except OSError as error:
-                raise Refused(f"{path.parent}: {error.strerror}") from None
             files.write_all({str(path): text})
 
-    def remove(self, *names: str) -> None:
-        """Takes away what an earlier run left."""
-        for name in names:
-            self.path(name).unlink(missing_ok=True)
-
-    def take_input(self, data: "bytes | None") -> None:
+    def take_input(self, data: bytes | None) -> None:
         """Takes an input, or the `input.txt` that is there. A folder that belongs to another one is refused."""
         path = self.path(INPUT)
         if data is None or path.exists():
@@ -66,14 +58,13 @@ class Folder:
             if data is not None and data != there:
                 raise Refused(f"{path} is another input; take another folder")
             data = there
-        if self.sum_path(INPUT).exists():
-            self.read(INPUT) if path.exists() else self.leave(INPUT, data)
-        elif any(self.path("sums").rglob("*.sha256")):
-            raise Refused(
-                f"{self.sum_path(INPUT)} isn't there, which says of which input {self.where} is"
-            )
-        if not self.has(INPUT):
-            self.leave(INPUT, data)
+        if self.has(INPUT):
+            self.read(INPUT)
+            return
+        if not self.sum_path(INPUT).exists() and any(self.path("sums").rglob("*.sha256")):
+            why = f"isn't there, which says of which input {self.where} is"
+            raise Refused(f"{self.sum_path(INPUT)} {why}")
+        self.leave(INPUT, data)
 
     @contextlib.contextmanager
     def locked(self, alone: bool) -> Iterator[None]:
@@ -92,29 +83,21 @@ class Folder:
                     time.sleep(0.05)
             yield
 
-    def tidy(self) -> None:
-        """Takes away what a run that was killed didn't finish."""
-        shutil.rmtree(self.path(".running"), ignore_errors=True)
-        for path in self.where.rglob(files.WRITING + "*"):
-            shutil.rmtree(path) if path.is_dir() else path.unlink()
-
     @contextlib.contextmanager
     def scratch(self) -> Iterator[None]:
-        """What is temporary here goes into the folder."""
+        """Takes away what a run that was killed didn't finish. What is temporary then goes into the folder."""
         where = self.path(".running")
+        shutil.rmtree(where, ignore_errors=True)
+        for path in self.where.rglob(files.WRITING + "*"):
+            shutil.rmtree(path) if path.is_dir() else path.unlink()
         where.mkdir(exist_ok=True)
         os.environ["TMPDIR"] = str(where)
-        with contextlib.ExitStack() as stack:
-            stack.callback(shutil.rmtree, where, ignore_errors=True)
+        try:
             yield
+        finally:
+            shutil.rmtree(where, ignore_errors=True)
 
 
 def sum_line(name: str, data: bytes) -> bytes:
     """A sum as sha256sum prints it."""
     return f"{hashlib.sha256(data).hexdigest()}  {name}\n".encode()
-
-
-def numbers_in(text: Mapping[int, str]) -> str:
-    """Groups by their numbers, as a message tells them."""
-    shown = [f"{number} ({names})" for number, names in sorted(text.items())]
-    return ", ".join(shown[:20]) + (f" and {len(shown) - 20} more" if len(shown) > 20 else "")

@@ -1,8 +1,7 @@
-"""Data frames, only where pandas is there: it is imported when a frame is asked for, and never to look at what is given."""
-from __future__ import annotations
-
+"""Data frames, only if pandas is there: it is imported when a frame is asked for, and never to look at what is given."""
 import sys
-from typing import TYPE_CHECKING, Any, Dict, List, Mapping, Sequence
+from collections.abc import Mapping, Sequence
+from typing import Any, TYPE_CHECKING
 
 from wdp.texts.refusals import Missing, WrongWords
 
@@ -16,8 +15,8 @@ def is_frame(given: object) -> bool:
     return isinstance(kind, type) and isinstance(given, kind)
 
 
-def rows_of(frame: Any, what: str) -> List[Dict[str, Any]]:
-    """The rows of a data frame, by the names of its columns; WrongWords where a name stands twice."""
+def rows_of(frame: Any, what: str) -> list[dict[str, Any]]:
+    """The rows of a data frame, by the names of its columns; WrongWords if a name is there twice."""
     names = [str(name) for name in frame.columns]
     if len(set(names)) < len(names):
         raise WrongWords("%s: two columns of the data frame have the same name" % what)
@@ -27,9 +26,11 @@ def rows_of(frame: Any, what: str) -> List[Dict[str, Any]]:
 
 
 def frame_of(columns: Mapping[str, Sequence[Any]]) -> "pandas.DataFrame":
-    """A data frame of these columns; Missing where pandas isn't there."""
+    """A data frame of these columns; Missing if pandas isn't there."""
     try:
         import pandas
     except ImportError:
-        raise Missing("to_frame needs pandas, which isn't there") from None
+        raise Missing(
+            "to_frame needs pandas, which isn't there: apt install python3-pandas"
+        ) from None
     return pandas.DataFrame({name: list(values) for name, values in columns.items()})

@@ -3,7 +3,7 @@
 usage: python3 -IS guard.py PARENT BYTES WORDS..
 
 PARENT is the process that asks; when that ends, or by SIGTERM, the program is ended. No file that it writes gets more
-than BYTES. The status is the program's own; 127 where it can't be started, 125 where something of it can't be ended.
+than BYTES. The status is the program's own; 127 if it can't be started, 125 if something of it can't be ended.
 """
 import ctypes
 import os
@@ -18,36 +18,52 @@ PATIENCE = 10  # seconds for what was killed to end
 NOT_STARTED, NOT_ENDED = 127, 125
 
 
+def prctl(option: int, value: int) -> None:
+    """Asks the kernel for a signal when the parent ends, or for the children of those that end."""
+    ctypes.CDLL(None).prctl(option, value)
+
+
 def started(words: "list[str]", most: int) -> int:
     """The process of a program, in a session of its own, which ends with this one."""
     own = os.getpid()
     process = os.fork()
-    if process == 0:
+    if process:
+        return process
+    try:
+        os.setsid()
+        prctl(PR_SET_PDEATHSIG, signal.SIGKILL)
+        resource.setrlimit(resource.RLIMIT_FSIZE, (most, most))
+        resource.setrlimit(resource.RLIMIT_CORE, (0, 0))
+        for number in (signal.SIGPIPE, signal.SIGXFSZ):
+            signal.signal(number, signal.SIG_DFL)
+        signal.pthread_sigmask(signal.SIG_SETMASK, [])
+        if os.getppid() == own:
+            os.execvp(words[0], words)
+    except OSError as error:
+        os.write(2, f"{words[0]} can't be started: {error.strerror}\n".encode(errors="replace"))
+    finally:
+        os._exit(NOT_STARTED)
+
+
+def reaped() -> "dict[int, int] | None":
+    """The statuses of the processes that ended, by their numbers; None if there is none to wait for."""
+    ended: "dict[int, int]" = {}
+    while True:
         try:
-            os.setsid()
-            ctypes.CDLL(None).prctl(PR_SET_PDEATHSIG, signal.SIGKILL)
-            resource.setrlimit(resource.RLIMIT_FSIZE, (most, most))
-            resource.setrlimit(resource.RLIMIT_CORE, (0, 0))
-            for number in (signal.SIGPIPE, signal.SIGXFSZ):
-                signal.signal(number, signal.SIG_DFL)
-            signal.pthread_sigmask(signal.SIG_SETMASK, [])
-            if os.getppid() == own:
-                os.execvp(words[0], words)
-        except OSError as error:
-            os.write(2, f"{words[0]} can't be started: {error.strerror}\n".encode(errors="replace"))
-        finally:
-            os._exit(NOT_STARTED)
-    return process
+            process, status = os.waitpid(-1, os.WNOHANG)
+        except ChildProcessError:
+            return ended or None
+        if not process:
+            return ended
+        ended[process] = os.waitstatus_to_exitcode(status)
 
 
 def status_of(process: int) -> "int | None":
-    """Waits for the program, or for what ends the work; its status, None where it is still at work."""
+    """Waits for the program, or for what ends the work; its status, None if it is still at work."""
     while signal.sigwait(ENDINGS | {signal.SIGCHLD}) == signal.SIGCHLD:
-        ended, status = os.waitpid(-1, os.WNOHANG)
-        while ended:
-            if ended == process:
-                return os.waitstatus_to_exitcode(status)
-            ended, status = os.waitpid(-1, os.WNOHANG)
+        ended = reaped() or {}
+        if process in ended:
+            return ended[process]
     return None
 
 
@@ -70,10 +86,7 @@ def end_all() -> bool:
     while time.monotonic() < last:
         for process in children():
             os.kill(process, signal.SIGKILL)
-        try:
-            while os.waitpid(-1, os.WNOHANG)[0]:
-                pass
-        except ChildProcessError:
+        if reaped() is None:
             return True
         time.sleep(0.002)
     return False
@@ -82,9 +95,8 @@ def end_all() -> bool:
 def main(parent: int, most: int, words: "list[str]") -> int:
     """Runs a program to its end."""
     signal.pthread_sigmask(signal.SIG_BLOCK, ENDINGS | {signal.SIGCHLD})
-    libc = ctypes.CDLL(None)
-    libc.prctl(PR_SET_PDEATHSIG, signal.SIGTERM)
-    libc.prctl(PR_SET_CHILD_SUBREAPER, 1)
+    prctl(PR_SET_PDEATHSIG, signal.SIGTERM)
+    prctl(PR_SET_CHILD_SUBREAPER, 1)
     if os.getppid() != parent:
         return NOT_ENDED
     status = status_of(started(words, most))

@@ -1,8 +1,9 @@
-"""What comes of an auction: winners, totals and costs in whole pounds, and what is known of other outcomes."""
+"""The outcome of an auction: winners, totals and costs in whole pounds, and what is known of other outcomes."""
 from __future__ import annotations
 
 from dataclasses import dataclass, field
-from typing import TYPE_CHECKING, Dict, Iterator, Mapping, Optional, Sequence, Tuple, Union
+from collections.abc import Iterator, Mapping, Sequence
+from typing import TYPE_CHECKING
 
 from wdp.frames import frame_of
 
@@ -21,30 +22,46 @@ class Winner:
     lots: Mapping[str, int] = field(default_factory=dict, compare=False)
 
 
-@dataclass(frozen=True)
-class Allocation:
-    """Who wins what, in the order of the rules, and the total in pounds: the amounts, and the value of lots left unsold."""
+class Table:
+    """What a data frame or a notebook shows as a table, by columns."""
 
-    winners: Tuple[Winner, ...]
-    total: int
+    def _columns(self) -> dict[str, Sequence[object]]:
+        raise NotImplementedError
 
-    def _columns(self) -> Dict[str, Sequence[object]]:
-        names = list(dict.fromkeys(name for winner in self.winners for name in winner.lots))
-        columns: Dict[str, Sequence[object]] = {
-            "bidder": [winner.bidder for winner in self.winners],
-            "bid": [winner.bid for winner in self.winners],
-            "amount": [winner.amount for winner in self.winners],
-        }
-        for name in names:
-            columns[name] = [winner.lots.get(name, 0) for winner in self.winners]
-        return columns
+    def _caption(self) -> str:
+        return ""
 
     def to_frame(self) -> pandas.DataFrame:
-        """A row for each winner: bidder, bid, amount in pounds, and lots by category. Raises Missing without pandas."""
+        """A data frame: of an allocation a row for each winner, with bidder, bid, amount in pounds, and lots by category; of a
+        report a row for each group, with group, left_out (names joined by `+`, or `-`), total and cost in pounds. Raises
+        Missing without pandas."""
         return frame_of(self._columns())
 
     def _repr_html_(self) -> str:
-        return html_table(self._columns())
+        # (numbers, and names that the program printed, have no sign that HTML reads)
+        columns, caption = self._columns(), self._caption()
+        rows = [columns, *zip(*columns.values())]
+        cells = (("td" if at else "th", row) for at, row in enumerate(rows))
+        lines = ["".join(f"<{kind}>{cell}</{kind}>" for cell in row) for kind, row in cells]
+        head = f"<caption>{caption}</caption>" if caption else ""
+        return f"<table>{head}{''.join(f'<tr>{line}</tr>' for line in lines)}</table>"
+
+
+@dataclass(frozen=True)
+class Allocation(Table):
+    """Who wins what, in the order of the rules, and the total in pounds: the amounts, and the value of unsold lots."""
+
+    winners: tuple[Winner, ...]
+    total: int
+
+    def _columns(self) -> dict[str, Sequence[object]]:
+        columns: dict[str, Sequence[object]] = {
+            name: [getattr(winner, name) for winner in self.winners]
+            for name in ("bidder", "bid", "amount")
+        }
+        for name in dict.fromkeys(name for winner in self.winners for name in winner.lots):
+            columns[name] = [winner.lots.get(name, 0) for winner in self.winners]
+        return columns
 
 
 @dataclass(frozen=True)
@@ -54,18 +71,18 @@ class Tie(Allocation):
 
 @dataclass(frozen=True)
 class Group(Allocation):
-    """What comes of a group: its number from 1, the names of the bidders that are left out, winners, total and opportunity
+    """The outcome of a group: its number from 1, the names of the bidders that are left out, winners, total and opportunity
     cost in pounds. The cost is how much more the others, and the value of unsold lots, would bring without the group.
     """
 
     number: int
-    names: Tuple[str, ...]
+    names: tuple[str, ...]
     cost: int
 
 
 @dataclass(frozen=True)
 class Prices:
-    """What each winner of group 1 pays, in whole pounds, by the bidder's name, and their sum. It is shown that no group of
+    """What each winner of group 1 pays, in whole pounds, by the bidder's name, and their sum. It is proved that no group of
     bidders, listed or not, pays less than its opportunity cost, and that nobody pays less than the reserve; with `is_least`
     also that no whole prices of which that is true come to less."""
 
@@ -75,18 +92,18 @@ class Prices:
 
 
 @dataclass(frozen=True)
-class Report:
-    """What comes of each group, which is had by its place or one after the other. `is_certified` tells whether certificates
-    showed that each total is the greatest one: without them it is the solver's word.
+class Report(Table):
+    """The outcome of each group: by its place, or one after the other. `is_certified` is whether certificates showed that
+    each total is the greatest one: without them it is the solver's word.
 
-    `uniqueness` tells what is proved of group 1: 'unasked', 'only' where no other allocation has so great a total, or a Tie.
+    `uniqueness` is what is proved of group 1: 'unasked', 'only' if no other allocation has so great a total, or a Tie.
     `prices` are those that the input gave, if it did.
     """
 
-    groups: Tuple[Group, ...]
+    groups: tuple[Group, ...]
     is_certified: bool = False
-    uniqueness: Union[str, Tie] = "unasked"
-    prices: Optional[Prices] = None
+    uniqueness: str | Tie = "unasked"
+    prices: Prices | None = None
 
     def __len__(self) -> int:
         return len(self.groups)
@@ -97,7 +114,10 @@ class Report:
     def __getitem__(self, place: int) -> Group:
         return self.groups[place]
 
-    def _columns(self) -> Dict[str, Sequence[object]]:
+    def _caption(self) -> str:
+        return "certified" if self.is_certified else "not certified"
+
+    def _columns(self) -> dict[str, Sequence[object]]:
         return {
             "group": [group.number for group in self.groups],
             "left_out": [joined(group.names) for group in self.groups],
@@ -105,19 +125,10 @@ class Report:
             "cost": [group.cost for group in self.groups],
         }
 
-    def to_frame(self) -> pandas.DataFrame:
-        """A row for each group: group, left_out (names joined by `+`, or `-`), total and cost in pounds. Raises Missing
-        without pandas."""
-        return frame_of(self._columns())
-
-    def _repr_html_(self) -> str:
-        caption = "certified" if self.is_certified else "not certified"
-        return html_table(self._columns(), caption)
-
 
 @dataclass(frozen=True)
 class Counts:
-    """What a program in MPS has: rows without the objective, columns, and entries outside the objective."""
+    """The size of a program in MPS: rows without the objective, columns, and entries outside the objective."""
 
     rows: int
     columns: int
@@ -126,9 +137,9 @@ class Counts:
 
 @dataclass(frozen=True)
 class Solutions:
-    """A solver's answer to the program of each group, in the order of the groups, as docs/FORMATS.md has solutions."""
+    """A solver's answer to the program of each group, in the order of the groups, as solutions in docs/REFERENCE.md."""
 
-    texts: Tuple[str, ...]
+    texts: tuple[str, ...]
     solver: str
 
     def __len__(self) -> int:
@@ -144,14 +155,14 @@ class Solutions:
 @dataclass(frozen=True)
 class Certified:
     """A certified outcome: the report, the solutions that are optimal, and the certificate of each; what is proved of other
-    winners of group 1, where that was asked for; and the audit, an input of which `wdp verify` prints the report anywhere.
+    winners of group 1, if that was asked for; and the audit, an input of which `wdp verify` prints the report anywhere.
     """
 
     report: Report
     solutions: Solutions
-    certificates: Tuple[str, ...]
-    unique: Optional[str]
-    tie: Optional[str]
+    certificates: tuple[str, ...]
+    unique: str | None
+    tie: str | None
     audit: bytes = field(repr=False)
 
 
@@ -162,15 +173,3 @@ def joined(names: Sequence[str]) -> str:
     ('Beta+Gamma', '-')
     """
     return "+".join(names) or "-"
-
-
-def html_table(columns: Mapping[str, Sequence[object]], caption: str = "") -> str:
-    """A table as notebooks show it. What stands in it is numbers and names that the program printed, of letters and digits."""
-
-    def row(kind: str, cells: Sequence[object]) -> str:
-        """A row of cells."""
-        return "<tr>" + "".join(f"<{kind}>{cell}</{kind}>" for cell in cells) + "</tr>"
-
-    rows = [row("td", cells) for cells in zip(*columns.values())]
-    head = f"<caption>{caption}</caption>" if caption else ""
-    return f"<table>{head}{row('th', list(columns))}{''.join(rows)}</table>"

@@ -1,12 +1,9 @@
 """Certificates: that a solution of a 0-1 program is optimal, or the only optimal one. `wdp verify` is their judge."""
-from __future__ import annotations
-
 import importlib
 from collections.abc import Callable
 from dataclasses import dataclass
-from typing import Optional
 
-from wdp.texts.refusals import Missing, Refused
+from wdp.texts.refusals import Missing
 from wdp.texts.solution import read_solution, solution_text
 from wdp.texts.zero_one import read_program
 
@@ -24,39 +21,35 @@ class Certified:
     gain: int
 
 
-class NotOptimal(Refused):
-    """The solution that is to be the only one isn't optimal: `better` is."""
+@dataclass(frozen=True)
+class Only:
+    """What is claimed of a solution: `unique` with the certificate that no other point is as good, or `tie` with another one that
+    is as good, or better by `gain`."""
 
-    status = 3
-
-    def __init__(self, text: str, better: bytes) -> None:
-        super().__init__(text)
-        self.better = better
+    claim: str
+    text: bytes
+    gain: int = 0
 
 
-def need() -> None:
-    """Raises Missing, with the names of Debian's packages, where what a search needs isn't there."""
+def need(*modules: str) -> None:
+    """Raises Missing, with the names of Debian's packages, if one of these modules isn't there, or of those of a search."""
     missing = []
-    for module, package in PACKAGES.items():
+    for module in modules or PACKAGES:
         try:
             importlib.import_module(module)
         except ImportError:
-            missing.append(package)
+            missing.append(PACKAGES[module])
     if missing:
-        raise Missing(
-            f"certificates need Debian's packages {' '.join(missing)}: apt-get install -y {' '.join(missing)}"
-        )
+        names = " ".join(missing)
+        raise Missing(f"this needs Debian's packages {names}: apt-get install -y {names}")
 
 
 def certified(
-    program: bytes,
-    solution: bytes,
-    seconds: Optional[float] = None,
-    say: Say = lambda text: None,
+    program: bytes, solution: bytes, seconds: float | None = None, say: Say = lambda text: None
 ) -> Certified:
     """An optimal solution of a program in MPS, and the certificate that shows it. The search begins at `solution`, and goes on
-    at each better point that it comes upon. Raises Refused where a text isn't what it should be, LimitReached where the
-    seconds are over, and Missing without numpy, scipy and swiglpk."""
+    at each better point that it finds. Raises Refused if a text isn't what it should be, LimitReached if the seconds are
+    over, and Missing without numpy, scipy and swiglpk."""
     need()
     from wdp.certify.layout import Layout
     from wdp.certify.search import Search
@@ -69,37 +62,16 @@ def certified(
     return Certified(solution_text(search.ones, read) if gain else solution, certificate, gain)
 
 
-@dataclass(frozen=True)
-class Only:
-    """What is known of other points that are as good as a solution: a certificate that there is none, or one of them."""
-
-    certificate: Optional[bytes] = None
-    tied: Optional[bytes] = None
-
-    def part(self) -> bytes:
-        """The part of an audit that claims it."""
-        if self.certificate is not None:
-            return b"%unique\n" + self.certificate
-        return b"%tie\n" + (self.tied or b"")
-
-
 def only(
-    program: bytes,
-    solution: bytes,
-    seconds: Optional[float] = None,
-    say: Say = lambda text: None,
+    program: bytes, solution: bytes, seconds: float | None = None, say: Say = lambda text: None
 ) -> Only:
-    """Whether an optimal solution is the only one. Raises what `certified` does, and NotOptimal where another point is better."""
+    """Whether an optimal solution is the only one. Raises what `certified` does."""
     need()
     from wdp.certify.search import Beaten, OnlySearch
 
     read = read_program(program, "the program")
     search = OnlySearch(read, read_solution(solution, read, "the solution"), seconds, say)
     try:
-        return Only(certificate=search.certificate())
+        return Only("unique", search.certificate())
     except Beaten as beaten:
-        other = solution_text(search.ones, read)
-        if beaten.gain:
-            text = f"the solution isn't optimal: another point's objective is {beaten.gain} below its own"
-            raise NotOptimal(text, other) from None
-        return Only(tied=other)
+        return Only("tie", solution_text(search.ones, read), beaten.gain)

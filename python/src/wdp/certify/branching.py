@@ -4,9 +4,7 @@ A split asks whether a block wins anything, or at least or at most so much of a 
 at once, and lead to far smaller trees than single columns do. Of the most even ones a few are tried by some steps of
 the dual simplex, and the one is taken that raises the bounds of both sides most.
 """
-from __future__ import annotations
-
-from typing import List, NamedTuple, Optional, Set, Tuple
+from typing import NamedTuple
 
 import numpy as np
 
@@ -25,54 +23,47 @@ class Split(NamedTuple):
     places: Array
     part: float
 
-    def evenness(self) -> float:
-        """How near to a half the part is."""
-        return min(self.part, 1 - self.part)
 
-
-def candidates(layout: Layout, node: Node, places: Array, values: Array) -> List[Split]:
+def candidates(layout: Layout, node: Node, places: Array, values: Array) -> list[Split]:
     """The splits at which the values of these columns are undecided, the most even first."""
-    found: List[Split] = []
+    found: list[Split] = []
     blocks = layout.block_of[places]
     for block in np.unique(blocks):
         held = blocks == block
         found += block_candidates(layout, node, int(block), places[held], values[held])
-    return sorted(found, key=lambda split: (-split.evenness(), len(split.places)))
+    return sorted(found, key=lambda split: (-min(split.part, 1 - split.part), len(split.places)))
 
 
 def block_candidates(
     layout: Layout, node: Node, block: int, places: Array, values: Array
-) -> List[Split]:
+) -> list[Split]:
     """The same of one block."""
     if len(places) == 1 and values[0] > 1 - POSITIVE:
         return []
     members = layout.members[block]
     members = members[node.allowed[members]]
-    seen: Set[bytes] = set()
-    found: List[Split] = []
+    is_forced = block in node.forced
+    found: dict[bytes, Split] = {}
 
     def offer(is_held: Array, is_member: Array) -> None:
-        part = float(values[is_held].sum())
-        chosen = members[is_member]
-        is_whole = block in node.forced and len(chosen) == len(members)
-        if UNDECIDED < part < 1 - UNDECIDED and not is_whole and chosen.tobytes() not in seen:
-            seen.add(chosen.tobytes())
-            found.append(Split(block, chosen, part))
+        part, chosen = float(values[is_held].sum()), members[is_member]
+        is_whole = is_forced and len(chosen) == len(members)
+        if UNDECIDED < part < 1 - UNDECIDED and not is_whole:
+            found.setdefault(chosen.tobytes(), Split(block, chosen, part))
 
-    if block not in node.forced:
+    if not is_forced:
         offer(np.ones(len(places), bool), np.ones(len(members), bool))
-    for at in range(len(layout.shared)):
-        held, all_loads = layout.loads[places, at], layout.loads[members, at]
+    for held, all_loads in zip(layout.loads[places].T, layout.loads[members].T):
         for load in np.unique(held):
             if load != 0:
                 offer(held >= load, all_loads >= load)
-            if block not in node.forced:
+            if not is_forced:
                 offer(held <= load, all_loads <= load)
-    return found
+    return list(found.values())
 
 
-def halving(layout: Layout, node: Node) -> Optional[Split]:
-    """A split of the block that is least settled, whatever a solution says; None where each block is settled."""
+def halving(layout: Layout, node: Node) -> Split | None:
+    """A split of the block that is least settled, whatever a solution says; None if each block is settled."""
 
     def unsettled(block: int) -> int:
         return int(node.allowed[layout.members[block]].sum()) - (block in node.forced)
@@ -85,7 +76,7 @@ def halving(layout: Layout, node: Node) -> Optional[Split]:
     return Split(block, members[: len(members) // 2] if block in node.forced else members, 0.5)
 
 
-def sides(layout: Layout, node: Node, split: Split) -> Tuple[Node, Node]:
+def sides(layout: Layout, node: Node, split: Split) -> tuple[Node, Node]:
     """The sides of a split, that without its columns first."""
     high = node.within(split.places, split.block, layout.members[split.block])
     return node.without(split.places), high
@@ -96,13 +87,13 @@ class Trial(NamedTuple):
     steps a side may take."""
 
     relaxation: Relaxation
-    basis: Optional[List[int]]
+    basis: list[int] | None
     reached: float
     limit: float
     steps: int
 
 
-def strongest(layout: Layout, node: Node, splits: List[Split], trial: Trial) -> Split:
+def strongest(layout: Layout, node: Node, splits: list[Split], trial: Trial) -> Split:
     """The split whose sides have the greatest product of gains."""
     best, best_score = splits[0], -1.0
     for split in splits:
@@ -116,9 +107,9 @@ def strongest(layout: Layout, node: Node, splits: List[Split], trial: Trial) -> 
 
 def gain(side: Node, trial: Trial) -> float:
     """By how much some steps of the dual simplex raise the objective on a side."""
-    trial.relaxation.enter(side)
-    trial.relaxation.restore(trial.basis)
-    reached = trial.relaxation.solve(limit=trial.limit, steps=trial.steps)
-    return max(
-        1e-9, min(trial.limit, trial.reached if reached is None else reached) - trial.reached
-    )
+    relaxation = trial.relaxation
+    relaxation.enter(side)
+    relaxation.restore(trial.basis)
+    reached = relaxation.solve(limit=trial.limit, steps=trial.steps)
+    best = trial.reached if reached is None else min(trial.limit, reached)
+    return max(1e-9, best - trial.reached)

@@ -5,7 +5,10 @@ however they were found, and is exact in whole numbers.
 """
 from __future__ import annotations
 
-from typing import Dict, List, NamedTuple, Optional, Set, Tuple
+from collections import Counter
+from dataclasses import dataclass, field
+from itertools import chain
+from typing import NamedTuple
 
 import numpy as np
 
@@ -22,24 +25,22 @@ class Cut(NamedTuple):
     is_high: bool
 
 
+@dataclass(frozen=True, eq=False)
 class Node:
     """The cuts on the way to a node, and what they leave: `allowed` says which columns may still be 1; `forced` gives
     the place of the cut by which a block has to win."""
 
-    def __init__(
-        self, allowed: Array, path: Tuple[Cut, ...] = (), forced: Optional[Dict[int, int]] = None
-    ) -> None:
-        self.allowed = allowed
-        self.path = path
-        self.forced = forced or {}
+    allowed: Array
+    path: tuple[Cut, ...] = ()
+    forced: dict[int, int] = field(default_factory=dict)
 
-    def without(self, places: Array) -> "Node":
+    def without(self, places: Array) -> Node:
         """The side on which none of these columns is 1."""
         allowed = self.allowed.copy()
         allowed[places] = False
         return Node(allowed, self.path + (Cut(places, False),), self.forced)
 
-    def within(self, places: Array, block: int, members: Array) -> "Node":
+    def within(self, places: Array, block: int, members: Array) -> Node:
         """The side on which one of these columns is 1; they are of one block, which has these members."""
         allowed = self.allowed.copy()
         allowed[members] = False
@@ -47,7 +48,7 @@ class Node:
         forced = {**self.forced, block: len(self.path)}
         return Node(allowed, self.path + (Cut(places, True),), forced)
 
-    def beyond(self, places: Array) -> "Node":
+    def beyond(self, places: Array) -> Node:
         """The side on which one of these columns is 1, whatever their blocks."""
         return Node(self.allowed, self.path + (Cut(places, True),), self.forced)
 
@@ -55,16 +56,13 @@ class Node:
 class Bound:
     """What prices at a scale show for the points of a node: no point's scaled objective is below `value`."""
 
-    def __init__(self, layout: Layout, node: Node, scale: int, prices: List[int]) -> None:
-        self.layout = layout
-        self.node = node
-        self.scale = scale
-        self.prices = prices
+    def __init__(self, layout: Layout, node: Node, scale: int, prices: list[int]) -> None:
+        self.layout, self.node, self.scale, self.prices = layout, node, scale, prices
         self.priced = layout.priced(scale, prices)
         lowest = layout.lowest_in_blocks(self.priced, node.allowed)
         self.parts = [part_of(number, at in node.forced) for at, number in enumerate(lowest)]
-        right = sum(price * number for price, number in zip(prices, layout.right_sides))
-        self.value = scale * layout.constant + sum(self.parts) - right
+        self.right = sum(price * number for price, number in zip(prices, layout.right_sides))
+        self.value = scale * layout.constant + sum(self.parts) - self.right
 
     def is_above(self, least: int) -> bool:
         """Whether it shows that no objective is below `least`."""
@@ -78,8 +76,8 @@ class Bound:
         reduced: Array = self.priced - parts
         return reduced
 
-    def cheapest(self) -> Set[int]:
-        """The allowed columns that the blocks choose at these prices; a point where the shared rows are met."""
+    def cheapest(self) -> set[int]:
+        """The allowed columns that the blocks choose at these prices; a point if the shared rows are met."""
         chosen = set()
         for block, all_members in enumerate(self.layout.members):
             members = all_members[self.node.allowed[all_members]]
@@ -87,7 +85,7 @@ class Bound:
                 chosen.add(int(members[np.argmin(self.priced[members])]))
         return chosen
 
-    def worth_fixing(self, least: int) -> Tuple[Array, int]:
+    def worth_fixing(self, least: int) -> tuple[Array, int]:
         """The allowed columns at 1 in no point below `least`, and the least of their reduced costs."""
         reduced = self.reduced()
         is_beyond = reduced > self.scale * (least - 1) - self.value
@@ -95,9 +93,9 @@ class Bound:
         return places, int(reduced[places].min()) if len(places) else 0
 
 
-def part_of(lowest: Optional[int], is_forced: bool) -> int:
-    """What a block adds to the bound. Where none of its columns is left but one has to win, there is no point, and any
-    number is right."""
+def part_of(lowest: int | None, is_forced: bool) -> int:
+    """What a block adds to the bound. If none of its columns is left but one has to win, there is no point, and any number
+    is right."""
     if is_forced:
         return 1 if lowest is None else lowest
     return min(0, lowest or 0)
@@ -106,10 +104,8 @@ def part_of(lowest: Optional[int], is_forced: bool) -> int:
 class Leaf:
     """The multipliers by which a bound is shown. `last` is an extra multiplier for the last cut of the node."""
 
-    def __init__(self, bound: Bound, node: Optional[Node] = None, last: int = 0) -> None:
-        self.bound = bound
-        self.node = node or bound.node
-        self.layout = bound.layout
+    def __init__(self, bound: Bound, node: Node | None = None, last: int = 0) -> None:
+        self.bound, self.node, self.layout = bound, node or bound.node, bound.layout
         self.cuts = [0] * len(self.node.path)
         has_row = self.layout.has_row
         self.blocks = [-min(0, part) if row else 0 for part, row in zip(bound.parts, has_row)]
@@ -117,7 +113,7 @@ class Leaf:
         if self.blocks:
             is_in_block = self.layout.block_of >= 0
             blocks: Array = np.array(self.blocks, self.reduced.dtype)
-            self.reduced[is_in_block] += blocks[self.layout.block_of][is_in_block]
+            self.reduced[is_in_block] += blocks[self.layout.block_of[is_in_block]]
         for block, at in self.node.forced.items():
             self.force(block, at)
         if last:
@@ -144,28 +140,27 @@ class Leaf:
         self.reduced[cut.places] += -multiplier if cut.is_high else multiplier
 
     def value(self) -> int:
-        """What the leaf comes to, from the reduced costs alone."""
+        """The bound that the leaf shows, from the reduced costs alone."""
+        bound = self.bound
         negative = self.reduced[(self.reduced < 0) & self.layout.is_open]
-        right = sum(self.blocks)
-        right += sum(
-            price * number for price, number in zip(self.bound.prices, self.layout.right_sides)
-        )
-        right -= sum(number for number, cut in zip(self.cuts, self.node.path) if cut.is_high)
-        return self.bound.scale * self.layout.constant + sum(map(int, negative)) - right
+        high = sum(number for number, cut in zip(self.cuts, self.node.path) if cut.is_high)
+        right = sum(self.blocks) + bound.right - high
+        return bound.scale * self.layout.constant + sum(map(int, negative)) - right
 
-    def rows(self) -> List[Tuple[int, int]]:
+    def rows(self) -> list[tuple[int, int]]:
         """The rows that have a multiplier, in the order of the program."""
         of_blocks = zip(self.layout.block_rows, self.blocks)
-        multipliers = {row: number for row, number in of_blocks if row is not None}
-        multipliers.update(zip(self.layout.shared, self.bound.prices))
+        multipliers = Counter({row: number for row, number in of_blocks if row is not None})
+        for (row, sign), price in zip(self.layout.shared, self.bound.prices):
+            multipliers[row] += sign * price
         return sorted((place, number) for place, number in multipliers.items() if number)
 
     def fits(self) -> bool:
-        """Whether each number is at most 10^18, and the size of the leaf (docs/FORMATS.md) is below 2^126."""
+        """Whether each number is at most 10^18, and the size of the leaf (docs/REFERENCE.md) is below 2^126."""
         rows, scale, layout = self.rows(), self.bound.scale, self.layout
         if max([scale, *self.cuts, *(abs(number) for _, number in rows)]) > MOST:
             return False
-        widest = dict(zip(layout.shared, layout.largest_loads))
+        widest = {row: load for (row, _), load in zip(layout.shared, layout.largest_loads)}
         # the bound is as large as all costs, and one more
         column = 2 * scale * (layout.largest_cost + 1)
         column += sum(abs(number) * widest.get(row, 1) for row, number in rows)
@@ -177,15 +172,8 @@ class Leaf:
         return (column + above * layout.count) * (layout.count + 1) + right + 2 * above < WIDEST
 
     def line(self) -> str:
-        """The multiplier of a split above the root stands first."""
+        """The line of a certificate. The multiplier of a split above the root comes first."""
         rows = dict(self.rows())
         above = [] if self.layout.split_row is None else [rows.pop(self.layout.split_row, 0)]
-        words = ["bound", str(self.bound.scale), *map(str, above + self.cuts)]
-        for row, number in rows.items():
-            words += [self.layout.program.rows[row].name, str(number)]
-        return " ".join(words)
-
-
-def split_line(layout: Layout, places: Array) -> str:
-    """None of these columns is 1, or at least one."""
-    return "split 0 " + " ".join(layout.names[places])
+        named = ((self.layout.program.rows[row].name, number) for row, number in rows.items())
+        return " ".join(map(str, ["bound", self.bound.scale, *above, *self.cuts, *chain(*named)]))

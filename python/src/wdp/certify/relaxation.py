@@ -1,146 +1,98 @@
 """Linear relaxations, solved by GLPK's dual simplex from the basis of the solve before.
 
-Costs are told as exact reduced costs at whole root prices, in units of a thousandth of the gap. So floating point has
-digits where they matter, though the amounts are large and nearly tied. Each shared row may be overstepped at a price of
-20 gaps, so every node has a solution; for the same reason no cost needs to be above 20 gaps.
+Costs are exact reduced costs at whole root prices, in units of a thousandth of the gap. So floating point has digits where
+they matter, though the amounts are large and nearly tied. Each shared row may be overstepped at a price of 20 gaps, so every
+node has a solution; for the same reason no cost needs to be above 20 gaps.
 """
-from __future__ import annotations
-
-from typing import Any, List, Optional, Tuple
+from typing import Any
 
 import numpy as np
 import swiglpk as glpk
+from scipy.optimize import linprog
+from scipy.sparse import csr_matrix, diags, eye, hstack, vstack
 
-from wdp.certify.layout import Array, Layout
+from wdp.certify.layout import SIGNS, Array, Layout
 from wdp.certify.leaf import Bound, Node
-from wdp.texts.zero_one import AT_LEAST, AT_MOST
+from wdp.texts.mps import matrix_of
 
 UNITS_IN_GAP = 1000
 CAP_IN_GAPS = 20
 MOST_STEPS = MOST_MILLISECONDS = 2**31 - 1
 
-Entries = List[Tuple[int, float]]
-
 
 class Relaxation:
-    """The columns `core`, a slack for each row, and what oversteps each shared row, in this order."""
+    """The columns `core`, a slack for each row, and what oversteps each shared row, in this order. The problem is made once;
+    later only bounds change."""
 
     def __init__(self, layout: Layout, bound: Bound, core: Array, gap: int) -> None:
-        self.layout = layout
-        self.core = core
-        self.count = len(core)
-        self.gap = gap
+        self.layout, self.core, self.count, self.gap = layout, core, len(core), gap
         self.unit = max(gap, 1) / UNITS_IN_GAP
-        self.cap = float(CAP_IN_GAPS * UNITS_IN_GAP)
         self.root_prices = bound.prices
         # columns without a row add to the bound what the relaxation adds again
-        parts = zip(bound.parts, layout.has_row)
-        self.base = bound.value - sum(part for part, has_row in parts if not has_row)
+        paid = [part if row else 0 for part, row in zip(bound.parts, layout.has_row)]
+        self.base = bound.value - sum(bound.parts) + sum(paid)
         self.rows = np.flatnonzero(layout.has_row)
         self.row_of: Array = np.full(len(layout.members), -1)
         self.row_of[self.rows] = np.arange(len(self.rows))
         self.height = len(self.rows) + len(layout.shared)
         self.place_of: Array = np.full(layout.count, -1)
         self.place_of[core] = np.arange(self.count)
+        taken = self.taken()
+        right_sides = np.array([1] * len(self.rows) + layout.right_sides, float)
+        # no slack is above what the row could be short of at all: boxed columns are never dual infeasible
+        reach = (abs(right_sides) + abs(taken).sum(axis=1).A1)[len(self.rows) :]
+        self.upper: Array = np.concatenate([np.ones(self.count + len(self.rows)), reach, reach])
+        self.lower: Array = np.zeros(len(self.upper))
+        parts: Array = np.array([*paid, 0], object)
+        reduced = bound.priced[core].astype(object) - parts[layout.block_of[core]]
+        cap = float(CAP_IN_GAPS * UNITS_IN_GAP)
+        costs = [*reduced, *-parts[self.rows], *bound.prices]
+        in_units = [min(cap, float(cost / self.unit)) for cost in costs]
         self.problem = glpk.glp_create_prob()
-        self.costs: List[float] = []
-        self.entries: List[Entries] = []
-        uppers = self.add_columns(bound)
-        self.lower: Array = np.zeros(len(uppers))
-        self.upper: Array = np.array(uppers)
-        self.load()
+        over = -eye(self.height, len(layout.shared), -len(self.rows))
+        self.load(hstack([taken, eye(self.height), over], "csc"), right_sides)
+        for column, cost in enumerate(in_units + [cap] * len(layout.shared)):
+            glpk.glp_set_obj_coef(self.problem, column + 1, cost)
+            self.set_bounds(column)
 
     def __del__(self) -> None:
         if hasattr(self, "problem"):
             glpk.glp_delete_prob(self.problem)
 
-    # The problem is made once; later only bounds change.
+    def taken(self) -> Any:
+        """The core's entries in the rows of blocks, and then in the shared ones."""
+        rows = self.row_of[self.layout.block_of[self.core]]
+        held = np.flatnonzero(rows >= 0)
+        shape = len(self.rows), self.count
+        own = csr_matrix((np.ones(len(held)), (rows[held], held)), shape)
+        return vstack([own, csr_matrix(self.layout.loads[self.core].T.astype(float))], "csr")
 
-    def add_columns(self, bound: Bound) -> List[float]:
-        """Takes all columns, and gives their upper bounds."""
-        layout, first, uppers = self.layout, len(self.rows), []
-        parts: Array = np.array([0], object)
-        if bound.parts:
-            parts = np.where(layout.has_row, np.array(bound.parts, object), 0)
-        reduced = bound.priced[self.core].astype(object) - parts[layout.block_of[self.core]]
-        for place, cost in zip(self.core, reduced):
-            row, loads = self.row_of[layout.block_of[place]], layout.loads[place]
-            entries = [(int(row), 1.0)] if row >= 0 else []
-            entries += [(first + int(at), float(loads[at])) for at in np.flatnonzero(loads)]
-            uppers.append(self.add_column(cost, 1.0, entries))
-        for at, block in enumerate(self.rows):
-            uppers.append(self.add_column(-bound.parts[block], 1.0, [(at, 1.0)]))
-        for at, (kind, price) in enumerate(zip(layout.kinds, bound.prices), first):
-            if kind == AT_LEAST:
-                uppers.append(self.add_column(-price, np.inf, [(at, -1.0)]))
-            else:
-                upper = np.inf if kind == AT_MOST else 0.0
-                uppers.append(self.add_column(price, upper, [(at, 1.0)]))
-        for at, kind in enumerate(layout.kinds, first):
-            if kind != AT_LEAST:
-                uppers.append(self.add_column(None, np.inf, [(at, -1.0)]))
-            if kind != AT_MOST:
-                uppers.append(self.add_column(None, np.inf, [(at, 1.0)]))
-        return uppers
-
-    def add_column(self, cost: Any, upper: float, entries: Entries) -> float:
-        """Takes a column; one without a cost of its own oversteps a row."""
-        self.costs.append(self.cap if cost is None else min(self.cap, float(cost / self.unit)))
-        self.entries.append(entries)
-        return upper
-
-    def load(self) -> None:
-        """Gives the problem to GLPK."""
-        problem, width = self.problem, len(self.costs)
+    def load(self, matrix: Any, right_sides: Array) -> None:
+        """Gives the problem to GLPK, with a basis of slacks alone."""
+        problem, entries = self.problem, matrix.tocoo()
         glpk.glp_add_rows(problem, self.height)
-        glpk.glp_add_cols(problem, width)
-        total = sum(map(len, self.entries))
-        rows, columns = glpk.intArray(total + 1), glpk.intArray(total + 1)
-        numbers = glpk.doubleArray(total + 1)
-        at = 0
-        for column, entries in enumerate(self.entries, 1):
-            for row, number in entries:
-                at += 1
-                rows[at], columns[at], numbers[at] = row + 1, column, number
-        glpk.glp_load_matrix(problem, total, rows, columns, numbers)
-        right_sides = [1.0] * len(self.rows) + [float(number) for number in self.layout.right_sides]
-        for row, number in enumerate(right_sides, 1):
-            glpk.glp_set_row_bnds(problem, row, glpk.GLP_FX, number, number)
-        self.bound_slacks(right_sides)
-        for column in range(width):
-            glpk.glp_set_obj_coef(problem, column + 1, self.costs[column])
-            self.set_bounds(column)
+        glpk.glp_add_cols(problem, matrix.shape[1])
+        rows, columns = glpk.intArray(entries.nnz + 1), glpk.intArray(entries.nnz + 1)
+        numbers = glpk.doubleArray(entries.nnz + 1)
+        triples = zip(entries.row.tolist(), entries.col.tolist(), entries.data.tolist())
+        for at, (row, column, number) in enumerate(triples, 1):
+            rows[at], columns[at], numbers[at] = row + 1, column + 1, number
+        glpk.glp_load_matrix(problem, entries.nnz, rows, columns, numbers)
         self.control = glpk.glp_smcp()
         glpk.glp_init_smcp(self.control)
-        self.control.msg_lev = glpk.GLP_MSG_OFF
-        self.control.meth = glpk.GLP_DUALP
+        self.control.msg_lev, self.control.meth = glpk.GLP_MSG_OFF, glpk.GLP_DUALP
         self.control.presolve = glpk.GLP_OFF
-        self.start_from_slacks()
-
-    def bound_slacks(self, right_sides: List[float]) -> None:
-        """No slack is above what the row could be short of at all. Boxed columns are never dual infeasible."""
-        reach = [abs(number) for number in right_sides]
-        for entries in self.entries[: self.count]:
-            for row, number in entries:
-                reach[row] += abs(number)
-        for column in range(self.count, len(self.upper)):
-            if self.upper[column] == np.inf:
-                self.upper[column] = reach[self.entries[column][0][0]]
-
-    def start_from_slacks(self) -> None:
-        """The basis of slacks alone."""
-        glpk.glp_std_basis(self.problem)
-        for row in range(self.height):
-            glpk.glp_set_row_stat(self.problem, row + 1, glpk.GLP_NS)
-            glpk.glp_set_col_stat(self.problem, self.count + row + 1, glpk.GLP_BS)
+        glpk.glp_std_basis(problem)
+        for row, number in enumerate(right_sides.tolist(), 1):
+            glpk.glp_set_row_bnds(problem, row, glpk.GLP_FX, number, number)
+            glpk.glp_set_row_stat(problem, row, glpk.GLP_NS)
+            glpk.glp_set_col_stat(problem, self.count + row, glpk.GLP_BS)
 
     def set_bounds(self, column: int) -> None:
-        """Tells GLPK the bounds of a column."""
+        """Gives GLPK the bounds of a column."""
         lower, upper = float(self.lower[column]), float(self.upper[column])
         kind = glpk.GLP_FX if lower == upper else glpk.GLP_DB
         glpk.glp_set_col_bnds(self.problem, column + 1, kind, lower, upper)
-
-    # A node is a choice of bounds.
 
     def enter(self, node: Node) -> None:
         """Sets the bounds of a node."""
@@ -161,16 +113,12 @@ class Relaxation:
             self.set_bounds(int(column))
 
     def solve(
-        self,
-        limit: Optional[float] = None,
-        steps: Optional[int] = None,
-        seconds: Optional[float] = None,
-    ) -> Optional[float]:
-        """The least objective in units above `base`, None where GLPK fails. It may stop above `limit`."""
-        milliseconds = MOST_MILLISECONDS if seconds is None else int(1000 * seconds)
+        self, limit: float | None = None, steps: int | None = None, seconds: float = np.inf
+    ) -> float | None:
+        """The least objective in units above `base`, None if GLPK fails. It may stop above `limit`."""
         self.control.obj_ul = 1.7e308 if limit is None else limit
         self.control.it_lim = steps or MOST_STEPS
-        self.control.tm_lim = max(1, min(MOST_MILLISECONDS, milliseconds))
+        self.control.tm_lim = int(max(1, min(MOST_MILLISECONDS, 1000 * seconds)))
         for _ in range(3):
             status = glpk.glp_simplex(self.problem, self.control)
             if status in (0, glpk.GLP_EOBJUL, glpk.GLP_EITLIM, glpk.GLP_ETMLIM):
@@ -182,14 +130,14 @@ class Relaxation:
         """An objective in units above `base`."""
         return (objective - self.base) / self.unit
 
-    def basis(self) -> Optional[List[int]]:
-        """The basic variables, None where the basis can't be factorized."""
+    def basis(self) -> list[int] | None:
+        """The basic variables, None if the basis can't be factorized."""
         if not glpk.glp_bf_exists(self.problem) and glpk.glp_factorize(self.problem) != 0:
             return None
         return [glpk.glp_get_bhead(self.problem, row) for row in range(1, self.height + 1)]
 
-    def restore(self, basis: Optional[List[int]]) -> None:
-        """Takes up a basis, where there is one."""
+    def restore(self, basis: list[int] | None) -> None:
+        """Takes up a basis, if there is one."""
         if basis is None:
             return
         wanted, now = set(basis), set(self.basis() or [])
@@ -199,29 +147,48 @@ class Relaxation:
             self.set_status(variable, glpk.GLP_BS, glpk.GLP_BS)
 
     def set_status(self, variable: int, row_status: int, column_status: int) -> None:
-        """Has a variable enter or leave the basis."""
+        """Moves a variable into the basis or out of it."""
         if variable <= self.height:
             glpk.glp_set_row_stat(self.problem, variable, row_status)
         else:
             glpk.glp_set_col_stat(self.problem, variable - self.height, column_status)
 
-    # What a solve tells.
-
-    def prices(self, scale: int) -> List[int]:
-        """The prices of the shared rows at a scale, rounded, with the signs that their kinds ask for."""
-        first, shared = len(self.rows) + 1, len(self.layout.shared)
-        duals = [-glpk.glp_get_row_dual(self.problem, first + at) for at in range(shared)]
-        pairs = zip(self.root_prices, duals)
-        return self.layout.signed(
-            [scale * root + round(scale * dual * self.unit) for root, dual in pairs]
-        )
+    def prices(self, scale: int) -> list[int]:
+        """The prices of the shared rows at a scale, rounded."""
+        shared = range(len(self.rows) + 1, self.height + 1)
+        duals = (-glpk.glp_get_row_dual(self.problem, row) for row in shared)
+        more = (round(scale * dual * self.unit) for dual in duals)
+        return [max(0, scale * root + each) for root, each in zip(self.root_prices, more)]
 
     def values(self) -> Array:
         """The values of the core's columns."""
         columns = range(1, self.count + 1)
         return np.array([glpk.glp_get_col_prim(self.problem, column) for column in columns])
 
+    def points(self, is_one: Array) -> set[int]:
+        """These of the core's columns."""
+        return {int(place) for place in self.core[is_one]}
+
     def overstep(self) -> float:
-        """How much the shared rows are overstepped in all."""
+        """By how much the shared rows are overstepped in all."""
         columns = range(self.count + self.height + 1, len(self.upper) + 1)
         return sum(float(glpk.glp_get_col_prim(self.problem, column)) for column in columns)
+
+
+def root_prices(layout: Layout, seconds: float) -> list[int]:
+    """Whole prices of the shared rows: the duals of the whole program's relaxation, which HiGHS solves from nothing the
+    fastest; 0 if it fails, since any prices are right."""
+    if not layout.shared or not layout.members:
+        return [0] * len(layout.shared)
+    matrix, unit = matrix_of(layout.program), max(1, layout.largest_cost) / 1000
+    signed = [(at, sign) for at, kind in enumerate(matrix.senses) for sign in SIGNS[kind]]
+    places, signs = np.array(signed).T
+    rows = csr_matrix(diags(signs.astype(float)) @ matrix.entries[places])
+    right = signs * np.array(matrix.right_sides, float)[places]
+    costs, bounds = (layout.costs / unit).astype(float), [*zip(matrix.lower, matrix.upper)]
+    limit = {"time_limit": max(1.0, seconds)}
+    found = linprog(costs, rows, right, bounds=bounds, method="highs-ds", options=limit)
+    if found.status != 0:
+        return [0] * len(layout.shared)
+    duals = dict(zip(signed, found.ineqlin.marginals))
+    return [max(0, round(-float(duals[each]) * unit)) for each in layout.shared]

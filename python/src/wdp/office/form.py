@@ -3,12 +3,9 @@
 A bid is a row below it: the amount in whole pounds, and how many lots of each category.
 Exit status: 0 the forms are written; 1 something is wrong; 2 the words are wrong.
 """
-from __future__ import annotations
-
 import argparse
 import io
 import os
-from typing import List, Sequence
 
 from wdp.texts.refusals import Missing, Refused
 from wdp.files import tell, write_folder
@@ -22,19 +19,13 @@ from wdp.texts.tables import encoded, written
 
 def add_words(parser: argparse.ArgumentParser) -> None:
     parser.add_argument("rules", metavar="RULES", help="the file of the rules")
-    parser.add_argument(
-        "--output",
-        metavar="DIR",
-        type=choices.path,
-        required=True,
-        help="the folder of the forms, which it makes",
-    )
-    parser.add_argument(
-        "--workbooks", action="store_true", help="write workbooks, .xlsx, in place of CSV"
-    )
+    made = "the folder of the forms, which it makes"
+    parser.add_argument("--output", metavar="DIR", type=choices.path, required=True, help=made)
+    books = "write workbooks, .xlsx, in place of CSV"
+    parser.add_argument("--workbooks", action="store_true", help=books)
 
 
-def workbook(values: Sequence[str]) -> bytes:
+def workbook(values: list[str]) -> bytes:
     """A workbook with one row."""
     try:
         import openpyxl
@@ -42,7 +33,7 @@ def workbook(values: Sequence[str]) -> bytes:
         raise Missing("--workbooks needs openpyxl: apt-get install -y python3-openpyxl") from None
     book, file = openpyxl.Workbook(), io.BytesIO()
     book.active.title = "Bids"
-    book.active.append(list(values))
+    book.active.append(values)
     book.active.freeze_panes = "A2"
     book.save(file)
     return file.getvalue()
@@ -54,12 +45,13 @@ def run(given: argparse.Namespace) -> int:
         raise Refused(printed(auction.faults).rstrip("\n"))
     if os.path.isdir(given.output) and os.listdir(given.output):
         raise Refused(f"{given.output}: it has files; name a new folder")
-    categories = [category.name for category in auction.rules.categories]
-    rows: List[List[str]] = [[name, *categories] for name in auction.rules.bidders]
-    ending = ".xlsx" if given.workbooks else ".csv"
-    files = {
-        row[0] + ending: workbook(row) if given.workbooks else encoded(written(row)) for row in rows
-    }
+    files = {}
+    for name in auction.rules.bidders:
+        row = [name, *(category.name for category in auction.rules.categories)]
+        if given.workbooks:
+            files[f"{name}.xlsx"] = workbook(row)
+        else:
+            files[f"{name}.csv"] = encoded(written(row))
     write_folder(given.output, files)
     tell(f"{counted(len(files), 'blank form')} in {given.output}\n")
     return 0

@@ -9,8 +9,6 @@ The receipt, on standard error and with --receipt as a file, has for each bidder
 rules as they are understood, the bids that are in no program, and a table that is made to be read aloud to each bidder.
 Exit status: 0 the input is written; 1 something is wrong; 2 the words are wrong.
 """
-from __future__ import annotations
-
 import argparse
 import os
 
@@ -18,6 +16,7 @@ from wdp.texts.refusals import Refused, WrongWords
 from wdp.files import put, tell, write_all
 from wdp.office import choices
 from wdp.office.faults import all_counted, printed
+from wdp.office.gathered import Auction
 from wdp.office.reading import read_auction
 from wdp.office.receipt import receipt
 from wdp.program import found_program
@@ -28,66 +27,46 @@ def output_path(text: str) -> str:
 
 
 def add_words(parser: argparse.ArgumentParser) -> None:
-    parser.add_argument("rules", metavar="RULES", help="the file of the rules")
-    parser.add_argument("forms", metavar="FORMS_DIR", help="the folder with the bidders' forms")
-    parser.add_argument("groups_file", metavar="GROUPS", nargs="?", help="the file of the groups")
-    parser.add_argument(
-        "--groups",
-        nargs="+",
-        metavar="RULE",
-        default=[],
-        help="in place of GROUPS: each (nobody, and each bidder alone), or winners FILE (nobody, and each "
-        "winner of a report's first group, or of what `wdp map` prints, alone)",
-    )
-    parser.add_argument(
-        "--output",
-        metavar="FILE",
-        type=output_path,
-        help="write the input to this file, whole or not at all",
-    )
-    parser.add_argument(
-        "--receipt", metavar="FILE", type=choices.path, help="write the receipt to this file too"
-    )
+    add = parser.add_argument
+    add("rules", metavar="RULES", help="the file of the rules")
+    add("forms", metavar="FORMS_DIR", help="the folder with the bidders' forms")
+    add("groups_file", metavar="GROUPS", nargs="?", help="the file of the groups")
+    each = "each (nobody, and each bidder alone)"
+    winners = "each winner of a report's first group, or of what `wdp map` prints, alone"
+    rule = f"in place of GROUPS: {each}, or winners FILE (nobody, and {winners})"
+    add("--groups", nargs="+", metavar="RULE", default=[], help=rule)
+    output = "write the input to this file, completely or not at all"
+    add("--output", metavar="FILE", type=output_path, help=output)
+    also = "write the receipt to this file too"
+    add("--receipt", metavar="FILE", type=choices.path, help=also)
     choices.add_words(parser)
 
 
 def check_words(given: argparse.Namespace) -> None:
     rule = given.groups
-    if rule and (
-        rule[0] not in ("each", "winners") or len(rule) != {"each": 1, "winners": 2}[rule[0]]
-    ):
+    if rule and (rule[0], len(rule)) not in (("each", 1), ("winners", 2)):
         raise WrongWords("--groups takes each, or winners FILE")
     if bool(rule) == bool(given.groups_file):
         raise WrongWords("give GROUPS or --groups, one of them")
-    files = [
-        os.path.realpath(path)
-        for path in (given.rules, given.groups_file, given.expect, *rule[1:])
-        if path
-    ]
-    written = [path for path in (given.output, given.receipt) if path]
-    for path in written:
-        real = os.path.realpath(path)
+    paths = (given.rules, given.groups_file, given.expect, *rule[1:])
+    files = [os.path.realpath(path) for path in paths if path]
+    written = {path: os.path.realpath(path) for path in (given.output, given.receipt) if path}
+    for path, real in written.items():
         if real in files or os.path.dirname(real) == os.path.realpath(given.forms):
-            raise WrongWords(
-                f"{path} is read, or would be a form in the next run; write somewhere else"
-            )
-    if len(set(map(os.path.realpath, written))) < len(written):
+            why = "is read, or would be a form in the next run; write somewhere else"
+            raise WrongWords(f"{path} {why}")
+    if given.output and given.receipt and len(set(written.values())) < 2:
         raise WrongWords("the input and the receipt need two files")
 
 
 def run(given: argparse.Namespace) -> int:
     check_words(given)
-    words = given.groups or [given.groups_file]
-    auction = read_auction(
-        found_program(given.program), (given.rules, given.forms), words, choices.choices_of(given)
-    )
+    auction = Auction(found_program(given.program), choices.choices_of(given))
+    read_auction(auction, given.rules, given.forms, given.groups or [given.groups_file])
     if auction.faults:
         tell(printed(auction.faults))
-        old = (
-            f"; {given.output} is what it was before"
-            if given.output and os.path.exists(given.output)
-            else ""
-        )
+        is_old = given.output and os.path.exists(given.output)
+        old = f"; {given.output} is what it was before" if is_old else ""
         raise Refused(f"{all_counted(auction.faults)}; nothing is written{old}")
     said = receipt(auction)
     written = {given.output: auction.text, given.receipt: said.encode()}

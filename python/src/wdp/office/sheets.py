@@ -1,21 +1,19 @@
 """Files as spreadsheets and editors write them, turned into what the program reads, with a word for each change.
 
-Nothing is guessed of a value: only the encoding, the delimiter, line ends, and cells that hold nothing are looked at.
+No value is guessed: only the encoding, the delimiter, line ends, and empty cells are looked at.
 """
-from __future__ import annotations
-
 import codecs
 import re
+from collections.abc import Collection, Iterable
 from dataclasses import dataclass, field
-from typing import Iterable, List, Optional, Tuple
 
-from wdp.texts.refusals import Refused
-from wdp.files import Unreadable
-from wdp.office.faults import Fault, quoted
+from wdp.files import Unreadable, read
+from wdp.office.faults import Fault, counted, nearest, quoted
+from wdp.texts.parts import group_rows
 from wdp.texts.tables import LINE_END, Records, Row, decoded, encoded, written
 
 MOST_OF_A_TEXT = 4 * 1024 * 1024
-# bytes of a file: a text of the greatest size may stand in it as UTF-16, after a mark
+# bytes of a file, which may have a text of the greatest size as UTF-16, after a mark
 MOST_OF_A_FILE = 2 * MOST_OF_A_TEXT + 2
 UTF_16 = {codecs.BOM_UTF16_LE: "utf-16-le", codecs.BOM_UTF16_BE: "utf-16-be"}
 DELIMITERS = {",": "commas", ";": "semicolons", "\t": "tabs"}
@@ -27,159 +25,149 @@ OTHERS = (
     (re.compile(rb"PK\x03\x04"), "it is a workbook or an archive; save the table as .xlsx or CSV"),
     (re.compile(rb"\xd0\xcf\x11\xe0"), "it is an old workbook; save the table as .xlsx or CSV"),
     (re.compile(rb"%PDF-"), "it is a PDF; send the table as .xlsx or CSV"),
-    (re.compile(rb"\s*<(?:!doctype|html|table|\?xml|head|meta)", re.IGNORECASE), "it is a page of HTML or XML; save the table as .xlsx or CSV"),
+    (re.compile(rb"\s*<(?:!doctype|html|table|\?xml|head|meta)", re.I), "it is a page of HTML or XML; save the table as .xlsx or CSV"),
+    (re.compile(rb"[^\0]{,4095}\0"), "it holds bytes 0, as no CSV file does; save the table as .xlsx, or as CSV in UTF-8"),
 )  # fmt: skip
-
-
-class NoTable(Refused):
-    """Why a file is no table."""
-
-    @property
-    def why(self) -> str:
-        return self.text
-
-
-# why a file isn't taken
-UNUSABLE = (Unreadable, NoTable)
+HEAD = "in this field a line begins with %, as the heads of parts do"
 
 
 @dataclass
-class Table:
-    """The records of a file as rows, what was changed to have them, and what is wrong that the program can't see."""
+class File:
+    """A file's records as rows, what was changed to have them, and what is wrong that the program can't see. Of a form `bids`
+    is how many it has, None if it has a fault."""
 
-    rows: List[Row] = field(default_factory=list)
-    changes: List[str] = field(default_factory=list)
-    # places within the file, with words
-    faults: List[Tuple[str, str]] = field(default_factory=list)
+    path: str
+    data: bytes = field(repr=False)
+    rows: list[Row] = field(default_factory=list)
+    changes: list[str] = field(default_factory=list)
+    faults: list[Fault] = field(default_factory=list)
     # whether the last row ends as a row does, and not perhaps in the middle of a value
     is_ended: bool = True
-    # the number of the row that a quote makes one with all that follows
-    unclosed: Optional[int] = None
+    # the number of the row whose quote isn't closed, so that it holds all that follows
+    unclosed: int | None = None
+    bids: int | None = None
 
-    def faults_in(self, path: str) -> List[Fault]:
-        return [Fault(f"{path}:{place}", words) for place, words in self.faults]
+    @property
+    def bidder(self) -> str:
+        """Of a form the bidder in its first field."""
+        return self.rows[0].values[0] if self.rows else ""
 
     @property
     def text(self) -> bytes:
         """The records as the program reads them."""
         return encoded("".join(written(row.values) for row in self.rows))
 
+    def fault(self, place: str, words: str) -> None:
+        self.faults.append(Fault(f"{self.path}:{place}", words))
 
-def text_of(data: bytes) -> Tuple[str, List[str]]:
-    """The text of a file's bytes, without a byte order mark, and what was done to it."""
-    text, changes = decoded(data), []
-    encoding = UTF_16.get(data[:2])
+    def fill(self, rows: Iterable[Row], most: int, width: int | None) -> None:
+        """Takes at most so many rows with a value. A row with a field that would head a part is a fault, and isn't taken.
+        Drops the empty fields beyond those that each row has to have, or the first one has."""
+        empty = changed = 0
+        for row in rows:
+            heads = [at for at, value in enumerate(row.values) if "\n%" in value]
+            for at in heads:
+                self.fault(row.place(at), HEAD)
+            if any(row.values) and not heads:
+                self.rows.append(row)
+            empty += not any(row.values)
+            if len(self.rows) == most:
+                break
+        width = width or len(self.rows[0].values if self.rows else ())
+        for row in self.rows:
+            if len(row.values) > width and not any(row.values[width:]):
+                del row.values[width:]
+                changed += 1
+        counts = {"empty rows": empty, "empty fields at the end of rows": changed}
+        self.changes += [f"{what} dropped: {count}" for what, count in counts.items() if count]
+
+
+def text_of(file: File) -> str:
+    """The text of a file's bytes, without a byte order mark; what was done to it is a change."""
+    data, changes = file.data, file.changes
+    text, encoding = decoded(data), UTF_16.get(data[:2])
     if encoding:
         try:
-            text, changes = data[2:].decode(encoding), ["UTF-16 turned into UTF-8"]
+            text = data[2:].decode(encoding)
         except UnicodeDecodeError:
-            raise NoTable("it begins as UTF-16 and isn't") from None
+            raise Unreadable(file.path, "it begins as UTF-16 and isn't") from None
+        changes.append("UTF-16 turned into UTF-8")
     elif data.startswith(codecs.BOM_UTF8):
-        text, changes = text[1:], ["byte order mark dropped"]
+        text = text[1:]
+        changes.append("byte order mark dropped")
     else:
-        for kind, words in OTHERS:
+        for kind, why in OTHERS:
             if kind.match(data):
-                raise NoTable(words)
-        if b"\0" in data[:4096]:
-            raise NoTable(
-                "it holds bytes 0, as no CSV file does; save the table as .xlsx, or as CSV in UTF-8"
-            )
+                raise Unreadable(file.path, why)
     if len(encoded(text)) > MOST_OF_A_TEXT:
-        raise NoTable(f"it has more than {MOST_OF_A_TEXT:,} bytes")
-    return text, changes + line_ends(text)
+        raise Unreadable(file.path, f"it has more than {MOST_OF_A_TEXT:,} bytes")
+    crlf, file.is_ended = text.count("\r\n"), not text.strip() or text.endswith(("\n", "\r"))
+    changes += ["CR LF turned into LF"] if crlf else []
+    changes += ["CR turned into LF"] if text.count("\r") > crlf else []
+    changes += [] if file.is_ended else ["last line ended"]
+    return text
 
 
-def line_ends(text: str) -> List[str]:
-    """What is said of line ends that aren't LF."""
-    crlf, cr = text.count("\r\n"), text.count("\r")
-    changes = ["CR LF turned into LF"] if crlf else []
-    changes += ["CR turned into LF"] if cr > crlf else []
-    return changes + ([] if ends_whole(text) else ["last line ended"])
-
-
-def ends_whole(text: str) -> bool:
-    """Whether the last line has its end; a text without anything needs none."""
-    return not text.strip() or text.endswith(("\n", "\r"))
-
-
-def delimiter_of(text: str) -> Tuple[str, int, List[str]]:
-    """The delimiter, where the rows begin, and what is said of both.
-
-    A line `sep=;` names it; else it is a comma wherever the first line that isn't empty has one.
-    """
+def delimiter_of(text: str, file: File) -> tuple[str, int]:
+    """The delimiter and where rows begin. A line `sep=;` names it, else a comma goes first if the first line has one."""
     named = SEPARATOR_LINE.match(text)
     begin = named.end() if named else 0
     first = FIRST_LINE.search(text, begin)
     there = [delimiter for delimiter in DELIMITERS if first and delimiter in first[0]]
     delimiter = named[1] if named else (there or [","])[0]
+    line = f"its first line is sep={quoted(delimiter)}"
     if delimiter not in DELIMITERS:
-        raise NoTable(
-            f"its first line is sep={quoted(delimiter)}; fields are parted by a comma, a semicolon or a tab"
-        )
-    if named and there and delimiter not in there:
-        raise NoTable(
-            f"its first line is sep={quoted(delimiter)}, and the row below it has {DELIMITERS[there[0]]} between its fields"
-        )
-    changes = ["first line dropped, which names the separator"] if named else []
-    return (
-        delimiter,
-        begin,
-        changes + ([] if delimiter == "," else [DELIMITERS[delimiter] + " turned into commas"]),
-    )
+        why = f"{line}; fields are parted by a comma, a semicolon or a tab"
+        raise Unreadable(file.path, why)
+    if there and delimiter not in there:
+        has = f"the row below it has {DELIMITERS[there[0]]} between its fields"
+        raise Unreadable(file.path, f"{line}, and {has}")
+    file.changes += ["first line dropped, which names the separator"] if named else []
+    file.changes += [] if delimiter == "," else [DELIMITERS[delimiter] + " turned into commas"]
+    return delimiter, begin
 
 
-def filled(rows: Iterable[Row], most: int, table: Table) -> int:
-    """Takes at most so many rows with a value into a table, and returns how many have none.
-
-    A row whose field would head a part isn't taken, and told."""
-    empty = 0
-    for row in rows:
-        if not any(row.values):
-            empty += 1
-            continue
-        heads = [at for at, value in enumerate(row.values) if "\n%" in value]
-        table.faults += [
-            (row.place(at), "in this field a line begins with %, as the heads of parts do")
-            for at in heads
-        ]
-        table.rows += [] if heads else [row]
-        if len(table.rows) == most:
-            break
-    return empty
-
-
-def within(table: Table, width: int, empty: int) -> None:
-    """Drops the empty fields beyond those that a row has to have, and says so, and how many empty rows are dropped."""
-    changed = 0
-    for row in table.rows:
-        if len(row.values) > width and not any(row.values[width:]):
-            del row.values[width:]
-            changed += 1
-    table.changes += [f"empty rows dropped: {empty}"] if empty else []
-    table.changes += [f"empty fields at the end of rows dropped: {changed}"] if changed else []
-
-
-def read_table(data: bytes, most: int, width: Optional[int] = None) -> Table:
+def table_of(path: str, data: bytes, most: int, width: int | None = None) -> File:
     """The records of a file's bytes, at most so many, each of so many fields or of as many as the first one."""
-    text, changes = text_of(data)
-    delimiter, begin, of_delimiter = delimiter_of(text)
+    file = File(path, data)
+    text = text_of(file)
+    delimiter, begin = delimiter_of(text, file)
     records = Records(text[begin:], delimiter, line=2 if begin else 1)
-    table = Table(changes=changes + of_delimiter)
-    empty = filled(records, most, table)
-    within(table, width or len(table.rows[0].values if table.rows else ()), empty)
+    file.fill(records, most, width)
     if records.unclosed:
-        table.faults.append((records.unclosed, "the field's quote isn't closed"))
-        table.unclosed = len(table.rows)
-    # a last value in quotes is whole, and a row of empty fields needs no end
-    last = LINE_END.split(text)[-1] if table.rows else ""
-    table.is_ended = last.endswith('"') or not last.strip(delimiter + ' "')
-    return table
+        file.fault(records.unclosed, "the field's quote isn't closed")
+        file.unclosed = len(file.rows)
+    # a last value in quotes is complete, and a row of empty fields needs no end
+    last = LINE_END.split(text)[-1] if file.rows else ""
+    file.is_ended = last.endswith('"') or not last.strip(delimiter + ' "')
+    return file
 
 
-def read_lines(data: bytes) -> Tuple[List[str], List[str], bool]:
-    """The lines of a list, without the empty ones at its end, what was changed, and whether the last one has its end."""
-    text, changes = text_of(data)
-    lines = LINE_END.split(text)
+def lines_of(path: str, data: bytes) -> File:
+    """The lines of groups as rows of names, without the empty lines at the end."""
+    file = File(path, data)
+    lines = LINE_END.split(text_of(file))
     while lines and not lines[-1].strip():
         lines.pop()
-    return lines, changes, ends_whole(text)
+    file.rows = list(group_rows(enumerate(lines, 1)))
+    return file
+
+
+def pairs_of(path: str, heading: list[str], most: int) -> File:
+    """A file of pairs, at most so many with one that is too many, without a first row that is the heading."""
+    file = table_of(path, read(path, MOST_OF_A_FILE), most + 2, len(heading))
+    if file.rows and [value.lower() for value in file.rows[0].values] == heading:
+        del file.rows[0]
+    return file
+
+
+def fault_of_pair(
+    row: Row, wanted: str, known: Collection[str], before: Collection[str], who: str
+) -> str:
+    """What is wrong with a pair, whose first value has to be a known name that no row before has; nothing if that is right."""
+    name = row.values[0]
+    if len(row.values) != 2:
+        return f"the row has {counted(len(row.values), 'field')}; it is to have {wanted}"
+    if name not in known:
+        return f"{quoted(name)} is no {who} of the rules{nearest(name, known)}"
+    return f"an earlier row is of {quoted(name)}" if name in before else ""

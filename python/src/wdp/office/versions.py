@@ -3,13 +3,13 @@
 A name without such a number comes before one with it, as `Heron.csv` before `Heron (2).csv` and `Heron-2.csv`, and
 numbers count as numbers: 9 comes before 10. Names that differ in anything else don't say which is later.
 """
-from __future__ import annotations
-
 import os
 import re
 import time
+from collections.abc import Sequence
+from itertools import takewhile
 from pathlib import PurePath
-from typing import Any, List, Sequence, Tuple
+from typing import Any
 
 PART = re.compile(r"[0-9]+|[^\W\d_]+")
 # such a date isn't in order by its numbers
@@ -20,27 +20,17 @@ class Undecided(Exception):
     """Why nobody can say which file is the last."""
 
 
-def numbers_at_end(path: str) -> Tuple[List[str], List[int]]:
-    """The words and numbers of a name without the numbers at its end, and these numbers."""
-    parts = PART.findall(PurePath(path).stem.lower())
-    numbers: List[int] = []
-    while parts and parts[-1].isdecimal():
-        numbers.insert(0, int(parts.pop()))
-    return parts, numbers
-
-
-def by_name(paths: Sequence[str]) -> List[List[int]]:
-    """The numbers of each file's name, by which they are put in order."""
-    if any(numbers_at_end(path)[0] != numbers_at_end(paths[0])[0] for path in paths):
+def by_name(paths: Sequence[str]) -> list[list[int]]:
+    """The numbers at the end of each file's name, by which they are put in order."""
+    stems = [PurePath(path).stem for path in paths]
+    parts = [PART.findall(stem.lower()) for stem in stems]
+    ends = [list(takewhile(str.isdecimal, reversed(each))) for each in parts]
+    names = [each[: len(each) - len(end)] for each, end in zip(parts, ends)]
+    if any(name != names[0] for name in names):
         raise Undecided("their names differ in more than the numbers at their ends")
-    if any(YEAR_LAST.search(PurePath(path).stem) for path in paths):
+    if any(map(YEAR_LAST.search, stems)):
         raise Undecided("a date with the year last isn't in order by its numbers")
-    return [numbers_at_end(path)[1] for path in paths]
-
-
-def changed(path: str) -> int:
-    """When a file was changed, in nanoseconds."""
-    return os.stat(path).st_mtime_ns
+    return [[int(number) for number in reversed(end)] for end in ends]
 
 
 def words_of(key: Any) -> str:
@@ -55,19 +45,18 @@ def words_of(key: Any) -> str:
     return f"{at}.{rest:09}"
 
 
-def last_of(paths: Sequence[str], way: str) -> Tuple[int, List[Tuple[int, str]]]:
+def last_of(paths: Sequence[str], way: str | None) -> tuple[int, list[tuple[int, str]]]:
     """The place of the file that counts, and of each other one its place and by what that was judged."""
-    keys: List[Any] = list(by_name(paths) if way == "name" else map(changed, paths))
+    if way is None:
+        raise Undecided("say --last-wins name or --last-wins time")
+    if way == "name":
+        keys: list[Any] = by_name(paths)
+        same, judged = "their names end alike", "the numbers at the ends of their names, {} and {}"
+    else:
+        keys = [os.stat(path).st_mtime_ns for path in paths]
+        same, judged = "they were changed at the same time", "their times of change, {} and {} UTC"
     *order, last = (place for _, place in sorted(zip(keys, range(len(paths)))))
     if keys[order[-1]] == keys[last]:
-        raise Undecided(
-            "their names end alike" if way == "name" else "they were changed at the same time"
-        )
-    judged = (
-        "the numbers at the ends of their names, {} and {}"
-        if way == "name"
-        else "their times of change, {} and {} UTC"
-    )
-    return last, [
-        (place, judged.format(words_of(keys[place]), words_of(keys[last]))) for place in order
-    ]
+        raise Undecided(same)
+    now = words_of(keys[last])
+    return last, [(place, judged.format(words_of(keys[place]), now)) for place in order]

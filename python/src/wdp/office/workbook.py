@@ -1,52 +1,41 @@
 """Forms in workbooks, `.xlsx`: whole numbers from cells of numbers, and nothing else from those."""
-from __future__ import annotations
-
 import datetime
 import io
 import zipfile
-from typing import Any, Iterator, List, Optional, Sequence, Tuple
+from collections.abc import Iterator
+from contextlib import contextmanager
+from functools import partial
+from itertools import zip_longest
+from typing import Any
 
+from wdp.files import Unreadable
 from wdp.office.faults import counted, quoted
-from wdp.office.sheets import NoTable, Table, filled, within
+from wdp.office.sheets import File
 from wdp.texts.tables import Row
 
 NEEDED = "it is a workbook, which needs openpyxl: apt-get install -y python3-openpyxl, or save the table as CSV"
-# bytes of all that a workbook holds, unpacked
-MOST_UNPACKED = 64 * 1024 * 1024
-MOST_CELLS = 1_000
-# floating point has each whole number below this one
-MOST_EXACT = 2**53
+NOT_STORED = "its formula has no stored value; open the workbook in a spreadsheet, and save it"
+MOST_UNPACKED = 64 * 1024 * 1024  # bytes of all that a workbook holds, unpacked
+MOST_CELLS = 1_000  # of a row
+MOST_EXACT = 2**53  # floating point has each whole number below this one
 
 
-def worksheet(data: bytes, name: Optional[str], stored: bool) -> Tuple[Any, List[str]]:
-    """The sheet of a name, or the first one, with values or with formulas; and the names of all."""
+@contextmanager
+def readable(path: str) -> Iterator[None]:
+    """Whatever the library raises for a file that is no workbook is Unreadable."""
     try:
-        import openpyxl
-    except ImportError:
-        raise NoTable(NEEDED) from None
-    try:
-        if (
-            sum(entry.file_size for entry in zipfile.ZipFile(io.BytesIO(data)).infolist())
-            > MOST_UNPACKED
-        ):
-            raise NoTable(f"it is a workbook of more than {MOST_UNPACKED:,} bytes, unpacked")
-        book = openpyxl.load_workbook(io.BytesIO(data), read_only=True, data_only=stored)
-        sheets = [sheet.title for sheet in book.worksheets]
-        if not sheets or name is not None and name not in sheets:
-            raise NoTable(
-                f"it has no sheet {quoted(name or '')}, but {', '.join(map(quoted, sheets[:9]))}"
-            )
-        sheet = book[name or sheets[0]]
-        sheet.reset_dimensions()
-        return sheet, sheets
-    except NoTable:
+        yield
+    except Unreadable:
         raise
-    except Exception as error:  # whatever the library meets in a file that is no workbook
-        raise NoTable(f"it is no workbook that can be read: {type(error).__name__}") from None
+    except ImportError:
+        raise Unreadable(path, NEEDED) from None
+    except Exception as error:
+        why = f"it is no workbook that can be read: {type(error).__name__}"
+        raise Unreadable(path, why) from None
 
 
 def field_of(value: Any) -> str:
-    """A cell's value as a field has it; what is no whole number stays what it is, for the program to refuse."""
+    """A cell's value as a field; what is no whole number stays what it is, for the program to refuse."""
     if value is None:
         return ""
     if isinstance(value, float) and value.is_integer() and abs(value) < MOST_EXACT:
@@ -56,68 +45,57 @@ def field_of(value: Any) -> str:
     return str(value)
 
 
-def filled_width(row: Sequence[Any]) -> int:
-    """How many cells a row has up to the last one that isn't empty."""
-    return next((at for at in range(len(row), 0, -1) if row[at - 1] is not None), 0)
+def cells_of(values: Any, formulas: Any, file: File, taken: list[str]) -> Iterator[Row]:
+    """The rows of a sheet. A formula counts by its stored value, and its cell is added to `taken`; below the first row a text
+    isn't taken for a number."""
+    from openpyxl.utils import get_column_letter
+
+    is_first = True
+    pairs = zip(values.iter_rows(values_only=True), formulas.iter_rows(values_only=True))
+    for number, (row, made) in enumerate(pairs, 1):
+        both = enumerate(zip_longest(row, made), 1)
+        width = max((at for at, pair in both if pair != (None, None)), default=0)
+        if width > MOST_CELLS:
+            why = f"in row {number} it has a cell beyond the first {MOST_CELLS:,}"
+            raise Unreadable(file.path, why)
+        cells = [f"{get_column_letter(at + 1)}{number}" for at in range(width)]
+        places = [f"{values.title}!{cell}" for cell in cells]
+        for value, formula, cell, place in zip(row, made, cells, places):
+            if isinstance(formula, str) and formula.startswith("="):
+                taken.append(cell)
+                if value is None:
+                    file.fault(place, NOT_STORED)
+            if not is_first and isinstance(value, str) and value.strip().isdecimal():
+                file.fault(place, f"{quoted(value)} is a text; turn it into a number")
+        yield Row([field_of(value) for value in row[:width]], number, places)
+        is_first = is_first and not width
 
 
-class Cells:
-    """The rows of a sheet; `formulas` are the cells whose stored values were taken, and `faults` what can't be taken."""
+def workbook_of(path: str, data: bytes, most: int, width: int, name: str | None) -> File:
+    """The rows of a workbook's sheet, the one of this name or the first, as of a file of CSV."""
+    file, taken = File(path, data), list[str]()
+    with readable(path):
+        import openpyxl
 
-    def __init__(self, data: bytes, name: Optional[str]) -> None:
-        self.sheet, self.sheets = worksheet(data, name, True)
-        self.written = worksheet(data, name, False)[0]
-        self.title: str = self.sheet.title
-        self.formulas: List[str] = []
-        self.faults: List[Tuple[str, str]] = []
-
-    def __iter__(self) -> Iterator[Row]:
-        from openpyxl.utils import get_column_letter
-
-        is_first = True
-        values = self.sheet.iter_rows(values_only=True)
-        pairs = zip(values, self.written.iter_rows(values_only=True))
-        for number, (row, formulas) in enumerate(pairs, 1):
-            width = max(filled_width(row), filled_width(formulas))
-            if width > MOST_CELLS:
-                raise NoTable(f"in row {number} it has a cell beyond the first {MOST_CELLS:,}")
-            letters = map(get_column_letter, range(1, width + 1))
-            places = [f"{self.title}!{letter}{number}" for letter in letters]
-            for value, formula, place in zip(row, formulas, places):
-                self.look_at(value, formula, place, is_first)
-            yield Row([field_of(value) for value in row[:width]], number, places)
-            is_first = is_first and not width
-
-    def look_at(self, value: Any, formula: Any, place: str, is_first: bool) -> None:
-        """A formula counts by its stored value; below the first row a text isn't taken for a number, nor is yes or no."""
-        if isinstance(formula, str) and formula.startswith("="):
-            self.formulas.append(place.rpartition("!")[2])
-            if value is None:
-                self.faults.append(
-                    (
-                        place,
-                        "its formula has no stored value; open the workbook in a spreadsheet, and save it",
-                    )
-                )
-        if not is_first and isinstance(value, str) and value.strip().isdecimal():
-            self.faults.append((place, f"{quoted(value)} is a text; turn it into a number"))
-
-
-def read_workbook(data: bytes, most: int, width: int, sheet: Optional[str] = None) -> Table:
-    """The rows of a workbook's sheet, as of a file of CSV."""
-    cells, table = Cells(data, sheet), Table()
-    try:
-        empty = filled(cells, most, table)
-    except NoTable:
-        raise
-    except Exception as error:  # as above: sheets are read row by row
-        raise NoTable(f"it is no workbook that can be read: {type(error).__name__}") from None
-    others = f", of {len(cells.sheets)} sheets" if len(cells.sheets) > 1 else ""
-    table.changes.append(f"read from sheet {cells.title}{others}")
-    if cells.formulas:
-        table.changes.append(
-            f"{counted(len(cells.formulas), 'formula')} taken by their stored values: {', '.join(cells.formulas[:20])}"
-        )
-    within(table, width, empty)
-    table.faults += cells.faults
-    return table
+        entries = zipfile.ZipFile(io.BytesIO(data)).infolist()
+        if sum(entry.file_size for entry in entries) > MOST_UNPACKED:
+            why = f"it is a workbook of more than {MOST_UNPACKED:,} bytes, unpacked"
+            raise Unreadable(path, why)
+        load = partial(openpyxl.load_workbook, read_only=True)
+        books = [load(io.BytesIO(data), data_only=is_stored) for is_stored in (True, False)]
+        titles = [sheet.title for sheet in books[0].worksheets]
+        title = name or "".join(titles[:1])
+        if title not in titles:
+            there = ", ".join(map(quoted, titles[:9]))
+            raise Unreadable(path, f"it has no sheet {quoted(title)}, but {there}")
+        values, formulas = (book[title] for book in books)
+        values.reset_dimensions()
+        formulas.reset_dimensions()
+        file.fill(cells_of(values, formulas, file, taken), most, width)
+    others = f", of {len(titles)} sheets" if len(titles) > 1 else ""
+    changes = [f"read from sheet {title}{others}"]
+    if taken:
+        stored = f"taken by their stored values: {', '.join(taken[:20])}"
+        changes.append(f"{counted(len(taken), 'formula')} {stored}")
+    file.changes = changes + file.changes
+    return file

@@ -11,22 +11,21 @@ winners are the only ones or that others reach the same total, is proved. Nothin
 --drawn publishes the other award of a tie, where the lot fell on that one: its audit has it in the first one's place.
 Exit status: 0 the files are written; 1 a text is refused or a package is missing; 2 the words are wrong.
 """
-from __future__ import annotations
-
 import argparse
-import hashlib
-from dataclasses import replace
-from typing import Callable, Dict, List, Optional, Tuple
+import re
+from collections.abc import Callable
 
 from wdp.texts.answers import Asked, read_report
 from wdp.texts.refusals import Refused, Unclear, WrongWords
+from wdp.texts.tables import digest_of
 from wdp.files import put, read, tell, write_folder
 from wdp.office import choices
 from wdp.office.judge import explained
 from wdp.office.places import MOST_OF_AN_INPUT
+from wdp.prices import end_of_groups, groups_in, pieces_of, with_groups
 from wdp.publish.names import read_names
 from wdp.publish.page import page_of
-from wdp.publish.results import TITLE, Audit, Heading, Origin, Results, Shown, results_of
+from wdp.publish.results import TITLE, Audit, Heading, LeftOut, Results, results_of
 from wdp.publish.tables import files_of, plain_text
 from wdp.results import Report, Tie
 from wdp.program import Limits, answer, found_program
@@ -39,6 +38,7 @@ MOST_OF_AN_AUDIT = 2**31
 LONGEST_TITLE, LONGEST_UNIT = 200, 20
 PAGE, AUDIT = "results.html", "audit.txt"
 FILES = ("bidders.csv", "categories.csv", "pools.csv", "groups.csv", "results.json", PAGE, AUDIT)
+SOURCES = ("the input", "the report", "the audit")
 
 
 def line(longest: int) -> Callable[[str], str]:
@@ -54,184 +54,170 @@ def line(longest: int) -> Callable[[str], str]:
     return read_line
 
 
-def add_page_words(parser: argparse.ArgumentParser) -> None:
-    parser.add_argument(
-        "--title", type=line(LONGEST_TITLE), default=TITLE, help="the page's heading"
-    )
-    parser.add_argument(
-        "--currency", type=line(LONGEST_UNIT), metavar="UNIT", help="what amounts are in, as GBP"
-    )
-    parser.add_argument(
-        "--names",
-        metavar="FILE",
-        type=choices.path,
-        help="what bidders and categories are called: rows `code,name`",
-    )
-
-
 def add_words(parser: argparse.ArgumentParser) -> None:
-    parser.add_argument("input", metavar="INPUT")
-    parser.add_argument("report", metavar="REPORT")
-    parser.add_argument(
-        "--output",
-        metavar="DIR",
-        help="the folder of the files, in the place of an older one of these files alone",
-    )
-    parser.add_argument(
-        "--text", action="store_true", help="print the tables, aligned and with thousands separated"
-    )
-    add_page_words(parser)
-    parser.add_argument(
-        "--audit",
-        metavar="FILE",
-        help="the input with solutions and certificates, as `wdp verify` reads it",
-    )
-    parser.add_argument(
-        "--drawn",
-        action="store_true",
-        help="publish the tied award of the audit: the lot fell on it",
-    )
-
-
-def digest_of(data: bytes) -> str:
-    return hashlib.sha256(data).hexdigest()
-
-
-class Judge:
-    """Asks the program about one input."""
-
-    def __init__(self, program: str, data: bytes) -> None:
-        self.program, self.data, self.asked = program, data, Asked(data)
-
-    def prints(self, command: str, text: bytes) -> bytes:
-        return answer(self.program, [command], text, Limits(self.asked.most_of_report))
-
-    def read(self, output: bytes, is_certified: bool) -> Report:
-        asked = Asked(self.data)
-        asked.is_claimed = output.endswith((b"\nunique\n")) or b"\ntie\n" in output
-        return read_report(output, asked, is_certified)
+    add = parser.add_argument
+    add("input", metavar="INPUT")
+    add("report", metavar="REPORT")
+    folder = "the folder of the files, in the place of an older one of these files alone"
+    add("--output", metavar="DIR", type=choices.path, help=folder)
+    text = "print the tables, aligned and with thousands separated"
+    add("--text", action="store_true", help=text)
+    add("--title", type=line(LONGEST_TITLE), default=TITLE, help="the page's heading")
+    unit = "what amounts are in, as GBP"
+    add("--currency", type=line(LONGEST_UNIT), metavar="UNIT", help=unit)
+    names = "what bidders and categories are called: rows `code,name`"
+    add("--names", metavar="FILE", type=choices.path, help=names)
+    audit = "the input with solutions and certificates, as `wdp verify` reads it"
+    add("--audit", metavar="FILE", help=audit)
+    drawn = "publish the tied award of the audit: the lot fell on it"
+    add("--drawn", action="store_true", help=drawn)
 
 
 def solutions_of(report: Report, auction: Accepted) -> bytes:
     """The solutions that a report's winners are."""
-    rules = auction.rules
-    has_constant = any(category.supply * category.value for category in rules.categories)
-    lines: List[str] = []
+    rules, lines = auction.rules, list[str]()
+    constant = ["K"] if any(each.supply * each.value for each in rules.categories) else []
     for group in report.groups:
         columns = [f"X{rules.number_of(winner.bidder)}_{winner.bid}" for winner in group.winners]
-        lines += [
-            "%solution",
-            *(f"{column} 1" for column in [*columns, *(["K"] if has_constant else [])]),
-        ]
+        lines += ["%solution", *(f"{column} 1" for column in [*columns, *constant])]
     return "".join(line + "\n" for line in lines).encode()
 
 
-def of_report(judge: Judge, auction: Accepted, text: bytes, source: str) -> Shown:
+def disproved(report: Report) -> str | None:
+    """How figures show by themselves that not every total is the greatest one, if they do."""
+    for group in report.groups:
+        if group.cost < 0:
+            return f"an answer isn't optimal: the cost of group {group.number} is {group.cost:,}, below 0"
+        if group.total > report.groups[0].total:
+            return f"the answer to group 1 isn't optimal: the total of group {group.number} is above its own"
+    return None
+
+
+def judged(program: str, command: str, text: bytes) -> tuple[bytes, Report]:
+    """What the program prints of a text, as it is and as a report."""
+    asked = Asked(text)
+    output = answer(program, [command], text, Limits(asked.most_of_report))
+    return output, read_report(output, asked, command == "verify")
+
+
+def of_report(program: str, data: bytes, auction: Accepted, text: bytes, source: str) -> Report:
     """What a report without an audit says, once the program prints it again of its winners."""
     try:
-        report = judge.read(text, False)
-        again = judge.prints("report", solutions_of(report, auction) + judge.data)
+        report = read_report(text, Asked(data), False)
+        again, _ = judged(program, "report", solutions_of(report, auction) + data)
     except Unclear as error:
         raise Refused(f"{source}: it isn't a report of this input: {error.text}") from None
     except Refused as error:
         raise Refused(f"{source}: its winners aren't of this input: {error.text}") from None
-    if again != text:
-        pairs = enumerate(zip(text.split(b"\n"), again.split(b"\n")), 1)
-        number, printed = next(
-            (number, wanted) for number, (given, wanted) in pairs if given != wanted
-        )
-        raise Refused(
-            f"{source}: line {number}: of its winners wdp prints '{printed.decode()}' here"
-        )
-    first = report.groups[0]
-    for group in report.groups:
-        if group.cost < 0 or group.total > first.total:
-            raise Refused(
-                f"{source}: group {group.number} shows that not every total is the greatest one; nothing is published"
-            )
-    return Shown(report)
+    for number, pair in enumerate(zip(text.split(b"\n"), again.split(b"\n")), 1):
+        if pair[0] != pair[1]:
+            printed = f"of its winners wdp prints '{pair[1].decode()}' here"
+            raise Refused(f"{source}: line {number}: {printed}")
+    fault = disproved(report)
+    if fault:
+        raise Refused(f"{source}: {fault}; nothing is published")
+    return report
 
 
 def with_tie_first(audit: bytes) -> bytes:
-    """The audit in which group 1's solution and the one that ties stand in each other's place."""
-    parts = list(parts_of(audit))
-    first = next(part for part in parts if part.kind == "solution")
-    tie = next(part for part in parts if part.kind == "tie")
-    one, two = sorted((first, tie), key=lambda part: part.begin)
-    return b"".join(
-        (audit[: one.begin], two.text, audit[one.end : two.begin], one.text, audit[two.end :])
-    )
+    """The audit with group 1's solution and the one that ties in each other's place, without the first one's prices."""
+    pieces = [each for each in pieces_of(audit) if each[0] not in ("prices", "cover", "weights")]
+    kinds = [kind for kind, _, _ in pieces]
+    one, two = kinds.index("solution"), kinds.index("tie")
+    texts = {one: pieces[two][2], two: pieces[one][2]}
+    return b"".join(head + texts.get(at, text) for at, (_, head, text) in enumerate(pieces))
 
 
-def of_audit(
-    judge: Judge, report: bytes, audit: bytes, is_drawn: bool, source: str
-) -> Tuple[Shown, bytes, bytes]:
-    """What an audit shows, the audit that is published, and what the program prints of it."""
-    if not audit.endswith(b"\n" + judge.data) or not audit.startswith(b"%"):
+def added_groups(audit: bytes, data: bytes, source: str) -> list[str]:
+    """The groups that an audit adds to those of its input; Refused where it isn't an audit of this input."""
+    added = groups_in(audit)[len(groups_in(data)) :]
+    kinds, given = ([each.kind for each in parts_of(text)] for text in (audit, data))
+    is_same = [kind for kind in kinds if kind in accepted.KINDS] == given
+    if not is_same or not audit.endswith(b"\n" + with_groups(data, added)):
         raise Refused(f"{source}: it doesn't end with the input, behind solutions and certificates")
+    return added
+
+
+def awards_in(
+    program: str, report: bytes, audit: bytes, count: int, is_drawn: bool, source: str
+) -> list[tuple[bytes, bytes, Report]]:
+    """The awards that an audit shows, the published one first: of each the audit that has it first, and what the program
+    prints of that. Either award of a tie may be the first of an audit; REPORT is that of the one that wasn't drawn.
+    """
     try:
-        output = judge.prints("verify", audit)
-        if not output.startswith(report) or output[len(report) :].split(b"\n")[0] not in (
-            b"",
-            b"unique",
-            b"tie",
-        ):
-            raise Refused(f"{source}: what wdp verify prints of it isn't the report")
-        shown = Shown(judge.read(output, True))
-        if not isinstance(shown.report.uniqueness, Tie):
-            if is_drawn:
-                raise WrongWords(f"--drawn: {source} shows no tie, so that nothing was drawn")
-            return shown, audit, output
-        drawn = with_tie_first(audit)
-        of_drawn = judge.prints("verify", drawn)
-        other = judge.read(of_drawn, True)
-    except WrongWords:
-        raise
+        awards = [(audit, *judged(program, "verify", audit))]
+        if isinstance(awards[0][2].uniqueness, Tie):
+            tied = with_tie_first(audit)
+            awards.append((tied, *judged(program, "verify", tied)))
     except Refused as error:
-        raise error if error.text.startswith(source) else Refused(
-            f"{source}: wdp verify refuses it: {error.text}"
-        ) from None
-    if is_drawn:
-        return Shown(other, shown.report, True), drawn, of_drawn
-    return replace(shown, other=other), audit, output
+        raise Refused(f"{source}: wdp verify refuses it: {error.text}") from None
+    if is_drawn and len(awards) == 1:
+        raise WrongWords(f"--drawn: {source} shows no tie, so that nothing was drawn")
+    reports = [report_in(output, count) for _, output, _ in awards]
+    if is_drawn and reports[0] == report:
+        awards, reports = awards[::-1], reports[::-1]
+    if reports[-1 if is_drawn else 0] != report:
+        raise Refused(f"{source}: what wdp verify prints of it isn't the report")
+    return awards
+
+
+def report_in(output: bytes, count: int) -> bytes:
+    """The report of so many groups in what `wdp verify` prints."""
+    return re.split(rb"(?m)^(?:group %d .*|prices|unique|tie)$" % (count + 1), output, 1)[0]
 
 
 def results_from(
-    program: str, data: bytes, report: bytes, audit: Optional[bytes] = None, heading: Heading = Heading(), is_drawn: bool = False,
-    sources: Tuple[str, str, str] = ("the input", "the report", "the audit"),
-) -> Tuple[Results, Optional[bytes]]:  # fmt: skip
+    program: str,
+    data: bytes,
+    report: bytes,
+    audit: bytes | None = None,
+    heading: Heading = Heading(),
+    is_drawn: bool = False,
+    sources: tuple[str, str, str] = SOURCES,
+) -> tuple[Results, bytes | None]:
     """The figures of an input and its report, and the audit that is published with them."""
     if is_drawn and audit is None:
         raise WrongWords("--drawn needs --audit, whose tie was drawn")
-    judge = Judge(program, data)
     found = explained(program, data, True)
     if found.findings:
-        raise Refused(
-            f"{sources[0]}: {found.findings[0].refused.text}; wdp-office explain {sources[0]} says where"
-        )
+        hint = f"wdp-office explain {sources[0]} says where"
+        raise Refused(f"{sources[0]}: {found.findings[0].refused.text}; {hint}")
     auction = accepted.read(data, sources[0])
     if not auction.groups or auction.groups[0]:
         raise Refused(f"{sources[0]}: its first group isn't the empty one, -")
-    origin_audit = None
+    shows = None
     if audit is None:
-        shown, printed = of_report(judge, auction, report, sources[1]), report
+        reports = [of_report(program, data, auction, report, sources[1])]
     else:
-        shown, audit, printed = of_audit(judge, report, audit, is_drawn, sources[2])
-        origin_audit = Audit(digest_of(audit), digest_of(data), digest_of(printed), len(data))
-        report = printed.partition(b"\ntie\n")[0] + b"\n" if is_drawn else report
-    version = answer(program, ["--version"], b"", Limits(1_000)).decode().strip()
-    origin = Origin(digest_of(data), digest_of(report), origin_audit, version)
-    return results_of(auction, replace(shown, left_out=found.left_out), heading, origin), audit
+        grown = with_groups(data, added_groups(audit, data, sources[2]))
+        count = len(auction.groups)
+        awards = awards_in(program, report, audit, count, is_drawn, sources[2])
+        reports = [each for _, _, each in awards]
+        audit, output, _ = awards[0]
+        report = report_in(output, count)
+        sizes = len(data), end_of_groups(data), len(grown) - len(data)
+        shows = Audit(digest_of(audit), digest_of(data), digest_of(output), *sizes)
+    results = results_of(
+        auction,
+        reports[0],
+        reports[1] if reports[1:] else None,
+        **vars(heading),
+        is_drawn=is_drawn,
+        left_out=[LeftOut(bidder, why) for bidder, why in found.left_out],
+        input_sha256=digest_of(data),
+        report_sha256=digest_of(report),
+        audit=shows,
+        wdp=answer(program, ["--version"], b"", Limits(1_000)).decode().strip(),
+    )
+    return results, audit
 
 
-def publish(results: Results, audit: Optional[bytes], folder: str) -> Dict[str, bytes]:
+def publish(results: Results, audit: bytes | None, folder: str) -> dict[str, bytes]:
     """Writes the files, once all of them are made."""
-    files = {
-        **files_of(results),
-        PAGE: page_of(results),
-        **({} if audit is None else {AUDIT: audit}),
-    }
-    write_folder(folder, files, dict.fromkeys(FILES))
+    files = {**files_of(results), PAGE: page_of(results)}
+    if audit is not None:
+        files[AUDIT] = audit
+    write_folder(folder, files, FILES)
     return files
 
 
@@ -243,9 +229,8 @@ def run(given: argparse.Namespace) -> int:
     names = read_names(given.names, accepted.read(data, given.input).rules) if given.names else {}
     heading = Heading(given.title, given.currency, names)
     sources = given.input, given.report, given.audit or ""
-    results, audit = results_from(
-        found_program(given.program), data, report, audit, heading, given.drawn, sources
-    )
+    program = found_program(given.program)
+    results, audit = results_from(program, data, report, audit, heading, given.drawn, sources)
     if given.output is not None:
         files = publish(results, audit, given.output)
         tell(f"results: {len(files)} files in {given.output}\n")

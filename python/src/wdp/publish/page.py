@@ -1,15 +1,12 @@
 """The page of an auction's results: one HTML text that stands alone."""
-from __future__ import annotations
-
 from pathlib import Path
-from typing import Union
 
 from wdp.texts.refusals import Missing
 from wdp.publish.results import Results
 from wdp.publish.tables import Blank, tables_of
 
 
-def shown(cell: Union[int, str]) -> str:
+def shown(cell: int | str) -> str:
     return f"{cell:,}" if isinstance(cell, int) else cell
 
 
@@ -32,13 +29,10 @@ def page_of(results: Results) -> bytes:
         undefined=jinja2.StrictUndefined,
     )
     environment.filters.update(shown=shown, part_of=part_of)
-    environment.tests.update(
-        blank=lambda cell: isinstance(cell, Blank),
-        figure=lambda cell: isinstance(cell, (int, Blank)),
-    )
-    greatest = {
-        "amount": max(max(bidder.amount, bidder.cost or 0) for bidder in results.bidders),
-        "supply": max(category.supply for category in results.categories),
-    }
+    environment.tests["blank"] = lambda cell: isinstance(cell, Blank)
+    environment.tests["figure"] = lambda cell: isinstance(cell, (int, Blank))
+    amounts = [max(bidder.amount, bidder.cost or 0) for bidder in results.bidders]
+    supplies = [category.supply for category in results.categories]
+    greatest = {"amount": max(amounts), "supply": max(supplies)}
     page = environment.get_template("page.html.jinja")
     return page.render(results=results, greatest=greatest, tables=tables_of(results)).encode()

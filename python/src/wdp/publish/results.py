@@ -1,28 +1,29 @@
 """The result of an auction in figures: what each bidder won, what is sold, and what each group costs."""
-from __future__ import annotations
-
+from collections.abc import Mapping, Sequence
 from dataclasses import dataclass, field
-from typing import Dict, List, Optional, Sequence, Tuple
+from typing import Any
 
-from wdp.results import Group, Report
-from wdp.texts.accepted import Accepted, Category, Pool, Rules
+from wdp.results import Group, Prices, Report
+from wdp.texts.accepted import Accepted
 
 TITLE = "Results of the auction"
 
 
 @dataclass(frozen=True)
 class BidderResult:
-    """A bidder with its lots of each category; where it won nothing, `bid` is None and the figures are 0. `cost` is that of
-    the group of it alone, None where there is no such group. `bids` is how many its form has."""
+    """A bidder with its lots of each category, and how many bids its form has. Where it won nothing, `bid` is None and the
+    figures are 0; `price` is None where no prices are shown, `cost` if there is no group of it alone.
+    """
 
     name: str
-    lots: List[int]
+    lots: list[int]
     bids: int
-    bid: Optional[int]
+    bid: int | None
     amount: int
+    price: int | None
     reserve: int
-    cost: Optional[int]
-    cost_group: Optional[int]
+    cost: int | None
+    cost_group: int | None
 
 
 @dataclass(frozen=True)
@@ -51,106 +52,161 @@ class Won:
     name: str
     bid: int
     amount: int
-    lots: List[int]
+    lots: list[int]
 
 
 @dataclass(frozen=True)
 class GroupResult:
+    """A group; `paid` is None where no prices are shown, and `is_added` whether it was added for the prices."""
+
     number: int
-    left_out: List[str]
-    winners: List[Won]
+    left_out: list[str]
+    winners: list[Won]
     total: int
     cost: int
+    paid: int | None
+    is_added: bool
+
+
+@dataclass(frozen=True)
+class PricesResult:
+    """The sum of the prices, whether it is shown to be the least, and which groups and reserves bind."""
+
+    total: int
+    is_least: bool
+    groups: list[int]
+    reserves: list[str]
 
 
 @dataclass(frozen=True)
 class TiedAward:
     """Another award of the same total, and of each group the cost by it."""
 
-    winners: List[Won]
-    costs: List[int]
+    winners: list[Won]
+    costs: list[int]
 
 
 @dataclass(frozen=True)
 class LeftOut:
-    """A bid that is in no program, and why."""
-
     bidder: str
     why: str
 
 
 @dataclass(frozen=True)
 class Audit:
-    """By what anyone repeats the audit: the SHA-256 of what `wdp verify` reads, of the input, which is its end, with its
-    size, and of what it prints, the report and what is shown of its winners."""
+    """By what anyone repeats the audit: the SHA-256 of what `wdp verify` reads, of the input, which is its end but for the
+    groups that were added after `bytes_before` bytes of it, and of what it prints."""
 
     sha256: str
     input_sha256: str
     report_sha256: str
     input_bytes: int
+    bytes_before: int
+    added_bytes: int
+
+    @property
+    def input_command(self) -> str:
+        """What prints the SHA-256 of the input."""
+        rest = self.input_bytes - self.bytes_before
+        command = f"tail -c {self.input_bytes + self.added_bytes} audit.txt"
+        if self.added_bytes:
+            command += f" | head -c {self.bytes_before}"
+            command = f"({command}; tail -c {rest} audit.txt)" if rest else command
+        return f"{command} | sha256sum"
+
+
+@dataclass(frozen=True)
+class Heading:
+    """What an office says of a page: `names` are what bidders and categories are called, by their codes."""
+
+    title: str = TITLE
+    currency: str | None = None
+    names: Mapping[str, str] = field(default_factory=dict)
 
 
 @dataclass(frozen=True)
 class Results:
-    """What is published. Each total is certified where there is an audit. `proof` is what it shows of the winners: that they
-    are the `only` ones, that a `tie` with another award, or `none`; `is_drawn` whether of two awards this one was drawn by lot.
-    `names` has what bidders and categories are called, by their names in the rules."""
+    """What is published. `proof` is what an audit shows of the winners: that they are the `only` ones, that a `tie` with
+    another award, or `none`; `is_drawn` is whether of two awards this one was drawn by lot."""
 
     certified: bool
     title: str
-    currency: Optional[str]
+    currency: str | None
     total: int
     amounts: int
     value_left: int
-    bidders: List[BidderResult]
-    categories: List[CategoryResult]
-    pools: List[PoolResult]
-    groups: List[GroupResult]
+    bidders: list[BidderResult]
+    categories: list[CategoryResult]
+    pools: list[PoolResult]
+    groups: list[GroupResult]
+    prices: PricesResult | None
     proof: str
     is_drawn: bool
-    tied_award: Optional[TiedAward]
-    left_out: List[LeftOut]
-    names: Dict[str, str]
+    tied_award: TiedAward | None
+    left_out: list[LeftOut]
+    names: Mapping[str, str]
     input_sha256: str
     report_sha256: str
-    audit: Optional[Audit]
+    audit: Audit | None
     wdp: str
 
     @property
-    def winners(self) -> List[BidderResult]:
+    def winners(self) -> list[BidderResult]:
         return [bidder for bidder in self.bidders if bidder.bid is not None]
 
     def called(self, name: str) -> str:
-        """A name of the rules with what it stands for."""
         return f"{name} ({self.names[name]})" if name in self.names else name
 
     def lots_text(self, lots: Sequence[int]) -> str:
         """Lots in words: `2 of A, 1 of B`."""
-        return ", ".join(
-            f"{quantity:,} of {category.name}"
-            for quantity, category in zip(lots, self.categories)
-            if quantity
-        )
+        pairs = zip(lots, self.categories)
+        return ", ".join(f"{quantity:,} of {each.name}" for quantity, each in pairs if quantity)
+
+    def won_text(self, won: Won | None) -> str:
+        what = won and f"{won.amount:,} for {self.lots_text(won.lots)} (bid {won.bid:,})"
+        return what or "nothing"
+
+    @property
+    def paid(self) -> int | None:
+        return self.prices.total if self.prices else None
+
+    @property
+    def unit(self) -> str:
+        return f" {self.currency}" if self.currency else ""
 
     @property
     def certified_words(self) -> str:
-        """What is said of the totals before all else."""
         if self.certified:
             return f"Certified: each of the {len(self.groups):,} totals is shown to be the greatest one."
         return "Not certified: that these totals are the greatest ones is a solver's word, and no certificate shows it."
 
     @property
     def sums_words(self) -> str:
-        """How many win, and what that brings."""
-        unit = f" {self.currency}" if self.currency else ""
+        unit = self.unit
         words = f"{len(self.winners):,} of {len(self.bidders):,} bidders win. Their bids add up to {self.amounts:,}{unit}"
         if self.value_left:
             words += f", and the unsold lots have a value of {self.value_left:,}{unit}, in all {self.total:,}{unit}"
         return words + "."
 
     @property
+    def prices_words(self) -> str:
+        if self.prices is None:
+            return ""
+        words = f"Proved: {self.proved_of_prices}. Not proved: that of such prices these are the nearest to what each winner costs alone."
+        of_award = " They belong to the winners of this page; by the other award there are others."
+        return words + (of_award if self.tied_award else "")
+
+    @property
+    def proved_of_prices(self) -> str:
+        assert self.prices
+        words = "no group of bidders, listed or not, pays less than its opportunity cost, and nobody less than the reserve; "
+        words += f"the prices come to {self.prices.total:,}{self.unit}, and "
+        if self.prices.is_least:
+            return words + "no whole prices of which that is true come to less"
+        return words + "whether others come to less isn't shown"
+
+    @property
     def proof_words(self) -> str:
-        """What is said of other awards of the same total."""
         if self.proof == "only":
             return "Proved: these are the only winners. No other combination of bids reaches the same total. The audit shows it."
         if self.tied_award is None:
@@ -161,48 +217,12 @@ class Results:
         return f"{shown} Which one holds, as by lot, is for the auction's rules to say."
 
 
-@dataclass(frozen=True)
-class Shown:
-    """What is known of an auction's result: the report, and where the audit shows a tie, the report by the other award."""
-
-    report: Report
-    other: Optional[Report] = None
-    is_drawn: bool = False
-    left_out: Sequence[Tuple[str, str]] = ()
+def won_in(group: Group, auction: Accepted) -> list[Won]:
+    lots = [auction.bids[winner.bidder][winner.bid - 1].lots for winner in group.winners]
+    return [Won(w.bidder, w.bid, w.amount, list(won)) for w, won in zip(group.winners, lots)]
 
 
-@dataclass(frozen=True)
-class Heading:
-    """What an office says of a page beside the figures."""
-
-    title: str = TITLE
-    currency: Optional[str] = None
-    names: Dict[str, str] = field(default_factory=dict)
-
-
-@dataclass(frozen=True)
-class Origin:
-    """What the figures are from: sums of the input and the report, the audit, and the program's version."""
-
-    input_sha256: str
-    report_sha256: str
-    audit: Optional[Audit]
-    wdp: str
-
-
-def won_in(group: Group, auction: Accepted) -> List[Won]:
-    return [
-        Won(
-            winner.bidder,
-            winner.bid,
-            winner.amount,
-            list(auction.bids[winner.bidder][winner.bid - 1].lots),
-        )
-        for winner in group.winners
-    ]
-
-
-def bidder_result(name: str, won: Optional[Won], report: Report, auction: Accepted) -> BidderResult:
+def bidder_result(name: str, won: Won | None, report: Report, auction: Accepted) -> BidderResult:
     categories = auction.rules.categories
     alone = next((group for group in report.groups if group.names == (name,)), None)
     lots = won.lots if won else [0] * len(categories)
@@ -212,62 +232,47 @@ def bidder_result(name: str, won: Optional[Won], report: Report, auction: Accept
         bids=len(auction.bids.get(name, ())),
         bid=won.bid if won else None,
         amount=won.amount if won else 0,
+        price=report.prices.paid.get(name, 0) if report.prices else None,
         reserve=sum(quantity * category.reserve for quantity, category in zip(lots, categories)),
         cost=alone.cost if alone else None,
         cost_group=alone.number if alone else None,
     )
 
 
-def category_result(category: Category, sold: int) -> CategoryResult:
-    unsold = category.supply - sold
-    left = unsold * category.value
-    return CategoryResult(
-        category.name, category.supply, sold, unsold, category.reserve, category.value, left
-    )
+def group_result(group: Group, prices: Prices | None, auction: Accepted) -> GroupResult:
+    paid = sum(prices.paid.get(name, 0) for name in group.names) if prices else None
+    figures = group.total, group.cost, paid, group.number > len(auction.groups)
+    return GroupResult(group.number, list(group.names), won_in(group, auction), *figures)
 
 
-def pool_result(pool: Pool, sold: Sequence[int], rules: Rules) -> PoolResult:
-    load = rules.load(pool, sold)
-    return PoolResult(pool.name, load, pool.cap, pool.cap - load)
-
-
-def tied_award(report: Report, auction: Accepted) -> TiedAward:
-    return TiedAward(won_in(report.groups[0], auction), [group.cost for group in report.groups])
-
-
-def results_of(auction: Accepted, shown: Shown, heading: Heading, origin: Origin) -> Results:
-    """The figures of an auction from its input and its report."""
-    rules, report, first = auction.rules, shown.report, shown.report.groups[0]
-    groups = [
-        GroupResult(
-            group.number, list(group.names), won_in(group, auction), group.total, group.cost
-        )
-        for group in report.groups
-    ]
+def results_of(auction: Accepted, report: Report, other: Report | None, **about: Any) -> Results:
+    """The figures of an auction from its input and its report, which may end with added groups. Where
+    the audit shows a tie `other` is the report by the other award; `about` has the other fields."""
+    rules, prices = auction.rules, report.prices
+    groups = [group_result(group, prices, auction) for group in report.groups]
     won = {winner.name: winner for winner in groups[0].winners}
-    sold = [
-        sum(winner.lots[place] for winner in won.values()) for place in range(len(rules.categories))
+    sold = [sum(each.lots[at] for each in won.values()) for at in range(len(rules.categories))]
+    unsold = [category.supply - lots for category, lots in zip(rules.categories, sold)]
+    categories = [
+        CategoryResult(c.name, c.supply, lots, left, c.reserve, c.value, left * c.value)
+        for c, lots, left in zip(rules.categories, sold, unsold)
     ]
-    categories = [category_result(category, lots) for category, lots in zip(rules.categories, sold)]
-    other = tied_award(shown.other, auction) if shown.other else None
+    bidders = [bidder_result(name, won.get(name), report, auction) for name in rules.bidders]
+    loads = [(pool, rules.load(pool, sold)) for pool in rules.pools]
+    bound = [group.number for group in groups if group.left_out and group.paid == group.cost]
+    reserves = [each.name for each in bidders if each.bid and each.price == each.reserve]
+    costs = [group.cost for group in other.groups] if other else []
     return Results(
         certified=report.is_certified,
-        title=heading.title,
-        currency=heading.currency,
-        total=first.total,
-        amounts=sum(winner.amount for winner in first.winners),
+        total=report.groups[0].total,
+        amounts=sum(winner.amount for winner in won.values()),
         value_left=sum(category.value_left for category in categories),
-        bidders=[bidder_result(name, won.get(name), report, auction) for name in rules.bidders],
+        bidders=bidders,
         categories=categories,
-        pools=[pool_result(pool, sold, rules) for pool in rules.pools],
+        pools=[PoolResult(pool.name, load, pool.cap, pool.cap - load) for pool, load in loads],
         groups=groups,
+        prices=PricesResult(prices.total, prices.is_least, bound, reserves) if prices else None,
         proof="tie" if other else "only" if report.uniqueness == "only" else "none",
-        is_drawn=shown.is_drawn,
-        tied_award=other,
-        left_out=[LeftOut(bidder, why) for bidder, why in shown.left_out],
-        names=heading.names,
-        input_sha256=origin.input_sha256,
-        report_sha256=origin.report_sha256,
-        audit=origin.audit,
-        wdp=origin.wdp,
+        tied_award=TiedAward(won_in(other.groups[0], auction), costs) if other else None,
+        **about,
     )

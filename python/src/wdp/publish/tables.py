@@ -1,250 +1,227 @@
 """The tables of an auction's results, and how they are written as CSV, JSON, and text for people."""
-from __future__ import annotations
-
 import json
 import re
-from dataclasses import asdict, dataclass
-from typing import Dict, List, Optional, Sequence
+from collections.abc import Sequence
+from dataclasses import asdict, astuple, dataclass
 
 from wdp.office.receipt import Cell, aligned
-from wdp.publish.results import Results
+from wdp.publish.results import BidderResult, Results
+from wdp.texts.tables import field_text
 
 # what parts fields, and the first signs by which spreadsheets know a formula
 SPECIAL = re.compile(r'[,"\r\n]|^[=+\-@%\t]')
+MOST_BOUND = 4  # groups that are named as binding a price
+CATEGORIES = "Category,Supply,Sold,Unsold,Reserve of a lot,Value of an unsold lot,Value left"
+POOLS = "Pool,Load,Cap,Left"
 
 
 class Blank(str):
-    """What stands for a figure that there isn't; nothing in CSV."""
+    """What stands for a figure that there isn't."""
 
 
-Rows = Sequence[Sequence[Cell]]
+@dataclass(frozen=True)
+class Column:
+    """A column of a table: its heading, its cells, what stands below them, and whether they are amounts."""
+
+    heading: str
+    cells: Sequence[Cell]
+    total: Cell = ""
+    is_money: bool = False
 
 
 @dataclass(frozen=True)
 class Table:
-    """A table for people: headings, of which those in `money` are of amounts, rows, and sums of them all."""
+    """A table for people. Columns of which nothing is known are left out."""
 
     name: str
     title: str
     caption: str
-    headings: Sequence[str]
-    rows: Rows
-    sums: Optional[Sequence[Cell]] = None
-    money: Sequence[str] = ()
+    columns: Sequence[Column]
 
-    def headed(self, currency: Optional[str]) -> List[str]:
-        return [
-            f"{heading}, {currency}" if currency and heading in self.money else heading
-            for heading in self.headings
-        ]
+    @property
+    def known(self) -> list[Column]:
+        return [each for each in self.columns if any(cell is not None for cell in each.cells)]
+
+    @property
+    def rows(self) -> list[Sequence[Cell]]:
+        return list(zip(*(column.cells for column in self.known)))
+
+    @property
+    def sums(self) -> list[Cell]:
+        """What stands below all rows; nothing in a table without sums."""
+        totals = [column.total for column in self.known]
+        return totals if any(totals) else []
+
+    def headed(self, currency: str | None) -> list[str]:
+        unit = f", {currency}" if currency else ""
+        return [each.heading + (unit if each.is_money else "") for each in self.known]
+
+    def text(self, currency: str | None) -> str:
+        sums = [self.sums] if self.sums else []
+        lines = aligned([self.headed(currency), *self.rows, *sums])
+        return "".join(line + "\n" for line in lines)
+
+
+def cost_cell(bidder: BidderResult) -> Cell:
+    return Blank("not asked for") if bidder.cost is None else bidder.cost
 
 
 def bidders(results: Results) -> Table:
-    rows: Rows = [
-        [
-            results.called(bidder.name),
-            bidder.amount,
-            Blank("not asked for") if bidder.cost is None else bidder.cost,
-            bidder.reserve,
-            bidder.bid or Blank("none won" if bidder.bids else "no bids"),
-            results.lots_text(bidder.lots),
-        ]
-        for bidder in results.bidders
+    all_of = results.bidders
+    sold = results.lots_text([category.sold for category in results.categories])
+    reserve = sum(each.reserve for each in all_of)
+    blanks = [Blank("none won" if each.bids else "no bids") for each in all_of]
+    columns = [
+        Column("Bidder", [results.called(each.name) for each in all_of], "All"),
+        Column("Amount", [each.amount for each in all_of], results.amounts, True),
+        Column("Price", [each.price for each in all_of], results.paid, True),
+        Column("Opportunity cost", list(map(cost_cell, all_of)), "", True),
+        Column("Reserve", [each.reserve for each in all_of], reserve, True),
+        Column("Bid", [each.bid or blank for each, blank in zip(all_of, blanks)]),
+        Column("Lots", [results.lots_text(each.lots) for each in all_of], sold),
     ]
-    reserve = sum(bidder.reserve for bidder in results.bidders)
-    return Table(
-        "bidders",
-        "Bidders",
-        "Amount and number of each winning bid, and the lots that it wins. The opportunity cost is that of leaving the bidder "
-        "alone out.",
-        ["Bidder", "Amount", "Opportunity cost", "Reserve", "Bid", "Lots"],
-        rows,
-        [
-            "All",
-            results.amounts,
-            "",
-            reserve,
-            "",
-            results.lots_text([category.sold for category in results.categories]),
-        ],
-        ["Amount", "Opportunity cost", "Reserve"],
+    caption = "Amount and number of each winning bid, and the lots that it wins. "
+    caption += "The opportunity cost is that of leaving the bidder alone out."
+    return Table("bidders", "Bidders", caption, columns)
+
+
+def bound_by(winner: BidderResult, results: Results) -> str:
+    assert results.prices
+    left_out = (results.groups[number - 1].left_out for number in results.prices.groups)
+    bound = [" + ".join(names) for names in left_out if winner.name in names]
+    bound += ["reserve"] if winner.name in results.prices.reserves else []
+    more = [f"{len(bound) - MOST_BOUND} more"] if len(bound) > MOST_BOUND else []
+    return ", ".join([*bound[:MOST_BOUND], *more])
+
+
+def prices(results: Results) -> Table:
+    winners = results.winners if results.prices else []
+    costs = sum(each.cost or 0 for each in winners)
+    columns = [
+        Column("Winner", [results.called(each.name) for each in winners], "All"),
+        Column("Cost alone", list(map(cost_cell, winners)), costs, True),
+        Column("Price", [each.price for each in winners], results.paid, True),
+        Column("Amount", [each.amount for each in winners], results.amounts, True),
+        Column("Bound by", [bound_by(each, results) for each in winners]),
+    ]
+    caption = "What each winner costs the others alone, what it pays, and its bid. A group that is "
+    caption += (
+        "named pays just its opportunity cost, and `reserve` says that the price is the reserve."
     )
+    return Table("prices", "Prices", caption, columns)
 
 
 def categories(results: Results) -> Table:
-    each = results.categories
-    rows: Rows = [
-        [results.called(c.name), c.supply, c.sold, c.unsold, c.reserve, c.value, c.value_left]
-        for c in each
-    ]
-    supply, sold, unsold = (
-        sum(c.supply for c in each),
-        sum(c.sold for c in each),
-        sum(c.unsold for c in each),
-    )
-    return Table(
-        "categories",
-        "Categories",
-        "Lots of each category: how many there are, are sold and stay unsold, and the value of the unsold ones.",
-        [
-            "Category",
-            "Supply",
-            "Sold",
-            "Unsold",
-            "Reserve of a lot",
-            "Value of an unsold lot",
-            "Value left",
-        ],
-        rows,
-        ["All", supply, sold, unsold, "", "", results.value_left],
-        ["Reserve of a lot", "Value of an unsold lot", "Value left"],
-    )
+    name, *figures = zip(*map(astuple, results.categories))
+    cells = [list(map(results.called, name)), *figures]
+    totals: list[Cell] = ["All", *map(sum, figures[:3]), "", "", results.value_left]
+    given = zip(CATEGORIES.split(","), cells, totals, [False] * 4 + [True] * 3)
+    columns = [Column(*each) for each in given]
+    caption = "Lots of each category: how many there are, are sold and stay unsold, and the value of the unsold ones."
+    return Table("categories", "Categories", caption, columns)
 
 
 def pools(results: Results) -> Table:
-    rows: Rows = [[pool.name, pool.load, pool.cap, pool.left] for pool in results.pools]
+    cells = zip(*map(astuple, results.pools))
+    columns = [Column(heading, each) for heading, each in zip(POOLS.split(","), cells)]
     caption = "What the sold lots load each pool with, and its cap."
-    return Table("pools", "Pools", caption, ["Pool", "Load", "Cap", "Left"], rows)
+    return Table("pools", "Pools", caption, columns)
 
 
 def groups(results: Results) -> Table:
-    rows: Rows = [
-        [
-            f"{group.number:,}",
-            ", ".join(group.left_out) or "nobody",
-            group.total,
-            group.cost,
-            ", ".join(winner.name for winner in group.winners) or "nobody",
-        ]
-        for group in results.groups
+    all_of = results.groups
+    numbers = [f"{each.number:,}{' (added)' if each.is_added else ''}" for each in all_of]
+    winners = [[won.name for won in each.winners] for each in all_of]
+    columns = [
+        Column("Group", numbers),
+        Column("Left out", [", ".join(each.left_out) or "nobody" for each in all_of]),
+        Column("Total", [each.total for each in all_of], is_money=True),
+        Column("Opportunity cost", [each.cost for each in all_of], is_money=True),
+        Column("Paid", [each.paid for each in all_of], is_money=True),
+        Column("Winners", [", ".join(names) or "nobody" for names in winners]),
     ]
-    return Table(
-        "groups",
-        "Groups",
-        "Who wins where the bidders of a group are left out, the total then, which counts the value of unsold lots, and the "
-        "group's opportunity cost.",
-        ["Group", "Left out", "Total", "Opportunity cost", "Winners"],
-        rows,
-        money=["Total", "Opportunity cost"],
-    )
+    caption = "Who wins where the bidders of a group are left out, the total then, which counts the value of "
+    caption += "unsold lots, and the group's opportunity cost"
+    paid = ", and what its bidders pay. Some were added to show the prices."
+    caption += paid if results.prices else "."
+    return Table("groups", "Groups", caption, columns)
 
 
 def ties(results: Results) -> Table:
     """What differs between the award of the page and the other one: a row for each bidder who doesn't win the same in both,
     then one for each group whose cost isn't the same."""
+    rows: list[Sequence[Cell]] = []
     other = results.tied_award
-    rows: List[Sequence[Cell]] = []
     if other:
-        first, second = (
-            {won.name: won for won in award} for award in (results.groups[0].winners, other.winners)
-        )
+        winners = results.groups[0].winners, other.winners
+        awards = [{won.name: won for won in award} for award in winners]
         for bidder in results.bidders:
-            pair = first.get(bidder.name), second.get(bidder.name)
-            words = [
-                f"{won.amount:,} for {results.lots_text(won.lots)} (bid {won.bid:,})"
-                if won
-                else "nothing"
-                for won in pair
-            ]
-            rows += [[results.called(bidder.name), *words]] if pair[0] != pair[1] else []
+            pair = [award.get(bidder.name) for award in awards]
+            if pair[0] != pair[1]:
+                rows.append([results.called(bidder.name), *map(results.won_text, pair)])
         for group, cost in zip(results.groups, other.costs):
-            rows += (
-                [[f"Cost of {', '.join(group.left_out)}", group.cost, cost]]
-                if group.cost != cost
-                else []
-            )
+            if group.cost != cost:
+                rows.append([f"Cost of {', '.join(group.left_out)}", group.cost, cost])
+    headings = "Bidder, cost", "Award of this page", "Other award"
     caption = "What isn't the same in both awards: what bidders win, with the number of the winning bid, and the opportunity costs."
-    return Table(
-        "ties", "Tie", caption, ["Bidder, cost", "Award of this page", "Other award"], rows
-    )
+    columns = [Column(heading, cells) for heading, cells in zip(headings, zip(*rows))]
+    return Table("ties", "Tie", caption, columns)
 
 
 def left_out(results: Results) -> Table:
-    rows: Rows = [[results.called(bid.bidder), bid.why] for bid in results.left_out]
+    names = [results.called(bid.bidder) for bid in results.left_out]
+    columns = [Column("Bidder", names), Column("Bid", [bid.why for bid in results.left_out])]
     caption = "These bids couldn't change any total, whoever is left out."
-    return Table("left_out", "Bids that are in no program", caption, ["Bidder", "Bid"], rows)
+    return Table("left_out", "Bids that are in no program", caption, columns)
 
 
-def tables_of(results: Results) -> List[Table]:
+def tables_of(results: Results) -> list[Table]:
     """All tables that have a row, in the order of the page."""
-    made = (ties, bidders, categories, pools, groups, left_out)
+    made = (ties, bidders, prices, categories, pools, groups, left_out)
     return [table for table in (make(results) for make in made) if table.rows]
 
 
 def plain_text(results: Results) -> str:
     """What is to be said in sentences, and the tables, aligned."""
-    text = (
-        "\n".join([results.title, results.certified_words, results.sums_words, results.proof_words])
-        + "\n"
-    )
-    for table in tables_of(results):
-        rows = [table.headed(results.currency), *table.rows, *([table.sums] if table.sums else [])]
-        text += "\n" + "".join(line + "\n" for line in aligned(rows))
-    return text
+    said = results.title, results.certified_words, results.sums_words, results.prices_words
+    text = "\n".join(filter(None, [*said, results.proof_words])) + "\n"
+    return text + "".join("\n" + table.text(results.currency) for table in tables_of(results))
 
 
 def cell_text(cell: Cell) -> str:
     """A field of CSV, in quotes wherever a reader might take it for more than its text; nothing where it isn't known."""
-    if isinstance(cell, str) and SPECIAL.search(cell):
-        return '"' + cell.replace('"', '""') + '"'
-    return "" if cell is None else str(cell)
+    return field_text(cell, SPECIAL) if isinstance(cell, str) else "" if cell is None else str(cell)
 
 
-def csv_text(results: Results, headings: Sequence[str], rows: Rows) -> bytes:
+def csv_text(results: Results, headings: str, rows: Sequence[Sequence[Cell]]) -> bytes:
     """A CSV text. Its first field says where the totals aren't certified. Names that an office gave stand beside the codes."""
-    head = (
-        list(headings)
-        if results.certified
-        else [f"{headings[0]} (results not certified)", *headings[1:]]
-    )
-    lines: Rows = [head, *rows]
-    if results.names and headings[0] in ("bidder", "category"):
+    kind, *more = headings.split(",")
+    lines = [[kind if results.certified else f"{kind} (results not certified)", *more], *rows]
+    if results.names and kind in ("bidder", "category"):
         beside = ["name", *(results.names.get(str(row[0]), "") for row in rows)]
         lines = [[row[0], name, *row[1:]] for row, name in zip(lines, beside)]
     return "".join(",".join(map(cell_text, line)) + "\n" for line in lines).encode()
 
 
-def files_of(results: Results) -> Dict[str, bytes]:
+def files_of(results: Results) -> dict[str, bytes]:
     """The files of the tables, by their names."""
-    lots = [f"lots of {category.name}" for category in results.categories]
-    certified = "yes" if results.certified else "no"
-    of_bidders: Rows = [
-        [b.name, *b.lots, b.bid, b.amount, b.reserve, b.cost, b.cost_group] for b in results.bidders
+    of_bidders = "bidder,amount,price,opportunity cost,group,reserve,bid"
+    of_bidders += "".join(f",lots of {category.name}" for category in results.categories)
+    of_groups = "group,left out,winners,total,opportunity cost,paid,added,certified"
+    bidder_rows: list[Sequence[Cell]] = [
+        [b.name, b.amount, b.price, b.cost, b.cost_group, b.reserve, b.bid, *b.lots]
+        for b in results.bidders
     ]
-    of_groups: Rows = [
-        [
-            g.number,
-            "+".join(g.left_out) or "-",
-            "+".join(won.name for won in g.winners) or "-",
-            g.total,
-            g.cost,
-            certified,
-        ]
-        for g in results.groups
-    ]
-    of_categories = [list(asdict(category).values()) for category in results.categories]
-    of_pools = [list(asdict(pool).values()) for pool in results.pools]
-    category_heads = [
-        "category",
-        "supply",
-        "sold",
-        "unsold",
-        "reserve of a lot",
-        "value of an unsold lot",
-        "value left",
-    ]
+    group_rows: list[Sequence[Cell]] = []
+    for each in results.groups:
+        names = "+".join(each.left_out) or "-", "+".join(won.name for won in each.winners) or "-"
+        flags = ("yes" if flag else "no" for flag in (each.is_added, results.certified))
+        group_rows.append([each.number, *names, each.total, each.cost, each.paid, *flags])
+    category_rows, pool_rows = map(astuple, results.categories), map(astuple, results.pools)
     return {
-        "bidders.csv": csv_text(
-            results,
-            ["bidder", *lots, "bid", "amount", "reserve", "opportunity cost", "group"],
-            of_bidders,
-        ),
-        "categories.csv": csv_text(results, category_heads, of_categories),
-        "pools.csv": csv_text(results, ["pool", "load", "cap", "left"], of_pools),
-        "groups.csv": csv_text(
-            results,
-            ["group", "left out", "winners", "total", "opportunity cost", "certified"],
-            of_groups,
-        ),
+        "bidders.csv": csv_text(results, of_bidders, bidder_rows),
+        "categories.csv": csv_text(results, CATEGORIES.lower(), list(category_rows)),
+        "pools.csv": csv_text(results, POOLS.lower(), list(pool_rows)),
+        "groups.csv": csv_text(results, of_groups, group_rows),
         "results.json": (json.dumps(asdict(results), indent=1) + "\n").encode(),
     }

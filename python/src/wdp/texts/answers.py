@@ -1,31 +1,28 @@
-"""What the program prints, read by docs/FORMATS.md and by nothing else: an answer with anything more or less is refused."""
-from __future__ import annotations
-
+"""What the program prints, read by docs/REFERENCE.md: an answer with anything more or less is refused."""
 import re
-from functools import cached_property
+from collections.abc import Sequence
+from contextlib import suppress
 from itertools import islice
-from typing import Dict, FrozenSet, List, Match, Pattern, Sequence, Tuple, Union
 
 from wdp.texts.refusals import Unclear, escaped
 from wdp.texts.mps import Program
 from wdp.results import Allocation, Counts, Group, Prices, Report, Tie, Winner
 from wdp.texts.accepted import Bid, form_of
-from wdp.texts.parts import Part, lines, parts_of
+from wdp.texts.parts import lines, names_in, parts_of
 from wdp.texts.tables import decoded
 
-NAME = r"[A-Za-z][A-Za-z0-9]{0,15}"
-NAMES = r"(-|%s(?:\+%s)*)" % (NAME, NAME)
-PROGRAM = re.compile(r"^\* program ([1-9][0-9]{0,3}) %s\n" % NAMES, re.MULTILINE)
-GROUP = re.compile(r"group ([1-9][0-9]{0,3}) %s" % NAMES)
-WINNER = re.compile(r"(%s) ([1-9][0-9]{0,3}) ([1-9][0-9]{0,12})" % NAME)
-TOTAL = re.compile(r"total (0|[1-9][0-9]{0,29})")
-COST = re.compile(r"cost (0|-?[1-9][0-9]{0,29})")
-PRICES, LEAST = re.compile("prices"), re.compile("least")
-PRICE = re.compile(r"(%s) (0|[1-9][0-9]{0,12})" % NAME)
-SUM = re.compile(r"sum (0|[1-9][0-9]{0,29})")
-COUNTS = re.compile(
-    r"rows (0|[1-9][0-9]{0,17}) columns (0|[1-9][0-9]{0,17}) entries (0|[1-9][0-9]{0,17})"
-)
+NAME = "[A-Za-z][A-Za-z0-9]{0,15}"
+HEAD = rf"([1-9][0-9]{{0,3}}) (-|{NAME}(?:\+{NAME})*)\n"
+TOTAL = "(0|[1-9][0-9]{0,29})\n"
+WON = rf"((?:{NAME} [1-9][0-9]{{0,3}} [1-9][0-9]{{0,12}}\n)*)total {TOTAL}"
+SIZE = "(0|[1-9][0-9]{0,17})"
+PROGRAM = re.compile(rf"^\* program {HEAD}", re.MULTILINE)
+ALLOCATION = re.compile(WON)
+GROUP = re.compile(rf"group {HEAD}{WON}cost (0|-?[1-9][0-9]{{0,29}})\n")
+PRICES = re.compile(rf"prices\n((?:{NAME} (?:0|[1-9][0-9]{{0,12}})\n)*)sum {TOTAL}(least\n)?")
+CLAIM = re.compile("(unique|tie)\n")
+COUNTS = re.compile(rf"rows {SIZE} columns {SIZE} entries {SIZE}\n")
+END = re.compile(r"\Z")
 
 # bytes that a group has at most in a report: 256 winners of 36 bytes, as many names, and two lines
 MOST_OF_GROUP = 16_384
@@ -35,81 +32,64 @@ MOST_OF_BYTE = 140
 
 
 class Asked:
-    """What an input asks for, as far as an answer is held against it: its groups, whether prices are given and something is
-    claimed, and how many
-    bytes an answer has at most; and the lots of its bids."""
+    """What an input asks for, which an answer is compared with: its groups, whether prices are given and something is
+    claimed, and how many bytes an answer has at most; and the lots of its bids."""
 
     def __init__(self, given: bytes) -> None:
         parts = list(parts_of(given))
-        self.is_claimed: bool = any(part.kind in ("unique", "tie") for part in parts)
-        self.is_priced: bool = any(part.kind == "prices" for part in parts)
-        of_groups = [part for part in parts if part.kind == "groups"][:1]
-        named = [line for part in of_groups for line in lines(decoded(part.text))]
-        self.groups: List[FrozenSet[str]] = [frozenset(names_of(line)) for line in named]
+        kinds = {part.kind for part in parts}
+        self.is_claimed: bool = bool({"unique", "tie"} & kinds)
+        self.is_priced: bool = "prices" in kinds
+        groups = next((part.text for part in parts if part.kind == "groups"), b"")
+        self.groups = [frozenset(names_of(line)) for line in lines(decoded(groups))]
         count = len(self.groups) + 2
         self.most_of_report: int = count * MOST_OF_GROUP
         self.most_of_programs: int = count * (MOST_OF_GROUP + MOST_OF_BYTE * len(given))
-        self._categories = next((part.rows() for part in parts if part.kind == "rules"), ())
-        self._bids: Dict[str, List[Bid]] = {}
-        self._forms = [part for part in parts if part.kind == "form"]
+        rules = next((part.rows() for part in parts if part.kind == "rules"), ())
+        self._categories = names_in(rules, "category")
+        forms = [
+            (part, row) for part in parts if part.kind == "form" for row in islice(part.rows(), 1)
+        ]
+        self._forms = {row.values[0]: part for part, row in forms}  # of a bidder's the last one
+        self._bids: dict[str, list[Bid]] = {}
 
-    @cached_property
-    def categories(self) -> List[str]:
-        """The names of the categories, in their order."""
-        return [row.values[1] for row in self._categories if row.values[:1] == ["category"]]
-
-    @cached_property
-    def form_by_bidder(self) -> Dict[str, Part]:
-        """The form of each bidder; of several the last one counts."""
-        return {row.values[0]: part for part in self._forms for row in islice(part.rows(), 1)}
-
-    def lots(self, bidder: str, bid: int) -> Dict[str, int]:
-        """The lots of a bid by the categories' names; none where the input has no such bid."""
-        if bidder not in self._bids:
-            form = self.form_by_bidder.get(bidder)
-            try:
-                self._bids[bidder] = form_of(decoded(form.text))[1] if form else []
-            except (IndexError, ValueError):  # no program that was proved takes such a form
+    def winners(self, won: str) -> tuple[Winner, ...]:
+        """The winners in these lines, each with the lots of its bid, none if the input has no such bid."""
+        winners = []
+        for line in won.splitlines():
+            bidder, bid, amount = line.split()
+            if bidder not in self._bids:
                 self._bids[bidder] = []
-        bids = self._bids[bidder]
-        won = bids[bid - 1].lots if bid <= len(bids) else ()
-        return {name: lots for name, lots in zip(self.categories, won) if lots}
+                with suppress(KeyError, ValueError):  # no proved program takes such a form
+                    self._bids[bidder] = form_of(self._forms[bidder].rows())[1]
+            lots = next((each.lots for each in self._bids[bidder][int(bid) - 1 : int(bid)]), ())
+            named = {name: count for name, count in zip(self._categories, lots) if count}
+            winners.append(Winner(bidder, int(bid), int(amount), named))
+        return tuple(winners)
 
 
-class Lines:
-    """The lines of an answer, one after the other."""
+class Answer:
+    """An answer, of which one piece after the other is taken."""
 
     def __init__(self, output: bytes) -> None:
-        self.at = 0
-        text = text_of(output)
-        self.lines = text.split("\n")[:-1]
-        if text and not text.endswith("\n"):
-            raise unclear("its last line has no end")
+        self.at, self.text = 0, text_of(output)
 
-    def is_next(self, form: Pattern[str]) -> bool:
-        """Whether there is a next line, and it has this form."""
-        return self.at < len(self.lines) and form.fullmatch(self.lines[self.at]) is not None
-
-    def take(self, form: Pattern[str]) -> Match[str]:
-        """The next line, which is to have this form."""
-        line = self.lines[self.at] if self.at < len(self.lines) else None
-        found = None if line is None else form.fullmatch(line)
-        self.at += 1
+    def take(self, form: re.Pattern[str]) -> re.Match[str]:
+        """The next lines, which must have this form."""
+        found = form.match(self.text, self.at)
         if found is None:
-            raise unclear(
-                f"it ends at line {self.at}" if line is None else f"line {self.at} is {line}"
+            number, line = (
+                self.text.count("\n", 0, self.at) + 1,
+                self.text[self.at :].split("\n")[0],
             )
+            raise unclear(f"from line {number} on, '{line}'")
+        self.at = found.end()
         return found
-
-    def end(self) -> None:
-        """Nothing is to follow."""
-        if self.at < len(self.lines):
-            raise unclear(f"it goes on at line {self.at + 1}")
 
 
 def unclear(why: str) -> Unclear:
     """The fault of an answer."""
-    return Unclear("the program's answer isn't as docs/FORMATS.md says: " + escaped(why))
+    return Unclear("the program's answer isn't as docs/REFERENCE.md says: " + escaped(why))
 
 
 def text_of(output: bytes) -> str:
@@ -117,101 +97,74 @@ def text_of(output: bytes) -> str:
     try:
         return output.decode("ascii")
     except UnicodeDecodeError as error:
-        raise unclear(f"byte {error.start + 1} of it is no ASCII") from None
+        raise unclear(f"byte {error.start + 1} of it isn't ASCII") from None
 
 
-def names_of(text: str) -> Tuple[str, ...]:
+def names_of(text: str) -> tuple[str, ...]:
     """The names of a group as they are printed."""
     return () if text == "-" else tuple(text.split("+"))
 
 
-def check_group(number: int, names: Sequence[str], found: Match[str], asked: Asked) -> None:
-    """A group's heading has to be that of the group with this number in the input."""
-    if int(found[1]) != number or frozenset(names) != asked.groups[number - 1]:
-        raise unclear(f"in place of group {number} there is: {found[0].strip()}")
+def names_of_head(number: str, names: str, wanted: int, asked: Asked) -> tuple[str, ...]:
+    """The names of a group's heading, which has to be that of the wanted group of the input."""
+    found = names_of(names)
+    if int(number) != wanted or frozenset(found) != asked.groups[wanted - 1]:
+        raise unclear(f"in place of group {wanted} there is: {number} {names}")
+    return found
 
 
-def read_programs(output: bytes, asked: Asked) -> List[Program]:
+def read_programs(output: bytes, asked: Asked) -> list[Program]:
     """The program of each group."""
-    text = text_of(output)
-    found = list(PROGRAM.finditer(text))
-    if len(found) != len(asked.groups) or text[: found[0].start() if found else len(text)]:
+    before, *pieces = PROGRAM.split(text_of(output))
+    found = list(zip(pieces[::3], pieces[1::3], pieces[2::3]))
+    if len(found) != len(asked.groups) or before:
         raise unclear(f"it has {len(found)} programs, for {len(asked.groups)} groups")
-    ends = [following.start() for following in found[1:]] + [len(text)]
     programs = []
-    for number, (head, end) in enumerate(zip(found, ends), 1):
-        written, names = text[head.end() : end], names_of(head[2])
-        check_group(number, names, head, asked)
-        if not written.startswith("NAME wdp\nROWS\n") or not written.endswith("\nENDATA\n"):
-            raise unclear(f"program {number} isn't whole")
-        programs.append(Program(number, names, written))
+    for group, (number, names, text) in enumerate(found, 1):
+        programs.append(Program(group, names_of_head(number, names, group, asked), text))
+        if not text.startswith("NAME wdp\nROWS\n") or not text.endswith("\nENDATA\n"):
+            raise unclear(f"program {group} isn't complete")
     return programs
-
-
-def read_allocation(lines: Lines, asked: Asked) -> Allocation:
-    """Winners and a total."""
-    winners = []
-    while lines.is_next(WINNER):
-        bidder, bid, amount = lines.take(WINNER).groups()
-        winners.append(Winner(bidder, int(bid), int(amount), asked.lots(bidder, int(bid))))
-    return Allocation(tuple(winners), int(lines.take(TOTAL)[1]))
 
 
 def read_map(output: bytes, asked: Asked) -> Allocation:
     """What `map` prints."""
-    lines = Lines(output)
-    allocation = read_allocation(lines, asked)
-    lines.end()
-    return allocation
-
-
-def read_group(lines: Lines, number: int, asked: Asked) -> Group:
-    """A group of a report."""
-    head = lines.take(GROUP)
-    names = names_of(head[2])
-    check_group(number, names, head, asked)
-    allocation = read_allocation(lines, asked)
-    cost = int(lines.take(COST)[1])
-    return Group(allocation.winners, allocation.total, number, names, cost)
+    answer = Answer(output)
+    won, total = answer.take(ALLOCATION).groups()
+    answer.take(END)
+    return Allocation(asked.winners(won), int(total))
 
 
 def read_report(output: bytes, asked: Asked, is_certified: bool) -> Report:
     """What `report` or `verify` prints."""
-    lines = Lines(output)
-    groups = tuple(read_group(lines, number, asked) for number in range(1, len(asked.groups) + 1))
-    prices = read_prices(lines, groups) if asked.is_priced else None
-    uniqueness = read_uniqueness(lines, asked) if asked.is_claimed else "unasked"
-    lines.end()
-    return Report(groups, is_certified, uniqueness, prices)
+    answer, groups = Answer(output), []
+    for group in range(1, len(asked.groups) + 1):
+        number, left_out, won, total, cost = answer.take(GROUP).groups()
+        names = names_of_head(number, left_out, group, asked)
+        groups.append(Group(asked.winners(won), int(total), group, names, int(cost)))
+    prices = read_prices(answer, groups[0].winners) if asked.is_priced else None
+    uniqueness: str | Tie = "unasked"
+    if asked.is_claimed and answer.take(CLAIM)[1] == "unique":
+        uniqueness = "only"
+    elif asked.is_claimed:
+        won, total = answer.take(ALLOCATION).groups()
+        uniqueness = Tie(asked.winners(won), int(total))
+    answer.take(END)
+    return Report(tuple(groups), is_certified, uniqueness, prices)
 
 
-def read_prices(lines: Lines, groups: Sequence[Group]) -> Prices:
-    """What comes after a report if prices are given: one for each winner of group 1."""
-    lines.take(PRICES)
-    prices = {}
-    for winner in groups[0].winners:
-        bidder, price = lines.take(PRICE).groups()
-        if bidder != winner.bidder:
-            raise unclear(f"in place of the price of {winner.bidder} there is: {bidder} {price}")
-        prices[bidder] = int(price)
-    paid = int(lines.take(SUM)[1])
-    is_least = lines.is_next(LEAST)
-    if is_least:
-        lines.take(LEAST)
-    return Prices(prices, paid, is_least)
-
-
-def read_uniqueness(lines: Lines, asked: Asked) -> Union[str, Tie]:
-    """What stands behind a report where other outcomes are claimed, or said to be none."""
-    if lines.take(re.compile("unique|tie"))[0] == "unique":
-        return "only"
-    allocation = read_allocation(lines, asked)
-    return Tie(allocation.winners, allocation.total)
+def read_prices(answer: Answer, winners: Sequence[Winner]) -> Prices:
+    """What follows a report if prices are given: one for each winner of group 1."""
+    listed, total, least = answer.take(PRICES).groups()
+    prices = [line.split() for line in listed.splitlines()]
+    if [name for name, _ in prices] != [winner.bidder for winner in winners]:
+        raise unclear("the prices aren't those of the winners of group 1, in their order")
+    return Prices({name: int(price) for name, price in prices}, int(total), least is not None)
 
 
 def read_counts(output: bytes) -> Counts:
     """What `check` prints."""
-    lines = Lines(output)
-    counts = Counts(*map(int, lines.take(COUNTS).groups()))
-    lines.end()
+    answer = Answer(output)
+    counts = Counts(*map(int, answer.take(COUNTS).groups()))
+    answer.take(END)
     return counts

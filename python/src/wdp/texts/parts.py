@@ -1,18 +1,18 @@
 """The parts of one input by their head lines, and their records or lines with their places in the input."""
-from __future__ import annotations
-
 import re
 from dataclasses import dataclass, field
-from typing import Iterable, Iterator, List, Tuple
+from collections.abc import Iterable, Iterator
+from itertools import chain, pairwise
 
 from wdp.texts.tables import BYTE_ORDER_MARK, Records, Row, decoded
 
 HEAD = re.compile(rb"^%([^\n]*?)\r?(?:\n|\Z)", re.MULTILINE)
+LINE_END = re.compile(rb"\r\n|\r|\n")  # as records count lines
 
 
 @dataclass(frozen=True)
 class Part:
-    """A part: what its head line has behind `%`, and where its text lies in the input. Its head has the number `line`."""
+    """A part: what its head line has after `%`, and where its text is in the input. Its head is line number `line`."""
 
     kind: str
     data: bytes = field(repr=False)
@@ -32,25 +32,28 @@ class Part:
         return Records(text.removeprefix(BYTE_ORDER_MARK), line=self.line + 1)
 
 
-def lines(text: str) -> List[str]:
+def names_in(rules: Iterable[Row], kind: str) -> list[str]:
+    """The names in the rules' records of a kind, as `category`, in order; nothing else is asked of the records."""
+    return [row.values[1] for row in rules if row.values[0] == kind and len(row.values) > 1]
+
+
+def lines(text: str) -> list[str]:
     """The lines of groups, one carriage return dropped at the end of each."""
     parted = text.split("\n")
     return [line.removesuffix("\r") for line in (parted if parted[-1] else parted[:-1])]
 
 
-def group_rows(numbered: Iterable[Tuple[int, str]]) -> Iterator[Row]:
+def group_rows(numbered: Iterable[tuple[int, str]]) -> Iterator[Row]:
     """Lines of groups, each with its number, as rows of the names that they join."""
     return (Row(line.split("+"), number) for number, line in numbered)
 
 
 def parts_of(data: bytes) -> Iterator[Part]:
     """The parts of an input, one after the other."""
-    line, counted, head = 1, 0, HEAD.search(data)
-    while head:
-        following = HEAD.search(data, head.end()) if head.end() < len(data) else None
-        line += data.count(b"\n", counted, head.start())
+    line = counted = 0
+    for head, following in pairwise(chain(HEAD.finditer(data), [None])):
+        assert head  # None is the last one
+        line += len(LINE_END.findall(data, counted, head.start()))
         counted = head.start()
-        yield Part(
-            decoded(head[1]), data, head.end(), following.start() if following else len(data), line
-        )
-        head = following
+        end = following.start() if following else len(data)
+        yield Part(decoded(head[1]), data, head.end(), end, line + 1)

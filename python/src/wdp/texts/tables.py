@@ -1,43 +1,34 @@
 """Records of comma separated values as the program reads them, each field with its place.
 
 A record ends at LF, CR LF or CR; an empty line is no record. A field that begins with a double quote goes to the next
-single one, a doubled one stands for itself, and what follows the closing quote joins the field. An open quote at the end
-of the text ends the record. A quote inside a field that doesn't begin with one is data.
-
-Texts are decoded with `surrogateescape`, so that a byte that is no text comes out as it was.
+single one, a doubled one means one quote, and what follows the closing quote joins the field. An open quote ends with the
+text. A quote inside a field that doesn't begin with one is data. A byte that is no text comes out as it was.
 """
-from __future__ import annotations
-
+import hashlib
 import re
 from dataclasses import dataclass
-from typing import Iterator, List, Optional, Sequence
+from collections.abc import Iterator, Sequence
 
 LINE_END = re.compile(r"\r\n|\n|\r")
 BYTE_ORDER_MARK = "\ufeff"
-# what would be read as something else: the head of a part, and a mark that is dropped
+# what would be read as something else, as the head of a part, and a mark that is dropped
 NEEDS_QUOTES = re.compile(f'[,"\\r\\n]|^%|^{BYTE_ORDER_MARK}')
-SPECIAL = re.compile(f'["\\r\\n%{BYTE_ORDER_MARK}]')
 
 
 @dataclass
 class Row:
-    """A record: its values, and the line in which it begins, or its number where a file has no lines.
+    """A record: its values, and the line in which it begins, or its number where a file has no lines. `places` are those of the
+    values, if they can't be counted from the values before them."""
 
-    `places` are those of the values, where they can't be counted from the values before them.
-    """
-
-    values: List[str]
+    values: list[str]
     line: int
     places: Sequence[str] = ()
 
     def place(self, at: int = 0) -> str:
-        """Where a value stands: line and column as `3:1`, both from 1, or a cell. Of one that isn't there, the last one's."""
+        """The place of a value: line and column as `3:1`, both from 1, or a cell. Of one that isn't there, the last one's."""
         at = min(at, len(self.values) - 1)
-        return (
-            self.places[at]
-            if self.places
-            else f"{self.line}:{1 + at + sum(map(len, self.values[:at]))}"
-        )
+        before = at + sum(map(len, self.values[:at]))
+        return self.places[at] if self.places else f"{self.line}:{1 + before}"
 
 
 class Records:
@@ -47,26 +38,24 @@ class Records:
         self.text, self.delimiter, self.line = text, delimiter, line
         plain = f"[^\\r\\n{re.escape(delimiter)}]*+"
         self.field = re.compile(f'"((?:[^"]++|"")*+)("?)({plain})|({plain})')
-        self.unclosed: Optional[str] = None
+        self.unclosed: str | None = None
 
     def __iter__(self) -> Iterator[Row]:
         at = 0
         while at < len(self.text):
             found = LINE_END.search(self.text, at)
             stop, following = found.span() if found else (len(self.text), len(self.text))
-            if self.text.find('"', at, stop) >= 0:
-                row = Row([], self.line, [])
-                at = self.fill(row, at)
-                yield row
-                continue
+            row = Row(self.text[at:stop].split(self.delimiter), self.line)
+            if '"' in self.text[at:stop]:
+                following = self.fill(row, at)
             if stop > at:
-                yield Row(self.text[at:stop].split(self.delimiter), self.line)
+                yield row
             at, self.line = following, self.line + 1
 
     def fill(self, row: Row, at: int) -> int:
         """Reads a record with quotes, and returns where the next line begins."""
-        begin, places = at, []
-        while True:
+        row.values, places, begin, is_last = [], [], at, False
+        while not is_last:
             field = self.field.match(self.text, at)
             assert field  # an empty field matches too
             places.append(f"{self.line}:{at - begin + 1}")
@@ -76,28 +65,29 @@ class Records:
                 self.unclosed = places[-1]
             for end in LINE_END.finditer(quoted or ""):
                 self.line, begin = self.line + 1, field.start(1) + end.end()
-            at = field.end()
-            if self.text[at : at + 1] != self.delimiter:
-                break
-            at += 1
+            is_last = self.text[field.end() : field.end() + 1] != self.delimiter
+            at = field.end() + (not is_last)
         row.places = places
         last = LINE_END.match(self.text, at)
-        self.line += 1
         return last.end() if last else at
 
 
 def written(values: Sequence[str]) -> str:
-    """The line of a record, with quotes where a field needs them. An empty line would be no record.
+    """The line of a record, with quotes if a field needs them. An empty line would be no record.
 
     >>> written(["Alpha", "A, B"])
     'Alpha,"A, B"\\n'
     """
-    line = ",".join(values)
-    if SPECIAL.search(line) or line.count(",") >= len(values) or not line:
-        quotes = ('"' + value.replace('"', '""') + '"' for value in values)
-        pairs = zip(values, quotes)
-        line = ",".join(quote if NEEDS_QUOTES.search(value) else value for value, quote in pairs)
-    return (line or '""') + "\n"
+    return (",".join(map(field_text, values)) or '""') + "\n"
+
+
+def field_text(value: str, special: re.Pattern[str] = NEEDS_QUOTES) -> str:
+    """A field as it is written: in quotes if something in it is special."""
+    return '"' + value.replace('"', '""') + '"' if special.search(value) else value
+
+
+def digest_of(data: bytes) -> str:
+    return hashlib.sha256(data).hexdigest()
 
 
 def decoded(data: bytes) -> str:

@@ -1,19 +1,21 @@
-"""0-1 programs, read from the profile of free MPS that docs/FORMATS.md describes under 'Read programs'."""
-from __future__ import annotations
-
+"""0-1 programs, read from the profile of free MPS that docs/REFERENCE.md describes under 'Read programs'."""
 import re
-from collections.abc import Iterable, Set
+from collections.abc import Iterable, Iterator, Set
 from dataclasses import dataclass, field
-from typing import List, Optional
+from fractions import Fraction
 
-from wdp.texts.numbers import NumberFault, whole_number
 from wdp.texts.refusals import Refused
 
 AT_MOST, AT_LEAST, EQUAL = "L", "G", "E"
+KINDS = (AT_MOST, AT_LEAST, EQUAL)
 SECTIONS = ("NAME", "OBJSENSE", "ROWS", "COLUMNS", "RHS", "BOUNDS", "ENDATA")
-OBJECTIVE, DROPPED = -1, -2
+OBJECTIVE, DROPPED = -1, -2  # places of rows without a right side
+UNBOUNDED = 2  # an upper bound, until the text has one
 UNPRINTABLE = re.compile(r"[^\t\x20-\x7e]")
 FIELD = re.compile(r"[^ \t]+")
+# a number: an optional sign, digits with an optional point, an optional exponent
+TOKEN = re.compile(r"[+-]?(?=\.?[0-9])([0-9]*)\.?([0-9]*)(?:[eE][+-]?([0-9]+))?")
+MOST_DIGITS, MOST_EXPONENT, MOST = 30, 60, 10**18
 
 
 @dataclass
@@ -37,7 +39,7 @@ class Column:
 
     name: str
     cost: int = 0
-    entries: "list[tuple[int, int]]" = field(default_factory=list)
+    entries: list[tuple[int, int]] = field(default_factory=list)
     lower: int = 0
     upper: int = 1
 
@@ -49,16 +51,15 @@ class Column:
 class ZeroOne:
     """A 0-1 program whose objective is minimised: rows and columns in the order of the text."""
 
-    def __init__(self, rows: "list[Row]", columns: "list[Column]") -> None:
-        self.rows = rows
-        self.columns = columns
+    def __init__(self, rows: list[Row], columns: list[Column]) -> None:
+        self.rows, self.columns = rows, columns
         self.column_places = {column.name: place for place, column in enumerate(columns)}
 
     def objective(self, ones: Iterable[int]) -> int:
-        """The objective where the columns at these places are 1 and all others are 0."""
+        """The objective if the columns at these places are 1 and all others are 0."""
         return sum(self.columns[place].cost for place in ones)
 
-    def fault_of(self, ones: Set[int]) -> Optional[str]:
+    def fault_of(self, ones: Set[int]) -> str | None:
         """The first bound or row that these columns at 1 break, or None."""
         for place, column in enumerate(self.columns):
             if not column.lower <= (place in ones) <= column.upper:
@@ -67,29 +68,27 @@ class ZeroOne:
         for place in ones:
             for row, coefficient in self.columns[place].entries:
                 totals[row] += coefficient
-        for row_of, total in zip(self.rows, totals):
-            if not row_of.is_met_by(total):
-                return f"the row {row_of.name} is broken"
-        return None
+        broken = (row.name for row, total in zip(self.rows, totals) if not row.is_met_by(total))
+        name = next(broken, None)
+        return None if name is None else f"the row {name} is broken"
 
 
-def lines_of(text: bytes) -> "list[str]":
+def lines_of(text: bytes) -> list[str]:
     """The lines of a text; each is ended by LF, which the last one may lack; one CR before it is dropped."""
     lines = text.decode("latin-1").split("\n")
     if not lines[-1]:
         lines.pop()
-    return [line[:-1] if line.endswith("\r") else line for line in lines]
+    return [line.removesuffix("\r") for line in lines]
 
 
-def fields_of(line: str) -> "list[str]":
+def fields_of(line: str) -> list[str]:
     """The longest runs of signs that are neither space nor tab."""
     return FIELD.findall(line)
 
 
 def read_program(text: bytes, source: str) -> ZeroOne:
-    """The program that a text tells; Refused with the line that is wrong."""
-    reader = Reader()
-    number = 0
+    """The program that a text describes; Refused with the line that is wrong."""
+    reader, number = Reader(), 0
     try:
         for number, line in enumerate(lines_of(text), 1):
             if not line.startswith("*"):
@@ -97,174 +96,169 @@ def read_program(text: bytes, source: str) -> ZeroOne:
                 if reader.section == "ENDATA":
                     return reader.program()
         raise ValueError("the text ends without ENDATA")
-    except NumberFault as fault:
-        raise Refused(f"{source}: line {number}: a number is refused: {fault}") from None
     except ValueError as fault:
-        raise Refused(f"{source}: line {number}: {fault}") from None
+        number_of = "a number is refused: " if isinstance(fault, NumberFault) else ""
+        raise Refused(f"{source}: line {number}: {number_of}{fault}") from None
 
 
+def expect(holds: bool, why: str) -> None:
+    """A ValueError says what is wrong with a line."""
+    if not holds:
+        raise ValueError(why)
+
+
+class NumberFault(ValueError):
+    """Why a token is no number: `NumberText`, `NumberRange` or `NotWhole`."""
+
+
+def exact_value(token: str) -> Fraction:
+    """The value of a token, whole or not."""
+    parts = TOKEN.fullmatch(token)
+    if not parts:
+        raise NumberFault("NumberText")
+    whole, fraction, exponent = parts.groups("0")
+    is_long = len(whole + fraction) > MOST_DIGITS or len(exponent) > 3
+    if is_long or int(exponent) > MOST_EXPONENT:
+        raise NumberFault("NumberRange")
+    return Fraction(token)
+
+
+def whole_number(token: str) -> int:
+    """The value of a token that has to be whole, and at most 10^18 in size."""
+    if len(token) <= 18 and token.isdigit():
+        return int(token)
+    value = exact_value(token)
+    if value.denominator != 1:
+        raise NumberFault("NotWhole")
+    if abs(value) > MOST:
+        raise NumberFault("NumberRange")
+    return value.numerator
+
+
+@dataclass
 class Reader:
-    """What the lines have told so far; a ValueError says what is wrong with one."""
+    """What the lines say so far: `seen` has the rows of the last column's entries, or those with a right side, and `whole` the
+    columns that are whole numbers."""
 
-    def __init__(self) -> None:
-        self.section = ""
-        self.rows: List[Row] = []
-        self.row_places: "dict[str, int]" = {}
-        self.columns: List[Column] = []
-        self.column_places: "dict[str, int]" = {}
-        self.last_column = ""
-        self.seen: "set[str]" = set()
-        self.right_sides: "set[str]" = set()
-        # columns that are whole numbers, and those that have an upper bound
-        self.whole: "set[int]" = set()
-        self.bounded: "set[int]" = set()
-        self.is_marked = False
-        self.readers = {
-            "OBJSENSE": self.take_sense,
-            "ROWS": self.take_row,
-            "COLUMNS": self.take_column,
-            "RHS": self.take_right_sides,
-            "BOUNDS": self.take_bound,
-        }
+    section: str = ""
+    rows: list[Row] = field(default_factory=list)
+    row_places: dict[str, int] = field(default_factory=dict)
+    columns: list[Column] = field(default_factory=list)
+    column_places: dict[str, int] = field(default_factory=dict)
+    last_column: str = ""
+    seen: set[str] = field(default_factory=set)
+    whole: set[int] = field(default_factory=set)
+    is_marked: bool = False
 
     def take(self, line: str) -> None:
         """Takes a line that is no comment."""
         words = fields_of(line)
         if not words:
             return
-        if UNPRINTABLE.search(line):
-            raise ValueError("bytes that aren't printable ASCII")
+        expect(not UNPRINTABLE.search(line), "bytes that aren't printable ASCII")
         if line[0] not in " \t":
-            self.take_header(words)
-        elif self.section in self.readers:
-            self.readers[self.section](words)
+            self.take_header(*words)
         else:
-            raise ValueError("data outside of a section")
+            expect(self.section in TAKES, "data outside of a section")
+            TAKES[self.section](self, words)
 
-    def take_header(self, words: "list[str]") -> None:
-        section = words[0]
-        if section not in SECTIONS:
-            raise ValueError(f"the section {section} isn't read")
-        if self.section and SECTIONS.index(section) <= SECTIONS.index(self.section):
-            raise ValueError(f"the section {section} stands at the wrong place")
-        self.section = section
-        if section == "OBJSENSE" and words[1:]:
-            self.take_sense(words[1:])
-        elif section not in ("NAME", "ENDATA") and len(words) > 1:
-            raise ValueError("more fields than the section's name")
-        if section in SECTIONS[3:] and OBJECTIVE not in self.row_places.values():
-            raise ValueError("no objective")
+    def take_header(self, section: str, *words: str) -> None:
+        expect(section in SECTIONS, f"the section {section} isn't read")
+        at = SECTIONS.index(section)
+        is_next = not self.section or at > SECTIONS.index(self.section)
+        expect(is_next, f"the section {section} is at the wrong place")
+        self.section, self.seen = section, set()
+        if section == "OBJSENSE" and words:
+            self.take_sense(list(words))
+        elif section not in ("NAME", "ENDATA"):
+            expect(not words, "more fields than the section's name")
+        if at >= SECTIONS.index("COLUMNS"):
+            expect(OBJECTIVE in self.row_places.values(), "no objective")
 
-    def take_sense(self, words: "list[str]") -> None:
-        if words not in (["MIN"], ["MINIMIZE"]):
-            raise ValueError("the objective is to be minimised")
+    def take_sense(self, words: list[str]) -> None:
+        expect(words in (["MIN"], ["MINIMIZE"]), "the objective is to be minimised")
 
-    def take_row(self, words: "list[str]") -> None:
-        if len(words) != 2:
-            raise ValueError("a row has two fields")
+    def take_row(self, words: list[str]) -> None:
+        expect(len(words) == 2, "a row has two fields")
         kind, name = words
-        if name in self.row_places:
-            raise ValueError(f"the row {name} stands twice")
+        expect(name not in self.row_places, f"the row {name} is there twice")
         if kind == "N":
             is_first = OBJECTIVE not in self.row_places.values()
             self.row_places[name] = OBJECTIVE if is_first else DROPPED
             return
-        if kind not in (AT_MOST, AT_LEAST, EQUAL):
-            raise ValueError(f"the type {kind} of a row isn't known")
+        expect(kind in KINDS, f"the type {kind} of a row isn't known")
         self.row_places[name] = len(self.rows)
         self.rows.append(Row(name, kind))
 
-    def row_place(self, name: str) -> int:
-        if name not in self.row_places:
-            raise ValueError(f"the row {name} isn't known")
-        return self.row_places[name]
-
-    def take_column(self, words: "list[str]") -> None:
-        if len(words) not in (3, 5):
-            raise ValueError("a column has three or five fields")
-        if words[1] == "'MARKER'":
-            self.take_marker(words)
+    def take_column(self, words: list[str]) -> None:
+        expect(len(words) in (3, 5), "a column has three or five fields")
+        name, *entries = words
+        if entries[0] == "'MARKER'":
+            opens = entries[1:] == ["'INTORG'"]
+            is_right = (opens or entries[1:] == ["'INTEND'"]) and opens != self.is_marked
+            expect(is_right, "a marker at the wrong place")
+            self.is_marked, self.last_column = opens, ""
             return
-        if words[0] != self.last_column:
-            self.open_column(words[0])
-        for at in range(1, len(words), 2):
-            self.take_entry(self.columns[-1], words[at], words[at + 1])
+        if name != self.last_column:
+            is_new = name not in self.column_places
+            expect(is_new, f"the lines of the column {name} aren't together")
+            self.last_column, self.seen = name, set()
+            self.column_places[name] = len(self.columns)
+            self.whole |= {len(self.columns)} if self.is_marked else set()
+            self.columns.append(Column(name, upper=UNBOUNDED))
+        column = self.columns[-1]
+        for row, number in self.numbers(entries, f"the entry of {name} in"):
+            if row == OBJECTIVE:
+                column.cost = number
+            elif row >= 0 and number:
+                column.entries.append((row, number))
 
-    def open_column(self, name: str) -> None:
-        """A column begins; its lines stand together."""
-        if name in self.column_places:
-            raise ValueError(f"the lines of the column {name} don't stand together")
-        self.last_column, self.seen = name, set()
-        self.column_places[name] = len(self.columns)
-        if self.is_marked:
-            self.whole.add(len(self.columns))
-        self.columns.append(Column(name))
+    def take_right_sides(self, words: list[str]) -> None:
+        expect(2 <= len(words) <= 5, "right sides have two to five fields")
+        for row, number in self.numbers(words[len(words) % 2 :], "the right side of"):
+            expect(row != OBJECTIVE or number == 0, "the objective has a constant")
+            if row >= 0:
+                self.rows[row].right_side = number
 
-    def take_entry(self, column: Column, name: str, token: str) -> None:
-        row = self.row_place(name)
-        if name in self.seen:
-            raise ValueError(f"the entry of {column.name} in {name} stands twice")
-        self.seen.add(name)
-        number = whole_number(token)
-        if row == OBJECTIVE:
-            column.cost = number
-        elif row >= 0 and number:
-            column.entries.append((row, number))
+    def numbers(self, words: list[str], what: str) -> Iterator[tuple[int, int]]:
+        """The rows that words name, by their places, each with the number that follows; none may be there twice."""
+        for name, token in zip(words[::2], words[1::2]):
+            if name not in self.row_places:
+                raise ValueError(f"the row {name} isn't known")
+            if name in self.seen:
+                raise ValueError(f"{what} {name} is there twice")
+            self.seen.add(name)
+            yield self.row_places[name], whole_number(token)
 
-    def take_marker(self, words: "list[str]") -> None:
-        opens = words[2] == "'INTORG'"
-        if len(words) != 3 or words[2] not in ("'INTORG'", "'INTEND'") or opens == self.is_marked:
-            raise ValueError("a marker at the wrong place")
-        self.is_marked, self.last_column = opens, ""
-
-    def take_right_sides(self, words: "list[str]") -> None:
-        if not 2 <= len(words) <= 5:
-            raise ValueError("right sides have two to five fields")
-        for at in range(len(words) % 2, len(words), 2):
-            self.take_right_side(words[at], words[at + 1])
-
-    def take_right_side(self, name: str, token: str) -> None:
-        row = self.row_place(name)
-        if name in self.right_sides:
-            raise ValueError(f"the right side of {name} stands twice")
-        self.right_sides.add(name)
-        number = whole_number(token)
-        if row == OBJECTIVE and number != 0:
-            raise ValueError("the objective has a constant")
-        if row >= 0:
-            self.rows[row].right_side = number
-
-    def take_bound(self, words: "list[str]") -> None:
-        kind = words[0]
-        if kind not in ("UP", "LO", "FX", "BV"):
-            raise ValueError(f"the bound {kind} isn't known")
-        if len(words) not in ((2, 3, 4) if kind == "BV" else (3, 4)):
-            raise ValueError("a bound has a wrong number of fields")
-        name = words[2 if len(words) >= (3 if kind == "BV" else 4) else 1]
-        if name not in self.column_places:
-            raise ValueError(f"the column {name} isn't known")
-        self.set_bound(self.column_places[name], kind, words[-1])
-
-    def set_bound(self, place: int, kind: str, token: str) -> None:
+    def take_bound(self, words: list[str]) -> None:
+        kind, *words = words
+        expect(kind in ("UP", "LO", "FX", "BV"), f"the bound {kind} isn't known")
+        least = 1 if kind == "BV" else 2
+        expect(least <= len(words) <= 3, "a bound has a wrong number of fields")
+        name = words[1 if len(words) > least else 0]
+        expect(name in self.column_places, f"the column {name} isn't known")
+        place = self.column_places[name]
+        number = whole_number(words[-1]) if kind != "BV" else 1
+        expect(number in (0, 1), "a bound is neither 0 nor 1")
         column = self.columns[place]
-        if kind == "BV":
-            self.whole.add(place)
-            self.bounded.add(place)
-            column.lower, column.upper = 0, 1
-            return
-        number = whole_number(token)
-        if number not in (0, 1):
-            raise ValueError("a bound is neither 0 nor 1")
         if kind != "UP":
-            column.lower = number
+            column.lower = 0 if kind == "BV" else number
         if kind != "LO":
             column.upper = number
-            self.bounded.add(place)
+        self.whole |= {place} if kind == "BV" else set()
 
     def program(self) -> ZeroOne:
         for place, column in enumerate(self.columns):
-            is_whole = place in self.whole and place in self.bounded
-            if not is_whole or column.lower > column.upper:
-                raise ValueError(f"the column {column.name} isn't 0-1")
+            is_right = place in self.whole and column.lower <= column.upper < UNBOUNDED
+            expect(is_right, f"the column {column.name} isn't 0-1")
             column.entries.sort()
         return ZeroOne(self.rows, self.columns)
+
+
+TAKES = {
+    "OBJSENSE": Reader.take_sense,
+    "ROWS": Reader.take_row,
+    "COLUMNS": Reader.take_column,
+    "RHS": Reader.take_right_sides,
+    "BOUNDS": Reader.take_bound,
+}

@@ -1,0 +1,252 @@
+"""The tree, the commands of wdp-office in this process or in one of their own, and folders as offices and auctions have them."""
+import contextlib
+import io
+import os
+import re
+import resource
+import signal
+import subprocess
+import sys
+import time
+from collections import namedtuple
+from pathlib import Path
+
+from wdp import cli
+
+ROOT = Path(__file__).resolve().parents[2]
+EXAMPLES = ROOT / "examples"
+WORKED = (EXAMPLES / "worked.txt").read_bytes()
+# a line break that begins a forged line, a terminal's escape, and marks that turn the direction
+EVIL = "x\ntotal 1\x1b[2K\r\u202e"
+
+
+# what a command comes to
+Seen = namedtuple("Seen", "status out err")
+
+
+def rows(table):
+    """The rows of a table that is a text, a line each with cells between `|`; ⏎ is LF there, and ␍ CR."""
+    ends = str.maketrans("⏎␍", "\n\r")
+    lines = table.strip("\n").split("\n")
+    return [tuple(cell.strip().translate(ends) for cell in line.split(" |")) for line in lines]
+
+
+def is_in(pattern, text):
+    """Whether a line of a table is in a text; * is anything."""
+    return re.search(re.escape(pattern).replace(r"\*", ".*"), text)
+
+
+def content(*names):
+    """A text of the tree."""
+    return ROOT.joinpath(*names).read_bytes().decode()
+
+
+def environment(**more):
+    own = {"PYTHONPATH": f"{ROOT}/python/src", "PYTHONDONTWRITEBYTECODE": "1"}
+    return {**os.environ, **own, **more}
+
+
+def without(library, folder):
+    """How a command is started that doesn't find this library."""
+    (folder / f"{library}.py").write_text("raise ImportError\n")
+    return {"env": environment(PYTHONPATH=f"{folder}:{ROOT}/python/src")}
+
+
+def small_files(size):
+    """How a command is started that can't write more bytes to a file."""
+    return {"preexec_fn": lambda: resource.setrlimit(resource.RLIMIT_FSIZE, (size, size))}
+
+
+def start(words, **how):
+    """(A job that a shell runs beside others begins with the signal of an interrupt ignored.)"""
+    own = dict.fromkeys(("stdout", "stderr"), subprocess.PIPE)
+    own["preexec_fn"] = lambda: signal.signal(signal.SIGINT, signal.SIG_DFL)
+    how = {"stdin": subprocess.DEVNULL, "env": environment(), **own, **how}
+    return subprocess.Popen(list(map(str, words)), **how)
+
+
+def ended(started, data=None):
+    """What a process comes to. Whatever it is given, it ends in no traceback."""
+    out, err = (text or b"" for text in started.communicate(data, timeout=900))
+    seen = Seen(started.returncode, out.decode(), err.decode())
+    assert "Traceback" not in seen.out + seen.err, seen.err
+    return seen
+
+
+def run(*words, data=None, **how):
+    """A command of wdp-office; in a process of its own if something is said of that."""
+    if data is not None:
+        how["stdin"] = subprocess.PIPE
+    if how:
+        return ended(start([sys.executable, "-m", "wdp", *words], **how), data)
+    streams = [io.TextIOWrapper(io.BytesIO(), write_through=True) for _ in range(2)]
+    with contextlib.redirect_stdout(streams[0]), contextlib.redirect_stderr(streams[1]):
+        try:
+            status = cli.main(list(map(str, words)))
+        except SystemExit as stopped:
+            status = int(stopped.code or 0)
+    return Seen(status, *(each.buffer.getvalue().decode() for each in streams))
+
+
+def stopped(seen, *parts, status=1):
+    """A command that ended early, with these words, and no output."""
+    assert (seen.status, seen.out) == (status, ""), seen
+    assert "Traceback" not in seen.err and all(part in seen.err for part in parts), seen.err
+
+
+def output(wdp, command, data):
+    """What the program prints."""
+    return subprocess.run([wdp, command], input=data, capture_output=True, check=True).stdout
+
+
+def script(path, text):
+    """A program that is this shell script."""
+    path.write_text("#!/bin/sh\n" + text + "\n")
+    path.chmod(0o755)
+    return path
+
+
+def wait_for(holds, seconds=300):
+    last = time.monotonic() + seconds
+    while not holds():
+        assert time.monotonic() < last
+        time.sleep(0.01)
+
+
+def running(mark):
+    """The processes that have this in their surroundings."""
+    found = []
+    for path in Path("/proc").glob("[0-9]*/environ"):
+        with contextlib.suppress(OSError):
+            if mark.encode() in path.read_bytes() and path.parent.name != str(os.getpid()):
+                found.append(path.parent.name)
+    return found
+
+
+# Alpha and Beta bid the same for the one lot: either may win.
+TIED = b"%rules\nrules,1,1,,\ncategory,A,1,5,1\nbidder,Alpha,9,1,\nbidder,Beta,9,1,\n%form\nAlpha,A\n20,1\n"
+TIED += b"%form\nBeta,A\n20,1\n%groups\n-\nAlpha\n"
+# the file that is installed as wdp-office: an interrupt while it begins ends it without a word
+COMMAND = ROOT / "python/src/wdp/__main__.py"
+REST = """rest() { cbc "$1" -solve -solu cbc.txt > /dev/null \\
+  && sed "1d; s/^ *[0-9]* *\\([^ ]*\\) *\\([^ ]*\\) .*/\\1 \\2/" cbc.txt > "$2"; }
+"""
+
+
+def solver(folder, text):
+    """A solver that is a script: $1 is the program, which has Beta's bid X2_1 in groups 1 and 2 alone, $2 the answer."""
+    path = script(folder / "solver", REST + text)
+    return ["--solver-command", f"{path} {{free}} {{out}}"]
+
+
+class Auction:
+    """A folder with an auction, and its runs, of which no process is left."""
+
+    def __init__(self, where, wdp, data=WORKED):
+        self.where, self.wdp = where, wdp
+        self.mark = f"AUCTION_OF={os.getpid()}.{time.monotonic()}"
+        where.mkdir()
+        self.put("input.txt", data)
+
+    def put(self, name, data):
+        (self.where / name).write_bytes(data)
+
+    def has(self, name):
+        return (self.where / name).exists()
+
+    def read(self, name):
+        return (self.where / name).read_bytes()
+
+    def surroundings(self, **more):
+        return {**environment(WDP=self.wdp, **more), **dict([self.mark.split("=")])}
+
+    def start(self, *words, folder=True, stdin=subprocess.DEVNULL, stderr=subprocess.PIPE, **more):
+        place = [self.where] if folder else []
+        command = [sys.executable, COMMAND, "auction", *place, "--jobs", 2, *words]
+        return start(command, stdin=stdin, stderr=stderr, env=self.surroundings(**more))
+
+    def run(self, *words, data=None, **how):
+        """The status, the output and the messages of a run."""
+        seen = ended(self.start(*words, stdin=subprocess.PIPE, **how), data)
+        assert running(self.mark) == []
+        return seen
+
+    def said(self, *words, status=0, **how):
+        """The messages of a run that ends with this status."""
+        seen = self.run(*words, **how)
+        assert seen.status == status, seen
+        return seen.err
+
+    def outcome(self):
+        return self.read("report.txt"), self.read("audit.txt")
+
+
+BIDDERS = ["Ant", "Bee", "Cat", "Dove", "Eel", "Fox", "Gnat", "Heron", "Ibis"]
+BIDS = ("5000,2,1", "9900,4,0", "3000,0,3")
+GROUPS = "-\nAnt\nBee+Cat\n"
+RULES = "rules,1,100,,\ncategory,Low,6,1000,2\ncategory,High,4,500,1\n"
+RULES += "".join(f"bidder,{name},20,1,\n" for name in BIDDERS)
+
+
+def form(name, *bids):
+    return "".join(line + "\n" for line in [f"{name},Low,High", *bids])
+
+
+BY_HAND = "%rules\n" + RULES + "".join("%form\n" + form(name, *BIDS) for name in BIDDERS)
+BY_HAND += "%groups\n" + GROUPS
+# nine ways in which spreadsheets and editors export a table
+EXPORTS = [
+    lambda text: text.encode(),
+    lambda text: text.encode("utf-8-sig"),
+    lambda text: text.replace("\n", "\r\n").encode(),
+    lambda text: text.replace("\n", "\r").encode(),
+    lambda text: text.replace(",", ";").encode(),
+    lambda text: text.replace("\n", ",,\n").encode(),
+    lambda text: (text + ",,\n,,\n\n").encode(),
+    lambda text: text.replace(",", "\t").encode("utf-16"),
+    lambda text: ('"' + text[:-1].replace(",", '","').replace("\n", '"\n"') + '"').encode(),
+]
+
+
+class Office:
+    """A folder with the rules, nine forms and the groups, in which nothing is wrong."""
+
+    def __init__(self, folder):
+        self.folder = folder
+        names = ("rules.csv", "forms", "groups.txt")
+        self.files = self.rules, self.forms, self.groups = [folder / name for name in names]
+        self.forms.mkdir()
+        self.write("rules.csv", RULES)
+        self.write("groups.txt", GROUPS)
+        for name, export in zip(BIDDERS, EXPORTS):
+            self.write(f"forms/{name}.csv", export(form(name, *BIDS)))
+
+    def write(self, name, data):
+        path = self.folder / name
+        path.write_bytes(data if isinstance(data, bytes) else data.encode())
+        return path
+
+    def gather(self, *words, **how):
+        return run("gather", *self.files[: 2 if "--groups" in words else 3], *words, **how)
+
+    def explain(self, *words):
+        return run("explain", *self.files, *words).out.splitlines()
+
+    def said(self, *words):
+        """What gather prints on standard error if nothing is wrong, without the folder's path."""
+        seen = self.gather(*words)
+        assert (seen.status, seen.out[:6]) == (0, "%rules"), seen.err
+        return seen.err.replace(f"{self.folder}/", "")
+
+    def refused(self, *words):
+        """The lines of the faults, without the folder's path; the same of gather and of explain."""
+        seen = self.gather(*words)
+        stopped(seen)
+        *lines, _ = seen.err.splitlines()
+        assert self.explain(*words)[: len(lines)] == lines
+        return [line.replace(f"{self.folder}/", "") for line in lines]
+
+    def fox(self, text, *words):
+        """What is wrong with a form of Fox, without its path."""
+        self.write("forms/Fox.csv", text)
+        return [line.removeprefix("forms/Fox.csv") for line in self.refused(*words)]
