@@ -45,7 +45,9 @@ install:
 	install -D -m 644 -t "$$to/share/doc/wdp/prebuilt" prebuilt/record
 	mkdir -p "$$to/$$PYTHON" "$$to/share/doc/wdp"
 	(cd python/src && tar -c --exclude=__pycache__ wdp) | tar -x --no-same-owner -C "$$to/$$PYTHON"
-	tar -c --exclude='.git*' README.md docs examples | tar -x --no-same-owner -C "$$to/share/doc/wdp"
+	tar -c --exclude='.git*' README.md CHANGELOG.md bench/README.md docs examples | tar -x --no-same-owner -C "$$to/share/doc/wdp"
+	# (documents name commands as they are installed)
+	find "$$to/share/doc/wdp" -name '*.md' -exec sed -i 's#\./wdp#wdp#g' {} +
 	ln -s "../$$PYTHON/wdp/__main__.py" "$$to/bin/wdp-office"
 	install -D -m 644 -t "$$to/share/man/man1" "$$made"/man/*
 	install -D -m 644 -t "$$to/share/bash-completion/completions" "$$made"/bash/*

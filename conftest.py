@@ -1,53 +1,75 @@
-"""What all tests have: the option --wdp, the program that is tried, and the libraries that make its streams or its system fail."""
+"""What all tests have: the program that is tried, a library that makes its streams or its system fail, and the rule that a test
+that isn't run has failed, unless it lacks one of the libraries of Python that WITHOUT_LIBRARIES hides."""
+
+from __future__ import annotations
+
 import os
 import subprocess
 import tempfile
+from collections.abc import Generator
+from pathlib import Path
+from typing import Any
 
 import pytest
 from trials.program import ROOT, of_these_sources
 
 NO_PROGRAM = "there is no program of these sources: ./build makes one"
+MAY_LACK = [f"{name} isn't there" for name in os.environ.get("WITHOUT_LIBRARIES", "").split()]
 
 
-def pytest_addoption(parser):
-    parser.addoption("--wdp", metavar="PROGRAM", help="the program that is tried; by default the one that was built here of these sources, "
-                                                      "or the one that comes with the tree where it is of them")
+def pytest_addoption(parser: pytest.Parser) -> None:
+    about = "the program that is tried; by default the one built here, or else the one in prebuilt/"
+    parser.addoption("--wdp", metavar="PROGRAM", help=about)
 
 
-def pytest_configure(config):
+def pytest_configure(config: pytest.Config) -> None:
     given = config.option.wdp
     if given is None:
-        # (processes side by side are told what the first one found)
+        # (processes side by side get what the first one found)
         folder = tempfile.TemporaryDirectory(prefix="wdp-tried-")
         config.add_cleanup(folder.cleanup)
         os.chmod(folder.name, 0o755)
         given = of_these_sources(folder.name)
     elif given and (not os.access(given, os.X_OK) or os.path.isdir(given)):
-        raise pytest.UsageError("%s: no program" % given)
+        raise pytest.UsageError(f"{given}: no program")
     config.option.wdp = os.path.abspath(given) if given else ""
-    # (./wdp, which tests of tools take without this, would begin to prove and build)
     os.environ["WDP"] = config.option.wdp or NO_PROGRAM
 
 
+@pytest.hookimpl(hookwrapper=True)  # type: ignore[misc]
+def pytest_runtest_makereport() -> Generator[None, Any, None]:
+    report = (yield).get_result()
+    why = report.longrepr[2] if isinstance(report.longrepr, tuple) else "it may fail"
+    if report.skipped and why.removeprefix("Skipped: ") not in MAY_LACK:
+        report.outcome, report.longrepr = "failed", f"it isn't run: {why}"
+        vars(report).pop("wasxfail", None)
+
+
+@pytest.hookimpl(hookwrapper=True)  # type: ignore[misc]
+def pytest_make_collect_report() -> Generator[None, Any, None]:
+    report = (yield).get_result()
+    if report.skipped:
+        report.outcome, report.longrepr = "failed", f"no test of it is run: {report.longrepr}"
+
+
+def pytest_sessionfinish(session: pytest.Session) -> None:
+    """Where libraries are hidden, some test has to miss them."""
+    reporter = session.config.pluginmanager.get_plugin("terminalreporter")
+    if MAY_LACK and reporter and "skipped" not in reporter.stats:
+        session.exitstatus = pytest.ExitCode.TESTS_FAILED
+
+
 @pytest.fixture(scope="session")
-def wdp(pytestconfig):
+def wdp(pytestconfig: pytest.Config) -> str:
     if not pytestconfig.option.wdp:
         pytest.fail(NO_PROGRAM, pytrace=False)
-    return pytestconfig.option.wdp
-
-
-def compiled(source, folder):
-    """A library to preload, of a file of C."""
-    shim = folder / "shim.so"
-    subprocess.run(["cc", "-shared", "-fPIC", "-O1", "-o", shim, os.path.join(ROOT, "tools", source), "-ldl"], check=True)
-    return str(shim)
+    return str(pytestconfig.option.wdp)
 
 
 @pytest.fixture(scope="session")
-def failing_streams(tmp_path_factory):
-    return compiled("trials/streams.c", tmp_path_factory.mktemp("streams"))
-
-
-@pytest.fixture(scope="session")
-def refusing(tmp_path_factory):
-    return compiled("refuse.c", tmp_path_factory.mktemp("refuse"))
+def failing(tmp_path_factory: pytest.TempPathFactory) -> str:
+    """The library of tools/trials/failing.c, to preload."""
+    made = tmp_path_factory.mktemp("failing") / "failing.so"
+    source = Path(ROOT, "tools/trials/failing.c")
+    subprocess.run(["cc", "-shared", "-fPIC", "-O1", "-o", made, source, "-ldl"], check=True)
+    return str(made)

@@ -1,38 +1,42 @@
 """`make install`, `make uninstall` and Debian's package on copies of the tree, and what was installed, run from elsewhere. No network
 is needed."""
+
 from __future__ import annotations
 
 import gzip
-import hashlib
 import os
 import re
 import shutil
 import subprocess
+from hashlib import sha256
 from pathlib import Path
 
 import pytest
-
+from trials.program import ROOT as TREE
 from wdp import cli
 
-ROOT = Path(__file__).resolve().parent.parent
-SYSTEM = "/usr/bin:/bin"
+ROOT, SYSTEM = Path(TREE), "/usr/sbin:/usr/bin:/sbin:/bin"
 OFFICE = list(cli.COMMANDS)
-COMMANDS = ["text", "compile", "check", "map", "report", "verify", "explain"]
+COMMANDS = {"wdp": "text compile check map report verify explain".split(), "wdp-office": OFFICE}
 # what the tests of the office's sample type themselves
 INPUT_SHA256 = "167bec43956090a360273a3de95029333b24a0769715c1e611987133781f09f9"
-GATHER = ["--last-wins", "name", "--allow-unended", "Wren", "--allow-missing", "Teal"]
-OTHERS = {"bin/other", "share/man/man1/other.1", "share/man/man1/wdpx.1", "share/zsh/site-functions/_other", "lib/other"}
-STALE = ["lib/wdp/stale.py", "share/man/man1/wdp-office-stale.1", "share/doc/wdp/stale"]
+GATHER = "--last-wins name --allow-unended Wren --allow-missing Teal --output input.txt".split()
+OTHERS = {"bin/other", "share/man/man1/other.1", "share/man/man1/wdpx.1", "lib/other"}
+OTHERS |= {"share/zsh/site-functions/_other"}
+STALE = {"lib/wdp/stale.py", "share/man/man1/wdp-office-stale.1", "share/doc/wdp/stale"}
+KEPT_OUT = "out .git cases *_tests must-fail fixtures __pycache__ .gitattributes".split()
+
+
+def run(*words, **how):
+    return subprocess.run(words, stdin=subprocess.DEVNULL, capture_output=True, text=True, **how)
 
 
 def copied(root: Path, program: Path) -> Path:
     """A copy of the tree, whose program is the one that is tried."""
-    kept_out = shutil.ignore_patterns("out", ".git", "cases", "*_tests", "must-fail", "bench", "fixtures", "__pycache__")
-    shutil.copytree(ROOT, root, symlinks=True, ignore=kept_out)
-    data = program.read_bytes()
-    sources = subprocess.run(["tools/program_sources"], cwd=root, capture_output=True, text=True, check=True).stdout.strip()
+    shutil.copytree(ROOT, root, symlinks=True, ignore=shutil.ignore_patterns(*KEPT_OUT))
+    data, sources = program.read_bytes(), run("tools/program_sources", cwd=root, check=True).stdout
     (root / "prebuilt" / "wdp.gz").write_bytes(gzip.compress(data))
-    told = f"sources {sources}\nprogram {hashlib.sha256(data).hexdigest()}\ntoolchain none\n"
+    told = f"sources {sources}program {sha256(data).hexdigest()}\ntoolchain none\n"
     (root / "prebuilt" / "record").write_text(told)
     return root
 
@@ -49,124 +53,93 @@ def tree(wdp, folder):
 
 
 def make(tree, *words):
-    return subprocess.run(["make", *words], cwd=tree, stdin=subprocess.DEVNULL, capture_output=True, env={"PATH": SYSTEM})
+    done = run("make", *words, "PREFIX=", cwd=tree, env={"PATH": SYSTEM})
+    return done.returncode, done.stdout + done.stderr
 
 
 def files_below(root):
-    return {str(path.relative_to(root)) for path in root.rglob("*") if path.is_symlink() or not path.is_dir()}
+    paths = (it for it in root.rglob("*") if it.is_symlink() or not it.is_dir())
+    return {str(path.relative_to(root)) for path in paths if path.parent.name != "__pycache__"}
 
 
 @pytest.fixture(scope="module")
 def there(tree, folder):
     """Where all is installed, beside what others installed, and over an older one."""
     root = folder / "a root"
-    for path in [*STALE, *OTHERS]:
+    for path in STALE | OTHERS:
         (root / path).parent.mkdir(parents=True, exist_ok=True)
         (root / path).write_text("")
-    done = make(tree, "install", "PREFIX=", f"DESTDIR={root}")
-    assert (done.returncode, done.stdout, done.stderr) == (0, b"", b"")
+    assert make(tree, "install", f"DESTDIR={root}") == (0, "")
     return root
 
 
-def test_it_installs_what_it_has_to_and_takes_away_what_an_older_one_left(there):
-    found, source = files_below(there), ROOT / "python" / "src"
-    package = {f"lib/wdp/python/{path.relative_to(source)}" for path in (source / "wdp").rglob("*")
-               if path.is_file() and "__pycache__" not in path.parts}  # fmt: skip
-    documents = {f"share/doc/wdp/{path.relative_to(ROOT)}" for name in ("docs", "examples")
-                 for path in (ROOT / name).rglob("*") if path.is_file() and path.name != ".gitattributes"}  # fmt: skip
-    pages = {f"share/man/man1/{name}.1" for name in ("wdp", "wdp-office", *(f"wdp-office-{each}" for each in OFFICE))}
-    completion = {path % name for path in ("share/bash-completion/completions/%s", "share/zsh/site-functions/_%s") for name in ("wdp", "wdp-office")}
-    assert package | documents | pages | completion | OTHERS | {"bin/wdp", "bin/wdp-office"} <= found
-    assert not found & set(STALE)
-    assert os.access(there / "bin" / "wdp", os.X_OK) and not (there / "share/doc/wdp/README.md").stat().st_mode & 0o111
+INSTALLED = {"python/src/wdp": "lib/wdp/python/wdp", "docs": "share/doc/wdp/docs"}
+INSTALLED |= {"examples": "share/doc/wdp/examples"}
+COMPLETION = "share/bash-completion/completions/%s", "share/zsh/site-functions/_%s"
+
+
+def test_it_installs_what_it_has_to_and_takes_away_what_an_older_one_left(tree, there):
+    wanted = {f"{to}/{it}" for of, to in INSTALLED.items() for it in files_below(tree / of)}
+    pages = ["wdp", "wdp-office", *(f"wdp-office-{it}" for it in OFFICE)]
+    wanted |= {"bin/wdp", "bin/wdp-office", *(f"share/man/man1/{it}.1" for it in pages)}
+    wanted |= {path % name for path in COMPLETION for name in COMMANDS}
+    assert wanted | OTHERS <= files_below(there) and not files_below(there) & STALE
+    assert os.access(there / "bin/wdp", os.X_OK)
+    assert not (there / "share/doc/wdp/README.md").stat().st_mode & 0o111
 
 
 def test_uninstall(tree, there, tmp_path):
     subprocess.run(["cp", "-a", there, tmp_path / "it"], check=True)
-    done = make(tree, "uninstall", "PREFIX=", f"DESTDIR={tmp_path / 'it'}")
-    assert (done.returncode, done.stdout, done.stderr, files_below(tmp_path / "it")) == (0, b"", b"", OTHERS)
+    assert make(tree, "uninstall", f"DESTDIR={tmp_path / 'it'}") == (0, "")
+    assert files_below(tmp_path / "it") == OTHERS
 
 
 def test_a_program_of_other_sources_is_not_installed(tree, tmp_path):
     record = tree / "prebuilt" / "record"
     old = record.read_text()
     record.write_text(old.replace("sources ", "sources 0"))
-    done = make(tree, "install", f"DESTDIR={tmp_path}")
+    status, said = make(tree, "install", f"DESTDIR={tmp_path}")
     record.write_text(old)
-    assert done.returncode == 2 and done.stderr.startswith(b"make: prebuilt/ is of other sources, and nothing is installed")
-    assert os.listdir(tmp_path) == []
+    refusal = "make: prebuilt/ is of other sources, and nothing is installed"
+    assert status == 2 and said.startswith(refusal) and not os.listdir(tmp_path)
 
 
 def test_links_between_the_documents_lead_somewhere(there):
     """Those to the sources don't."""
-    documents = list((there / "share" / "doc" / "wdp").rglob("*.md"))
-    links = [(path, link) for path in documents for link in re.findall(r"\]\(([^)#:]+)(?:#[^)]*)?\)", path.read_text())]
-    assert links and [link for path, link in links if not (path.parent / link).exists() and not link.startswith("../crates/")] == []
+    documents = (there / "share" / "doc" / "wdp").rglob("*.md")
+    link = re.compile(r"\]\((?!\.\./crates/)([^)#:]+)(?:#[^)]*)?\)")
+    links = [it.parent / to for it in documents for to in link.findall(it.read_text())]
+    assert links and not [path for path in links if not path.exists()]
 
 
-@pytest.fixture(scope="module")
-def moved(there, folder):
-    """What was installed, in another folder."""
-    return shutil.copytree(there, folder / "moved", symlinks=True)
+def test_what_was_installed_runs_from_another_folder(there, folder, tmp_path):
+    """An office's files are joined, and faults of another's told; an auction, its page and the module of Python find the program."""
+    moved = shutil.copytree(there, folder / "moved", symlinks=True)
+    shown, path = moved / "share/doc/wdp/examples", f"{moved / 'bin'}:{SYSTEM}"
+    env = {"PATH": path, "HOME": str(tmp_path), "PYTHONDONTWRITEBYTECODE": "1"}
 
+    def here(*words, **more):
+        done = run(*words, cwd=tmp_path, env={**env, **more})
+        return done.returncode, done.stdout
 
-@pytest.fixture
-def run(moved, tmp_path):
-    """Runs what was installed from another folder, with the system's programs behind it on the path."""
-    def call(*words, given=b""):
-        env = {"PATH": f"{moved / 'bin'}:{SYSTEM}", "HOME": str(tmp_path)}
-        done = subprocess.run(words, cwd=tmp_path, input=given, capture_output=True, env=env)
-        return done.returncode, done.stdout, done.stderr
-    return call
-
-
-def test_wdp_answers(run, moved):
-    program = (ROOT / "cases" / "one_form" / "stdout").read_bytes()
-    assert run("wdp", "text", given=(moved / "share/doc/wdp/examples/one_form.txt").read_bytes()) == (0, program, b"")
-
-
-def test_the_sample_office(run, moved, tmp_path):
-    """Its files are joined, and faults of another's told; an auction and its page find the program."""
-    shown = moved / "share/doc/wdp/examples"
-    files = [shown / "office" / name for name in ("rules.csv", "forms", "groups.txt")]
-    assert run("wdp-office", "gather", *files, *GATHER, "--output", "input.txt")[0] == 0
-    assert hashlib.sha256((tmp_path / "input.txt").read_bytes()).hexdigest() == INPUT_SHA256
-    status, told, _ = run("wdp-office", "explain", files[0], shown / "office" / "faulty", files[2], "--allow-missing", "Teal")
-    assert (status, told.splitlines()[-1].split()[1:]) == (1, [b"faults"])
-    assert run("wdp-office", "gahter")[0] == 2
-    status, _, said = run("wdp-office", "auction", "award", "--input", shown / "worked.txt", "--quiet")
-    assert (status, (tmp_path / "award/report.txt").read_bytes()) == (0, (shown / "worked.report.txt").read_bytes()), said
-    assert b"Certified" in (tmp_path / "award/results/results.html").read_bytes()
-
-
-def test_the_module_of_python_finds_wdp(moved, tmp_path):
+    text = (ROOT / "cases/one_form/stdout").read_text()
+    assert here("wdp", "text", shown / "one_form.txt") == (0, text)
+    rules, forms, faulty, groups = (
+        shown / "office" / name for name in ("rules.csv", "forms", "faulty", "groups.txt")
+    )
+    assert here("wdp-office", "gather", rules, forms, groups, *GATHER)[0] == 0
+    assert sha256((tmp_path / "input.txt").read_bytes()).hexdigest() == INPUT_SHA256
+    status, told = here("wdp-office", "explain", rules, faulty, groups, "--allow-missing", "Teal")
+    assert (status, told.splitlines()[-1].split()[-1]) == (1, "faults")
+    assert here("wdp-office", "gahter")[0] == 2
+    words = ["auction", "award", "--input", shown / "worked.txt", "--quiet"]
+    assert here("wdp-office", *words)[0] == 0
+    report = (tmp_path / "award/report.txt").read_text()
+    assert report == (shown / "worked.report.txt").read_text()
+    assert "Certified" in (tmp_path / "award/results/results.html").read_text()
     script = "import wdp; from wdp import example; print(len(wdp.Auction.from_text(example.INPUT).compile()))"
-    env = {"PATH": SYSTEM, "PYTHONPATH": str(moved / "lib/wdp/python"), "PYTHONDONTWRITEBYTECODE": "1"}
-    done = subprocess.run(["/usr/bin/python3", "-c", script], cwd=tmp_path, capture_output=True, env=env)
-    assert (done.stdout, done.stderr) == (b"4\n", b"")
-
-
-def help_of(there, *words):
-    env = {"PATH": f"{there / 'bin'}:{SYSTEM}", "COLUMNS": "1000"}
-    return subprocess.run([*words, "--help"], stdin=subprocess.DEVNULL, capture_output=True, text=True, env=env, check=True).stdout
-
-
-def options_of(there, *words):
-    return set(re.findall(r"^ {2,6}(?:-\w, )?(--[a-z-]+)", help_of(there, *words), re.MULTILINE)) - {"--help", "--version"}
-
-
-@pytest.mark.parametrize("name", OFFICE)
-def test_a_page_has_each_option(there, name):
-    page = (there / f"share/man/man1/wdp-office-{name}.1").read_text().replace("\\-", "-")
-    assert f"wdp-office-{name} - {cli.COMMANDS[name][1]}" in page
-    assert all(option in page for option in options_of(there, "wdp-office", name))
-
-
-def test_the_page_of_wdp(there):
-    """Its synopsis has the commands of wdp."""
-    page = re.sub(r"\\f[BR]|\\", "", (there / "share/man/man1/wdp.1").read_text())
-    synopsis = page.partition(".SH SYNOPSIS")[2].partition(".SH DESCRIPTION")[0]
-    assert all(name in synopsis for name in COMMANDS) and "tools/" not in page
+    env |= {"PATH": SYSTEM, "PYTHONPATH": str(moved / "lib/wdp/python")}
+    assert here("/usr/bin/python3", "-c", script) == (0, "4\n")
 
 
 DRIVER = """\
@@ -179,44 +152,48 @@ printf '%s\\n' "${COMPREPLY[@]}"
 """
 
 
-def completed(there, *words):
-    """What bash has to go on with behind these words, the last of which is begun."""
-    script = there / "share/bash-completion/completions" / words[0]
-    done = subprocess.run(["bash", "-c", DRIVER, "bash", script, *words], capture_output=True, text=True, env={"PATH": SYSTEM})
-    return set(done.stdout.split())
+@pytest.mark.parametrize("program", COMMANDS)
+def test_completion_and_pages_have_each_option_of_each_command(there, program):
+    bash, zsh = (there / (path % program) for path in COMPLETION)
+
+    def completed(*words):
+        words = ["bash", "-c", DRIVER, "bash", bash, program, *words]
+        return set(run(*words, env={"PATH": SYSTEM}).stdout.split())
+
+    assert completed("") >= set(COMMANDS[program])
+    assert run("zsh", "-n", zsh).stderr == ""
+    for name in COMMANDS[program]:
+        env = {"PATH": f"{there / 'bin'}:{SYSTEM}", "COLUMNS": "1000"}
+        text = run(program, name, "--help", env=env, check=True).stdout
+        options = set(re.findall(r"^ {2,6}(?:-\w, )?(--[a-z-]+)", text, re.MULTILINE))
+        options -= {"--help", "--version"}
+        page = there / f"share/man/man1/{program}{'' if program == 'wdp' else f'-{name}'}.1"
+        texts = zsh.read_text(), page.read_text().replace("\\-", "-")
+        assert options and completed(name, "--") >= options and f'"{name}:' in texts[0]
+        assert all(option in text for option in options for text in texts)
 
 
-@pytest.mark.parametrize("program, commands", [("wdp", COMMANDS), ("wdp-office", OFFICE)])
-def test_completion(there, program, commands):
-    assert completed(there, program, "") >= set(commands)
-    zsh = (there / "share/zsh/site-functions" / f"_{program}").read_text()
-    assert subprocess.run(["zsh", "-n"], input=zsh, text=True, capture_output=True).stderr == ""
-    for name in commands:
-        options = options_of(there, program, name)
-        assert completed(there, program, name, "--") >= options
-        assert all(option in zsh for option in options) and f'"{name}:' in zsh
+def test_the_pages_have_each_part_of_an_input():
+    source = (ROOT / "crates/auction_input/src/part_kind.rt").read_text()
+    heads = set(re.findall(r'=> b"(%[a-z]+)"', source))
+    manual, reference = ((ROOT / "docs" / name).read_text() for name in ("wdp.1", "REFERENCE.md"))
+    assert set(re.findall(r"^\.TP\n\.B (%[a-z]+)$", manual, re.MULTILINE)) == heads
+    assert set(re.findall(r"^\| `(%[a-z]+)` \|", reference, re.MULTILINE)) == heads
 
 
-@pytest.fixture(scope="module")
-def package(wdp, folder):
-    """Debian's package, made of a copy of the tree."""
+def test_the_package_for_debian(wdp, folder, tmp_path):
+    """It has the program as it was built, and lintian finds no error but that of the licence, which is for a person to say."""
     tree = copied(folder / "built" / "tree", Path(wdp))
-    done = subprocess.run(["dpkg-buildpackage", "--no-sign", "-b"], cwd=tree, capture_output=True, text=True,
-                          env={"PATH": "/usr/sbin:/usr/bin:/sbin:/bin", "LC_ALL": "C.UTF-8"})  # fmt: skip
+    env = {"PATH": SYSTEM, "LC_ALL": "C.UTF-8"}
+    done = run("dpkg-buildpackage", "--no-sign", "-b", cwd=tree, env=env)
     assert done.returncode == 0, done.stdout[-2000:] + done.stderr[-2000:]
-    return next((folder / "built").glob("wdp_*.deb"))
-
-
-def test_the_package_has_the_program_as_it_was_built(package, wdp, tmp_path):
-    subprocess.run(["dpkg-deb", "-x", package, tmp_path], check=True)
-    assert Path(wdp).read_bytes() in [path.read_bytes() for path in tmp_path.rglob("wdp") if path.is_file()]
-    assert (tmp_path / "usr/bin/wdp-office").resolve() == tmp_path / "usr/lib/python3/dist-packages/wdp/__main__.py"
-    fields = subprocess.run(["dpkg-deb", "-f", package, "Depends"], capture_output=True, text=True, check=True).stdout
+    package = next((folder / "built").glob("wdp_*.deb"))
+    run("dpkg-deb", "-x", package, tmp_path, check=True)
+    programs = [path.read_bytes() for path in tmp_path.rglob("wdp") if path.is_file()]
+    assert Path(wdp).read_bytes() in programs
+    main = tmp_path / "usr/lib/python3/dist-packages/wdp/__main__.py"
+    assert (tmp_path / "usr/bin/wdp-office").resolve() == main
+    fields = run("dpkg-deb", "-f", package, "Depends", check=True).stdout
     assert "libc6" in fields and "python3 (>= 3.11)" in fields
-
-
-def test_lintian_finds_no_error_but_that_of_the_licence(package):
-    words = ["lintian", "--allow-root", "--fail-on", "none", package]
-    told = subprocess.run(words, capture_output=True, text=True).stdout.splitlines()
-    # (which licence it has is for a person to say)
+    told = run("lintian", "--allow-root", "--fail-on", "none", package).stdout.splitlines()
     assert [line for line in told if line.startswith("E:")] == ["E: wdp: no-copyright-file"]

@@ -1,9 +1,20 @@
 """The order in which the gate's tasks are run, and on how many processors each."""
+
+from __future__ import annotations
+
 import contextlib
 import os
 import threading
 import time
-from concurrent.futures import FIRST_COMPLETED, ThreadPoolExecutor, wait
+from collections.abc import Callable
+from concurrent.futures import FIRST_COMPLETED, Future, ThreadPoolExecutor, wait
+from pathlib import Path
+from typing import Any, NamedTuple
+
+# A crate, and what is done with it: proof, tests or edits.
+Key = tuple[str, str]
+# What a task waits for, its work in lines, its memory, and a call that gets what was given and how many jobs it may use.
+Task = tuple[list[Key], int, float, Callable[[dict[Key, Any], int], Any]]
 
 # A check splits its work well among so many processes.
 MOST_JOBS = 4
@@ -13,61 +24,40 @@ MEMORY_OF_A_JOB = 0.6
 SECONDS_OF_A_LINE = 0.06
 # The priorities: of the proof with the longest chain, of other proofs, and of tests and edits.
 NICE = {"longest": 0, "proofs": 4, "fillers": 10}
-MEASURED = os.path.join(os.path.dirname(os.path.abspath(__file__)), "seconds")
 
 
-def rows():
+def rows() -> list[list[str]]:
     """What is noted of each task: its crate, what is done, and numbers."""
-    with open(MEASURED, encoding="utf-8") as lines:
-        return [line.split() for line in lines if line.strip() and not line.startswith("#")]
+    lines = Path(__file__).with_name("seconds").read_text(encoding="utf-8").splitlines()
+    return [line.split() for line in lines if line.strip() and not line.startswith("#")]
 
 
-def measured():
-    """The processor time that each task takes with one process, in seconds, as it was measured: by the crate and what is done."""
+def measured() -> dict[Key, float]:
+    """The processor time that each task takes with one process, in seconds, as it was measured."""
     return {(crate, kind): float(seconds) for crate, kind, seconds, *_ in rows()}
 
 
-def chosen():
+def chosen() -> dict[Key, int]:
     """With how many processes each proof is begun where there are only proofs, on four processors."""
     return {(crate, kind): int(many[0]) for crate, kind, _, *many in rows() if many}
 
 
-def chains(tasks, seconds):
-    """How much work is behind each task: its own, and that of the longest chain of tasks that wait for it."""
-    behind = dict.fromkeys(tasks, 0)
-    for key in reversed([*tasks]):
-        behind[key] += seconds[key]
-        for it in tasks[key][0]:
-            behind[it] = max(behind[it], behind[key])
-    return behind
-
-
-def is_filler(key):
+def is_filler(key: Key) -> bool:
     """Whether no proof of a crate waits for a task."""
     return key[1] in ("edits", "tests")
 
 
-def most_jobs(key):
-    """With how many jobs a task is begun at most: each check of edits asks anew how many processors it may use."""
-    return 1 if key[1] == "edits" else MOST_JOBS
-
-
-def step_back(niceness):
+def step_back(niceness: int) -> None:
     """Has what this thread starts wait for what others start: a priority is a thread's, and its children's. (A run that was
     started at a lower one mayn't raise it.)"""
     thread = threading.get_native_id()
     os.setpriority(os.PRIO_PROCESS, thread, max(niceness, os.getpriority(os.PRIO_PROCESS, thread)))
 
 
-def timed(key, call):
-    """The call of a task, which says how long it took."""
-    def run(given, jobs):
-        started = time.time()
-        result = call(given, jobs)
-        print("%s: %s took %d s, begun with %d jobs" % (*key, time.time() - started, jobs), flush=True)
-        return result
-
-    return run
+class AtWork(NamedTuple):
+    key: Key
+    jobs: int
+    memory: float
 
 
 class Lanes:
@@ -78,84 +68,109 @@ class Lanes:
     has one, and more where processors would be idle. And more tasks than processors take each other's caches: eight checks on four
     processors take a fifth more of processor time than four. So one is begun where a processor is idle; but the proof with the
     longest chain behind it, which all waits for in the end, at once. Where there are only proofs, each has as many
-    processes as were chosen, on four processors or more.
-    A task is what it waits for, its work in lines, its memory, and a call that gets what was given and how many jobs it may use.
-    `took` tells the seconds of those that were measured, `chosen` the processes.
+    processes as were chosen, on four processors or more. `took` are the seconds of the tasks that were measured.
     """
 
-    def __init__(self, tasks, processors, memory, took=(), chosen=()):
-        self.tasks, self.processors, self.memory, self.chosen = tasks, processors, memory, dict(chosen)
-        self.seconds = {key: lines and dict(took).get(key, lines * SECONDS_OF_A_LINE) for key, (_, lines, _, _) in tasks.items()}
-        self.behind = chains(tasks, self.seconds)
+    def __init__(
+        self,
+        tasks: dict[Key, Task],
+        processors: int,
+        memory: float,
+        took: dict[Key, float] | None = None,
+        chosen: dict[Key, int] | None = None,
+    ) -> None:
+        self.tasks, self.processors, self.memory = tasks, processors, memory
+        # how much work is behind each task: its own, and that of the longest chain of tasks that wait for it
+        self.behind = dict.fromkeys(tasks, 0.0)
+        for key in reversed([*tasks]):
+            waits, lines, *_ = tasks[key]
+            self.behind[key] += lines and (took or {}).get(key, lines * SECONDS_OF_A_LINE)
+            for it in waits:
+                self.behind[it] = max(self.behind[it], self.behind[key])
         # (tests take longer alone than edits, which are tried in several checks)
         self.left = sorted(tasks, key=lambda key: (key[1] == "edits", -self.behind[key]))
         # whether tests or edits fill the processors
-        self.is_filled = any(is_filler(key) and work for key, (_, work, _, _) in tasks.items())
-        self.running, self.given = {}, {}
+        self.is_filled = any(is_filler(key) and task[1] for key, task in tasks.items())
+        # (the processes are chosen for four processors; on fewer each further one takes from others)
+        self.chosen = {} if self.is_filled or processors < MOST_JOBS else chosen or {}
+        self.running: dict[Future[Any], AtWork] = {}
+        self.given: dict[Key, Any] = {}
 
-    def ready(self, fills):
-        return [key for key in self.left if is_filler(key) == fills and all(it in self.given for it in self.tasks[key][0])]
+    def at_work(self) -> list[AtWork]:
+        # (other threads ask, too; what has no work takes no processor)
+        return [it for it in [*self.running.values()] if it.jobs]
 
-    def at_work(self, fills):
-        """The jobs of the tasks at work."""
-        # (other threads ask, too)
-        return [jobs for key, jobs, _ in [*self.running.values()] if is_filler(key) == fills and jobs]
-
-    def idle(self):
-        """How many processors nothing has."""
-        return max(self.processors - sum(self.at_work(False)) - sum(self.at_work(True)), 0)
-
-    def share(self):
+    def share(self) -> int:
         """How many processors a task at work may use from now on: an equal part."""
-        many = len(self.at_work(True)) + len(self.at_work(False))
-        return max(min(MOST_JOBS, self.processors // max(many, 1)), 1)
+        return max(min(MOST_JOBS, self.processors // max(len(self.at_work()), 1)), 1)
 
-    def fitting(self, key, jobs):
-        """With how many jobs a task fits into the memory that is left: none where it doesn't."""
-        left = self.memory - sum(held for _, _, held in self.running.values())
-        return next((many for many in range(jobs, 0, -1) if self.needed(key, many) <= left), 0 if self.running else 1)
+    def rank(self, key: Key) -> int:
+        """How many proofs at work have as long a chain behind them."""
+        running = (it.key for it in self.running.values())
+        return sum(self.behind[it] >= self.behind[key] for it in running if not is_filler(it))
 
-    def needed(self, key, jobs):
+    def needed(self, key: Key, jobs: int) -> float:
         return self.tasks[key][2] * (1 + MEMORY_OF_A_JOB * (jobs - 1))
 
-    def start(self, pool, key, jobs):
+    def jobs_of(self, key: Key, most: int) -> int:
+        """With how many jobs a task is begun: so many that fit into the memory that is left, or none."""
+        # (each check of edits asks anew how many processors it may use)
+        most = (
+            1 if key[1] == "edits" else min(MOST_JOBS, self.processors, self.chosen.get(key, most))
+        )
+        left = self.memory - sum(it.memory for it in self.running.values())
+        fitting = (jobs for jobs in range(most, 0, -1) if self.needed(key, jobs) <= left)
+        return next(fitting, 0 if self.running else 1)
+
+    def start(self, pool: ThreadPoolExecutor, key: Key, jobs: int) -> None:
         _, work, _, call = self.tasks[key]
+
+        def run() -> Any:
+            started = time.time()
+            result = call(self.given, jobs)
+            if work:
+                took = f"took {time.time() - started:.0f} s, begun with {jobs} jobs"
+                print(f"{key[0]}: {key[1]} {took}", flush=True)
+            return result
+
         self.left.remove(key)
-        run = timed(key, call) if work else call
-        self.running[pool.submit(run, self.given, max(jobs, 1))] = key, jobs if work else 0, self.needed(key, jobs) if work else 0
+        at_work = AtWork(key, jobs, self.needed(key, jobs)) if work else AtWork(key, 0, 0)
+        self.running[pool.submit(run)] = at_work
 
-    def rank(self, key):
-        """How many proofs at work have as long a chain behind them."""
-        return sum(self.behind[it] >= self.behind[key] for it, _, _ in self.running.values() if not is_filler(it))
-
-    def jobs_of(self, key, idle, many):
-        """With how many jobs a task is begun, where so many processors are idle for so many tasks."""
-        # (they are chosen for four processors; on fewer each further process takes from others)
-        told = 0 if self.is_filled or self.processors < MOST_JOBS else self.chosen.get(key, 0)
-        return self.fitting(key, min(most_jobs(key), self.processors, told or max(-(-idle // many), 1)))
-
-    def start_all(self, pool_of, fills):
+    def start_all(self, pool_of: Callable[[Key], ThreadPoolExecutor], fills: bool) -> None:
         """Starts what is ready, as many tasks as there are processors. (`pool_of(key)`: which threads run a task.)"""
-        for key in [key for key in self.ready(fills) if not self.tasks[key][1]]:
+        ready = [
+            it
+            for it in self.left
+            if is_filler(it) == fills and self.given.keys() >= {*self.tasks[it][0]}
+        ]
+        for key in [key for key in ready if not self.tasks[key][1]]:
+            ready.remove(key)
             self.start(pool_of(key), key, 1)
-        ready = self.ready(fills)
-        while ready and (places := self.processors - len(self.at_work(fills))) > 0:
-            key, idle = ready.pop(0), self.idle()
-            if not idle and self.is_filled and (fills or self.rank(key)):
+        while ready:
+            at_work, key = self.at_work(), ready.pop(0)
+            places = self.processors - sum(is_filler(it.key) == fills for it in at_work)
+            idle = max(self.processors - sum(it.jobs for it in at_work), 0)
+            if places <= 0 or not idle and self.is_filled and (fills or self.rank(key)):
                 return
-            jobs = self.jobs_of(key, idle, min(len(ready) + 1, places))
-            if jobs:
+            if jobs := self.jobs_of(key, max(-(-idle // min(len(ready) + 1, places)), 1)):
                 self.start(pool_of(key), key, jobs)
 
-    def run(self):
+    def run(self) -> dict[Key, Any]:
         with contextlib.ExitStack() as ended:
-            pools = {kind: ended.enter_context(ThreadPoolExecutor(len(self.tasks), initializer=step_back, initargs=(niceness,)))
-                     for kind, niceness in NICE.items()}
+
+            def pool(niceness: int) -> ThreadPoolExecutor:
+                threads = ThreadPoolExecutor(
+                    len(self.tasks), initializer=step_back, initargs=(niceness,)
+                )
+                return ended.enter_context(threads)
+
+            pools = {kind: pool(niceness) for kind, niceness in NICE.items()}
             while self.left or self.running:
                 self.start_all(lambda key: pools["proofs" if self.rank(key) else "longest"], False)
-                self.start_all(lambda key: pools["fillers"], True)
+                self.start_all(lambda _: pools["fillers"], True)
                 if not self.running:
-                    raise ValueError("tasks that wait for one another: %s" % self.left)
+                    raise ValueError(f"tasks that wait for one another: {self.left}")
                 for it in wait(self.running, return_when=FIRST_COMPLETED).done:
-                    self.given[self.running.pop(it)[0]] = it.result()
+                    self.given[self.running.pop(it).key] = it.result()
         return self.given

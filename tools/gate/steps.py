@@ -1,4 +1,7 @@
-"""Steps of the tests side by side: each is a command whose last line is 'N passed, M failed', and is timed."""
+"""Steps side by side: each is a command that says last how many passed and failed, and is timed."""
+
+from __future__ import annotations
+
 import contextlib
 import os
 import re
@@ -9,113 +12,131 @@ import threading
 import time
 from concurrent.futures import ThreadPoolExecutor
 
-COUNTS = re.compile(rb"(?:\A|\n)(\d+) passed, (\d+) failed\s*\Z")
+Step = tuple[str, list[str]]
+OWN_COUNTS = re.compile(rb"(\d+) passed, (\d+) failed")
+PYTEST_COUNTS = re.compile(rb"(?:=+ )?((?:\d+ \w+(?:, )?)+) in [\d.]+s(?: \([\d:]+\))?(?: =+)?")
 
 
-def step_back(process, niceness):
-    """Gives the session that a process leads a priority: where the kernel shares processors out by sessions, that of a process
-    counts within its own alone."""
-    with contextlib.suppress(OSError), open("/proc/%d/autogroup" % process, "w") as group:
-        group.write(str(niceness))
+def counts_in(said: bytes) -> tuple[int, int] | None:
+    """How many passed and failed, as the last line of a tool of this tree or of pytest says."""
+    last = said.rstrip().rpartition(b"\n")[2]
+    if own := OWN_COUNTS.fullmatch(last):
+        return int(own[1]), int(own[2])
+    if found := PYTEST_COUNTS.fullmatch(last):
+        many = {kind: int(number) for number, kind in re.findall(rb"(\d+) (\w+)", found[1])}
+        return many.get(b"passed", 0), sum(
+            many.get(it, 0) for it in (b"failed", b"error", b"errors")
+        )
+    return None
 
 
 class Steps:
-    """Runs steps in a folder, and adds up what they counted. A step without that last line has failed, and so has one that ends with
+    """Runs steps in a folder, and adds up what they count. A step without counts has failed, and so has one that ends with
     another status than 0 and counts no failure."""
 
-    def __init__(self, folder):
-        self.folder, self.printing = folder, threading.Lock()
-        self.told, self.started = {}, time.time()
-        self.running, self.is_stopped = set(), False
+    def __init__(self, folder: str) -> None:
+        self.folder, self.printing, self.started = folder, threading.Lock(), time.time()
+        self.came: dict[str, tuple[float, int, int]] = {}
+        self.running: set[subprocess.Popen[bytes]] = set()
+        self.is_stopped = False
 
-    def run(self, name, words, is_shown_at_once=False, niceness=0):
-        """Runs a step; what it prints is shown as it comes, or in one piece at its end. A step that is run again counts once."""
-        started = time.time()
-        how = {"cwd": self.folder, "stdin": subprocess.DEVNULL, "stdout": subprocess.PIPE, "stderr": subprocess.STDOUT}
-        said = []
-        if is_shown_at_once:
-            self.show(b"== %s\n" % name.encode())
+    def run(
+        self, name: str, words: list[str], niceness: int = 0, shows_at_once: bool = False
+    ) -> bool:
+        """Whether nothing failed. What a step prints is shown as it comes, or in one piece at its end. A step that is run again
+        counts once."""
+        started, said = time.time(), []
         with self.printing:
             if self.is_stopped:
                 return False
             # (a group of its own, so that all of it can be ended)
-            run = subprocess.Popen(["nice", "-n", str(niceness), *map(str, words)], start_new_session=True, **how)
-            step_back(run.pid, niceness)
+            run = subprocess.Popen(
+                ["nice", "-n", str(niceness), *words],
+                cwd=self.folder,
+                stdin=subprocess.DEVNULL,
+                stdout=subprocess.PIPE,
+                stderr=subprocess.STDOUT,
+                process_group=0,
+            )
             self.running.add(run)
             if self.is_stopped:
-                self.end(run)
+                end(run)
         with run:
+            assert run.stdout
             for line in run.stdout:
                 said.append(line)
-                if is_shown_at_once:
+                if shows_at_once:
                     self.show(line)
         with self.printing:
             self.running.discard(run)
-        self.count(name, run.returncode, b"".join(said), is_shown_at_once, time.time() - started)
-        return self.told[name][2] == 0
+        counts = counts_in(b"".join(said))
+        passed, failed = counts or (0, 0)
+        if counts is None or run.returncode and not failed:
+            failed += 1
+            said.append(
+                b"\nfailed: the step ended with status %d and counted no failure\n" % run.returncode
+            )
+        seconds, text = time.time() - started, b"" if shows_at_once else b"".join(said)
+        self.show(
+            b"== %s:\n%s== %d s, %d passed, %d failed\n"
+            % (name.encode(), text, seconds, passed, failed)
+        )
+        self.came[name] = seconds, passed, failed
+        return not failed
 
-    def refuse(self, name, why):
+    def refuse(self, name: str, why: str) -> None:
         """Counts what can't be run as a failure."""
-        self.show(b"failed: %s: %s\n" % (name.encode(), why.encode()))
-        self.told[name] = 0, 0, 1
+        self.show(f"failed: {name}: {why}\n".encode())
+        self.came[name] = 0, 0, 1
 
-    def stop_on_signals(self):
+    def show(self, text: bytes) -> None:
+        with self.printing:
+            sys.stdout.buffer.write(text)
+            sys.stdout.buffer.flush()
+
+    def stop_on_signals(self) -> None:
         """Has a signal that ends this process end the steps with all that they started."""
-        def stop(number, _):
+
+        def stop(number: int, _: object) -> None:
             self.is_stopped = True
             for run in list(self.running):
-                self.end(run)
+                end(run)
             sys.exit(128 + number)
 
         for ends in (signal.SIGTERM, signal.SIGINT, signal.SIGHUP):
             signal.signal(ends, stop)
 
-    @staticmethod
-    def end(run):
-        with contextlib.suppress(ProcessLookupError):
-            os.killpg(run.pid, signal.SIGKILL)
-
-    def show(self, text):
-        with self.printing:
-            sys.stdout.buffer.write(text)
-            sys.stdout.buffer.flush()
-
-    def count(self, name, status, said, is_shown, seconds):
-        counts = COUNTS.search(said)
-        passed, failed = map(int, counts.groups()) if counts else (0, 0)
-        why = b""
-        if not counts or (status and not failed):
-            failed += 1
-            why = b"failed: the step '%s' ended with status %d and counted no failure\n" % (name.encode(), status)
-        head = b"" if is_shown else b"== %s\n" % name.encode()
-        self.show(head + (b"" if is_shown else said) + why + b"== %s: %d s, status %d\n" % (name.encode(), seconds, status))
-        with self.printing:
-            self.told[name] = seconds, passed, failed
-
-    def run_all(self, steps, side_by_side, niceness):
-        """Runs steps, so many at a time, and returns those that failed."""
-        with ThreadPoolExecutor(side_by_side) as pool:
-            return [step for step, is_well in zip(steps, pool.map(lambda step: self.run(*step, niceness=niceness), steps)) if not is_well]
-
-    def run_from(self, left, niceness):
+    def run_from(self, left: list[Step], side_by_side: int = 1, niceness: int = 0) -> list[Step]:
         """Runs steps from a list, from which others may take some too, until none is left, and returns those that failed."""
-        failed = []
-        with contextlib.suppress(IndexError):
-            while True:
-                step = left.pop(0)
-                if not self.run(*step, niceness=niceness):
-                    failed.append(step)
-        return failed
 
-    def sums(self):
+        def take(_: int) -> list[Step]:
+            failed = []
+            with contextlib.suppress(IndexError):
+                while True:
+                    step = left.pop(0)
+                    if not self.run(*step, niceness):
+                        failed.append(step)
+            return failed
+
+        with ThreadPoolExecutor(side_by_side) as pool:
+            return sum(pool.map(take, range(side_by_side)), [])
+
+    def sums(self) -> tuple[int, int]:
         """How many passed and failed in all."""
-        return tuple(sum(told[place] for told in self.told.values()) for place in (1, 2))
+        return sum(it[1] for it in self.came.values()), sum(it[2] for it in self.came.values())
 
-    def tell(self):
-        """Prints the time of each step and the sum, and returns the exit status."""
-        for name, (seconds, passed, failed) in sorted(self.told.items(), key=lambda told: -told[1][0]):
-            print("%5d s  %6d passed %4d failed  %s" % (seconds, passed, failed, name))
-        print("%5d s  in all, on %d processors" % (time.time() - self.started, len(os.sched_getaffinity(0))))
+    def tell(self) -> int:
+        """Prints the time of each step and the sums, and returns the exit status."""
+        for name, (seconds, *counts) in sorted(self.came.items(), key=lambda it: -it[1][0]):
+            print(f"{seconds:5.0f} s  {counts[0]:6} passed {counts[1]:4} failed  {name}")
+        print(
+            f"{time.time() - self.started:5.0f} s  in all, on {len(os.sched_getaffinity(0))} processors"
+        )
         passed, failed = self.sums()
-        print("%d passed, %d failed" % (passed, failed), flush=True)
-        return 1 if failed else 0
+        print(f"{passed} passed, {failed} failed", flush=True)
+        return int(failed > 0)
+
+
+def end(run: subprocess.Popen[bytes]) -> None:
+    with contextlib.suppress(ProcessLookupError):
+        os.killpg(run.pid, signal.SIGKILL)

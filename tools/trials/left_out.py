@@ -11,16 +11,31 @@ class Drawn:
         self.supplies = [draw.randint(0, 4) for _ in "ABC"]
         self.values = [draw.choice((0, 3, 20)) for _ in "ABC"]
         # of each pool its cap, and the weight of each category that is a member
-        self.pools = [(draw.randint(0, 40), {name: draw.randint(1, 9) for name in draw.sample("ABC", 2)}) for _ in "PQ"]
-        self.forms = [(name, [(draw.randint(1, 90), package) for package in draw.sample(PACKAGES, bids)]) for name in draw.choices(NAMES, k=4)]
+        self.pools = [
+            (draw.randint(0, 40), {name: draw.randint(1, 9) for name in draw.sample("ABC", 2)})
+            for _ in "PQ"
+        ]
+        self.forms = [
+            (name, [(draw.randint(1, 90), package) for package in draw.sample(PACKAGES, bids)])
+            for name in draw.choices(NAMES, k=4)
+        ]
 
     def text(self):
-        rules = ["rules,3,1,,,"] + ["category,%s,%d,0,0,%d" % row for row in zip("ABC", self.supplies, self.values)]
+        rules = ["rules,3,1,,,"] + [
+            "category,%s,%d,0,0,%d" % row for row in zip("ABC", self.supplies, self.values)
+        ]
         rules += ["pool,%s,%d,,," % (pool, cap) for pool, (cap, _) in zip("PQ", self.pools)]
-        rules += ["member,%s,%s,%d,," % (pool, name, weight) for pool, (_, weights) in zip("PQ", self.pools) for name, weight in weights.items()]
+        rules += [
+            "member,%s,%s,%d,," % (pool, name, weight)
+            for pool, (_, weights) in zip("PQ", self.pools)
+            for name, weight in weights.items()
+        ]
         rules += ["bidder,%s,9,2,," % name for name in NAMES]
-        forms = ["%%form\n%s,A,B,C\n%s" % (name, "".join("%d,%d,%d,%d\n" % (amount, *package) for amount, package in bids))
-                 for name, bids in self.forms]
+        forms = [
+            "%%form\n%s,A,B,C\n%s"
+            % (name, "".join("%d,%d,%d,%d\n" % (amount, *package) for amount, package in bids))
+            for name, bids in self.forms
+        ]
         return "%%rules\n%s\n%s" % ("\n".join(rules), "".join(forms))
 
     def net(self, bid):
@@ -42,15 +57,26 @@ class Drawn:
                 return "loads pool %s with %d, above its cap of %d" % (pool, load, cap)
         if self.net(bid) < 0:
             return "brings %d less than its lots are worth unsold" % -self.net(bid)
-        return next(("is dominated by bid %d" % number for number, other in enumerate(bids, 1) if self.does_dominate(other, bid)), "")
+        return next(
+            (
+                "is dominated by bid %d" % number
+                for number, other in enumerate(bids, 1)
+                if self.does_dominate(other, bid)
+            ),
+            "",
+        )
 
     def lines(self):
         """By the bidders' numbers: a line for each form but the last one, and for each bid of that in no program."""
         return [line for name in NAMES for line in self.lines_of(name)]
 
     def lines_of(self, name):
-        *replaced, last = [number for number, (bidder, _) in enumerate(self.forms, 1) if bidder == name] or [0]
-        yield from ("%s: form %d is replaced by form %d\n" % (name, number, last) for number in replaced)
+        *replaced, last = [
+            number for number, (bidder, _) in enumerate(self.forms, 1) if bidder == name
+        ] or [0]
+        yield from (
+            "%s: form %d is replaced by form %d\n" % (name, number, last) for number in replaced
+        )
         bids = self.forms[last - 1][1] if last else []
         reasons = [(name, number, self.why(bids, bid)) for number, bid in enumerate(bids, 1)]
         yield from ("%s: bid %d %s\n" % reason for reason in reasons if reason[2])

@@ -66,7 +66,9 @@ BOUNDS
  BV X3_1
 ENDATA
 not read
-""".replace("\n", "\r\n")
+""".replace(
+    "\n", "\r\n"
+)
 
 # The programs of the first bid of Alpha's form, and of its first two; the third is dominated by the first.
 ONE_BID_OF_ALPHA = """NAME wdp
@@ -177,4 +179,9 @@ def rules_and(*forms):
 
 def auction(groups, *solutions):
     """All three forms, these groups and solutions."""
-    return rules_and(ALPHA, BETA, GAMMA) + "%groups\n" + groups + "".join("%solution\n" + text for text in solutions)
+    return (
+        rules_and(ALPHA, BETA, GAMMA)
+        + "%groups\n"
+        + groups
+        + "".join("%solution\n" + text for text in solutions)
+    )
