@@ -3,6 +3,9 @@
 again: a leaf that names the row of a category once for each column, of which that row has all; so many forms of 4,000 bids.
 split: a split that names two columns so often, above a tree with a leaf for each 100 of them.
 small: so many forms of 4,000 bids, and a tree with 100 leaves for each form that give a number to a few columns each.
+dense: 32 forms of 4,000 bids, and a tree with so many leaves that each name the row of the category, of which all columns have an
+entry.
+groupsolutions: 40 forms of 4,000 bids, and so many groups of the first ten bidders, each with a certificate of one leaf.
 plain: so many forms of 4,000 bids, and a certificate of one leaf.
 
 Each bid asks for some lots of one category and pays a pound for each, and 1,000 pounds more. So the greatest total is 1,000
@@ -70,6 +73,46 @@ def small(forms):
     """No point is on the second side of a split without columns, as its multiplier alone shows."""
     below = tree(depth_for(100 * forms), lambda depth: "split 0 X1_%d 1" % depth, lambda ys: " ".join(["bound 0 1", *map(str, ys)]))
     return text_of(auction(forms) + ["%certificate", "split 0", leaf(forms, (0,)), *below])
+
+
+def dense_leaves(leaves):
+    return 2 ** depth_for(leaves)
+
+
+def dense_entries(leaves):
+    """How many entries the rows have that the leaves of `dense` name."""
+    return 32 * BIDS * (dense_leaves(leaves) + 2)
+
+
+def dense(leaves):
+    """No point is on the second side of a split without columns, which outweighs the row of the category."""
+    below = tree(depth_for(leaves), lambda depth: "split 0", lambda ys: " ".join(["bound 0 %d" % (2 * LOTS), *map(str, ys), "C1 1"]))
+    return text_of(auction(32) + ["%certificate", "split 0", leaf(32, (0,)), *below])
+
+
+FEW, MANY = 10, 40  # of so many bidders groups are made, and so many are there
+
+
+def left_of(number):
+    """The bidders outside the group of a number, whose bits are its bidders."""
+    return [bidder for bidder in range(1, MANY + 1) if bidder > FEW or not number >> (bidder - 1) & 1]
+
+
+def groupsolutions_entries(groups):
+    """How many entries the programs of the groups have."""
+    return sum(2 * BIDS * len(left_of(number)) for number in range(groups))
+
+
+def groupsolutions(groups):
+    left = [left_of(number) for number in range(groups)]
+    lines = auction(MANY)
+    lines = lines[:lines.index("%groups")] + ["%groups", "-"]
+    lines += ["+".join("Bidder%d" % bidder for bidder in range(1, FEW + 1) if bidder not in names) for names in left[1:]]
+    for names in left:
+        lines += ["%solution"] + ["X%d_%d 1" % (bidder, won) for bidder, won in zip(names, winners(len(names)))]
+    for names in left:
+        lines += ["%certificate", " ".join(["bound 1", *("B%d 1000" % bidder for bidder in names), "C1 1"])]
+    return text_of(lines)
 
 
 def plain(forms):

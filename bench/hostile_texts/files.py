@@ -9,16 +9,28 @@ gathered, explained: a form of so many bids as bench/make_input makes it, for ei
 """
 import os
 import shutil
-import sys
 
 import measuring
-
-sys.path[:0] = [os.path.join(measuring.ROOT, "python", name) for name in ("src", "tests")]
-from inputs_of_tests import far_apart_at_places  # noqa: E402
 
 HEADER = b"Ant,Low,High\n"
 RULES = b"rules,1,1,,\ncategory,Low,6,0,0\ncategory,High,4,0,0\nbidder,Ant,20,1,\n"
 ROWS = {"rows": b"5000,2,1\n", "fields": b",", "empty": b",,\n", "quoted": b'"",', "untrue": b"x,y,z\n"}
+
+
+def far_apart_at_places(bids, categories=32):
+    """An input with a form whose bids ask for few lots, but for one in 128, at places that a sample may take, for 10,000 of each."""
+    names = ["C%d" % number for number in range(1, categories + 1)]
+    rows = []
+    for bid in range(bids):
+        # the digits of the bid's number, so that packages differ and many are within one another
+        package = [bid >> place & 1 for place in range(12)] + [1] * (categories - 12)
+        if bid % 128 == 0:
+            rows.append([20_000 + bid] + [10_000 - quantity for quantity in package])
+        else:
+            rows.append([1_000 + sum(package)] + package)
+    lines = ["%rules", "rules,1,1,,", *("category,%s,10000,0,0" % name for name in names), "bidder,Alpha,0,1,",
+             "%form", ",".join(["Alpha"] + names), *(",".join(map(str, row)) for row in rows), "%groups", "-"]
+    return "".join(line + "\n" for line in lines).encode()
 
 
 def written(path, text):

@@ -2,6 +2,8 @@
 
 faulty: forms without a byte, of which the first one is refused.
 short: forms of one bid and a few bytes, with which the call limit is met.
+short_quoted: the same with a quotation mark, which only a reader of all of csv's records can split.
+submitted: the same as short, of 256 bidders in turn, none of whom has more than it may submit.
 undominated: bids of one amount and most of one category, none of which dominates another, though each next one is smaller
   and so is compared with all before it.
 equal: bids whose packages all had one fingerprint, by which repeated packages are looked for, while its multiplier was the
@@ -143,6 +145,17 @@ def faulty(forms):
 
 def short(forms):
     return "\n".join(rules(1, 1)) + "\n" + "%form\nBidder1,Band1\n1,1\n" * forms
+
+
+def short_quoted(forms):
+    return "\n".join(rules(1, 1)) + "\n" + '%form\n"Bidder1",Band1\n1,1\n' * forms
+
+
+def submitted(forms):
+    lines = rules(1, 256)
+    for form in range(forms):
+        lines += ["%form", "Bidder%d,Band1" % (form % 256 + 1), "1,1"]
+    return "\n".join(lines + [""])
 
 
 def undominated(forms):
