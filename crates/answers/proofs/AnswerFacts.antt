@@ -3,6 +3,7 @@ use Rattle.std.proofs.Common.{◌≡◌, ◌≢◌, ◌∙◌, ℕ, List, Option
 use Rattle.auction_input.specs.Input.{Input}
 use Rattle.answers.specs.Answer.{answer, output_of}
 use Rattle.answers.specs.Exact.{Ends, IsUnwritten, MeetsLimit, Writes, by_refusal}
+use Rattle.answers.specs.Outside.{SinkState}
 use Rattle.answers.specs.Sold.{HasSold}
 use Rattle.answers.specs.inside.Output.{IsBeyondLimit, IsWithoutOutput}
 use Rattle.answers.proofs.FaithfulFacts.{faithful-without}
@@ -31,9 +32,9 @@ has-sold asked input auction sold = (auction, sold, faithful-without asked input
 
 module _ (asked : Request) (input : Input) (some : asked ≢ request.Check) where
   -- the auction isn't there
-  pub no-auction : (taken : Option (List ℕ)) (failures : ℕ) (r : Refusal) → RefusesAuction asked input r → IsUnwritten asked input taken taken failures failures r
-  no-auction taken failures r (inl refused) = inl (by_refusal (refuses-as _ _ r (by-auction asked input some) (stop (parsed_auction asked input) (output_of asked) r refused)) refl)
-  no-auction taken failures r (inr unsettled) = inr (inl unsettled, refl)
+  pub no-auction : (before : SinkState) (r : Refusal) → RefusesAuction asked input r → IsUnwritten asked input before before r
+  no-auction before r (inl refused) = inl (by_refusal (refuses-as _ _ r (by-auction asked input some) (stop (parsed_auction asked input) (output_of asked) r refused)) refl)
+  no-auction before r (inr unsettled) = inr (inl unsettled, refl)
 
   -- it is, and what is reported of it is what the input tells
   module _ (auction : Auction) (parsed : parsed_auction asked input ≡ Ok auction) where
@@ -43,8 +44,8 @@ module _ (asked : Request) (input : Input) (some : asked ≢ request.Check) wher
     pub written : {T E : Type 0} (result : Result T E) (taken taken' : Option (List ℕ)) → OnOk result (Writes (output_of asked auction) taken taken') → OnOk result (Writes (answer asked input) taken taken')
     written result taken taken' writes = subst (λ x. OnOk result (Writes x taken taken')) (sym is-parsed) writes
 
-    pub unwritten : {T : Type 0} (result : Result T Refusal) (taken taken' : Option (List ℕ)) (failures failures' : ℕ) → IfErr result (IsWithoutOutput asked auction taken taken' failures failures')
-        → IfErr result (IsUnwritten asked input taken taken' failures failures')
-    unwritten (Ok x) taken taken' failures failures' ends = tt
-    unwritten (Err r) taken taken' failures failures' (inl ends) = inl (subst (λ x. Ends x taken taken' failures failures' r) (sym is-parsed) ends)
-    unwritten (Err r) taken taken' failures failures' (inr (beyond, same)) = inr (inr (meets-limit asked input auction r parsed beyond), same)
+    pub unwritten : {T : Type 0} (result : Result T Refusal) (before after : SinkState) → IfErr result (IsWithoutOutput asked auction before after)
+        → IfErr result (IsUnwritten asked input before after)
+    unwritten (Ok x) before after ends = tt
+    unwritten (Err r) before after (inl ends) = inl (subst (λ x. Ends x before after r) (sym is-parsed) ends)
+    unwritten (Err r) before after (inr (beyond, same)) = inr (inr (meets-limit asked input auction r parsed beyond), same)

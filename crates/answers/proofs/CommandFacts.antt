@@ -14,6 +14,7 @@ use Rattle.program_rows.specs.Program.{Table}
 use Rattle.auction_input.specs.Refused.{Refuses}
 use Rattle.auction_input.specs.Settled.{held}
 use Rattle.answers.specs.Exact.{Ends, by_put}
+use Rattle.answers.specs.Outside.{SinkState}
 use Rattle.answers.specs.GroupTexts.{EndsIn, program_bytes, programs_bytes, program_text}
 use Rattle.answers.specs.Answer.{output_of}
 use Rattle.auction_input.specs.declared.refusal.Refusal.{Refusal}
@@ -26,10 +27,14 @@ use Rattle.auction_input.specs.declared.refusal.Refusal.TheVariants as refusal
 use Rattle.auction_input.specs.declared.request.Request.TheVariants as request
 use Rattle.auction_input.proofs.StageFacts.{next, refuses-as, stop}
 
+-- the state of a sink, by what it took and how many puts failed
+abbrev pub state : Option (List ℕ) → ℕ → SinkState
+state taken failures = record { taken = taken; failures = failures }
+
 -- a put failed
-pub cut-short : (parsed : Result (List ℕ) Refusal) (out : List ℕ) (taken taken' : Option (List ℕ)) (failures failures' : ℕ) (f : WriteFault) → parsed ≡ Ok out
-    → SentFront taken taken' out (written_of f) → HasFailed failures failures' → Ends parsed taken taken' failures failures' (refusal.Write f)
-cut-short parsed out taken taken' failures failures' (write.Sink written) whole sent failed = by_put out whole sent failed
+pub cut-short : (parsed : Result (List ℕ) Refusal) (out : List ℕ) (before after : SinkState) (f : WriteFault) → parsed ≡ Ok out
+    → SentFront before.taken after.taken out (written_of f) → HasFailed before.failures after.failures → Ends parsed before after (refusal.Write f)
+cut-short parsed out before after (write.Sink written) whole sent failed = by_put out whole sent failed
 
 -- the programs of groups are made of their groups
 pub of-groups : (book : Closing) (k : ℕ) (groups : List (List ℕ)) → in_turn (program_text (sale_of book)) k groups ≡ in_turn (program_bytes book) k (map (compiled book) groups)

@@ -5,6 +5,7 @@ use Rattle.auction_input.specs.Input.{Input}
 use Rattle.std.specs.Io.KnownBytes.{Appends}
 use Rattle.answers.specs.Exact.{IsUnwritten, Writes}
 use Rattle.answers.specs.Answer.{answer, output_of}
+use Rattle.answers.specs.Outside.{SinkState}
 use Rattle.answers.specs.Runs.{AsksAnswer}
 use Rattle.auction_input.specs.Auction.{Auction, parsed_auction}
 use Rattle.auction_input.specs.declared.refusal.Refusal.{Refusal}
@@ -55,19 +56,17 @@ pub asks-bids : (bids faulty : Bool) (command : Option Target) (text : Input) �
 asks-bids bids faulty command text asked sound both = (asked, no-fault (parsed_taken (Explain bids command) text) (λ wrong. true≢false (sym (both.1 wrong) ∙ sound)))
 
 -- where nothing was put before
-pub unreported : (asked : Request) (text : Input) (before taken taken' : Option (List ℕ)) (failed failures failures' : ℕ) (r : Refusal) → before ≡ taken → failed ≡ failures → IsUnwritten asked text before taken' failed failures' r
-    → IsUnwritten asked text taken taken' failures failures' r
-unreported asked text before taken taken' failed failures failures' r same quiet unwritten =
-    subst (λ (n : ℕ). IsUnwritten asked text taken taken' n failures' r) quiet (subst (λ (t : Option (List ℕ)). IsUnwritten asked text t taken' failed failures' r) same unwritten)
+pub unreported : (asked : Request) (text : Input) (explained before after : SinkState) (r : Refusal) → explained ≡ before → IsUnwritten asked text explained after r → IsUnwritten asked text before after r
+unreported asked text explained before after r same unwritten = subst (λ (s : SinkState). IsUnwritten asked text s after r) same unwritten
 
 -- what a text is explained by
 abbrev pub IsTextExplained : Bool → Option Target → Input → Option (List ℕ) → Option (List ℕ) → Bool → Type 0
 IsTextExplained bids command text taken taken' faulty =
     MatchBool faulty (IsErr (parsed_taken (Explain bids command) text) × Appends taken taken' (explanation (Explain bids command) text)) (Writes (answer (Explain bids command) text) taken taken')
 
-abbrev pub IsTextUnexplained : Bool → Option Target → Input → Option (List ℕ) → Option (List ℕ) → ℕ → ℕ → Refusal → Type 0
-IsTextUnexplained bids command text taken taken' failures failures' r =
-    IsCutShort (explanation (Explain bids command) text) taken taken' failures failures' r ⊎ (AsksAnswer (Explain bids command) text × IsUnwritten (Explain bids command) text taken taken' failures failures' r)
+abbrev pub IsTextUnexplained : Bool → Option Target → Input → SinkState → SinkState → Refusal → Type 0
+IsTextUnexplained bids command text before after r =
+    IsCutShort (explanation (Explain bids command) text) before.taken after.taken before.failures after.failures r ⊎ (AsksAnswer (Explain bids command) text × IsUnwritten (Explain bids command) text before after r)
 
 -- ---- what is written of an auction
 

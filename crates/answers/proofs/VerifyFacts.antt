@@ -1,5 +1,5 @@
 -- How `verify` ends.
-use Rattle.std.proofs.Common.{◌≡◌, ℕ, List, Option, Ok, length, refl, inl, inr, [], ◌⊎◌, slice_index_or}
+use Rattle.std.proofs.Common.{◌≡◌, ℕ, List, Ok, length, refl, inl, inr, [], ◌⊎◌, slice_index_or}
 use Rattle.auction_terms.specs.declared.choices.Choice.{Choice}
 use Rattle.auction_input.specs.Auction.{Auction}
 use Rattle.answers.specs.Certified.{IsTooWide, bounds_of, certified}
@@ -8,6 +8,7 @@ use Rattle.answers.specs.Answer.{output_of}
 use Rattle.auction_input.specs.Refused.{Refuses}
 use Rattle.auction_input.specs.declared.refusal.Refusal.{Refusal}
 use Rattle.answers.specs.Claimed.{IsTooWideClaim, parsed_claims}
+use Rattle.answers.specs.Outside.{SinkState}
 use Rattle.answers.specs.Pricing.{IsTooWidePricing, parsed_pricing}
 use Rattle.outcome.specs.declared.uniqueness.Uniqueness.{Uniqueness}
 use Rattle.answers.specs.Exact.{Ends, IsBeyondSums, by_refusal}
@@ -15,22 +16,22 @@ use Rattle.auction_input.specs.declared.request.Request.TheVariants as request
 use Rattle.auction_input.proofs.StageFacts.{behind, next, stop}
 
 -- solutions that are taken, and a certificate that isn't
-pub unshown : (workers : ℕ) (auction : Auction) (won : List (List Choice)) (taken : Option (List ℕ)) (failures : ℕ) (r : Refusal) → winners_of_groups auction ≡ Ok won
+pub unshown : (workers : ℕ) (auction : Auction) (won : List (List Choice)) (before : SinkState) (r : Refusal) → winners_of_groups auction ≡ Ok won
     → Refuses (certified auction won) r ⊎ ((length auction.certificates ≡ length auction.groups) × IsTooWide (bounds_of auction won) r)
-    → Ends (output_of (request.Verify workers) auction) taken taken failures failures r ⊎ (IsBeyondSums auction r × (taken ≡ taken))
-unshown workers auction won taken failures r parsed (inl refused) = inl (by_refusal (stop _ _ r (behind _ won _ r parsed refused)) refl)
-unshown workers auction won taken failures r parsed (inr (each, wide)) = inr ((won, parsed, inl (each, wide)), refl)
+    → Ends (output_of (request.Verify workers) auction) before before r ⊎ (IsBeyondSums auction r × (before.taken ≡ before.taken))
+unshown workers auction won before r parsed (inl refused) = inl (by_refusal (stop _ _ r (behind _ won _ r parsed refused)) refl)
+unshown workers auction won before r parsed (inr (each, wide)) = inr ((won, parsed, inl (each, wide)), refl)
 
 -- solutions and certificates that are taken, and a claim of which nothing comes
-pub unclaimed : (workers : ℕ) (auction : Auction) (won : List (List Choice)) (taken : Option (List ℕ)) (failures : ℕ) (r : Refusal) → winners_of_groups auction ≡ Ok won → certified auction won ≡ Ok won
+pub unclaimed : (workers : ℕ) (auction : Auction) (won : List (List Choice)) (before : SinkState) (r : Refusal) → winners_of_groups auction ≡ Ok won → certified auction won ≡ Ok won
     → Refuses (parsed_claims auction (slice_index_or won 0 []) auction.uniques auction.ties) r ⊎ IsTooWideClaim auction r
-    → Ends (output_of (request.Verify workers) auction) taken taken failures failures r ⊎ (IsBeyondSums auction r × (taken ≡ taken))
-unclaimed workers auction won taken failures r parsed certifies (inl refused) = inl (by_refusal (behind _ won _ r (next _ won _ _ parsed certifies) (stop _ _ r refused)) refl)
-unclaimed workers auction won taken failures r parsed certifies (inr wide) = inr ((won, parsed, inr (certifies, inl wide)), refl)
+    → Ends (output_of (request.Verify workers) auction) before before r ⊎ (IsBeyondSums auction r × (before.taken ≡ before.taken))
+unclaimed workers auction won before r parsed certifies (inl refused) = inl (by_refusal (behind _ won _ r (next _ won _ _ parsed certifies) (stop _ _ r refused)) refl)
+unclaimed workers auction won before r parsed certifies (inr wide) = inr ((won, parsed, inr (certifies, inl wide)), refl)
 
 -- solutions, certificates and a claim that are taken, and prices that aren't
-pub unpriced : (workers : ℕ) (auction : Auction) (won : List (List Choice)) (claim : Uniqueness) (taken : Option (List ℕ)) (failures : ℕ) (r : Refusal) → winners_of_groups auction ≡ Ok won → certified auction won ≡ Ok won
+pub unpriced : (workers : ℕ) (auction : Auction) (won : List (List Choice)) (claim : Uniqueness) (before : SinkState) (r : Refusal) → winners_of_groups auction ≡ Ok won → certified auction won ≡ Ok won
     → parsed_claims auction (slice_index_or won 0 []) auction.uniques auction.ties ≡ Ok claim → Refuses (parsed_pricing auction won) r ⊎ IsTooWidePricing auction won r
-    → Ends (output_of (request.Verify workers) auction) taken taken failures failures r ⊎ (IsBeyondSums auction r × (taken ≡ taken))
-unpriced workers auction won claim taken failures r parsed certifies claims (inl refused) = inl (by_refusal (behind _ won _ r (next _ won _ _ parsed certifies) (behind _ claim _ r claims (stop _ _ r refused))) refl)
-unpriced workers auction won claim taken failures r parsed certifies claims (inr wide) = inr ((won, parsed, inr (certifies, inr wide)), refl)
+    → Ends (output_of (request.Verify workers) auction) before before r ⊎ (IsBeyondSums auction r × (before.taken ≡ before.taken))
+unpriced workers auction won claim before r parsed certifies claims (inl refused) = inl (by_refusal (behind _ won _ r (next _ won _ _ parsed certifies) (behind _ claim _ r claims (stop _ _ r refused))) refl)
+unpriced workers auction won claim before r parsed certifies claims (inr wide) = inr ((won, parsed, inr (certifies, inr wide)), refl)

@@ -9,7 +9,7 @@ use Rattle.auction_input.specs.declared.request.Request.TheVariants as request
 use Rattle.auction_input.specs.declared.request.Request.{Request}
 use Rattle.auction_input.specs.declared.request.Target.TheVariants as target
 use Rattle.auction_input.specs.declared.request.Target.{Target}
-use Rattle.answers.specs.declared.command.Command.{Command}
+use Rattle.answers.specs.declared.words.Command.{Command}
 use Rattle.auction_terms.specs.declared.limits.TheConstants.{MOST_GROUPS}
 use Rattle.clap.specs.Kinds.{or_else}
 use Rattle.clap.specs.Simple.{on_top}

@@ -15,6 +15,7 @@ use Rattle.byte_sinks.specs.declared.write_fault.WriteFault.TheVariants as write
 use Rattle.answers.specs.Answer.{answer}
 use Rattle.answers.specs.Certified.{IsTooWide, bounds_of, certified}
 use Rattle.answers.specs.Claimed.{IsTooWideClaim}
+use Rattle.answers.specs.Outside.{SinkState}
 use Rattle.answers.specs.Pricing.{IsTooWidePricing}
 use Rattle.answers.specs.SolutionWinners.{winners_of_groups}
 
@@ -23,9 +24,9 @@ abbrev pub Writes : Result (List ℕ) Refusal → Option (List ℕ) → Option (
 Writes parsed taken taken' = (out : List ℕ) × (parsed ≡ Ok out) × Appends taken taken' out
 
 -- how a command ends without its output: it is refused; or a put failed, behind the first bytes of the output, as many as the refusal tells
-pub data Ends (parsed : Result (List ℕ) Refusal) (taken taken' : Option (List ℕ)) (failures failures' : ℕ) : Refusal → Type 0 where
-  by_refusal : {r : Refusal} → Refuses parsed r → taken' ≡ taken → Ends parsed taken taken' failures failures' r
-  by_put : {written : ℕ} → (out : List ℕ) → parsed ≡ Ok out → SentFront taken taken' out written → HasFailed failures failures' → Ends parsed taken taken' failures failures' (refusal.Write (write.Sink written))
+pub data Ends (parsed : Result (List ℕ) Refusal) (before after : SinkState) : Refusal → Type 0 where
+  by_refusal : {r : Refusal} → Refuses parsed r → after.taken ≡ before.taken → Ends parsed before after r
+  by_put : {written : ℕ} → (out : List ℕ) → parsed ≡ Ok out → SentFront before.taken after.taken out written → HasFailed before.failures after.failures → Ends parsed before after (refusal.Write (write.Sink written))
 
 -- after solutions that are accepted it is a certificate of the groups; after all of these that of the claim; and after that the cover of prices
 abbrev pub IsBeyondSums : Auction → Refusal → Type 0
@@ -39,6 +40,6 @@ MeetsLimit (request.Verify workers) input r = (auction : Auction) × (parsed_auc
 MeetsLimit asked input r = ⊥
 
 -- why a request is refused, or its output cut short; what the input doesn't settle is a wrong answer of the desk, and the limit of sums
-abbrev pub IsUnwritten : Request → Input → Option (List ℕ) → Option (List ℕ) → ℕ → ℕ → Refusal → Type 0
-IsUnwritten asked input taken taken' failures failures' r =
-    Ends (answer asked input) taken taken' failures failures' r ⊎ ((IsUnsettled asked input r ⊎ MeetsLimit asked input r) × (taken' ≡ taken))
+abbrev pub IsUnwritten : Request → Input → SinkState → SinkState → Refusal → Type 0
+IsUnwritten asked input before after r =
+    Ends (answer asked input) before after r ⊎ ((IsUnsettled asked input r ⊎ MeetsLimit asked input r) × (after.taken ≡ before.taken))

@@ -7,8 +7,8 @@ use Rattle.mps_text.specs.Text.{text}
 use Rattle.outcome.specs.Report.{heading, in_turn}
 use Rattle.answers.specs.Programs.{program_for}
 use Rattle.bid_desk.specs.Sale.{Sale, sale_of}
-use Rattle.answers.specs.declared.run_fault.RunFault.TheVariants as fault
-use Rattle.answers.specs.declared.run_fault.RunFault.{RunFault}
+use Rattle.answers.specs.declared.group_texts.RunFault.TheVariants as fault
+use Rattle.answers.specs.declared.group_texts.RunFault.{RunFault}
 
 -- the line and the program of group k of a sale
 abbrev pub program_text : Sale → ℕ → List ℕ → List ℕ

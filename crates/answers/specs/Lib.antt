@@ -12,6 +12,7 @@ pub mod Sold
 pub mod FeasibleAnswers
 pub mod FileLines
 pub mod GroupTexts
+pub mod Outside
 pub mod Runs
 pub mod Sizes
 pub mod Verified

@@ -1,9 +1,9 @@
 -- What a run leaves of its input and its output.
-use Rattle.std.specs.Prelude.{◌≡◌, ◌⊎◌, ◌<◌, ℕ, ⊤, Bool, List, Option, IsErr, IsOk, IsSome, Ok, codes, length, true}
+use Rattle.std.specs.Prelude.{◌≡◌, ◌≢◌, ◌⊎◌, ◌<◌, ℕ, ⊤, Bool, List, Option, IsErr, IsOk, IsSome, Ok, codes, length, true}
 use Rattle.auction_input.specs.Input.{Input}
 use Rattle.std.specs.Io.KnownBytes.{Appends}
 use Rattle.auction_input.specs.Wanted.{parsed_taken}
-use Rattle.auction_input.specs.Line.{line}
+use Rattle.auction_input.specs.Line.{Puts, line}
 use Rattle.auction_input.specs.FileTexts.{IsInputRead, IsUnread}
 use Rattle.auction_input.specs.declared.files.FileRefusal.{FileRefusal}
 use Rattle.auction_input.specs.declared.input.Unread.{Unread}
@@ -19,8 +19,9 @@ use Rattle.input_faults.specs.FaultLines.{explanation}
 use Rattle.input_faults.specs.PlacedText.{placed_line}
 use Rattle.answers.specs.Answer.{answer}
 use Rattle.answers.specs.ExplainedFor.{IsRefusedBy, IsTakenBy}
-use Rattle.answers.specs.Asked.{Asked, CommandLine, for_answer, for_help, for_version}
+use Rattle.answers.specs.Asked.{Asked, CommandLine, for_answer, for_help, for_nothing, for_version}
 use Rattle.answers.specs.Exact.{Ends, IsUnwritten, Writes}
+use Rattle.answers.specs.Outside.{Outside}
 
 -- what a command line names was read, by the contents of files, and the last form of a bidder counts where the command line says so
 abbrev pub Reads : (List ℕ → Option (List ℕ)) → CommandLine → Option (List ℕ) → Option (List ℕ) → Input → Type 0
@@ -31,9 +32,10 @@ abbrev pub IsTakenFor : Request → Input → Type 0
 IsTakenFor (Explain bids whose) input = IsTakenBy whose input
 IsTakenFor asked input = ⊤
 
--- from what a reader had left and a sink had taken before to those after: the input was read, and what was asked for is written
-abbrev pub IsAnswered : (List ℕ → Option (List ℕ)) → CommandLine → Option (List ℕ) → Option (List ℕ) → Option (List ℕ) → Option (List ℕ) → Type 0
-IsAnswered content asked left left' taken taken' = (input : Input) × Reads content asked left left' input × IsTakenFor asked.request input × Writes (answer asked.request input) taken taken'
+-- the input was read, and what was asked for is written
+abbrev pub IsAnswered : (List ℕ → Option (List ℕ)) → CommandLine → Outside → Outside → Type 0
+IsAnswered content asked before after =
+    (input : Input) × Reads content asked before.left after.left input × IsTakenFor asked.request input × Writes (answer asked.request input) before.output.taken after.output.taken
 
 -- files are named, to be read or to be written
 abbrev pub NamesFiles : CommandLine → Type 0
@@ -45,15 +47,11 @@ AsksAnswer (Explain bids command) input = (bids ≡ true) × IsOk (parsed_taken 
 AsksAnswer asked input = ⊤
 
 -- why a command line isn't answered, by the line that tells it: a file that is named isn't there to be read or written, and nothing is read; or not all is read, and nothing is written; or the answer that is asked of what was read isn't written; or not all lines of its faults are
-pub data IsRefused (content : List ℕ → Option (List ℕ)) (asked : CommandLine) (left left' : Option (List ℕ)) (reads reads' : ℕ) (taken taken' : Option (List ℕ)) (failures failures' : ℕ) : List ℕ → Type 0 where
-  by_file : (r : FileRefusal) → NamesFiles asked → left' ≡ left → taken' ≡ taken → IsRefused content asked left left' reads reads' taken taken' failures failures' (refusal_line asked r)
-  by_input : (f : Unread) → IsUnread asked.files f left left' reads reads' → taken' ≡ taken → IsRefused content asked left left' reads reads' taken taken' failures failures' (unread_line asked f)
-  by_text : {r : Refusal} → (input : Input) → Reads content asked left left' input → AsksAnswer asked.request input → IsUnwritten asked.request input taken taken' failures failures' r → IsRefused content asked left left' reads reads' taken taken' failures failures' (placed_line input.texts r)
-  by_lines : {r : Refusal} → (bids : Bool) → (whose : Option Target) → asked.request ≡ Explain bids whose → (input : Input) → Reads content asked left left' input → IsCutShort (explanation asked.request input) taken taken' failures failures' r → IsRefused content asked left left' reads reads' taken taken' failures failures' (placed_line input.texts r)
-
--- the input was read, it tells no auction, or one that hasn't got what the command that is named wants, and the lines of its faults are written; then that command refuses it, too
-abbrev pub IsExplained : (List ℕ → Option (List ℕ)) → CommandLine → Option (List ℕ) → Option (List ℕ) → Option (List ℕ) → Option (List ℕ) → Type 0
-IsExplained content asked left left' taken taken' = (input : Input) × Reads content asked left left' input × IsErr (parsed_taken asked.request input) × IsRefusedBy (target_of asked.request) input × Appends taken taken' (explanation asked.request input)
+pub data IsRefused (content : List ℕ → Option (List ℕ)) (asked : CommandLine) (before after : Outside) : List ℕ → Type 0 where
+  by_file : (r : FileRefusal) → NamesFiles asked → after.left ≡ before.left → after.output.taken ≡ before.output.taken → IsRefused content asked before after (refusal_line asked r)
+  by_input : (f : Unread) → IsUnread asked.files f before.left after.left before.failed_reads after.failed_reads → after.output.taken ≡ before.output.taken → IsRefused content asked before after (unread_line asked f)
+  by_text : {r : Refusal} → (input : Input) → Reads content asked before.left after.left input → AsksAnswer asked.request input → IsUnwritten asked.request input before.output after.output r → IsRefused content asked before after (placed_line input.texts r)
+  by_lines : {r : Refusal} → (bids : Bool) → (whose : Option Target) → asked.request ≡ Explain bids whose → (input : Input) → Reads content asked before.left after.left input → IsCutShort (explanation asked.request input) before.output.taken after.output.taken before.output.failures after.output.failures r → IsRefused content asked before after (placed_line input.texts r)
 
 -- what goes out without an input: a text of help, which isn't empty, or the version
 abbrev pub IsShown : Asked → List ℕ → Type 0
@@ -62,18 +60,42 @@ IsShown for_version text = text ≡ codes "wdp 1.1.0\n"
 IsShown asked text = ⊥
 
 -- what is asked for is answered; or help or the version, which is asked for, went out, and nothing was read
-abbrev pub IsDone : (List ℕ → Option (List ℕ)) → Asked → Option (List ℕ) → Option (List ℕ) → Option (List ℕ) → Option (List ℕ) → Type 0
-IsDone content asked left left' taken taken' =
-    ((command : CommandLine) × (asked ≡ for_answer command) × IsAnswered content command left left' taken taken')
-    ⊎ ((text : List ℕ) × IsShown asked text × (left' ≡ left) × Appends taken taken' text)
+abbrev pub IsDone : (List ℕ → Option (List ℕ)) → Asked → Outside → Outside → Type 0
+IsDone content asked before after =
+    ((command : CommandLine) × (asked ≡ for_answer command) × IsAnswered content command before after)
+    ⊎ ((text : List ℕ) × IsShown asked text × (after.left ≡ before.left) × Appends before.output.taken after.output.taken text)
 
 -- why a run is refused, by the line that tells it: what is asked for is; or help or the version, which is asked for, could not be written; or memory was short before anything was read
-pub data IsUndone (content : List ℕ → Option (List ℕ)) (asked : Asked) (left left' : Option (List ℕ)) (reads reads' : ℕ) (taken taken' : Option (List ℕ)) (failures failures' : ℕ) : List ℕ → Type 0 where
-  by_request : {parsed : List ℕ} → (command : CommandLine) → asked ≡ for_answer command → IsRefused content command left left' reads reads' taken taken' failures failures' parsed → IsUndone content asked left left' reads reads' taken taken' failures failures' parsed
-  by_showing : {r : Refusal} → (text : List ℕ) → IsShown asked text → left' ≡ left → Ends (Ok text) taken taken' failures failures' r → IsUndone content asked left left' reads reads' taken taken' failures failures' (line r)
-  by_memory : left' ≡ left → taken' ≡ taken → IsUndone content asked left left' reads reads' taken taken' failures failures' (line refusal.OutOfMemory)
+pub data IsUndone (content : List ℕ → Option (List ℕ)) (asked : Asked) (before after : Outside) : List ℕ → Type 0 where
+  by_request : {parsed : List ℕ} → (command : CommandLine) → asked ≡ for_answer command → IsRefused content command before after parsed → IsUndone content asked before after parsed
+  by_showing : {r : Refusal} → (text : List ℕ) → IsShown asked text → after.left ≡ before.left → Ends (Ok text) before.output after.output r → IsUndone content asked before after (line r)
+  by_memory : after.left ≡ before.left → after.output.taken ≡ before.output.taken → IsUndone content asked before after (line refusal.OutOfMemory)
 
--- `explain` is asked for, an input with faults is explained, no read and no put fails, and no line of a refusal is put
-abbrev pub HasExplained : (List ℕ → Option (List ℕ)) → Asked → Option (List ℕ) → Option (List ℕ) → ℕ → ℕ → Option (List ℕ) → Option (List ℕ) → ℕ → ℕ → Option (List ℕ) → Option (List ℕ) → ℕ → ℕ → Type 0
-HasExplained content asked left left' reads reads' taken taken' failures failures' parsed parsed' unreported unreported' =
-    ((command : CommandLine) × (bids : Bool) × (whose : Option Target) × (asked ≡ for_answer command) × (command.request ≡ Explain bids whose) × IsExplained content command left left' taken taken') × (reads' ≡ reads) × (failures' ≡ failures) × (parsed' ≡ parsed) × (unreported' ≡ unreported)
+-- `explain` is asked for, and the input was read; it tells no auction, or one that hasn't got what the command that is named wants, and that command refuses it, too; the lines of its faults are written, no read and no put fails, and no line of a refusal is put
+pub record HasExplained (content : List ℕ → Option (List ℕ)) (asked : Asked) (before after : Outside) : Type 0 where
+  pub command : CommandLine
+  pub bids : Bool
+  pub whose : Option Target
+  pub input : Input
+  pub asks : asked ≡ for_answer command
+  pub explains : command.request ≡ Explain bids whose
+  pub read : Reads content command before.left after.left input
+  pub faulty : IsErr (parsed_taken command.request input)
+  pub refused : IsRefusedBy (target_of command.request) input
+  pub written : Appends before.output.taken after.output.taken (explanation command.request input)
+  pub reads : after.failed_reads ≡ before.failed_reads
+  pub puts : after.output.failures ≡ before.output.failures
+  pub quiet : after.faults ≡ before.faults
+
+-- what a run leaves of the outside, by its exit status
+pub record IsRun (content : List ℕ → Option (List ℕ)) (asked : Asked) (status : ℕ) (before after : Outside) : Type 0 where
+  -- 0: what is asked for is done, and no fault is reported
+  pub done : status ≡ 0 → IsDone content asked before after
+  pub quiet : status ≡ 0 → after.faults ≡ before.faults
+  -- 0 or 2: no read and no put of the output failed
+  pub succeeded : status ≢ 1 → (after.output.failures ≡ before.output.failures) × (after.failed_reads ≡ before.failed_reads)
+  -- 1: it isn't done, and the line that tells why is put; or `explain` told faults
+  pub refused : status ≡ 1 → ((parsed : List ℕ) × IsUndone content asked before after parsed × Puts parsed before.faults.taken after.faults.taken before.faults.failures after.faults.failures) ⊎ HasExplained content asked before after
+  -- 2: the words ask for nothing, nothing is read or written, and a text that isn't empty is put among the faults
+  pub unasked : status ≡ 2 → (asked ≡ for_nothing) × (after.left ≡ before.left) × (after.output.taken ≡ before.output.taken)
+  pub reported : status ≡ 2 → (text : List ℕ) × (0 < length text) × Puts text before.faults.taken after.faults.taken before.faults.failures after.faults.failures

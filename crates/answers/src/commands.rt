@@ -10,8 +10,8 @@ ghost use Rattle.answers.specs.Sold.{HasSold};
 ghost use Rattle.answers.specs.inside.Output.{IsWithoutOutput};
 ghost use Rattle.auction_input.specs.Settled.{held};
 
-mod check;
-mod compile;
+pub mod check;
+pub mod compile;
 mod explain;
 mod map;
 mod report;
@@ -45,8 +45,9 @@ pub fn answer<R: Threads + Wait + Sync + AllocGlobal, S: Sink>(
     ensures sold { OnOk result (HasSold request input.now) }
     ensures succeeded { OnOk result (S.failures out.new ≡ S.failures out.old) }
     ensures asks { AsksAnswer request input.now }
-    ensures refused { IfErr result (IsUnwritten request input.now (S.taken out.old)
-        (S.taken out.new) (S.failures out.old) (S.failures out.new)) }
+    ensures refused { IfErr result (IsUnwritten request input.now
+        (record { taken = S.taken out.old; failures = S.failures out.old })
+        (record { taken = S.taken out.new; failures = S.failures out.new })) }
 {
     match request {
         Request::Check => check(rt.alloc(), input, out),
@@ -67,8 +68,9 @@ fn answer_auction<R: Threads + Wait + Sync + AllocGlobal, S: Sink>(
         (S.taken out.new)) }
     ensures sold { OnOk result (HasSold request.now input.now) }
     ensures succeeded { OnOk result (S.failures out.new ≡ S.failures out.old) }
-    ensures refused { IfErr result (IsUnwritten request.now input.now (S.taken out.old)
-        (S.taken out.new) (S.failures out.old) (S.failures out.new)) }
+    ensures refused { IfErr result (IsUnwritten request.now input.now
+        (record { taken = S.taken out.old; failures = S.failures out.old })
+        (record { taken = S.taken out.new; failures = S.failures out.new })) }
 {
     let auction = read_auction(rt, request, input)?;
     write_output(rt, request, &auction, out)
@@ -87,7 +89,8 @@ fn write_output<R: Threads + Wait + Sync + AllocGlobal, S: Sink>(
         (S.taken out.old) (S.taken out.new)) }
     ensures succeeded { OnOk result (S.failures out.new ≡ S.failures out.old) }
     ensures refused { IfErr result (IsWithoutOutput request.now (held auction.now)
-        (S.taken out.old) (S.taken out.new) (S.failures out.old) (S.failures out.new)) }
+        (record { taken = S.taken out.old; failures = S.failures out.old })
+        (record { taken = S.taken out.new; failures = S.failures out.new })) }
 {
     match *request {
         Request::Text => write_program_of_all(rt, auction, out),

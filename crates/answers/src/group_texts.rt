@@ -1,4 +1,4 @@
-//! The programs of all groups as one output.
+//! The programs of all groups as one output, and why not all of it went out.
 
 ghost use Rattle.std.specs.Prelude.{◌≡◌, ◌∷◌, ◌++◌, [], IfErr, OnErr, OnOk, codes, decimal, map};
 ghost use Rattle.std.specs.Io.KnownBytes.{Appends};
@@ -12,16 +12,24 @@ ghost use Rattle.mps_text.specs.Text.{text};
 ghost use Rattle.byte_sinks.specs.Written.{written_of};
 ghost use Rattle.outcome.specs.Report.{heading};
 ghost use Rattle.bid_desk.specs.Sale.{sale_of};
-ghost use Rattle.answers.specs.declared.run_fault.RunFault.TheVariants.{Sink as FaultOfSink};
+ghost use Rattle.answers.specs.declared.group_texts.RunFault.TheVariants.{Sink as FaultOfSink};
 ghost use Rattle.answers.specs.GroupTexts.{FailsAsReported, StopsAsReported, program_bytes, programs_bytes};
 
-use crate::run_fault::RunFault;
 use auction_terms::{Group, Groups};
 use bid_desk::ClosedBook;
 use byte_sinks::{Sink, WriteFault, Writer};
 use group_compiler::{Pages, add_group_text};
 use itoa::Buffer;
 use outcome::add_names_line;
+
+/// Why not all programs went out. `written` bytes did, of the whole in order; the count stops at its greatest value.
+#[derive(Clone, Copy, Debug, PartialEq, Eq)]
+pub enum RunFault {
+    /// Memory, or the start of a thread, was refused, before anything went out.
+    OutOfMemory { written: u64 },
+    /// A put failed in the line or the text of a group, counted from 1.
+    Sink { group: usize, written: u64 },
+}
 
 // Adds what stands before the names in the line of group k.
 fn add_number<S: Sink>(writer: &mut Writer<'_, S>, k: usize)

@@ -1,4 +1,4 @@
-//! Writing pieces of text.
+//! Writing pieces of text, as `check` does, and `run` for help and for faults of the words.
 
 ghost use Rattle.std.specs.Prelude.{◌≡◌, IfErr, OnErr, OnOk, flat_map};
 ghost use Rattle.std.specs.Io.KnownBytes.{Appends};

@@ -11,17 +11,16 @@ ghost use Rattle.answers.specs.Asked.{asked_of, by_fault, command_line_of, for_a
 ghost use Rattle.answers.specs.Answer.{answer};
 ghost use Rattle.answers.specs.Exact.{Ends, Writes};
 ghost use Rattle.auction_input.specs.Requests.{IsRequestWithinLimits};
-ghost use Rattle.answers.specs.Runs.{HasExplained, IsAnswered, IsDone, IsRefused, IsUndone, NamesFiles, Reads};
+ghost use Rattle.answers.specs.Runs.{IsRun, NamesFiles, Reads};
 ghost use Rattle.auction_input.specs.FileTexts.{IsUnread};
 ghost use Rattle.answers.specs.inside.Runs.{HasExplainedInput, HasShown, IsReportedSo, IsReported, IsLeftUnanswered, IsUnreported};
 
-use crate::command::Command;
 use crate::commands::{answer, explain_input};
 use crate::file_lines::{print_file_refusal, print_unread};
 use crate::messages::print_refusal;
 use crate::parser::VERSION;
 use crate::pieces::write_pieces;
-use crate::words::command_of;
+use crate::words::{Command, command_of};
 use auction_input::{
     FilePlace, FileRefusal, Files, Input, Output, Refusal, Request, Source, Target, Unread,
     read_inputs,
@@ -47,27 +46,19 @@ pub fn run<R: Threads + Wait + Sync + AllocGlobal, D: Files, I: Read, S: Output,
     faults: &mut F,
 ) -> u8
     ensures status { result ≤ 2 }
-    ensures done { result ≡ 0 → IsDone (D.content files.now) (asked_of words)
-        (I.remaining input.old.reader)
-        (I.remaining input.new.reader) (S.taken out.old) (S.taken out.new) }
-    ensures quiet { result ≡ 0 → (F.taken faults.new ≡ F.taken faults.old)
-        × (F.failures faults.new ≡ F.failures faults.old) }
-    ensures succeeded { result ≢ 1 → (S.failures out.new ≡ S.failures out.old)
-        × (input.new.failures ≡ input.old.failures) }
-    ensures refused { result ≡ 1 → ((reported : List ℕ) × IsUndone (D.content files.now) (asked_of words)
-        (I.remaining input.old.reader) (I.remaining input.new.reader) input.old.failures
-        input.new.failures (S.taken out.old) (S.taken out.new) (S.failures out.old)
-        (S.failures out.new) reported × Puts reported (F.taken faults.old) (F.taken faults.new)
-        (F.failures faults.old) (F.failures faults.new)) ⊎ HasExplained (D.content files.now) (asked_of words)
-        (I.remaining input.old.reader) (I.remaining input.new.reader) input.old.failures
-        input.new.failures (S.taken out.old) (S.taken out.new) (S.failures out.old)
-        (S.failures out.new) (F.taken faults.old) (F.taken faults.new) (F.failures faults.old)
-        (F.failures faults.new) }
-    ensures unasked { result ≡ 2 → (asked_of words ≡ for_nothing)
-        × (I.remaining input.new.reader ≡ I.remaining input.old.reader)
-        × (S.taken out.new ≡ S.taken out.old) }
-    ensures reported { result ≡ 2 → ((text : List ℕ) × (0 < length text) × Puts text
-        (F.taken faults.old) (F.taken faults.new) (F.failures faults.old) (F.failures faults.new)) }
+    ensures outside { IsRun (D.content files.now) (asked_of words) result
+        (record {
+          left = I.remaining input.old.reader;
+          failed_reads = input.old.failures;
+          output = record { taken = S.taken out.old; failures = S.failures out.old };
+          faults = record { taken = F.taken faults.old; failures = F.failures faults.old };
+        })
+        (record {
+          left = I.remaining input.new.reader;
+          failed_reads = input.new.failures;
+          output = record { taken = S.taken out.new; failures = S.failures out.new };
+          faults = record { taken = F.taken faults.new; failures = F.failures faults.new };
+        }) }
     // Where std tells no words, memory was short, or one of them is no text.
     ensures wordless { IfErr words (λ e. (error_kind e ≡ io_kind.OutOfMemory → result ≡ 1)
         × (error_kind e ≢ io_kind.OutOfMemory → (result ≡ 2)
@@ -138,44 +129,6 @@ fn prepare<D: Files, S: Output>(
     }
 }
 
-// Prepares the files of a command line, and answers it, or tells why not.
-fn answer_command<R: Threads + Wait + Sync + AllocGlobal, D: Files, I: Read, S: Output, F: Sink>(
-    rt: &R,
-    command: &Command,
-    files: &D,
-    input: &mut Source<I>,
-    out: &mut S,
-    faults: &mut F,
-) -> u8
-    requires { IsRequestWithinLimits command.now.request }
-    ensures status { result ≤ 1 }
-    ensures answered { result ≡ 0 → IsAnswered (D.content files.now) (command_line_of command.now)
-        (I.remaining input.old.reader) (I.remaining input.new.reader) (S.taken out.old)
-        (S.taken out.new) }
-    ensures quiet { result ≡ 0 → (F.taken faults.new ≡ F.taken faults.old)
-        × (F.failures faults.new ≡ F.failures faults.old) }
-    ensures succeeded { result ≡ 0 → (S.failures out.new ≡ S.failures out.old)
-        × (input.new.failures ≡ input.old.failures) }
-    ensures refused { result ≡ 1 → IsReportedSo (IsRefused (D.content files.now)
-        (command_line_of command.now) (I.remaining input.old.reader)
-        (I.remaining input.new.reader) input.old.failures input.new.failures (S.taken out.old)
-        (S.taken out.new) (S.failures out.old) (S.failures out.new)) (F.taken faults.old)
-        (F.taken faults.new) (F.failures faults.old) (F.failures faults.new)
-        ⊎ HasExplained (D.content files.now) (for_answer (command_line_of command.now))
-        (I.remaining input.old.reader) (I.remaining input.new.reader) input.old.failures
-        input.new.failures (S.taken out.old) (S.taken out.new) (S.failures out.old)
-        (S.failures out.new) (F.taken faults.old) (F.taken faults.new) (F.failures faults.old)
-        (F.failures faults.new) }
-{
-    match prepare(files, command, out) {
-        Ok(()) => answer_request(rt, command, files, input, out, faults),
-        Err(refusal) => {
-            print_file_refusal(command, refusal, faults);
-            1
-        }
-    }
-}
-
 // Reads the input of a command line.
 fn read_input<D: Files, I: Read>(
     alloc: Global,
@@ -196,8 +149,8 @@ fn read_input<D: Files, I: Read>(
     }
 }
 
-// Reads the input of a command line and answers it, or tells why not.
-fn answer_request<R: Threads + Wait + Sync + AllocGlobal, D: Files, I: Read, S: Output, F: Sink>(
+// Prepares the files of a command line, reads its input and answers it, or tells why not.
+fn answer_command<R: Threads + Wait + Sync + AllocGlobal, D: Files, I: Read, S: Output, F: Sink>(
     rt: &R,
     command: &Command,
     files: &D,
@@ -207,24 +160,25 @@ fn answer_request<R: Threads + Wait + Sync + AllocGlobal, D: Files, I: Read, S: 
 ) -> u8
     requires { IsRequestWithinLimits command.now.request }
     ensures status { result ≤ 1 }
-    ensures answered { result ≡ 0 → IsAnswered (D.content files.now) (command_line_of command.now)
-        (I.remaining input.old.reader) (I.remaining input.new.reader) (S.taken out.old)
-        (S.taken out.new) }
-    ensures quiet { result ≡ 0 → (F.taken faults.new ≡ F.taken faults.old)
-        × (F.failures faults.new ≡ F.failures faults.old) }
-    ensures succeeded { result ≡ 0 → (S.failures out.new ≡ S.failures out.old)
-        × (input.new.failures ≡ input.old.failures) }
-    ensures refused { result ≡ 1 → IsReportedSo (IsRefused (D.content files.now)
-        (command_line_of command.now) (I.remaining input.old.reader)
-        (I.remaining input.new.reader) input.old.failures input.new.failures (S.taken out.old)
-        (S.taken out.new) (S.failures out.old) (S.failures out.new)) (F.taken faults.old)
-        (F.taken faults.new) (F.failures faults.old) (F.failures faults.new)
-        ⊎ HasExplained (D.content files.now) (for_answer (command_line_of command.now))
-        (I.remaining input.old.reader) (I.remaining input.new.reader) input.old.failures
-        input.new.failures (S.taken out.old) (S.taken out.new) (S.failures out.old)
-        (S.failures out.new) (F.taken faults.old) (F.taken faults.new) (F.failures faults.old)
-        (F.failures faults.new) }
+    ensures outside { IsRun (D.content files.now)
+        (for_answer (command_line_of command.now)) result
+        (record {
+          left = I.remaining input.old.reader;
+          failed_reads = input.old.failures;
+          output = record { taken = S.taken out.old; failures = S.failures out.old };
+          faults = record { taken = F.taken faults.old; failures = F.failures faults.old };
+        })
+        (record {
+          left = I.remaining input.new.reader;
+          failed_reads = input.new.failures;
+          output = record { taken = S.taken out.new; failures = S.failures out.new };
+          faults = record { taken = F.taken faults.new; failures = F.failures faults.new };
+        }) }
 {
+    if let Err(refusal) = prepare(files, command, out) {
+        print_file_refusal(command, refusal, faults);
+        return 1;
+    }
     match read_input(rt.alloc(), command, files, input) {
         Ok(given) => answer_input(rt, command.request, &given, out, faults),
         Err(unread) => {
@@ -249,12 +203,14 @@ fn answer_input<R: Threads + Wait + Sync + AllocGlobal, S: Sink, F: Sink>(
     ensures quiet { result ≡ 0 → (F.taken faults.new ≡ F.taken faults.old)
         × (F.failures faults.new ≡ F.failures faults.old) }
     ensures succeeded { result ≡ 0 → S.failures out.new ≡ S.failures out.old }
-    ensures refused { result ≡ 1 → IsReportedSo (IsLeftUnanswered request input.now (S.taken out.old)
-        (S.taken out.new) (S.failures out.old) (S.failures out.new)) (F.taken faults.old)
+    ensures refused { result ≡ 1 → IsReportedSo (IsLeftUnanswered request input.now
+        (record { taken = S.taken out.old; failures = S.failures out.old })
+        (record { taken = S.taken out.new; failures = S.failures out.new })) (F.taken faults.old)
         (F.taken faults.new) (F.failures faults.old) (F.failures faults.new)
-        ⊎ HasExplainedInput request input.now (S.taken out.old) (S.taken out.new)
-        (S.failures out.old) (S.failures out.new) (F.taken faults.old) (F.taken faults.new)
-        (F.failures faults.old) (F.failures faults.new) }
+        ⊎ (HasExplainedInput request input.now
+        (record { taken = S.taken out.old; failures = S.failures out.old })
+        (record { taken = S.taken out.new; failures = S.failures out.new })
+        × (F.taken faults.new ≡ F.taken faults.old) × (F.failures faults.new ≡ F.failures faults.old)) }
 {
     match request {
         Request::Explain { bids, target } => explain_request(rt, bids, target, input, out, faults),
@@ -284,11 +240,13 @@ fn explain_request<R: Threads + Wait + Sync + AllocGlobal, S: Sink, F: Sink>(
         × (F.failures faults.new ≡ F.failures faults.old) }
     ensures succeeded { result ≡ 0 → S.failures out.new ≡ S.failures out.old }
     ensures refused { result ≡ 1 → IsReportedSo (IsLeftUnanswered (Request.Explain bids target) input.now
-        (S.taken out.old) (S.taken out.new) (S.failures out.old) (S.failures out.new))
-        (F.taken faults.old) (F.taken faults.new) (F.failures faults.old) (F.failures faults.new)
-        ⊎ HasExplainedInput (Request.Explain bids target) input.now (S.taken out.old) (S.taken out.new)
-        (S.failures out.old) (S.failures out.new) (F.taken faults.old) (F.taken faults.new)
-        (F.failures faults.old) (F.failures faults.new) }
+        (record { taken = S.taken out.old; failures = S.failures out.old })
+        (record { taken = S.taken out.new; failures = S.failures out.new })) (F.taken faults.old)
+        (F.taken faults.new) (F.failures faults.old) (F.failures faults.new)
+        ⊎ (HasExplainedInput (Request.Explain bids target) input.now
+        (record { taken = S.taken out.old; failures = S.failures out.old })
+        (record { taken = S.taken out.new; failures = S.failures out.new })
+        × (F.taken faults.new ≡ F.taken faults.old) × (F.failures faults.new ≡ F.failures faults.old)) }
 {
     match explain_input(rt, bids, target, input, out) {
         Ok(false) => 0,
@@ -326,7 +284,8 @@ fn print_help_or_fault<S: Sink, F: Sink>(
         × (F.failures faults.new ≡ F.failures faults.old) }
     ensures succeeded { result ≢ 1 → S.failures out.new ≡ S.failures out.old }
     ensures refused { result ≡ 1 → IsReported (IsUnreported (by_fault (kind_of error.now))
-        (S.taken out.old) (S.taken out.new) (S.failures out.old) (S.failures out.new))
+        (record { taken = S.taken out.old; failures = S.failures out.old })
+        (record { taken = S.taken out.new; failures = S.failures out.new }))
         (F.taken faults.old) (F.taken faults.new) (F.failures faults.old) (F.failures faults.new) }
     ensures unasked { result ≡ 2 → (by_fault (kind_of error.now) ≡ for_nothing)
         × (kind_of error.now ≢ ErrorKind.OutOfMemory) × (S.taken out.new ≡ S.taken out.old) }
@@ -355,7 +314,8 @@ fn show<S: Sink, F: Sink>(pieces: &[&[u8]], out: &mut S, faults: &mut F) -> u8
         × (F.failures faults.new ≡ F.failures faults.old) }
     ensures succeeded { result ≡ 0 → S.failures out.new ≡ S.failures out.old }
     ensures refused { result ≡ 1 → IsReported (Ends (Ok (flat_map (λ p. p.now) pieces.now))
-        (S.taken out.old) (S.taken out.new) (S.failures out.old) (S.failures out.new))
+        (record { taken = S.taken out.old; failures = S.failures out.old })
+        (record { taken = S.taken out.new; failures = S.failures out.new }))
         (F.taken faults.old) (F.taken faults.new) (F.failures faults.old) (F.failures faults.new) }
 {
     match write_pieces(pieces, out) {

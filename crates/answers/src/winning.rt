@@ -12,13 +12,12 @@ ghost use Rattle.auction_input.specs.Refused.{Refuses};
 ghost use Rattle.answers.specs.SolutionWinners.{solution_refused, winners_by};
 ghost use Rattle.program_rows.specs.ProgramNames.{row_name};
 
-use crate::named_bids::named_bids;
 use auction_input::{Name, Refusal};
-use auction_terms::Group;
+use auction_terms::{Choice, Group, LineReader, next_field};
 use bid_desk::ClosedBook;
 use group_compiler::Compiler;
 use outcome::{Allocation, map_back, read_solution};
-use program_rows::{Program, SolutionFault};
+use program_rows::{Program, SolutionFault, bid_named};
 use std::alloc::{AllocError, Global};
 
 /// The allocation that a solution of a group's program wins. The solution is named by its number, from 1.
@@ -83,6 +82,24 @@ pub fn won_by_all(
     let _within_limits = compiler.book().rules();
     let program = compiler.program_without(alloc, group)?;
     allocation_won(alloc, compiler.book(), group, &program, solution, text)
+}
+
+// The bid that a line names, if its first field spells one.
+fn bid_in(line: &[u8]) -> Option<Choice> {
+    bid_named(next_field(line)?.text)
+}
+
+// The bids that the lines of a text name. Whatever they are, a solution is taken as it would be against the program of all
+// bids, so that nothing is said of them.
+fn named_bids(alloc: Global, text: &[u8]) -> Result<Vec<Choice>, AllocError> {
+    let mut named = Vec::new(alloc);
+    let mut lines = LineReader::new(text);
+    while let Some(line) = lines.next() {
+        if let Some(choice) = bid_in(line) {
+            named.push(choice)?;
+        }
+    }
+    Ok(named)
 }
 
 /// The allocation that a solution wins by the program of the bids that it names, if that takes it.

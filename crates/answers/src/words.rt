@@ -11,7 +11,6 @@ ghost use Rattle.answers.specs.Asked as asked;
 ghost use Rattle.answers.specs.Asked.{by_fault, command_line_of, faults_of, for_answer, command_fault, named, option_flag, option_number, option_target, option_texts, request_named, target_fault, text_of, wdp};
 ghost use Rattle.auction_input.specs.Requests.{IsRequestWithinLimits};
 
-use crate::command::Command;
 use crate::parser::parser;
 use auction_input::{Request, Target};
 use auction_terms::{MOST_GROUPS, MOST_WORKERS};
@@ -19,6 +18,18 @@ use clap::error::ErrorKind;
 use clap::{ArgMatches, Command as Words, Error};
 use std::alloc::{AllocError, Global};
 use std::env::Args;
+
+/// A request, and the files that it reads and writes.
+#[derive(Drop)]
+pub struct Command {
+    pub request: Request,
+    /// Whether a bidder may have forms in several files, of which the last one counts.
+    pub last_wins: bool,
+    /// The files that are read, in order; none where standard input is.
+    pub files: Vec<String>,
+    /// The file that is written; standard output where there is none.
+    pub output: Option<String>,
+}
 
 // The number that a text writes, from 1 to the most; of any other text 1. The parser has tested it to be within.
 fn number_up_to(most: usize, text: &str) -> usize

@@ -1,11 +1,12 @@
 -- How a command ends without the output that an auction tells.
-use Rattle.std.specs.Prelude.{◌≡◌, ◌⊎◌, ℕ, List, Option}
+use Rattle.std.specs.Prelude.{◌≡◌, ◌⊎◌}
 use Rattle.auction_input.specs.Auction.{Auction}
 use Rattle.auction_input.specs.declared.refusal.Refusal.{Refusal}
 use Rattle.auction_input.specs.declared.request.Request.TheVariants.{Verify}
 use Rattle.auction_input.specs.declared.request.Request.{Request}
 use Rattle.answers.specs.Answer.{output_of}
 use Rattle.answers.specs.Exact.{Ends, IsBeyondSums}
+use Rattle.answers.specs.Outside.{SinkState}
 
 -- `verify` alone adds up in 128 bits
 abbrev pub IsBeyondLimit : Request → Auction → Refusal → Type 0
@@ -13,6 +14,6 @@ IsBeyondLimit (Verify workers) auction r = IsBeyondSums auction r
 IsBeyondLimit asked auction r = ⊥
 
 -- what is asked for of an auction is refused, or its output cut short; what the auction doesn't settle is the limit of sums
-abbrev pub IsWithoutOutput : Request → Auction → Option (List ℕ) → Option (List ℕ) → ℕ → ℕ → Refusal → Type 0
-IsWithoutOutput asked auction taken taken' failures failures' r =
-    Ends (output_of asked auction) taken taken' failures failures' r ⊎ (IsBeyondLimit asked auction r × (taken' ≡ taken))
+abbrev pub IsWithoutOutput : Request → Auction → SinkState → SinkState → Refusal → Type 0
+IsWithoutOutput asked auction before after r =
+    Ends (output_of asked auction) before after r ⊎ (IsBeyondLimit asked auction r × (after.taken ≡ before.taken))

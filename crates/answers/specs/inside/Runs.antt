@@ -14,6 +14,7 @@ use Rattle.auction_input.specs.declared.request.Request.{Request}
 use Rattle.auction_input.specs.declared.request.Target.{Target}
 use Rattle.auction_input.specs.declared.request.Request.TheVariants.{Explain}
 use Rattle.answers.specs.Exact.{Ends, IsUnwritten}
+use Rattle.answers.specs.Outside.{SinkState}
 use Rattle.answers.specs.Runs.{AsksAnswer, IsShown}
 
 -- help or the version, which is asked for, went out
@@ -21,8 +22,9 @@ abbrev pub HasShown : Asked → Option (List ℕ) → Option (List ℕ) → Type
 HasShown asked taken taken' = (text : List ℕ) × IsShown asked text × Appends taken taken' text
 
 -- why they didn't: they could not be written, or memory was short
-abbrev pub IsUnreported : Asked → Option (List ℕ) → Option (List ℕ) → ℕ → ℕ → Refusal → Type 0
-IsUnreported asked taken taken' failures failures' r = ((text : List ℕ) × IsShown asked text × Ends (Ok text) taken taken' failures failures' r) ⊎ ((r ≡ refusal.OutOfMemory) × (taken' ≡ taken))
+abbrev pub IsUnreported : Asked → SinkState → SinkState → Refusal → Type 0
+IsUnreported asked before after r =
+    ((text : List ℕ) × IsShown asked text × Ends (Ok text) before after r) ⊎ ((r ≡ refusal.OutOfMemory) × (after.taken ≡ before.taken))
 
 -- a refusal for this reason is reported by its line
 abbrev pub IsReported : (Refusal → Type 0) → Option (List ℕ) → Option (List ℕ) → ℕ → ℕ → Type 0
@@ -33,12 +35,12 @@ abbrev pub IsReportedSo : (List ℕ → Type 0) → Option (List ℕ) → Option
 IsReportedSo Why taken taken' failures failures' = (parsed : List ℕ) × Why parsed × Puts parsed taken taken' failures failures'
 
 -- why what is asked for of an input isn't written, or not all lines of its faults, by the line that tells it
-abbrev pub IsLeftUnanswered : Request → Input → Option (List ℕ) → Option (List ℕ) → ℕ → ℕ → List ℕ → Type 0
-IsLeftUnanswered asked input taken taken' failures failures' parsed =
+abbrev pub IsLeftUnanswered : Request → Input → SinkState → SinkState → List ℕ → Type 0
+IsLeftUnanswered asked input before after parsed =
     (r : Refusal) × (parsed ≡ placed_line input.texts r)
-    × ((AsksAnswer asked input × IsUnwritten asked input taken taken' failures failures' r) ⊎ ((bids : Bool) × (whose : Option Target) × (asked ≡ Explain bids whose) × IsCutShort (explanation asked input) taken taken' failures failures' r))
+    × ((AsksAnswer asked input × IsUnwritten asked input before after r) ⊎ ((bids : Bool) × (whose : Option Target) × (asked ≡ Explain bids whose) × IsCutShort (explanation asked input) before.taken after.taken before.failures after.failures r))
 
--- `explain` is asked for, an input with faults is explained, no put fails, and no line of a refusal is put
-abbrev pub HasExplainedInput : Request → Input → Option (List ℕ) → Option (List ℕ) → ℕ → ℕ → Option (List ℕ) → Option (List ℕ) → ℕ → ℕ → Type 0
-HasExplainedInput asked input taken taken' failures failures' parsed parsed' unreported unreported' =
-    ((bids : Bool) × (whose : Option Target) × (asked ≡ Explain bids whose) × IsErr (parsed_taken asked input) × Appends taken taken' (explanation asked input)) × (failures' ≡ failures) × (parsed' ≡ parsed) × (unreported' ≡ unreported)
+-- `explain` is asked for, an input with faults is explained, and no put fails
+abbrev pub HasExplainedInput : Request → Input → SinkState → SinkState → Type 0
+HasExplainedInput asked input before after =
+    (bids : Bool) × (whose : Option Target) × (asked ≡ Explain bids whose) × IsErr (parsed_taken asked input) × Appends before.taken after.taken (explanation asked input) × (after.failures ≡ before.failures)

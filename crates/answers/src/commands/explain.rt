@@ -36,8 +36,9 @@ pub fn explain_input<R: Threads + Wait + Sync + AllocGlobal, S: Sink>(
         (explanation (Request.Explain bids target) input.now)
         (S.taken out.old) (S.taken out.new) (S.failures out.old) (S.failures out.new) r
         ⊎ (AsksAnswer (Request.Explain bids target) input.now
-        × IsUnwritten (Request.Explain bids target) input.now (S.taken out.old) (S.taken out.new)
-        (S.failures out.old) (S.failures out.new) r)) }
+        × IsUnwritten (Request.Explain bids target) input.now
+        (record { taken = S.taken out.old; failures = S.failures out.old })
+        (record { taken = S.taken out.new; failures = S.failures out.new }) r)) }
 {
     let request = Request::Explain { bids, target };
     let faulty = explain(rt.alloc(), &request, input, out)?;
@@ -62,7 +63,8 @@ fn write_left_out_of<R: Threads + Sync + AllocGlobal, S: Sink>(
         (S.taken out.old) (S.taken out.new)) }
     ensures succeeded { OnOk result (S.failures out.new ≡ S.failures out.old) }
     ensures refused { IfErr result (Ends (output_of (Request.Explain true None) (held auction.now))
-        (S.taken out.old) (S.taken out.new) (S.failures out.old) (S.failures out.new)) }
+        (record { taken = S.taken out.old; failures = S.failures out.old })
+        (record { taken = S.taken out.new; failures = S.failures out.new })) }
 {
     let reasons = Reasons::new(rt, rt.alloc(), &auction.book)?;
     write_left_out(
@@ -87,7 +89,8 @@ pub fn write_bids_of<R: Threads + Sync + AllocGlobal, S: Sink>(
         (S.taken out.old) (S.taken out.new)) }
     ensures succeeded { OnOk result (S.failures out.new ≡ S.failures out.old) }
     ensures refused { IfErr result (Ends (output_of (Request.Explain bids target) (held auction.now))
-        (S.taken out.old) (S.taken out.new) (S.failures out.old) (S.failures out.new)) }
+        (record { taken = S.taken out.old; failures = S.failures out.old })
+        (record { taken = S.taken out.new; failures = S.failures out.new })) }
 {
     check_wanted(target, auction)?;
     if bids {

@@ -34,7 +34,8 @@ pub fn write_winners<R: Threads + Wait + Sync + AllocGlobal, S: Sink>(
         (S.taken out.old) (S.taken out.new)) }
     ensures succeeded { OnOk result (S.failures out.new ≡ S.failures out.old) }
     ensures refused { IfErr result (Ends (output_of (Request.Map k) (held auction.now))
-        (S.taken out.old) (S.taken out.new) (S.failures out.old) (S.failures out.new)) }
+        (record { taken = S.taken out.old; failures = S.failures out.old })
+        (record { taken = S.taken out.new; failures = S.failures out.new })) }
 {
     let Auction { book, groups, .. } = auction;
     if k > groups.count() {

@@ -27,7 +27,8 @@ pub fn write_costs<R: Threads + Wait + Sync + AllocGlobal, S: Sink>(
         (S.taken out.old) (S.taken out.new)) }
     ensures succeeded { OnOk result (S.failures out.new ≡ S.failures out.old) }
     ensures refused { IfErr result (Ends (output_of (Request.Report workers) (held auction.now))
-        (S.taken out.old) (S.taken out.new) (S.failures out.old) (S.failures out.new)) }
+        (record { taken = S.taken out.old; failures = S.failures out.old })
+        (record { taken = S.taken out.new; failures = S.failures out.new })) }
 {
     check_counts(auction)?;
     let compiler = Compiler::new(rt, rt.alloc(), &auction.book, &auction.groups)?;

@@ -42,7 +42,8 @@ pub fn write_program_of_all<R: Threads + Wait + Sync + AllocGlobal, S: Sink>(
     ensures faithful { OnOk result (IsFaithfulToSale (sale_of auction.now.book) []) }
     ensures succeeded { OnOk result (S.failures out.new ≡ S.failures out.old) }
     ensures refused { IfErr result (Ends (output_of Request.Text (held auction.now))
-        (S.taken out.old) (S.taken out.new) (S.failures out.old) (S.failures out.new)) }
+        (record { taken = S.taken out.old; failures = S.failures out.old })
+        (record { taken = S.taken out.new; failures = S.failures out.new })) }
 {
     let alloc: Global = rt.alloc();
     let book = &auction.book;

@@ -39,8 +39,9 @@ pub fn verify<R: Threads + Wait + Sync + AllocGlobal, S: Sink>(
     ensures true_report { OnOk result (WritesTrueReport workers input.now (S.taken out.old)
         (S.taken out.new)) }
     ensures succeeded { OnOk result (S.failures out.new ≡ S.failures out.old) }
-    ensures refused { IfErr result (IsUnwritten (Request.Verify workers) input.now (S.taken out.old)
-        (S.taken out.new) (S.failures out.old) (S.failures out.new)) }
+    ensures refused { IfErr result (IsUnwritten (Request.Verify workers) input.now
+        (record { taken = S.taken out.old; failures = S.failures out.old })
+        (record { taken = S.taken out.new; failures = S.failures out.new })) }
 {
     answer_auction(rt, &Request::Verify { workers }, input, out)
 }
@@ -58,7 +59,8 @@ pub fn write_verified<R: Threads + Wait + Sync + AllocGlobal, S: Sink>(
         (S.taken out.old) (S.taken out.new)) }
     ensures succeeded { OnOk result (S.failures out.new ≡ S.failures out.old) }
     ensures refused { IfErr result (IsWithoutOutput (Request.Verify workers) (held auction.now)
-        (S.taken out.old) (S.taken out.new) (S.failures out.old) (S.failures out.new)) }
+        (record { taken = S.taken out.old; failures = S.failures out.old })
+        (record { taken = S.taken out.new; failures = S.failures out.new })) }
 {
     check_counts(auction)?;
     let alloc: Global = rt.alloc();

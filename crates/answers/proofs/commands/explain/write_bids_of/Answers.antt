@@ -1,6 +1,7 @@
 use Rattle.std.proofs.Common.{◌≡◌, ◌∙◌, Bool, IfErr, List, OnOk, Result, ap, false, inl, refl, rules, subst, sym, true, ℕ, []}
 use Rattle.answers.specs.Answer.{output_of}
 use Rattle.answers.specs.Exact.{Ends, Writes, by_refusal}
+use Rattle.answers.proofs.CommandFacts.{state}
 use Rattle.answers.proofs.ExplainingFacts.{as-unasked, bids-as, bids-refused}
 use Rattle.auction_input.specs.Settled.{held}
 use Rattle.auction_input.specs.declared.refusal.Refusal.{Refusal}
@@ -12,10 +13,9 @@ use Rattle.answers.proofs.commands.explain.write_bids_of.Goals as goal
 pub returns-in_err-check_wanted-clause-refused : goal.returns-in_err-check_wanted-clause-refused
 returns-in_err-check_wanted-clause-refused g c =
     let auction = held c.args.auction.now in
-    let taken = g.S.Sink.taken c.args.out.now in
-    let failures = g.S.Sink.failures c.args.out.now in
+    let before = state (g.S.Sink.taken c.args.out.now) (g.S.Sink.failures c.args.out.now) in
     let r = c.in_err-check_wanted.field-0.0 in
-    if-err-of (Ends (output_of (request.Explain c.args.bids c.args.target) auction) taken taken failures failures) c.from_residual.result r c.from_residual.ensures.1
+    if-err-of (Ends (output_of (request.Explain c.args.bids c.args.target) auction) before before) c.from_residual.result r c.from_residual.ensures.1
     (by_refusal (inl (bids-refused c.args.bids c.args.target auction r c.in_err-check_wanted.ensures.unmet)) refl)
 
 pub returns-then-bids-clause-written : goal.returns-then-bids-clause-written
@@ -27,7 +27,7 @@ returns-then-bids-clause-written g c =
 pub returns-then-bids-clause-refused : goal.returns-then-bids-clause-refused
 returns-then-bids-clause-refused g c =
     let asked : c.args.bids ≡ true = search rules in
-    subst (λ (parsed : Result (List ℕ) Refusal). IfErr c.write_left_out_of.result (Ends parsed (g.S.Sink.taken c.args.out.now) (g.S.Sink.taken c.write_left_out_of.new.out) (g.S.Sink.failures c.args.out.now) (g.S.Sink.failures c.write_left_out_of.new.out)))
+    subst (λ (parsed : Result (List ℕ) Refusal). IfErr c.write_left_out_of.result (Ends parsed (state (g.S.Sink.taken c.args.out.now) (g.S.Sink.failures c.args.out.now)) (state (g.S.Sink.taken c.write_left_out_of.new.out) (g.S.Sink.failures c.write_left_out_of.new.out))))
     (sym (bids-as c.args.bids c.args.target (held c.args.auction.now) asked c.in_ok-check_wanted.ensures.met)) c.write_left_out_of.ensures.refused
 
 pub returns-clause-written : goal.returns-clause-written

@@ -10,7 +10,7 @@ use Rattle.auction_input.specs.declared.request.Request.TheVariants as request
 use Rattle.auction_input.specs.Settled.{held}
 use Rattle.answers.specs.Exact.{Ends, by_refusal}
 use Rattle.auction_input.specs.declared.refusal.Refusal.TheVariants as refusal
-use Rattle.answers.proofs.CommandFacts.{cut-short}
+use Rattle.answers.proofs.CommandFacts.{cut-short, state}
 use Rattle.auction_input.proofs.StepFacts.{if-err-of}
 use Rattle.auction_input.proofs.StageFacts.{next, stop}
 use Rattle.answers.proofs.commands.report.write_costs.Goals as goal
@@ -24,36 +24,31 @@ returns-clause-written g c =
 
 pub returns-in_err-check_counts-clause-refused : goal.returns-in_err-check_counts-clause-refused
 returns-in_err-check_counts-clause-refused g c =
-    let taken = g.S.Sink.taken c.args.out.now in
-    let failures = g.S.Sink.failures c.args.out.now in
+    let before = state (g.S.Sink.taken c.args.out.now) (g.S.Sink.failures c.args.out.now) in
     let r = c.in_err-check_counts.field-0.0 in
-    if-err-of (Ends (output_of (request.Report c.args.workers) (held c.args.auction.now)) taken taken failures failures) c.from_residual.result r c.from_residual.ensures.1
+    if-err-of (Ends (output_of (request.Report c.args.workers) (held c.args.auction.now)) before before) c.from_residual.result r c.from_residual.ensures.1
     (by_refusal (stop _ _ r c.in_err-check_counts.ensures.refuses) refl)
 
 pub returns-in_err-compiler-clause-refused : goal.returns-in_err-compiler-clause-refused
 returns-in_err-compiler-clause-refused g c =
-    let taken = g.S.Sink.taken c.args.out.now in
-    let failures = g.S.Sink.failures c.args.out.now in
-    if-err-of (Ends (output_of (request.Report c.args.workers) (held c.args.auction.now)) taken taken failures failures) c.from_residual-in_err-compiler.result refusal.OutOfMemory c.from_residual-in_err-compiler.ensures.1
+    let before = state (g.S.Sink.taken c.args.out.now) (g.S.Sink.failures c.args.out.now) in
+    if-err-of (Ends (output_of (request.Report c.args.workers) (held c.args.auction.now)) before before) c.from_residual-in_err-compiler.result refusal.OutOfMemory c.from_residual-in_err-compiler.ensures.1
     (by_refusal (inr refl) refl)
 
 pub returns-in_err-won-clause-refused : goal.returns-in_err-won-clause-refused
 returns-in_err-won-clause-refused g c =
-    let taken = g.S.Sink.taken c.args.out.now in
-    let failures = g.S.Sink.failures c.args.out.now in
+    let before = state (g.S.Sink.taken c.args.out.now) (g.S.Sink.failures c.args.out.now) in
     let r = c.in_err-won.field-0.0 in
-    if-err-of (Ends (output_of (request.Report c.args.workers) (held c.args.auction.now)) taken taken failures failures) c.from_residual-in_err-won.result r c.from_residual-in_err-won.ensures.1
+    if-err-of (Ends (output_of (request.Report c.args.workers) (held c.args.auction.now)) before before) c.from_residual-in_err-won.result r c.from_residual-in_err-won.ensures.1
     (by_refusal (stop _ _ r c.in_err-won.ensures.refuses) refl)
 
 pub returns-in_err-report-clause-refused : goal.returns-in_err-report-clause-refused
 returns-in_err-report-clause-refused g c =
     let auction = c.args.auction.now in
-    let taken = g.S.Sink.taken c.args.out.now in
-    let taken' = g.S.Sink.taken c.report.new.sink in
-    let failures = g.S.Sink.failures c.args.out.now in
-    let failures' = g.S.Sink.failures c.report.new.sink in
+    let before = state (g.S.Sink.taken c.args.out.now) (g.S.Sink.failures c.args.out.now) in
+    let after = state (g.S.Sink.taken c.report.new.sink) (g.S.Sink.failures c.report.new.sink) in
     let all = c.in_ok-won.won.items in
     let f = c.in_err-report.field-0.0 in
-    let sent = subst (λ (won : List (List Choice)). SentFront taken taken' (report_text (sale_of auction.book) auction.groups won) (written_of f)) c.as_slice.ensures.value c.in_err-report.ensures.err in
-    if-err-of (Ends (output_of (request.Report c.args.workers) (held auction)) taken taken' failures failures') c.from_residual-in_err-report.result (refusal.Write f) c.from_residual-in_err-report.ensures.1
-    (cut-short _ (report_text (sale_of auction.book) auction.groups all) taken taken' failures failures' f (next _ all _ _ c.in_ok-won.ensures.won refl) sent c.in_err-report.ensures.failed)
+    let sent = subst (λ (won : List (List Choice)). SentFront before.taken after.taken (report_text (sale_of auction.book) auction.groups won) (written_of f)) c.as_slice.ensures.value c.in_err-report.ensures.err in
+    if-err-of (Ends (output_of (request.Report c.args.workers) (held auction)) before after) c.from_residual-in_err-report.result (refusal.Write f) c.from_residual-in_err-report.ensures.1
+    (cut-short _ (report_text (sale_of auction.book) auction.groups all) before after f (next _ all _ _ c.in_ok-won.ensures.won refl) sent c.in_err-report.ensures.failed)

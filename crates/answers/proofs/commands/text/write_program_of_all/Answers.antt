@@ -13,7 +13,7 @@ use Rattle.auction_input.specs.declared.request.Request.TheVariants as request
 use Rattle.auction_input.specs.Settled.{held}
 use Rattle.answers.specs.Exact.{Ends, by_refusal}
 use Rattle.auction_input.specs.declared.refusal.Refusal.TheVariants as refusal
-use Rattle.answers.proofs.CommandFacts.{cut-short}
+use Rattle.answers.proofs.CommandFacts.{cut-short, state}
 use Rattle.auction_input.proofs.StepFacts.{if-err-of}
 use Rattle.answers.proofs.commands.text.write_program_of_all.Goals as goal
 
@@ -30,25 +30,21 @@ returns-clause-faithful g c =
 
 pub returns-in_err-groups-clause-refused : goal.returns-in_err-groups-clause-refused
 returns-in_err-groups-clause-refused g c =
-    let taken = g.S.Sink.taken c.args.out.now in
-    let failures = g.S.Sink.failures c.args.out.now in
-    if-err-of (Ends (output_of request.Text (held c.args.auction.now)) taken taken failures failures) c.from_residual.result refusal.OutOfMemory c.from_residual.ensures.1 (by_refusal (inr refl) refl)
+    let before = state (g.S.Sink.taken c.args.out.now) (g.S.Sink.failures c.args.out.now) in
+    if-err-of (Ends (output_of request.Text (held c.args.auction.now)) before before) c.from_residual.result refusal.OutOfMemory c.from_residual.ensures.1 (by_refusal (inr refl) refl)
 
 pub returns-in_err-pages-clause-refused : goal.returns-in_err-pages-clause-refused
 returns-in_err-pages-clause-refused g c =
-    let taken = g.S.Sink.taken c.args.out.now in
-    let failures = g.S.Sink.failures c.args.out.now in
-    if-err-of (Ends (output_of request.Text (held c.args.auction.now)) taken taken failures failures) c.from_residual-in_err-pages.result refusal.OutOfMemory c.from_residual-in_err-pages.ensures.1 (by_refusal (inr refl) refl)
+    let before = state (g.S.Sink.taken c.args.out.now) (g.S.Sink.failures c.args.out.now) in
+    if-err-of (Ends (output_of request.Text (held c.args.auction.now)) before before) c.from_residual-in_err-pages.result refusal.OutOfMemory c.from_residual-in_err-pages.ensures.1 (by_refusal (inr refl) refl)
 
 pub returns-in_err-write_program_without-clause-refused : goal.returns-in_err-write_program_without-clause-refused
 returns-in_err-write_program_without-clause-refused g c =
     let book = c.args.auction.now.book in
-    let taken = g.S.Sink.taken c.args.out.now in
-    let taken' = g.S.Sink.taken c.write_program_without.new.out in
-    let failures = g.S.Sink.failures c.args.out.now in
-    let failures' = g.S.Sink.failures c.write_program_without.new.out in
+    let before = state (g.S.Sink.taken c.args.out.now) (g.S.Sink.failures c.args.out.now) in
+    let after = state (g.S.Sink.taken c.write_program_without.new.out) (g.S.Sink.failures c.write_program_without.new.out) in
     let f = c.in_err-write_program_without.field-0.0 in
     let nobody : c.group.result.now ≡ [] = c.group.ensures ∙ ap (λ (groups : List (List ℕ)). slice_index_or groups (1 - 1) []) c.in_ok-groups.ensures in
-    let sent = subst (λ (group : List ℕ). SentFront taken taken' (text (program_without book group)) (written_of f)) nobody c.in_err-write_program_without.ensures.err in
-    if-err-of (Ends (output_of request.Text (held c.args.auction.now)) taken taken' failures failures') c.from_residual-in_err-write_program_without.result (refusal.Write f) c.from_residual-in_err-write_program_without.ensures.1
-    (cut-short _ (text (program_without book [])) taken taken' failures failures' f refl sent c.in_err-write_program_without.ensures.failed)
+    let sent = subst (λ (group : List ℕ). SentFront before.taken after.taken (text (program_without book group)) (written_of f)) nobody c.in_err-write_program_without.ensures.err in
+    if-err-of (Ends (output_of request.Text (held c.args.auction.now)) before after) c.from_residual-in_err-write_program_without.result (refusal.Write f) c.from_residual-in_err-write_program_without.ensures.1
+    (cut-short _ (text (program_without book [])) before after f refl sent c.in_err-write_program_without.ensures.failed)

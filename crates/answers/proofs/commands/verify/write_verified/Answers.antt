@@ -9,7 +9,7 @@ use Rattle.auction_input.specs.Settled.{held}
 use Rattle.answers.specs.Exact.{by_refusal}
 use Rattle.answers.specs.inside.Output.{IsWithoutOutput}
 use Rattle.auction_input.specs.declared.refusal.Refusal.TheVariants as refusal
-use Rattle.answers.proofs.CommandFacts.{cut-short}
+use Rattle.answers.proofs.CommandFacts.{cut-short, state}
 use Rattle.auction_input.proofs.StepFacts.{if-err-of}
 use Rattle.auction_input.proofs.StageFacts.{next, stop}
 use Rattle.answers.proofs.VerifiedFacts.{certified-greatest}
@@ -32,58 +32,52 @@ returns-clause-written g c =
 pub returns-in_err-check_counts-clause-refused : goal.returns-in_err-check_counts-clause-refused
 returns-in_err-check_counts-clause-refused g c =
     let auction = held c.args.auction.now in
-    let taken = g.S.Sink.taken c.args.out.now in
-    let failures = g.S.Sink.failures c.args.out.now in
+    let before = state (g.S.Sink.taken c.args.out.now) (g.S.Sink.failures c.args.out.now) in
     let r = c.in_err-check_counts.field-0.0 in
-    if-err-of (IsWithoutOutput (request.Verify c.args.workers) auction taken taken failures failures) c.from_residual.result r c.from_residual.ensures.1
+    if-err-of (IsWithoutOutput (request.Verify c.args.workers) auction before before) c.from_residual.result r c.from_residual.ensures.1
     (inl (by_refusal (stop _ _ r (stop _ _ r c.in_err-check_counts.ensures.refuses)) refl))
 
 pub returns-in_err-compiler-clause-refused : goal.returns-in_err-compiler-clause-refused
 returns-in_err-compiler-clause-refused g c =
     let auction = held c.args.auction.now in
-    let taken = g.S.Sink.taken c.args.out.now in
-    let failures = g.S.Sink.failures c.args.out.now in
-    if-err-of (IsWithoutOutput (request.Verify c.args.workers) auction taken taken failures failures) c.from_residual-in_err-compiler.result refusal.OutOfMemory c.from_residual-in_err-compiler.ensures.1
+    let before = state (g.S.Sink.taken c.args.out.now) (g.S.Sink.failures c.args.out.now) in
+    if-err-of (IsWithoutOutput (request.Verify c.args.workers) auction before before) c.from_residual-in_err-compiler.result refusal.OutOfMemory c.from_residual-in_err-compiler.ensures.1
     (inl (by_refusal (inr refl) refl))
 
 pub returns-in_err-won-clause-refused : goal.returns-in_err-won-clause-refused
 returns-in_err-won-clause-refused g c =
     let auction = held c.args.auction.now in
-    let taken = g.S.Sink.taken c.args.out.now in
-    let failures = g.S.Sink.failures c.args.out.now in
+    let before = state (g.S.Sink.taken c.args.out.now) (g.S.Sink.failures c.args.out.now) in
     let r = c.in_err-won.field-0.0 in
-    if-err-of (IsWithoutOutput (request.Verify c.args.workers) auction taken taken failures failures) c.from_residual-in_err-won.result r c.from_residual-in_err-won.ensures.1
+    if-err-of (IsWithoutOutput (request.Verify c.args.workers) auction before before) c.from_residual-in_err-won.result r c.from_residual-in_err-won.ensures.1
     (inl (by_refusal (stop _ _ r (stop _ _ r c.in_err-won.ensures.refuses)) refl))
 
 pub returns-in_err-check_certificates-clause-refused : goal.returns-in_err-check_certificates-clause-refused
 returns-in_err-check_certificates-clause-refused g c =
     let auction = held c.args.auction.now in
-    let taken = g.S.Sink.taken c.args.out.now in
-    let failures = g.S.Sink.failures c.args.out.now in
+    let before = state (g.S.Sink.taken c.args.out.now) (g.S.Sink.failures c.args.out.now) in
     let r = c.in_err-check_certificates.field-0.0 in
     let won = c.in_ok-won.ensures.won ∙ ap (λ (xs : List (List Choice)). Ok xs) (sym c.as_slice-allocations.ensures.value) in
-    if-err-of (IsWithoutOutput (request.Verify c.args.workers) auction taken taken failures failures) c.from_residual-in_err-check_certificates.result r c.from_residual-in_err-check_certificates.ensures.1
-    (unshown c.args.workers auction c.as_slice-allocations.result.now taken failures r won c.in_err-check_certificates.ensures.refuses)
+    if-err-of (IsWithoutOutput (request.Verify c.args.workers) auction before before) c.from_residual-in_err-check_certificates.result r c.from_residual-in_err-check_certificates.ensures.1
+    (unshown c.args.workers auction c.as_slice-allocations.result.now before r won c.in_err-check_certificates.ensures.refuses)
 
 pub returns-in_err-claim-clause-refused : goal.returns-in_err-claim-clause-refused
 returns-in_err-claim-clause-refused g c =
     let auction = held c.args.auction.now in
-    let taken = g.S.Sink.taken c.args.out.now in
-    let failures = g.S.Sink.failures c.args.out.now in
+    let before = state (g.S.Sink.taken c.args.out.now) (g.S.Sink.failures c.args.out.now) in
     let r = c.in_err-claim.field-0.0 in
     let won = c.in_ok-won.ensures.won ∙ ap (λ (xs : List (List Choice)). Ok xs) (sym c.as_slice-allocations.ensures.value) in
-    if-err-of (IsWithoutOutput (request.Verify c.args.workers) auction taken taken failures failures) c.from_residual-in_err-claim.result r c.from_residual-in_err-claim.ensures.1
-    (unclaimed c.args.workers auction c.as_slice-allocations.result.now taken failures r won c.in_ok-check_certificates.ensures.shown c.in_err-claim.ensures.refuses)
+    if-err-of (IsWithoutOutput (request.Verify c.args.workers) auction before before) c.from_residual-in_err-claim.result r c.from_residual-in_err-claim.ensures.1
+    (unclaimed c.args.workers auction c.as_slice-allocations.result.now before r won c.in_ok-check_certificates.ensures.shown c.in_err-claim.ensures.refuses)
 
 pub returns-in_err-pricing-clause-refused : goal.returns-in_err-pricing-clause-refused
 returns-in_err-pricing-clause-refused g c =
     let auction = held c.args.auction.now in
-    let taken = g.S.Sink.taken c.args.out.now in
-    let failures = g.S.Sink.failures c.args.out.now in
+    let before = state (g.S.Sink.taken c.args.out.now) (g.S.Sink.failures c.args.out.now) in
     let r = c.in_err-pricing.field-0.0 in
     let won = c.in_ok-won.ensures.won ∙ ap (λ (xs : List (List Choice)). Ok xs) (sym c.as_slice-allocations.ensures.value) in
-    if-err-of (IsWithoutOutput (request.Verify c.args.workers) auction taken taken failures failures) c.from_residual-in_err-pricing.result r c.from_residual-in_err-pricing.ensures.1
-    (unpriced c.args.workers auction c.as_slice-allocations.result.now c.in_ok-claim.claim taken failures r won c.in_ok-check_certificates.ensures.shown c.in_ok-claim.ensures.parsed c.in_err-pricing.ensures.refuses)
+    if-err-of (IsWithoutOutput (request.Verify c.args.workers) auction before before) c.from_residual-in_err-pricing.result r c.from_residual-in_err-pricing.ensures.1
+    (unpriced c.args.workers auction c.as_slice-allocations.result.now c.in_ok-claim.claim before r won c.in_ok-check_certificates.ensures.shown c.in_ok-claim.ensures.parsed c.in_err-pricing.ensures.refuses)
 
 pub pricing_of-requires-clause-without : goal.pricing_of-requires-clause-without
 pricing_of-requires-clause-without g c =
@@ -93,16 +87,14 @@ pricing_of-requires-clause-without g c =
 pub returns-in_err-report_with-clause-refused : goal.returns-in_err-report_with-clause-refused
 returns-in_err-report_with-clause-refused g c =
     let auction = c.args.auction.now in
-    let taken = g.S.Sink.taken c.args.out.now in
-    let taken' = g.S.Sink.taken c.report_with.new.sink in
-    let failures = g.S.Sink.failures c.args.out.now in
-    let failures' = g.S.Sink.failures c.report_with.new.sink in
+    let before = state (g.S.Sink.taken c.args.out.now) (g.S.Sink.failures c.args.out.now) in
+    let after = state (g.S.Sink.taken c.report_with.new.sink) (g.S.Sink.failures c.report_with.new.sink) in
     let all = c.as_slice-allocations.result.now in
     let claim = c.in_ok-claim.claim in
     let pricing = c.in_ok-pricing.pricing in
     let f = c.in_err-report_with.field-0.0 in
     let won = c.in_ok-won.ensures.won ∙ ap (λ (xs : List (List Choice)). Ok xs) (sym c.as_slice-allocations.ensures.value) in
     let sent = c.in_err-report_with.ensures.err in
-    if-err-of (IsWithoutOutput (request.Verify c.args.workers) (held auction) taken taken' failures failures') c.from_residual-in_err-report_with.result (refusal.Write f) c.from_residual-in_err-report_with.ensures.1
-    (inl (cut-short _ (report_text (sale_of auction.book) auction.groups all ++ (pricing_text (sale_of auction.book) (slice_index_or all 0 []) pricing ++ uniqueness_text (sale_of auction.book) claim)) taken taken' failures failures' f
+    if-err-of (IsWithoutOutput (request.Verify c.args.workers) (held auction) before after) c.from_residual-in_err-report_with.result (refusal.Write f) c.from_residual-in_err-report_with.ensures.1
+    (inl (cut-short _ (report_text (sale_of auction.book) auction.groups all ++ (pricing_text (sale_of auction.book) (slice_index_or all 0 []) pricing ++ uniqueness_text (sale_of auction.book) claim)) before after f
     (next _ all _ _ (next _ all _ _ won c.in_ok-check_certificates.ensures.shown) (next _ claim _ _ c.in_ok-claim.ensures.parsed (next _ pricing _ _ c.in_ok-pricing.ensures.parsed refl))) sent c.in_err-report_with.ensures.failed))

@@ -3,7 +3,7 @@ use Rattle.auction_terms.specs.Terms.{lots_in}
 use Rattle.bid_desk.specs.Closing.{book_of}
 use Rattle.mps_text.proofs.FaithfulTexts.{presolved_text_is_faithful}
 use Rattle.std.specs.Prelude.{slice_index_or}
-use Rattle.answers.proofs.compile_run.run_compile.Goals as goal
+use Rattle.answers.proofs.commands.compile.run_compile.Goals as goal
 
 pub returns-in-Ok-clause-faithful : goal.returns-in-Ok-clause-faithful
 returns-in-Ok-clause-faithful g c = λ k d small.
