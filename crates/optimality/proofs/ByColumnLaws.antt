@@ -1,33 +1,25 @@
 -- A leaf whose columns are gone over one after the other.
-use Rattle.std.proofs.Common.{◌≡◌, ℕ, zero, suc, ◌+◌, ◌<◌, Bool, true, false, cond, List, [], ◌∷◌, Some, length, drop, get_or, slice_get, slice_set, refl, sym, ap, ap₂, ◌∙◌, arith, ℤ, pos, ◌+ℤ◌}
+use Rattle.std.proofs.Common.{◌≡◌, ℕ, zero, suc, ◌+◌, ◌<◌, ◌≤◌, Bool, true, false, cond, List, [], ◌∷◌, Some, length, drop, get_or, slice_get, refl, sym, ap, ap₂, ◌∙◌, arith, ℤ, pos, ◌+ℤ◌}
 use Rattle.std.specs.Prelude.{◌*ℤ◌, ◌==◌}
 use Rattle.std.specs.Option.{option_map}
 use Rattle.std.proofs.lemmas.Int.{ints}
 use Rattle.std.proofs.lemmas.Bool.Decides.{nat_tests}
+use Rattle.std.proofs.lemmas.List.{drop_all}
 use Rattle.std.proofs.lemmas.Option.{get_or_from_slice_get, slice_get_within}
 use Rattle.std.proofs.Math.IntN.{*ℤ_comm}
 use lib.IntN.{*ℤ-zero, zero-*ℤ}
 use Rattle.program_rows.specs.Program.{Table, TableColumn}
 use Rattle.program_rows.specs.Parts.{AreEntries, IsProgram}
-use Rattle.optimality.specs.Certificates.{Form, Cut, number_in, sum_of}
-use Rattle.optimality.specs.Reduced.{reduced, least_part}
-use Rattle.optimality.specs.inside.Adding.{at_place, cuts_given, number_at}
-use Rattle.optimality.specs.inside.ByColumns.{entries_given, least_by_columns, reduced_cost}
+use Rattle.optimality.specs.Certificates.{Form, number_in, sum_of}
+use Rattle.optimality.specs.Reduced.{least_part}
+use Rattle.optimality.specs.inside.Adding.{AreGivenMore, HaveRows, at_place, number_at}
+use Rattle.optimality.specs.inside.ByEntries.{columns_given, entries_given}
 use Rattle.optimality.proofs.ColumnSums.{least_sum, rows_number}
-use Rattle.optimality.proofs.LeafLaws.{least-same}
-use Rattle.optimality.proofs.PlaceLaws.{rest, set-at}
+use Rattle.optimality.proofs.PlaceLaws.{given-step, rest}
 use Rattle.optimality.proofs.Products.{times-sum}
 use Rattle.optimality.proofs.RowLaws.{entries-of, entry-is}
 
 -- ---------- multipliers ----------
-
--- a number more at a place
-pub multiplier-set : (before : List ℤ) (place q : ℕ) (n sum : ℤ) → place < length before → sum ≡ number_at before place +ℤ n → number_at (slice_set before place sum) q ≡ number_at before q +ℤ at_place place n q
-multiplier-set before place q n sum h s = set-at before place q sum h ∙ by (place == q) refl
-  where
-    by : (b : Bool) → (place == q) ≡ b → cond b sum (number_at before q) ≡ number_at before q +ℤ cond b n (pos 0)
-    by true e = let here : q ≡ place = grind (arith, nat_tests) in s ∙ ap (λ (k : ℕ). number_at before k +ℤ n) (sym here)
-    by false e = omega (arith, ints)
 
 -- a term more is added at its place, and the terms that are left
 pub multipliers-step : (rows : Form) (i : ℕ) (d : ℕ × ℤ) (before after : List ℤ) (q : ℕ) → i < length rows → number_at after q ≡ number_at before q +ℤ at_place (get_or rows i d).0 (get_or rows i d).1 q
@@ -35,12 +27,6 @@ pub multipliers-step : (rows : Form) (i : ℕ) (d : ℕ × ℤ) (before after : 
 multipliers-step rows i d before after q l more h =
     let split : number_in (drop i rows) q ≡ at_place (get_or rows i d).0 (get_or rows i d).1 q +ℤ number_in (drop (i + 1) rows) q = ap (λ (f : Form). number_in f q) (rest rows i d l) in
     omega (arith, ints)
-
--- a place behind the last one has nothing that is added elsewhere
-pub not-there : (place q : ℕ) (n m : ℤ) → q < place → m ≡ m +ℤ at_place place n q
-not-there place q n m h =
-    let other : (place == q) ≡ false = grind (arith, nat_tests) in
-    rw other (omega (arith, ints))
 
 -- ---------- entries ----------
 
@@ -74,21 +60,48 @@ least-step f i cs sum next n all e s h =
     let moved : next +ℤ least_sum f (i + 1) (drop (suc i) cs) ≡ all = omega (arith, ints) in
     rw after moved
 
--- what the code computes of a column
-pub cost-is : (scale : ℤ) (cuts ys : List ℤ) (place : ℕ) (cs : List TableColumn) (entries : Form) (cost of_rows of_cuts given n : ℤ) → option_map (λ c. c.entries) (slice_get cs place) ≡ Some entries → option_map (λ c. c.cost) (slice_get cs place) ≡ Some cost
-    → of_rows ≡ entries_given ys entries → of_cuts ≡ number_at cuts place → given ≡ of_rows +ℤ of_cuts → n ≡ given +ℤ scale *ℤ cost → option_map (reduced_cost scale cuts ys place) (slice_get cs place) ≡ Some n
-cost-is scale cuts ys place cs entries cost of_rows of_cuts given n e k r u g s = by place cs e k
-  where
-    by : (j : ℕ) (ds : List TableColumn) → option_map (λ c. c.entries) (slice_get ds j) ≡ Some entries → option_map (λ c. c.cost) (slice_get ds j) ≡ Some cost → option_map (reduced_cost scale cuts ys place) (slice_get ds j) ≡ Some n
-    by j [] x y = absurd cc
-    by zero (c ∷ ds) x y =
-        let same_entries : c.entries ≡ entries = cc in
-        let same_cost : c.cost ≡ cost = cc in
-        let of_entries : entries_given ys c.entries ≡ of_rows = ap (entries_given ys) same_entries ∙ sym r in
-        let of_cost : scale *ℤ c.cost ≡ scale *ℤ cost = ap (λ (m : ℤ). scale *ℤ m) same_cost in
-        let all : reduced_cost scale cuts ys place c ≡ n = omega (arith, ints) in
-        ap Some all
-    by (suc j) (c ∷ ds) x y = by j ds x y
+-- ---------- what columns are given ----------
+
+columns_there : (ys : List ℤ) (p i : ℕ) (cs : List TableColumn) (es : Form) (q : ℕ) → option_map (λ c. c.entries) (slice_get cs i) ≡ Some es
+    → columns_given ys p (drop i cs) q ≡ at_place p (entries_given ys es) q +ℤ columns_given ys (suc p) (drop (suc i) cs) q
+columns_there ys p i [] es q h = absurd cc
+columns_there ys p zero (c ∷ cs) es q h = let same : c.entries ≡ es = cc in ap (λ (e : Form). at_place p (entries_given ys e) q +ℤ columns_given ys (suc p) cs q) same
+columns_there ys p (suc i) (c ∷ cs) es q h = columns_there ys p i cs es q h
+
+pub columns-step : (ys : List ℤ) (i : ℕ) (cs : List TableColumn) (es : Form) (n : ℤ) (start before after : List ℤ) → option_map (λ c. c.entries) (slice_get cs i) ≡ Some es → n ≡ entries_given ys es → AreGivenMore (at_place i n) before after
+    → ((q : ℕ) → number_at before q +ℤ columns_given ys i (drop i cs) q ≡ number_at start q +ℤ columns_given ys 0 cs q) → (q : ℕ) → number_at after q +ℤ columns_given ys (i + 1) (drop (i + 1) cs) q ≡ number_at start q +ℤ columns_given ys 0 cs q
+columns-step ys i cs es n start before after there is more h =
+    let place : suc i ≡ i + 1 = omega arith in
+    given-step (columns_given ys i (drop i cs)) (at_place i n) (columns_given ys (i + 1) (drop (i + 1) cs)) start before after (columns_given ys 0 cs)
+    (λ q. columns_there ys i i cs es q there
+    ∙ ap (λ (k : ℕ). at_place i (entries_given ys es) q +ℤ columns_given ys k (drop k cs) q) place
+    ∙ ap (λ (m : ℤ). at_place i m q +ℤ columns_given ys (i + 1) (drop (i + 1) cs) q) (sym is)) more h
+
+pub columns-end : (ys : List ℤ) (i : ℕ) (cs : List TableColumn) (start after : List ℤ) → length cs ≤ i → ((q : ℕ) → number_at after q +ℤ columns_given ys i (drop i cs) q ≡ number_at start q +ℤ columns_given ys 0 cs q) → AreGivenMore (columns_given ys 0 cs) start after
+columns-end ys i cs start after l h q =
+    let e : number_at after q +ℤ pos 0 ≡ number_at start q +ℤ columns_given ys 0 cs q = ap (λ (ds : List TableColumn). number_at after q +ℤ columns_given ys i ds q) (sym (drop_all i cs l)) ∙ h q in
+    omega (arith, ints)
+
+columns_passed : (ys : List ℤ) (p : ℕ) (cs : List TableColumn) (q : ℕ) → q < p → columns_given ys p cs q ≡ pos 0
+columns_passed ys p [] q h = refl
+columns_passed ys p (c ∷ cs) q h =
+    let other : (p == q) ≡ false = grind (arith, nat_tests) in
+    rw (other, columns_passed ys (suc p) cs q (omega arith)) refl
+
+columns_at : (ys : List ℤ) (p j : ℕ) (cs : List TableColumn) (q : ℕ) (c : TableColumn) → q ≡ p + j → slice_get cs j ≡ Some c → columns_given ys p cs q ≡ entries_given ys c.entries
+columns_at ys p j [] q c e at = absurd cc
+columns_at ys p zero (d ∷ cs) q c e at =
+    let same : d ≡ c = cc in
+    let here : (p == q) ≡ true = grind (arith, nat_tests) in
+    let first : at_place p (entries_given ys d.entries) q ≡ entries_given ys d.entries = ap (λ (b : Bool). cond b (entries_given ys d.entries) (pos 0)) here in
+    let later = columns_passed ys (suc p) cs q (omega arith) in
+    let all : columns_given ys p (d ∷ cs) q ≡ entries_given ys d.entries = omega (arith, ints) in
+    all ∙ ap (λ (x : TableColumn). entries_given ys x.entries) same
+columns_at ys p (suc j) (d ∷ cs) q c e at =
+    let other : (p == q) ≡ false = grind (arith, nat_tests) in
+    let first : at_place p (entries_given ys d.entries) q ≡ pos 0 = ap (λ (b : Bool). cond b (entries_given ys d.entries) (pos 0)) other in
+    let later = columns_at ys (suc p) j cs q c (omega arith) at in
+    omega (arith, ints)
 
 -- ---------- what they come to ----------
 
@@ -133,13 +146,10 @@ given-same : (m : ℕ) (ys : List ℤ) (rows es : Form) → ((row : ℕ) → row
 given-same m ys rows [] same h = refl
 given-same m ys rows (e ∷ es) same h = ap₂ (λ (a b : ℤ). a *ℤ e.1 +ℤ b) (same e.0 h.0) (given-same m ys rows es same h.3)
 
-pub by-columns-is : (p : Table) (scale : ℕ) (multipliers : List ℕ) (cuts : List Cut) (rows : Form) (numbers ys : List ℤ) → IsProgram p
-    → ((q : ℕ) → number_at numbers q ≡ cuts_given multipliers cuts q) → ((row : ℕ) → row < length p.rows → number_at ys row ≡ number_in rows row)
-    → least_by_columns (pos scale) numbers ys p.columns ≡ least_sum (reduced scale multipliers cuts rows) 0 p.columns
-by-columns-is p scale multipliers cuts rows numbers ys h of_cuts of_rows =
-    least-same (reduced_cost (pos scale) numbers ys) (reduced scale multipliers cuts rows) 0 p.columns
-    (λ i j c place at.
-    let entries = entries-of (length p.rows) p.columns j c h.entries at in
-    let given : entries_given ys c.entries ≡ rows_number rows c = given-same (length p.rows) ys rows c.entries of_rows entries ∙ turned-round rows c.entries ∙ coefficients (length p.rows) c rows entries in
-    let cut = of_cuts i in
-    omega (arith, ints))
+pub columns-have : (p : Table) (rows : Form) (ys before after : List ℤ) → IsProgram p → ((row : ℕ) → number_at ys row ≡ number_in rows row) → AreGivenMore (columns_given ys 0 p.columns) before after → HaveRows p rows before after
+columns-have p rows ys before after h same more place c at =
+    let m = length p.rows in
+    let entries = entries-of m p.columns place c h.entries at in
+    more place
+    ∙ ap (λ (n : ℤ). number_at before place +ℤ n)
+    (columns_at ys 0 place p.columns place c (omega arith) at ∙ given-same m ys rows c.entries (λ row _. same row) entries ∙ turned-round rows c.entries ∙ coefficients m c rows entries)

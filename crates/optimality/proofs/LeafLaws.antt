@@ -12,7 +12,7 @@ use Rattle.program_rows.specs.Points.{coefficient_at}
 use Rattle.program_rows.specs.Parts.{IsProgram}
 use Rattle.optimality.specs.Certificates.{Form, Cut, number_in}
 use Rattle.optimality.specs.Reduced.{reduced, least_part}
-use Rattle.optimality.specs.inside.Adding.{number_at, AreNone, IsTaken, at_place, cuts_given, form_at, rows_given, least_alone, least_with, change_at}
+use Rattle.optimality.specs.inside.Adding.{number_at, AreGivenMore, AreNone, HaveAll, HaveRows, IsTaken, at_place, cuts_given, form_at, rows_given, least_alone, least_with, change_at}
 use Rattle.optimality.specs.inside.RowForms.{row_forms}
 use Rattle.optimality.proofs.ColumnSums.{least_sum, rows_number}
 use Rattle.optimality.proofs.Products.{times-sum, times-natural}
@@ -51,7 +51,7 @@ one-changed f g place p (suc j) (c ∷ cs) e same =
 
 -- ---------- taking one ----------
 
-abbrev with_given : ℤ → (ℕ → ℤ) → ℕ → TableColumn → ℤ
+abbrev pub with_given : ℤ → (ℕ → ℤ) → ℕ → TableColumn → ℤ
 with_given factor given place c = factor *ℤ c.cost +ℤ given place
 
 unchanged-elsewhere : (before after : List ℤ) (place : ℕ) (n : ℤ) (q : ℕ) → q ≢ place → number_at before q ≡ number_at after q +ℤ at_place place n q → number_at before q ≡ number_at after q
@@ -163,6 +163,39 @@ rows-at : (rows : Form) (forms : List Form) (i : ℕ) (c : TableColumn) → ((ro
 rows-at [] forms i c same = refl
 rows-at (t ∷ rows) forms i c same = ap₂ (λ (a b : ℤ). t.1 *ℤ a +ℤ b) (same t.0) (rows-at rows forms i c same)
 
+-- rows as forms give each column a multiple of its coefficients
+pub rows-have : (p : Table) (rows : Form) (before after : List ℤ) → IsProgram p → AreGivenMore (rows_given rows (row_forms p)) before after → HaveRows p rows before after
+rows-have p rows before after h more place c at = more place ∙ ap (λ (n : ℤ). number_at before place +ℤ n) (rows-at rows (row_forms p) place c (λ row. row-form-at p h row place c at))
+
+-- rows, added to what cuts give
+pub all-have : (p : Table) (ys : List ℕ) (cuts : List Cut) (rows : Form) (none before after : List ℤ) → AreNone none → AreGivenMore (cuts_given ys cuts) none before → HaveRows p rows before after → HaveAll p ys cuts rows after
+all-have p ys cuts rows none before after zeros of_cuts of_rows place c at =
+    let nothing = zeros place in
+    let first = of_cuts place in
+    let second = of_rows place c at in
+    omega (arith, ints)
+
+-- the least that the columns come to by what they are given
+pub given-is : (p : Table) (scale : ℕ) (ys : List ℕ) (cuts : List Cut) (rows : Form) (numbers : List ℤ) → HaveAll p ys cuts rows numbers → least_with (pos scale) (number_at numbers) p.columns ≡ least_sum (reduced scale ys cuts rows) 0 p.columns
+given-is p scale ys cuts rows numbers given =
+    least-same (with_given (pos scale) (number_at numbers)) (reduced scale ys cuts rows) 0 p.columns
+    (λ i j c place at.
+    let there : slice_get p.columns i ≡ Some c = subst (λ (k : ℕ). slice_get p.columns k ≡ Some c) (omega arith) at in
+    let all = given i c there in
+    omega (arith, ints))
+
+-- what the code computes of a column
+pub given-cost : (scale : ℤ) (cs : List TableColumn) (place : ℕ) (cost product given n : ℤ) → option_map (λ c. c.cost) (slice_get cs place) ≡ Some cost
+    → product ≡ scale *ℤ cost → n ≡ product +ℤ given → option_map (λ c. scale *ℤ c.cost +ℤ given) (slice_get cs place) ≡ Some n
+given-cost scale cs place cost product given n k p s = by (slice_get cs place) k
+  where
+    by : (o : Option TableColumn) → option_map (λ c. c.cost) o ≡ Some cost → option_map (λ c. scale *ℤ c.cost +ℤ given) o ≡ Some n
+    by None x = absurd cc
+    by (Some c) x =
+        let same : c.cost ≡ cost = cc in
+        let of_cost : scale *ℤ c.cost ≡ product = ap (λ (m : ℤ). scale *ℤ m) same ∙ sym p in
+        ap Some (ap (λ (m : ℤ). m +ℤ given) of_cost ∙ sym s)
+
 pub least-is : (p : Table) (scale : ℕ) (ys : List ℕ) (cuts : List Cut) (rows : Form) (numbers : List ℤ) → IsProgram p
     → ((q : ℕ) → number_at numbers q ≡ cuts_given ys cuts q +ℤ rows_given rows (row_forms p) q)
     → (n : ℤ) → n +ℤ least_with (pos scale) (λ _. pos 0) p.columns ≡ pos scale *ℤ least_alone p.columns +ℤ least_with (pos scale) (number_at numbers) p.columns
@@ -170,9 +203,5 @@ pub least-is : (p : Table) (scale : ℕ) (ys : List ℕ) (cuts : List Cut) (rows
 least-is p scale ys cuts rows numbers h given n e =
     let alone = least-scaled scale 0 p.columns in
     let total : n ≡ least_with (pos scale) (number_at numbers) p.columns = omega (arith, ints) in
-    total ∙ least-same (with_given (pos scale) (number_at numbers)) (reduced scale ys cuts rows) 0 p.columns
-    (λ i j c place at.
-    let there : slice_get p.columns i ≡ Some c = subst (λ (k : ℕ). slice_get p.columns k ≡ Some c) (omega arith) at in
-    let of_rows = rows-at rows (row_forms p) i c (λ row. row-form-at p h row i c there) in
-    let all = given i in
-    omega (arith, ints))
+    total ∙ given-is p scale ys cuts rows numbers
+    (λ place c at. given place ∙ ap (λ (m : ℤ). cuts_given ys cuts place +ℤ m) (rows-at rows (row_forms p) place c (λ row. row-form-at p h row place c at)))

@@ -1,7 +1,7 @@
 pub mod Adding
 pub mod Answers
 pub mod Branches
-pub mod ByColumns
+pub mod ByEntries
 pub mod Certificates
 pub mod Checking
 pub mod Holding

@@ -1,6 +1,6 @@
 //! Exact arithmetic in 128 bits.
 
-ghost use Rattle.std.specs.Prelude.{◌≡◌, ◌+◌, ◌*◌, ◌^◌, ◌≤◌, ◌≤ℤ◌, ◌+ℤ◌, ◌-ℤ◌, ◌*ℤ◌, IfOk, if◌then◌else◌, neg_ℤ, pos, unsigned_abs};
+ghost use Rattle.std.specs.Prelude.{◌≡◌, ◌+◌, ◌*◌, ◌^◌, ◌≤◌, ◌≤ℤ◌, ◌+ℤ◌, ◌-ℤ◌, ◌*ℤ◌, IfOk, IfSome, if◌then◌else◌, neg_ℤ, pos, unsigned_abs};
 ghost use Rattle.optimality.specs.inside.Stopping.{TooLargeOnly};
 
 use crate::limit::Limit;
@@ -27,6 +27,20 @@ pub fn times(a: i128, b: i128) -> Result<i128, Limit>
     ensures too_large { TooLargeOnly (2 ^ 127 ≤ unsigned_abs (a *ℤ b)) result }
 {
     a.checked_mul(b).ok_or(Limit::TooLarge)
+}
+
+/// A number, if it fits 64 bits.
+pub fn narrow(number: i128) -> Option<i64>
+    ensures { IfSome result (λ n. n ≡ number) }
+{
+    i64::try_from(number).ok()
+}
+
+/// The product of numbers of 64 bits, if it fits 64 bits too.
+pub fn narrow_product(factor: i64, number: i64) -> Option<i64>
+    ensures { IfSome result (λ n. n ≡ factor *ℤ number) }
+{
+    factor.checked_mul(number)
 }
 
 /// The product of numbers of 64 bits, which never leaves 128 bits: no check, and one instruction.

@@ -1,70 +1,70 @@
-//! The least that the columns of a leaf come to, one column after the other: for a leaf that names rows with most of the entries.
+//! The least that all columns come to, by what cuts and rows give each of them. Each call answers nothing if a number is beyond what it
+//! takes, or if there is no memory.
 
-ghost use Rattle.std.specs.Prelude.{◌≡◌, ◌<◌, ◌+ℤ◌, ◌*ℤ◌, ℕ, IfSome, Some, length, pos, slice_get};
+ghost use Rattle.std.specs.Prelude.{◌≡◌, ◌<◌, ◌+ℤ◌, ◌*ℤ◌, IfSome, Some, length, pos, slice_get};
+ghost use Rattle.std.specs.List.{enumerate_from};
 ghost use Rattle.std.specs.Option.{option_map};
-ghost use Rattle.optimality.specs.Certificates.{number_in};
+ghost use Rattle.optimality.specs.Certificates.{sum_of};
 ghost use Rattle.optimality.specs.inside.Adding as adding;
-ghost use Rattle.optimality.specs.inside.Adding.{at_place};
-ghost use Rattle.optimality.specs.inside.ByColumns as columns;
+ghost use Rattle.optimality.specs.inside.Adding.{AreNone, HaveAll, HaveRows, least_with};
+ghost use Rattle.optimality.specs.inside.Checking.{IsPrepared};
+ghost use Rattle.optimality.specs.inside.Holding.{cuts_of};
+ghost use Rattle.optimality.specs.inside.RowForms.{forms_held, row_forms as forms_of};
 ghost use Rattle.optimality.specs.Reduced as reduced;
 
-use crate::arithmetic::{plus_product, product, scaled};
-use crate::numbers_by_place::number_at;
+use crate::arithmetic::scaled;
+use crate::by_entries::add_rows_by_entries;
+use crate::checker::Checker;
+use crate::leaf::Leaf;
+use crate::narrow_sums;
+use crate::narrow_sums::{number_at, zeros};
+use crate::open_split::OpenSplit;
 use crate::reduced::least_part;
-use program_rows::{Entries, Selection};
-use std::alloc::Global;
+use crate::row_forms::Form;
+use program_rows::Selection;
 
-/// What a leaf multiplies: its scale, what its cuts give each column, and a multiplier for each row.
-#[derive(Clone, Copy)]
-pub struct Multiples<'l> {
-    pub scale: u64,
-    pub cuts: &'l [i128],
-    pub rows: &'l [i64],
+/// Adds to each column what the rows give it, each times its multiplier, by the forms of the rows.
+fn add_rows_by_forms(
+    sums: &mut [i64],
+    program: &Selection<'_>,
+    forms: &[Form],
+    rows: &[(usize, i128)],
+) -> Option<()>
+    requires { forms_held forms.now ≡ forms_of program.now }
+    ensures { IfSome result (λ _. HaveRows program.now rows.now sums.old sums.new) }
+{
+    // The places of entries lie within the rows.
+    program.well_formed();
+    narrow_sums::add_rows(sums, forms, rows)
 }
 
-/// A number, if it fits 64 bits.
-fn narrow(number: i128) -> Option<i64>
-    ensures { IfSome result (λ n. n ≡ number) }
+/// The same by the forms of the rows if there are any, and else column by column.
+fn add_rows(checker: &Checker, sums: &mut [i64], rows: &[(usize, i128)]) -> Option<()>
+    requires { IsPrepared checker.now }
+    ensures { IfSome result (λ _. HaveRows checker.now.program.now rows.now sums.old sums.new) }
 {
-    i64::try_from(number).ok()
-}
-
-fn multiplier_at(multipliers: &[i64], row: usize) -> i64
-    ensures { result ≡ adding.number_at multipliers.now row }
-{
-    if row < multipliers.len() {
-        multipliers[row]
-    } else {
-        0
+    match &checker.row_forms {
+        Some(forms) => add_rows_by_forms(sums, checker.program, forms.as_slice(), rows),
+        None => add_rows_by_entries(checker.alloc, sums, checker.program, rows),
     }
 }
 
-/// Adds a number at the place of a row, if the sum fits 64 bits.
-fn add_multiplier(multipliers: &mut Vec<i64>, row: usize, number: i64) -> Option<()>
-    ensures value { IfSome result (λ _. (q : ℕ) → q < length multipliers.old.items
-        → adding.number_at multipliers.new.items q
-        ≡ adding.number_at multipliers.old.items q +ℤ at_place row number q) }
-    ensures length { length multipliers.new.items ≡ length multipliers.old.items }
+/// Adds to each column what cuts and rows give it.
+fn add_to_all(
+    checker: &Checker,
+    sums: &mut [i64],
+    splits: &[OpenSplit],
+    leaf: &Leaf,
+    rows: &[(usize, i128)],
+) -> Option<()>
+    requires prepared { IsPrepared checker.now }
+    requires count { length leaf.now.multipliers.items ≡ length splits.now }
+    requires empty { AreNone sums.old }
+    ensures { IfSome result (λ _. HaveAll checker.now.program.now leaf.now.multipliers.items
+        (cuts_of splits.now) rows.now sums.new) }
 {
-    if row >= multipliers.len() {
-        return Some(());
-    }
-    let sum = multiplier_at(multipliers.as_slice(), row).checked_add(number)?;
-    multipliers[row] = sum;
-    Some(())
-}
-
-/// A multiplier for each row, 0 for one that the leaf doesn't name; nothing if one of them doesn't fit 64 bits.
-pub fn row_multipliers(alloc: Global, count: usize, rows: &[(usize, i128)]) -> Option<Vec<i64>>
-    ensures value { IfSome result (λ multipliers. (row : ℕ) → row < count
-        → adding.number_at multipliers.items row ≡ number_in rows.now row) }
-{
-    let mut multipliers = vec![in alloc; 0; count].ok()?;
-    for i in 0..rows.len() {
-        let (row, number) = rows[i];
-        add_multiplier(&mut multipliers, row, narrow(number)?)?;
-    }
-    Some(multipliers)
+    narrow_sums::add_cuts(sums, leaf.multipliers.as_slice(), splits)?;
+    add_rows(checker, sums, rows)
 }
 
 fn plus(a: i128, b: i128) -> Option<i128>
@@ -73,57 +73,68 @@ fn plus(a: i128, b: i128) -> Option<i128>
     a.checked_add(b)
 }
 
-fn plus_multiple(sum: i128, multiplier: i64, number: i64) -> Option<i128>
-    ensures { IfSome result (λ n. n ≡ sum +ℤ multiplier *ℤ number) }
-{
-    match plus_product(sum, product(multiplier, number)) {
-        Ok(next) => Some(next),
-        Err(_) => None,
-    }
-}
-
-/// What the rows of a column's entries give it.
-fn given_by_rows(multipliers: &[i64], entries: &Entries<'_>) -> Option<i128>
-    ensures { IfSome result (λ n. n ≡ columns.entries_given multipliers.now entries.now) }
-{
-    let mut sum: i128 = 0;
-    for i in 0..entries.len() {
-        let (row, number) = entries.entry(i);
-        sum = plus_multiple(sum, multiplier_at(multipliers, row), number)?;
-    }
-    Some(sum)
-}
-
-/// The reduced cost of a column.
-fn reduced_cost(program: &Selection<'_>, leaf: &Multiples, column: usize) -> Option<i128>
+/// The scaled cost of a column, with what it is given.
+fn reduced_cost(program: &Selection<'_>, scale: u64, given: &[i64], column: usize) -> Option<i128>
     requires { column < length program.now.columns }
-    ensures { IfSome result (λ n. option_map (columns.reduced_cost (pos leaf.now.scale)
-        leaf.now.cuts.now leaf.now.rows.now column) (slice_get program.now.columns column) ≡ Some n) }
+    ensures { IfSome result (λ n. option_map (λ c. pos scale *ℤ c.cost
+        +ℤ adding.number_at given.now column) (slice_get program.now.columns column) ≡ Some n) }
 {
-    let of_rows = given_by_rows(leaf.rows, &program.entries(column))?;
-    let given = plus(of_rows, number_at(leaf.cuts, column))?;
-    plus(given, scaled(leaf.scale, program.cost(column)))
+    let cost = scaled(scale, program.cost(column));
+    plus(cost, i128::from(number_at(given, column)))
 }
 
 /// The least that a column contributes.
-fn part_of(program: &Selection<'_>, leaf: &Multiples, column: usize) -> Option<i128>
+fn part_of(program: &Selection<'_>, scale: u64, given: &[i64], column: usize) -> Option<i128>
     requires { column < length program.now.columns }
-    ensures { IfSome result (λ n. option_map (λ c. reduced.least_part c.bounds
-        (columns.reduced_cost (pos leaf.now.scale) leaf.now.cuts.now leaf.now.rows.now column c))
-        (slice_get program.now.columns column) ≡ Some n) }
+    ensures { IfSome result (λ n. option_map (λ c. reduced.least_part c.bounds (pos scale *ℤ c.cost
+        +ℤ adding.number_at given.now column)) (slice_get program.now.columns column) ≡ Some n) }
 {
-    let cost = reduced_cost(program, leaf, column)?;
+    let cost = reduced_cost(program, scale, given, column)?;
     Some(least_part(program.bounds(column), cost))
 }
 
-/// The least that all columns contribute; nothing if a sum comes near the limit of 128 bits.
-pub fn least_by_columns(program: &Selection<'_>, leaf: &Multiples) -> Option<i128>
-    ensures { IfSome result (λ n. n ≡ columns.least_by_columns (pos leaf.now.scale)
-        leaf.now.cuts.now leaf.now.rows.now program.now.columns) }
+/// The least that columns contribute that are given these numbers.
+fn least_given(program: &Selection<'_>, scale: u64, given: &[i64]) -> Option<i128>
+    ensures { IfSome result (λ n. n ≡ least_with (pos scale) (adding.number_at given.now)
+        program.now.columns) }
 {
     let mut sum: i128 = 0;
     for column in 0..program.column_count() {
-        sum = plus(sum, part_of(program, leaf, column)?)?;
+        sum = plus(sum, part_of(program, scale, given, column)?)?;
     }
     Some(sum)
+}
+
+/// What cuts and rows give each column.
+fn given_to_all(
+    checker: &Checker,
+    splits: &[OpenSplit],
+    leaf: &Leaf,
+    rows: &[(usize, i128)],
+) -> Option<Vec<i64>>
+    requires prepared { IsPrepared checker.now }
+    requires count { length leaf.now.multipliers.items ≡ length splits.now }
+    ensures { IfSome result (λ sums. HaveAll checker.now.program.now leaf.now.multipliers.items
+        (cuts_of splits.now) rows.now sums.items) }
+{
+    let mut sums = zeros(checker.alloc, checker.program.column_count())?;
+    add_to_all(checker, sums.as_mut_slice(), splits, leaf, rows)?;
+    Some(sums)
+}
+
+/// The least that the reduced costs come to.
+pub fn least_by_columns(
+    checker: &Checker,
+    splits: &[OpenSplit],
+    leaf: &Leaf,
+    rows: &[(usize, i128)],
+) -> Option<i128>
+    requires prepared { IsPrepared checker.now }
+    requires count { length leaf.now.multipliers.items ≡ length splits.now }
+    ensures { IfSome result (λ n. n ≡ sum_of (λ e. reduced.least_part e.1.bounds
+        (reduced.reduced leaf.now.scale leaf.now.multipliers.items (cuts_of splits.now) rows.now
+        e.0 e.1)) (enumerate_from 0 checker.now.program.now.columns)) }
+{
+    let given = given_to_all(checker, splits, leaf, rows)?;
+    least_given(checker.program, leaf.scale, given.as_slice())
 }

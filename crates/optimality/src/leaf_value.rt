@@ -14,7 +14,7 @@ ghost use Rattle.optimality.specs.Shows as shows;
 
 use crate::added_up::added_up;
 use crate::arithmetic::{minus, plus, times};
-use crate::by_columns::{Multiples, least_by_columns, row_multipliers};
+use crate::by_columns::least_by_columns;
 use crate::checker::Checker;
 use crate::cuts::{add_cuts, cuts_right};
 use crate::leaf::Leaf;
@@ -104,7 +104,7 @@ fn least_of(
         rows.now) result }
 {
     match &checker.row_forms {
-        Some(all) => least_by_forms(checker, all.forms.as_slice(), sums, splits, leaf, rows),
+        Some(forms) => least_by_forms(checker, forms.as_slice(), sums, splits, leaf, rows),
         None => {
             let forms = row_forms(checker.alloc, checker.program)?;
             least_by_forms(checker, forms.as_slice(), sums, splits, leaf, rows)
@@ -154,40 +154,40 @@ fn value_by_rows(
     minus(bottom, right)
 }
 
-/// The same column by column; nothing if a number is beyond what that takes, or if there is no memory for it.
+/// The same over all columns; nothing if a number is beyond what that takes, or if there is no memory for it.
 fn value_by_columns(
     checker: &Checker,
-    sums: &mut Sums,
     splits: &[OpenSplit],
     leaf: &Leaf,
     rows: &[(usize, i128)],
 ) -> Option<i128>
+    requires prepared { IsPrepared checker.now }
     requires count { length leaf.now.multipliers.items ≡ length splits.now }
     requires alike { AreAlike rows.now leaf.now.rows.items }
     ensures { IfSome result (λ n. n ≡ shows.leaf_value checker.now.program.now
         (cuts_of splits.now) leaf.now.scale leaf.now.multipliers.items leaf.now.rows.items) }
 {
-    let program = checker.program;
-    // The places of entries lie within the rows.
-    program.well_formed();
-    sums.clear();
-    let Ok(()) = add_cuts(sums, leaf.multipliers.as_slice(), splits) else {
-        return None;
-    };
-    let multipliers = row_multipliers(checker.alloc, program.row_count(), rows)?;
-    let multiples = Multiples {
-        scale: leaf.scale,
-        cuts: sums.numbers.as_slice(),
-        rows: multipliers.as_slice(),
-    };
-    let bottom = least_by_columns(program, &multiples)?;
-    let Ok(right) = right_of(program, splits, leaf, rows) else {
+    let bottom = least_by_columns(checker, splits, leaf, rows)?;
+    let Ok(right) = right_of(checker.program, splits, leaf, rows) else {
         return None;
     };
     match minus(bottom, right) {
         Ok(value) => Some(value),
         Err(_) => None,
     }
+}
+
+/// How many terms the cuts have whose multiplier isn't 0.
+fn cut_terms(multipliers: &[u64], splits: &[OpenSplit]) -> usize
+    requires { length multipliers.now ≡ length splits.now }
+{
+    let mut count: usize = 0;
+    for i in 0..splits.len() {
+        if multipliers[i] != 0 {
+            count = count.saturating_add(splits[i].form.len());
+        }
+    }
+    count
 }
 
 /// How many entries the named rows have.
@@ -201,12 +201,16 @@ fn named_entries(forms: &[Form], rows: &[(usize, i128)]) -> usize {
     count
 }
 
-/// Whether rows have so many of the entries that it takes less time to go over all columns.
-fn have_many_entries(checker: &Checker, rows: &[(usize, i128)]) -> bool {
-    match &checker.row_forms {
-        Some(all) => named_entries(all.forms.as_slice(), rows) >= all.many_entries,
-        None => true,
-    }
+/// Whether a leaf gives columns so many numbers that it takes less time to go over all columns.
+fn gives_many(checker: &Checker, splits: &[OpenSplit], leaf: &Leaf, rows: &[(usize, i128)]) -> bool
+    requires { length leaf.now.multipliers.items ≡ length splits.now }
+{
+    let Some(forms) = &checker.row_forms else {
+        return true;
+    };
+    let of_cuts = cut_terms(leaf.multipliers.as_slice(), splits);
+    let count = named_entries(forms.as_slice(), rows).saturating_add(of_cuts);
+    count >= checker.program.column_count() / 2
 }
 
 fn leaf_value(
@@ -224,8 +228,8 @@ fn leaf_value(
         result }
 {
     let rows = added_up(checker.alloc, sums, leaf.rows.as_slice())?;
-    if have_many_entries(checker, rows.as_slice()) {
-        if let Some(value) = value_by_columns(checker, sums, splits, leaf, rows.as_slice()) {
+    if gives_many(checker, splits, leaf, rows.as_slice()) {
+        if let Some(value) = value_by_columns(checker, splits, leaf, rows.as_slice()) {
             return Ok(value);
         }
     }

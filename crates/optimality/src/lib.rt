@@ -4,6 +4,7 @@
 mod added_up;
 mod arithmetic;
 mod by_columns;
+mod by_entries;
 mod checker;
 mod closing;
 mod cuts;
@@ -15,6 +16,7 @@ mod leaf_value;
 mod limit;
 mod lines;
 mod names;
+mod narrow_sums;
 mod naturals;
 mod numbers;
 mod numbers_by_place;

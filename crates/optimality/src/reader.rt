@@ -20,7 +20,7 @@ use crate::names::row_names;
 use crate::open_split::OpenSplit;
 use crate::reduced::least_alone;
 use crate::refusal::Refusal;
-use crate::row_forms::{RowForms, entry_count, row_forms};
+use crate::row_forms::{Form, row_forms};
 use crate::sums::Sums;
 use auction_terms::LineReader;
 use program_rows::{CertificateFault, CertificateFaultKind, Program, Selection};
@@ -72,7 +72,7 @@ pub fn check_lines(
     })
 }
 
-/// Whether a text has more than two lines, and so maybe leaves that name few entries.
+/// Whether a text has more than two lines, and so maybe many leaves.
 fn has_many_lines(text: &[u8]) -> bool {
     let mut lines = LineReader::new(text);
     lines.next();
@@ -80,30 +80,19 @@ fn has_many_lines(text: &[u8]) -> bool {
     lines.next().is_some()
 }
 
-/// From how many entries on all columns are gone over: an entry by its row is taken to cost as much as two columns, or as six of
-/// their entries.
-fn many_entries(columns: usize, entries: usize) -> usize {
-    (columns / 2).saturating_add(entries / 6)
-}
-
 /// The forms of the rows, for a text of many lines.
 fn forms_for(
     alloc: Global,
     text: &[u8],
     program: &Selection<'_>,
-) -> Result<Option<RowForms>, AllocError>
-    ensures { IfOk result (λ made. IfSome made (λ rows. forms_held rows.forms.items
+) -> Result<Option<Vec<Form>>, AllocError>
+    ensures { IfOk result (λ made. IfSome made (λ forms. forms_held forms.items
         ≡ forms_of program.now)) }
 {
     if !has_many_lines(text) {
         return Ok(None);
     }
-    let forms = row_forms(alloc, program)?;
-    let many_entries = many_entries(program.column_count(), entry_count(forms.as_slice()));
-    Ok(Some(RowForms {
-        forms,
-        many_entries,
-    }))
+    Ok(Some(row_forms(alloc, program)?))
 }
 
 /// What a text is checked against.

@@ -10,14 +10,6 @@ use std::alloc::{AllocError, Global};
 /// Places of columns, each with its number.
 pub type Form = Vec<(usize, i64)>;
 
-/// The rows of a program, in order, each as a form over its columns: a leaf that names rows with few entries goes over these alone.
-#[derive(Drop)]
-pub struct RowForms {
-    pub forms: Vec<Form>,
-    /// From so many entries on it takes less time to go over all columns.
-    pub many_entries: usize,
-}
-
 fn add_term(forms: &mut [Form], row: usize, term: (usize, i64)) -> Result<(), AllocError>
     ensures { OnOk result (forms_held forms.new ≡ with_term row term (forms_held forms.old)) }
 {
@@ -67,13 +59,4 @@ pub fn row_forms(alloc: Global, program: &Selection<'_>) -> Result<Vec<Form>, Al
     let mut forms = empty_forms(alloc, program.row_count())?;
     add_columns(forms.as_mut_slice(), program)?;
     Ok(forms)
-}
-
-/// How many entries forms have.
-pub fn entry_count(forms: &[Form]) -> usize {
-    let mut count: usize = 0;
-    for form in forms {
-        count = count.saturating_add(form.len());
-    }
-    count
 }

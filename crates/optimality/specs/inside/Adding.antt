@@ -2,7 +2,8 @@
 use Rattle.std.specs.Prelude.{◌≡◌, ℕ, zero, suc, ◌+◌, ◌≤◌, ◌==◌, ◌||◌, Bool, false, cond, List, [], ◌∷◌, Option, Some, None, slice_get, slice_index_or, unsigned_abs, ℤ, pos, ◌+ℤ◌, ◌-ℤ◌, ◌*ℤ◌}
 use Rattle.std.specs.List.{enumerate_from, zip}
 use Rattle.std.specs.Option.{option_map_or}
-use Rattle.program_rows.specs.Program.{TableColumn}
+use Rattle.program_rows.specs.Points.{coefficient_at}
+use Rattle.program_rows.specs.Program.{Table, TableColumn}
 use Rattle.optimality.specs.Certificates.{Form, Cut, number_in, sum_of}
 use Rattle.optimality.specs.Reduced.{least_part}
 use Rattle.optimality.specs.Sizes.{size_of}
@@ -94,3 +95,13 @@ least_with factor given columns = sum_of (λ e. least_part e.1.bounds (factor *�
 abbrev pub change_at : List TableColumn → ℤ → ℕ → ℤ → ℤ
 change_at columns factor place number =
     option_map_or (λ c. least_part c.bounds (factor *ℤ c.cost +ℤ number) -ℤ least_part c.bounds (factor *ℤ c.cost)) (slice_get columns place) (pos 0)
+
+-- ---------- what all columns are given ----------
+
+-- each column is given a multiple of its coefficient in each row
+abbrev pub HaveRows : Table → Form → List ℤ → List ℤ → Type 0
+HaveRows p rows before after = (place : ℕ) (c : TableColumn) → slice_get p.columns place ≡ Some c → number_at after place ≡ number_at before place +ℤ sum_of (λ t. t.1 *ℤ coefficient_at t.0 c) rows
+
+-- and of each cut, and nothing else
+abbrev pub HaveAll : Table → List ℕ → List Cut → Form → List ℤ → Type 0
+HaveAll p ys cuts rows numbers = (place : ℕ) (c : TableColumn) → slice_get p.columns place ≡ Some c → number_at numbers place ≡ cuts_given ys cuts place +ℤ sum_of (λ t. t.1 *ℤ coefficient_at t.0 c) rows

@@ -9,5 +9,5 @@ use Rattle.program_rows.specs.ProgramNames.{row_names}
 -- the names and the forms of rows, and what the costs alone come to, are those of the program
 pub record IsPrepared (c : Checker) : Type 0 where
   pub rows : bytes_of c.rows.keys ≡ row_names c.program.now
-  pub forms : IfSome c.row_forms (λ rows. forms_held rows.forms.items ≡ row_forms c.program.now)
+  pub forms : IfSome c.row_forms (λ forms. forms_held forms.items ≡ row_forms c.program.now)
   pub alone : c.alone ≡ least_alone c.program.now.columns

@@ -1,15 +1,18 @@
-use Rattle.std.proofs.Common.{pos, rules}
+use Rattle.std.proofs.Common.{◌∙◌, List, ℤ, subst, sym, rules}
 use Rattle.std.proofs.lemmas.Int.{to_z-of_z}
-use mir.Syntax.{w128}
-use mir.Val.{SFits, to_z}
-use Rattle.optimality.specs.inside.ByColumns.{reduced_cost}
-use Rattle.optimality.proofs.ByColumnLaws.{least-step}
+use Rattle.std.proofs.lemmas.Option.{IfSome_then}
+use Rattle.optimality.specs.inside.Adding.{HaveAll}
+use Rattle.optimality.specs.inside.Holding.{cuts_of}
+use Rattle.optimality.proofs.LeafLaws.{given-is}
 use Rattle.optimality.proofs.by_columns.least_by_columns.Goals as goal
 
-pub loop-column-preserved : goal.loop-column-preserved
-loop-column-preserved c =
+pub returns : goal.returns
+returns c =
+    let p = c.args.checker.now.program.now in
     let leaf = c.args.leaf.now in
-    let fits : SFits w128 c.in_ok-sum.sum = search rules in
-    let fits_part : SFits w128 c.in_ok-part_of.field-0 = search rules in
-    let added = simp to_z-of_z at c.in_ok-sum.ensures in
-    simp to_z-of_z (least-step (reduced_cost (pos leaf.scale) leaf.cuts.now leaf.rows.now) c.loop-column.column c.args.program.now.columns (to_z w128 c.loop-column.sum-bits) c.in_ok-sum.sum c.in_ok-part_of.field-0 _ c.in_ok-part_of.ensures added c.loop-column.invariant)
+    let ys = leaf.multipliers.items in
+    let cuts = cuts_of c.args.splits.now in
+    let rows = c.args.rows.now in
+    let numbers = c.as_slice.result.now in
+    let given : HaveAll p ys cuts rows numbers = subst (λ (ns : List ℤ). HaveAll p ys cuts rows ns) (sym c.as_slice.ensures.value) c.in_ok-given.ensures in
+    IfSome_then c.least_given.result c.least_given.ensures (λ n e. e ∙ given-is p leaf.scale ys cuts rows numbers given)
