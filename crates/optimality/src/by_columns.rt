@@ -44,7 +44,7 @@ fn add_rows(checker: &Checker, sums: &mut [i64], rows: &[(usize, i128)]) -> Opti
     ensures { IfSome result (λ _. HaveRows checker.now.program.now rows.now sums.old sums.new) }
 {
     match &checker.row_forms {
-        Some(forms) => add_rows_by_forms(sums, checker.program, forms.as_slice(), rows),
+        Some(all) => add_rows_by_forms(sums, checker.program, all.forms.as_slice(), rows),
         None => add_rows_by_entries(checker.alloc, sums, checker.program, rows),
     }
 }

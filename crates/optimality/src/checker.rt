@@ -1,4 +1,4 @@
-use crate::row_forms::Form;
+use crate::row_forms::RowForms;
 use program_rows::{NameSet, Selection};
 use std::alloc::Global;
 use std::cell::Cell;
@@ -14,10 +14,8 @@ pub struct Checker<'p> {
     pub rows: NameSet<'p>,
     /// Where the next row is looked for first.
     pub next_row: Cell<usize>,
-    /// Its rows as forms, in order, but for a certificate of two lines or fewer, which has at most one leaf.
-    pub row_forms: Option<Vec<Form>>,
-    /// The least that the costs alone come to: what a leaf of scale 1 that names nothing is worth.
-    pub alone: i128,
+    /// Its rows as forms, but for a certificate of two lines or fewer, which has at most one leaf.
+    pub row_forms: Option<RowForms>,
     /// The bound that the certificate is to show.
     pub least: i128,
 }

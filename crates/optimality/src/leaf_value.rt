@@ -3,7 +3,7 @@
 ghost use Rattle.std.specs.Prelude.{◌≡◌, ◌≤◌, ◌+◌, ◌*◌, ◌^◌, ◌-ℤ◌, ◌*ℤ◌, ◌+ℤ◌, ℕ, IfOk, IfSome, OnOk, int_lt, length, pos, unsigned_abs};
 ghost use Rattle.std.specs.List.{enumerate_from, zip};
 ghost use Rattle.optimality.specs.inside.Adding.{AreAlike, AreNoLarger, cuts_given, number_at, rows_given};
-ghost use Rattle.optimality.specs.inside.Checking.{IsPrepared};
+ghost use Rattle.optimality.specs.inside.Checking.{AreRowsOf, IsPrepared};
 ghost use Rattle.optimality.specs.inside.Holding.{cuts_of};
 ghost use Rattle.optimality.specs.Certificates.{sum_of};
 ghost use Rattle.optimality.specs.Reduced as reduced;
@@ -21,7 +21,7 @@ use crate::leaf::Leaf;
 use crate::limit::Limit;
 use crate::open_split::OpenSplit;
 use crate::reduced::least_total;
-use crate::row_forms::{Form, row_forms};
+use crate::row_forms::{Form, RowForms, row_forms};
 use crate::rows::{add_rows, rows_right};
 use crate::sums::Sums;
 use program_rows::Selection;
@@ -53,14 +53,13 @@ fn reduce(
 /// The least that the reduced costs come to, by the forms of the rows.
 fn least_by_forms(
     checker: &Checker,
-    forms: &[Form],
+    all: &RowForms,
     sums: &mut Sums,
     splits: &[OpenSplit],
     leaf: &Leaf,
     rows: &[(usize, i128)],
 ) -> Result<i128, Limit>
-    requires prepared { IsPrepared checker.now }
-    requires forms { forms_held forms.now ≡ forms_of checker.now.program.now }
+    requires all { AreRowsOf checker.now.program.now all.now }
     requires count { length leaf.now.multipliers.items ≡ length splits.now }
     ensures value { IfOk result (λ n. n ≡ sum_of (λ e. reduced.least_part e.1.bounds
         (reduced.reduced leaf.now.scale leaf.now.multipliers.items (cuts_of splits.now) rows.now
@@ -76,8 +75,15 @@ fn least_by_forms(
 {
     // The places of entries lie within the rows.
     checker.program.well_formed();
-    let alone = times(i128::from(leaf.scale), checker.alone)?;
-    reduce(checker.program, forms, sums, splits, leaf, rows)?;
+    let alone = times(i128::from(leaf.scale), all.alone)?;
+    reduce(
+        checker.program,
+        all.forms.as_slice(),
+        sums,
+        splits,
+        leaf,
+        rows,
+    )?;
     least_total(checker.program, leaf.scale, alone, sums)
 }
 
@@ -104,10 +110,10 @@ fn least_of(
         rows.now) result }
 {
     match &checker.row_forms {
-        Some(forms) => least_by_forms(checker, forms.as_slice(), sums, splits, leaf, rows),
+        Some(all) => least_by_forms(checker, all, sums, splits, leaf, rows),
         None => {
-            let forms = row_forms(checker.alloc, checker.program)?;
-            least_by_forms(checker, forms.as_slice(), sums, splits, leaf, rows)
+            let all = row_forms(checker.alloc, checker.program)?;
+            least_by_forms(checker, &all, sums, splits, leaf, rows)
         }
     }
 }
@@ -205,11 +211,11 @@ fn named_entries(forms: &[Form], rows: &[(usize, i128)]) -> usize {
 fn gives_many(checker: &Checker, splits: &[OpenSplit], leaf: &Leaf, rows: &[(usize, i128)]) -> bool
     requires { length leaf.now.multipliers.items ≡ length splits.now }
 {
-    let Some(forms) = &checker.row_forms else {
+    let Some(all) = &checker.row_forms else {
         return true;
     };
     let of_cuts = cut_terms(leaf.multipliers.as_slice(), splits);
-    let count = named_entries(forms.as_slice(), rows).saturating_add(of_cuts);
+    let count = named_entries(all.forms.as_slice(), rows).saturating_add(of_cuts);
     count >= checker.program.column_count() / 2
 }
 

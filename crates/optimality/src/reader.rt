@@ -3,7 +3,7 @@
 ghost use Rattle.std.specs.Prelude.{◌≡◌, ◌⊎◌, IfErr, IfOk, IfSome, Ok, OnOk, Some};
 ghost use Rattle.optimality.specs.Answers.{IsLimit, IsVerdict};
 ghost use Rattle.optimality.specs.inside.Answers.{IsRefusedCertificate};
-ghost use Rattle.optimality.specs.inside.Checking.{IsPrepared};
+ghost use Rattle.optimality.specs.inside.Checking.{AreRowsOf, IsPrepared};
 ghost use Rattle.optimality.specs.Laws.{IsBound};
 ghost use Rattle.optimality.specs.Sizes.{IsLargeAt, IsLargeFrom};
 ghost use Rattle.program_rows.specs.declared.certificate_fault.CertificateFaultKind.TheVariants.{TooLarge};
@@ -11,16 +11,14 @@ ghost use Rattle.optimality.specs.CertificateText.{IsShownBy};
 ghost use Rattle.optimality.specs.Verdict.{certificate_fault, fault_from};
 ghost use Rattle.optimality.specs.inside.Branches.{branches_of};
 ghost use Rattle.auction_terms.specs.Lines.{lines_of};
-ghost use Rattle.optimality.specs.inside.RowForms.{forms_held, row_forms as forms_of};
 
 use crate::checker::Checker;
 use crate::limit::Limit;
 use crate::lines::take_any;
 use crate::names::row_names;
 use crate::open_split::OpenSplit;
-use crate::reduced::least_alone;
 use crate::refusal::Refusal;
-use crate::row_forms::{Form, row_forms};
+use crate::row_forms::{RowForms, row_forms};
 use crate::sums::Sums;
 use auction_terms::LineReader;
 use program_rows::{CertificateFault, CertificateFaultKind, Program, Selection};
@@ -85,9 +83,8 @@ fn forms_for(
     alloc: Global,
     text: &[u8],
     program: &Selection<'_>,
-) -> Result<Option<Vec<Form>>, AllocError>
-    ensures { IfOk result (λ made. IfSome made (λ forms. forms_held forms.items
-        ≡ forms_of program.now)) }
+) -> Result<Option<RowForms>, AllocError>
+    ensures { IfOk result (λ made. IfSome made (λ rows. AreRowsOf program.now rows)) }
 {
     if !has_many_lines(text) {
         return Ok(None);
@@ -108,7 +105,6 @@ pub fn new_checker<'p>(
 {
     let forms = forms_for(alloc, text, program)?;
     let rows = row_names(alloc, program)?;
-    let alone = least_alone(program);
     Ok(Checker {
         alloc,
         program,
@@ -116,7 +112,6 @@ pub fn new_checker<'p>(
         rows,
         next_row: Cell::new(0),
         row_forms: forms,
-        alone,
         least,
     })
 }

@@ -1,14 +1,25 @@
 //! The rows of a program, each as a form over its columns.
 
 ghost use Rattle.std.specs.Prelude.{◌≡◌, [], IfOk, OnOk, replicate};
+ghost use Rattle.optimality.specs.inside.Checking.{AreRowsOf};
 ghost use Rattle.optimality.specs.inside.RowForms as rows;
 ghost use Rattle.optimality.specs.inside.RowForms.{forms_held, with_columns, with_entries, with_term};
 
+use crate::reduced::least_alone;
 use program_rows::{Entries, Selection};
 use std::alloc::{AllocError, Global};
 
 /// Places of columns, each with its number.
 pub type Form = Vec<(usize, i64)>;
+
+/// The rows of a program, in order, each as a form over its columns, and what its costs alone come to: for leaves that name rows with few
+/// entries.
+#[derive(Drop)]
+pub struct RowForms {
+    pub forms: Vec<Form>,
+    /// The least that the costs alone come to: what a leaf of scale 1 that names nothing is worth.
+    pub alone: i128,
+}
 
 fn add_term(forms: &mut [Form], row: usize, term: (usize, i64)) -> Result<(), AllocError>
     ensures { OnOk result (forms_held forms.new ≡ with_term row term (forms_held forms.old)) }
@@ -53,10 +64,20 @@ fn add_columns(forms: &mut [Form], program: &Selection<'_>) -> Result<(), AllocE
 }
 
 /// The forms of the rows, in the order of the program.
-pub fn row_forms(alloc: Global, program: &Selection<'_>) -> Result<Vec<Form>, AllocError>
+fn forms_of_rows(alloc: Global, program: &Selection<'_>) -> Result<Vec<Form>, AllocError>
     ensures { IfOk result (λ forms. forms_held forms.items ≡ rows.row_forms program.now) }
 {
     let mut forms = empty_forms(alloc, program.row_count())?;
     add_columns(forms.as_mut_slice(), program)?;
     Ok(forms)
+}
+
+/// The rows of a program as forms, with what the costs alone come to.
+pub fn row_forms(alloc: Global, program: &Selection<'_>) -> Result<RowForms, AllocError>
+    ensures { IfOk result (λ rows. AreRowsOf program.now rows) }
+{
+    Ok(RowForms {
+        forms: forms_of_rows(alloc, program)?,
+        alone: least_alone(program),
+    })
 }
