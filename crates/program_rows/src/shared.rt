@@ -129,6 +129,18 @@ fn is_out(group: &Group, owner: Option<u16>) -> bool
     }
 }
 
+/// The same, given the answer for another owner: neighbours mostly have the same one, and a group is searched from its start.
+fn is_next_out(group: &Group, last: Option<u16>, is_last_out: bool, owner: Option<u16>) -> bool
+    requires { is_last_out ≡ left.is_out (has group.now) last }
+    ensures { result ≡ left.is_out (has group.now) owner }
+{
+    if owner == last {
+        is_last_out
+    } else {
+        is_out(group, owner)
+    }
+}
+
 /// The places of those that stay without the group.
 fn places_left(
     alloc: Global,
@@ -139,8 +151,12 @@ fn places_left(
         ≡ left.places_left (has group.now) 0 owners.now) }
 {
     let mut places = Vec::with_capacity(alloc, owners.len())?;
+    let mut last = None;
+    let mut is_last_out = false;
     for i in 0..owners.len() {
-        if !is_out(group, owners[i]) {
+        is_last_out = is_next_out(group, last, is_last_out, owners[i]);
+        last = owners[i];
+        if !is_last_out {
             places.push(i)?;
         }
     }
