@@ -8,7 +8,7 @@ use Rattle.std.proofs.lemmas.List.Sums.{AllPass-from_list_all}
 use Rattle.std.proofs.lemmas.Bool.Decides.{nat_tests}
 use Rattle.std.proofs.lemmas.Grind.{common_steps}
 use Rattle.auction_terms.proofs.Powers.{pow_above}
-use Rattle.auction_terms.proofs.TokenForm.{after-append}
+use Rattle.auction_terms.proofs.TokenFacts.{after-append}
 
 pub ascii-range : (b : ℕ) → is_ascii_digit b ≡ true → (48 ≤ b) × (b ≤ 57) × (digit_value b ≡ b - 48)
 ascii-range b h = (grind (arith, common_steps, nat_tests, h), grind (arith, common_steps, nat_tests, h), grind (arith, common_steps, nat_tests, h))

@@ -1,7 +1,7 @@
 pub mod Powers
 pub mod Folding
-pub mod TokenForm
-pub mod ShortNumbers
+pub mod TokenFacts
+pub mod ShortNumberFacts
 pub mod FieldLaws
 pub mod FirstFaultFacts
 pub mod AllFaultsFacts
@@ -14,7 +14,7 @@ pub mod AllRulesFaultsFacts
 mod AcceptedRulesFacts
 pub mod LineFacts
 pub mod LineCount
-pub mod NameCount
+pub mod NameCountFacts
 pub mod GroupsTextFacts
 pub mod AllGroupFaultsFacts
 mod AcceptedGroupsFacts

@@ -5,7 +5,7 @@ use Rattle.std.proofs.Math.Nat.{pow-le-pow_right, one-le-pow, mul-le-mul_right, 
 use Rattle.std.proofs.lemmas.Nat.{pow-add, div-mul-add, mod-mul-add}
 use Rattle.std.proofs.lemmas.Bool.{ne_eqb, eq-eqb, lt-ltb}
 use Rattle.auction_terms.specs.declared.decimals.NumberFault.TheVariants.{NumberRange, NotWhole}
-use Rattle.auction_terms.specs.Scaling.{whole_of}
+use Rattle.auction_terms.specs.Decimals.{whole_of}
 
 pub pow_above : (i j : ℕ) → i ≤ j → 10 ^ i ≤ 10 ^ j
 pow_above i j h = pow-le-pow_right {n = 10} (omega arith) h

@@ -1,11 +1,10 @@
 -- Number tokens: an optional sign, digits with an optional point, an optional exponent.
-use Rattle.std.specs.Prelude.{ℕ, ◌+◌, ◌*◌, ◌^◌, Bool, not, ◌||◌, ◌&&◌, nat_lt, List, ◌++◌, length, drop, ◌==◌, if◌then◌else◌, slice_index, ℤ, pos, neg_ℤ, Result, Ok, Err}
+use Rattle.std.specs.Prelude.{ℕ, ◌+◌, ◌*◌, ◌/◌, ◌%◌, ◌^◌, Bool, not, ◌||◌, ◌&&◌, nat_lt, List, ◌++◌, length, drop, ◌==◌, if◌then◌else◌, slice_index, ℤ, pos, neg_ℤ, Result, Ok, Err}
 use Rattle.std.specs.List.{before_first, after_first, list_all, list_any}
 use Rattle.std.specs.Char.{is_ascii_digit}
 use Rattle.std.specs.Str.Parse.{digits_value}
 use Rattle.auction_terms.specs.declared.decimals.NumberFault.{NumberFault}
-use Rattle.auction_terms.specs.declared.decimals.NumberFault.TheVariants.{NumberText, NumberRange}
-use Rattle.auction_terms.specs.Scaling.{whole_of}
+use Rattle.auction_terms.specs.declared.decimals.NumberFault.TheVariants.{NumberText, NumberRange, NotWhole}
 
 -- e or E
 abbrev pub is_exponent_mark : ℕ → Bool
@@ -55,6 +54,13 @@ scale token = 10 ^ (length (fraction_digits token) + (if is_minus (exponent_text
 
 abbrev pub signed : Bool → ℕ → ℤ
 signed negative n = if negative then neg_ℤ (pos n) else pos n
+
+-- size divided by unit, if that is whole and at most 10^18
+abbrev pub whole_of : ℕ → ℕ → Result ℕ NumberFault
+whole_of size unit =
+    if not (size % unit == 0) then Err NotWhole
+    else (if nat_lt (10 ^ 18) (size / unit) then Err NumberRange
+    else Ok (size / unit))
 
 -- the whole value of a token, or its first fault
 unfoldable pub number : List ℕ → Result ℤ NumberFault

@@ -1,5 +1,4 @@
 pub mod LineFields
-pub mod Scaling
 pub mod Decimals
 pub mod Tokens
 pub mod FirstFault

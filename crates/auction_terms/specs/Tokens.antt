@@ -1,9 +1,9 @@
 -- The exact parts of a number token.
 use Rattle.std.specs.Prelude.{ℕ, ◌+◌, not, List, length, if◌then◌else◌, Result, Ok, Err}
 use Rattle.std.specs.Str.Parse.{digits_value}
-use Rattle.auction_terms.specs.declared.token_parts.TokenParts.{TokenParts}
-use Rattle.auction_terms.specs.declared.token_fault.TokenFault.{TokenFault}
-use Rattle.auction_terms.specs.declared.token_fault.TokenFault.TheVariants.{NotToken, TooLong}
+use Rattle.auction_terms.specs.declared.token.TokenParts.{TokenParts}
+use Rattle.auction_terms.specs.declared.token.TokenFault.{TokenFault}
+use Rattle.auction_terms.specs.declared.token.TokenFault.TheVariants.{NotToken, TooLong}
 use Rattle.auction_terms.specs.Decimals.{digits_of_token, exponent_digits, exponent_text, fraction_digits, is_minus, is_number_token, is_too_long}
 
 -- powers of ten in the value's numerator

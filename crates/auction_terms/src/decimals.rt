@@ -2,13 +2,11 @@
 
 ghost use Rattle.std.specs.Prelude.{◌≡◌, ◌*◌, ◌^◌, ◌<◌, ◌≤◌, true, length, IfSome, IfOk, Result, Ok, Err, ℤ, ℕ};
 ghost use Rattle.std.specs.Str.Parse.{digits_value};
-ghost use Rattle.auction_terms.specs.Scaling.{whole_of};
-ghost use Rattle.auction_terms.specs.Decimals.{number, signed};
+ghost use Rattle.auction_terms.specs.Decimals.{number, signed, whole_of};
 ghost use Rattle.std.specs.List.{list_all};
 ghost use Rattle.std.specs.Char.{is_ascii_digit};
 
-use crate::token::{after_sign, is_minus_at, read_token};
-use crate::token_fault::TokenFault;
+use crate::token::{TokenFault, after_sign, is_minus_at, read_token};
 
 /// What is wrong with a number token.
 #[derive(Clone, Copy, Debug, PartialEq, Eq)]

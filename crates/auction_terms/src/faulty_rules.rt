@@ -15,7 +15,8 @@ use crate::limits::TEXT_LIMIT;
 use crate::record_kinds::{Version, version_of};
 use crate::records::RecordReader;
 use crate::rules_fields::{entry_field, header_field};
-use crate::rules_text::{RulesFault, add_entry, end_fault, read_step};
+use crate::rules_records::{add_entry, read_step};
+use crate::rules_text::{RulesFault, end_fault};
 use csv::ByteRecord;
 use std::alloc::{AllocError, Global};
 

@@ -141,7 +141,7 @@ pub(crate) fn room_fault(place: u32) -> Option<GroupFault>
     None
 }
 
-macro_rules! refuse {
+macro_rules! refuse_if {
     ($fault:expr) => {
         if let Some(fault) = $fault {
             return Err(fault);
@@ -163,7 +163,7 @@ fn read_names<'a>(
     let mut names = Vec::new(alloc);
     let mut reader = NameReader::new(line);
     while let Some(name) = reader.next() {
-        refuse!(name_fault(place, bidders, &names, name));
+        refuse_if!(name_fault(place, bidders, &names, name));
         if names.push(name).is_err() {
             return Err(GroupFault::OutOfMemory);
         }
@@ -200,9 +200,9 @@ fn read_group(
     ensures room { OnOk result (place ≤ MOST_GROUPS) }
     ensures group { IfOk result IsGroup }
 {
-    refuse!(empty_fault(place, line));
+    refuse_if!(empty_fault(place, line));
     let names = read_names(alloc, place, bidders, line)?;
-    refuse!(room_fault(place));
+    refuse_if!(room_fault(place));
     let numbers = numbers_of(alloc, bidders, &names)?;
     Ok(Group::new(numbers))
 }

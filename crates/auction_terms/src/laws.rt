@@ -1,4 +1,4 @@
-//! Laws over the definitions alone: which fault is the first, and what presolve may drop so that nothing is lost.
+//! Laws over the definitions alone: which fault is the first, what presolve may drop so that nothing is lost, and the limits, each with its number.
 
 ghost use Rattle.std.specs.Prelude.{◌≡◌, ℕ, List, Some};
 ghost use Rattle.auction_terms.specs.Accepted.{AreOfItems, StaysFaultless};
@@ -18,6 +18,7 @@ ghost use Rattle.auction_terms.specs.Records.{Record};
 ghost use Rattle.auction_terms.specs.RulesText.{entry_fault, rules_of_records, version_of};
 ghost use Rattle.auction_terms.specs.declared.record_kinds.Version.{Version};
 ghost use Rattle.auction_terms.specs.declared.rules.Bidder.{Bidder};
+ghost use Rattle.auction_terms.specs.declared.limits.TheConstants.{GREATEST_AMOUNT, GREATEST_POINTS, GREATEST_QUANTITY, GREATEST_VALUE, GREATEST_WEIGHT, MOST_BIDDERS, MOST_BIDS, MOST_CATEGORIES, MOST_FAULTS, MOST_GROUPS, MOST_POOLS, MOST_SESSIONS, MOST_WORKERS, TEXT_LIMIT};
 
 /// The records behind the header of rules have the fault of the first of them with a fault.
 pub fn records_of_rules_tell_their_first_fault()
@@ -118,4 +119,22 @@ pub fn the_only_one_of_kept_bids_is_the_only_one()
 /// A bid that does as well in a winner's place makes another feasible allocation of the same total.
 pub fn a_rival_does_as_well()
     ensures { RivalsDoAsWell }
+{}
+
+/// The limits of an auction are these numbers.
+pub fn the_limits_are_these()
+    ensures categories { MOST_CATEGORIES ≡ 32 }
+    ensures bidders { MOST_BIDDERS ≡ 256 }
+    ensures sessions { MOST_SESSIONS ≡ 8 }
+    ensures pools { MOST_POOLS ≡ 16 }
+    ensures bids { MOST_BIDS ≡ 4000 }
+    ensures groups { MOST_GROUPS ≡ 1024 }
+    ensures workers { MOST_WORKERS ≡ 64 }
+    ensures quantity { GREATEST_QUANTITY ≡ 10000 }
+    ensures amount { GREATEST_AMOUNT ≡ 1000000000000 }
+    ensures value { GREATEST_VALUE ≡ 1000000000000 }
+    ensures points { GREATEST_POINTS ≡ 1000000 }
+    ensures weight { GREATEST_WEIGHT ≡ 10000 }
+    ensures faults { MOST_FAULTS ≡ 10000 }
+    ensures text { TEXT_LIMIT ≡ 4194304 }
 {}

@@ -1,10 +1,18 @@
 //! The terms of an auction: its rules, its bidder groups, and the types that forms are made of.
 #![tactic(auto)]
 
+/// Returns a fault if the test holds.
+macro_rules! refuse {
+    ($fails:expr, $fault:expr) => {
+        if $fails {
+            return Err($fault);
+        }
+    };
+}
+
 mod bids;
 mod choices;
 mod decimals;
-mod digits;
 mod draft;
 mod faults;
 mod faulty_groups;
@@ -14,7 +22,6 @@ mod group_names;
 mod groups;
 mod groups_text;
 pub mod laws;
-pub mod limit_laws;
 mod limits;
 mod line_fields;
 mod lines;
@@ -26,18 +33,16 @@ mod record_kinds;
 mod records;
 mod rules;
 mod rules_fields;
+mod rules_records;
 mod rules_text;
 mod token;
-mod token_fault;
-mod token_parts;
-mod values;
 mod weights;
 mod wording;
+mod worth;
 
 pub use bids::{Bid, Kept, KeptBid};
 pub use choices::Choice;
 pub use decimals::{NumberFault, read_number, scaled};
-pub use digits::digits_behind;
 pub use faults::{Faults, Found};
 pub use faulty_groups::group_faults;
 pub use faulty_rules::rules_faults;
@@ -53,15 +58,13 @@ pub use limits::{
 pub use line_fields::{Field, next_field};
 pub use lines::LineReader;
 pub use names::Name;
-pub use numbers::number;
+pub use numbers::{digits_behind, number};
 pub use packages::{Package, Quantities};
-pub use record_kinds::{RecordKind, Version, kind_of, version_of};
+pub use record_kinds::{RecordKind, Version, field, kind_of, version_of};
 pub use records::RecordReader;
 pub use rules::{Bidder, Category, Pool, Rules};
 pub use rules_fields::{NumberLimits, limits_outside};
-pub use rules_text::{RulesFault, field, read_rules};
-pub use token::{are_all_digits, behind, read_token};
-pub use token_fault::TokenFault;
-pub use token_parts::TokenParts;
+pub use rules_text::{RulesFault, read_rules};
+pub use token::{TokenFault, TokenParts, are_all_digits, behind, read_token};
 pub use weights::Weights;
 pub use wording::Wording;

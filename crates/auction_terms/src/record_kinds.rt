@@ -1,10 +1,10 @@
-//! The versions of the rules, and the kinds of their records.
+//! The versions of the rules, the kinds of their records, and the fields of a record.
 
-ghost use Rattle.std.specs.Prelude.{◌≡◌};
+ghost use Rattle.std.specs.Prelude.{◌≡◌, ◌<◌, None, Some, true};
 ghost use Rattle.csv.specs.Records.{fields_of};
-ghost use Rattle.auction_terms.specs.RulesText.{field_count, record_kind, value_text, version_of};
+ghost use Rattle.auction_terms.specs.RulesText.{field_count, record_kind, value_text, version_of, record_field};
+ghost use Rattle.std.specs.Str.{bytes_eq};
 
-use crate::rules_text::field;
 use csv::ByteRecord;
 
 /// The version of a text of rules.
@@ -50,6 +50,17 @@ impl Version {
             Version::One | Version::Two => false,
             Version::Three => true,
         }
+    }
+}
+
+/// The bytes of a field, counted from 1.
+pub fn field(row: &ByteRecord, n: usize) -> &[u8]
+    requires { 0 < n }
+    ensures { result.now ≡ record_field n (fields_of row.now) }
+{
+    match row.get(n - 1) {
+        Some(bytes) => bytes,
+        None => b"",
     }
 }
 

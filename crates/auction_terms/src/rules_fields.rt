@@ -16,8 +16,9 @@ use crate::limits::{
 };
 use crate::names::is_name;
 use crate::numbers::number;
-use crate::record_kinds::{RecordKind, Version, kind_of, value_text};
-use crate::rules_text::{RulesFault, field, has_pool};
+use crate::record_kinds::{RecordKind, Version, field, kind_of, value_text};
+use crate::rules_records::has_pool;
+use crate::rules_text::RulesFault;
 use csv::ByteRecord;
 
 /// The field of a number, from 1, and from where to where the number is to be.

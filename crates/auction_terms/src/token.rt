@@ -7,9 +7,26 @@ ghost use Rattle.auction_terms.specs.Decimals.{is_exponent_mark, is_minus, witho
 ghost use Rattle.auction_terms.specs.Tokens.{token_of};
 ghost use Rattle.std.specs.Char.{is_ascii_digit};
 
-use crate::digits::digits_behind;
-use crate::token_fault::TokenFault;
-use crate::token_parts::TokenParts;
+use crate::numbers::digits_behind;
+
+/// Why bytes have no parts as a number token.
+#[derive(Clone, Copy, Debug, PartialEq, Eq)]
+pub enum TokenFault {
+    /// They are not of the form of a token.
+    NotToken,
+    /// More than 30 digits, or an exponent of more than 3 digits or beyond 60.
+    TooLong,
+}
+
+/// The exact value of a number token: `digits * 10^up / 10^down`, negated if it begins with a
+/// minus.
+#[derive(Clone, Copy, Debug, PartialEq, Eq)]
+pub struct TokenParts {
+    pub minus: bool,
+    pub digits: u128,
+    pub up: u32,
+    pub down: u32,
+}
 
 pub fn is_minus_at(token: &[u8]) -> bool
     ensures { result ≡ is_minus token.now }

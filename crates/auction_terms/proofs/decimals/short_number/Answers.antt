@@ -1,6 +1,6 @@
 use Rattle.std.proofs.Common.{◌≡◌, ◌∙◌, ap, sym, ℤ, Bool, Ok, rules}
 use Rattle.auction_terms.specs.Decimals.{number, signed, is_minus}
-use Rattle.auction_terms.proofs.ShortNumbers.{short_number_is}
+use Rattle.auction_terms.proofs.ShortNumberFacts.{short_number_is}
 use Rattle.auction_terms.proofs.decimals.short_number.Goals as goal
 
 pub returns : goal.returns

@@ -1,6 +1,6 @@
 use Rattle.std.proofs.Common.{ap, sym, ◌∙◌}
 use Rattle.auction_terms.specs.Decimals.{without_sign}
-use Rattle.auction_terms.proofs.TokenForm.{exponent-digits}
+use Rattle.auction_terms.proofs.TokenFacts.{exponent-digits}
 use Rattle.auction_terms.proofs.token.read_token.Goals as goal
 
 pub exponent_value-places-requires-clause-digits : goal.exponent_value-places-requires-clause-digits

@@ -1,0 +1,14 @@
+use Rattle.std.proofs.Common.{arith, map}
+use Rattle.std.proofs.lemmas.List.{length-map}
+use Rattle.auction_terms.specs.declared.rules.Category.{Category}
+use Rattle.auction_terms.proofs.WeighedLaws.{weighed_end}
+use Rattle.auction_terms.proofs.worth.worth_of.Goals as goal
+
+pub returns-clause-worth : goal.returns-clause-worth
+returns-clause-worth c =
+    let count = length-map c.args.categories.now (λ (category : Category). category.value) in
+    let at_end = c.min-place-end.ensures in
+    let test = c.loop-place-test.false in
+    let nothing = weighed_end (map (λ (category : Category). category.value) c.args.categories.now) c.args.quantities.now c.loop-place.place (omega arith) in
+    let so_far = c.loop-place.invariant.0 in
+    omega arith
